@@ -1,1 +1,4 @@
+pub mod Format
+pub mod Image
 pub mod Labels
+pub mod Refusals

@@ -1,0 +1,136 @@
+-- The laws of the formats of a thread.
+use Rattle.std.proofs.Common.{◌≡◌, ℕ, ◌≤◌, ◌<◌, ◌+◌, ◌^◌, ◌-◌, Bool, true, false, ltb, leb, ◌&&◌, ◌||◌, eqb, List, [], ◌∷◌, ◌++◌, length, drop, Result, Ok, Err, cond, refl, sym, ap, ◌∙◌, subst, arith}
+use Rattle.std.specs.Int.{w32, w64}
+use Rattle.std.proofs.lemmas.Bool.{eqb-true}
+use Rattle.model.specs.declared.entries.RecordHeader.{RecordHeader}
+use Rattle.model.specs.declared.entries.ThreadHeader.{ThreadHeader}
+use Rattle.model.specs.declared.entries.RangeEntry.{RangeEntry}
+use Rattle.model.specs.declared.entries.RegisterEntry.{RegisterEntry}
+use Rattle.model.specs.declared.entries.SlotEntry.{SlotEntry}
+use Rattle.model.specs.declared.refusals.Refusal.{Refusal}
+use Rattle.model.specs.declared.refusals.Refusal.TheVariants.{Limit}
+use Rattle.model.specs.Format.{Format, field, number, both, named, ordered, many}
+use Rattle.model.specs.Image.{StateRecord, anything, below, between, not_zero, is_constant, register_format, range_format, term_format, record_header_format, ranges_format, terms_format, record_format, registers_format, words_format, records_format, thread_header_format, thread_format}
+use Rattle.image.specs.Stage.{later, no_slot_count, is_empty, no_slots}
+use Rattle.image.proofs.Laws.{IsBytes, IsLawful, Taken, guard_ok, bind_ok, ok_is, number_law, both_law, named_law, ordered_law, signed_law, wide32, wide64, signed_wide32, signed_wide64}
+
+field_law : (test : ℕ → Bool) → IsLawful (field test)
+field_law test = number_law Limit w32 test wide32
+
+register_law : (least : ℕ) → IsLawful (register_format least)
+unfolding register_format
+register_law least = named_law _ _ _ (λ x h. refl) (λ y. refl) (both_law _ _ (field_law (between least 31)) (λ (k : ℕ). field_law (ltb 0)))
+
+range_law : (least : ℕ) → IsLawful (range_format least)
+unfolding range_format
+range_law least = named_law _ _ _ (λ x h. refl) (λ y. refl)
+    (both_law _ _ (field_law (between least 31)) (λ (k : ℕ).
+     both_law _ _ (field_law anything) (λ (low : ℕ).
+     field_law (λ high. leb low high && (ltb 0 low || ltb high (2 ^ 32 - 1))))))
+
+term_law : (least : ℕ) → IsLawful (term_format least)
+unfolding term_format
+term_law least = named_law _ _ _ (λ x h. refl) (λ y. refl)
+    (both_law _ _ (field_law (between least 31)) (λ (k : ℕ). signed_law w32 not_zero wide32 signed_wide32))
+
+pub registers_law : (count : ℕ) → IsLawful (registers_format count)
+unfolding registers_format
+registers_law count = ordered_law 1 register_format (λ e. e.register + 1) count register_law
+
+ranges_law : (count : ℕ) → IsLawful (ranges_format count)
+unfolding ranges_format
+ranges_law count = ordered_law 1 range_format (λ e. e.register + 1) count range_law
+
+terms_law : (count : ℕ) → IsLawful (terms_format count)
+unfolding terms_format
+terms_law count = ordered_law 1 term_format (λ e. e.register + 1) count term_law
+
+pub words_law : (count : ℕ) → IsLawful (words_format count)
+unfolding words_format
+words_law count = ordered_law 0 (λ _. field anything) (λ _. 0) count (λ k. field_law anything)
+
+-- ---- no slots
+
+later_ok : {A : Type 0} (b c : Bool) (x y : A) (d e : Refusal) → cond b (Ok x) (cond c (Err d) (Err e)) ≡ Ok y → (b ≡ true) × (x ≡ y)
+later_ok true c x y d e h = (refl, cc)
+later_ok false true x y d e h = absurd cc
+later_ok false false x y d e h = absurd cc
+
+no_slot_takes : (bytes : List ℕ) (at x after : ℕ) → IsBytes bytes → at ≤ length bytes → no_slot_count.reads bytes at ≡ Ok (x, after) → Taken no_slot_count bytes at x after
+no_slot_takes bytes at x after fits le e =
+    let b = bind_ok ((field anything).reads bytes at) (λ y. cond (eqb y.0 0) (Ok y) (cond (leb y.0 256) (Err later) (Err (Limit at)))) (x, after) e in
+    let y : ℕ × ℕ = b.0 in
+    let t = (field_law anything).takes bytes at y.0 y.1 fits le b.1 in
+    let g = later_ok (eqb y.0 0) (leb y.0 256) y (x, after) later (Limit at) b.2 in
+    let found : Taken no_slot_count bytes at y.0 y.1 = record { fits = g.0; spelled = t.spelled; end = t.end; within = t.within } in
+    subst (λ (z : ℕ × ℕ). Taken no_slot_count bytes at z.0 z.1) g.1 found
+
+no_slot_again : (bytes : List ℕ) (at x : ℕ) (rest : List ℕ) → at ≤ length bytes → no_slot_count.fits x ≡ true → drop at bytes ≡ no_slot_count.spelling x ++ rest
+    → no_slot_count.reads bytes at ≡ Ok (x, at + length (no_slot_count.spelling x))
+no_slot_again bytes at x rest le fits h =
+    let zero-is : x ≡ 0 = eqb-true x 0 fits in
+    let small : (ltb x (2 ^ 32) && true) ≡ true = rw zero-is refl in
+    rw ((field_law anything).again bytes at x rest le small h, fits) refl
+
+no_slot_law : IsLawful no_slot_count
+no_slot_law = record { takes = no_slot_takes; again = no_slot_again }
+
+no_entries_takes : (count : ℕ) (bytes : List ℕ) (at : ℕ) (xs : List SlotEntry) (after : ℕ) → IsBytes bytes → at ≤ length bytes → (no_slots.entries count).reads bytes at ≡ Ok (xs, after) → Taken (no_slots.entries count) bytes at xs after
+no_entries_takes count bytes at xs after fits le e =
+    subst (λ (y : List SlotEntry × ℕ). Taken (no_slots.entries count) bytes at y.0 y.1) (ok_is ([], at) (xs, after) e)
+    (record { fits = refl; spelled = refl; end = omega arith; within = le })
+
+no_entries_again : (count : ℕ) (bytes : List ℕ) (at : ℕ) (xs : List SlotEntry) (rest : List ℕ) → at ≤ length bytes → is_empty xs ≡ true → drop at bytes ≡ [] ++ rest
+    → (no_slots.entries count).reads bytes at ≡ Ok (xs, at + length ((no_slots.entries count).spelling xs))
+no_entries_again count bytes at [] rest le fits h = let here : at ≡ at + 0 = omega arith in ap (λ (k : ℕ). Ok ([], k)) here
+no_entries_again count bytes at (x ∷ xs) rest le fits h = absurd cc
+
+no_entries_law : (count : ℕ) → IsLawful (no_slots.entries count)
+no_entries_law count = record { takes = no_entries_takes count; again = no_entries_again count }
+
+-- ---- records and threads
+
+record_header_law : (words least : ℕ) → IsLawful (record_header_format no_slots words least)
+unfolding record_header_format
+record_header_law words least = named_law _ _ _ (λ x h. refl) (λ y. refl)
+    (both_law _ _ (field_law (λ point. leb least point && ltb point words)) (λ (a : ℕ).
+     both_law _ _ (field_law (between 0 31)) (λ (b : ℕ).
+     both_law _ _ no_slot_law (λ (c : ℕ).
+     both_law _ _ (field_law (between 0 4)) (λ (d : ℕ).
+     signed_law w64 is_constant wide64 signed_wide64)))))
+
+record_law : (words least : ℕ) → IsLawful (record_format no_slots words least)
+unfolding record_format
+record_law words least = named_law _ _ _ (λ x h. refl) (λ y. refl)
+    (both_law _ _ (record_header_law words least) (λ (header : RecordHeader).
+     both_law _ _ (ranges_law header.ranges) (λ (a : List RangeEntry).
+     both_law _ _ (no_entries_law header.slots) (λ (b : List SlotEntry).
+     terms_law header.terms))))
+
+records_law : (words count : ℕ) → IsLawful (records_format no_slots words count)
+unfolding records_format
+records_law words count = ordered_law 0 (record_format no_slots words) (λ r. r.header.point + 1) count (record_law words)
+
+thread_header_law : (objects : ℕ) → IsLawful (thread_header_format objects)
+unfolding thread_header_format
+thread_header_law objects = named_law _ _ _ (λ x h. refl) (λ y. refl)
+    (both_law _ _ (field_law (below objects)) (λ (a : ℕ).
+     both_law _ _ (field_law (below objects)) (λ (b : ℕ).
+     both_law _ _ (field_law anything) (λ (c : ℕ).
+     both_law _ _ (field_law (below objects)) (λ (d : ℕ).
+     both_law _ _ (field_law (between 0 255)) (λ (e : ℕ).
+     both_law _ _ (number_law Limit w64 (between 1 (2 ^ 62)) wide64) (λ (f : ℕ).
+     both_law _ _ (field_law anything) (λ (g : ℕ).
+     both_law _ _ (field_law anything) (λ (h : ℕ).
+     both_law _ _ (field_law anything) (λ (i : ℕ).
+     both_law _ _ (field_law (between 0 31)) (λ (j : ℕ).
+     both_law _ _ (field_law (between 1 65536)) (λ (words : ℕ).
+     field_law (between 0 words)))))))))))))
+
+pub thread_law : (objects : ℕ) → IsLawful (thread_format no_slots objects)
+unfolding thread_format
+thread_law objects = named_law _ _ _ (λ x h. refl) (λ y. refl)
+    (both_law _ _ (thread_header_law objects) (λ (header : ThreadHeader).
+     both_law _ _ (registers_law header.registers) (λ (a : List RegisterEntry).
+     both_law _ _ (words_law header.words) (λ (b : List ℕ).
+     records_law header.words header.records))))

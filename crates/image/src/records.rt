@@ -1,0 +1,97 @@
+//! The records of a certificate.
+
+ghost use Rattle.std.specs.Prelude.{◌≡◌, ◌<◌, IfOk};
+ghost use Rattle.model.specs.Format.{end_of};
+ghost use Rattle.model.specs.Image.{record_format, records_format};
+ghost use Rattle.image.specs.Stage.{no_slots};
+
+use crate::entries::entries_end;
+use crate::headers::record_header;
+use model::{RangeEntry, RecordHeader, Refusal, TermEntry};
+use std::marker::Model;
+
+/// One record of a certificate, lent from the file.
+#[derive(Drop)]
+pub struct RecordRef<'a> {
+    bytes: &'a [u8],
+    header: RecordHeader,
+    ranges_at: usize,
+    terms_at: usize,
+}
+
+impl<'a> Model for RecordRef<'a> {
+    ghost use Rattle.std.specs.Prelude.{◌≡◌, Ok, [], true, is_ok};
+    ghost use Rattle.model.specs.Format.{end_of, values_of};
+    ghost use Rattle.model.specs.Image.{StateRecord, ranges_format, terms_format};
+
+    ghost Value = { StateRecord };
+
+    ghost view = { λ r. record {
+        header = r.header;
+        ranges = values_of ((ranges_format r.header.ranges).reads r.bytes.now r.ranges_at);
+        slots = [];
+        terms = values_of ((terms_format r.header.terms).reads r.bytes.now r.terms_at);
+    } };
+
+    ghost invariant = { λ r. (end_of ((ranges_format r.header.ranges).reads r.bytes.now r.ranges_at) ≡ Ok r.terms_at)
+        × is_ok (end_of ((terms_format r.header.terms).reads r.bytes.now r.terms_at)) ≡ true };
+}
+
+/// The record at `at` of a program of `words` words, and the offset behind it. Its point is not below
+/// `least`.
+#[tactic(auto, unfolding(model::specs::Image::record_format, model::specs::Image::ranges_format, model::specs::Image::terms_format))]
+pub(crate) fn record_at<'a>(
+    bytes: &'a [u8],
+    at: usize,
+    words: u32,
+    least: u32,
+) -> Result<(RecordRef<'a>, usize), Refusal>
+    ensures reads { result ≡ (record_format no_slots words least).reads bytes.now at }
+    ensures below { IfOk result (λ x. x.0.header.point < words) }
+{
+    let (header, ranges_at) = record_header(bytes, at, words, least)?;
+    let terms_at = entries_end::<RangeEntry>(bytes, ranges_at, header.ranges)?;
+    let end = entries_end::<TermEntry>(bytes, terms_at, header.terms)?;
+    let record = RecordRef {
+        bytes,
+        header,
+        ranges_at,
+        terms_at,
+    };
+    Ok((record, end))
+}
+
+impl RecordRef<'_> {
+    /// The point that the record speaks of.
+    pub fn point(&self) -> u32
+        ensures { result ≡ self.now.header.point }
+    {
+        self.header.point
+    }
+
+    /// The constant of the measure.
+    pub fn constant(&self) -> i64
+        ensures { result ≡ self.now.header.constant }
+    {
+        self.header.constant
+    }
+}
+
+/// The offset behind `count` records from `start` of a program of `words` words.
+pub(crate) fn records_end(
+    bytes: &[u8],
+    start: usize,
+    words: u32,
+    count: u32,
+) -> Result<usize, Refusal>
+    ensures { result ≡ end_of ((records_format no_slots words count).reads bytes.now start) }
+{
+    let mut at = start;
+    let mut least = 0;
+    for _ in 0..count {
+        let (record, next) = record_at(bytes, at, words, least)?;
+        least = record.point() + 1;
+        at = next;
+    }
+    Ok(at)
+}
