@@ -1,11 +1,12 @@
 -- What this release reads: images of one form. The rest is refused as a later stage.
-use Rattle.std.specs.Prelude.{ℕ, ◌==◌, Bool, true, false, nat_le, if◌then◌else◌, List, [], ◌∷◌, Result, Ok, Err}
+use Rattle.std.specs.Prelude.{◌≡◌, ℕ, ◌==◌, Bool, true, false, ◌&&◌, nat_eq, nat_le, nat_lt, if◌then◌else◌, List, [], ◌∷◌, length, Result, Ok, Err}
+use Rattle.std.specs.List.{starts_with}
 use Rattle.std.specs.Int.{w32, to_le_bytes}
 use Rattle.model.specs.declared.entries.SlotEntry.{SlotEntry}
 use Rattle.model.specs.declared.refusals.Refusal.{Refusal}
-use Rattle.model.specs.declared.refusals.Refusal.TheVariants.{Limit, Stage}
+use Rattle.model.specs.declared.refusals.Refusal.TheVariants.{Limit, Stage, Trailing}
 use Rattle.model.specs.Format.{Format, field, ◌>>=◌}
-use Rattle.model.specs.Image.{SlotFormat, anything}
+use Rattle.model.specs.Image.{Image, Thread, StateRecord, Sections, SlotFormat, anything, sections_of, sections_format, thread_format}
 
 -- the refusal of what is a later stage as a whole
 abbrev pub later : Refusal
@@ -30,3 +31,63 @@ no_slots = record {
   count = no_slot_count;
   entries = λ _. record { reads = λ bytes at. Ok ([], at); spelling = λ _. []; fits = is_empty };
 }
+
+-- ---- the one form
+
+-- the image of the form with this thread: a code page, a data page, a page table, a TCB, a CNode and a notification
+-- bound to line 3, which the thread's CNode holds with its interrupt handler
+abbrev pub staged_image : Thread → Image
+staged_image thread = record {
+  header = record { version = 1; memory_bits = 16; boot_radix = 4; untypeds = 1; objects = 7; capabilities = 2; interrupts = 1; tables = 1; frames = 2; contents = 0; threads = 1 };
+  untypeds = record { offset = 0x8000; bits = 15 } ∷ [];
+  objects =
+      record { untyped = 0; kind = 6; size = 0 } ∷ record { untyped = 0; kind = 8; size = 0 } ∷ record { untyped = 0; kind = 7; size = 0 }
+      ∷ record { untyped = 0; kind = 6; size = 0 } ∷ record { untyped = 0; kind = 2; size = 0 } ∷ record { untyped = 0; kind = 5; size = 4 }
+      ∷ record { untyped = 0; kind = 4; size = 0 } ∷ [];
+  capabilities =
+      record { cnode = 5; index = 1; source = 6; rights = 2; payload = 0 } ∷ record { cnode = 5; index = 2; source = 7; rights = 0; payload = 0 } ∷ [];
+  interrupts = record { line = 3; notification = 6; badge = 1 } ∷ [];
+  tables = record { root = 1; address = 0; table = 2 } ∷ [];
+  frames = record { root = 1; address = 0x1000; frame = 0; rights = 4 } ∷ record { root = 1; address = 0x2000; frame = 3; rights = 3 } ∷ [];
+  contents = [];
+  threads = thread ∷ [];
+}
+
+-- the sections before the threads of every image of the form, and their 236 bytes
+abbrev pub staged_sections : Thread → Sections
+staged_sections thread = sections_of (staged_image thread)
+
+abbrev pub any_thread : Thread
+any_thread = record { header = record { tcb = 0; cnode = 0; guard = 0; root = 0; priority = 0; budget = 0; fault = 0; entry = 0; base = 0; registers = 0; words = 0; records = 0 }; registers = []; words = []; records = [] }
+
+unfoldable pub staged_front : List ℕ
+staged_front = sections_format.spelling (staged_sections any_thread)
+
+abbrev pub has_no_terms : List StateRecord → Bool
+has_no_terms [] = true
+has_no_terms (r ∷ rs) = r.header.terms == 0 && has_no_terms rs
+
+-- whether a thread is of the form: its objects are the image's, its fault address is 0, its program begins at 0x1000 and
+-- has at most 1024 words, and its measures are constants
+abbrev pub is_staged : Thread → Bool
+is_staged t =
+    t.header.tcb == 4 && t.header.cnode == 5 && t.header.guard == 28 && t.header.root == 1 && t.header.fault == 0 && t.header.base == 0x1000
+    && nat_le t.header.words 1024 && has_no_terms t.records
+
+pub record IsStaged (image : Image) : Type 0 where
+  pub thread : Thread
+  pub form : image ≡ staged_image thread
+  pub staged : is_staged thread ≡ true
+
+-- what is behind a thread of the form, and what is made of it
+abbrev pub staged_end : List ℕ → Thread × ℕ → Result Image Refusal
+staged_end bytes (thread, at) =
+    if nat_lt at (length bytes) then Err (Trailing at)
+    else if is_staged thread then Ok (staged_image thread)
+    else Err later
+
+-- What this release reads of the bytes: the front as it has to be, then one thread and no more, then the form.
+unfoldable pub staged_reading : List ℕ → Result Image Refusal
+staged_reading bytes =
+    if starts_with nat_eq bytes staged_front then (thread_format no_slots 7).reads bytes 236 >>= staged_end bytes
+    else Err later

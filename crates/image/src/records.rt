@@ -1,6 +1,7 @@
 //! The records of a certificate.
 
 ghost use Rattle.std.specs.Prelude.{◌≡◌, ◌<◌, IfOk};
+ghost use Rattle.std.specs.Iterator.{YieldsFirst, item_count};
 ghost use Rattle.model.specs.Format.{end_of};
 ghost use Rattle.model.specs.Image.{record_format, records_format};
 ghost use Rattle.image.specs.Stage.{no_slots};
@@ -94,4 +95,50 @@ pub(crate) fn records_end(
         at = next;
     }
     Ok(at)
+}
+
+/// The records of a certificate, in rising order of their points.
+#[derive(Drop)]
+pub struct Records<'a> {
+    bytes: &'a [u8],
+    at: usize,
+    words: u32,
+    least: u32,
+    left: u32,
+}
+
+impl<'a> Model for Records<'a> {
+    ghost use Rattle.std.specs.Prelude.{◌≡◌, List, true, is_ok, ◌≤◌, ◌+◌};
+    ghost use Rattle.model.specs.Format.{many_read, values_of};
+    ghost use Rattle.model.specs.Image.{StateRecord, record_format};
+    ghost use Rattle.image.specs.Stage.{no_slots};
+
+    ghost Value = { List StateRecord };
+
+    ghost view = { λ r. values_of (many_read (record_format no_slots r.words) (λ x. x.header.point + 1) r.least r.left r.bytes.now r.at) };
+
+    ghost invariant = { λ r. is_ok (many_read (record_format no_slots r.words) (λ x. x.header.point + 1) r.least r.left r.bytes.now r.at) ≡ true };
+}
+
+impl<'a> Iterator for Records<'a> {
+    type Item = RecordRef<'a>;
+
+    ghost next_gives = { YieldsFirst (λ s. s) };
+
+    ghost remaining = { item_count (λ s. s) };
+
+    fn next(&mut self) -> Option<RecordRef<'a>> {
+        if self.left == 0 {
+            return None;
+        }
+        match record_at(self.bytes, self.at, self.words, self.least) {
+            Ok((record, next)) => {
+                self.least = record.point() + 1;
+                self.at = next;
+                self.left -= 1;
+                Some(record)
+            }
+            Err(_) => unreachable!(),
+        }
+    }
 }

@@ -244,16 +244,26 @@ thread_format slots objects =
 
 -- ---- the whole
 
+-- the sections before the threads, as one value
+abbrev pub Sections : Type 0
+Sections = ImageHeader × (List UntypedEntry × (List ObjectEntry × (List CapabilityEntry × (List InterruptEntry × (List TableEntry × (List FrameEntry × List Content))))))
+
+abbrev pub sections_of : Image → Sections
+sections_of i = (i.header, (i.untypeds, (i.objects, (i.capabilities, (i.interrupts, (i.tables, (i.frames, i.contents)))))))
+
+unfoldable pub sections_format : Format Sections
+sections_format =
+    both header_format (λ header.
+    both (many header.untypeds untyped_format) (λ _.
+    both (ordered 0 (object_format header.untypeds) (λ e. e.untyped) header.objects) (λ _.
+    both (ordered 0 (capability_format header.objects header.interrupts) (λ e. pair_key e.cnode e.index + 1) header.capabilities) (λ _.
+    both (ordered 0 (interrupt_format header.objects) (λ e. e.line + 1) header.interrupts) (λ _.
+    both (ordered 0 (table_format header.objects) (λ e. pair_key e.root e.address + 1) header.tables) (λ _.
+    both (ordered 0 (frame_format header.objects) (λ e. pair_key e.root e.address + 1) header.frames) (λ _.
+    ordered 0 (content_format header.objects) (λ c. c.header.frame + 1) header.contents)))))))
+
 unfoldable pub image_format : SlotFormat → Format Image
 image_format slots =
-    named (λ x. record { header = x.0; untypeds = x.1.0; objects = x.1.1.0; capabilities = x.1.1.1.0; interrupts = x.1.1.1.1.0; tables = x.1.1.1.1.1.0; frames = x.1.1.1.1.1.1.0; contents = x.1.1.1.1.1.1.1.0; threads = x.1.1.1.1.1.1.1.1 })
-    (λ i. (i.header, (i.untypeds, (i.objects, (i.capabilities, (i.interrupts, (i.tables, (i.frames, (i.contents, i.threads)))))))))
-    (both header_format (λ header.
-     both (many header.untypeds untyped_format) (λ _.
-     both (ordered 0 (object_format header.untypeds) (λ e. e.untyped) header.objects) (λ _.
-     both (ordered 0 (capability_format header.objects header.interrupts) (λ e. pair_key e.cnode e.index + 1) header.capabilities) (λ _.
-     both (ordered 0 (interrupt_format header.objects) (λ e. e.line + 1) header.interrupts) (λ _.
-     both (ordered 0 (table_format header.objects) (λ e. pair_key e.root e.address + 1) header.tables) (λ _.
-     both (ordered 0 (frame_format header.objects) (λ e. pair_key e.root e.address + 1) header.frames) (λ _.
-     both (ordered 0 (content_format header.objects) (λ c. c.header.frame + 1) header.contents) (λ _.
-     many header.threads (thread_format slots header.objects))))))))))
+    named (λ x. record { header = x.0.0; untypeds = x.0.1.0; objects = x.0.1.1.0; capabilities = x.0.1.1.1.0; interrupts = x.0.1.1.1.1.0; tables = x.0.1.1.1.1.1.0; frames = x.0.1.1.1.1.1.1.0; contents = x.0.1.1.1.1.1.1.1; threads = x.1 })
+    (λ i. (sections_of i, i.threads))
+    (both sections_format (λ sections. many sections.0.threads (thread_format slots sections.0.objects)))
