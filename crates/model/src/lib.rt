@@ -11,5 +11,5 @@ mod labels;
 pub use errors::KError;
 pub use events::Event;
 pub use faults::FaultKind;
-pub use instructions::{ImmediateOp, Instr, Register};
+pub use instructions::{Access, Cause, Exec, ImmediateOp, Instr, MemoryFault, Register, Size};
 pub use labels::{Label, Outcome};
