@@ -1,4 +1,5 @@
 pub mod Format
 pub mod Image
+pub mod Instructions
 pub mod Labels
 pub mod Refusals

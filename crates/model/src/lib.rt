@@ -17,6 +17,6 @@ pub use entries::{
 pub use errors::KError;
 pub use events::Event;
 pub use faults::FaultKind;
-pub use instructions::{ImmediateOp, Instr, Register};
+pub use instructions::{Access, Cause, Exec, ImmediateOp, Instr, MemoryFault, Register, Size};
 pub use labels::{Label, Outcome};
 pub use refusals::{Point, Refusal};

@@ -1,0 +1,15 @@
+//! The effect of RV32I instructions on registers, and on memory behind a [`View`]
+//! (RISC-V Unprivileged ISA, chapter 2).
+#![tactic(auto)]
+
+mod execution;
+mod registers;
+mod view;
+
+pub use execution::exec;
+pub use model::{Access, Cause, Exec, Instr, MemoryFault, Register, Size};
+pub use registers::Regs;
+pub use view::View;
+
+#[cfg(test)]
+mod tests;

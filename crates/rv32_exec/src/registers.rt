@@ -1,0 +1,71 @@
+//! The registers of one thread.
+
+ghost use Rattle.std.specs.Prelude.{◌≡◌, ◌^◌, ◌<◌, replicate, length};
+ghost use Rattle.model.specs.Instructions.{Registers, IsRegister, read, write};
+
+use model::Register;
+use std::marker::Model;
+
+/// The pc and the 32 registers, of which register 0 reads as zero
+/// (RISC-V Unprivileged ISA, 2.1). Clauses see them as `Registers`.
+#[derive(Clone, Copy, Debug, PartialEq, Eq)]
+pub struct Regs {
+    pc: u32,
+    words: [u32; 32],
+}
+
+impl Model for Regs {
+    ghost Value = { Registers };
+
+    ghost view = { λ r. record { pc = r.pc; words = r.words } };
+
+    ghost inverse = { λ v. record { pc = v.pc; words = v.words } };
+}
+
+impl Regs {
+    /// All registers are 0, and so is the pc.
+    pub fn new() -> Self
+        ensures { result ≡ record { pc = 0; words = replicate 32 0 } }
+    {
+        Regs {
+            pc: 0,
+            words: [0; 32],
+        }
+    }
+
+    /// The address of the instruction that runs next.
+    pub fn pc(&self) -> u32
+        ensures { result ≡ self.now.pc }
+    {
+        self.pc
+    }
+
+    /// Lets the thread go on at this address.
+    pub fn set_pc(&mut self, pc: u32)
+        ensures { self.new ≡ record self.old { pc = pc } }
+    {
+        self.pc = pc;
+    }
+
+    /// The value of a register.
+    pub fn read(&self, register: Register) -> u32
+        requires { IsRegister register }
+        ensures { result ≡ read self.now register }
+    {
+        if register.0 == 0 {
+            0
+        } else {
+            self.words[register.0 as usize]
+        }
+    }
+
+    /// Sets a register. Register 0 stays zero.
+    pub fn write(&mut self, register: Register, value: u32)
+        requires { IsRegister register }
+        ensures { self.new ≡ write self.old register value }
+    {
+        if register.0 != 0 {
+            self.words[register.0 as usize] = value;
+        }
+    }
+}

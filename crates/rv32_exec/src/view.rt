@@ -1,0 +1,117 @@
+//! Memory as a program sees it.
+
+ghost use Rattle.std.specs.Prelude.{◌≡◌, ℕ, ◌<◌, ◌^◌, MatchResult, Ok, Err};
+ghost use Rattle.model.specs.Instructions.{Content, IsNamed, place_at, put_byte, loaded, stored};
+ghost use Rattle.model.specs.declared.instructions.Access.TheVariants.{Load, Store, Fetch};
+ghost use Rattle.model.specs.declared.instructions.Size.TheVariants.{Word};
+
+use model::{Access, MemoryFault, Size};
+
+/// Memory as a program sees it. Its addresses name places, one for each byte, for the accesses that
+/// have the right there. Two addresses may name one place.
+///
+/// `place`, `byte` and `set_byte` say what a memory is. The rest follows, and a memory that knows a
+/// faster way writes it.
+pub trait View {
+    /// What the addresses name, and the bytes in the places.
+    ghost content: { Self → Content };
+
+    /// The place that an address names for an access.
+    fn place(&self, address: u32, access: Access) -> Result<u32, MemoryFault>
+        ensures { result ≡ place_at (content self.now) access address };
+
+    /// The byte in a place that some address names.
+    fn byte(&self, place: u32) -> u8
+        requires { IsNamed (content self.now) place }
+        ensures { result ≡ (content self.now).byte place };
+
+    /// Puts a byte into a place that some address names, and changes no other.
+    fn set_byte(&mut self, place: u32, value: u8)
+        requires { IsNamed (content self.old) place }
+        ensures { content self.new ≡ put_byte (content self.old) place value };
+
+    /// The number at an address, lowest byte first.
+    fn number(&self, address: u32, size: Size, access: Access) -> Result<u32, MemoryFault>
+        ensures { result ≡ loaded (content self.now) access size address }
+    {
+        match size {
+            Size::Byte => {
+                let place = self.place(address, access)?;
+                Ok(u32::from(self.byte(place)))
+            }
+            Size::Halfword => {
+                let first = self.place(address, access)?;
+                let second = self.place(address.wrapping_add(1), access)?;
+                let bytes = [self.byte(first), self.byte(second)];
+                Ok(u32::from(u16::from_le_bytes(bytes)))
+            }
+            Size::Word => {
+                let first = self.place(address, access)?;
+                let next = address.wrapping_add(1);
+                let second = self.place(next, access)?;
+                let next = next.wrapping_add(1);
+                let third = self.place(next, access)?;
+                let fourth = self.place(next.wrapping_add(1), access)?;
+                let bytes = [
+                    self.byte(first),
+                    self.byte(second),
+                    self.byte(third),
+                    self.byte(fourth),
+                ];
+                Ok(u32::from_le_bytes(bytes))
+            }
+        }
+    }
+
+    /// The number at an address, for an instruction that loads it.
+    fn load(&self, address: u32, size: Size) -> Result<u32, MemoryFault>
+        ensures { result ≡ loaded (content self.now) Load size address }
+    {
+        self.number(address, size, Access::Load)
+    }
+
+    /// The word at an address, to be run.
+    fn fetch(&self, address: u32) -> Result<u32, MemoryFault>
+        ensures { result ≡ loaded (content self.now) Fetch Word address }
+    {
+        self.number(address, Size::Word, Access::Fetch)
+    }
+
+    /// Stores the low bytes of a number at an address, lowest byte first. Where one of them has no
+    /// right, nothing changes.
+    fn store(&mut self, address: u32, size: Size, value: u32) -> Result<(), MemoryFault>
+        ensures { MatchResult
+            result
+            (λ _. stored (content self.old) size address value ≡ Ok (content self.new))
+            (λ fault. (stored (content self.old) size address value ≡ Err fault)
+            × (content self.new ≡ content self.old)) }
+    {
+        match size {
+            Size::Byte => {
+                let place = self.place(address, Access::Store)?;
+                self.set_byte(place, value.to_le_bytes()[0]);
+            }
+            Size::Halfword => {
+                let first = self.place(address, Access::Store)?;
+                let second = self.place(address.wrapping_add(1), Access::Store)?;
+                let [low, high, _, _] = value.to_le_bytes();
+                self.set_byte(first, low);
+                self.set_byte(second, high);
+            }
+            Size::Word => {
+                let first = self.place(address, Access::Store)?;
+                let next = address.wrapping_add(1);
+                let second = self.place(next, Access::Store)?;
+                let next = next.wrapping_add(1);
+                let third = self.place(next, Access::Store)?;
+                let fourth = self.place(next.wrapping_add(1), Access::Store)?;
+                let bytes = value.to_le_bytes();
+                self.set_byte(first, bytes[0]);
+                self.set_byte(second, bytes[1]);
+                self.set_byte(third, bytes[2]);
+                self.set_byte(fourth, bytes[3]);
+            }
+        }
+        Ok(())
+    }
+}
