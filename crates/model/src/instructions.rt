@@ -22,7 +22,10 @@ pub enum Instr {
     },
     /// J-type: jumps by `offset` bytes, an even number from -2^20 to 2^20 - 2, and writes the
     /// address of the next instruction to `rd`.
-    Jal { rd: Register, offset: i32 },
+    Jal {
+        rd: Register,
+        offset: i32,
+    },
     /// Calls the kernel.
     Ecall,
 }
