@@ -1,5 +1,9 @@
+pub mod Bytes
+pub mod CapabilityWords
 pub mod Format
 pub mod Image
 pub mod Instructions
 pub mod Labels
+pub mod Placement
 pub mod Refusals
+pub mod Trace

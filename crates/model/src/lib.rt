@@ -1,7 +1,8 @@
-//! The words that every layer shares: events, trace labels, errors, faults and instructions, and in
-//! `specs/` the definitions of what they mean.
+//! The words that every layer shares: events, trace labels, errors, faults, instructions,
+//! capabilities, slots and the entries of an image, and in `specs/` the definitions of what they mean.
 #![tactic(auto)]
 
+mod capabilities;
 mod entries;
 mod errors;
 mod events;
@@ -9,7 +10,10 @@ mod faults;
 mod instructions;
 mod labels;
 mod refusals;
+mod rights;
+mod slot_numbers;
 
+pub use capabilities::{Cap, FrameMapping, TableMapping};
 pub use entries::{
     CapabilityEntry, ContentHeader, FrameEntry, ImageHeader, InterruptEntry, ObjectEntry, RangeEntry,
     RecordHeader, RegisterEntry, SlotEntry, TableEntry, TermEntry, ThreadHeader, UntypedEntry,
@@ -20,3 +24,5 @@ pub use faults::FaultKind;
 pub use instructions::{Access, Cause, Exec, ImmediateOp, Instr, MemoryFault, Register, Size};
 pub use labels::{Label, Outcome};
 pub use refusals::{Point, Refusal};
+pub use rights::Rights;
+pub use slot_numbers::Slot;

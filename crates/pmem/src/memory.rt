@@ -1,0 +1,94 @@
+//! The bytes of the machine.
+
+ghost use Rattle.std.specs.Prelude.{◌≡◌, ◌+◌, ◌^◌, ◌<◌, ◌≤◌, [], ◌∷◌, IfOk, OnOk, length, replicate, slice_index};
+ghost use Rattle.model.specs.Bytes.{AreBytes, word_at, word_bytes, written};
+
+use byteorder::{ByteOrder, LittleEndian};
+use std::alloc::{AllocError, Global};
+use std::marker::Model;
+
+/// The physical memory of a machine, 2^16 to 2^24 bytes. Places in it are offsets in bytes from its
+/// first byte. A clause sees the list of its bytes.
+#[derive(Drop)]
+pub struct Mem {
+    bytes: Vec<u8>,
+}
+
+impl Model for Mem {
+    ghost use Rattle.std.specs.Prelude.{ℕ, List, length, ◌^◌, ◌≤◌};
+    ghost use Rattle.model.specs.Bytes.{AreBytes};
+
+    ghost Value = { List ℕ };
+
+    ghost view = { λ memory. memory.bytes.items };
+
+    ghost invariant = { λ memory. (length memory.bytes.items ≤ 2 ^ 24) × AreBytes memory.bytes.items };
+}
+
+impl Mem {
+    /// Memory of 2^`bits` bytes, all zero.
+    pub fn new(alloc: Global, bits: u32) -> Result<Self, AllocError>
+        requires least { 16 ≤ bits }
+        requires most { bits ≤ 24 }
+        ensures { IfOk result (λ memory. memory ≡ replicate (2 ^ bits) 0) }
+    {
+        let size = 1usize << bits;
+        Ok(Mem {
+            bytes: vec![in alloc; 0; size]?,
+        })
+    }
+
+    /// How many bytes there are. Each is below 256.
+    pub fn len(&self) -> u32
+        ensures value { result ≡ length self.now }
+        ensures most { result ≤ 2 ^ 24 }
+        ensures bytes { AreBytes self.now }
+    {
+        self.bytes.len() as u32
+    }
+
+    /// The byte at `offset`.
+    pub fn read8(&self, offset: u32) -> u8
+        requires { offset < length self.now }
+        ensures { result ≡ slice_index self.now offset }
+    {
+        let place = offset as usize;
+        self.bytes[place]
+    }
+
+    /// The little-endian number in the four bytes from `offset` on. They may stand at any offset.
+    pub fn read32(&self, offset: u32) -> u32
+        requires { offset + 4 ≤ length self.now }
+        ensures { result ≡ word_at self.now offset }
+    {
+        LittleEndian::read_u32(&self.bytes[offset as usize..])
+    }
+
+    /// Writes one byte.
+    pub fn write8(&mut self, offset: u32, byte: u8)
+        requires { offset < length self.old }
+        ensures { self.new ≡ written self.old offset (byte ∷ []) }
+    {
+        self.bytes[offset as usize] = byte;
+    }
+
+    /// Writes a number into the four bytes from `offset` on, the lowest byte first.
+    pub fn write32(&mut self, offset: u32, word: u32)
+        requires { offset + 4 ≤ length self.old }
+        ensures { self.new ≡ written self.old offset (word_bytes word) }
+    {
+        let mut piece = [0; 4];
+        LittleEndian::write_u32(&mut piece, word);
+        let start = offset as usize;
+        self.bytes[start..start + 4].copy_from_slice(&piece);
+    }
+
+    /// Writes zero into the `count` bytes from `offset` on.
+    pub fn zero(&mut self, offset: u32, count: u32)
+        requires { offset + count ≤ length self.old }
+        ensures { self.new ≡ written self.old offset (replicate count 0) }
+    {
+        let start = offset as usize;
+        self.bytes[start..start + count as usize].fill(0);
+    }
+}

@@ -1,0 +1,60 @@
+//! The line of each label.
+
+ghost use Rattle.std.specs.Prelude.{◌≡◌, ◌+◌, ◌≤◌, ◌++◌};
+ghost use Rattle.arrayvec.specs.ArrayVec.{array_vec_len};
+ghost use Rattle.model.specs.Trace.{line_of, text_of_outcome};
+
+use crate::digits::{Line, push_decimal, push_hex_byte, push_hex_word, push_text};
+use arrayvec::ArrayVec;
+use model::{Label, Outcome};
+
+/// Appends what came of an instruction.
+fn push_outcome(to: &mut Line, outcome: Outcome)
+    requires { array_vec_len to.old + 9 ≤ 32 }
+    ensures { to.new.items ≡ to.old.items ++ text_of_outcome outcome }
+{
+    match outcome {
+        Outcome::Faulted(kind) => {
+            push_text(to, b"fault ");
+            push_decimal(to, kind.number());
+        }
+        Outcome::Refused(error) => {
+            push_text(to, b"error ");
+            push_decimal(to, error.number());
+        }
+        Outcome::Completed => push_text(to, b"ok"),
+        Outcome::Put(byte) => {
+            push_text(to, b"byte ");
+            push_hex_byte(to, byte);
+        }
+        Outcome::Waited => push_text(to, b"wait"),
+        Outcome::Plain => push_text(to, b"plain"),
+    }
+}
+
+/// The line that a trace has for `label`, without a line feed.
+pub fn line(label: Label) -> ArrayVec<u8, 32>
+    ensures { result.items ≡ line_of label }
+{
+    let mut text = ArrayVec::new();
+    match label {
+        Label::Idle => push_text(&mut text, b"idle"),
+        Label::Ticked => push_text(&mut text, b"tick"),
+        Label::Raised(irq_line) => {
+            push_text(&mut text, b"irq ");
+            push_decimal(&mut text, irq_line);
+        }
+        Label::Ran {
+            thread,
+            pc,
+            outcome,
+        } => {
+            push_hex_word(&mut text, thread);
+            push_text(&mut text, b" ");
+            push_hex_word(&mut text, pc);
+            push_text(&mut text, b" ");
+            push_outcome(&mut text, outcome);
+        }
+    }
+    text
+}
