@@ -1,6 +1,6 @@
 -- What this release reads: images of one form. The rest is refused as a later stage.
 use Rattle.std.specs.Prelude.{◌≡◌, ℕ, ◌==◌, Bool, true, false, ◌&&◌, nat_eq, nat_le, nat_lt, if◌then◌else◌, List, [], ◌∷◌, length, Result, Ok, Err}
-use Rattle.std.specs.List.{starts_with}
+use Rattle.std.specs.List.{list_all, starts_with}
 use Rattle.std.specs.Int.{w32, to_le_bytes}
 use Rattle.model.specs.declared.entries.SlotEntry.{SlotEntry}
 use Rattle.model.specs.declared.refusals.Refusal.{Refusal}
@@ -64,8 +64,7 @@ unfoldable pub staged_front : List ℕ
 staged_front = sections_format.spelling (staged_sections any_thread)
 
 abbrev pub has_no_terms : List StateRecord → Bool
-has_no_terms [] = true
-has_no_terms (r ∷ rs) = r.header.terms == 0 && has_no_terms rs
+has_no_terms records = list_all (λ r. r.header.terms == 0) records
 
 -- whether a thread is of the form: its objects are the image's, its fault address is 0, its program begins at 0x1000 and
 -- has at most 1024 words, and its measures are constants

@@ -1,14 +1,16 @@
 //! Sections: entries of one kind, one after the other, whose keys rise.
 
 ghost use Rattle.std.specs.Prelude.{◌≡◌, ◌≤◌, ◌+◌, ℕ, IfOk};
+ghost use Rattle.std.specs.Iterator.{YieldsFirst, item_count};
 ghost use Rattle.model.specs.Format.{Format, end_of, ordered};
 ghost use Rattle.model.specs.Image.{register_format, range_format, term_format};
 
 use crate::fields::{any_word, coefficient, word_between};
 use model::{RangeEntry, Refusal, RegisterEntry, TermEntry};
+use std::marker::{Model, PhantomData};
 
 /// An entry whose key is a register, 1 to 31.
-pub(crate) trait Entry: Sized + Drop {
+pub trait Entry: Sized + Drop {
     /// The format of an entry whose key is not below a number.
     ghost format: { ℕ → Format Self };
 
@@ -109,4 +111,48 @@ pub(crate) fn entries_end<E: Entry>(
         at = next;
     }
     Ok(at)
+}
+
+/// Entries of a section, in rising order of their keys.
+#[derive(Drop)]
+pub struct Entries<'a, E: Entry> {
+    pub(crate) bytes: &'a [u8],
+    pub(crate) at: usize,
+    pub(crate) least: u32,
+    pub(crate) left: u32,
+    pub(crate) kind: PhantomData<E>,
+}
+
+impl<'a, E: Entry> Model for Entries<'a, E> {
+    ghost use Rattle.std.specs.Prelude.{◌≡◌, List, true, is_ok, ◌+◌};
+    ghost use Rattle.model.specs.Format.{many_read, values_of};
+
+    ghost Value = { List E };
+
+    ghost view = { λ r. values_of (many_read E.format (λ e. E.key e + 1) r.least r.left r.bytes.now r.at) };
+
+    ghost invariant = { λ r. is_ok (many_read E.format (λ e. E.key e + 1) r.least r.left r.bytes.now r.at) ≡ true };
+}
+
+impl<'a, E: Entry> Iterator for Entries<'a, E> {
+    type Item = E;
+
+    ghost next_gives = { YieldsFirst (λ s. s) };
+
+    ghost remaining = { item_count (λ s. s) };
+
+    fn next(&mut self) -> Option<E> {
+        if self.left == 0 {
+            return None;
+        }
+        match E::read(self.bytes, self.at, self.least) {
+            Ok((entry, next)) => {
+                self.least = entry.key_of() + 1;
+                self.at = next;
+                self.left -= 1;
+                Some(entry)
+            }
+            Err(_) => unreachable!(),
+        }
+    }
 }

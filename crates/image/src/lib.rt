@@ -4,6 +4,13 @@
 mod entries;
 mod fields;
 mod headers;
+mod reading;
 mod records;
 mod stage;
 mod threads;
+
+pub use entries::Entries;
+pub use model::Refusal;
+pub use reading::{ImageRef, read};
+pub use records::{RecordRef, Records};
+pub use threads::ThreadRef;

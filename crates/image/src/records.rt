@@ -6,10 +6,10 @@ ghost use Rattle.model.specs.Format.{end_of};
 ghost use Rattle.model.specs.Image.{record_format, records_format};
 ghost use Rattle.image.specs.Stage.{no_slots};
 
-use crate::entries::entries_end;
+use crate::entries::{Entries, entries_end};
 use crate::headers::record_header;
 use model::{RangeEntry, RecordHeader, Refusal, TermEntry};
-use std::marker::Model;
+use std::marker::{Model, PhantomData};
 
 /// One record of a certificate, lent from the file.
 #[derive(Drop)]
@@ -62,7 +62,28 @@ pub(crate) fn record_at<'a>(
     Ok((record, end))
 }
 
-impl RecordRef<'_> {
+impl<'a> RecordRef<'a> {
+    /// The ranges that the record lists, in rising order of their registers.
+    #[tactic(auto, unfolding(model::specs::Image::ranges_format))]
+    pub fn ranges(&self) -> Entries<'a, RangeEntry>
+        ensures { result ≡ self.now.ranges }
+    {
+        Entries {
+            bytes: self.bytes,
+            at: self.ranges_at,
+            least: 1,
+            left: self.header.ranges,
+            kind: PhantomData,
+        }
+    }
+
+    /// How many terms the measure has.
+    pub fn term_count(&self) -> u32
+        ensures { result ≡ self.now.header.terms }
+    {
+        self.header.terms
+    }
+
     /// The point that the record speaks of.
     pub fn point(&self) -> u32
         ensures { result ≡ self.now.header.point }
@@ -100,11 +121,11 @@ pub(crate) fn records_end(
 /// The records of a certificate, in rising order of their points.
 #[derive(Drop)]
 pub struct Records<'a> {
-    bytes: &'a [u8],
-    at: usize,
-    words: u32,
-    least: u32,
-    left: u32,
+    pub(crate) bytes: &'a [u8],
+    pub(crate) at: usize,
+    pub(crate) words: u32,
+    pub(crate) least: u32,
+    pub(crate) left: u32,
 }
 
 impl<'a> Model for Records<'a> {

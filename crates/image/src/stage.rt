@@ -1,7 +1,5 @@
 //! The one form of image that this release reads: bell's.
 
-ghost use Rattle.std.specs.Prelude.{◌≡◌};
-
 use model::{Point, Refusal};
 
 /// The refusal of an image that is a later stage as a whole.
@@ -9,6 +7,9 @@ pub(crate) const LATER: Refusal = Refusal::Stage(Point {
     thread: 0,
     point: 0,
 });
+
+/// How many objects the image has.
+pub(crate) const OBJECTS: u32 = 7;
 
 /// The sections before the thread: a code page, a data page, a page table, a TCB, a CNode and a
 /// notification that is bound to interrupt line 3.

@@ -1,16 +1,16 @@
 //! The threads of an image.
 
-ghost use Rattle.std.specs.Prelude.{◌≡◌};
+ghost use Rattle.std.specs.Prelude.{◌≡◌, ◌<◌, slice_index};
 ghost use Rattle.model.specs.Format.{end_of};
 ghost use Rattle.model.specs.Image.{thread_format, words_format};
 ghost use Rattle.image.specs.Stage.{no_slots};
 
-use crate::entries::entries_end;
+use crate::entries::{Entries, entries_end};
 use crate::fields::any_word;
 use crate::headers::thread_header;
-use crate::records::records_end;
+use crate::records::{Records, records_end};
 use model::{Refusal, RegisterEntry, ThreadHeader};
-use std::marker::Model;
+use std::marker::{Model, PhantomData};
 
 /// One thread of an image, lent from the file.
 #[derive(Drop)]
@@ -75,4 +75,65 @@ pub(crate) fn thread_at<'a>(
         records_at,
     };
     Ok((thread, end))
+}
+
+impl<'a> ThreadRef<'a> {
+    /// The same thread.
+    pub(crate) fn lend(&self) -> ThreadRef<'a>
+        ensures { result ≡ self.now }
+    {
+        ThreadRef {
+            bytes: self.bytes,
+            header: self.header,
+            registers_at: self.registers_at,
+            words_at: self.words_at,
+            records_at: self.records_at,
+        }
+    }
+
+    /// The thread's fixed part.
+    pub fn header(&self) -> ThreadHeader
+        ensures { result ≡ self.now.header }
+    {
+        self.header
+    }
+
+    /// The registers that the thread starts with, in rising order.
+    #[tactic(auto, unfolding(model::specs::Image::registers_format))]
+    pub fn registers(&self) -> Entries<'a, RegisterEntry>
+        ensures { result ≡ self.now.registers }
+    {
+        Entries {
+            bytes: self.bytes,
+            at: self.registers_at,
+            least: 1,
+            left: self.header.registers,
+            kind: PhantomData,
+        }
+    }
+
+    /// Word `index` of the program.
+    pub fn word(&self, index: u32) -> u32
+        requires { index < self.now.header.words }
+        ensures { result ≡ slice_index self.now.words index }
+    {
+        match any_word(self.bytes, self.words_at + 4 * index as usize) {
+            Ok((word, _)) => word,
+            Err(_) => unreachable!(),
+        }
+    }
+
+    /// The records of the certificate, in rising order of their points.
+    #[tactic(auto, unfolding(model::specs::Image::records_format))]
+    pub fn records(&self) -> Records<'a>
+        ensures { result ≡ self.now.records }
+    {
+        Records {
+            bytes: self.bytes,
+            at: self.records_at,
+            words: self.header.words,
+            least: 0,
+            left: self.header.records,
+        }
+    }
 }
