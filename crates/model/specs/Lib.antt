@@ -5,5 +5,6 @@ pub mod Image
 pub mod Instructions
 pub mod Labels
 pub mod Placement
+pub mod Ranges
 pub mod Refusals
 pub mod Trace

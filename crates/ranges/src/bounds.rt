@@ -1,0 +1,70 @@
+//! The ranges of all registers.
+
+ghost use Rattle.std.specs.Prelude.{◌≡◌, ◌↔◌, AllPairs, IsTrue, length, replicate};
+ghost use Rattle.model.specs.Instructions.{IsRegister};
+ghost use Rattle.model.specs.Ranges.{AreWithin, full, range_of, with_range};
+
+use model::{Range, Register};
+use std::marker::Model;
+
+/// The ranges of registers 1 to 31. Register 0 is 0. A clause sees the list of the 31 ranges.
+#[derive(Clone, Copy, Debug)]
+pub struct Bounds {
+    ranges: [Range; 31],
+}
+
+impl Model for Bounds {
+    ghost use Rattle.std.specs.Prelude.{List};
+    ghost use Rattle.model.specs.declared.ranges.Range.{Range};
+
+    ghost Value = { List Range };
+
+    ghost view = { λ b. b.ranges };
+
+    ghost inverse = { λ ranges. record { ranges = ranges } };
+}
+
+impl Bounds {
+    /// Every register has every value.
+    pub fn full() -> Self
+        ensures { result ≡ replicate 31 full }
+    {
+        Bounds {
+            ranges: [Range::FULL; 31],
+        }
+    }
+
+    /// The range of a register.
+    pub fn get(&self, register: Register) -> Range
+        requires { IsRegister register }
+        ensures { result ≡ range_of self.now register }
+    {
+        if register.0 == 0 {
+            Range::single(0)
+        } else {
+            self.ranges[register.0 as usize - 1]
+        }
+    }
+
+    /// Sets the range of a register. Register 0 stays 0.
+    pub fn set(&mut self, register: Register, range: Range)
+        requires { IsRegister register }
+        ensures { self.new ≡ with_range self.old register range }
+    {
+        if register.0 != 0 {
+            self.ranges[register.0 as usize - 1] = range;
+        }
+    }
+
+    /// Whether each register's range lies within that of `other`.
+    pub fn is_within(&self, other: &Bounds) -> bool
+        ensures { IsTrue result ↔ AreWithin self.now other.now }
+    {
+        for i in 0..31usize {
+            if !self.ranges[i].is_within(other.ranges[i]) {
+                return false;
+            }
+        }
+        true
+    }
+}
