@@ -2,7 +2,7 @@
 
 ghost use Rattle.std.specs.Prelude.{◌≡◌, ◌↔◌, AllPairs, IsTrue, length, replicate};
 ghost use Rattle.model.specs.Instructions.{IsRegister};
-ghost use Rattle.model.specs.Ranges.{AreWithin, full, range_of, with_range};
+ghost use Rattle.model.specs.Ranges.{AreWithin, full, range_of, single, with_range};
 
 use model::{Range, Register};
 use std::marker::Model;
@@ -31,6 +31,15 @@ impl Bounds {
     {
         Bounds {
             ranges: [Range::FULL; 31],
+        }
+    }
+
+    /// Every register is 0.
+    pub fn zero() -> Self
+        ensures { result ≡ replicate 31 (single 0) }
+    {
+        Bounds {
+            ranges: [Range { low: 0, high: 0 }; 31],
         }
     }
 

@@ -1,0 +1,140 @@
+//! The states that a certificate notes at the points of a program: from a record, or derived from the
+//! point before.
+
+ghost use Rattle.std.specs.Prelude.{◌≡◌, ◌+◌, ◌<◌, ◌^◌, ◌≤ℤ◌, IfOk, negsuc, vec_len};
+ghost use Rattle.verify.specs.States.{IsAtLeast};
+
+use image::{RecordRef, ThreadRef};
+use model::{Instr, Range, Register};
+use ranges::{Bounds, after};
+use rv32_isa::decode;
+use std::alloc::{AllocError, Global};
+
+/// What is known where a program stands at a point: the ranges of its registers, and at most how many
+/// instructions it runs until its next wait.
+#[derive(Clone, Copy, Debug)]
+pub(crate) struct State {
+    pub(crate) bounds: Bounds,
+    pub(crate) measure: i128,
+}
+
+/// Whether a point has a state.
+#[derive(Clone, Copy, Debug)]
+pub(crate) enum Noted {
+    /// It has none.
+    Absent,
+    /// It would have one behind a system call that a later stage knows.
+    Later,
+    /// It has this one.
+    Known(State),
+}
+
+/// The register that carries the first argument of a system call, and its result.
+const A0: Register = Register(10);
+
+/// The register that carries the number of a system call.
+const A7: Register = Register(17);
+
+/// The number of the call that waits on a notification.
+const RECEIVE: u32 = 5;
+
+/// The address of the notification in the thread's capability space.
+const NOTIFICATION: u32 = 1;
+
+/// The greatest word that a wait on a notification gives.
+const GREATEST_BADGE: u32 = (1 << 28) - 1;
+
+/// Whether a system call in this state is a wait on the thread's notification.
+pub(crate) fn waits(bounds: &Bounds) -> bool {
+    bounds.get(A7).value() == Some(RECEIVE) && bounds.get(A0).value() == Some(NOTIFICATION)
+}
+
+/// The ranges behind a wait on the notification.
+pub(crate) fn after_wait(bounds: &Bounds) -> Bounds {
+    let mut bounds = *bounds;
+    bounds.set(
+        A0,
+        Range {
+            low: 0,
+            high: GREATEST_BADGE,
+        },
+    );
+    bounds
+}
+
+/// The state of a record.
+fn recorded(record: &RecordRef) -> State
+    ensures { negsuc (2 ^ 63) ≤ℤ result.measure }
+{
+    let mut bounds = Bounds::full();
+    for entry in record.ranges() {
+        if entry.register < 32 {
+            let register = Register(entry.register as u8);
+            bounds.set(
+                register,
+                Range {
+                    low: entry.low,
+                    high: entry.high,
+                },
+            );
+        }
+    }
+    State {
+        bounds,
+        measure: i128::from(record.constant()),
+    }
+}
+
+/// The state behind the fall-through of a point in this state. Its measure is one less, or the budget
+/// behind a wait.
+fn behind(thread: &ThreadRef, point: u32, state: &Noted) -> Noted
+    requires within { point < thread.now.header.words }
+    requires measured { IsAtLeast point state.now }
+    ensures { IsAtLeast (point + 1) result }
+{
+    let header = thread.header();
+    let pc = header.base.wrapping_add(point.wrapping_mul(4));
+    match (decode(thread.word(point)), state) {
+        (Some(Instr::Ecall), Noted::Known(state)) if waits(&state.bounds) => Noted::Known(State {
+            bounds: after_wait(&state.bounds),
+            measure: i128::from(header.budget),
+        }),
+        (Some(Instr::Ecall), Noted::Known(_)) => Noted::Later,
+        (Some(instr), Noted::Known(state)) => match after(pc, instr, &state.bounds).fall_through {
+            Some(edge) => Noted::Known(State {
+                bounds: edge.bounds,
+                measure: state.measure - 1,
+            }),
+            None => Noted::Absent,
+        },
+        (Some(Instr::Jal { .. }), _) | (None, _) | (_, Noted::Absent) => Noted::Absent,
+        (Some(_), Noted::Later) => Noted::Later,
+    }
+}
+
+/// The states of all points of a thread's program.
+pub(crate) fn noted_states(
+    alloc: Global,
+    thread: &ThreadRef,
+) -> Result<Vec<Noted>, AllocError>
+    ensures { IfOk result (λ states. vec_len states ≡ thread.now.header.words) }
+{
+    let words = thread.header().words;
+    let mut records = thread.records();
+    let mut next = records.next();
+    let mut derived = Noted::Absent;
+    let mut states = Vec::new(alloc);
+    for point in 0..words {
+        let state = match &next {
+            Some(record) if record.point() == point => {
+                let state = recorded(record);
+                next = records.next();
+                Noted::Known(state)
+            }
+            _ => derived,
+        };
+        derived = behind(thread, point, &state);
+        states.push(state)?;
+    }
+    Ok(states)
+}
