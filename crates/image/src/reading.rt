@@ -33,7 +33,8 @@ impl<'a> Model for ImageRef<'a> {
 impl<'a> ImageRef<'a> {
     /// The image's fixed part.
     pub fn header(&self) -> ImageHeader
-        ensures { result ≡ self.now.header }
+        ensures value { result ≡ self.now.header }
+        ensures form { IsStaged self.now }
     {
         let _ = &self.thread;
         ImageHeader {

@@ -2,6 +2,7 @@
 //! capabilities, slots and the entries of an image, and in `specs/` the definitions of what they mean.
 #![tactic(auto)]
 
+mod boot_faults;
 mod capabilities;
 mod entries;
 mod errors;
@@ -14,6 +15,7 @@ mod refusals;
 mod rights;
 mod slot_numbers;
 
+pub use boot_faults::BootFault;
 pub use capabilities::{Cap, FrameMapping, TableMapping};
 pub use entries::{
     CapabilityEntry, ContentHeader, FrameEntry, ImageHeader, InterruptEntry, ObjectEntry, RangeEntry,

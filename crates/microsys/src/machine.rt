@@ -1,0 +1,198 @@
+//! The machine of the one form of image: one thread, and one interrupt line that signals it.
+
+ghost use Rattle.std.specs.Prelude.{◌≡◌, ◌^◌, ◌*◌, ◌≤◌, length, IfOk};
+
+use crate::pages::{CODE, Pages};
+use image::ThreadRef;
+use model::{Event, FaultKind, Label, Outcome, Register};
+use pmem::Mem;
+use rv32_exec::{Exec, Regs, View, exec};
+use rv32_isa::decode;
+use std::alloc::{AllocError, Global};
+use verify::Accepted;
+
+/// The physical address of the thread's TCB.
+const THREAD: u32 = 0x8000_C000;
+
+/// The interrupt line that is bound to the notification, and the badge that it signals with.
+const LINE: u8 = 3;
+const BADGE: u32 = 1;
+
+/// How many ticks a thread runs before it goes to the end of its list.
+const SLICE: u8 = 5;
+
+const A0: Register = Register(10);
+const A7: Register = Register(17);
+
+/// The call that waits on a notification, and the address of the notification.
+const RECEIVE: u32 = 5;
+const NOTIFICATION: u32 = 1;
+
+/// How many words a page has.
+const PAGE_WORDS: u32 = 1024;
+
+/// Whether a thread runs.
+#[derive(Clone, Copy, Debug, PartialEq, Eq)]
+enum ThreadState {
+    /// It is ready, with so many ticks left.
+    Ready { slice: u8 },
+    /// It waits on the notification, and stands at its ECALL.
+    Waiting,
+    /// It faulted, and nobody handles its faults.
+    Stopped,
+}
+
+/// The state of the machine after boot and after each event.
+#[derive(Drop)]
+pub(crate) struct System {
+    pages: Pages,
+    regs: Regs,
+    state: ThreadState,
+    /// The notification's word.
+    word: u32,
+    /// The line was raised and not acknowledged since.
+    masked: bool,
+    /// The line was raised while it was masked.
+    pending: bool,
+}
+
+/// The machine as the image describes it.
+pub(crate) fn boot(alloc: Global, accepted: &Accepted) -> Result<System, AllocError> {
+    let thread = accepted.image().thread(0);
+    let pages = Pages::new(program_memory(alloc, &thread)?);
+    Ok(System {
+        pages,
+        regs: first_registers(&thread),
+        state: ThreadState::Ready { slice: SLICE },
+        word: 0,
+        masked: false,
+        pending: false,
+    })
+}
+
+/// Memory with the thread's program in its code frame.
+fn program_memory(alloc: Global, thread: &ThreadRef) -> Result<Mem, AllocError>
+    ensures { IfOk result (λ memory. length memory ≡ 2 ^ 16) }
+{
+    let mut memory = Mem::new(alloc, 16)?;
+    for index in 0..thread.header().words.min(PAGE_WORDS) {
+        memory.write32(CODE + 4 * index, thread.word(index));
+    }
+    Ok(memory)
+}
+
+/// The registers that the thread starts with, and its entry as the pc.
+fn first_registers(thread: &ThreadRef) -> Regs {
+    let header = thread.header();
+    let mut regs = Regs::new();
+    regs.set_pc(header.base.wrapping_add(header.entry.wrapping_mul(4)));
+    for entry in thread.registers() {
+        if entry.register < 32 {
+            regs.write(Register(entry.register as u8), entry.value);
+        }
+    }
+    regs
+}
+
+impl System {
+    /// One event, and what the trace says of it.
+    pub(crate) fn step(&mut self, event: Event) -> Label {
+        match event {
+            Event::Step => match self.state {
+                ThreadState::Ready { .. } => self.run_thread(),
+                ThreadState::Waiting | ThreadState::Stopped => Label::Idle,
+            },
+            Event::Tick => {
+                self.tick();
+                Label::Ticked
+            }
+            Event::Irq(line) => {
+                self.raise(line);
+                Label::Raised(line)
+            }
+        }
+    }
+
+    /// Runs one instruction of the thread.
+    fn run_thread(&mut self) -> Label {
+        let pc = self.regs.pc();
+        let outcome = match self.pages.fetch(pc) {
+            Ok(word) => self.run_word(word),
+            Err(_) => self.stop(FaultKind::Memory),
+        };
+        Label::Ran {
+            thread: THREAD,
+            pc,
+            outcome,
+        }
+    }
+
+    /// Runs the instruction that a word spells.
+    fn run_word(&mut self, word: u32) -> Outcome {
+        let instr = match decode(word) {
+            Some(instr) => instr,
+            None => return self.stop(FaultKind::Instruction),
+        };
+        match exec(&mut self.regs, instr, &mut self.pages) {
+            Exec::Next => Outcome::Plain,
+            Exec::Ecall => self.call(),
+            Exec::Trap(_) => self.stop(FaultKind::Instruction),
+            Exec::Memory(..) => self.stop(FaultKind::Memory),
+        }
+    }
+
+    /// A system call. An accepted image of the form only waits on its notification.
+    fn call(&mut self) -> Outcome {
+        if self.regs.read(A7) != RECEIVE || self.regs.read(A0) != NOTIFICATION {
+            return self.stop(FaultKind::UnknownCall);
+        }
+        if self.word == 0 {
+            self.state = ThreadState::Waiting;
+        } else {
+            let word = self.word;
+            self.word = 0;
+            self.receive(word);
+        }
+        Outcome::Waited
+    }
+
+    /// Gives the thread a word of the notification, and passes its ECALL.
+    fn receive(&mut self, word: u32) {
+        let next = self.regs.pc().wrapping_add(4);
+        self.regs.write(A0, word);
+        self.regs.set_pc(next);
+    }
+
+    /// Stops the thread for a fault, which nobody handles.
+    fn stop(&mut self, kind: FaultKind) -> Outcome {
+        self.state = ThreadState::Stopped;
+        Outcome::Faulted(kind)
+    }
+
+    /// Takes one from the thread's slice. The only thread of its list is the next one too.
+    fn tick(&mut self) {
+        if let ThreadState::Ready { slice } = self.state {
+            let slice = if slice <= 1 { SLICE } else { slice - 1 };
+            self.state = ThreadState::Ready { slice };
+        }
+    }
+
+    /// Raises an interrupt line. The bound line signals once until it is acknowledged.
+    fn raise(&mut self, line: u8) {
+        if line != LINE {
+            return;
+        }
+        if self.masked {
+            self.pending = true;
+            return;
+        }
+        self.masked = true;
+        match self.state {
+            ThreadState::Waiting => {
+                self.receive(BADGE);
+                self.state = ThreadState::Ready { slice: SLICE };
+            }
+            ThreadState::Ready { .. } | ThreadState::Stopped => self.word |= BADGE,
+        }
+    }
+}
