@@ -1,7 +1,7 @@
 -- Places of the two pages, and writes of one byte.
 use Rattle.std.proofs.Common.{◌≡◌, ℕ, ◌+◌, ◌*◌, ◌/◌, ◌%◌, ◌^◌, ◌<◌, ◌≤◌, ◌≢◌, Bool, true, false, cond, eqb, List, [], ◌∷◌, ◌++◌, length, get_or, set, take, drop, slice_index, Option, Some, None, Result, Ok, Err, refl, sym, ap, ◌∙◌, arith, inl, inr}
 use Rattle.std.proofs.lemmas.Bool.{cases_eq, eq-eqb, ne_eqb}
-use Rattle.std.proofs.lemmas.List.{take-append-drop, take_more_set, drop-set-lt, get_or-set_same, get_or-set_other, length-set}
+use Rattle.std.proofs.lemmas.List.{take-append-drop, take_more_set, drop-set-lt, get_or-set_same, get_or-set_other}
 use Rattle.model.specs.declared.instructions.Access.{Access}
 use Rattle.model.specs.declared.instructions.Access.TheVariants.{Load, Store, Fetch}
 use Rattle.model.specs.declared.instructions.MemoryFault.{MemoryFault}
@@ -36,6 +36,3 @@ byte_after xs new at v k lt h =
       | inl same ↦ rw (e, eq-eqb k at same, same) (get_or-set_same xs at v 0 lt)
       | inr other ↦ rw (e, ne_eqb k at other) (get_or-set_other xs at k v 0 other)
     ]
-
-pub length_after : (xs new : List ℕ) (at v : ℕ) → at < length xs → new ≡ written xs at (v ∷ []) → length new ≡ length xs
-length_after xs new at v lt h = rw (h, written_set xs at v lt) (length-set xs at v)

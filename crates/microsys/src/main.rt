@@ -7,6 +7,8 @@ mod machine;
 mod pages;
 mod running;
 mod sinks;
+#[cfg(test)]
+mod tests;
 
 use crate::commands::command_line;
 use crate::sinks::WriterSink;

@@ -67,7 +67,8 @@ impl Mem {
     /// Writes one byte.
     pub fn write8(&mut self, offset: u32, byte: u8)
         requires { offset < length self.old }
-        ensures { self.new ≡ written self.old offset (byte ∷ []) }
+        ensures bytes { self.new ≡ written self.old offset (byte ∷ []) }
+        ensures length { length self.new ≡ length self.old }
     {
         self.bytes[offset as usize] = byte;
     }
@@ -75,7 +76,8 @@ impl Mem {
     /// Writes a number into the four bytes from `offset` on, the lowest byte first.
     pub fn write32(&mut self, offset: u32, word: u32)
         requires { offset + 4 ≤ length self.old }
-        ensures { self.new ≡ written self.old offset (word_bytes word) }
+        ensures bytes { self.new ≡ written self.old offset (word_bytes word) }
+        ensures length { length self.new ≡ length self.old }
     {
         let mut piece = [0; 4];
         LittleEndian::write_u32(&mut piece, word);
@@ -86,7 +88,8 @@ impl Mem {
     /// Writes zero into the `count` bytes from `offset` on.
     pub fn zero(&mut self, offset: u32, count: u32)
         requires { offset + count ≤ length self.old }
-        ensures { self.new ≡ written self.old offset (replicate count 0) }
+        ensures bytes { self.new ≡ written self.old offset (replicate count 0) }
+        ensures length { length self.new ≡ length self.old }
     {
         let start = offset as usize;
         self.bytes[start..start + count as usize].fill(0);

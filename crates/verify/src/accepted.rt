@@ -20,16 +20,20 @@ pub struct Accepted<'a> {
 
 impl<'a> Model for Accepted<'a> {
     ghost use Rattle.model.specs.Image.{Image};
+    ghost use Rattle.image.specs.Stage.{IsStaged};
 
     ghost Value = { Image };
 
     ghost view = { λ a. a.image };
+
+    ghost invariant = { λ a. IsStaged a.image };
 }
 
 impl<'a> Accepted<'a> {
     /// The image.
     pub fn image(&self) -> &ImageRef<'a>
-        ensures { result.now ≡ self.now }
+        ensures value { result.now ≡ self.now }
+        ensures threads { result.now.header.threads ≡ 1 }
     {
         &self.image
     }

@@ -2,7 +2,7 @@ use Rattle.std.proofs.Common.{◌≡◌, ◌<◌, ◌^◌, ℕ, length, ◌∙�
 use Rattle.model.specs.declared.instructions.Access.{Access}
 use Rattle.model.specs.Instructions.{Content}
 use Rattle.microsys.specs.Pages.{page_place}
-use Rattle.microsys.proofs.PageLemmas.{place_below, byte_after, length_after}
+use Rattle.microsys.proofs.PageLemmas.{place_below, byte_after}
 use Rattle.microsys.proofs.pages.PagesView.set_byte.Goals as goal
 
 pub write8-requires : goal.write8-requires
@@ -10,11 +10,10 @@ write8-requires c = omega (arith, place_below c.requires.access c.requires.addre
 
 pub invariant_of-self : goal.invariant_of-self
 invariant_of-self c =
-    let lt : c.args.place < length c.args.self.now.memory = omega (arith, place_below c.requires.access c.requires.address c.args.place c.requires.names, c.args.self.now.whole) in
-    record { whole = length_after c.args.self.now.memory c.write8.new.self c.args.place c.args.value lt c.write8.ensures ∙ c.args.self.now.whole }
+    record { whole = c.write8.ensures.length ∙ c.args.self.now.whole }
 
 -- the bytes agree at each place
 pub returns : goal.returns
 returns c =
     let lt : c.args.place < length c.args.self.now.memory = omega (arith, place_below c.requires.access c.requires.address c.args.place c.requires.names, c.args.self.now.whole) in
-    λ i. record { place = page_place; byte = λ k. byte_after c.args.self.now.memory c.write8.new.self c.args.place c.args.value k lt c.write8.ensures i }
+    λ i. record { place = page_place; byte = λ k. byte_after c.args.self.now.memory c.write8.new.self c.args.place c.args.value k lt c.write8.ensures.bytes i }

@@ -1,0 +1,5 @@
+use Rattle.std.proofs.Common.{◌≡◌, ◌^◌, length}
+use Rattle.microsys.proofs.machine.program_memory.Given as goal
+
+abbrev pub invariant-loop-index : goal.invariant-loop-index
+invariant-loop-index l = length l.memory ≡ 2 ^ 16
