@@ -50,6 +50,7 @@ pub fn name_of<R: Files + Env + AllocGlobal>(rt: &R, name: &str) -> Result<Strin
 }
 
 /// What the program answered and printed.
+#[derive(Drop)]
 pub struct Answer {
     pub status: u8,
     pub output: MemorySink,
