@@ -1,6 +1,6 @@
 //! Small programs over a flat memory.
 
-use crate::{Access, Cause, Exec, Instr, MemoryFault, Register, Regs, Size, View, exec};
+use crate::{Access, Cause, Exec, MemoryFault, Register, Regs, Size, View, exec};
 use rv32_isa::decode;
 
 mod flat;
@@ -32,6 +32,18 @@ fn a_loop_of_four_words(rt: HostRuntime) {
 }
 
 #[test]
+fn a_jump_to_an_odd_half(rt: HostRuntime) {
+    let mut memory = Flat::new();
+    let mut regs = Regs::new();
+    assert_eq!(rt; run(&mut regs, &mut memory, 0xFFF0_0093), Some(Exec::Next));
+    assert_eq!(rt; run(&mut regs, &mut memory, 0x4040_D093), Some(Exec::Next));
+    assert_eq!(rt; regs.read(Register(1)), 0xFFFF_FFFF);
+    let trap = Exec::Trap(Cause::Misaligned);
+    assert_eq!(rt; run(&mut regs, &mut memory, 0x0000_8067), Some(trap));
+    assert_eq!(rt; regs.pc(), 8);
+}
+
+#[test]
 fn a_store_across_the_end_changes_nothing(rt: HostRuntime) {
     let mut memory = Flat::new();
     let fault = MemoryFault {
@@ -45,8 +57,13 @@ fn a_store_across_the_end_changes_nothing(rt: HostRuntime) {
     assert_eq!(rt; memory.load(Flat::SIZE - 2, Size::Halfword), Ok(0));
 }
 
-/// Fetches, decodes and runs one instruction.
+/// Fetches one word and runs it.
 fn step(regs: &mut Regs, memory: &mut Flat) -> Option<Exec> {
     let word = memory.fetch(regs.pc()).ok()?;
+    run(regs, memory, word)
+}
+
+/// Decodes one word and runs it.
+fn run(regs: &mut Regs, memory: &mut Flat, word: u32) -> Option<Exec> {
     Some(exec(regs, decode(word)?, memory))
 }
