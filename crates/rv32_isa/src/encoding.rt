@@ -1,7 +1,7 @@
 //! From instructions to words.
 
-ghost use Rattle.std.specs.Prelude.{◌≡◌, ◌+◌, ◌*◌, ◌^◌};
-ghost use Rattle.model.specs.Instructions.{IsInstr, IsRegister, Spells, bits, word_of};
+ghost use Rattle.std.specs.Prelude.{◌≡◌, ◌+◌, ◌*◌, ◌^◌, ◌↔◌, IsTrue, pos, neg_ℤ, ◌≤ℤ◌, ◌<ℤ◌};
+ghost use Rattle.model.specs.Instructions.{IsImmediate, IsInstr, IsRegister, Spells, bits, word_of};
 
 use crate::fields::field;
 use crate::operations::{
@@ -79,6 +79,73 @@ pub fn encode(instr: Instr) -> u32
         Instr::Ecall => 0x0000_0073,
         Instr::Ebreak => 0x0010_0073,
     }
+}
+
+/// Whether the fields of an instruction lie in their ranges, so that a word spells it.
+pub fn has_spelling(instr: Instr) -> bool
+    ensures { IsTrue result ↔ IsInstr instr }
+{
+    match instr {
+        Instr::Upper { rd, immediate, .. } => is_register(rd) && immediate < 1 << 20,
+        Instr::Jal { rd, offset } => is_register(rd) && is_offset(offset, 1 << 20),
+        Instr::Jalr { rd, rs1, offset } => {
+            is_register(rd) && is_register(rs1) && is_immediate(offset)
+        }
+        Instr::Branch {
+            rs1,
+            rs2,
+            offset,
+            ..
+        } => { is_register(rs1) && is_register(rs2) && is_offset(offset, 1 << 12) }
+        Instr::Load {
+            rd,
+            rs1,
+            offset,
+            ..
+        } => { is_register(rd) && is_register(rs1) && is_immediate(offset) }
+        Instr::Store {
+            rs1,
+            rs2,
+            offset,
+            ..
+        } => { is_register(rs1) && is_register(rs2) && is_immediate(offset) }
+        Instr::Immediate {
+            rd,
+            rs1,
+            immediate,
+            ..
+        } => { is_register(rd) && is_register(rs1) && is_immediate(immediate) }
+        Instr::Shift {
+            rd,
+            rs1,
+            amount,
+            ..
+        } => { is_register(rd) && is_register(rs1) && amount < 1 << 5 }
+        Instr::Registers { rd, rs1, rs2, .. } => {
+            is_register(rd) && is_register(rs1) && is_register(rs2)
+        }
+        Instr::Fence | Instr::Ecall | Instr::Ebreak => true,
+    }
+}
+
+fn is_register(register: Register) -> bool
+    ensures { IsTrue result ↔ IsRegister register }
+{
+    register.0 < 32
+}
+
+fn is_immediate(immediate: i32) -> bool
+    ensures { IsTrue result ↔ IsImmediate immediate }
+{
+    -2048 <= immediate && immediate <= 2047
+}
+
+/// Whether the offset is even, and from `-limit` to below `limit`.
+fn is_offset(offset: i32, limit: i32) -> bool
+    requires positive { pos 0 ≤ℤ limit }
+    ensures { IsTrue result ↔ ((neg_ℤ limit ≤ℤ offset) × (offset <ℤ limit) × (bits (word_of offset) 0 1 ≡ 0)) }
+{
+    -limit <= offset && offset < limit && field(offset.cast_unsigned(), 0, 1) == 0
 }
 
 /// The register in its place as rd.

@@ -7,7 +7,7 @@ mod fields;
 mod operations;
 
 pub use decoding::decode;
-pub use encoding::encode;
+pub use encoding::{encode, has_spelling};
 pub use model::{
     BranchOp, ImmediateOp, Instr, LoadOp, Register, RegisterOp, ShiftOp, StoreOp, UpperOp,
 };
