@@ -4,14 +4,16 @@ ghost use Rattle.std.specs.Prelude.{◌≡◌, ℤ, ◌⊎◌, Some, IfSome};
 ghost use Rattle.model.specs.declared.instructions.BranchOp.{BranchOp};
 ghost use Rattle.model.specs.declared.instructions.Instr.{Instr};
 ghost use Rattle.model.specs.declared.instructions.Register.{Register};
-ghost use Rattle.model.specs.Instructions.{IsBranchOffset, Spells, b_type, bits, upper_opcode};
+ghost use Rattle.model.specs.Instructions.{IsBranchOffset, Spells, b_offset, b_type, bits, decoded, decoded_branch, decoded_immediate, decoded_jal, decoded_jalr, decoded_load, decoded_registers, decoded_shift, decoded_store, decoded_system, decoded_upper, upper_opcode};
 
 use crate::fields::{field, register, signed};
 use crate::operations::{branch_op, immediate_op, load_op, register_op, shift_op, store_op};
 use model::{Instr, UpperOp};
 
 /// The instruction that a word spells, or `None` where it spells none of RV32I.
+#[tactic(auto, unfolding(model::specs::Instructions::decoded))]
 pub fn decode(word: u32) -> Option<Instr>
+    ensures value { result ≡ decoded word }
     ensures some { IfSome result (λ i. Spells word i) }
     ensures only { (i : Instr) → Spells word i → result ≡ Some i }
 {
@@ -34,6 +36,7 @@ pub fn decode(word: u32) -> Option<Instr>
 /// LUI or AUIPC (2.4), as the opcode says.
 fn upper(op: UpperOp, word: u32) -> Instr
     requires { bits word 0 7 ≡ upper_opcode op }
+    ensures value { result ≡ decoded_upper op word }
     ensures some { Spells word result }
     ensures only { (i : Instr) → Spells word i → result ≡ i }
 {
@@ -47,6 +50,7 @@ fn upper(op: UpperOp, word: u32) -> Instr
 /// JAL (2.5). The offset's bits stand in the order 20, 10 to 1, 11, 19 to 12.
 fn jal(word: u32) -> Instr
     requires { bits word 0 7 ≡ 0x6F }
+    ensures value { result ≡ decoded_jal word }
     ensures some { Spells word result }
     ensures only { (i : Instr) → Spells word i → result ≡ i }
 {
@@ -63,6 +67,7 @@ fn jal(word: u32) -> Instr
 /// JALR (2.5).
 fn jalr(word: u32) -> Option<Instr>
     requires { bits word 0 7 ≡ 0x67 }
+    ensures value { result ≡ decoded_jalr word }
     ensures some { IfSome result (λ i. Spells word i) }
     ensures only { (i : Instr) → Spells word i → result ≡ Some i }
 {
@@ -79,6 +84,7 @@ fn jalr(word: u32) -> Option<Instr>
 /// A branch (2.5).
 fn branch(word: u32) -> Option<Instr>
     requires { bits word 0 7 ≡ 0x63 }
+    ensures value { result ≡ decoded_branch word }
     ensures some { IfSome result (λ i. Spells word i) }
     ensures only { (i : Instr) → Spells word i → result ≡ Some i }
 {
@@ -92,6 +98,7 @@ fn branch(word: u32) -> Option<Instr>
 
 /// The offset of a branch, whose bits stand in the order 12, 10 to 5, and 4 to 1, 11.
 fn branch_offset(word: u32) -> i32
+    ensures value { result ≡ b_offset word }
     ensures range { IsBranchOffset result }
     ensures spelled { word ≡ b_type (bits word 0 7) (bits word 12 3) (record { 0 = bits word 15 5 }) (record { 0 = bits word 20 5 }) result }
     ensures only { (op : BranchOp) (rs1 rs2 : Register) (offset : ℤ) →
@@ -107,6 +114,7 @@ fn branch_offset(word: u32) -> i32
 /// A load (2.6).
 fn load(word: u32) -> Option<Instr>
     requires { bits word 0 7 ≡ 0x03 }
+    ensures value { result ≡ decoded_load word }
     ensures some { IfSome result (λ i. Spells word i) }
     ensures only { (i : Instr) → Spells word i → result ≡ Some i }
 {
@@ -121,6 +129,7 @@ fn load(word: u32) -> Option<Instr>
 /// A store (2.6).
 fn store(word: u32) -> Option<Instr>
     requires { bits word 0 7 ≡ 0x23 }
+    ensures value { result ≡ decoded_store word }
     ensures some { IfSome result (λ i. Spells word i) }
     ensures only { (i : Instr) → Spells word i → result ≡ Some i }
 {
@@ -136,6 +145,7 @@ fn store(word: u32) -> Option<Instr>
 /// A register-immediate operation (2.4), of which two values of funct3 are shifts.
 fn immediate(word: u32) -> Option<Instr>
     requires { bits word 0 7 ≡ 0x13 }
+    ensures value { result ≡ decoded_immediate word }
     ensures some { IfSome result (λ i. Spells word i) }
     ensures only { (i : Instr) → Spells word i → result ≡ Some i }
 {
@@ -155,6 +165,7 @@ fn immediate(word: u32) -> Option<Instr>
 fn shift(word: u32) -> Option<Instr>
     requires opcode { bits word 0 7 ≡ 0x13 }
     requires funct3 { (bits word 12 3 ≡ 1) ⊎ (bits word 12 3 ≡ 5) }
+    ensures value { result ≡ decoded_shift word }
     ensures some { IfSome result (λ i. Spells word i) }
     ensures only { (i : Instr) → Spells word i → result ≡ Some i }
 {
@@ -169,6 +180,7 @@ fn shift(word: u32) -> Option<Instr>
 /// A register-register operation (2.4).
 fn registers(word: u32) -> Option<Instr>
     requires { bits word 0 7 ≡ 0x33 }
+    ensures value { result ≡ decoded_registers word }
     ensures some { IfSome result (λ i. Spells word i) }
     ensures only { (i : Instr) → Spells word i → result ≡ Some i }
 {
@@ -183,6 +195,7 @@ fn registers(word: u32) -> Option<Instr>
 /// ECALL or EBREAK (2.8).
 fn system(word: u32) -> Option<Instr>
     requires { bits word 0 7 ≡ 0x73 }
+    ensures value { result ≡ decoded_system word }
     ensures some { IfSome result (λ i. Spells word i) }
     ensures only { (i : Instr) → Spells word i → result ≡ Some i }
 {

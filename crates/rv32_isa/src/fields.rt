@@ -1,7 +1,7 @@
 //! The fields of a word (RISC-V Unprivileged ISA, 2.2 and 2.3).
 
-ghost use Rattle.std.specs.Prelude.{◌≡◌, ◌+◌, ◌*◌, ◌^◌, ◌<◌, ◌≤◌, pos, ◌+ℤ◌};
-ghost use Rattle.model.specs.Instructions.{bits};
+ghost use Rattle.std.specs.Prelude.{◌≡◌, ◌+◌, ◌*◌, ◌^◌, ◌<◌, ◌≤◌};
+ghost use Rattle.model.specs.Instructions.{bits, register_at, sign_extended};
 
 use model::Register;
 
@@ -18,7 +18,7 @@ pub fn field(word: u32, low: u32, count: u32) -> u32
 /// The register whose five bits begin at bit `low`.
 pub fn register(word: u32, low: u32) -> Register
     requires { low + 5 ≤ 32 }
-    ensures { result.0 ≡ bits word low 5 }
+    ensures { result ≡ register_at word low }
 {
     Register(field(word, low, 5) as u8)
 }
@@ -27,8 +27,7 @@ pub fn register(word: u32, low: u32) -> Register
 pub fn signed(value: u32, sign: u32) -> i32
     requires small { sign ≤ 2 ^ 20 }
     requires within { value < 2 * sign }
-    ensures positive { value < sign → result ≡ pos value }
-    ensures negative { sign ≤ value → result +ℤ pos (2 * sign) ≡ pos value }
+    ensures { result ≡ sign_extended value sign }
 {
     if value < sign {
         value as i32

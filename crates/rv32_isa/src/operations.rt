@@ -8,7 +8,7 @@ ghost use Rattle.model.specs.declared.instructions.StoreOp.{StoreOp};
 ghost use Rattle.model.specs.declared.instructions.ImmediateOp.{ImmediateOp};
 ghost use Rattle.model.specs.declared.instructions.ShiftOp.{ShiftOp};
 ghost use Rattle.model.specs.declared.instructions.RegisterOp.{RegisterOp};
-ghost use Rattle.model.specs.Instructions.{upper_opcode, branch_funct3, load_funct3, store_funct3, immediate_funct3, shift_funct3, shift_funct7, register_funct3, register_funct7};
+ghost use Rattle.model.specs.Instructions.{branch_op, load_op, store_op, immediate_op, shift_op, register_op, upper_opcode, branch_funct3, load_funct3, store_funct3, immediate_funct3, shift_funct3, shift_funct7, register_funct3, register_funct7};
 
 use model::{BranchOp, ImmediateOp, LoadOp, RegisterOp, ShiftOp, StoreOp, UpperOp};
 
@@ -24,6 +24,7 @@ pub fn upper_opcode(op: UpperOp) -> u32
 
 /// A branch by its funct3.
 pub fn branch_op(funct3: u32) -> Option<BranchOp>
+    ensures value { result ≡ branch_op funct3 }
     ensures some { IfSome result (λ op. funct3 ≡ branch_funct3 op) }
     ensures only { (op : BranchOp) → funct3 ≡ branch_funct3 op → result ≡ Some op }
 {
@@ -55,6 +56,7 @@ pub fn branch_funct3(op: BranchOp) -> u32
 
 /// A load by its funct3.
 pub fn load_op(funct3: u32) -> Option<LoadOp>
+    ensures value { result ≡ load_op funct3 }
     ensures some { IfSome result (λ op. funct3 ≡ load_funct3 op) }
     ensures only { (op : LoadOp) → funct3 ≡ load_funct3 op → result ≡ Some op }
 {
@@ -84,6 +86,7 @@ pub fn load_funct3(op: LoadOp) -> u32
 
 /// A store by its funct3.
 pub fn store_op(funct3: u32) -> Option<StoreOp>
+    ensures value { result ≡ store_op funct3 }
     ensures some { IfSome result (λ op. funct3 ≡ store_funct3 op) }
     ensures only { (op : StoreOp) → funct3 ≡ store_funct3 op → result ≡ Some op }
 {
@@ -109,6 +112,7 @@ pub fn store_funct3(op: StoreOp) -> u32
 
 /// A register-immediate operation by its funct3.
 pub fn immediate_op(funct3: u32) -> Option<ImmediateOp>
+    ensures value { result ≡ immediate_op funct3 }
     ensures some { IfSome result (λ op. funct3 ≡ immediate_funct3 op) }
     ensures only { (op : ImmediateOp) → funct3 ≡ immediate_funct3 op → result ≡ Some op }
 {
@@ -140,6 +144,7 @@ pub fn immediate_funct3(op: ImmediateOp) -> u32
 
 /// A shift by a fixed amount by its funct3 and funct7.
 pub fn shift_op(funct3: u32, funct7: u32) -> Option<ShiftOp>
+    ensures value { result ≡ shift_op funct3 funct7 }
     ensures some { IfSome result (λ op. (funct3 ≡ shift_funct3 op) × (funct7 ≡ shift_funct7 op)) }
     ensures only { (op : ShiftOp) → funct3 ≡ shift_funct3 op → funct7 ≡ shift_funct7 op → result ≡ Some op }
 {
@@ -166,6 +171,7 @@ pub fn shift_functs(op: ShiftOp) -> (u32, u32)
 
 /// A register-register operation by its funct3 and funct7.
 pub fn register_op(funct3: u32, funct7: u32) -> Option<RegisterOp>
+    ensures value { result ≡ register_op funct3 funct7 }
     ensures some { IfSome result (λ op. (funct3 ≡ register_funct3 op) × (funct7 ≡ register_funct7 op)) }
     ensures only { (op : RegisterOp) → funct3 ≡ register_funct3 op → funct7 ≡ register_funct7 op → result ≡ Some op }
 {

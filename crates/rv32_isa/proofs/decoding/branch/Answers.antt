@@ -49,9 +49,10 @@ only_branch word op rs1 rs2 offset opcode ops first second offsets Ebreak s = gr
 
 pub returns-clause-only : goal.returns-clause-only
 returns-clause-only c = λ i spells.
+    let number : Register → ℕ = λ register. register.0 in
     let fits : FitsSigned w32 c.branch_offset.result = search rules in
     ap Some (only_branch c.args.word c.in_ok-branch_op.field-0 c.register.result c.register-2.result _ c.requires
     (λ other e. c.in_ok-branch_op.ensures.only other (c.field.ensures ∙ e))
-    c.register.ensures c.register-2.ensures
+    (ap number c.register.ensures) (ap number c.register-2.ensures)
     (λ o a b z s. to_z-of_z w32 _ fits ∙ c.branch_offset.ensures.only o a b z s)
     i spells)
