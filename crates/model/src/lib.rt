@@ -24,7 +24,10 @@ pub use entries::{
 pub use errors::KError;
 pub use events::Event;
 pub use faults::FaultKind;
-pub use instructions::{Access, Cause, Exec, ImmediateOp, Instr, MemoryFault, Register, Size};
+pub use instructions::{
+    Access, BranchOp, Cause, Exec, ImmediateOp, Instr, LoadOp, MemoryFault, Register, RegisterOp,
+    ShiftOp, Size, StoreOp, UpperOp,
+};
 pub use labels::{Label, Outcome};
 pub use ranges::Range;
 pub use refusals::{Point, Refusal};

@@ -4,6 +4,7 @@
 
 mod execution;
 mod registers;
+mod results;
 mod view;
 
 pub use execution::exec;

@@ -1,13 +1,13 @@
 //! The registers of one thread.
 
 ghost use Rattle.std.specs.Prelude.{◌≡◌, ◌^◌, ◌<◌, replicate, length};
-ghost use Rattle.model.specs.Instructions.{Registers, IsRegister, read, write};
+ghost use Rattle.model.specs.Instructions.{RegisterFile, IsRegister, read, write};
 
 use model::Register;
 use std::marker::Model;
 
 /// The pc and the 32 registers, of which register 0 reads as zero
-/// (RISC-V Unprivileged ISA, 2.1). Clauses see them as `Registers`.
+/// (RISC-V Unprivileged ISA, 2.1). Clauses see them as a `RegisterFile`.
 #[derive(Clone, Copy, Debug, PartialEq, Eq)]
 pub struct Regs {
     pc: u32,
@@ -15,7 +15,7 @@ pub struct Regs {
 }
 
 impl Model for Regs {
-    ghost Value = { Registers };
+    ghost Value = { RegisterFile };
 
     ghost view = { λ r. record { pc = r.pc; words = r.words } };
 

@@ -1,9 +1,7 @@
 //! Memory as a program sees it.
 
-ghost use Rattle.std.specs.Prelude.{◌≡◌, ℕ, ◌<◌, ◌^◌, MatchResult, Ok, Err};
-ghost use Rattle.model.specs.Instructions.{Content, IsNamed, place_at, put_byte, loaded, stored};
-ghost use Rattle.model.specs.declared.instructions.Access.TheVariants.{Load, Store, Fetch};
-ghost use Rattle.model.specs.declared.instructions.Size.TheVariants.{Word};
+ghost use Rattle.std.specs.Prelude.{◌≡◌, ℕ, ◌<◌, ◌^◌, IfOk, MatchResult, Ok, Err};
+ghost use Rattle.model.specs.Instructions.{Content, FitsSize, IsNamed, place_at, put_byte, loaded, stored};
 
 use model::{Access, MemoryFault, Size};
 
@@ -32,7 +30,8 @@ pub trait View {
 
     /// The number at an address, lowest byte first.
     fn number(&self, address: u32, size: Size, access: Access) -> Result<u32, MemoryFault>
-        ensures { result ≡ loaded (content self.now) access size address }
+        ensures value { result ≡ loaded (content self.now) access size address }
+        ensures range { IfOk result (FitsSize size) }
     {
         match size {
             Size::Byte => {
@@ -65,14 +64,15 @@ pub trait View {
 
     /// The number at an address, for an instruction that loads it.
     fn load(&self, address: u32, size: Size) -> Result<u32, MemoryFault>
-        ensures { result ≡ loaded (content self.now) Load size address }
+        ensures value { result ≡ loaded (content self.now) Access.Load size address }
+        ensures range { IfOk result (FitsSize size) }
     {
         self.number(address, size, Access::Load)
     }
 
     /// The word at an address, to be run.
     fn fetch(&self, address: u32) -> Result<u32, MemoryFault>
-        ensures { result ≡ loaded (content self.now) Fetch Word address }
+        ensures { result ≡ loaded (content self.now) Access.Fetch Size.Word address }
     {
         self.number(address, Size::Word, Access::Fetch)
     }

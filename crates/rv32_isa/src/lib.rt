@@ -3,10 +3,14 @@
 
 mod decoding;
 mod encoding;
+mod fields;
+mod operations;
 
 pub use decoding::decode;
-pub use encoding::encode;
-pub use model::{ImmediateOp, Instr, Register};
+pub use encoding::{encode, has_spelling};
+pub use model::{
+    BranchOp, ImmediateOp, Instr, LoadOp, Register, RegisterOp, ShiftOp, StoreOp, UpperOp,
+};
 
 #[cfg(test)]
 mod tests;

@@ -1,6 +1,6 @@
-//! Words that the manual's tables and other assemblers give.
+//! Words that other assemblers give.
 
-use crate::{ImmediateOp, Instr, Register, decode, encode};
+use crate::{ImmediateOp, Instr, Register, decode};
 
 #[test]
 fn words_of_a_small_program(rt: HostRuntime) {
@@ -15,6 +15,7 @@ fn words_of_a_small_program(rt: HostRuntime) {
                 offset: -12,
             },
         ),
+        (0xFFF0_0093, addi(1, 0, -1)),
     ];
     for (word, instr) in program {
         assert_eq!(rt; decode(word), Some(instr));

@@ -1,18 +1,20 @@
-//! A lawful memory: bytes from address 0 on, each in the place of its address.
+//! A lawful memory: some bytes from one address on.
 
-ghost use Rattle.std.specs.Prelude.{Some, None, nat_lt, length, slice_index, if◌then◌else◌};
+ghost use Rattle.std.specs.Prelude.{Some, None, ◌+◌, ◌-◌, ◌&&◌, nat_le, nat_lt, length, slice_index, if◌then◌else◌};
 
 use crate::View;
 use model::{Access, MemoryFault};
 
-/// Bytes that can be loaded, stored and fetched.
+/// Bytes from [`Flat::BASE`] on, which can be loaded, stored and fetched.
 #[derive(Drop)]
 pub struct Flat {
     bytes: [u8; 32],
 }
 
 impl Flat {
-    pub const SIZE: u32 = 32;
+    pub const BASE: u32 = 0x2_0000;
+
+    pub const END: u32 = 0x2_0020;
 
     /// Zeros.
     pub fn new() -> Self {
@@ -22,13 +24,16 @@ impl Flat {
 
 impl View for Flat {
     ghost content = { λ memory. record {
-      place = λ access address. if nat_lt address (length memory.bytes) then Some address else None;
+      place = λ access address.
+          if nat_le 0x20000 address && nat_lt address (0x20000 + length memory.bytes)
+          then Some (address - 0x20000)
+          else None;
       byte = λ place. slice_index memory.bytes place;
     } };
 
     fn place(&self, address: u32, access: Access) -> Result<u32, MemoryFault> {
-        if address < Flat::SIZE {
-            Ok(address)
+        if Flat::BASE <= address && address < Flat::END {
+            Ok(address - Flat::BASE)
         } else {
             Err(MemoryFault { address, access })
         }
