@@ -1,13 +1,13 @@
 //! Where an instruction leads, and with which ranges.
 
-ghost use Rattle.std.specs.Prelude.{◌≡◌, ◌≢◌};
+ghost use Rattle.std.specs.Prelude.{◌≡◌, ℤ, true};
 ghost use Rattle.model.specs.Instructions.{IsInstr};
-ghost use Rattle.model.specs.Ranges.{addi_range};
-ghost use Rattle.model.specs.declared.instructions.Instr.TheVariants.{Ecall};
-ghost use Rattle.ranges.specs.Edges.{edges};
+ghost use Rattle.model.specs.Ranges.{addi_range, is_ranged};
+ghost use Rattle.model.specs.declared.instructions.Register.{Register};
+ghost use Rattle.ranges.specs.Edges.{addi_edges, jal_edges};
 
 use crate::Bounds;
-use model::{Instr, Range};
+use model::{ImmediateOp, Instr, Range};
 
 /// A way on from an instruction: the address that it leads to, and the ranges there.
 #[derive(Clone, Copy, Debug)]
@@ -25,16 +25,31 @@ pub struct Edges {
     pub taken: Option<Edge>,
 }
 
+/// Whether this release knows what the instruction makes of the ranges: ADDI and JAL.
+pub fn is_ranged(instr: &Instr) -> bool
+    ensures { result ≡ is_ranged instr.now }
+{
+    matches!(
+        instr,
+        Instr::Immediate {
+            op: ImmediateOp::Addi,
+            ..
+        } | Instr::Jal { .. }
+    )
+}
+
 /// What the instruction at `pc` makes of the ranges, on each way on.
 pub fn after(pc: u32, instr: Instr, bounds: &Bounds) -> Edges
     requires instr { IsInstr instr }
-    requires no_call { instr ≢ Ecall }
-    ensures { result ≡ edges pc instr bounds.now }
+    requires ranged { is_ranged instr ≡ true }
+    ensures addi { (rd rs1 : Register) (immediate : ℤ) → instr ≡ Instr.Immediate ImmediateOp.Addi rd rs1 immediate
+        → result ≡ addi_edges pc rd rs1 immediate bounds.now }
+    ensures jal { (rd : Register) (offset : ℤ) → instr ≡ Instr.Jal rd offset → result ≡ jal_edges pc rd offset bounds.now }
 {
     let next = pc.wrapping_add(4);
     match instr {
         Instr::Immediate {
-            op: _,
+            op: ImmediateOp::Addi,
             rd,
             rs1,
             immediate,
@@ -61,7 +76,7 @@ pub fn after(pc: u32, instr: Instr, bounds: &Bounds) -> Edges
                 }),
             }
         }
-        Instr::Ecall => unreachable!(),
+        _ => unreachable!(),
     }
 }
 

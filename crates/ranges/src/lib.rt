@@ -5,5 +5,5 @@ mod bounds;
 mod edges;
 
 pub use bounds::Bounds;
-pub use edges::{Edge, Edges, after};
+pub use edges::{Edge, Edges, after, is_ranged};
 pub use model::Range;

@@ -2,11 +2,10 @@
 
 ghost use Rattle.std.specs.Prelude.{◌≡◌, ◌<◌, vec_len};
 
-use crate::states::{Noted, State, after_wait, waits};
+use crate::states::{Noted, State, after_wait, known, waits};
 use image::ThreadRef;
 use model::{Instr, Point, Range, Refusal, Register};
 use ranges::{Bounds, Edge, after};
-use rv32_isa::decode;
 
 /// One thread and the states that its certificate notes, one for each word of its program.
 #[derive(Drop)]
@@ -47,7 +46,7 @@ impl Certified<'_, '_> {
     /// The first word that is no instruction of this release.
     pub(crate) fn check_words(&self) -> Result<(), Refusal> {
         for point in 0..self.thread.header().words {
-            if decode(self.thread.word(point)).is_none() {
+            if known(self.thread.word(point)).is_none() {
                 return Err(Refusal::Stage(self.at(point)));
             }
         }
@@ -101,7 +100,7 @@ impl Certified<'_, '_> {
         }
         let header = self.thread.header();
         let pc = header.base.wrapping_add(point.wrapping_mul(4));
-        match decode(self.thread.word(point)) {
+        match known(self.thread.word(point)) {
             None => Err(Refusal::IllegalInstruction(self.at(point))),
             Some(Instr::Ecall) if !waits(&state.bounds) => Err(Refusal::Stage(self.at(point))),
             Some(Instr::Ecall) => {

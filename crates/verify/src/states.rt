@@ -1,12 +1,15 @@
 //! The states that a certificate notes at the points of a program: from a record, or derived from the
 //! point before.
 
-ghost use Rattle.std.specs.Prelude.{◌≡◌, ◌+◌, ◌<◌, ◌^◌, ◌≤ℤ◌, IfOk, negsuc, vec_len};
+ghost use Rattle.std.specs.Prelude.{◌≡◌, ◌+◌, ◌<◌, ◌^◌, ◌≤ℤ◌, ◌≢◌, IfOk, IfSome, negsuc, true, vec_len};
+ghost use Rattle.model.specs.Instructions.{IsInstr};
+ghost use Rattle.model.specs.Ranges.{is_ranged};
+ghost use Rattle.model.specs.declared.instructions.Instr.TheVariants.{Ecall};
 ghost use Rattle.verify.specs.States.{IsAtLeast};
 
 use image::{RecordRef, ThreadRef};
 use model::{Instr, Range, Register};
-use ranges::{Bounds, after};
+use ranges::{Bounds, after, is_ranged};
 use rv32_isa::decode;
 use std::alloc::{AllocError, Global};
 
@@ -85,6 +88,17 @@ fn recorded(record: &RecordRef) -> State
     }
 }
 
+/// The instruction that a word spells, where it is one of this release: ADDI, JAL or ECALL.
+pub(crate) fn known(word: u32) -> Option<Instr>
+    ensures ranged { IfSome result (λ instr. instr ≢ Ecall → is_ranged instr ≡ true) }
+    ensures instr { IfSome result IsInstr }
+{
+    match decode(word) {
+        Some(instr) if instr == Instr::Ecall || is_ranged(&instr) => Some(instr),
+        _ => None,
+    }
+}
+
 /// The state behind the fall-through of a point in this state. Its measure is one less, or the budget
 /// behind a wait.
 fn behind(thread: &ThreadRef, point: u32, state: &Noted) -> Noted
@@ -94,7 +108,7 @@ fn behind(thread: &ThreadRef, point: u32, state: &Noted) -> Noted
 {
     let header = thread.header();
     let pc = header.base.wrapping_add(point.wrapping_mul(4));
-    match (decode(thread.word(point)), state) {
+    match (known(thread.word(point)), state) {
         (Some(Instr::Ecall), Noted::Known(state)) if waits(&state.bounds) => Noted::Known(State {
             bounds: after_wait(&state.bounds),
             measure: i128::from(header.budget),
