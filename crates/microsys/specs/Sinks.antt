@@ -19,6 +19,14 @@ took_nothing piece (Err fault) = true
 took_nothing [] (Ok count) = false
 took_nothing (byte ∷ bytes) (Ok count) = count == 0
 
--- the count behind a piece, which stays at 2 ^ 64 - 1
+-- a count of failures and one more, which stays at 2 ^ 64 - 1
+abbrev pub one_more : ℕ → ℕ
+one_more failures = min (failures + 1) (2 ^ 64 - 1)
+
+-- the count behind a piece
 abbrev pub failures_after : List ℕ → Result ℕ SinkFault → ℕ → ℕ
-failures_after piece result failures = if took_nothing piece result then min (failures + 1) (2 ^ 64 - 1) else failures
+failures_after piece result failures = if took_nothing piece result then one_more failures else failures
+
+-- the bytes, where they are known, grew by a beginning of these
+abbrev pub GrowsByBeginning : Option (List ℕ) → Option (List ℕ) → List ℕ → Type 0
+GrowsByBeginning old new bytes = (count : ℕ) × Grows old new (take count bytes)

@@ -1,5 +1,12 @@
 //! A run: an image is verified and booted, and each event puts a line.
 
+ghost use Rattle.std.specs.Prelude.{◌≡◌, ◌≢◌, Err, IfErr};
+ghost use Rattle.image.specs.Stage.{staged_reading};
+ghost use Rattle.model.specs.declared.boot_faults.BootFault.{BootFault};
+ghost use Rattle.model.specs.declared.refusals.Refusal.{Refusal};
+ghost use Rattle.microsys.specs.declared.running.RunFault.TheVariants.{Output, OutOfMemory};
+ghost use Rattle.microsys.specs.Running.{fault_of};
+
 use crate::machine::boot;
 use crate::sinks::{Sink, SinkFault, put_all};
 use arrayvec::ArrayVec;
@@ -27,18 +34,24 @@ pub enum RunFault {
 }
 
 impl From<SinkFault> for RunFault {
+    ghost from_gives = { λ _ fault. fault ≡ Output };
+
     fn from(_fault: SinkFault) -> RunFault {
         RunFault::Output
     }
 }
 
 impl From<AllocError> for RunFault {
+    ghost from_gives = { λ _ fault. fault ≡ OutOfMemory };
+
     fn from(_fault: AllocError) -> RunFault {
         RunFault::OutOfMemory
     }
 }
 
 impl From<Refusal> for RunFault {
+    ghost from_gives = { λ refusal fault. fault ≡ fault_of refusal };
+
     fn from(refusal: Refusal) -> RunFault {
         match refusal {
             Refusal::OutOfMemory => RunFault::OutOfMemory,
@@ -48,12 +61,22 @@ impl From<Refusal> for RunFault {
 }
 
 /// Verifies the image, boots it, and puts one line for each event.
+///
+/// Where the answer is no `Output`, it is known before the first line.
 pub fn run<S: Sink>(
     alloc: Global,
     bytes: &[u8],
     events: &[Event],
     sink: &mut S,
-) -> Result<(), RunFault> {
+) -> Result<(), RunFault>
+    // An image that cannot be read is refused for the first reason, and nothing is put.
+    ensures unread { IfErr (staged_reading bytes.now) (λ refusal. (result ≡ Err (fault_of refusal)) × (sink.new ≡ sink.old)) }
+    // Where the image is refused, or memory, nothing is put.
+    ensures refused { (refusal : Refusal) → result ≡ Err (RunFault.Refused refusal) → sink.new ≡ sink.old }
+    ensures memory { result ≡ Err RunFault.OutOfMemory → sink.new ≡ sink.old }
+    // Each image boots.
+    ensures boots { (fault : BootFault) → result ≢ Err (RunFault.Boot fault) }
+{
     let accepted = verify(alloc, bytes)?;
     let mut system = boot(alloc, &accepted)?;
     for event in events {

@@ -1,7 +1,7 @@
 //! Where the program's output goes.
 
-ghost use Rattle.std.specs.Prelude.{◌≡◌, ◌+◌, ◌-◌, ◌^◌, ◌≤◌, ℕ, List, Option, IfOk, OnErr, length, min, Some};
-ghost use Rattle.microsys.specs.Sinks.{TakesSome, failures_after};
+ghost use Rattle.std.specs.Prelude.{◌≡◌, ℕ, List, Option, OnErr, OnOk, Some, if◌then◌else◌, is_ok};
+ghost use Rattle.microsys.specs.Sinks.{Grows, GrowsByBeginning, TakesSome, failures_after, one_more};
 
 use std::alloc::Global;
 use std::io::Write;
@@ -121,15 +121,19 @@ impl<W: Write + Drop> Sink for WriterSink<W> {
 }
 
 /// Puts all of the bytes, in as many pieces as the sink wants. An `Err` is a piece of which it took
-/// nothing.
-pub fn put_all<S: Sink>(sink: &mut S, bytes: &[u8]) -> Result<(), SinkFault> {
-    let mut rest = bytes;
-    while !rest.is_empty() {
-        let count = sink.put(rest)?;
+/// nothing; what it took before is a beginning of the bytes.
+pub fn put_all<S: Sink>(sink: &mut S, bytes: &[u8]) -> Result<(), SinkFault>
+    ensures ok { OnOk result (Grows (S.contents sink.old) (S.contents sink.new) bytes.now) }
+    ensures err { OnErr result (GrowsByBeginning (S.contents sink.old) (S.contents sink.new) bytes.now) }
+    ensures counted { S.failures sink.new ≡ (if is_ok result then S.failures sink.old else one_more (S.failures sink.old)) }
+{
+    let mut done = 0;
+    while done < bytes.len() {
+        let count = sink.put(&bytes[done..])?;
         if count == 0 {
             return Err(SinkFault);
         }
-        rest = &rest[count..];
+        done += count;
     }
     Ok(())
 }

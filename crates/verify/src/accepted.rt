@@ -1,9 +1,9 @@
 //! Accepted images.
 
-ghost use Rattle.std.specs.Prelude.{◌≡◌, ◌≢◌, IfErr, IfOk};
+ghost use Rattle.std.specs.Prelude.{◌≡◌, Err, IfErr, IfOk};
 ghost use Rattle.model.specs.Format.{Spells};
 ghost use Rattle.model.specs.Image.{image_format};
-ghost use Rattle.image.specs.Stage.{IsStaged, no_slots};
+ghost use Rattle.image.specs.Stage.{IsStaged, no_slots, staged_reading};
 
 use crate::checks::Certified;
 use crate::states::noted_states;
@@ -42,7 +42,10 @@ impl<'a> Accepted<'a> {
 /// Whether the image may be started: `Ok` lends the very bytes that were verified, and an `Err` names
 /// the first rule that is broken.
 pub fn verify(alloc: Global, bytes: &[u8]) -> Result<Accepted<'_>, Refusal>
+    // What is accepted is spelled by the bytes, and is of the one form.
     ensures spelled { IfOk result (λ image. Spells (image_format no_slots) bytes.now image × IsStaged image) }
+    // What cannot be read is refused for the first reason.
+    ensures unread { IfErr (staged_reading bytes.now) (λ refusal. result ≡ Err refusal) }
 {
     let image = read(bytes)?;
     check_thread(alloc, 0, &image.thread(0))?;
