@@ -1,13 +1,12 @@
 -- Places of the two pages, and writes of one byte.
-use Rattle.std.proofs.Common.{◌≡◌, ℕ, ◌+◌, ◌*◌, ◌/◌, ◌%◌, ◌^◌, ◌<◌, ◌≤◌, ◌≢◌, Bool, true, false, cond, eqb, List, [], ◌∷◌, ◌++◌, length, get_or, set, take, drop, slice_index, Option, Some, None, Result, Ok, Err, refl, sym, ap, ◌∙◌, arith, inl, inr}
+use Rattle.std.proofs.Common.{◌≡◌, ℕ, ◌+◌, ◌/◌, ◌%◌, ◌^◌, ◌<◌, ◌≤◌, Bool, true, false, cond, eqb, List, [], ◌∷◌, ◌++◌, length, get_or, set, take, drop, Option, Some, None, Ok, refl, sym, ap, ◌∙◌, arith, inl, inr}
 use Rattle.std.proofs.lemmas.Bool.{cases_eq, eq-eqb, ne_eqb}
 use Rattle.std.proofs.lemmas.List.{take-append-drop, take_more_set, drop-set-lt, get_or-set_same, get_or-set_other}
 use Rattle.model.specs.declared.instructions.Access.{Access}
 use Rattle.model.specs.declared.instructions.Access.TheVariants.{Load, Store, Fetch}
-use Rattle.model.specs.declared.instructions.MemoryFault.{MemoryFault}
 use Rattle.model.specs.Bytes.{written}
-use Rattle.model.specs.Instructions.{Content, place_at, named}
-use Rattle.microsys.specs.Pages.{in_page, page_place}
+use Rattle.model.specs.Instructions.{named}
+use Rattle.microsys.specs.Pages.{page_place}
 
 named_some : (o : Option ℕ) (access : Access) (address place : ℕ) → named o access address ≡ Ok place → o ≡ Some place
 named_some None access address place h = absurd cc

@@ -1,9 +1,8 @@
 -- Growing in steps.
-use Rattle.std.proofs.Common.{◌≡◌, ℕ, ◌+◌, ◌-◌, ◌<◌, ◌≤◌, Bool, true, false, List, [], ◌∷◌, ◌++◌, length, take, drop, Option, Some, None, Result, Ok, Err, refl, sym, ap, subst, ◌∙◌, append_assoc, take-add, arith}
+use Rattle.std.proofs.Common.{◌≡◌, ℕ, ◌+◌, ◌-◌, ◌≤◌, false, List, [], ◌∷◌, ◌++◌, length, take, drop, Option, Some, None, Ok, refl, sym, ap, subst, ◌∙◌, append_assoc, take-add, arith}
 use Rattle.std.proofs.lemmas.Bool.{ne_eqb}
 use Rattle.std.proofs.lemmas.List.{take_all, length-drop}
-use Rattle.microsys.specs.declared.sinks.SinkFault.{SinkFault}
-use Rattle.microsys.specs.Sinks.{Grows, took_nothing, failures_after, one_more}
+use Rattle.microsys.specs.Sinks.{Grows, took_nothing, failures_after}
 
 pub Grows-then : (old mid new : Option (List ℕ)) (xs ys : List ℕ) → Grows old mid xs → Grows mid new ys → Grows old new (xs ++ ys)
 Grows-then None mid new xs ys p q = tt

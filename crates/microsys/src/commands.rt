@@ -158,12 +158,7 @@ fn read_file<'a, R: Files + AllocGlobal>(rt: &R, name: &'a str) -> Result<Vec<u8
 }
 
 /// Says why a request was not carried out, and answers the exit status.
-fn report<W: Sink, E: Sink>(
-    alloc: Global,
-    failure: Failure,
-    output: &mut W,
-    errors: &mut E,
-) -> u8 {
+fn report<W: Sink, E: Sink>(alloc: Global, failure: Failure, output: &mut W, errors: &mut E) -> u8 {
     match failure {
         Failure::Usage => {
             let _ = put_all(errors, b"usage\n");
@@ -174,11 +169,7 @@ fn report<W: Sink, E: Sink>(
         Failure::Memory => failed(errors, b"memory", b""),
         Failure::Image(refusal) => refused(refusal_line(alloc, refusal), output, errors),
         Failure::Boot(fault) => refused(boot_line(alloc, fault), output, errors),
-        Failure::Events(line) => refused(
-            format!(in alloc; "events line {line}\n"),
-            output,
-            errors,
-        ),
+        Failure::Events(line) => refused(format!(in alloc; "events line {line}\n"), output, errors),
     }
 }
 

@@ -3,8 +3,7 @@
 ghost use Rattle.std.specs.Prelude.{◌≡◌, ◌≤◌, IfOk, IfSome};
 
 use model::Event;
-use std::alloc::Global;
-use std::alloc::AllocFailed;
+use std::alloc::{AllocFailed, Global};
 
 /// The most events that one list may have.
 const MOST_EVENTS: usize = 1_000_000;

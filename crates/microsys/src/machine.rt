@@ -16,16 +16,19 @@ const THREAD: u32 = 0x8000_C000;
 
 /// The interrupt line that is bound to the notification, and the badge that it signals with.
 const LINE: u8 = 3;
+
 const BADGE: u32 = 1;
 
 /// How many ticks a thread runs before it goes to the end of its list.
 const SLICE: u8 = 5;
 
 const A0: Register = Register(10);
+
 const A7: Register = Register(17);
 
 /// The call that waits on a notification, and the address of the notification.
 const RECEIVE: u32 = 5;
+
 const NOTIFICATION: u32 = 1;
 
 /// How many words a page has.

@@ -9,10 +9,12 @@ use rv32_exec::View;
 
 /// Where the code frame stands in physical memory, and the page at which it is mapped.
 pub(crate) const CODE: u32 = 0x8000;
+
 const CODE_PAGE: u32 = 1;
 
 /// Where the data frame stands in physical memory, and the page at which it is mapped.
 const DATA: u32 = 0xB000;
+
 const DATA_PAGE: u32 = 2;
 
 const PAGE_SIZE: u32 = 4096;

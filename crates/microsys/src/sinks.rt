@@ -58,6 +58,7 @@ impl MemorySink {
 
 impl Sink for MemorySink {
     ghost contents = { λ sink. Some sink.bytes.items };
+
     ghost failures = { λ sink. sink.failures };
 
     fn put(&mut self, piece: &[u8]) -> Result<usize, SinkFault> {
@@ -98,6 +99,7 @@ impl<W: Write + Drop> WriterSink<W> {
 
 impl<W: Write + Drop> Sink for WriterSink<W> {
     ghost contents = { λ sink. W.contents sink.writer };
+
     ghost failures = { λ sink. sink.failures };
 
     fn put(&mut self, piece: &[u8]) -> Result<usize, SinkFault> {

@@ -112,7 +112,10 @@ fn the_fields_of_the_thread_have_their_ranges(rt: HostRuntime) -> Result<(), Fai
     for (at, word) in later {
         assert_eq!(rt; refusal_with(&rt, at, word)?, Some(LATER), "at {at}");
     }
-    assert_eq!(rt; refusal_with(&rt, 312, 257)?, Some(Refusal::Limit { offset: 312 }));
+    assert_eq!(rt;
+        refusal_with(&rt, 312, 257)?,
+        Some(Refusal::Limit { offset: 312 })
+    );
     Ok(())
 }
 

@@ -19,7 +19,9 @@ fn well_formed_lists_are_read(rt: HostRuntime) -> Result<(), Fail> {
         (b"step 000000000000000000000000000000002\n", &[step, step]),
     ];
     for (text, want) in cases {
-        let found = events(rt.alloc(), text).ok().ok_or("the list is well formed")?;
+        let found = events(rt.alloc(), text)
+            .ok()
+            .ok_or("the list is well formed")?;
         assert_eq!(rt; found.as_slice(), want, "at {text:?}");
     }
     Ok(())
@@ -52,13 +54,19 @@ fn the_first_malformed_line_is_named(rt: HostRuntime) {
         (b" \n", 1),
     ];
     for (text, line) in cases {
-        assert_eq!(rt; events(rt.alloc(), text), Err(EventsFault::Line(line)), "at {text:?}");
+        assert_eq!(rt;
+            events(rt.alloc(), text),
+            Err(EventsFault::Line(line)),
+            "at {text:?}"
+        );
     }
 }
 
 #[test]
 fn a_million_events_are_the_most(rt: HostRuntime) -> Result<(), Fail> {
-    let all = events(rt.alloc(), b"step 1000000\n").ok().ok_or("a million are allowed")?;
+    let all = events(rt.alloc(), b"step 1000000\n")
+        .ok()
+        .ok_or("a million are allowed")?;
     assert_eq!(rt; all.len(), 1_000_000);
     let cases: [&[u8]; 3] = [
         b"step 1000000\ntick\n",

@@ -10,7 +10,10 @@ fn an_output_that_fails_holds_a_beginning(rt: HostRuntime) -> Result<(), Fail> {
     let events = [Event::Step; 3];
     let whole = b"8000c000 00001000 plain\n8000c000 00001004 plain\n8000c000 00001008 wait\n";
     let mut sink = MemorySink::new(rt.alloc(), 1000);
-    assert_eq!(rt; run(rt.alloc(), image.as_slice(), &events, &mut sink), Ok(()));
+    assert_eq!(rt;
+        run(rt.alloc(), image.as_slice(), &events, &mut sink),
+        Ok(())
+    );
     assert_eq!(rt; sink.bytes(), whole.as_slice());
     assert_eq!(rt; sink.bytes().len(), 71);
     assert_eq!(rt; sink.failures(), 0);
@@ -30,7 +33,10 @@ fn ticks_and_other_lines_leave_the_thread_as_it_is(rt: HostRuntime) -> Result<()
     let image = bell(rt.alloc())?;
     let events = [Event::Irq(4), Event::Tick, Event::Irq(200), Event::Step];
     let mut sink = MemorySink::new(rt.alloc(), 1000);
-    assert_eq!(rt; run(rt.alloc(), image.as_slice(), &events, &mut sink), Ok(()));
+    assert_eq!(rt;
+        run(rt.alloc(), image.as_slice(), &events, &mut sink),
+        Ok(())
+    );
     let lines = b"irq 4\ntick\nirq 200\n8000c000 00001000 plain\n";
     assert_eq!(rt; sink.bytes(), lines.as_slice());
     Ok(())
@@ -42,7 +48,10 @@ fn a_signal_before_the_wait_is_taken_at_once(rt: HostRuntime) -> Result<(), Fail
     let step = Event::Step;
     let events = [Event::Irq(3), step, step, step, step];
     let mut sink = MemorySink::new(rt.alloc(), 1000);
-    assert_eq!(rt; run(rt.alloc(), image.as_slice(), &events, &mut sink), Ok(()));
+    assert_eq!(rt;
+        run(rt.alloc(), image.as_slice(), &events, &mut sink),
+        Ok(())
+    );
     let lines = b"irq 3\n8000c000 00001000 plain\n8000c000 00001004 plain\n\
         8000c000 00001008 wait\n8000c000 0000100c plain\n";
     assert_eq!(rt; sink.bytes(), lines.as_slice());

@@ -1,4 +1,4 @@
-use Rattle.std.proofs.Common.{◌<◌, arith}
+use Rattle.std.proofs.Common.{arith}
 use Rattle.microsys.proofs.PageLemmas.{place_below}
 use Rattle.microsys.proofs.pages.PagesView.byte.Goals as goal
 

@@ -1,6 +1,4 @@
-use Rattle.std.proofs.Common.{◌≡◌, ◌<◌, ◌^◌, ℕ, length, ◌∙◌, arith}
-use Rattle.model.specs.declared.instructions.Access.{Access}
-use Rattle.model.specs.Instructions.{Content}
+use Rattle.std.proofs.Common.{◌<◌, length, ◌∙◌, arith}
 use Rattle.microsys.specs.Pages.{page_place}
 use Rattle.microsys.proofs.PageLemmas.{place_below, byte_after}
 use Rattle.microsys.proofs.pages.PagesView.set_byte.Goals as goal
