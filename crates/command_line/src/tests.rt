@@ -39,6 +39,10 @@ fn refuses_other_words(rt: HostRuntime) {
         &["Verify", "a"],
     ];
     for words in cases {
-        assert_eq!(rt; parse(rt.alloc(), words), Err(WordsFault::Usage), "at {words:?}");
+        assert_eq!(rt;
+            parse(rt.alloc(), words),
+            Err(WordsFault::Usage),
+            "at {words:?}"
+        );
     }
 }

@@ -181,9 +181,9 @@ signed_again w test wide whole bytes at x rest le fits h =
     let parts = and_parts (fits_signed w x) (test x) fits in
     let back : cast_signed w (cast_unsigned w x) ≡ x = whole.back x parts.0 in
     let number_fits : (ltb (cast_unsigned w x) (2 ^ bits w) && test (cast_signed w (cast_unsigned w x))) ≡ true =
-        and_from _ _ (lt-ltb _ _ (whole.small x parts.0)) (rw back parts.1) in
+    and_from _ _ (lt-ltb _ _ (whole.small x parts.0)) (rw back parts.1) in
     let r : (number w (λ n. test (cast_signed w n))).reads bytes at ≡ Ok (cast_unsigned w x, at + length (to_le_bytes w (cast_unsigned w x))) =
-        number_again Limit w (λ n. test (cast_signed w n)) wide bytes at (cast_unsigned w x) rest le number_fits h in
+    number_again Limit w (λ n. test (cast_signed w n)) wide bytes at (cast_unsigned w x) rest le number_fits h in
     ap (λ (y : Result (ℕ × ℕ) Refusal). y >>= λ p. Ok (cast_signed w p.0, p.1)) r
     ∙ ap (λ (z : ℤ). Ok (z, at + length (to_le_bytes w (cast_unsigned w x)))) back
 

@@ -15,7 +15,7 @@ unfolding many_read
 end_of-more format next least count i bytes at x total lt e so_far =
     let k : count - i ≡ suc (count - (i + 1)) = omega arith in
     let one : end_of (many_read format next least (count - i) bytes at) ≡ end_of (many_read format next (next x.0) (count - (i + 1)) bytes x.1) =
-        rw (k, ← e) (end_of-put x.0 (many_read format next (next x.0) (count - (i + 1)) bytes x.1)) in
+    rw (k, ← e) (end_of-put x.0 (many_read format next (next x.0) (count - (i + 1)) bytes x.1)) in
     sym one ∙ so_far
 
 -- an entry that is refused refuses the whole

@@ -1,16 +1,16 @@
 -- What is read of the one form is spelled so, and what is of the form and spelled so is read.
-use Rattle.std.proofs.Common.{◌≡◌, ℕ, suc, ◌+◌, ◌<◌, ◌≤◌, Bool, true, false, cond, ltb, eqb, ◌&&◌, nat_eq, List, [], ◌∷◌, ◌++◌, length, take, drop, Result, Ok, Err, refl, sym, ap, subst, ◌∙◌, arith}
+use Rattle.std.proofs.Common.{◌≡◌, ℕ, ◌+◌, ◌≤◌, Bool, true, false, cond, ltb, nat_eq, List, [], ◌∷◌, ◌++◌, length, take, drop, Result, Ok, Err, refl, sym, ap, subst, ◌∙◌, arith}
 use Rattle.std.specs.List.{starts_with}
 use Rattle.std.specs.Cmp.Lexicographic.{pointwise}
 use Rattle.std.specs.Prelude.{IfOk, IsOkAnd}
 use Rattle.std.proofs.lemmas.Bool.{and_parts, and_from, eqb-true, eq-eqb, ltb-false, le-ltb}
-use Rattle.std.proofs.lemmas.List.{take_at, drop_at, drop_all, take-append-drop, length-append, length-take, append-nil}
+use Rattle.std.proofs.lemmas.List.{take_at, drop_at, drop_all, take-append-drop, length-append}
 use Rattle.model.specs.declared.refusals.Refusal.{Refusal}
 use Rattle.model.specs.declared.refusals.Refusal.TheVariants.{Trailing}
-use Rattle.model.specs.Format.{Format, Spells, ◌>>=◌, many_spelling, many_fit}
+use Rattle.model.specs.Format.{Spells, ◌>>=◌, many_spelling, many_fit}
 use Rattle.model.specs.Image.{Image, Thread, header_format, untyped_format, object_format, capability_format, interrupt_format, table_format, frame_format, content_format, sections_format, image_format, thread_format}
 use Rattle.image.specs.Stage.{IsStaged, is_staged, later, no_slots, staged_end, staged_front, staged_image, staged_reading}
-use Rattle.image.proofs.Laws.{IsBytes, Taken, bind_ok, guard_ok, ok_is}
+use Rattle.image.proofs.Laws.{IsBytes, bind_ok, guard_ok, ok_is}
 use Rattle.image.proofs.ThreadLaws.{thread_law}
 
 -- two lists that agree at each place are one

@@ -1,5 +1,5 @@
 -- The laws of the formats of a thread.
-use Rattle.std.proofs.Common.{◌≡◌, ℕ, ◌≤◌, ◌<◌, ◌+◌, ◌^◌, ◌-◌, Bool, true, false, ltb, leb, ◌&&◌, ◌||◌, eqb, List, [], ◌∷◌, ◌++◌, length, drop, Result, Ok, Err, cond, refl, sym, ap, ◌∙◌, subst, arith}
+use Rattle.std.proofs.Common.{◌≡◌, ℕ, ◌≤◌, ◌+◌, ◌^◌, ◌-◌, Bool, true, false, ltb, leb, ◌&&◌, ◌||◌, eqb, List, [], ◌∷◌, ◌++◌, length, drop, Ok, Err, cond, refl, ap, subst, arith}
 use Rattle.std.specs.Int.{w32, w64}
 use Rattle.std.proofs.lemmas.Bool.{eqb-true}
 use Rattle.model.specs.declared.entries.RecordHeader.{RecordHeader}
@@ -9,10 +9,10 @@ use Rattle.model.specs.declared.entries.RegisterEntry.{RegisterEntry}
 use Rattle.model.specs.declared.entries.SlotEntry.{SlotEntry}
 use Rattle.model.specs.declared.refusals.Refusal.{Refusal}
 use Rattle.model.specs.declared.refusals.Refusal.TheVariants.{Limit}
-use Rattle.model.specs.Format.{Format, field, number, both, named, ordered, many}
-use Rattle.model.specs.Image.{StateRecord, anything, below, between, not_zero, is_constant, register_format, range_format, term_format, record_header_format, ranges_format, terms_format, record_format, registers_format, words_format, records_format, thread_header_format, thread_format}
+use Rattle.model.specs.Format.{field}
+use Rattle.model.specs.Image.{anything, below, between, not_zero, is_constant, register_format, range_format, term_format, record_header_format, ranges_format, terms_format, record_format, registers_format, words_format, records_format, thread_header_format, thread_format}
 use Rattle.image.specs.Stage.{later, no_slot_count, is_empty, no_slots}
-use Rattle.image.proofs.Laws.{IsBytes, IsLawful, Taken, guard_ok, bind_ok, ok_is, number_law, both_law, named_law, ordered_law, signed_law, wide32, wide64, signed_wide32, signed_wide64}
+use Rattle.image.proofs.Laws.{IsBytes, IsLawful, Taken, bind_ok, ok_is, number_law, both_law, named_law, ordered_law, signed_law, wide32, wide64, signed_wide32, signed_wide64}
 
 field_law : (test : ℕ → Bool) → IsLawful (field test)
 field_law test = number_law Limit w32 test wide32
@@ -25,8 +25,8 @@ range_law : (least : ℕ) → IsLawful (range_format least)
 unfolding range_format
 range_law least = named_law _ _ _ (λ x h. refl) (λ y. refl)
     (both_law _ _ (field_law (between least 31)) (λ (k : ℕ).
-     both_law _ _ (field_law anything) (λ (low : ℕ).
-     field_law (λ high. leb low high && (ltb 0 low || ltb high (2 ^ 32 - 1))))))
+    both_law _ _ (field_law anything) (λ (low : ℕ).
+    field_law (λ high. leb low high && (ltb 0 low || ltb high (2 ^ 32 - 1))))))
 
 term_law : (least : ℕ) → IsLawful (term_format least)
 unfolding term_format
@@ -94,18 +94,18 @@ record_header_law : (words least : ℕ) → IsLawful (record_header_format no_sl
 unfolding record_header_format
 record_header_law words least = named_law _ _ _ (λ x h. refl) (λ y. refl)
     (both_law _ _ (field_law (λ point. leb least point && ltb point words)) (λ (a : ℕ).
-     both_law _ _ (field_law (between 0 31)) (λ (b : ℕ).
-     both_law _ _ no_slot_law (λ (c : ℕ).
-     both_law _ _ (field_law (between 0 4)) (λ (d : ℕ).
-     signed_law w64 is_constant wide64 signed_wide64)))))
+    both_law _ _ (field_law (between 0 31)) (λ (b : ℕ).
+    both_law _ _ no_slot_law (λ (c : ℕ).
+    both_law _ _ (field_law (between 0 4)) (λ (d : ℕ).
+    signed_law w64 is_constant wide64 signed_wide64)))))
 
 record_law : (words least : ℕ) → IsLawful (record_format no_slots words least)
 unfolding record_format
 record_law words least = named_law _ _ _ (λ x h. refl) (λ y. refl)
     (both_law _ _ (record_header_law words least) (λ (header : RecordHeader).
-     both_law _ _ (ranges_law header.ranges) (λ (a : List RangeEntry).
-     both_law _ _ (no_entries_law header.slots) (λ (b : List SlotEntry).
-     terms_law header.terms))))
+    both_law _ _ (ranges_law header.ranges) (λ (a : List RangeEntry).
+    both_law _ _ (no_entries_law header.slots) (λ (b : List SlotEntry).
+    terms_law header.terms))))
 
 records_law : (words count : ℕ) → IsLawful (records_format no_slots words count)
 unfolding records_format
@@ -115,22 +115,22 @@ thread_header_law : (objects : ℕ) → IsLawful (thread_header_format objects)
 unfolding thread_header_format
 thread_header_law objects = named_law _ _ _ (λ x h. refl) (λ y. refl)
     (both_law _ _ (field_law (below objects)) (λ (a : ℕ).
-     both_law _ _ (field_law (below objects)) (λ (b : ℕ).
-     both_law _ _ (field_law anything) (λ (c : ℕ).
-     both_law _ _ (field_law (below objects)) (λ (d : ℕ).
-     both_law _ _ (field_law (between 0 255)) (λ (e : ℕ).
-     both_law _ _ (number_law Limit w64 (between 1 (2 ^ 62)) wide64) (λ (f : ℕ).
-     both_law _ _ (field_law anything) (λ (g : ℕ).
-     both_law _ _ (field_law anything) (λ (h : ℕ).
-     both_law _ _ (field_law anything) (λ (i : ℕ).
-     both_law _ _ (field_law (between 0 31)) (λ (j : ℕ).
-     both_law _ _ (field_law (between 1 65536)) (λ (words : ℕ).
-     field_law (between 0 words)))))))))))))
+    both_law _ _ (field_law (below objects)) (λ (b : ℕ).
+    both_law _ _ (field_law anything) (λ (c : ℕ).
+    both_law _ _ (field_law (below objects)) (λ (d : ℕ).
+    both_law _ _ (field_law (between 0 255)) (λ (e : ℕ).
+    both_law _ _ (number_law Limit w64 (between 1 (2 ^ 62)) wide64) (λ (f : ℕ).
+    both_law _ _ (field_law anything) (λ (g : ℕ).
+    both_law _ _ (field_law anything) (λ (h : ℕ).
+    both_law _ _ (field_law anything) (λ (i : ℕ).
+    both_law _ _ (field_law (between 0 31)) (λ (j : ℕ).
+    both_law _ _ (field_law (between 1 65536)) (λ (words : ℕ).
+    field_law (between 0 words)))))))))))))
 
 pub thread_law : (objects : ℕ) → IsLawful (thread_format no_slots objects)
 unfolding thread_format
 thread_law objects = named_law _ _ _ (λ x h. refl) (λ y. refl)
     (both_law _ _ (thread_header_law objects) (λ (header : ThreadHeader).
-     both_law _ _ (registers_law header.registers) (λ (a : List RegisterEntry).
-     both_law _ _ (words_law header.words) (λ (b : List ℕ).
-     records_law header.words header.records))))
+    both_law _ _ (registers_law header.registers) (λ (a : List RegisterEntry).
+    both_law _ _ (words_law header.words) (λ (b : List ℕ).
+    records_law header.words header.records))))

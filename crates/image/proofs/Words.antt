@@ -1,10 +1,10 @@
 -- The words of a program, one by one.
-use Rattle.std.proofs.Common.{◌≡◌, ℕ, zero, suc, ◌+◌, ◌-◌, ◌*◌, ◌<◌, ◌≤◌, true, false, ltb, List, [], ◌∷◌, length, get_or, Result, Ok, Err, refl, sym, ap, subst, ◌∙◌, arith}
+use Rattle.std.proofs.Common.{◌≡◌, ℕ, zero, suc, ◌+◌, ◌-◌, ◌*◌, ◌<◌, ◌≤◌, false, ltb, List, ◌∷◌, length, get_or, Result, Ok, Err, refl, sym, ap, subst, ◌∙◌, arith}
 use Rattle.std.specs.Int.{w32}
 use Rattle.std.proofs.lemmas.Bool.{ltb-false, le-ltb}
 use Rattle.model.specs.declared.refusals.Refusal.{Refusal}
 use Rattle.model.specs.declared.refusals.Refusal.TheVariants.{Truncated}
-use Rattle.model.specs.Format.{Format, ◌>>=◌, end_of, values_of, many_read, number_at, field}
+use Rattle.model.specs.Format.{◌>>=◌, end_of, values_of, many_read, number_at, field}
 use Rattle.model.specs.Image.{anything, words_format}
 use Rattle.image.proofs.Laws.{bind_ok, guard_ok, ok_is}
 use Rattle.image.proofs.Sections.{read_from_end}

@@ -29,6 +29,7 @@ pub trait Entry: Sized + Drop {
 #[tactic(auto, unfolding(model::specs::Image::register_format))]
 impl Entry for RegisterEntry {
     ghost format = { register_format };
+
     ghost key = { λ e. e.register };
 
     fn read(bytes: &[u8], at: usize, least: u32) -> Result<(RegisterEntry, usize), Refusal> {
@@ -48,6 +49,7 @@ impl Entry for RegisterEntry {
 #[tactic(auto, unfolding(model::specs::Image::range_format))]
 impl Entry for RangeEntry {
     ghost format = { range_format };
+
     ghost key = { λ e. e.register };
 
     fn read(bytes: &[u8], at: usize, least: u32) -> Result<(RangeEntry, usize), Refusal> {
@@ -76,6 +78,7 @@ impl Entry for RangeEntry {
 #[tactic(auto, unfolding(model::specs::Image::term_format))]
 impl Entry for TermEntry {
     ghost format = { term_format };
+
     ghost key = { λ e. e.register };
 
     fn read(bytes: &[u8], at: usize, least: u32) -> Result<(TermEntry, usize), Refusal> {

@@ -28,10 +28,10 @@ impl<'a> Model for RecordRef<'a> {
     ghost Value = { StateRecord };
 
     ghost view = { λ r. record {
-        header = r.header;
-        ranges = values_of ((ranges_format r.header.ranges).reads r.bytes.now r.ranges_at);
-        slots = [];
-        terms = values_of ((terms_format r.header.terms).reads r.bytes.now r.terms_at);
+      header = r.header;
+      ranges = values_of ((ranges_format r.header.ranges).reads r.bytes.now r.ranges_at);
+      slots = [];
+      terms = values_of ((terms_format r.header.terms).reads r.bytes.now r.terms_at);
     } };
 
     ghost invariant = { λ r. (end_of ((ranges_format r.header.ranges).reads r.bytes.now r.ranges_at) ≡ Ok r.terms_at)

@@ -31,10 +31,10 @@ impl<'a> Model for ThreadRef<'a> {
     ghost Value = { Thread };
 
     ghost view = { λ t. record {
-        header = t.header;
-        registers = values_of ((registers_format t.header.registers).reads t.bytes.now t.registers_at);
-        words = values_of ((words_format t.header.words).reads t.bytes.now t.words_at);
-        records = values_of ((records_format no_slots t.header.words t.header.records).reads t.bytes.now t.records_at);
+      header = t.header;
+      registers = values_of ((registers_format t.header.registers).reads t.bytes.now t.registers_at);
+      words = values_of ((words_format t.header.words).reads t.bytes.now t.words_at);
+      records = values_of ((records_format no_slots t.header.words t.header.records).reads t.bytes.now t.records_at);
     } };
 
     ghost invariant = { λ t. (end_of ((registers_format t.header.registers).reads t.bytes.now t.registers_at) ≡ Ok t.words_at)

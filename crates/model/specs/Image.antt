@@ -1,5 +1,5 @@
 -- The image: the format of its bytes, field after field. Each field of 4 bytes is unsigned unless said.
-use Rattle.std.specs.Prelude.{ℕ, ◌+◌, ◌-◌, ◌*◌, ◌^◌, min, Bool, true, false, ◌&&◌, ◌||◌, nat_lt, nat_le, ◌==◌, List, ℤ, pos, negsuc}
+use Rattle.std.specs.Prelude.{ℕ, ◌+◌, ◌-◌, ◌*◌, ◌^◌, min, Bool, true, ◌&&◌, ◌||◌, nat_lt, nat_le, ◌==◌, List, ℤ, pos, negsuc}
 use Rattle.std.specs.Int.{w32, w64}
 use Rattle.model.specs.declared.refusals.Refusal.TheVariants.{Magic, Version}
 use Rattle.model.specs.declared.entries.UntypedEntry.{UntypedEntry}
@@ -75,17 +75,17 @@ header_format =
     named (λ x. record { version = x.1.0; memory_bits = x.1.1.0; boot_radix = x.1.1.1.0; untypeds = x.1.1.1.1.0; objects = x.1.1.1.1.1.0; capabilities = x.1.1.1.1.1.1.0; interrupts = x.1.1.1.1.1.1.1.0; tables = x.1.1.1.1.1.1.1.1.0; frames = x.1.1.1.1.1.1.1.1.1.0; contents = x.1.1.1.1.1.1.1.1.1.1.0; threads = x.1.1.1.1.1.1.1.1.1.1.1 })
     (λ h. (magic, (h.version, (h.memory_bits, (h.boot_radix, (h.untypeds, (h.objects, (h.capabilities, (h.interrupts, (h.tables, (h.frames, (h.contents, h.threads))))))))))))
     (both (number_or (λ _. Magic) w32 (λ n. n == magic)) (λ _.
-     both (number_or (λ _. Version) w32 (λ n. n == 1)) (λ _.
-     both (field (between 16 24)) (λ memory_bits.
-     both (field (between 1 (min 14 (memory_bits - 5)))) (λ _.
-     both (field (between 1 64)) (λ _.
-     both (field (between 0 4096)) (λ _.
-     both (field (between 0 16384)) (λ _.
-     both (field (between 0 64)) (λ _.
-     both (field (between 0 1024)) (λ _.
-     both (field (between 0 4096)) (λ _.
-     both (field (between 0 4096)) (λ _.
-     field (between 1 64)))))))))))))
+    both (number_or (λ _. Version) w32 (λ n. n == 1)) (λ _.
+    both (field (between 16 24)) (λ memory_bits.
+    both (field (between 1 (min 14 (memory_bits - 5)))) (λ _.
+    both (field (between 1 64)) (λ _.
+    both (field (between 0 4096)) (λ _.
+    both (field (between 0 16384)) (λ _.
+    both (field (between 0 64)) (λ _.
+    both (field (between 0 1024)) (λ _.
+    both (field (between 0 4096)) (λ _.
+    both (field (between 0 4096)) (λ _.
+    field (between 1 64)))))))))))))
 
 -- ---- the sections
 
@@ -104,8 +104,8 @@ unfoldable pub object_format : ℕ → ℕ → Format ObjectEntry
 object_format untypeds least =
     named (λ x. record { untyped = x.0; kind = x.1.0; size = x.1.1 }) (λ e. (e.untyped, (e.kind, e.size)))
     (both (field (λ n. nat_le least n && nat_lt n untypeds)) (λ _.
-     both (field (between 1 8)) (λ kind.
-     field (size_fits kind))))
+    both (field (between 1 8)) (λ kind.
+    field (size_fits kind))))
 
 -- the CNode and the index rise together
 unfoldable pub capability_format : ℕ → ℕ → ℕ → Format CapabilityEntry
@@ -113,39 +113,39 @@ capability_format objects interrupts least =
     named (λ x. record { cnode = x.0; index = x.1.0; source = x.1.1.0; rights = x.1.1.1.0; payload = x.1.1.1.1 })
     (λ e. (e.cnode, (e.index, (e.source, (e.rights, e.payload)))))
     (both (field (below objects)) (λ cnode.
-     both (field (λ index. nat_le least (pair_key cnode index))) (λ _.
-     both (field (below (objects + interrupts))) (λ _.
-     both (field anything) (λ _.
-     field anything)))))
+    both (field (λ index. nat_le least (pair_key cnode index))) (λ _.
+    both (field (below (objects + interrupts))) (λ _.
+    both (field anything) (λ _.
+    field anything)))))
 
 unfoldable pub interrupt_format : ℕ → ℕ → Format InterruptEntry
 interrupt_format objects least =
     named (λ x. record { line = x.0; notification = x.1.0; badge = x.1.1 }) (λ e. (e.line, (e.notification, e.badge)))
     (both (field (between least 63)) (λ _.
-     both (field (below objects)) (λ _.
-     field (below (2 ^ 28)))))
+    both (field (below objects)) (λ _.
+    field (below (2 ^ 28)))))
 
 unfoldable pub table_format : ℕ → ℕ → Format TableEntry
 table_format objects least =
     named (λ x. record { root = x.0; address = x.1.0; table = x.1.1 }) (λ e. (e.root, (e.address, e.table)))
     (both (field (below objects)) (λ root.
-     both (field (λ address. nat_le least (pair_key root address))) (λ _.
-     field (below objects))))
+    both (field (λ address. nat_le least (pair_key root address))) (λ _.
+    field (below objects))))
 
 unfoldable pub frame_format : ℕ → ℕ → Format FrameEntry
 frame_format objects least =
     named (λ x. record { root = x.0; address = x.1.0; frame = x.1.1.0; rights = x.1.1.1 }) (λ e. (e.root, (e.address, (e.frame, e.rights))))
     (both (field (below objects)) (λ root.
-     both (field (λ address. nat_le least (pair_key root address))) (λ _.
-     both (field (below objects)) (λ _.
-     field (between 0 7)))))
+    both (field (λ address. nat_le least (pair_key root address))) (λ _.
+    both (field (below objects)) (λ _.
+    field (between 0 7)))))
 
 unfoldable pub content_format : ℕ → ℕ → Format Content
 content_format objects least =
     named (λ x. record { header = record { frame = x.0; words = x.1.0 }; words = x.1.1 }) (λ c. (c.header.frame, (c.header.words, c.words)))
     (both (field (λ frame. nat_le least frame && nat_lt frame objects)) (λ _.
-     both (field (between 1 1024)) (λ count.
-     many count (field anything))))
+    both (field (between 1 1024)) (λ count.
+    many count (field anything))))
 
 -- ---- threads
 
@@ -154,17 +154,17 @@ thread_header_format objects =
     named (λ x. record { tcb = x.0; cnode = x.1.0; guard = x.1.1.0; root = x.1.1.1.0; priority = x.1.1.1.1.0; budget = x.1.1.1.1.1.0; fault = x.1.1.1.1.1.1.0; entry = x.1.1.1.1.1.1.1.0; base = x.1.1.1.1.1.1.1.1.0; registers = x.1.1.1.1.1.1.1.1.1.0; words = x.1.1.1.1.1.1.1.1.1.1.0; records = x.1.1.1.1.1.1.1.1.1.1.1 })
     (λ h. (h.tcb, (h.cnode, (h.guard, (h.root, (h.priority, (h.budget, (h.fault, (h.entry, (h.base, (h.registers, (h.words, h.records))))))))))))
     (both (field (below objects)) (λ _.
-     both (field (below objects)) (λ _.
-     both (field anything) (λ _.
-     both (field (below objects)) (λ _.
-     both (field (between 0 255)) (λ _.
-     both (number w64 (between 1 (2 ^ 62))) (λ _.
-     both (field anything) (λ _.
-     both (field anything) (λ _.
-     both (field anything) (λ _.
-     both (field (between 0 31)) (λ _.
-     both (field (between 1 65536)) (λ words.
-     field (between 0 words)))))))))))))
+    both (field (below objects)) (λ _.
+    both (field anything) (λ _.
+    both (field (below objects)) (λ _.
+    both (field (between 0 255)) (λ _.
+    both (number w64 (between 1 (2 ^ 62))) (λ _.
+    both (field anything) (λ _.
+    both (field anything) (λ _.
+    both (field anything) (λ _.
+    both (field (between 0 31)) (λ _.
+    both (field (between 1 65536)) (λ words.
+    field (between 0 words)))))))))))))
 
 -- a register, 1 to 31, not below the least, and its value, not 0
 unfoldable pub register_format : ℕ → Format RegisterEntry
@@ -177,8 +177,8 @@ unfoldable pub range_format : ℕ → Format RangeEntry
 range_format least =
     named (λ x. record { register = x.0; low = x.1.0; high = x.1.1 }) (λ e. (e.register, (e.low, e.high)))
     (both (field (between least 31)) (λ _.
-     both (field anything) (λ low.
-     field (λ high. nat_le low high && (nat_lt 0 low || nat_lt high (2 ^ 32 - 1))))))
+    both (field anything) (λ low.
+    field (λ high. nat_le low high && (nat_lt 0 low || nat_lt high (2 ^ 32 - 1))))))
 
 abbrev pub not_zero : ℤ → Bool
 not_zero (pos n) = nat_lt 0 n
@@ -206,10 +206,10 @@ record_header_format slots words least =
     named (λ x. record { point = x.0; ranges = x.1.0; slots = x.1.1.0; terms = x.1.1.1.0; constant = x.1.1.1.1 })
     (λ h. (h.point, (h.ranges, (h.slots, (h.terms, h.constant)))))
     (both (field (λ point. nat_le least point && nat_lt point words)) (λ _.
-     both (field (between 0 31)) (λ _.
-     both slots.count (λ _.
-     both (field (between 0 4)) (λ _.
-     signed w64 is_constant)))))
+    both (field (between 0 31)) (λ _.
+    both slots.count (λ _.
+    both (field (between 0 4)) (λ _.
+    signed w64 is_constant)))))
 
 unfoldable pub ranges_format : ℕ → Format (List RangeEntry)
 ranges_format count = ordered 1 range_format (λ e. e.register + 1) count
@@ -221,9 +221,9 @@ unfoldable pub record_format : SlotFormat → ℕ → ℕ → Format StateRecord
 record_format slots words least =
     named (λ x. record { header = x.0; ranges = x.1.0; slots = x.1.1.0; terms = x.1.1.1 }) (λ r. (r.header, (r.ranges, (r.slots, r.terms))))
     (both (record_header_format slots words least) (λ header.
-     both (ranges_format header.ranges) (λ _.
-     both (slots.entries header.slots) (λ _.
-     terms_format header.terms))))
+    both (ranges_format header.ranges) (λ _.
+    both (slots.entries header.slots) (λ _.
+    terms_format header.terms))))
 
 unfoldable pub registers_format : ℕ → Format (List RegisterEntry)
 registers_format count = ordered 1 register_format (λ e. e.register + 1) count
@@ -238,9 +238,9 @@ unfoldable pub thread_format : SlotFormat → ℕ → Format Thread
 thread_format slots objects =
     named (λ x. record { header = x.0; registers = x.1.0; words = x.1.1.0; records = x.1.1.1 }) (λ t. (t.header, (t.registers, (t.words, t.records))))
     (both (thread_header_format objects) (λ header.
-     both (registers_format header.registers) (λ _.
-     both (words_format header.words) (λ _.
-     records_format slots header.words header.records))))
+    both (registers_format header.registers) (λ _.
+    both (words_format header.words) (λ _.
+    records_format slots header.words header.records))))
 
 -- ---- the whole
 

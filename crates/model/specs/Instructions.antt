@@ -87,7 +87,7 @@ abbrev pub b_type : ℕ → ℕ → Register → Register → ℤ → ℕ
 b_type opcode funct3 rs1 rs2 offset =
     let n = word_of offset in
     opcode + 2 ^ 7 * bits n 11 1 + 2 ^ 8 * bits n 1 4 + 2 ^ 12 * funct3 + 2 ^ 15 * rs1.0 + 2 ^ 20 * rs2.0
-        + 2 ^ 25 * bits n 5 6 + 2 ^ 31 * bits n 12 1
+    + 2 ^ 25 * bits n 5 6 + 2 ^ 31 * bits n 12 1
 
 abbrev pub u_type : ℕ → Register → ℕ → ℕ
 u_type opcode rd immediate = opcode + 2 ^ 7 * rd.0 + 2 ^ 12 * immediate
@@ -247,8 +247,8 @@ shift_op funct3 funct7 =
 abbrev pub register_op : ℕ → ℕ → Option RegisterOp
 register_op funct3 funct7 =
     find
-        (λ op. (register_funct3 op == funct3) && (register_funct7 op == funct7))
-        (Add ∷ Sub ∷ Sll ∷ Slt ∷ Sltu ∷ Xor ∷ Srl ∷ Sra ∷ Or ∷ And ∷ [])
+    (λ op. (register_funct3 op == funct3) && (register_funct7 op == funct7))
+    (Add ∷ Sub ∷ Sll ∷ Slt ∷ Sltu ∷ Xor ∷ Srl ∷ Sra ∷ Or ∷ And ∷ [])
 
 abbrev pub decoded_upper : UpperOp → ℕ → Instr
 decoded_upper op word = Upper op (register_at word 7) (bits word 12 20)
@@ -263,40 +263,40 @@ decoded_jalr word =
 abbrev pub decoded_branch : ℕ → Option Instr
 decoded_branch word =
     option_map
-        (λ op. Branch op (register_at word 15) (register_at word 20) (b_offset word))
-        (branch_op (bits word 12 3))
+    (λ op. Branch op (register_at word 15) (register_at word 20) (b_offset word))
+    (branch_op (bits word 12 3))
 
 abbrev pub decoded_load : ℕ → Option Instr
 decoded_load word =
     option_map
-        (λ op. Load op (register_at word 7) (register_at word 15) (i_immediate word))
-        (load_op (bits word 12 3))
+    (λ op. Load op (register_at word 7) (register_at word 15) (i_immediate word))
+    (load_op (bits word 12 3))
 
 abbrev pub decoded_store : ℕ → Option Instr
 decoded_store word =
     option_map
-        (λ op. Store op (register_at word 15) (register_at word 20) (s_immediate word))
-        (store_op (bits word 12 3))
+    (λ op. Store op (register_at word 15) (register_at word 20) (s_immediate word))
+    (store_op (bits word 12 3))
 
 abbrev pub decoded_shift : ℕ → Option Instr
 decoded_shift word =
     option_map
-        (λ op. Shift op (register_at word 7) (register_at word 15) (bits word 20 5))
-        (shift_op (bits word 12 3) (bits word 25 7))
+    (λ op. Shift op (register_at word 7) (register_at word 15) (bits word 20 5))
+    (shift_op (bits word 12 3) (bits word 25 7))
 
 abbrev pub decoded_immediate : ℕ → Option Instr
 decoded_immediate word =
     if (bits word 12 3 == 1) || (bits word 12 3 == 5)
     then decoded_shift word
     else option_map
-        (λ op. Immediate op (register_at word 7) (register_at word 15) (i_immediate word))
-        (immediate_op (bits word 12 3))
+    (λ op. Immediate op (register_at word 7) (register_at word 15) (i_immediate word))
+    (immediate_op (bits word 12 3))
 
 abbrev pub decoded_registers : ℕ → Option Instr
 decoded_registers word =
     option_map
-        (λ op. Registers op (register_at word 7) (register_at word 15) (register_at word 20))
-        (register_op (bits word 12 3) (bits word 25 7))
+    (λ op. Registers op (register_at word 7) (register_at word 15) (register_at word 20))
+    (register_op (bits word 12 3) (bits word 25 7))
 
 abbrev pub decoded_fence : ℕ → Option Instr
 decoded_fence word = if bits word 12 3 == 0 then Some Fence else None

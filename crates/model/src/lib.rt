@@ -18,8 +18,9 @@ mod slot_numbers;
 pub use boot_faults::BootFault;
 pub use capabilities::{Cap, FrameMapping, TableMapping};
 pub use entries::{
-    CapabilityEntry, ContentHeader, FrameEntry, ImageHeader, InterruptEntry, ObjectEntry, RangeEntry,
-    RecordHeader, RegisterEntry, SlotEntry, TableEntry, TermEntry, ThreadHeader, UntypedEntry,
+    CapabilityEntry, ContentHeader, FrameEntry, ImageHeader, InterruptEntry, ObjectEntry,
+    RangeEntry, RecordHeader, RegisterEntry, SlotEntry, TableEntry, TermEntry, ThreadHeader,
+    UntypedEntry,
 };
 pub use errors::KError;
 pub use events::Event;

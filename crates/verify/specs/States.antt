@@ -1,6 +1,5 @@
 -- Bounds on the measures that are derived from point to point.
-use Rattle.std.specs.Prelude.{ℕ, ◌+◌, ◌^◌, ℤ, negsuc, ◌≤ℤ◌}
-use Rattle.verify.specs.declared.states.State.{State}
+use Rattle.std.specs.Prelude.{ℕ, ◌+◌, ◌^◌, negsuc, ◌≤ℤ◌}
 use Rattle.verify.specs.declared.states.Noted.{Noted}
 use Rattle.verify.specs.declared.states.Noted.TheVariants.{Absent, Later, Known}
 

@@ -127,10 +127,7 @@ fn behind(thread: &ThreadRef, point: u32, state: &Noted) -> Noted
 }
 
 /// The states of all points of a thread's program.
-pub(crate) fn noted_states(
-    alloc: Global,
-    thread: &ThreadRef,
-) -> Result<Vec<Noted>, AllocError>
+pub(crate) fn noted_states(alloc: Global, thread: &ThreadRef) -> Result<Vec<Noted>, AllocError>
     ensures { IfOk result (λ states. vec_len states ≡ thread.now.header.words) }
 {
     let words = thread.header().words;

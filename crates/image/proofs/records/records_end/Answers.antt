@@ -1,6 +1,5 @@
-use Rattle.std.proofs.Common.{◌≡◌, ◌+◌, Ok, Err}
+use Rattle.std.proofs.Common.{◌+◌}
 use Rattle.std.proofs.lemmas.Result.{err_from_is_err_and}
-use Rattle.model.specs.Format.{end_of, many_read}
 use Rattle.model.specs.Image.{record_format, records_format}
 use Rattle.image.specs.Stage.{no_slots}
 use Rattle.image.proofs.Sections.{end_of-more, end_of-refused, end_of-none}

@@ -1,4 +1,4 @@
-use Rattle.std.proofs.Common.{◌≡◌, ◌+◌, ◌-◌, List, length, ap, sym, ◌∙◌, arith, Ok, Err}
+use Rattle.std.proofs.Common.{◌+◌, ◌-◌, List, length, ap, sym, ◌∙◌, arith}
 use Rattle.image.proofs.Sections.{values_of-none, first_of, first_not_refused}
 use Rattle.image.proofs.entries.EntriesIterator.next.Goals as goal
 
