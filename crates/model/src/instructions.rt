@@ -107,7 +107,10 @@ pub enum Instr {
     },
     /// J-type: jumps by `offset` bytes, an even number from -2^20 to 2^20 - 2, and writes the
     /// address of the next instruction to `rd`.
-    Jal { rd: Register, offset: i32 },
+    Jal {
+        rd: Register,
+        offset: i32,
+    },
     /// I-type: jumps to the sum of `rs1` and the offset, -2048 to 2047, without its lowest bit, and
     /// writes the address of the next instruction to `rd`.
     Jalr {
@@ -167,7 +170,7 @@ pub enum Instr {
 
 /// How many bytes a load or store moves.
 #[derive(Clone, Copy, Debug, PartialEq, Eq)]
-pub enum Size {
+pub enum AccessSize {
     /// One byte.
     Byte,
     /// Two bytes.
