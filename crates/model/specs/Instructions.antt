@@ -20,8 +20,8 @@ use Rattle.model.specs.declared.instructions.RegisterOp.{RegisterOp}
 use Rattle.model.specs.declared.instructions.RegisterOp.TheVariants.{Add, Sub, Sll, Slt, Sltu, Xor, Srl, Sra, Or, And}
 use Rattle.model.specs.declared.instructions.Instr.{Instr}
 use Rattle.model.specs.declared.instructions.Instr.TheVariants.{Upper, Jal, Jalr, Branch, Load, Store, Immediate, Shift, Registers, Fence, Ecall, Ebreak}
-use Rattle.model.specs.declared.instructions.Size.{Size}
-use Rattle.model.specs.declared.instructions.Size.TheVariants.{Byte, Halfword, Word}
+use Rattle.model.specs.declared.instructions.AccessSize.{AccessSize}
+use Rattle.model.specs.declared.instructions.AccessSize.TheVariants.{Byte, Halfword, Word}
 use Rattle.model.specs.declared.instructions.Access.{Access}
 use Rattle.model.specs.declared.instructions.Access.TheVariants as accesses
 use Rattle.model.specs.declared.instructions.MemoryFault.{MemoryFault}
@@ -213,6 +213,21 @@ sign_extended n sign = if nat_lt n sign then pos n else pos n -ℤ pos (2 * sign
 abbrev pub register_at : ℕ → ℕ → Register
 register_at word low = record { 0 = bits word low 5 }
 
+abbrev pub rd_of : ℕ → Register
+rd_of word = register_at word 7
+
+abbrev pub rs1_of : ℕ → Register
+rs1_of word = register_at word 15
+
+abbrev pub rs2_of : ℕ → Register
+rs2_of word = register_at word 20
+
+abbrev pub funct3_of : ℕ → ℕ
+funct3_of word = bits word 12 3
+
+abbrev pub funct7_of : ℕ → ℕ
+funct7_of word = bits word 25 7
+
 abbrev pub i_immediate : ℕ → ℤ
 i_immediate word = sign_extended (bits word 20 12) (2 ^ 11)
 
@@ -246,60 +261,46 @@ shift_op funct3 funct7 =
 
 abbrev pub register_op : ℕ → ℕ → Option RegisterOp
 register_op funct3 funct7 =
-    find
-    (λ op. (register_funct3 op == funct3) && (register_funct7 op == funct7))
-    (Add ∷ Sub ∷ Sll ∷ Slt ∷ Sltu ∷ Xor ∷ Srl ∷ Sra ∷ Or ∷ And ∷ [])
+    let ops = Add ∷ Sub ∷ Sll ∷ Slt ∷ Sltu ∷ Xor ∷ Srl ∷ Sra ∷ Or ∷ And ∷ [] in
+    find (λ op. (register_funct3 op == funct3) && (register_funct7 op == funct7)) ops
 
 abbrev pub decoded_upper : UpperOp → ℕ → Instr
-decoded_upper op word = Upper op (register_at word 7) (bits word 12 20)
+decoded_upper op word = Upper op (rd_of word) (bits word 12 20)
 
 abbrev pub decoded_jal : ℕ → Instr
-decoded_jal word = Jal (register_at word 7) (j_offset word)
+decoded_jal word = Jal (rd_of word) (j_offset word)
 
 abbrev pub decoded_jalr : ℕ → Option Instr
-decoded_jalr word =
-    if bits word 12 3 == 0 then Some (Jalr (register_at word 7) (register_at word 15) (i_immediate word)) else None
+decoded_jalr word = if funct3_of word == 0 then Some (Jalr (rd_of word) (rs1_of word) (i_immediate word)) else None
 
 abbrev pub decoded_branch : ℕ → Option Instr
 decoded_branch word =
-    option_map
-    (λ op. Branch op (register_at word 15) (register_at word 20) (b_offset word))
-    (branch_op (bits word 12 3))
+    option_map (λ op. Branch op (rs1_of word) (rs2_of word) (b_offset word)) (branch_op (funct3_of word))
 
 abbrev pub decoded_load : ℕ → Option Instr
 decoded_load word =
-    option_map
-    (λ op. Load op (register_at word 7) (register_at word 15) (i_immediate word))
-    (load_op (bits word 12 3))
+    option_map (λ op. Load op (rd_of word) (rs1_of word) (i_immediate word)) (load_op (funct3_of word))
 
 abbrev pub decoded_store : ℕ → Option Instr
 decoded_store word =
-    option_map
-    (λ op. Store op (register_at word 15) (register_at word 20) (s_immediate word))
-    (store_op (bits word 12 3))
+    option_map (λ op. Store op (rs1_of word) (rs2_of word) (s_immediate word)) (store_op (funct3_of word))
 
 abbrev pub decoded_shift : ℕ → Option Instr
 decoded_shift word =
-    option_map
-    (λ op. Shift op (register_at word 7) (register_at word 15) (bits word 20 5))
-    (shift_op (bits word 12 3) (bits word 25 7))
+    option_map (λ op. Shift op (rd_of word) (rs1_of word) (bits word 20 5)) (shift_op (funct3_of word) (funct7_of word))
 
 abbrev pub decoded_immediate : ℕ → Option Instr
 decoded_immediate word =
-    if (bits word 12 3 == 1) || (bits word 12 3 == 5)
+    if (funct3_of word == 1) || (funct3_of word == 5)
     then decoded_shift word
-    else option_map
-    (λ op. Immediate op (register_at word 7) (register_at word 15) (i_immediate word))
-    (immediate_op (bits word 12 3))
+    else option_map (λ op. Immediate op (rd_of word) (rs1_of word) (i_immediate word)) (immediate_op (funct3_of word))
 
 abbrev pub decoded_registers : ℕ → Option Instr
 decoded_registers word =
-    option_map
-    (λ op. Registers op (register_at word 7) (register_at word 15) (register_at word 20))
-    (register_op (bits word 12 3) (bits word 25 7))
+    option_map (λ op. Registers op (rd_of word) (rs1_of word) (rs2_of word)) (register_op (funct3_of word) (funct7_of word))
 
 abbrev pub decoded_fence : ℕ → Option Instr
-decoded_fence word = if bits word 12 3 == 0 then Some Fence else None
+decoded_fence word = if funct3_of word == 0 then Some Fence else None
 
 abbrev pub decoded_system : ℕ → Option Instr
 decoded_system word =
@@ -384,23 +385,23 @@ put_bytes content [] values = content
 put_bytes content (place ∷ places) [] = content
 put_bytes content (place ∷ places) (value ∷ values) = put_bytes (put_byte content place value) places values
 
-abbrev pub width_of : Size → Width
+abbrev pub width_of : AccessSize → Width
 width_of Byte = w8
 width_of Halfword = w16
 width_of Word = w32
 
 -- the number has no more bytes than this
-abbrev pub FitsSize : Size → ℕ → Type 0
+abbrev pub FitsSize : AccessSize → ℕ → Type 0
 FitsSize size n = n < 2 ^ (8 * byte_len (width_of size))
 
 -- the number of this size at an address, lowest byte first
-abbrev pub loaded : Content → Access → Size → ℕ → Result ℕ MemoryFault
+abbrev pub loaded : Content → Access → AccessSize → ℕ → Result ℕ MemoryFault
 loaded content access size address = do
   places ← places_from content access address (byte_len (width_of size))
   Ok (from_le_bytes (width_of size) (map content.byte places))
 
 -- memory with the low bytes of a number stored at an address, the lowest first
-abbrev pub stored : Content → Size → ℕ → ℕ → Result Content MemoryFault
+abbrev pub stored : Content → AccessSize → ℕ → ℕ → Result Content MemoryFault
 stored content size address value = do
   places ← places_from content accesses.Store address (byte_len (width_of size))
   Ok (put_bytes content places (to_le_bytes (width_of size) value))
@@ -427,7 +428,7 @@ is_taken Bge a b = not (int_lt (signed a) (signed b))
 is_taken Bltu a b = nat_lt a b
 is_taken Bgeu a b = not (nat_lt a b)
 
-abbrev pub load_size : LoadOp → Size
+abbrev pub load_size : LoadOp → AccessSize
 load_size Lb = Byte
 load_size Lh = Halfword
 load_size Lw = Word
@@ -441,7 +442,7 @@ load_result Lw n = n
 load_result Lbu n = n
 load_result Lhu n = n
 
-abbrev pub store_size : StoreOp → Size
+abbrev pub store_size : StoreOp → AccessSize
 store_size Sb = Byte
 store_size Sh = Halfword
 store_size Sw = Word
@@ -514,7 +515,7 @@ abbrev pub stores : RegisterFile → Content → Result Content MemoryFault → 
 stores r content (Ok after) = goes_on (advanced r) after
 stores r content (Err fault) = stays r content (outcomes.Memory fault.address fault.access)
 
-abbrev pub effect : RegisterFile → Content → Instr → Effect
+unfoldable pub effect : RegisterFile → Content → Instr → Effect
 effect r content (Upper op rd immediate) = goes_on (advanced (write r rd (upper_result op r.pc immediate))) content
 effect r content (Jal rd offset) = jumps r content (write r rd (next_pc r)) (plus r.pc offset)
 effect r content (Jalr rd rs1 offset) =

@@ -170,7 +170,7 @@ pub enum Instr {
 
 /// How many bytes a load or store moves.
 #[derive(Clone, Copy, Debug, PartialEq, Eq)]
-pub enum Size {
+pub enum AccessSize {
     /// One byte.
     Byte,
     /// Two bytes.

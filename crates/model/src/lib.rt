@@ -26,8 +26,8 @@ pub use errors::KError;
 pub use events::Event;
 pub use faults::FaultKind;
 pub use instructions::{
-    Access, BranchOp, Cause, Exec, ImmediateOp, Instr, LoadOp, MemoryFault, Register, RegisterOp,
-    ShiftOp, Size, StoreOp, UpperOp,
+    Access, AccessSize, BranchOp, Cause, Exec, ImmediateOp, Instr, LoadOp, MemoryFault, Register,
+    RegisterOp, ShiftOp, StoreOp, UpperOp,
 };
 pub use labels::{Label, Outcome};
 pub use ranges::Range;

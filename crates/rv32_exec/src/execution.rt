@@ -15,6 +15,7 @@ use model::{Cause, Exec, Instr, LoadOp, Register, StoreOp};
 const ZERO: Register = Register(0);
 
 /// Runs one instruction. Where it does not answer `Next`, nothing has changed.
+#[tactic(auto, unfolding(model::specs::Instructions::effect))]
 pub fn exec<V: View>(regs: &mut Regs, instr: Instr, view: &mut V) -> Exec
     requires { IsInstr instr }
     ensures outcome { result ≡ (effect regs.old (V.content view.old) instr).exec }

@@ -8,7 +8,7 @@ mod results;
 mod view;
 
 pub use execution::exec;
-pub use model::{Access, Cause, Exec, Instr, MemoryFault, Register, Size};
+pub use model::{Access, AccessSize, Cause, Exec, Instr, MemoryFault, Register};
 pub use registers::Regs;
 pub use view::View;
 

@@ -3,7 +3,7 @@
 ghost use Rattle.std.specs.Prelude.{◌≡◌, ◌*◌, ◌+◌, ◌<◌, ◌^◌};
 ghost use Rattle.model.specs.Instructions.{FitsSize, immediate_result, is_taken, load_result, load_size, register_result, shift_result, store_size, upper_result};
 
-use model::{BranchOp, ImmediateOp, LoadOp, RegisterOp, ShiftOp, Size, StoreOp, UpperOp};
+use model::{AccessSize, BranchOp, ImmediateOp, LoadOp, RegisterOp, ShiftOp, StoreOp, UpperOp};
 
 /// LUI or AUIPC of a 20-bit immediate.
 pub fn upper_result(op: UpperOp, pc: u32, immediate: u32) -> u32
@@ -31,13 +31,13 @@ pub fn is_taken(op: BranchOp, a: u32, b: u32) -> bool
 }
 
 /// How much a load reads.
-pub fn load_size(op: LoadOp) -> Size
+pub fn load_size(op: LoadOp) -> AccessSize
     ensures { result ≡ load_size op }
 {
     match op {
-        LoadOp::Lb | LoadOp::Lbu => Size::Byte,
-        LoadOp::Lh | LoadOp::Lhu => Size::Halfword,
-        LoadOp::Lw => Size::Word,
+        LoadOp::Lb | LoadOp::Lbu => AccessSize::Byte,
+        LoadOp::Lh | LoadOp::Lhu => AccessSize::Halfword,
+        LoadOp::Lw => AccessSize::Word,
     }
 }
 
@@ -54,13 +54,13 @@ pub fn load_result(op: LoadOp, loaded: u32) -> u32
 }
 
 /// How much a store writes.
-pub fn store_size(op: StoreOp) -> Size
+pub fn store_size(op: StoreOp) -> AccessSize
     ensures { result ≡ store_size op }
 {
     match op {
-        StoreOp::Sb => Size::Byte,
-        StoreOp::Sh => Size::Halfword,
-        StoreOp::Sw => Size::Word,
+        StoreOp::Sb => AccessSize::Byte,
+        StoreOp::Sh => AccessSize::Halfword,
+        StoreOp::Sw => AccessSize::Word,
     }
 }
 

@@ -1,6 +1,6 @@
 //! Instructions over a flat memory.
 
-use crate::{Access, Cause, Exec, MemoryFault, Register, Regs, Size, View, exec};
+use crate::{Access, AccessSize, Cause, Exec, MemoryFault, Register, Regs, View, exec};
 use rv32_isa::{decode, encode};
 
 mod flat;
@@ -18,7 +18,7 @@ fn a_loop_of_four_words(rt: HostRuntime) {
     ];
     let mut memory = Flat::new();
     for (address, word) in program {
-        assert_eq!(rt; memory.store(address, Size::Word, word), Ok(()));
+        assert_eq!(rt; memory.store(address, AccessSize::Word, word), Ok(()));
     }
     let mut regs = Regs::new();
     regs.set_pc(Flat::BASE);
@@ -53,10 +53,10 @@ fn a_store_across_the_end_changes_nothing(rt: HostRuntime) {
         access: Access::Store,
     };
     assert_eq!(rt;
-        memory.store(Flat::END - 2, Size::Word, 0xFFFF_FFFF),
+        memory.store(Flat::END - 2, AccessSize::Word, 0xFFFF_FFFF),
         Err(fault)
     );
-    assert_eq!(rt; memory.load(Flat::END - 2, Size::Halfword), Ok(0));
+    assert_eq!(rt; memory.load(Flat::END - 2, AccessSize::Halfword), Ok(0));
 }
 
 /// The words that memory has before each row of the tables.
@@ -113,16 +113,16 @@ fn words_of_another_assembler(rt: HostRuntime) {
 /// x7, the pc and the two words of memory behind one word of a table.
 fn behind(word: u32, pc: u32, a: u32, b: u32) -> Option<[u32; 4]> {
     let mut memory = Flat::new();
-    memory.store(Flat::BASE, Size::Word, LOW).ok()?;
-    memory.store(Flat::BASE + 4, Size::Word, HIGH).ok()?;
+    memory.store(Flat::BASE, AccessSize::Word, LOW).ok()?;
+    memory.store(Flat::BASE + 4, AccessSize::Word, HIGH).ok()?;
     let mut regs = Regs::new();
     regs.set_pc(pc);
     regs.write(Register(5), a);
     regs.write(Register(6), b);
     regs.write(Register(7), a);
     run(&mut regs, &mut memory, word)?;
-    let low = memory.load(Flat::BASE, Size::Word).ok()?;
-    let high = memory.load(Flat::BASE + 4, Size::Word).ok()?;
+    let low = memory.load(Flat::BASE, AccessSize::Word).ok()?;
+    let high = memory.load(Flat::BASE + 4, AccessSize::Word).ok()?;
     Some([regs.read(Register(7)), regs.pc(), low, high])
 }
 

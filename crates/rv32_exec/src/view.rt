@@ -3,7 +3,7 @@
 ghost use Rattle.std.specs.Prelude.{◌≡◌, ℕ, ◌<◌, ◌^◌, IfOk, MatchResult, Ok, Err};
 ghost use Rattle.model.specs.Instructions.{Content, FitsSize, IsNamed, place_at, put_byte, loaded, stored};
 
-use model::{Access, MemoryFault, Size};
+use model::{Access, AccessSize, MemoryFault};
 
 /// Memory as a program sees it. Its addresses name places, one for each byte, for the accesses that
 /// have the right there. Two addresses may name one place.
@@ -29,22 +29,22 @@ pub trait View {
         ensures { content self.new ≡ put_byte (content self.old) place value };
 
     /// The number at an address, lowest byte first.
-    fn number(&self, address: u32, size: Size, access: Access) -> Result<u32, MemoryFault>
+    fn number(&self, address: u32, size: AccessSize, access: Access) -> Result<u32, MemoryFault>
         ensures value { result ≡ loaded (content self.now) access size address }
         ensures range { IfOk result (FitsSize size) }
     {
         match size {
-            Size::Byte => {
+            AccessSize::Byte => {
                 let place = self.place(address, access)?;
                 Ok(u32::from(self.byte(place)))
             }
-            Size::Halfword => {
+            AccessSize::Halfword => {
                 let first = self.place(address, access)?;
                 let second = self.place(address.wrapping_add(1), access)?;
                 let bytes = [self.byte(first), self.byte(second)];
                 Ok(u32::from(u16::from_le_bytes(bytes)))
             }
-            Size::Word => {
+            AccessSize::Word => {
                 let first = self.place(address, access)?;
                 let next = address.wrapping_add(1);
                 let second = self.place(next, access)?;
@@ -63,7 +63,7 @@ pub trait View {
     }
 
     /// The number at an address, for an instruction that loads it.
-    fn load(&self, address: u32, size: Size) -> Result<u32, MemoryFault>
+    fn load(&self, address: u32, size: AccessSize) -> Result<u32, MemoryFault>
         ensures value { result ≡ loaded (content self.now) Access.Load size address }
         ensures range { IfOk result (FitsSize size) }
     {
@@ -72,14 +72,14 @@ pub trait View {
 
     /// The word at an address, to be run.
     fn fetch(&self, address: u32) -> Result<u32, MemoryFault>
-        ensures { result ≡ loaded (content self.now) Access.Fetch Size.Word address }
+        ensures { result ≡ loaded (content self.now) Access.Fetch AccessSize.Word address }
     {
-        self.number(address, Size::Word, Access::Fetch)
+        self.number(address, AccessSize::Word, Access::Fetch)
     }
 
     /// Stores the low bytes of a number at an address, lowest byte first. Where one of them has no
     /// right, nothing changes.
-    fn store(&mut self, address: u32, size: Size, value: u32) -> Result<(), MemoryFault>
+    fn store(&mut self, address: u32, size: AccessSize, value: u32) -> Result<(), MemoryFault>
         ensures { MatchResult
             result
             (λ _. stored (content self.old) size address value ≡ Ok (content self.new))
@@ -87,18 +87,18 @@ pub trait View {
             × (content self.new ≡ content self.old)) }
     {
         match size {
-            Size::Byte => {
+            AccessSize::Byte => {
                 let place = self.place(address, Access::Store)?;
                 self.set_byte(place, value.to_le_bytes()[0]);
             }
-            Size::Halfword => {
+            AccessSize::Halfword => {
                 let first = self.place(address, Access::Store)?;
                 let second = self.place(address.wrapping_add(1), Access::Store)?;
                 let [low, high, _, _] = value.to_le_bytes();
                 self.set_byte(first, low);
                 self.set_byte(second, high);
             }
-            Size::Word => {
+            AccessSize::Word => {
                 let first = self.place(address, Access::Store)?;
                 let next = address.wrapping_add(1);
                 let second = self.place(next, Access::Store)?;
