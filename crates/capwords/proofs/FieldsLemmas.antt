@@ -1,13 +1,13 @@
 -- The fields in the words of a capability are the capability's.
-use Rattle.std.proofs.Common.{◌≡◌, ◌∙◌, ℕ, suc, zero, ◌+◌, ◌-◌, ◌*◌, ◌/◌, ◌%◌, ◌^◌, ◌<◌, ◌≤◌, ◌==◌, Bool, false, Option, Some, None, List, get_or, refl, sym, ap, subst, arith, bit_and}
+use Rattle.std.proofs.Common.{◌≡◌, ◌∙◌, ℕ, ◌+◌, ◌-◌, ◌*◌, ◌/◌, ◌%◌, ◌^◌, ◌<◌, ◌≤◌, ◌==◌, false, Some, None, List, get_or, refl, ap, subst, arith}
 use Rattle.std.proofs.lemmas.Bool.Decides.{nat_tests}
 use Rattle.std.proofs.lemmas.Nat.{and_le_r, mod-pow-add}
 use Rattle.model.specs.declared.capabilities.Cap.{Cap}
 use Rattle.model.specs.declared.capabilities.Cap.TheVariants.{Empty, Untyped, Endpoint, Notification, CNode, Frame, PageTable, Tcb, RootTable, InterruptControl, InterruptHandler}
 use Rattle.model.specs.declared.capabilities.FrameMapping.{FrameMapping}
 use Rattle.model.specs.declared.capabilities.TableMapping.{TableMapping}
-use Rattle.model.specs.CapabilityWords.{IsPlace, AreEndpointRights, AreMappingRights, IsGuardWord, IsCapability, IsFrameMapping, IsTableMapping, head_word, mapping_word, words_of}
-use Rattle.capwords.specs.Fields.{rights_of, fields_of_kind, fields_of, frame_mapping_of, table_mapping_of}
+use Rattle.model.specs.CapabilityWords.{AreEndpointRights, AreMappingRights, IsCapability, IsFrameMapping, IsTableMapping, head_word, mapping_word, words_of}
+use Rattle.capwords.specs.Fields.{fields_of_kind, fields_of, frame_mapping_of, table_mapping_of}
 
 -- a multiple of an object's size is one of sixteen
 sixteenths_above : (offset more : ℕ) → offset % 2 ^ (more + 4) ≡ 0 → offset / 16 * 16 ≡ offset

@@ -2,11 +2,10 @@
 #![tactic(auto)]
 
 mod fields;
-mod validity;
-mod words;
-
 #[cfg(test)]
 mod tests;
+mod validity;
+mod words;
 
 pub use model::{Cap, FrameMapping, Rights, TableMapping};
 pub use validity::is_capability;

@@ -19,5 +19,6 @@ returns-else-packed_head-head-clause-only c = λ capability valid e.
     let same = c.read_fields-capability.ensures ∙ fields_of_words _ capability valid e in
     let packed : c.pack.result ≡ c.args.words = cc (ap words_of same) in
     elim c.else-packed_head-head.either [
-        inl w ↦ absurd (w.1 (ap (λ words. get_or words 1 0) packed))
-      | inr w ↦ absurd (w (ap (λ words. get_or words 0 0) packed)) ]
+      | inl w ↦ absurd (w.1 (ap (λ words. get_or words 1 0) packed))
+      | inr w ↦ absurd (w (ap (λ words. get_or words 0 0) packed))
+    ]

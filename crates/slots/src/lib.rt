@@ -1,0 +1,11 @@
+//! Capability slots beside the memory of the machine: what each open slot holds and what it was
+//! derived from.
+#![tactic(auto)]
+
+mod maps;
+mod stores;
+
+pub use capwords::Cap;
+pub use maps::SlotMap;
+pub use model::{Entry, Slot};
+pub use stores::SlotStore;
