@@ -92,14 +92,14 @@ pub data Descendant (slots : Slots) (root : ℕ) : ℕ → Type 0 where
   child : (slot : ℕ) → parent_at slots slot ≡ Some root → Descendant slots root slot
   deeper : (slot parent : ℕ) → parent_at slots slot ≡ Some parent → Descendant slots root parent → Descendant slots root slot
 
--- how many slots lead up from a slot, counted up to a bound
-unfoldable pub depth_within : ℕ → Slots → ℕ → ℕ
-depth_within zero slots slot = 0
-depth_within (suc n) slots slot = option_map_or (λ parent. depth_within n slots parent + 1) (parent_at slots slot) 0
+-- how many slots lead up from a slot by a map of parents, counted up to a bound
+unfoldable pub depth_within : ℕ → (ℕ → Option ℕ) → ℕ → ℕ
+depth_within zero parents slot = 0
+depth_within (suc n) parents slot = option_map_or (λ parent. depth_within n parents parent + 1) (parents slot) 0
 
 -- a slot's depth, 0 at the roots; slots that derive from one another in a circle have 256
-unfoldable pub depth_of : Slots → ℕ → ℕ
-depth_of slots slot = depth_within 256 slots slot
+abbrev pub depth_of : Slots → ℕ → ℕ
+depth_of slots slot = depth_within 256 (parent_at slots) slot
 
 -- capabilities are valid, only full slots have and are parents, and no depth is above 255
 pub record IsDerivation (slots : Slots) : Type 0 where
