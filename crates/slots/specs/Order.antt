@@ -1,11 +1,15 @@
 -- The order in which a store lists its full slots.
-use Rattle.std.specs.Prelude.{ℕ, ◌==◌, ◌≢◌, ◌↔◌, AllPairs, Contains, Option, Some, None, List, [], ◌∷◌, if◌then◌else◌}
-use Rattle.model.specs.Slots.{Slots, IsFull}
+use Rattle.std.specs.Prelude.{ℕ, ◌≡◌, ◌==◌, ◌+◌, Option, Some, None, List, [], ◌∷◌, if◌then◌else◌}
+use Rattle.model.specs.Slots.{Slots, is_full}
+
+-- how often a slot stands in a list
+abbrev pub times_in : List ℕ → ℕ → ℕ
+times_in [] slot = 0
+times_in (s ∷ rest) slot = if s == slot then times_in rest slot + 1 else times_in rest slot
 
 -- the list has each full slot once, and nothing else
-pub record IsOrderOf (order : List ℕ) (slots : Slots) : Type 0 where
-  pub once : AllPairs (λ a b. a ≢ b) order
-  pub full : (slot : ℕ) → Contains order slot ↔ IsFull slots slot
+abbrev pub IsOrderOf : List ℕ → Slots → Type 0
+IsOrderOf order slots = (slot : ℕ) → times_in order slot ≡ (if is_full slots slot then 1 else 0)
 
 abbrev pub first_of : List ℕ → Option ℕ
 first_of [] = None

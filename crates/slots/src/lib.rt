@@ -3,9 +3,12 @@
 #![tactic(auto)]
 
 mod maps;
+mod plain;
 mod stores;
+mod table;
 
 pub use capwords::Cap;
 pub use maps::SlotMap;
 pub use model::{Entry, Slot};
+pub use plain::PlainSlots;
 pub use stores::SlotStore;
