@@ -40,7 +40,8 @@ pub trait SlotStore: SlotMap {
     fn next_full(&self, previous: Option<Slot>) -> Option<Slot>
         requires { ForSome previous (IsFull (Self.slots self.now)) }
         ensures next { result ≡ after (order self.now) previous }
-        ensures lists { IsOrderOf (order self.now) (Self.slots self.now) };
+        ensures lists { IsOrderOf (order self.now) (Self.slots self.now) }
+        ensures derivation { IsDerivation (Self.slots self.now) };
 
     /// Opens `count` slots, all of them empty.
     fn open_range(&mut self, first: Slot, count: u32)
