@@ -1,6 +1,5 @@
 -- One CNode of a lookup.
-use Rattle.std.proofs.Common.{ℕ, zero, suc, ◌≡◌, ◌∙◌, ◌==◌, ◌+◌, ◌/◌, ◌<◌, ◌⊎◌, ◌||◌, Bool, true, false, not, Some, Result, Ok, Err, refl, sym, ap, arith, cond}
-use Rattle.std.proofs.lemmas.Bool.Decides.{nat_tests}
+use Rattle.std.proofs.Common.{ℕ, zero, suc, ◌≡◌, ◌∙◌, ◌==◌, ◌+◌, ◌/◌, ◌<◌, ◌||◌, true, false, not, Some, Result, Ok, Err, refl, sym, ap, arith}
 use Rattle.model.specs.Slots.{Slots, capability_at}
 use Rattle.model.specs.Lookup.{resolve, is_cnode, go_on, lookup_within}
 use Rattle.model.specs.declared.slot_entries.Entry.{Entry}

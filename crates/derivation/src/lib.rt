@@ -4,6 +4,8 @@
 
 mod changes;
 mod descent;
+#[cfg(test)]
+mod tests;
 
 pub use changes::{insert_child, relocate, splice_out};
 pub use descent::{descends, next_descendant};

@@ -1,9 +1,8 @@
 -- What a change of the slots leaves at each of them.
-use Rattle.std.proofs.Common.{ℕ, ◌≡◌, ◌≢◌, ◌∙◌, ◌==◌, ◌+◌, ◌<◌, ◌≤◌, ◌⊎◌, ◌&&◌, inl, inr, Bool, true, false, not, if◌then◌else◌, Option, Some, None, refl, sym, ap, arith}
+use Rattle.std.proofs.Common.{ℕ, ◌≡◌, ◌≢◌, ◌∙◌, ◌==◌, true, false, not, if◌then◌else◌, Option, Some, None, refl, sym, ap}
 use Rattle.std.specs.Option.{option_map, option_map_or}
 use Rattle.std.proofs.lemmas.Bool.{eq-eqb, ne_eqb}
-use Rattle.std.proofs.lemmas.Bool.Decides.{eqb_tells}
-use Rattle.model.specs.Slots.{Slots, IsFull, adopted, capability_at, closed, empty_entry, is_empty, is_full, is_within, opened, parent_at, recapped, inserted, relocated, spliced, with_entry, with_parent}
+use Rattle.model.specs.Slots.{Slots, IsFull, adopted, capability_at, closed, empty_entry, is_empty, is_full, is_within, opened, parent_at, with_entry}
 use Rattle.model.specs.declared.capabilities.Cap.{Cap}
 use Rattle.model.specs.declared.capabilities.Cap.TheVariants.{Empty, Untyped, Endpoint, Notification, CNode, Frame, PageTable, Tcb, RootTable, InterruptControl, InterruptHandler}
 use Rattle.model.specs.declared.slot_entries.Entry.{Entry}
@@ -66,11 +65,13 @@ full-not-empty slots full empty is_full' is same =
 pub capability-opened : (slots : Slots) (first count s : ℕ) → ((t : ℕ) → is_within first count t ≡ true → slots t ≡ None) → (capability_at (opened slots first count) s ≡ capability_at slots s) × (parent_at (opened slots first count) s ≡ parent_at slots s)
 capability-opened slots first count s was =
     elim (is_within first count s) as (λ b. is_within first count s ≡ b → (capability_of (if b then Some empty_entry else slots s) ≡ capability_at slots s) × (parent_of (if b then Some empty_entry else slots s) ≡ parent_at slots s)) [
-        true ↦ λ inside. (ap capability_of (sym (was s inside)), ap parent_of (sym (was s inside)))
-      | false ↦ λ outside. (refl, refl) ] refl
+      | true ↦ λ inside. (ap capability_of (sym (was s inside)), ap parent_of (sym (was s inside)))
+      | false ↦ λ outside. (refl, refl)
+    ] refl
 
 pub capability-closed : (slots : Slots) (first count s : ℕ) → ((t : ℕ) → is_within first count t ≡ true → slots t ≡ Some empty_entry) → (capability_at (closed slots first count) s ≡ capability_at slots s) × (parent_at (closed slots first count) s ≡ parent_at slots s)
 capability-closed slots first count s was =
     elim (is_within first count s) as (λ b. is_within first count s ≡ b → (capability_of (if b then None else slots s) ≡ capability_at slots s) × (parent_of (if b then None else slots s) ≡ parent_at slots s)) [
-        true ↦ λ inside. (ap capability_of (sym (was s inside)), ap parent_of (sym (was s inside)))
-      | false ↦ λ outside. (refl, refl) ] refl
+      | true ↦ λ inside. (ap capability_of (sym (was s inside)), ap parent_of (sym (was s inside)))
+      | false ↦ λ outside. (refl, refl)
+    ] refl

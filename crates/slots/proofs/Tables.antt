@@ -1,5 +1,5 @@
 -- Tables of records.
-use Rattle.std.proofs.Common.{ℕ, true, ◌≡◌, ◌∙◌, ◌+◌, ◌*◌, ◌/◌, ◌-◌, ◌^◌, ◌<◌, ◌≤◌, inl, inr, Option, Some, None, List, length, replicate, get_or, take, drop, ◌++◌, refl, sym, ap, subst, arith}
+use Rattle.std.proofs.Common.{ℕ, true, ◌≡◌, ◌∙◌, ◌+◌, ◌*◌, ◌/◌, ◌-◌, ◌^◌, ◌<◌, ◌≤◌, inl, inr, Option, Some, None, List, length, replicate, take, drop, ◌++◌, refl, sym, ap, subst, arith}
 use Rattle.std.proofs.lemmas.Bool.{cases_lt}
 use Rattle.std.proofs.lemmas.List.{get_or_past, get_or-replicate, length-replicate, take-append-le, take_all}
 use Rattle.std.proofs.lemmas.Nat.{pow-add}
@@ -14,8 +14,9 @@ use Rattle.slots.proofs.Derivations.{derivation-same}
 -- nothing is open in a table of closed records
 closed-at : (n s : ℕ) → table_slots (replicate n None) s ≡ None
 closed-at n s = elim (cases_lt s n) [
-    inl inside ↦ get_or-replicate n s None None inside
-  | inr outside ↦ get_or_past (replicate n None) s None (omega (arith, length-replicate {A = Option Entry} n None)) ]
+  | inl inside ↦ get_or-replicate n s None None inside
+  | inr outside ↦ get_or_past (replicate n None) s None (omega (arith, length-replicate {A = Option Entry} n None))
+]
 
 no_slots : Slots
 no_slots s = None
@@ -26,7 +27,7 @@ derivation-none = record {
   valid = λ s. tt;
   child_full = λ s p is. absurd (let clash : None ≡ Some p = is in cc);
   parent_full = λ s p is. absurd (let clash : None ≡ Some p = is in cc);
-  shallow = λ s. omega (arith, depth-none 256 (parent_at no_slots) s refl)
+  shallow = λ s. omega (arith, depth-none 256 (parent_at no_slots) s refl);
 }
 
 derivation-closed_records : (n : ℕ) → IsDerivation (table_slots (replicate n None))
@@ -46,7 +47,7 @@ table-new memory records bits count least size most is made =
     record {
       long = omega (arith, ap (λ n. 16 * (n / 16)) size, whole, long, is, size);
       few = omega (arith, long, is, most);
-      derivation = subst (λ (r : List (Option Entry)). IsDerivation (table_slots r)) (sym made) (derivation-closed_records count)
+      derivation = subst (λ (r : List (Option Entry)). IsDerivation (table_slots r)) (sym made) (derivation-closed_records count);
     }
 
 -- a slice of all of a vector, written back
@@ -63,7 +64,7 @@ table-changed memory n old base new change table kept size same sound =
     let result : IsTable memory new = record {
       long = omega (arith, table.long, kept);
       few = omega (arith, table.few, kept);
-      derivation = subst IsDerivation (sym made) sound
+      derivation = subst IsDerivation (sym made) sound;
     } in
     subst (IsTable memory) (sym (refilled n old new size)) result
 

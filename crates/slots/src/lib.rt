@@ -4,6 +4,7 @@
 
 mod maps;
 mod plain;
+mod probes;
 mod stores;
 mod table;
 
@@ -11,4 +12,5 @@ pub use capwords::Cap;
 pub use maps::SlotMap;
 pub use model::{Entry, Slot};
 pub use plain::PlainSlots;
+pub use probes::{is_free, is_taken};
 pub use stores::SlotStore;

@@ -3,8 +3,7 @@
 ghost use Rattle.std.specs.Prelude.{ℕ, ◌≡◌, ◌^◌, ◌≤◌, None, IfOk, length, replicate};
 ghost use Rattle.slots.specs.Table.{full_from, table_slots};
 
-use crate::table;
-use crate::{SlotMap, SlotStore};
+use crate::{SlotMap, SlotStore, table};
 use model::{Cap, Entry, Slot};
 use pmem::Mem;
 use std::alloc::{AllocError, Global};
@@ -92,7 +91,11 @@ impl SlotStore for PlainSlots {
     }
 
     fn insert(&mut self, slot: Slot, capability: Cap, parent: Option<Slot>) {
-        table::put(&mut self.records, slot.number(), Entry { capability, parent });
+        table::put(
+            &mut self.records,
+            slot.number(),
+            Entry { capability, parent },
+        );
     }
 
     fn splice_out(&mut self, slot: Slot) {

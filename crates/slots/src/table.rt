@@ -126,11 +126,7 @@ pub(crate) fn put(records: &mut [Option<Entry>], slot: u32, held: Entry)
 }
 
 /// A record whose entry has another parent, if its parent was the slot that is gone.
-fn adopted_record(
-    gone: u32,
-    parent: &Option<Slot>,
-    held: &Option<Entry>,
-) -> Option<Entry>
+fn adopted_record(gone: u32, parent: &Option<Slot>, held: &Option<Entry>) -> Option<Entry>
     ensures { result ≡ option_map (adopted gone parent.now) held.now }
 {
     match held {

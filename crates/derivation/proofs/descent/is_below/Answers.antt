@@ -1,9 +1,8 @@
 -- One step up the parents is one step of the test.
-use Rattle.std.proofs.Common.{ℕ, ◌≡◌, ◌≢◌, ◌∙◌, ◌+◌, ◌-◌, Bool, true, false, Option, Some, None, suc, sym, ap, arith}
+use Rattle.std.proofs.Common.{◌≡◌, ◌≢◌, ◌∙◌, ◌+◌, ◌-◌, Some, None, suc, sym, ap, arith}
 use Rattle.std.proofs.lemmas.Bool.{ne_eqb}
 use Rattle.model.specs.Slots.{Slots, parent_at}
-use Rattle.slots.proofs.Depths.{Parents}
-use Rattle.derivation.specs.Descendants.{descends_within, is_descendant}
+use Rattle.derivation.specs.Descendants.{descends_within}
 use Rattle.derivation.proofs.Ancestors.{descends-none, descends-on, descends-root, descends-zero, full-open, parent-held}
 use Rattle.derivation.proofs.descent.is_below.Goals as goal
 
@@ -31,7 +30,7 @@ up-preserved g c =
     let other : c.in-Some.parent ≢ c.args.root = λ same. c.if-number.false (c.number.ensures.value ∙ same ∙ sym c.number-in-Some.ensures.value) in
     record {
       here_open = full-open slots c.in-Some.parent (c.depth-depth.ensures.derivation.parent_full c.up.here c.in-Some.parent above);
-      rest = sym (ap (λ n. descends_within n (parent_at slots) c.args.root c.up.here) size ∙ descends-on left (parent_at slots) c.args.root c.up.here c.in-Some.parent above (ne_eqb c.in-Some.parent c.args.root other)) ∙ c.up.invariant.rest
+      rest = sym (ap (λ n. descends_within n (parent_at slots) c.args.root c.up.here) size ∙ descends-on left (parent_at slots) c.args.root c.up.here c.in-Some.parent above (ne_eqb c.in-Some.parent c.args.root other)) ∙ c.up.invariant.rest;
     }
 
 pub returns-clause-test : goal.returns-clause-test

@@ -1,5 +1,5 @@
 -- What stands first behind a slot is the next full one; the descendants among them are those of the part.
-use Rattle.std.proofs.Common.{ℕ, ◌≡◌, ◌∙◌, ◌+◌, ◌<◌, ◌≤◌, Bool, true, false, Option, Some, None, List, [], ◌∷◌, filter, cond, length, refl, sym, ap, subst, arith}
+use Rattle.std.proofs.Common.{◌≡◌, ◌∙◌, ◌<◌, true, false, Some, [], ◌∷◌, filter, cond, length, sym, ap, subst, arith}
 use Rattle.model.specs.Slots.{Slots, IsFull}
 use Rattle.slots.specs.Order.{first_of}
 use Rattle.derivation.specs.Descendants.{is_descendant}
@@ -13,7 +13,7 @@ slots-init g c =
     let order = g.S.SlotStore.order c.args.store.now in
     record {
       full = c.requires.full;
-      rest = sym (after-filter (is_descendant slots c.args.root) order c.args.previous c.requires.known)
+      rest = sym (after-filter (is_descendant slots c.args.root) order c.args.previous c.requires.known);
     }
 
 pub returns-in_default-clause-next : goal.returns-in_default-clause-next
@@ -75,5 +75,5 @@ slots-preserved g c =
     record {
       full = λ slot is. let same : c.in-Some.slot ≡ slot = cc in subst (IsFull slots) same full;
       rest = ap (λ l. first_of (filter test l)) step
-        ∙ sym (ap (λ b. first_of (cond b (c.in-Some.slot ∷ part) part)) no) ∙ sym (ap (λ l. first_of (filter test l)) found.1) ∙ c.slots.invariant.rest
+          ∙ sym (ap (λ b. first_of (cond b (c.in-Some.slot ∷ part) part)) no) ∙ sym (ap (λ l. first_of (filter test l)) found.1) ∙ c.slots.invariant.rest;
     }

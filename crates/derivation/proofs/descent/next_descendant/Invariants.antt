@@ -12,7 +12,7 @@ invariant-slots g l =
     let order = g.S.SlotStore.order l.store in
     record {
       full : (slot : ℕ) → l.at ≡ Some slot → IsFull slots slot;
-      rest : first_of (filter (is_descendant slots l.root) (behind order l.at)) ≡ after (descendants order slots l.root) l.fn.previous
+      rest : first_of (filter (is_descendant slots l.root) (behind order l.at)) ≡ after (descendants order slots l.root) l.fn.previous;
     }
 
 abbrev pub decreases-slots : goal.decreases-slots

@@ -1,5 +1,5 @@
 -- One slot more that is not full.
-use Rattle.std.proofs.Common.{◌≡◌, ◌∙◌, ◌+◌, ◌-◌, suc, length, sym, ap, arith}
+use Rattle.std.proofs.Common.{◌∙◌, ◌+◌, ◌-◌, length, sym, ap, arith}
 use Rattle.slots.specs.Order.{first_of}
 use Rattle.slots.specs.Table.{table_slots}
 use Rattle.slots.proofs.Listing.{full_from-skip}

@@ -1,5 +1,5 @@
 -- Behind a full slot come the full ones behind it.
-use Rattle.std.proofs.Common.{ℕ, ◌≡◌, ◌∙◌, true, length, sym, ap, arith}
+use Rattle.std.proofs.Common.{◌≡◌, ◌∙◌, true, length, sym, ap, arith}
 use Rattle.model.specs.Slots.{is_full}
 use Rattle.slots.specs.Order.{after, next_after}
 use Rattle.slots.specs.Table.{full_from, table_slots}

@@ -1,5 +1,5 @@
 -- As many records as sixteenths of the memory, none of them open.
-use Rattle.std.proofs.Common.{ℕ, ◌≡◌, ◌∙◌, ◌/◌, ◌^◌, ◌≤◌, length, ap, sym, arith}
+use Rattle.std.proofs.Common.{◌≡◌, ◌∙◌, ◌/◌, ◌^◌, ◌≤◌, length, ap, arith}
 use Rattle.std.proofs.lemmas.List.{length-replicate}
 use Rattle.slots.proofs.Tables.{table-new}
 use Rattle.slots.proofs.plain.PlainSlots.new.Goals as goal
