@@ -4,5 +4,8 @@
 
 mod lookups;
 
+#[cfg(test)]
+mod tests;
+
 pub use lookups::lookup;
 pub use model::LookupFailure;

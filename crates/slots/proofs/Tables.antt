@@ -71,3 +71,6 @@ table-changed memory n old base new change table kept size same sound =
 -- what a slot within a range is
 pub within-bounds : (first count slot : ℕ) → is_within first count slot ≡ true → (first ≤ slot) × (slot < first + count)
 within-bounds first count slot inside = grind (arith, nat_tests)
+
+pub bounds-within : (first count slot : ℕ) → first ≤ slot → slot < first + count → is_within first count slot ≡ true
+bounds-within first count slot low high = grind (arith, nat_tests)

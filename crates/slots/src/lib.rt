@@ -8,6 +8,9 @@ mod probes;
 mod stores;
 mod table;
 
+#[cfg(test)]
+mod tests;
+
 pub use capwords::Cap;
 pub use maps::SlotMap;
 pub use model::{Entry, Slot};
