@@ -1,2 +1,3 @@
 pub mod Behind
+pub mod Splices
 pub mod Ancestors

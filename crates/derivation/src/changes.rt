@@ -2,7 +2,7 @@
 
 ghost use Rattle.std.specs.Prelude.{ℕ, ◌≡◌, ◌≢◌, ◌<◌, ◌≤◌, ◌↔◌, Some, OnOk, OnErr, IsOk};
 ghost use Rattle.model.specs.CapabilityWords.{IsCapability};
-ghost use Rattle.model.specs.Slots.{IsFull, SameOutside, depth_of, empty_entry, inserted, relocated, spliced};
+ghost use Rattle.model.specs.Slots.{Descendant, IsFull, SameOutside, depth_of, empty_entry, inserted, relocated, spliced};
 ghost use Rattle.model.specs.declared.capabilities.Cap.{Cap};
 ghost use Rattle.model.specs.declared.capabilities.Cap.TheVariants.{Empty};
 
@@ -35,11 +35,14 @@ pub fn insert_child<S: SlotStore>(
     Ok(())
 }
 
-/// Empties a full slot. Its children become children of its parent.
+/// Empties a full slot. Its children become children of its parent, so what descended from another
+/// slot still does.
 pub fn splice_out<S: SlotStore>(store: &mut S, slot: Slot)
     requires { IsFull (S.slots store.old) slot }
     ensures slots { S.slots store.new ≡ spliced (S.slots store.old) slot }
     ensures bytes { SameOutside (S.slots store.old) (S.memory store.old) (S.memory store.new) }
+    ensures descent { (root other : ℕ) → root ≢ slot → other ≢ slot
+        → Descendant (S.slots store.new) root other ↔ Descendant (S.slots store.old) root other }
 {
     store.splice_out(slot);
 }

@@ -79,6 +79,7 @@ pub trait SlotStore: SlotMap {
     /// Empties a full slot. Its children become children of its parent.
     fn splice_out(&mut self, slot: Slot)
         requires { IsFull (Self.slots self.old) slot }
+        ensures derivation { IsDerivation (Self.slots self.old) }
         ensures slots { Self.slots self.new ≡ spliced (Self.slots self.old) slot }
         ensures bytes { SameOutside (Self.slots self.old) (memory self.old) (memory self.new) };
 
@@ -86,6 +87,7 @@ pub trait SlotStore: SlotMap {
     fn relocate(&mut self, from: Slot, to: Slot)
         requires full { IsFull (Self.slots self.old) from }
         requires empty { Self.slots self.old to ≡ Some empty_entry }
+        ensures derivation { IsDerivation (Self.slots self.old) }
         ensures slots { Self.slots self.new ≡ relocated (Self.slots self.old) from to }
         ensures bytes { SameOutside (Self.slots self.old) (memory self.old) (memory self.new) };
 
