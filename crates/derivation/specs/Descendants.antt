@@ -1,6 +1,6 @@
 -- Which slots descend from a slot, as a test and as a list.
 -- seL4 Reference Manual, 3.1.4 "Capability Derivation Tree".
-use Rattle.std.specs.Prelude.{ℕ, zero, suc, ◌==◌, ◌||◌, Bool, false, Option, List, filter}
+use Rattle.std.specs.Prelude.{ℕ, zero, suc, ◌==◌, ◌||◌, Bool, false, Option, List, filter, if◌then◌else◌}
 use Rattle.std.specs.Option.{option_map_or}
 use Rattle.model.specs.Slots.{Slots, depth_of, parent_at}
 
@@ -17,3 +17,7 @@ is_descendant slots root slot = descends_within (depth_of slots slot) (parent_at
 -- the descendants of a root, in the order of a list
 abbrev pub descendants : List ℕ → Slots → ℕ → List ℕ
 descendants order slots root = filter (is_descendant slots root) order
+
+-- the name of a slot once what another held was moved
+abbrev pub name_after_move : ℕ → ℕ → ℕ → ℕ
+name_after_move from to slot = if slot == from then to else slot

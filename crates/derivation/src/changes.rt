@@ -3,6 +3,7 @@
 ghost use Rattle.std.specs.Prelude.{ℕ, ◌≡◌, ◌≢◌, ◌<◌, ◌≤◌, ◌↔◌, Some, OnOk, OnErr, IsOk};
 ghost use Rattle.model.specs.CapabilityWords.{IsCapability};
 ghost use Rattle.model.specs.Slots.{Descendant, IsFull, SameOutside, depth_of, empty_entry, inserted, relocated, spliced};
+ghost use Rattle.derivation.specs.Descendants.{name_after_move};
 ghost use Rattle.model.specs.declared.capabilities.Cap.{Cap};
 ghost use Rattle.model.specs.declared.capabilities.Cap.TheVariants.{Empty};
 
@@ -47,12 +48,16 @@ pub fn splice_out<S: SlotStore>(store: &mut S, slot: Slot)
     store.splice_out(slot);
 }
 
-/// Moves what a full slot holds to an empty one, with its parent and its children.
+/// Moves what a full slot holds to an empty one, with its parent and its children: descent is the same
+/// under the new names.
 pub fn relocate<S: SlotStore>(store: &mut S, from: Slot, to: Slot)
     requires full { IsFull (S.slots store.old) from }
     requires empty { S.slots store.old to ≡ Some empty_entry }
     ensures slots { S.slots store.new ≡ relocated (S.slots store.old) from to }
     ensures bytes { SameOutside (S.slots store.old) (S.memory store.old) (S.memory store.new) }
+    ensures descent { (root other : ℕ) → root ≢ to → other ≢ to
+        → Descendant (S.slots store.new) (name_after_move from to root) (name_after_move from to other)
+            ↔ Descendant (S.slots store.old) root other }
 {
     store.relocate(from, to);
 }
