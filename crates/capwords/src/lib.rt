@@ -1,13 +1,12 @@
-// A library with one function.
+//! Capabilities as two words of 32 bits.
 #![tactic(auto)]
 
-ghost use Rattle.std.specs.Prelude.{◌≡◌};
-ghost use Rattle.capwords.specs.Echo.{echo_of};
+mod fields;
+#[cfg(test)]
+mod tests;
+mod validity;
+mod words;
 
-// The `ensures` clause is the contract: what `echo` returns is `echo_of` of its argument, a definition
-// in `specs/Echo.antt`, which a caller's clause can cite too.
-pub fn echo(x: usize) -> usize
-    ensures { result ≡ echo_of x }
-{
-    x
-}
+pub use model::{Cap, FrameMapping, Rights, TableMapping};
+pub use validity::is_capability;
+pub use words::{pack, unpack};

@@ -4,7 +4,10 @@ pub mod Format
 pub mod Image
 pub mod Instructions
 pub mod Labels
+pub mod Lookup
+pub mod LookupNumbers
 pub mod Placement
 pub mod Ranges
 pub mod Refusals
+pub mod Slots
 pub mod Trace

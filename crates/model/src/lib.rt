@@ -10,9 +10,11 @@ mod events;
 mod faults;
 mod instructions;
 mod labels;
+mod lookup_failures;
 mod ranges;
 mod refusals;
 mod rights;
+mod slot_entries;
 mod slot_numbers;
 
 pub use boot_faults::BootFault;
@@ -30,7 +32,9 @@ pub use instructions::{
     RegisterOp, ShiftOp, StoreOp, UpperOp,
 };
 pub use labels::{Label, Outcome};
+pub use lookup_failures::LookupFailure;
 pub use ranges::Range;
 pub use refusals::{Point, Refusal};
 pub use rights::Rights;
+pub use slot_entries::Entry;
 pub use slot_numbers::Slot;

@@ -3,7 +3,6 @@
 #![tactic(auto)]
 
 mod placing;
-
 #[cfg(test)]
 mod tests;
 

@@ -1,0 +1,18 @@
+-- The rest of the lookup, through enough CNodes, is the whole lookup.
+use Rattle.std.proofs.Common.{ℕ, ◌≡◌, ◌<◌, ◌≤◌}
+use Rattle.model.specs.CapabilityWords.{IsCapability}
+use Rattle.model.specs.Lookup.{CNodeIsOpen, lookup, lookup_within}
+use Rattle.cspace.proofs.lookups.lookup.Given as goal
+
+abbrev pub invariant-nodes : goal.invariant-nodes
+invariant-nodes g l =
+    let slots = g.S.SlotMap.slots l.slots in
+    record {
+      rest : (n : ℕ) × (l.left < n) × (lookup_within n slots l.held l.address l.left ≡ lookup slots l.fn.root l.address l.fn.depth);
+      valid : IsCapability l.held;
+      node_open : CNodeIsOpen slots l.held;
+      few : l.left ≤ 32;
+    }
+
+abbrev pub decreases-nodes : goal.decreases-nodes
+decreases-nodes g l = l.left

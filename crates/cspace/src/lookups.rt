@@ -1,0 +1,94 @@
+//! From a capability address to a slot.
+
+ghost use Rattle.std.specs.Prelude.{ℕ, ◌≡◌, ◌+◌, ◌/◌, ◌^◌, ◌%◌, ◌<◌, ◌≤◌, ◌==◌, ◌||◌, not, IfOk};
+ghost use Rattle.model.specs.CapabilityWords.{IsCapability, IsGuardWord, IsPlace};
+ghost use Rattle.model.specs.Lookup.{CNodeIsOpen, CNodesAreOpen, is_cnode, lookup, resolve};
+ghost use Rattle.model.specs.Slots.{IsOpen};
+
+use model::{Cap, LookupFailure, Slot};
+use slots::SlotMap;
+
+/// A CNode as a capability names it.
+#[derive(Clone, Copy)]
+struct Node {
+    radix: u8,
+    guard: u32,
+}
+
+/// Whether a lookup ends at a slot: no bits are left, or the slot holds no CNode.
+fn ends_at(rest: u32, held: Cap) -> bool
+    ensures { result ≡ (rest == 0 || not (is_cnode held)) }
+{
+    rest == 0 || !matches!(held, Cap::CNode { .. })
+}
+
+/// The `count` bits of an address that stand above the lowest `rest` ones.
+fn bits_of(address: u32, rest: u32, count: u32) -> u32
+    requires few { rest + count ≤ 32 }
+    ensures { result ≡ address / 2 ^ rest % 2 ^ count }
+{
+    ((u64::from(address) >> rest) % (1u64 << count)) as u32
+}
+
+/// The index of the slot that a CNode resolves, with the bits that are left behind it.
+fn resolve(node: Node, address: u32, left: u32) -> Result<(u32, u32), LookupFailure>
+    requires radix { node.radix ≤ 14 }
+    requires least { 1 ≤ node.radix }
+    requires depth { left ≤ 32 }
+    ensures value { result ≡ resolve node.radix node.guard address left }
+    ensures index { IfOk result (λ place. place.0 < 2 ^ node.radix) }
+    ensures fewer { IfOk result (λ place. place.1 < left) }
+{
+    let size = node.guard % 0x20;
+    let taken = size + u32::from(node.radix);
+    if left < size || bits_of(address, left - size, size) != node.guard / 0x20 {
+        return Err(LookupFailure::GuardMismatch(left));
+    }
+    if left < taken {
+        return Err(LookupFailure::DepthMismatch(left));
+    }
+    let rest = left - taken;
+    Ok((bits_of(address, rest, u32::from(node.radix)), rest))
+}
+
+/// The slot that the low `depth` bits of an address name in the capability space of a root, and how
+/// many bits are left behind it. The address is read from its high end; the lookup ends where no bits
+/// are left, or in front of a slot that holds no CNode.
+pub fn lookup<S: SlotMap>(
+    slots: &S,
+    root: Cap,
+    address: u32,
+    depth: u32,
+) -> Result<(Slot, u32), LookupFailure>
+    requires valid { IsCapability root }
+    requires bits { depth ≤ 32 }
+    requires root_open { CNodeIsOpen (S.slots slots.now) root }
+    requires all_open { CNodesAreOpen (S.slots slots.now) }
+    ensures value { result ≡ lookup (S.slots slots.now) root address depth }
+    ensures slot_open { IfOk result (λ place. IsOpen (S.slots slots.now) place.0) }
+{
+    let mut held = root;
+    let mut left = depth;
+    'nodes: loop {
+        let Cap::CNode {
+            offset,
+            radix,
+            guard,
+        } = held
+        else {
+            return Err(LookupFailure::InvalidRoot);
+        };
+        let node = Node { radix, guard };
+        let (index, rest) = match resolve(node, address, left) {
+            Ok(place) => place,
+            Err(failure) => return Err(failure),
+        };
+        let slot = Slot::new(offset / 16 + index);
+        let (next, _parent) = slots.get(slot);
+        if ends_at(rest, next) {
+            return Ok((slot, rest));
+        }
+        held = next;
+        left = rest;
+    }
+}

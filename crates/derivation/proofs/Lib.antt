@@ -1,0 +1,4 @@
+pub mod Behind
+pub mod Moves
+pub mod Splices
+pub mod Ancestors

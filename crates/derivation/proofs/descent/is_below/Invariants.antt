@@ -1,0 +1,13 @@
+-- What is left of the test from here is the whole test.
+use Rattle.std.proofs.Common.{◌≡◌, ◌-◌}
+use Rattle.model.specs.Slots.{IsOpen, parent_at}
+use Rattle.derivation.specs.Descendants.{descends_within, is_descendant}
+use Rattle.derivation.proofs.descent.is_below.Given as goal
+
+abbrev pub invariant-up : goal.invariant-up
+invariant-up g l =
+    let slots = g.S.SlotMap.slots l.store in
+    record {
+      here_open : IsOpen slots l.here;
+      rest : descends_within (l.depth - l._step) (parent_at slots) l.root l.here ≡ is_descendant slots l.root l.fn.slot;
+    }

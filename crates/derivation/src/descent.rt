@@ -1,0 +1,67 @@
+//! The descendants of a slot.
+
+ghost use Rattle.std.specs.Prelude.{ℕ, ◌≡◌, ◌↔◌, IsTrue, IfSome, if◌then◌else◌};
+ghost use Rattle.std.specs.Option.{ForSome};
+ghost use Rattle.model.specs.Slots.{Descendant, IsDerivation, IsFull, IsOpen};
+ghost use Rattle.slots.specs.Order.{after, times_in};
+ghost use Rattle.derivation.specs.Descendants.{descendants, is_descendant};
+
+use model::Slot;
+use slots::SlotStore;
+
+/// Whether a slot descends from another, by a walk up from it.
+fn is_below<S: SlotStore>(store: &S, root: Slot, slot: Slot) -> bool
+    requires { IsOpen (S.slots store.now) slot }
+    ensures test { result ≡ is_descendant (S.slots store.now) root slot }
+    ensures derivation { IsDerivation (S.slots store.now) }
+{
+    let depth = store.depth(slot);
+    let mut here = slot;
+    'up: for _step in 0..depth {
+        let (_held, above) = store.get(here);
+        match above {
+            None => return false,
+            Some(parent) => {
+                if parent.number() == root.number() {
+                    return true;
+                }
+                here = parent;
+            }
+        }
+    }
+    false
+}
+
+/// Whether a slot descends from another.
+pub fn descends<S: SlotStore>(store: &S, root: Slot, slot: Slot) -> bool
+    requires { IsOpen (S.slots store.now) slot }
+    ensures test { result ≡ is_descendant (S.slots store.now) root slot }
+    ensures value { IsTrue result ↔ Descendant (S.slots store.now) root slot }
+    ensures derivation { IsDerivation (S.slots store.now) }
+{
+    is_below(store, root, slot)
+}
+
+/// The descendant of a root behind `previous`, or the first one: each of them once, in the store's own
+/// order.
+pub fn next_descendant<S: SlotStore>(store: &S, root: Slot, previous: Option<Slot>) -> Option<Slot>
+    requires full { ForSome previous (IsFull (S.slots store.now)) }
+    requires known { ForSome previous (λ slot. IsTrue (is_descendant (S.slots store.now) root slot)) }
+    ensures next { result ≡ after (descendants (S.order store.now) (S.slots store.now) root) previous }
+    ensures once { (slot : ℕ) → times_in (descendants (S.order store.now) (S.slots store.now) root) slot
+        ≡ (if is_descendant (S.slots store.now) root slot then 1 else 0) }
+    ensures found { IfSome result (Descendant (S.slots store.now) root) }
+    ensures found_full { IfSome result (IsFull (S.slots store.now)) }
+    ensures found_known { IfSome result (λ slot. IsTrue (is_descendant (S.slots store.now) root slot)) }
+{
+    let mut at = previous;
+    'slots: loop {
+        let Some(slot) = store.next_full(at) else {
+            return None;
+        };
+        if descends(store, root, slot) {
+            return Some(slot);
+        }
+        at = Some(slot);
+    }
+}

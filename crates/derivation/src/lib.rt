@@ -1,0 +1,11 @@
+//! Derivation of capabilities over any store of slots.
+//! seL4 Reference Manual, 3.1.4 "Capability Derivation Tree".
+#![tactic(auto)]
+
+mod changes;
+mod descent;
+#[cfg(test)]
+mod tests;
+
+pub use changes::{insert_child, relocate, splice_out};
+pub use descent::{descends, next_descendant};

@@ -1,0 +1,5 @@
+pub mod Changes
+pub mod Depths
+pub mod Derivations
+pub mod Listing
+pub mod Tables

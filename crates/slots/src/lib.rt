@@ -1,0 +1,19 @@
+//! Capability slots beside the memory of the machine: what each open slot holds and what it was
+//! derived from.
+#![tactic(auto)]
+
+mod maps;
+mod plain;
+mod probes;
+mod stores;
+mod table;
+
+#[cfg(test)]
+mod tests;
+
+pub use capwords::Cap;
+pub use maps::SlotMap;
+pub use model::{Entry, Slot};
+pub use plain::PlainSlots;
+pub use probes::{is_free, is_taken};
+pub use stores::SlotStore;

@@ -1,0 +1,20 @@
+//! A map of slots that can be read.
+
+ghost use Rattle.std.specs.Prelude.{◌≡◌, Some};
+ghost use Rattle.model.specs.CapabilityWords.{IsCapability};
+ghost use Rattle.model.specs.Slots.{IsOpen, Slots};
+ghost use Rattle.model.specs.declared.slot_entries.Entry.{Entry};
+
+use model::{Cap, Slot};
+
+/// Which slots are open, and what each holds.
+pub trait SlotMap {
+    // What each open slot holds, by its number.
+    ghost slots: { Self → Slots };
+
+    /// The capability in an open slot, and the slot that it was derived from.
+    fn get(&self, slot: Slot) -> (Cap, Option<Slot>)
+        requires { IsOpen (slots self.now) slot }
+        ensures held { slots self.now slot ≡ Some (record { capability = result.0; parent = result.1 }) }
+        ensures valid { IsCapability result.0 };
+}
