@@ -8,5 +8,5 @@ abbrev pub sample : Slots
 sample s = Some (record {
   capability = if s == 0x1060 then Endpoint 0x20 (record { 0 = 11 }) 0
       else if s == 0x1061 then CNode 0x1_0000 8 4 else Empty;
-  parent = None
+  parent = None;
 })

@@ -3,7 +3,6 @@
 #![tactic(auto)]
 
 mod lookups;
-
 #[cfg(test)]
 mod tests;
 

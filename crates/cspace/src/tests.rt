@@ -54,7 +54,10 @@ fn an_address_names_a_slot_from_its_high_end(rt: HostRuntime) {
 
 #[test]
 fn a_failure_has_the_bits_that_were_left(rt: HostRuntime) {
-    assert_eq!(rt; find(0x1600_0000, 32), Err(LookupFailure::GuardMismatch(32)));
+    assert_eq!(rt;
+        find(0x1600_0000, 32),
+        Err(LookupFailure::GuardMismatch(32))
+    );
     assert_eq!(rt; find(0x060, 11), Err(LookupFailure::DepthMismatch(11)));
     assert_eq!(rt; find(0x06_1160, 24), Err(LookupFailure::GuardMismatch(12)));
     assert_eq!(rt; find(0, 3), Err(LookupFailure::GuardMismatch(3)));
