@@ -1,8 +1,8 @@
 -- A slot taken out leaves the descent of the others as it was.
-use Rattle.std.proofs.Common.{ℕ, ◌≡◌, ◌≢◌, ◌∙◌, ◌==◌, inl, inr, Option, Some, None, true, false, if◌then◌else◌, refl, sym, ap, arith}
+use Rattle.std.proofs.Common.{ℕ, ◌≡◌, ◌≢◌, ◌∙◌, ◌==◌, inl, inr, Some, None, true, false, if◌then◌else◌, refl, sym, ap, arith}
 use Rattle.std.proofs.lemmas.Bool.Decides.{eqb_tells}
 use Rattle.std.proofs.lemmas.Bool.{ne_eqb}
-use Rattle.model.specs.Slots.{Slots, Descendant, child, deeper, IsDerivation, depth_of, empty_entry, parent_at, spliced, with_parent}
+use Rattle.model.specs.Slots.{Slots, Descendant, child, deeper, IsDerivation, empty_entry, parent_at, spliced, with_parent}
 use Rattle.slots.proofs.Changes.{entry-other, entry-same, parent-adopted, parent_of}
 use Rattle.slots.proofs.Depths.{adopted_parent, depth-own_parent}
 
@@ -19,16 +19,19 @@ parent-spliced slots gone slot other =
 pub old-parent : (slots : Slots) (gone slot parent : ℕ) → parent_at (spliced slots gone) slot ≡ Some parent → Descendant slots parent slot
 old-parent slots gone slot parent is =
     elim (eqb_tells slot gone) [
-        inl here ↦ absurd (let clash : None ≡ Some parent = sym (parent-gone slots gone) ∙ ap (parent_at (spliced slots gone)) (sym here.1) ∙ is in cc)
+      | inl here ↦ absurd (let clash : None ≡ Some parent = sym (parent-gone slots gone) ∙ ap (parent_at (spliced slots gone)) (sym here.1) ∙ is in cc)
       | inr other ↦ elim (parent_at slots slot) as (λ o. parent_at slots slot ≡ o → Descendant slots parent slot) [
-            None ↦ λ none. absurd (let clash : None ≡ Some parent = ap (adopted_parent gone (parent_at slots gone)) (sym none) ∙ sym (parent-spliced slots gone slot other.1) ∙ is in cc)
-          | Some p ↦ λ some. elim (eqb_tells p gone) [
-                inl was ↦
-                  let moved : parent_at slots gone ≡ Some parent = ap (λ b. if b then parent_at slots gone else Some p) (sym was.0) ∙ ap (adopted_parent gone (parent_at slots gone)) (sym some) ∙ sym (parent-spliced slots gone slot other.1) ∙ is in
-                  deeper slot gone (some ∙ ap (λ q. Some q) was.1) (child gone moved)
-              | inr stays ↦
-                  let same : Some p ≡ Some parent = ap (λ b. if b then parent_at slots gone else Some p) (sym stays.0) ∙ ap (adopted_parent gone (parent_at slots gone)) (sym some) ∙ sym (parent-spliced slots gone slot other.1) ∙ is in
-                  child slot (some ∙ same) ] ] refl ]
+        | None ↦ λ none. absurd (let clash : None ≡ Some parent = ap (adopted_parent gone (parent_at slots gone)) (sym none) ∙ sym (parent-spliced slots gone slot other.1) ∙ is in cc)
+        | Some p ↦ λ some. elim (eqb_tells p gone) [
+          | inl was ↦
+              let moved : parent_at slots gone ≡ Some parent = ap (λ b. if b then parent_at slots gone else Some p) (sym was.0) ∙ ap (adopted_parent gone (parent_at slots gone)) (sym some) ∙ sym (parent-spliced slots gone slot other.1) ∙ is in
+              deeper slot gone (some ∙ ap (λ q. Some q) was.1) (child gone moved)
+          | inr stays ↦
+              let same : Some p ≡ Some parent = ap (λ b. if b then parent_at slots gone else Some p) (sym stays.0) ∙ ap (adopted_parent gone (parent_at slots gone)) (sym some) ∙ sym (parent-spliced slots gone slot other.1) ∙ is in
+              child slot (some ∙ same)
+        ]
+      ] refl
+    ]
 
 -- what descends from a descendant descends
 descendant-through : (slots : Slots) (root middle slot : ℕ) → Descendant slots middle slot → Descendant slots root middle → Descendant slots root slot
@@ -59,25 +62,28 @@ StillDescends slots gone root slot =
 
 still-descends : (slots : Slots) (gone root slot : ℕ) → IsDerivation slots → root ≢ gone → Descendant slots root slot → StillDescends slots gone root slot
 unfolding StillDescends
-still-descends slots gone root slot tree apart (child _ is) =
-    ((λ other. child slot (kept-parent slots gone slot root other is (ne_eqb root gone apart))),
-     (λ here heir moved. child heir (moved ∙ ap (parent_at slots) (sym here) ∙ is)))
+still-descends slots gone root slot tree apart (child _ is) = (
+  (λ other. child slot (kept-parent slots gone slot root other is (ne_eqb root gone apart))),
+  (λ here heir moved. child heir (moved ∙ ap (parent_at slots) (sym here) ∙ is)),
+)
 still-descends slots gone root slot tree apart (deeper _ parent is above) =
     let more : (parent ≢ gone → Descendant (spliced slots gone) root parent)
-        × (parent ≡ gone → (heir : ℕ) → parent_at (spliced slots gone) heir ≡ parent_at slots gone → Descendant (spliced slots gone) root heir) =
-        still-descends slots gone root parent tree apart above in
-    ((λ other. elim (eqb_tells parent gone) [
-        inl was ↦ more.1 was.1 slot (moved-parent slots gone slot parent other is was.0)
-      | inr stays ↦ deeper slot parent (kept-parent slots gone slot parent other is stays.0) (more.0 stays.1) ]),
-     (λ here heir moved.
-        let up : parent_at slots gone ≡ Some parent = ap (parent_at slots) (sym here) ∙ is in
-        let not_own : parent ≢ gone = λ same. absurd (omega (arith, depth-own_parent 256 (parent_at slots) gone (up ∙ ap (λ p. Some p) same), tree.shallow gone)) in
-        deeper heir parent (moved ∙ up) (more.0 not_own)))
+    × (parent ≡ gone → (heir : ℕ) → parent_at (spliced slots gone) heir ≡ parent_at slots gone → Descendant (spliced slots gone) root heir) =
+    still-descends slots gone root parent tree apart above in (
+      (λ other. elim (eqb_tells parent gone) [
+        | inl was ↦ more.1 was.1 slot (moved-parent slots gone slot parent other is was.0)
+        | inr stays ↦ deeper slot parent (kept-parent slots gone slot parent other is stays.0) (more.0 stays.1)
+      ]),
+      (λ here heir moved.
+          let up : parent_at slots gone ≡ Some parent = ap (parent_at slots) (sym here) ∙ is in
+          let not_own : parent ≢ gone = λ same. absurd (omega (arith, depth-own_parent 256 (parent_at slots) gone (up ∙ ap (λ p. Some p) same), tree.shallow gone)) in
+          deeper heir parent (moved ∙ up) (more.0 not_own)),
+    )
 
 pub descendant-after : (slots : Slots) (gone root slot : ℕ) → IsDerivation slots → root ≢ gone → slot ≢ gone → Descendant slots root slot → Descendant (spliced slots gone) root slot
 unfolding StillDescends
 descendant-after slots gone root slot tree apart other below =
     let still : (slot ≢ gone → Descendant (spliced slots gone) root slot)
-        × (slot ≡ gone → (heir : ℕ) → parent_at (spliced slots gone) heir ≡ parent_at slots gone → Descendant (spliced slots gone) root heir) =
-        still-descends slots gone root slot tree apart below in
+    × (slot ≡ gone → (heir : ℕ) → parent_at (spliced slots gone) heir ≡ parent_at slots gone → Descendant (spliced slots gone) root heir) =
+    still-descends slots gone root slot tree apart below in
     still.0 other

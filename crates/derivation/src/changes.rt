@@ -57,7 +57,7 @@ pub fn relocate<S: SlotStore>(store: &mut S, from: Slot, to: Slot)
     ensures bytes { SameOutside (S.slots store.old) (S.memory store.old) (S.memory store.new) }
     ensures descent { (root other : ℕ) → root ≢ to → other ≢ to
         → Descendant (S.slots store.new) (name_after_move from to root) (name_after_move from to other)
-            ↔ Descendant (S.slots store.old) root other }
+        ↔ Descendant (S.slots store.old) root other }
 {
     store.relocate(from, to);
 }

@@ -48,7 +48,11 @@ pub enum Cap {
     },
     /// A CNode of 2^`radix` slots. The guard word has the guard's size in its low 5 bits and the
     /// guard above them.
-    CNode { offset: u32, radix: u8, guard: u32 },
+    CNode {
+        offset: u32,
+        radix: u8,
+        guard: u32,
+    },
     /// A frame of 4096 bytes, and where it is mapped by this capability.
     Frame {
         offset: u32,
@@ -61,11 +65,17 @@ pub enum Cap {
         mapping: Option<TableMapping>,
     },
     /// A thread control block.
-    Tcb { offset: u32 },
+    Tcb {
+        offset: u32,
+    },
     /// The root table of an address space.
-    RootTable { offset: u32 },
+    RootTable {
+        offset: u32,
+    },
     /// The right to make handlers of interrupt lines.
     InterruptControl,
     /// The handler of one line, 0 to 63.
-    InterruptHandler { line: u8 },
+    InterruptHandler {
+        line: u8,
+    },
 }

@@ -7,7 +7,6 @@ mod plain;
 mod probes;
 mod stores;
 mod table;
-
 #[cfg(test)]
 mod tests;
 
