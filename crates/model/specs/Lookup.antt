@@ -1,5 +1,5 @@
 -- Capability lookup: which slot an address names in a capability space.
--- seL4 Reference Manual, 3.3 "Capability Space Addressing".
+-- seL4 Reference Manual, "Capability Space Addressing".
 use Rattle.std.specs.Prelude.{ℕ, zero, suc, ◌==◌, ◌+◌, ◌-◌, ◌/◌, ◌%◌, ◌^◌, ◌||◌, ◌<◌, Bool, true, false, not, nat_lt, if◌then◌else◌, ⊤, Result, Ok, Err}
 use Rattle.model.specs.Slots.{Slots, IsOpen, capability_at}
 use Rattle.model.specs.declared.capabilities.Cap.{Cap}
