@@ -1,5 +1,5 @@
 //! Capability lookup over any map of slots.
-//! seL4 Reference Manual, 3.3 "Capability Space Addressing".
+//! seL4 Reference Manual, "Capability Space Addressing".
 #![tactic(auto)]
 
 mod lookups;

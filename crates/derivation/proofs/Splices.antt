@@ -1,8 +1,8 @@
 -- A slot taken out leaves the descent of the others as it was.
-use Rattle.std.proofs.Common.{ℕ, ◌≡◌, ◌≢◌, ◌∙◌, ◌==◌, inl, inr, Option, Some, None, true, false, if◌then◌else◌, refl, sym, ap, arith}
+use Rattle.std.proofs.Common.{ℕ, ◌≡◌, ◌≢◌, ◌∙◌, ◌==◌, inl, inr, Some, None, true, false, if◌then◌else◌, refl, sym, ap, arith}
 use Rattle.std.proofs.lemmas.Bool.Decides.{eqb_tells}
 use Rattle.std.proofs.lemmas.Bool.{ne_eqb}
-use Rattle.model.specs.Slots.{Slots, Descendant, child, deeper, IsDerivation, depth_of, empty_entry, parent_at, spliced, with_parent}
+use Rattle.model.specs.Slots.{Slots, Descendant, child, deeper, IsDerivation, empty_entry, parent_at, spliced, with_parent}
 use Rattle.slots.proofs.Changes.{entry-other, entry-same, parent-adopted, parent_of}
 use Rattle.slots.proofs.Depths.{adopted_parent, depth-own_parent}
 

@@ -1,5 +1,5 @@
 -- Which slots descend from a slot, as a test and as a list.
--- seL4 Reference Manual, 3.1.4 "Capability Derivation Tree".
+-- seL4 Reference Manual, "Capability Derivation Tree".
 use Rattle.std.specs.Prelude.{ℕ, zero, suc, ◌==◌, ◌||◌, Bool, false, Option, List, filter, if◌then◌else◌}
 use Rattle.std.specs.Option.{option_map_or}
 use Rattle.model.specs.Slots.{Slots, depth_of, parent_at}

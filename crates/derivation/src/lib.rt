@@ -1,5 +1,5 @@
 //! Derivation of capabilities over any store of slots.
-//! seL4 Reference Manual, 3.1.4 "Capability Derivation Tree".
+//! seL4 Reference Manual, "Capability Derivation Tree".
 #![tactic(auto)]
 
 mod changes;

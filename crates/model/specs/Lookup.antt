@@ -1,11 +1,11 @@
 -- Capability lookup: which slot an address names in a capability space.
--- seL4 Reference Manual, 3.3 "Capability Space Addressing".
+-- seL4 Reference Manual, "Capability Space Addressing".
 use Rattle.std.specs.Prelude.{ℕ, zero, suc, ◌==◌, ◌+◌, ◌-◌, ◌/◌, ◌%◌, ◌^◌, ◌||◌, ◌<◌, Bool, true, false, not, nat_lt, if◌then◌else◌, ⊤, Result, Ok, Err}
 use Rattle.model.specs.Slots.{Slots, IsOpen, capability_at}
 use Rattle.model.specs.declared.capabilities.Cap.{Cap}
 use Rattle.model.specs.declared.capabilities.Cap.TheVariants.{Empty, Untyped, Endpoint, Notification, CNode, Frame, PageTable, Tcb, RootTable, InterruptControl, InterruptHandler}
 use Rattle.model.specs.declared.lookup_failures.LookupFailure.{LookupFailure}
-use Rattle.model.specs.declared.lookup_failures.LookupFailure.TheVariants.{InvalidRoot, MissingCapability, DepthMismatch, GuardMismatch}
+use Rattle.model.specs.declared.lookup_failures.LookupFailure.TheVariants.{InvalidRoot, DepthMismatch, GuardMismatch}
 
 -- one CNode takes its guard and then its index from the high end of the bits that are left: the index,
 -- and how many bits are left behind it

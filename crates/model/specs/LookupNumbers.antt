@@ -1,5 +1,5 @@
 -- The numbers that a fault message has for a lookup's failure.
--- seL4 Reference Manual, 3.4 "Lookup Failure Description".
+-- seL4 Reference Manual, "Lookup Failure Description".
 use Rattle.std.specs.Prelude.{ℕ}
 use Rattle.model.specs.declared.lookup_failures.LookupFailure.{LookupFailure}
 use Rattle.model.specs.declared.lookup_failures.LookupFailure.TheVariants.{InvalidRoot, MissingCapability, DepthMismatch, GuardMismatch}

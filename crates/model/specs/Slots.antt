@@ -1,5 +1,5 @@
 -- Capability slots and derivation: which slots are open, what each holds, and how a call changes them.
--- seL4 Reference Manual, 3.1.4 "Capability Derivation Tree".
+-- seL4 Reference Manual, "Capability Derivation Tree".
 use Rattle.std.specs.Prelude.{ℕ, zero, suc, ◌≡◌, ◌==◌, ◌+◌, ◌/◌, ◌<◌, ◌≤◌, ◌&&◌, Bool, true, false, not, nat_le, nat_lt, if◌then◌else◌, IsTrue, IsSome, Option, Some, None, List, length, slice_index}
 use Rattle.std.specs.Option.{option_map, option_map_or}
 use Rattle.model.specs.CapabilityWords.{IsCapability}

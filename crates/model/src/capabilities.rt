@@ -1,4 +1,4 @@
-//! Capabilities: what a slot holds. seL4 Reference Manual, 2.1 "Kernel Objects" and 3 "Capability
+//! Capabilities: what a slot holds. seL4 Reference Manual, "Kernel Objects" and "Capability
 //! Spaces".
 
 use crate::Rights;

@@ -1,4 +1,4 @@
-//! Why a capability address names no slot. seL4 Reference Manual, 3.4 "Lookup Failure Description".
+//! Why a capability address names no slot. seL4 Reference Manual, "Lookup Failure Description".
 
 ghost use Rattle.std.specs.Prelude.{◌≡◌};
 ghost use Rattle.model.specs.LookupNumbers.{bits_left_of, failure_number};

@@ -1,5 +1,5 @@
 //! What a capability or a mapping lets its holder do.
-//! seL4 Reference Manual, 3.1.4 "Capability Derivation Tree" and 4.2 "Capability Rights".
+//! seL4 Reference Manual, "Capability Derivation Tree" and "Capability Rights".
 
 ghost use Rattle.std.specs.Prelude.{⊤, ◌≡◌, [], ◌∷◌, bit_and, codes};
 

@@ -1,5 +1,5 @@
 //! Where retype places new objects in an untyped.
-//! seL4 Reference Manual, 2.4.1 "Reusing Memory".
+//! seL4 Reference Manual, "Reusing Memory".
 #![tactic(auto)]
 
 mod placing;

@@ -1,6 +1,6 @@
 use super::files::{bell, bell_with, name_of, program, verify_file};
 use crate::commands::command;
-use crate::sinks::MemorySink;
+use crate::sinks::{MemorySink, Sink, WriterSink};
 use std::fs;
 use std::test::Fail;
 
@@ -99,5 +99,22 @@ fn an_output_that_takes_nothing_is_told(rt: HostRuntime) -> Result<(), Fail> {
     let mut output = MemorySink::new(rt.alloc(), 0);
     let mut errors = MemorySink::new(rt.alloc(), 0);
     assert_eq!(rt; command(&rt, &["what"], &mut output, &mut errors), 2);
+    Ok(())
+}
+
+#[test]
+fn a_full_device_is_told(rt: HostRuntime) -> Result<(), Fail> {
+    let image = name_of(&rt, "device.img")?;
+    let list = name_of(&rt, "device.events")?;
+    fs::write(&rt, image.as_str(), bell(rt.alloc())?.as_slice())?;
+    fs::write(&rt, list.as_str(), "step\n")?;
+    let words = ["run", image.as_str(), list.as_str()];
+    let mut output = WriterSink::new(fs::create(&rt, "/dev/full")?);
+    let mut errors = MemorySink::new(rt.alloc(), 100);
+    assert_eq!(rt; command(&rt, &words, &mut output, &mut errors), 3);
+    assert_eq!(rt; errors.bytes(), b"output\n".as_slice());
+    assert_eq!(rt; output.failures(), 1);
+    fs::remove_file(&rt, image.as_str())?;
+    fs::remove_file(&rt, list.as_str())?;
     Ok(())
 }
