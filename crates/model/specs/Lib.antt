@@ -1,5 +1,7 @@
 pub mod Bytes
+pub mod CapabilityFields
 pub mod CapabilityWords
+pub mod Edges
 pub mod Faults
 pub mod Format
 pub mod Image
@@ -8,8 +10,10 @@ pub mod Interrupts
 pub mod Labels
 pub mod Lookup
 pub mod LookupNumbers
+pub mod Measures
 pub mod Messages
 pub mod Placement
+pub mod RangeRules
 pub mod Ranges
 pub mod Refusals
 pub mod Rights
