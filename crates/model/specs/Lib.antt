@@ -13,6 +13,7 @@ pub mod LookupNumbers
 pub mod Measures
 pub mod Messages
 pub mod Placement
+pub mod Places
 pub mod RangeRules
 pub mod Ranges
 pub mod Refusals
