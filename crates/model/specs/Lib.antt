@@ -1,10 +1,14 @@
+pub mod AddressSpaces
+pub mod Arguments
 pub mod Bytes
+pub mod Capabilities
 pub mod CapabilityWords
 pub mod Faults
 pub mod Format
 pub mod Image
 pub mod Instructions
 pub mod Interrupts
+pub mod Invocations
 pub mod Labels
 pub mod Lookup
 pub mod LookupNumbers
@@ -12,8 +16,12 @@ pub mod Messages
 pub mod Placement
 pub mod Ranges
 pub mod Refusals
+pub mod Removal
+pub mod Retype
 pub mod Rights
 pub mod Scheduling
 pub mod Slots
 pub mod State
+pub mod Steps
 pub mod Trace
+pub mod Waits
