@@ -8,6 +8,7 @@ use Rattle.model.specs.declared.capabilities.Cap.{Cap}
 use Rattle.model.specs.declared.capabilities.Cap.TheVariants.{Empty, Untyped, Endpoint, Notification, CNode, Frame, PageTable, Tcb, RootTable, InterruptControl, InterruptHandler}
 use Rattle.model.specs.declared.capabilities.FrameMapping.{FrameMapping}
 use Rattle.model.specs.declared.capabilities.TableMapping.{TableMapping}
+use Rattle.model.specs.Capabilities.{is_guard_word}
 use Rattle.model.specs.CapabilityWords.{words_of}
 use Rattle.model.specs.Rights.{rights}
 
@@ -49,9 +50,6 @@ are_endpoint_rights bits = bit_and bits 11 == bits
 
 abbrev pub are_mapping_rights : ℕ → Bool
 are_mapping_rights bits = list_any (nat_eq bits) (2 ∷ 3 ∷ 4 ∷ 6 ∷ 7 ∷ [])
-
-abbrev pub is_guard_word : ℕ → ℕ → Bool
-is_guard_word radix word = nat_lt word (2 ^ 23) && nat_lt (word / 2 ^ 5) (2 ^ (word % 2 ^ 5)) && nat_le (word % 2 ^ 5 + radix) 32
 
 abbrev pub is_badge : ℕ → Bool
 is_badge n = nat_lt n (2 ^ 28)

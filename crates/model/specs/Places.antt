@@ -1,47 +1,13 @@
 -- Where an image's objects stand in memory, and which boot slot holds what.
 -- seL4 Reference Manual, "Reusing Memory", for the placement.
-use Rattle.std.specs.Prelude.{ℕ, ◌==◌, ◌+◌, ◌-◌, ◌*◌, ◌^◌, Bool, nat_le, List, take, slice_index_or, fold, if◌then◌else◌}
+use Rattle.std.specs.Prelude.{ℕ, ◌==◌, ◌+◌, ◌-◌, ◌*◌, ◌^◌, Bool, false, nat_le, Option, None, List, take, slice_index_or, fold, if◌then◌else◌}
+use Rattle.std.specs.Option.{option_map_or}
 use Rattle.model.specs.declared.entries.UntypedEntry.{UntypedEntry}
 use Rattle.model.specs.declared.entries.ObjectEntry.{ObjectEntry}
 use Rattle.model.specs.Image.{Image}
 use Rattle.model.specs.Placement.{align, place_of_object}
+use Rattle.model.specs.Retype.{NewObject, type_of, object_bits}
 use Rattle.model.specs.State.{slot_of}
-
--- ---- the kinds of objects, by their numbers
-
-abbrev pub untyped_kind : ℕ
-untyped_kind = 1
-
-abbrev pub thread_kind : ℕ
-thread_kind = 2
-
-abbrev pub endpoint_kind : ℕ
-endpoint_kind = 3
-
-abbrev pub notification_kind : ℕ
-notification_kind = 4
-
-abbrev pub cnode_kind : ℕ
-cnode_kind = 5
-
-abbrev pub frame_kind : ℕ
-frame_kind = 6
-
-abbrev pub table_kind : ℕ
-table_kind = 7
-
-abbrev pub root_kind : ℕ
-root_kind = 8
-
--- an object has 2 ^ bits bytes, by its kind and its size field
-abbrev pub bits_of : ℕ → ℕ → ℕ
-bits_of kind size =
-    if kind == untyped_kind then size
-    else if kind == thread_kind then 9
-    else if kind == endpoint_kind then 4
-    else if kind == notification_kind then 4
-    else if kind == cnode_kind then size + 4
-    else 12
 
 -- ---- the image's untypeds and objects, by their numbers
 
@@ -51,19 +17,18 @@ untyped_at image number = slice_index_or image.untypeds number (record { offset 
 abbrev pub object_at : Image → ℕ → ObjectEntry
 object_at image number = slice_index_or image.objects number (record { untyped = 0; kind = 0; size = 0 })
 
-abbrev pub kind_of : Image → ℕ → ℕ
-kind_of image number = (object_at image number).kind
+-- what an object is
+abbrev pub type_at : Image → ℕ → Option NewObject
+type_at image number = type_of (object_at image number).kind (object_at image number).size
 
-abbrev pub has_kind : Image → ℕ → ℕ → Bool
-has_kind image kind number = kind_of image number == kind
-
-abbrev pub entry_bits : ObjectEntry → ℕ
-entry_bits o = bits_of o.kind o.size
+-- an object has 2 ^ bits bytes
+abbrev pub bits_of : ObjectEntry → ℕ
+bits_of o = option_map_or object_bits (type_of o.kind o.size) 0
 
 -- how much of an untyped is used behind these objects, each of which stands behind the ones before it
 unfoldable pub used_by : List ObjectEntry → ℕ → ℕ
 used_by objects untyped =
-    fold (λ used o. if o.untyped == untyped then place_of_object used (entry_bits o) 1 else used) 0 objects
+    fold (λ used o. if o.untyped == untyped then place_of_object used (bits_of o) 1 else used) 0 objects
 
 -- the watermark of an untyped behind all of the image's objects
 abbrev pub watermark_of : Image → ℕ → ℕ
@@ -77,18 +42,14 @@ used_before image number = used_by (take number image.objects) (object_at image 
 unfoldable pub offset_of : Image → ℕ → ℕ
 offset_of image number =
     let o = object_at image number in
-    (untyped_at image o.untyped).offset + align (used_before image number) (2 ^ entry_bits o)
-
--- the slots that an object of this kind and size has
-abbrev pub slots_in : ObjectEntry → ℕ
-slots_in o = if o.kind == cnode_kind then 2 ^ o.size else if o.kind == thread_kind then 2 else 0
+    (untyped_at image o.untyped).offset + align (used_before image number) (2 ^ bits_of o)
 
 -- slot i of a CNode object
 abbrev pub cnode_slot : Image → ℕ → ℕ → ℕ
 cnode_slot image cnode i = slot_of (offset_of image cnode) i
 
 -- ---- the boot slots
--- Boot slot i is slot i: the boot CNode stands at offset 0. Untypeds come first, by their numbers.
+-- The boot CNode stands at offset 0, so boot slot i is slot i. Untypeds come first, by their numbers.
 
 -- the first capability to an object
 abbrev pub original_slot : Image → ℕ → ℕ
@@ -114,9 +75,15 @@ notification_copy_slot image interrupt =
 abbrev pub boot_slots : Image → ℕ
 boot_slots image = control_slot image + 1 + 2 * image.header.interrupts + image.header.frames
 
--- a capability's source names an object, or behind the objects the handler of an interrupt
+-- ---- the sources of listed capabilities: an object, or behind the objects the handler of an interrupt
+
 abbrev pub is_handler : Image → ℕ → Bool
 is_handler image source = nat_le image.header.objects source
 
 abbrev pub interrupt_of : Image → ℕ → ℕ
 interrupt_of image source = source - image.header.objects
+
+-- where the loader has the source
+abbrev pub source_slot : Image → ℕ → ℕ
+source_slot image source =
+    if is_handler image source then handler_slot image (interrupt_of image source) else original_slot image source

@@ -42,17 +42,17 @@ at_tail s thread =
     let priority = (thread_at s thread).priority in
     record s { ready = put s.ready priority (s.ready priority ++ thread ∷ []) }
 
+-- a thread goes to the tail of its priority
+abbrev pub to_tail : State → ℕ → State
+to_tail s thread = at_tail (unready s thread) thread
+
 -- A thread that does not run is made runnable: it goes to the tail, with a full slice.
 abbrev pub wake : State → ℕ → State
-wake s thread = at_tail (with_thread s thread (record (thread_at s thread) { status = Runnable; slice = full_slice })) thread
+wake s thread = to_tail (with_thread s thread (record (thread_at s thread) { status = Runnable; slice = full_slice })) thread
 
 -- A thread stops running, for this reason.
 abbrev pub block : State → ℕ → Status → State
 block s thread status = with_thread (unready s thread) thread (record (thread_at s thread) { status = status })
-
--- a runnable thread goes to the tail of its priority
-abbrev pub to_tail : State → ℕ → State
-to_tail s thread = at_tail (unready s thread) thread
 
 -- a runnable thread goes to the tail, with a full slice
 abbrev pub yielded : State → ℕ → State
