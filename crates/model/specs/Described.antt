@@ -1,21 +1,20 @@
 -- The state that an image describes, written outright: what its memory, slots and threads are once it is loaded.
 -- seL4 Reference Manual, "System Bootstrapping", for what a loader sets up; the boot slots are this project's own.
-use Rattle.std.specs.Prelude.{ℕ, ◌==◌, ◌+◌, ◌-◌, ◌*◌, ◌/◌, ◌%◌, ◌^◌, Bool, true, false, not, ◌||◌, ◌&&◌, nat_lt, Option, Some, None, option_map, option_and_then, List, [], ◌∷◌, ◌++◌, map, filter, filter_map, find, flat_map, fold, take, drop, length, reverse, replicate, slice_get, slice_index, slice_index_or, slice_set, if◌then◌else◌}
+use Rattle.std.specs.Prelude.{ℕ, ◌==◌, ◌+◌, ◌*◌, ◌/◌, ◌%◌, ◌^◌, Bool, false, not, ◌||◌, ◌&&◌, nat_lt, Option, Some, None, option_map, option_and_then, List, [], ◌∷◌, ◌++◌, map, filter, find, flat_map, fold, replicate, slice_get, slice_set, if◌then◌else◌}
 use Rattle.std.specs.Option.{option_map_or}
 use Rattle.std.specs.List.{enumerate_from, list_any, range_with_len}
 use Rattle.model.specs.declared.capabilities.Cap.{Cap}
-use Rattle.model.specs.declared.capabilities.Cap.TheVariants.{Empty, Untyped, Endpoint, Notification, CNode, Frame, PageTable, Tcb, RootTable, InterruptControl, InterruptHandler}
+use Rattle.model.specs.declared.capabilities.Cap.TheVariants.{Empty, Untyped, Endpoint, Notification, Frame, InterruptControl, InterruptHandler}
+use Rattle.model.specs.declared.capabilities.FrameMapping.{FrameMapping}
 use Rattle.model.specs.declared.entries.UntypedEntry.{UntypedEntry}
 use Rattle.model.specs.declared.entries.CapabilityEntry.{CapabilityEntry}
 use Rattle.model.specs.declared.entries.InterruptEntry.{InterruptEntry}
 use Rattle.model.specs.declared.entries.FrameEntry.{FrameEntry}
-use Rattle.model.specs.declared.entries.TableEntry.{TableEntry}
 use Rattle.model.specs.declared.slot_entries.Entry.{Entry}
 use Rattle.model.specs.AddressSpaces.{page_size, region_pages}
 use Rattle.model.specs.Capabilities.{is_untyped, with_payload, with_table_mapping}
 use Rattle.model.specs.Fills.{described_bytes}
 use Rattle.model.specs.Image.{Image, Thread}
-use Rattle.model.specs.Instructions.{RegisterFile}
 use Rattle.model.specs.Places.{control_slot, cnode_slot, frame_copy_slot, handler_slot, interrupt_of, is_handler, notification_copy_slot, object_at, offset_of, original_slot, source_slot, type_at, watermark_of}
 use Rattle.model.specs.Removal.{slot_count}
 use Rattle.model.specs.Retype.{first_capability, object}
@@ -71,7 +70,7 @@ handler_holding image i = holding (handler_slot image i.0) (InterruptHandler (i.
 
 abbrev pub frame_holding : Image → ℕ × FrameEntry → Holding
 frame_holding image f =
-    let mapping = record { root = offset_of image (f.1).root; page = (f.1).address / page_size; rights = mapping_rights frame_rights (f.1).rights } in
+    let mapping : FrameMapping = record { root = offset_of image (f.1).root; page = (f.1).address / page_size; rights = mapping_rights frame_rights (f.1).rights } in
     holding (frame_copy_slot image f.0) (Frame (offset_of image (f.1).frame) frame_rights (Some mapping)) (Some (original_slot image (f.1).frame))
 
 -- what signals an interrupt's notification, with its badge

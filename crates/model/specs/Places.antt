@@ -1,6 +1,6 @@
 -- Where an image's objects stand in memory, and which boot slot holds what.
 -- seL4 Reference Manual, "Reusing Memory", for the placement.
-use Rattle.std.specs.Prelude.{ℕ, ◌==◌, ◌+◌, ◌-◌, ◌*◌, ◌^◌, Bool, false, nat_le, Option, None, List, take, slice_index_or, fold, if◌then◌else◌}
+use Rattle.std.specs.Prelude.{ℕ, ◌==◌, ◌+◌, ◌-◌, ◌*◌, ◌^◌, Bool, nat_le, Option, List, take, slice_index_or, fold, if◌then◌else◌}
 use Rattle.std.specs.Option.{option_map_or}
 use Rattle.model.specs.declared.entries.UntypedEntry.{UntypedEntry}
 use Rattle.model.specs.declared.entries.ObjectEntry.{ObjectEntry}
