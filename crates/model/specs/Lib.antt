@@ -26,9 +26,12 @@ pub mod Refusals
 pub mod Removal
 pub mod Retype
 pub mod Rights
+pub mod Rules
 pub mod Scheduling
 pub mod Slots
 pub mod State
 pub mod Steps
+pub mod ThreadRules
 pub mod Trace
 pub mod Waits
+pub mod WellFormed
