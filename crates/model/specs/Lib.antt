@@ -18,6 +18,7 @@ pub mod Lookup
 pub mod LookupNumbers
 pub mod Measures
 pub mod Messages
+pub mod NotedStates
 pub mod Placement
 pub mod Places
 pub mod RangeRules
