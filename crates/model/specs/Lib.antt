@@ -1,6 +1,7 @@
 pub mod AddressSpaces
 pub mod Arguments
 pub mod Bytes
+pub mod CallRules
 pub mod Capabilities
 pub mod CapabilityFields
 pub mod CapabilityWords
@@ -18,6 +19,7 @@ pub mod Lookup
 pub mod LookupNumbers
 pub mod Measures
 pub mod Messages
+pub mod NotedKernel
 pub mod NotedStates
 pub mod Placement
 pub mod Places
