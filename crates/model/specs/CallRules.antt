@@ -1,6 +1,6 @@
 -- The system calls that a program may make: what has to be known of each, and what is known behind it.
 -- seL4 Reference Manual, "System Calls", for the calls; which of them are accepted is this project's own.
-use Rattle.std.specs.Prelude.{ℕ, ◌==◌, ◌-◌, ◌/◌, ◌%◌, ◌^◌, Bool, true, false, not, ◌&&◌, ◌||◌, nat_le, Some, Result, Ok, Err, List, [], ◌∷◌, fold, replicate, take, if◌then◌else◌}
+use Rattle.std.specs.Prelude.{ℕ, ◌==◌, ◌-◌, ◌/◌, ◌%◌, ◌^◌, Bool, true, false, not, ◌&&◌, ◌||◌, nat_le, Option, Some, None, Result, Ok, Err, List, [], ◌∷◌, fold, replicate, take, if◌then◌else◌}
 use Rattle.std.specs.Option.{option_map_or}
 use Rattle.model.specs.declared.capabilities.Cap.{Cap}
 use Rattle.model.specs.declared.capabilities.Cap.TheVariants.{Untyped, Endpoint, Notification, CNode, Frame, InterruptHandler}
@@ -222,22 +222,31 @@ by_capability image t at state call =
       slot ← found_slot at (called_slot slots (noted_root image t) address)
       on_capability image t at state call slot (capability_at slots slot)
 
+pub data SystemCall : Type 0 where
+  WithCapability : CapabilityCall → SystemCall
+  -- it needs nothing, and changes neither registers nor slots
+  WithNothing : SystemCall
+
 -- Call, ReplyRecv, Send, NBSend, Recv, Reply, Yield, NBRecv, PutChar
-abbrev pub by_number : Image → Thread → Point → PointState → ℕ → Result AfterCall Refusal
-by_number image t at state number =
-    if number == 1 then by_capability image t at state (SendCall Calls) else
-    if number == 2 then by_capability image t at state (ReceiveCall true) else
-    if number == 3 then by_capability image t at state (SendCall Sends) else
-    if number == 4 then by_capability image t at state (SendCall Tries) else
-    if number == 5 then by_capability image t at state (ReceiveCall true) else
-    if number == 6 then Ok (changes_nothing state false) else
-    if number == 7 then Ok (changes_nothing state false) else
-    if number == 8 then by_capability image t at state (ReceiveCall false) else
-    if number == 9 then Ok (changes_nothing state false) else
-    Err (CallRefused at IllegalOperation)
+abbrev pub system_call_of : ℕ → Option SystemCall
+system_call_of number =
+    if number == 1 then Some (WithCapability (SendCall Calls)) else
+    if number == 2 then Some (WithCapability (ReceiveCall true)) else
+    if number == 3 then Some (WithCapability (SendCall Sends)) else
+    if number == 4 then Some (WithCapability (SendCall Tries)) else
+    if number == 5 then Some (WithCapability (ReceiveCall true)) else
+    if number == 6 then Some WithNothing else
+    if number == 7 then Some WithNothing else
+    if number == 8 then Some (WithCapability (ReceiveCall false)) else
+    if number == 9 then Some WithNothing else None
+
+abbrev pub by_number : Image → Thread → Point → PointState → Option SystemCall → Result AfterCall Refusal
+by_number image t at state (Some (WithCapability call)) = by_capability image t at state call
+by_number image t at state (Some WithNothing) = Ok (changes_nothing state false)
+by_number image t at state None = Err (CallRefused at IllegalOperation)
 
 -- What is known behind the system call at a point, or why it is refused.
 unfoldable pub after_call : Image → Thread → Point → PointState → Result AfterCall Refusal
 after_call image t at state = do
   number ← known at state a7
-  by_number image t at state number
+  by_number image t at state (system_call_of number)

@@ -1,3 +1,4 @@
+pub mod Accepted
 pub mod AddressSpaces
 pub mod Arguments
 pub mod Bytes
@@ -23,6 +24,8 @@ pub mod NotedKernel
 pub mod NotedStates
 pub mod Placement
 pub mod Places
+pub mod PointRules
+pub mod PointStates
 pub mod RangeRules
 pub mod Ranges
 pub mod Refusals
