@@ -1,0 +1,10 @@
+//! Laws on the definitions of `model` alone: rows worked by computation. No function here does anything;
+//! its contract is the law.
+#![tactic(auto)]
+
+mod image_rows;
+
+pub use image_rows::{
+    solo_has_one_length, solo_is_accepted, solo_needs_its_budget, solo_needs_its_range,
+    solo_reads_what_it_writes, solo_stands_behind_the_boot_area,
+};
