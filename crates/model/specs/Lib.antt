@@ -1,6 +1,8 @@
 pub mod Accepted
 pub mod AddressSpaces
 pub mod Arguments
+pub mod Boot
+pub mod BootCalls
 pub mod Bytes
 pub mod CallRules
 pub mod Capabilities
@@ -16,6 +18,7 @@ pub mod Instructions
 pub mod Interrupts
 pub mod Invocations
 pub mod Labels
+pub mod Listing
 pub mod Lookup
 pub mod LookupNumbers
 pub mod Measures
