@@ -1,7 +1,11 @@
 -- The image that rows are worked on: a thread that counts x5 down from 10, and then waits for line 3 again and again.
-use Rattle.std.specs.Prelude.{ℕ, List, [], ◌∷◌, ◌++◌, flat_map}
+use Rattle.std.specs.Prelude.{ℕ, Result, Ok, Err, List, [], ◌∷◌, ◌++◌, flat_map}
 use Rattle.model.specs.declared.refusals.Point.{Point}
+use Rattle.model.specs.declared.ranges.Range.{Range}
+use Rattle.model.specs.declared.refusals.Refusal.{Refusal}
 use Rattle.model.specs.Bytes.{word_bytes}
+use Rattle.model.specs.Format.{reading}
+use Rattle.model.specs.Image.{Image, whole_image}
 
 -- the header and the sections before the thread, by words
 abbrev pub solo_front : List ℕ
@@ -32,3 +36,28 @@ solo = bytes_of (solo_words 24 1)
 
 abbrev pub at_point : ℕ → ℕ → Point
 at_point thread point = record { thread = thread; point = point }
+
+-- the image that the bytes are read as
+abbrev pub empty_image : Image
+empty_image = record {
+  header = record { version = 0; memory_bits = 0; boot_radix = 0; untypeds = 0; objects = 0; capabilities = 0; interrupts = 0; tables = 0; frames = 0; contents = 0; threads = 0 };
+  untypeds = [];
+  objects = [];
+  capabilities = [];
+  interrupts = [];
+  tables = [];
+  frames = [];
+  contents = [];
+  threads = [];
+}
+
+abbrev pub read_or_empty : Result Image Refusal → Image
+read_or_empty (Ok image) = image
+read_or_empty (Err refusal) = empty_image
+
+unfoldable pub solo_image : Image
+solo_image = read_or_empty (reading whole_image solo)
+
+-- the range of a register
+abbrev pub range : ℕ → ℕ → Range
+range low high = record { low = low; high = high }

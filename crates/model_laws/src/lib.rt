@@ -3,8 +3,12 @@
 #![tactic(auto)]
 
 mod image_rows;
+mod loading_rows;
 
 pub use image_rows::{
     solo_has_one_length, solo_is_accepted, solo_needs_its_budget, solo_needs_its_range,
     solo_reads_what_it_writes, solo_stands_behind_the_boot_area,
+};
+pub use loading_rows::{
+    solo_is_listed, solo_objects_stand_at, solo_slots_hold, solo_starts_with, solo_takes_calls,
 };
