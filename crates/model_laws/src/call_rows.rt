@@ -52,3 +52,12 @@ pub fn worker_may_not_call()
     ensures right { refused_as (behind_call ((17, 5) ∷ (10, 5) ∷ []) worker_slots) ≡ Some (CapNotThere (at_point 0 0)) }
     ensures send { refused_as (behind_call (sends 5 0 []) worker_slots) ≡ None }
 {}
+
+/// A frame is mapped at a free page of a region that has a page table.
+#[tactic(auto, unfolding(crate::proofs::Opened::opened))]
+pub fn worker_maps_frames()
+    ensures { slots_behind (behind_call (sends 4 0xD004 ((12, 3) ∷ (13, 32) ∷ (14, 0x3000) ∷ (15, 3) ∷ []))
+        (slot_in 3 (RootTable 0x9000) None ∷ slot_in 4 (Frame 0xC000 (rights 3) None) None ∷ []))
+        ≡ Some (slot_in 3 (RootTable 0x9000) None
+        ∷ slot_in 4 (Frame 0xC000 (rights 3) (Some (record { root = 0x9000; page = 3; rights = rights 3 }))) None ∷ []) }
+{}
