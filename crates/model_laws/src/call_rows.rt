@@ -61,3 +61,10 @@ pub fn worker_maps_frames()
         ≡ Some (slot_in 3 (RootTable 0x9000) None
         ∷ slot_in 4 (Frame 0xC000 (rights 3) (Some (record { root = 0x9000; page = 3; rights = rights 3 }))) None ∷ []) }
 {}
+
+/// The endpoint's capability is deleted.
+#[tactic(auto, unfolding(crate::proofs::Opened::opened))]
+pub fn worker_deletes()
+    ensures { slots_behind (behind_call (sends 2 0xB002 ((12, 5) ∷ (13, 32) ∷ [])) worker_slots)
+        ≡ Some (slot_in 1 (Untyped 0xC000 13 0) None ∷ slot_in 2 (CNode 0xB200 4 28) None ∷ slot_in 3 (RootTable 0x9000) None ∷ []) }
+{}

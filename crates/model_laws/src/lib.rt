@@ -7,7 +7,8 @@ mod image_rows;
 mod loading_rows;
 
 pub use call_rows::{
-    worker_has, worker_keeps_its_pool, worker_makes_frames, worker_maps_frames, worker_may_not_call,
+    worker_deletes, worker_has, worker_keeps_its_pool, worker_makes_frames, worker_maps_frames,
+    worker_may_not_call,
 };
 pub use image_rows::{
     solo_has_one_length, solo_is_accepted, solo_needs_its_budget, solo_needs_its_range,
