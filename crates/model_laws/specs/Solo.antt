@@ -61,3 +61,11 @@ solo_image = read_or_empty (reading whole_image solo)
 -- the range of a register
 abbrev pub range : ℕ → ℕ → Range
 range low high = record { low = low; high = high }
+
+-- the image with other rights for its data page, or with its untyped memory elsewhere
+abbrev pub solo_mapped : ℕ → Image
+solo_mapped rights =
+    record solo_image { frames = record { root = 1; address = 0x1000; frame = 0; rights = 4 } ∷ record { root = 1; address = 0x2000; frame = 3; rights = rights } ∷ [] }
+
+abbrev pub solo_at : ℕ → Image
+solo_at offset = record solo_image { untypeds = record { offset = offset; bits = 15 } ∷ [] }

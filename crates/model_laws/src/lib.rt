@@ -2,10 +2,12 @@
 //! its contract is the law.
 #![tactic(auto)]
 
+mod boot_rows;
 mod call_rows;
 mod image_rows;
 mod loading_rows;
 
+pub use boot_rows::{solo_boots, solo_boots_behind_the_boot_area, solo_boots_with_mappings};
 pub use call_rows::{
     worker_deletes, worker_has, worker_keeps_its_pool, worker_makes_frames, worker_maps_frames,
     worker_may_not_call,
