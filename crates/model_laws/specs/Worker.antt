@@ -1,10 +1,12 @@
 -- A thread with a pool: untyped memory of 2^13 bytes in slot 1 of its CNode, the CNode in slot 2, its root table in slot 3,
 -- and an endpoint that it may send to in slot 5.
-use Rattle.std.specs.Prelude.{ℕ, pos, Option, Some, None, Result, Ok, Err, List, [], ◌∷◌, fold}
+use Rattle.std.specs.Prelude.{ℕ, pos, Option, Some, None, Result, Ok, Err, List, [], ◌∷◌, fold, length, slice_set}
 use Rattle.model.specs.declared.capabilities.Cap.{Cap}
+use Rattle.model.specs.declared.entries.RangeEntry.{RangeEntry}
+use Rattle.model.specs.declared.entries.SlotEntry.{SlotEntry}
 use Rattle.model.specs.declared.refusals.Refusal.{Refusal}
 use Rattle.model.specs.CallRules.{AfterCall, after_call}
-use Rattle.model.specs.Image.{Image, Thread}
+use Rattle.model.specs.Image.{Image, StateRecord, Thread, no_parent}
 use Rattle.model.specs.Measures.{register_numbered}
 use Rattle.model.specs.NotedStates.{NotedSlot, PointState, SlotKey, full_ranges, image_slots}
 use Rattle.model.specs.Ranges.{single, with_range}
@@ -69,3 +71,54 @@ worker_slots = image_slots worker_image worker_thread
 -- what a call of the worker leaves
 abbrev pub behind_call : List (ℕ × ℕ) → List NotedSlot → Result AfterCall Refusal
 behind_call known slots = after_call worker_image worker_thread (at_point 0 0) (state_with known slots)
+
+-- ---- the worker's loop
+
+-- The program, a word a line: jump behind the Revoke; Revoke the pool; Retype one frame into slot 4; Map it at 0x3000;
+-- store; Send to the endpoint; jump back to the Revoke.
+abbrev pub loop_words : List ℕ
+loop_words =
+    0x0200006F ∷ 0x00300893 ∷ 0x00200513 ∷ 0x0000C5B7 ∷ 0x00258593 ∷ 0x00100613 ∷ 0x02000693 ∷ 0x00000073
+    ∷ 0x00300893 ∷ 0x00100513 ∷ 0x000015B7 ∷ 0x00658593 ∷ 0x00600613 ∷ 0x00000693 ∷ 0x00000713 ∷ 0x00000793
+    ∷ 0x00400913 ∷ 0x00100993 ∷ 0x00000073 ∷ 0x00400513 ∷ 0x0000D5B7 ∷ 0x00458593 ∷ 0x00300613 ∷ 0x02000693
+    ∷ 0x00003737 ∷ 0x00300793 ∷ 0x00000073 ∷ 0x00072023 ∷ 0x00500513 ∷ 0x00000593 ∷ 0x00000073 ∷ 0xF89FF06F ∷ []
+
+-- the pool with a frame made, and the frame mapped or not
+abbrev pub used_pool : SlotEntry
+used_pool = record { cnode = 4; index = 1; word0 = 0x00C000D1; word1 = 0x1000; parent_cnode = no_parent; parent_index = no_parent }
+
+abbrev pub made_frame : ℕ → ℕ → SlotEntry
+made_frame word0 word1 = record { cnode = 4; index = 4; word0 = word0; word1 = word1; parent_cnode = 4; parent_index = 1 }
+
+abbrev pub record_at : ℕ → ℕ → List RangeEntry → List SlotEntry → StateRecord
+record_at point constant ranges slots = record {
+  header = record { point = point; ranges = length ranges; slots = length slots; terms = 0; constant = pos constant };
+  ranges = ranges;
+  slots = slots;
+  terms = [];
+}
+
+abbrev pub range_entry : ℕ → ℕ → RangeEntry
+range_entry register value = record { register = register; low = value; high = value }
+
+-- what is known at the entry, before the Revoke, before the Retype, before the Map and before the store
+abbrev pub loop_records : List StateRecord
+loop_records =
+    record_at 0 24 [] [] ∷ record_at 1 30 [] (used_pool ∷ made_frame 0x00C00636 0x6013 ∷ []) ∷ record_at 8 23 [] []
+    ∷ record_at 19 12 (range_entry 17 3 ∷ []) (used_pool ∷ made_frame 0x00C00036 0 ∷ [])
+    ∷ record_at 27 4 (range_entry 14 0x3000 ∷ range_entry 17 3 ∷ []) (used_pool ∷ made_frame 0x00C00636 0x6013 ∷ []) ∷ []
+
+abbrev pub loop_thread : List ℕ → List StateRecord → Thread
+loop_thread words records = record {
+  header = record { tcb = 3; cnode = 4; guard = 28; root = 1; priority = 100; budget = 31; fault = 0; entry = 0; base = 0x1000; registers = 0; words = length words; records = length records };
+  registers = [];
+  words = words;
+  records = records;
+}
+
+unfoldable pub loop_image : Image
+loop_image = record worker_image { threads = loop_thread loop_words loop_records ∷ [] }
+
+-- the loop with another word at a point
+unfoldable pub loop_with : ℕ → ℕ → Image
+loop_with point word = record worker_image { threads = loop_thread (slice_set loop_words point word) loop_records ∷ [] }

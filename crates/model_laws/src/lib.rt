@@ -6,6 +6,7 @@ mod boot_rows;
 mod call_rows;
 mod image_rows;
 mod loading_rows;
+mod loop_rows;
 
 pub use boot_rows::{solo_boots, solo_boots_behind_the_boot_area, solo_boots_with_mappings};
 pub use call_rows::{
@@ -19,3 +20,4 @@ pub use image_rows::{
 pub use loading_rows::{
     solo_is_listed, solo_objects_stand_at, solo_slots_hold, solo_starts_with, solo_takes_calls,
 };
+pub use loop_rows::{loop_is_accepted, loop_is_read};
