@@ -1,11 +1,20 @@
 -- The image that rows are worked on: a thread that counts x5 down from 10, and then waits for line 3 again and again.
-use Rattle.std.specs.Prelude.{ℕ, Result, Ok, Err, List, [], ◌∷◌, ◌++◌, flat_map}
+use Rattle.std.specs.Prelude.{ℕ, ℤ, pos, Result, Ok, Err, List, [], ◌∷◌, ◌++◌, flat_map, length, replicate}
+use Rattle.std.specs.List.{range_with_len}
 use Rattle.model.specs.declared.refusals.Point.{Point}
+use Rattle.model.specs.declared.boot_faults.BootFault.{BootFault}
+use Rattle.model.specs.declared.events.Event.{Event}
+use Rattle.model.specs.declared.events.Event.TheVariants.{Irq, Step}
+use Rattle.model.specs.declared.labels.Label.{Label}
+use Rattle.model.specs.declared.labels.Label.TheVariants.{Ran}
+use Rattle.model.specs.declared.labels.Outcome.TheVariants.{Plain}
 use Rattle.model.specs.declared.ranges.Range.{Range}
+use Rattle.model.specs.Boot.{boot_area, booted}
+use Rattle.model.specs.State.{State}
 use Rattle.model.specs.declared.refusals.Refusal.{Refusal}
 use Rattle.model.specs.Bytes.{word_bytes}
 use Rattle.model.specs.Format.{reading}
-use Rattle.model.specs.Image.{Image, whole_image}
+use Rattle.model.specs.Image.{Image, Thread, whole_image}
 
 -- the header and the sections before the thread, by words
 abbrev pub solo_front : List ℕ
@@ -69,3 +78,56 @@ solo_mapped rights =
 
 abbrev pub solo_at : ℕ → Image
 solo_at offset = record solo_image { untypeds = record { offset = offset; bits = 15 } ∷ [] }
+
+-- ---- other threads in place of solo's
+
+abbrev pub short_thread : ℕ → ℕ → List ℕ → ℤ → Thread
+short_thread tcb budget words constant = record {
+  header = record { tcb = tcb; cnode = 5; guard = 28; root = 1; priority = 100; budget = budget; fault = 0; entry = 0; base = 0x1000; registers = 0; words = length words; records = 1 };
+  registers = [];
+  words = words;
+  records = record { header = record { point = 0; ranges = 0; slots = 0; terms = 0; constant = constant }; ranges = []; slots = []; terms = [] } ∷ [];
+}
+
+-- a thread that yields again and again
+unfoldable pub yielding : Image
+yielding = record solo_image { threads = short_thread 4 4 (0x00700893 ∷ 0x00000073 ∷ 0xFF9FF06F ∷ []) (pos 3) ∷ [] }
+
+-- two threads with one CNode: an object more, and a thread more
+unfoldable pub two_threads : Image
+two_threads =
+    let one = short_thread 4 4 (0x00000073 ∷ []) (pos 3) in
+    let two = short_thread 7 4 (0x00000073 ∷ []) (pos 3) in
+    record solo_image {
+      header = record solo_image.header { objects = 8; threads = 2 };
+      objects = solo_image.objects ++ record { untyped = 0; kind = 2; size = 0 } ∷ [];
+      capabilities = [];
+      threads = one ∷ two ∷ [];
+    }
+
+-- ---- events and what comes of them
+
+unfoldable pub solo_events : List Event
+solo_events = replicate 25 Step ++ Irq 3 ∷ Step ∷ []
+
+abbrev pub ran_at : ℕ → Label
+ran_at pc = Ran 0x8000C000 pc Plain
+
+-- the first instruction, and ten rounds of the loop
+abbrev pub solo_start : List Label
+solo_start = ran_at 0x1000 ∷ []
+
+abbrev pub solo_loop : List Label
+solo_loop = flat_map (λ round. ran_at 0x1004 ∷ ran_at 0x1008 ∷ []) (range_with_len 0 10)
+
+-- the slots of the boot CNode, the interrupt table, the thread and its CNode
+abbrev pub solo_slots : List ℕ
+solo_slots = range_with_len 0 80 ++ range_with_len 0xC00 2 ++ range_with_len 0xC20 16
+
+abbrev pub state_or : State → Result State BootFault → State
+state_or otherwise (Ok s) = s
+state_or otherwise (Err fault) = otherwise
+
+-- the state that loading leaves, or else the empty machine
+unfoldable pub booted_or : Image → State
+booted_or image = state_or (boot_area image) (booted image)

@@ -119,6 +119,7 @@ loop_thread words records = record {
 unfoldable pub loop_image : Image
 loop_image = record worker_image { threads = loop_thread loop_words loop_records ∷ [] }
 
--- the loop with another word at a point
-unfoldable pub loop_with : ℕ → ℕ → Image
-loop_with point word = record worker_image { threads = loop_thread (slice_set loop_words point word) loop_records ∷ [] }
+-- the loop with other words at two points
+unfoldable pub loop_with : ℕ → ℕ → ℕ → ℕ → Image
+loop_with point word other_point other_word =
+    record worker_image { threads = loop_thread (slice_set (slice_set loop_words point word) other_point other_word) loop_records ∷ [] }

@@ -7,6 +7,7 @@ mod call_rows;
 mod image_rows;
 mod loading_rows;
 mod loop_rows;
+mod trace_rows;
 
 pub use boot_rows::{solo_boots, solo_boots_behind_the_boot_area, solo_boots_with_mappings};
 pub use call_rows::{
@@ -20,4 +21,8 @@ pub use image_rows::{
 pub use loading_rows::{
     solo_is_listed, solo_objects_stand_at, solo_slots_hold, solo_starts_with, solo_takes_calls,
 };
-pub use loop_rows::{loop_is_accepted, loop_is_read};
+pub use loop_rows::{
+    cnodes_are_not_shared, loop_is_accepted, loop_is_read, loop_may_not_delete_its_pool,
+    loop_may_not_jump_anywhere, loop_may_not_store_early, yield_is_no_wait,
+};
+pub use trace_rows::{solo_boots_as_described, solo_waits_and_wakes};

@@ -1,0 +1,7 @@
+use Rattle.std.proofs.Common.{refl}
+use Rattle.model_laws.proofs.Opened.{opened}
+use Rattle.model_laws.proofs.loop_rows.loop_may_not_delete_its_pool.Goals as goal
+
+pub returns : goal.returns
+unfolding opened
+returns c = refl
