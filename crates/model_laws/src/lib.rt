@@ -7,6 +7,7 @@ mod call_rows;
 mod image_rows;
 mod loading_rows;
 mod loop_rows;
+mod range_rows;
 mod trace_rows;
 
 pub use boot_rows::{solo_boots, solo_boots_behind_the_boot_area, solo_boots_with_mappings};
@@ -25,4 +26,5 @@ pub use loop_rows::{
     cnodes_are_not_shared, loop_is_accepted, loop_is_read, loop_may_not_delete_its_pool,
     loop_may_not_jump_anywhere, loop_may_not_store_early, yield_is_no_wait,
 };
+pub use range_rows::{bits_lie_in, branches_narrow, others_lie_in, sums_lie_in};
 pub use trace_rows::{solo_boots_as_described, solo_waits_and_wakes};
