@@ -9,6 +9,7 @@ mod loading_rows;
 mod loop_rows;
 mod range_rows;
 mod trace_rows;
+mod word_rows;
 
 pub use boot_rows::{solo_boots, solo_boots_behind_the_boot_area, solo_boots_with_mappings};
 pub use call_rows::{
@@ -28,3 +29,4 @@ pub use loop_rows::{
 };
 pub use range_rows::{bits_lie_in, branches_narrow, others_lie_in, sums_lie_in};
 pub use trace_rows::{solo_boots_as_described, solo_waits_and_wakes};
+pub use word_rows::{words_stand_for, words_stand_for_nothing};
