@@ -3,6 +3,7 @@
 #![tactic(auto)]
 
 mod machine_rows;
+mod scheduling;
 mod store_rows;
 
 pub use machine_rows::{
@@ -10,6 +11,7 @@ pub use machine_rows::{
     an_interrupt_waits_for_its_acknowledgement, an_odd_jump_traps, five_ticks_rotate,
     the_next_wait_blocks,
 };
+pub use scheduling::the_ready_list_holds_no_thread_twice;
 pub use store_rows::{
     a_call_leaves_bits_over, a_wrong_guard_is_a_mismatch, an_argument_slot_uses_all_bits,
     descendants_of_the_tree, fifteen_frames_fit, frames_stand_behind_the_watermark,

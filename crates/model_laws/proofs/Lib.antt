@@ -1,0 +1,2 @@
+pub mod ReadyLists
+pub mod ReadySteps
