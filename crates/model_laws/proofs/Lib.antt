@@ -4,4 +4,6 @@ pub mod Placements
 pub mod ReadyLists
 pub mod ReadySteps
 pub mod Removals
+pub mod Signs
+pub mod Spellings
 pub mod WaitLaws

@@ -7,6 +7,7 @@ mod lookup;
 mod machine_rows;
 mod placement;
 mod scheduling;
+mod spelling;
 mod store_rows;
 mod waits;
 
@@ -22,6 +23,7 @@ pub use machine_rows::{
 };
 pub use placement::{placement_is_aligned, placement_is_disjoint, placement_is_inside};
 pub use scheduling::the_ready_list_holds_no_thread_twice;
+pub use spelling::a_word_spells_one_instruction;
 pub use store_rows::{
     a_call_leaves_bits_over, a_wrong_guard_is_a_mismatch, an_argument_slot_uses_all_bits,
     descendants_of_the_tree, fifteen_frames_fit, frames_stand_behind_the_watermark,
