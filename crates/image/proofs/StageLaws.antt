@@ -8,7 +8,7 @@ use Rattle.std.proofs.lemmas.List.{take_at, drop_at, drop_all, take-append-drop,
 use Rattle.model.specs.declared.refusals.Refusal.{Refusal}
 use Rattle.model.specs.declared.refusals.Refusal.TheVariants.{Trailing}
 use Rattle.model.specs.Format.{Spells, ◌>>=◌, many_spelling, many_fit}
-use Rattle.model.specs.Image.{Image, Thread, header_format, untyped_format, object_format, capability_format, interrupt_format, table_format, frame_format, content_format, sections_format, image_format, thread_format}
+use Rattle.model.specs.Image.{Image, Thread, header_format, untyped_format, object_format, capability_format, interrupt_format, table_format, frame_format, content_format, sections_format, image_format, image_with, thread_format}
 use Rattle.image.specs.Stage.{IsStaged, is_staged, later, no_slots, staged_end, staged_front, staged_image, staged_reading}
 use Rattle.image.proofs.Laws.{IsBytes, bind_ok, guard_ok, ok_is}
 use Rattle.image.proofs.ThreadLaws.{thread_law}
@@ -42,15 +42,15 @@ front_len = refl
 
 -- the spelling of an image of the form
 image_spelling : (t : Thread) → (image_format no_slots).spelling (staged_image t) ≡ staged_front ++ ((thread_format no_slots 7).spelling t ++ [])
-unfolding image_format staged_front many_spelling
+unfolding image_with staged_front many_spelling
 image_spelling t = refl
 
 image_fits : (t : Thread) → (thread_format no_slots 7).fits t ≡ true → (image_format no_slots).fits (staged_image t) ≡ true
-unfolding image_format sections_format header_format untyped_format object_format capability_format interrupt_format table_format frame_format content_format many_fit
+unfolding image_with sections_format header_format untyped_format object_format capability_format interrupt_format table_format frame_format content_format many_fit
 image_fits t h = and_from _ _ h refl
 
 thread_fits : (t : Thread) → (image_format no_slots).fits (staged_image t) ≡ true → (thread_format no_slots 7).fits t ≡ true
-unfolding image_format sections_format header_format untyped_format object_format capability_format interrupt_format table_format frame_format content_format many_fit
+unfolding image_with sections_format header_format untyped_format object_format capability_format interrupt_format table_format frame_format content_format many_fit
 thread_fits t h = (and_parts ((thread_format no_slots 7).fits t) true h).0
 
 -- a test that chose

@@ -1,5 +1,6 @@
 pub mod Descents
 pub mod LookupLaws
+pub mod Opened
 pub mod Placements
 pub mod ReadyLists
 pub mod ReadySteps

@@ -2,7 +2,10 @@
 //! rows. Each stands as the contract of a function that does nothing. Nothing else uses this crate.
 #![tactic(auto)]
 
+mod call_rows;
 mod derivation;
+mod image_rows;
+mod loading_rows;
 mod lookup;
 mod machine_rows;
 mod placement;
@@ -11,9 +14,19 @@ mod spelling;
 mod store_rows;
 mod waits;
 
+pub use call_rows::{
+    worker_has, worker_keeps_its_pool, worker_makes_frames, worker_maps_frames, worker_may_not_call,
+};
 pub use derivation::{
     a_removal_changes_mappings_alone, a_removal_keeps_other_slots, descendants_are_closed,
     no_slot_descends_from_itself,
+};
+pub use image_rows::{
+    solo_has_one_length, solo_is_accepted, solo_needs_its_budget, solo_needs_its_range,
+    solo_reads_what_it_writes, solo_stands_behind_the_boot_area,
+};
+pub use loading_rows::{
+    solo_is_listed, solo_objects_stand_at, solo_slots_hold, solo_starts_with, solo_takes_calls,
 };
 pub use lookup::lookup_is_a_function;
 pub use machine_rows::{
