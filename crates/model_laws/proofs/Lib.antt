@@ -1,3 +1,4 @@
+pub mod Acceptance
 pub mod Descents
 pub mod LookupLaws
 pub mod Opened
@@ -8,3 +9,4 @@ pub mod Removals
 pub mod Signs
 pub mod Spellings
 pub mod WaitLaws
+pub mod WholeImage

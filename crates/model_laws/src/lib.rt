@@ -4,6 +4,7 @@
 
 mod call_rows;
 mod derivation;
+mod image;
 mod image_rows;
 mod loading_rows;
 mod lookup;
@@ -20,6 +21,10 @@ pub use call_rows::{
 pub use derivation::{
     a_removal_changes_mappings_alone, a_removal_keeps_other_slots, descendants_are_closed,
     no_slot_descends_from_itself,
+};
+pub use image::{
+    accepted_images_have_no_breach, an_image_has_one_spelling, the_first_breach_is_unique,
+    what_is_read_is_spelled,
 };
 pub use image_rows::{
     solo_has_one_length, solo_is_accepted, solo_needs_its_budget, solo_needs_its_range,
