@@ -3,6 +3,7 @@ pub mod AddressSpaces
 pub mod Arguments
 pub mod Boot
 pub mod BootCalls
+pub mod Authority
 pub mod Bytes
 pub mod CallRules
 pub mod Capabilities
@@ -40,6 +41,7 @@ pub mod Scheduling
 pub mod Slots
 pub mod State
 pub mod Steps
+pub mod ThreadInvariants
 pub mod ThreadRules
 pub mod Trace
 pub mod Waits

@@ -1,20 +1,37 @@
-//! Laws on the definitions of `model` alone: rows worked by computation. No function here does anything;
-//! its contract is the law.
+//! What the definitions say, shown on the definitions alone: laws that a reader expects, and worked
+//! rows. Each stands as the contract of a function that does nothing. Nothing else uses this crate.
 #![tactic(auto)]
 
 mod boot_rows;
 mod call_rows;
+mod derivation;
+mod image;
 mod image_rows;
 mod loading_rows;
+mod lookup;
 mod loop_rows;
+mod machine_rows;
+mod placement;
 mod range_rows;
+mod scheduling;
+mod spelling;
+mod store_rows;
 mod trace_rows;
+mod waits;
 mod word_rows;
 
 pub use boot_rows::{solo_boots, solo_boots_behind_the_boot_area, solo_boots_with_mappings};
 pub use call_rows::{
     worker_deletes, worker_has, worker_keeps_its_pool, worker_makes_frames, worker_maps_frames,
     worker_may_not_call,
+};
+pub use derivation::{
+    a_removal_changes_mappings_alone, a_removal_keeps_other_slots, descendants_are_closed,
+    no_slot_descends_from_itself,
+};
+pub use image::{
+    accepted_images_have_no_breach, an_image_has_one_spelling, the_first_breach_is_unique,
+    what_is_read_is_spelled,
 };
 pub use image_rows::{
     solo_has_one_length, solo_is_accepted, solo_needs_its_budget, solo_needs_its_range,
@@ -23,10 +40,25 @@ pub use image_rows::{
 pub use loading_rows::{
     solo_is_listed, solo_objects_stand_at, solo_slots_hold, solo_starts_with, solo_takes_calls,
 };
+pub use lookup::lookup_is_a_function;
 pub use loop_rows::{
     cnodes_are_not_shared, loop_is_accepted, loop_is_read, loop_may_not_delete_its_pool,
     loop_may_not_jump_anywhere, loop_may_not_store_early, yield_is_no_wait,
 };
+pub use machine_rows::{
+    a_shift_keeps_the_sign, a_wait_takes_the_joined_word,
+    an_interrupt_waits_for_its_acknowledgement, an_odd_jump_traps, five_ticks_rotate,
+    the_next_wait_blocks,
+};
+pub use placement::{placement_is_aligned, placement_is_disjoint, placement_is_inside};
 pub use range_rows::{bits_lie_in, branches_narrow, others_lie_in, sums_lie_in};
+pub use scheduling::the_ready_list_holds_no_thread_twice;
+pub use spelling::a_word_spells_one_instruction;
+pub use store_rows::{
+    a_call_leaves_bits_over, a_wrong_guard_is_a_mismatch, an_argument_slot_uses_all_bits,
+    descendants_of_the_tree, fifteen_frames_fit, frames_stand_behind_the_watermark,
+    removal_of_the_middle, revoked_memory_is_free,
+};
 pub use trace_rows::{solo_boots_as_described, solo_waits_and_wakes};
+pub use waits::{only_waiting_calls_are_waits, waiting_calls_are_waits};
 pub use word_rows::{words_stand_for, words_stand_for_nothing};
