@@ -15,7 +15,7 @@ use Rattle.model.specs.declared.instructions.RegisterOp.TheVariants.{Add, Sub, S
 use Rattle.model.specs.declared.instructions.Instr.{Instr}
 use Rattle.model.specs.declared.instructions.Instr.TheVariants.{Upper, Jal, Jalr, Branch, Load, Store, Immediate, Shift, Registers, Fence, Ecall, Ebreak}
 use Rattle.model.specs.Instructions.{word_of, upper_result, immediate_result, shift_result, register_result}
-use Rattle.model.specs.Ranges.{full, single, range_of, with_range, addi_range}
+use Rattle.model.specs.Ranges.{full, single, range_of, with_range, moved}
 
 -- ---- ranges of results
 
@@ -89,7 +89,7 @@ register_range Or r s = or_range r s
 register_range And r s = and_range r s
 
 abbrev pub immediate_range : ImmediateOp → Range → ℤ → Range
-immediate_range Addi r immediate = addi_range r immediate
+immediate_range Addi r immediate = moved r immediate
 immediate_range Slti r immediate = range 0 1
 immediate_range Sltiu r immediate = range 0 1
 immediate_range Xori r immediate = xor_range r (single (word_of immediate))
