@@ -5,6 +5,7 @@
 mod boot_rows;
 mod call_rows;
 mod derivation;
+mod form_rows;
 mod image;
 mod image_rows;
 mod loading_rows;
@@ -28,6 +29,9 @@ pub use call_rows::{
 pub use derivation::{
     a_removal_changes_mappings_alone, a_removal_keeps_other_slots, descendants_are_closed,
     no_slot_descends_from_itself,
+};
+pub use form_rows::{
+    capabilities_fit, code_is_not_written, mappings_fit, objects_have_room, threads_fit,
 };
 pub use image::{
     accepted_images_have_no_breach, an_image_has_one_spelling, the_first_breach_is_unique,
