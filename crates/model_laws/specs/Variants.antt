@@ -1,10 +1,9 @@
 -- Images that differ from solo in one section, for rows on well-formed images.
-use Rattle.std.specs.Prelude.{ℕ, List, [], ◌∷◌, ◌++◌, map}
+use Rattle.std.specs.Prelude.{ℕ, [], ◌∷◌, ◌++◌, map}
 use Rattle.model.specs.declared.entries.CapabilityEntry.{CapabilityEntry}
 use Rattle.model.specs.declared.entries.FrameEntry.{FrameEntry}
-use Rattle.model.specs.declared.entries.ImageHeader.{ImageHeader}
 use Rattle.model.specs.declared.entries.ThreadHeader.{ThreadHeader}
-use Rattle.model.specs.Image.{Content, Image, Thread}
+use Rattle.model.specs.Image.{Image, Thread}
 use Rattle.model_laws.specs.Solo.{solo_image}
 
 unfoldable pub with_radix : ℕ → Image
