@@ -13,6 +13,7 @@ mod lookup;
 mod loop_rows;
 mod machine_rows;
 mod placement;
+mod program_rows;
 mod range_rows;
 mod scheduling;
 mod spelling;
@@ -55,6 +56,10 @@ pub use machine_rows::{
     the_next_wait_blocks,
 };
 pub use placement::{placement_is_aligned, placement_is_disjoint, placement_is_inside};
+pub use program_rows::{
+    accesses_are_mapped, edges_have_targets, measures_are_noted_anew, slots_are_the_threads,
+    waits_keep_the_budget,
+};
 pub use range_rows::{bits_lie_in, branches_narrow, others_lie_in, sums_lie_in};
 pub use scheduling::the_ready_list_holds_no_thread_twice;
 pub use spelling::a_word_spells_one_instruction;
