@@ -1,9 +1,14 @@
 -- A thread with a pool: untyped memory of 2^13 bytes in slot 1 of its CNode, the CNode in slot 2, its root table in slot 3,
 -- and an endpoint that it may send to in slot 5.
-use Rattle.std.specs.Prelude.{ℕ, pos, Option, Some, None, Result, Ok, Err, List, [], ◌∷◌, fold, length, slice_set}
+use Rattle.std.specs.Prelude.{ℕ, ◌+◌, ◌*◌, pos, Option, Some, None, Result, Ok, Err, List, [], ◌∷◌, ◌++◌, fold, length, map, slice_set}
+use Rattle.std.specs.List.{range_with_len}
 use Rattle.model.specs.declared.capabilities.Cap.{Cap}
 use Rattle.model.specs.declared.entries.RangeEntry.{RangeEntry}
 use Rattle.model.specs.declared.entries.SlotEntry.{SlotEntry}
+use Rattle.model.specs.declared.labels.Label.{Label}
+use Rattle.model.specs.declared.labels.Label.TheVariants.{Idle, Ran}
+use Rattle.model.specs.declared.labels.Outcome.{Outcome}
+use Rattle.model.specs.declared.labels.Outcome.TheVariants.{Completed, Plain, Waited}
 use Rattle.model.specs.declared.refusals.Refusal.{Refusal}
 use Rattle.model.specs.CallRules.{AfterCall, after_call}
 use Rattle.model.specs.Image.{Image, StateRecord, Thread, no_parent}
@@ -123,3 +128,20 @@ loop_image = record worker_image { threads = loop_thread loop_words loop_records
 unfoldable pub loop_with : ℕ → ℕ → ℕ → ℕ → Image
 loop_with point word other_point other_word =
     record worker_image { threads = loop_thread (slice_set (slice_set loop_words point word) other_point other_word) loop_records ∷ [] }
+
+-- ---- its first round: the labels up to the Send, which waits for a receiver, and then nothing runs
+
+abbrev pub loop_ran : Outcome → ℕ → Label
+loop_ran outcome point = Ran 0x8000B000 (0x1000 + 4 * point) outcome
+
+abbrev pub plain_from : ℕ → ℕ → List Label
+plain_from point count = map (loop_ran Plain) (range_with_len point count)
+
+abbrev pub first_round : List Label
+first_round =
+    plain_from 0 1 ++ plain_from 8 10 ++ (loop_ran Completed 18 ∷ []) ++ plain_from 19 7 ++ (loop_ran Completed 26 ∷ [])
+    ++ plain_from 27 3 ++ loop_ran Waited 30 ∷ Idle ∷ []
+
+-- the slots of the boot CNode, the interrupt table, the thread and its CNode
+abbrev pub loop_slots : List ℕ
+loop_slots = range_with_len 0 80 ++ range_with_len 0xB00 2 ++ range_with_len 0xB20 16

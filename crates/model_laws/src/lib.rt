@@ -68,6 +68,8 @@ pub use store_rows::{
     descendants_of_the_tree, fifteen_frames_fit, frames_stand_behind_the_watermark,
     removal_of_the_middle, revoked_memory_is_free,
 };
-pub use trace_rows::{solo_boots_as_described, solo_waits_and_wakes};
+pub use trace_rows::{
+    loop_boots_as_described, loop_runs, solo_boots_as_described, solo_waits_and_wakes,
+};
 pub use waits::{only_waiting_calls_are_waits, waiting_calls_are_waits};
 pub use word_rows::{words_stand_for, words_stand_for_nothing};
