@@ -11,7 +11,8 @@ use Rattle.model.specs.declared.labels.Outcome.{Outcome}
 use Rattle.model.specs.declared.labels.Outcome.TheVariants.{Completed, Plain, Waited}
 use Rattle.model.specs.declared.refusals.Refusal.{Refusal}
 use Rattle.model.specs.CallRules.{AfterCall, after_call}
-use Rattle.model.specs.Image.{Image, StateRecord, Thread, no_parent}
+use Rattle.model.specs.Format.{reading}
+use Rattle.model.specs.Image.{Image, StateRecord, Thread, no_parent, whole_image}
 use Rattle.model.specs.Measures.{register_numbered}
 use Rattle.model.specs.NotedStates.{NotedSlot, PointState, SlotKey, full_ranges, image_slots}
 use Rattle.model.specs.Ranges.{single, with_range}
@@ -145,3 +146,7 @@ first_round =
 -- the slots of the boot CNode, the interrupt table, the thread and its CNode
 abbrev pub loop_slots : List ℕ
 loop_slots = range_with_len 0 80 ++ range_with_len 0xB00 2 ++ range_with_len 0xB20 16
+
+-- what the bytes of the loop are read as with another byte at an offset
+unfoldable pub reading_with : ℕ → ℕ → Result Image Refusal
+reading_with offset byte = reading whole_image (slice_set (whole_image.spelling loop_image) offset byte)

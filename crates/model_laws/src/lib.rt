@@ -16,6 +16,7 @@ mod placement;
 mod program_rows;
 mod range_rows;
 mod scheduling;
+mod slot_rows;
 mod spelling;
 mod store_rows;
 mod trace_rows;
@@ -62,6 +63,9 @@ pub use program_rows::{
 };
 pub use range_rows::{bits_lie_in, branches_narrow, others_lie_in, sums_lie_in};
 pub use scheduling::the_ready_list_holds_no_thread_twice;
+pub use slot_rows::{
+    noted_parents_are_slots, noted_slots_rise, noted_words_stand_for_a_capability,
+};
 pub use spelling::a_word_spells_one_instruction;
 pub use store_rows::{
     a_call_leaves_bits_over, a_wrong_guard_is_a_mismatch, an_argument_slot_uses_all_bits,
