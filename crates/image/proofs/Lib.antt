@@ -1,3 +1,4 @@
+pub mod Calm
 pub mod Laws
 pub mod Sections
 pub mod StageLaws

@@ -70,7 +70,7 @@ pub fn run<S: Sink>(
     sink: &mut S,
 ) -> Result<(), RunFault>
     // An image that cannot be read is refused for the first reason, and nothing is put.
-    ensures unread { IfErr (staged_reading bytes.now) (λ refusal. (result ≡ Err (fault_of refusal)) × (sink.new ≡ sink.old)) }
+    ensures unread { IfErr (staged_reading bytes.now) (λ refusal. (result ≡ Err (RunFault.Refused refusal)) × (sink.new ≡ sink.old)) }
     // Where the image is refused, or memory, nothing is put.
     ensures refused { (refusal : Refusal) → result ≡ Err (RunFault.Refused refusal) → sink.new ≡ sink.old }
     ensures memory { result ≡ Err RunFault.OutOfMemory → sink.new ≡ sink.old }
