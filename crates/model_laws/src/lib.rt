@@ -4,23 +4,23 @@
 
 mod boot_rows;
 mod call_rows;
-mod derivation;
+mod descent_laws;
 mod form_rows;
-mod image;
+mod image_laws;
 mod image_rows;
 mod loading_rows;
-mod lookup;
+mod lookup_laws;
 mod loop_rows;
 mod machine_rows;
-mod placement;
+mod placement_laws;
 mod program_rows;
 mod range_rows;
-mod scheduling;
+mod ready_laws;
 mod slot_rows;
-mod spelling;
+mod spelling_laws;
 mod store_rows;
 mod trace_rows;
-mod waits;
+mod wait_laws;
 mod word_rows;
 
 pub use boot_rows::{solo_boots, solo_boots_behind_the_boot_area, solo_boots_with_mappings};
@@ -28,14 +28,14 @@ pub use call_rows::{
     worker_deletes, worker_has, worker_keeps_its_pool, worker_makes_frames, worker_maps_frames,
     worker_may_not_call,
 };
-pub use derivation::{
+pub use descent_laws::{
     a_removal_changes_mappings_alone, a_removal_keeps_other_slots, descendants_are_closed,
     no_slot_descends_from_itself,
 };
 pub use form_rows::{
     capabilities_fit, code_is_not_written, mappings_fit, objects_have_room, threads_fit,
 };
-pub use image::{
+pub use image_laws::{
     accepted_images_have_no_breach, an_image_has_one_spelling, the_first_breach_is_unique,
     what_is_read_is_spelled,
 };
@@ -46,7 +46,7 @@ pub use image_rows::{
 pub use loading_rows::{
     solo_is_listed, solo_objects_stand_at, solo_slots_hold, solo_starts_with, solo_takes_calls,
 };
-pub use lookup::lookup_is_a_function;
+pub use lookup_laws::lookup_is_a_function;
 pub use loop_rows::{
     cnodes_are_not_shared, loop_is_accepted, loop_is_read, loop_may_not_delete_its_pool,
     loop_may_not_jump_anywhere, loop_may_not_store_early, yield_is_no_wait,
@@ -56,17 +56,17 @@ pub use machine_rows::{
     an_interrupt_waits_for_its_acknowledgement, an_odd_jump_traps, five_ticks_rotate,
     the_next_wait_blocks,
 };
-pub use placement::{placement_is_aligned, placement_is_disjoint, placement_is_inside};
+pub use placement_laws::{placement_is_aligned, placement_is_disjoint, placement_is_inside};
 pub use program_rows::{
     accesses_are_mapped, edges_have_targets, measures_are_noted_anew, slots_are_the_threads,
     waits_keep_the_budget,
 };
 pub use range_rows::{bits_lie_in, branches_narrow, others_lie_in, sums_lie_in};
-pub use scheduling::the_ready_list_holds_no_thread_twice;
+pub use ready_laws::the_ready_list_holds_no_thread_twice;
 pub use slot_rows::{
     noted_parents_are_slots, noted_slots_rise, noted_words_stand_for_a_capability,
 };
-pub use spelling::a_word_spells_one_instruction;
+pub use spelling_laws::a_word_spells_one_instruction;
 pub use store_rows::{
     a_call_leaves_bits_over, a_wrong_guard_is_a_mismatch, an_argument_slot_uses_all_bits,
     descendants_of_the_tree, fifteen_frames_fit, frames_stand_behind_the_watermark,
@@ -75,5 +75,5 @@ pub use store_rows::{
 pub use trace_rows::{
     loop_boots_as_described, loop_runs, solo_boots_as_described, solo_waits_and_wakes,
 };
-pub use waits::{only_waiting_calls_are_waits, waiting_calls_are_waits};
+pub use wait_laws::{only_waiting_calls_are_waits, waiting_calls_are_waits};
 pub use word_rows::{words_stand_for, words_stand_for_nothing};
