@@ -14,6 +14,7 @@ mod loop_rows;
 mod machine_rows;
 mod placement_laws;
 mod program_rows;
+mod range_laws;
 mod range_rows;
 mod ready_laws;
 mod slot_rows;
@@ -61,6 +62,7 @@ pub use program_rows::{
     accesses_are_mapped, edges_have_targets, measures_are_noted_anew, slots_are_the_threads,
     waits_keep_the_budget,
 };
+pub use range_laws::{addi_keeps_ranges, jal_keeps_ranges};
 pub use range_rows::{bits_lie_in, branches_narrow, others_lie_in, sums_lie_in};
 pub use ready_laws::the_ready_list_holds_no_thread_twice;
 pub use slot_rows::{
