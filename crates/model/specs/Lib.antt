@@ -10,4 +10,5 @@ pub mod Placement
 pub mod Ranges
 pub mod Refusals
 pub mod Slots
+pub mod Sv32
 pub mod Trace
