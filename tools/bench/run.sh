@@ -1,4 +1,4 @@
-#!/bin/sh
+#!/usr/bin/env bash
 # Measures the interpreter and the table of slots. The programs are proved and built in a copy of the
 # repository, so that the gate knows nothing of them. Takes some minutes the first time.
 set -e

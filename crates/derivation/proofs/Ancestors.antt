@@ -9,7 +9,8 @@ use Rattle.model.specs.declared.capabilities.Cap.TheVariants.{Empty}
 use Rattle.model.specs.declared.slot_entries.Entry.{Entry}
 use Rattle.slots.proofs.Depths.{Parents, depth-none, depth-some}
 use Rattle.slots.specs.Order.{IsOrderOf, times_in}
-use Rattle.derivation.specs.Descendants.{descendants, descends_within, is_descendant}
+use Rattle.model.specs.Slots.{descends_within, is_descendant}
+use Rattle.derivation.specs.Descendants.{descendants}
 use Rattle.derivation.proofs.Behind.{times-filter}
 
 -- one step of the test

@@ -1,11 +1,11 @@
 -- Capability lookup: which slot an address names in a capability space.
 -- seL4 Reference Manual, "Capability Space Addressing".
 use Rattle.std.specs.Prelude.{ℕ, zero, suc, ◌==◌, ◌+◌, ◌-◌, ◌/◌, ◌%◌, ◌^◌, ◌||◌, ◌<◌, Bool, true, false, not, nat_lt, if◌then◌else◌, ⊤, Result, Ok, Err}
-use Rattle.model.specs.Slots.{Slots, IsOpen, capability_at}
+use Rattle.model.specs.Slots.{Slots, IsOpen, capability_at, is_full}
 use Rattle.model.specs.declared.capabilities.Cap.{Cap}
 use Rattle.model.specs.declared.capabilities.Cap.TheVariants.{Empty, Untyped, Endpoint, Notification, CNode, Frame, PageTable, Tcb, RootTable, InterruptControl, InterruptHandler}
 use Rattle.model.specs.declared.lookup_failures.LookupFailure.{LookupFailure}
-use Rattle.model.specs.declared.lookup_failures.LookupFailure.TheVariants.{InvalidRoot, DepthMismatch, GuardMismatch}
+use Rattle.model.specs.declared.lookup_failures.LookupFailure.TheVariants.{InvalidRoot, MissingCapability, DepthMismatch, GuardMismatch}
 
 -- one CNode takes its guard and then its index from the high end of the bits that are left: the index,
 -- and how many bits are left behind it
@@ -68,3 +68,12 @@ CNodeIsOpen slots (InterruptHandler _) = ⊤
 -- the CNodes that some slot names have open slots
 abbrev pub CNodesAreOpen : Slots → Type 0
 CNodesAreOpen slots = (slot : ℕ) → CNodeIsOpen slots (capability_at slots slot)
+
+-- the slot that a system call names: all 32 bits of the address are there to be used, what is left over is ignored, and
+-- an empty slot is a missing capability
+abbrev pub called : Slots → Result (ℕ × ℕ) LookupFailure → Result ℕ LookupFailure
+called slots (Ok found) = if is_full slots found.0 then Ok found.0 else Err MissingCapability
+called slots (Err failure) = Err failure
+
+abbrev pub called_slot : Slots → Cap → ℕ → Result ℕ LookupFailure
+called_slot slots root address = called slots (lookup slots root address 32)

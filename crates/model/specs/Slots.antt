@@ -1,6 +1,6 @@
 -- Capability slots and derivation: which slots are open, what each holds, and how a call changes them.
 -- seL4 Reference Manual, "Capability Derivation Tree".
-use Rattle.std.specs.Prelude.{ℕ, zero, suc, ◌≡◌, ◌==◌, ◌+◌, ◌/◌, ◌<◌, ◌≤◌, ◌&&◌, Bool, true, false, not, nat_le, nat_lt, if◌then◌else◌, IsTrue, IsSome, Option, Some, None, List, length, slice_index}
+use Rattle.std.specs.Prelude.{ℕ, zero, suc, ◌≡◌, ◌==◌, ◌+◌, ◌/◌, ◌<◌, ◌≤◌, ◌&&◌, ◌||◌, Bool, true, false, not, nat_le, nat_lt, if◌then◌else◌, IsTrue, IsSome, Option, Some, None, List, length, slice_index}
 use Rattle.std.specs.Option.{option_map, option_map_or}
 use Rattle.model.specs.CapabilityWords.{IsCapability}
 use Rattle.model.specs.declared.capabilities.Cap.{Cap}
@@ -100,6 +100,16 @@ depth_within (suc n) parents slot = option_map_or (λ parent. depth_within n par
 -- a slot's depth, 0 at the roots; slots that derive from one another in a circle have 256
 abbrev pub depth_of : Slots → ℕ → ℕ
 depth_of slots slot = depth_within 256 (parent_at slots) slot
+
+-- whether a slot is among the first ancestors of another, of so many
+unfoldable pub descends_within : ℕ → (ℕ → Option ℕ) → ℕ → ℕ → Bool
+descends_within zero parents root slot = false
+descends_within (suc n) parents root slot =
+    option_map_or (λ parent. parent == root || descends_within n parents root parent) (parents slot) false
+
+-- whether a slot descends from a root, as a test: it has as many ancestors as its depth
+abbrev pub is_descendant : Slots → ℕ → ℕ → Bool
+is_descendant slots root slot = descends_within (depth_of slots slot) (parent_at slots) root slot
 
 -- capabilities are valid, only full slots have and are parents, and no depth is above 255
 pub record IsDerivation (slots : Slots) : Type 0 where

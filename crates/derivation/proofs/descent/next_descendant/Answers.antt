@@ -2,7 +2,7 @@
 use Rattle.std.proofs.Common.{◌≡◌, ◌∙◌, ◌<◌, true, false, Some, [], ◌∷◌, filter, cond, length, sym, ap, subst, arith}
 use Rattle.model.specs.Slots.{Slots, IsFull}
 use Rattle.slots.specs.Order.{first_of}
-use Rattle.derivation.specs.Descendants.{is_descendant}
+use Rattle.model.specs.Slots.{is_descendant}
 use Rattle.derivation.proofs.Ancestors.{descendants-once, full-open, listed-full, order-once}
 use Rattle.derivation.proofs.Behind.{after-behind, after-filter, behind, behind-step, first-none, first-some, times-behind}
 use Rattle.derivation.proofs.descent.next_descendant.Goals as goal
