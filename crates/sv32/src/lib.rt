@@ -9,4 +9,4 @@ mod walks;
 
 pub use entries::Pte;
 pub use model::{Access, PageFault};
-pub use walks::walk;
+pub use walks::{entry_at, place_of, walk};

@@ -1,6 +1,6 @@
 //! The walk through the page tables.
 
-ghost use Rattle.std.specs.Prelude.{◌≡◌, ◌+◌, ◌*◌, ◌^◌, ◌<◌, ◌≤◌, option_map, Some};
+ghost use Rattle.std.specs.Prelude.{◌≡◌, ◌+◌, ◌*◌, ◌^◌, ◌<◌, ◌≤◌, option_map, Some, length};
 ghost use Rattle.std.specs.Option.{ok_or};
 ghost use Rattle.model.specs.Sv32.{entry_at, leaf_place, page_fault, place_of, walk};
 
@@ -11,8 +11,8 @@ use pmem::Mem;
 /// Where physical memory starts.
 const MEMORY_BASE: u64 = 0x8000_0000;
 
-/// The place of a physical address, if it does not stand before memory.
-fn place_of(physical: u64) -> Option<u64>
+/// The place of a physical address in memory, if it does not stand before memory.
+pub fn place_of(physical: u64) -> Option<u64>
     ensures { result ≡ place_of physical }
 {
     if physical >= MEMORY_BASE {
@@ -22,12 +22,13 @@ fn place_of(physical: u64) -> Option<u64>
     }
 }
 
-/// The entry of this number in the table at a place, if memory has it and it is valid.
+/// The entry of this number, below 1024, in the table at a place, if memory has it and it is valid.
 #[tactic(auto, unfolding(model::specs::Sv32::entry_at))]
-fn entry_at(memory: &Mem, table: u64, number: u32) -> Option<Pte>
+pub fn entry_at(memory: &Mem, table: u64, number: u32) -> Option<Pte>
     requires near { table < 2 ^ 35 }
     requires small { number < 2 ^ 10 }
-    ensures { option_map (λ entry. entry.0) result ≡ entry_at memory.now table number }
+    ensures value { option_map (λ entry. entry.0) result ≡ entry_at memory.now table number }
+    ensures size { length memory.now ≤ 2 ^ 24 }
 {
     let place = table + 4 * u64::from(number);
     if place + 4 > u64::from(memory.len()) {

@@ -1,0 +1,9 @@
+pub mod Entries
+pub mod Steps
+pub mod FrameSteps
+pub mod Mapping
+pub mod Unmapping
+pub mod Taken
+pub mod Places
+pub mod Outcomes
+pub mod Writes
