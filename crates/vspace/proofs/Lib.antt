@@ -7,3 +7,5 @@ pub mod Taken
 pub mod Places
 pub mod Outcomes
 pub mod Writes
+pub mod Joins
+pub mod TableSteps

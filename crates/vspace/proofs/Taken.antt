@@ -44,7 +44,7 @@ maps_region-cases root region (RootTable _) = inl refl
 maps_region-cases root region InterruptControl = inl refl
 maps_region-cases root region (InterruptHandler _) = inl refl
 
-abbrev FrameMapped : ℕ → ℕ → Cap → Type 0
+abbrev pub FrameMapped : ℕ → ℕ → Cap → Type 0
 FrameMapped root page c = (f : ℕ) × (r : Rights) × (a : Rights) × (c ≡ Frame f r (Some (record { root = root; page = page; rights = a })))
 
 frame_cases : (root page f : ℕ) (r : Rights) (m : FrameMapping) → (maps_page root page (Frame f r (Some m)) ≡ false) ⊎ FrameMapped root page (Frame f r (Some m))
@@ -56,7 +56,7 @@ frame_cases root page f r m = elim (eqb_tells m.root root) [
   | inr a ↦ inl (rw a.0 refl)
 ]
 
-maps_page-cases : (root page : ℕ) (c : Cap) → (maps_page root page c ≡ false) ⊎ FrameMapped root page c
+pub maps_page-cases : (root page : ℕ) (c : Cap) → (maps_page root page c ≡ false) ⊎ FrameMapped root page c
 maps_page-cases root page (Frame f r (Some m)) = frame_cases root page f r m
 maps_page-cases root page (Frame f r None) = inl refl
 maps_page-cases root page (PageTable _ _) = inl refl

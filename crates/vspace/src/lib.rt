@@ -4,9 +4,9 @@
 
 mod arguments;
 mod frames;
+mod spaces;
 mod tables;
-#[cfg(test)]
-mod tests;
 
 pub use arguments::SlotName;
 pub use frames::{FrameCap, map_frame, unmap_frame};
+pub use spaces::place_under;
