@@ -1,10 +1,10 @@
 -- What the walk's steps find in the entries that the kernel writes.
-use Rattle.std.proofs.Common.{◌≡◌, ◌≢◌, ◌∙◌, ℕ, ◌+◌, ◌-◌, ◌*◌, ◌/◌, ◌%◌, ◌^◌, ◌<◌, ◌≤◌, ◌==◌, ◌&&◌, ◌||◌, ◌⊎◌, inl, inr, Bool, true, false, not, Option, Some, None, List, length, refl, sym, ap, subst, arith}
-use Rattle.std.specs.Prelude.{nat_le, nat_lt, if◌then◌else◌, option_and_then}
+use Rattle.std.proofs.Common.{◌≡◌, ℕ, ◌+◌, ◌-◌, ◌*◌, ◌/◌, ◌%◌, ◌^◌, ◌≤◌, ◌==◌, ◌&&◌, ◌||◌, true, false, not, Some, None, List, length, refl, arith}
+use Rattle.std.specs.Prelude.{nat_le, if◌then◌else◌}
 use Rattle.std.proofs.lemmas.Bool.Decides.{nat_tests}
 use Rattle.model.specs.Bytes.{word_at}
 use Rattle.model.specs.CapabilityWords.{AreMappingRights}
-use Rattle.model.specs.Sv32.{entry_at, has_bit, is_leaf, is_valid, leaf_word, page_address, place_of, table_word}
+use Rattle.model.specs.Sv32.{entry_at, is_valid, leaf_word, page_address, place_of, table_word}
 use Rattle.vspace.specs.Tables.{table_in}
 
 -- a table's pointer: valid, no leaf, and naming the table

@@ -1,19 +1,16 @@
 -- A frame's capability gets another mapping, and one entry of a page table that is mapped another word.
-use Rattle.std.proofs.Common.{◌≡◌, ◌≢◌, ◌∙◌, ℕ, ◌+◌, ◌-◌, ◌*◌, ◌/◌, ◌%◌, ◌^◌, ◌<◌, ◌≤◌, ◌==◌, ◌&&◌, ◌⊎◌, inl, inr, true, false, Option, Some, None, List, length, slice_index, refl, sym, ap, subst, arith}
-use Rattle.std.proofs.lemmas.Bool.{eq-eqb}
-use Rattle.std.proofs.lemmas.Bool.Decides.{eqb_tells}
-use Rattle.model.specs.AddressSpaces.{maps_page}
+use Rattle.std.proofs.Common.{◌≡◌, ◌≢◌, ◌∙◌, ℕ, ◌+◌, ◌*◌, ◌/◌, ◌%◌, ◌^◌, ◌<◌, ◌≤◌, ◌⊎◌, inl, inr, Option, Some, None, List, length, refl, sym, ap, subst, arith}
 use Rattle.model.specs.Bytes.{word_at, word_bytes, written}
 use Rattle.model.specs.CapabilityWords.{IsCapability}
 use Rattle.model.specs.Slots.{SameOutside, Slots, capability_at, recapped}
-use Rattle.model.specs.Sv32.{leaf_word, table_word}
+use Rattle.model.specs.Sv32.{leaf_word}
 use Rattle.model.specs.declared.capabilities.Cap.{Cap}
 use Rattle.model.specs.declared.capabilities.Cap.TheVariants.{Frame, PageTable, RootTable}
 use Rattle.model.specs.declared.capabilities.FrameMapping.{FrameMapping}
 use Rattle.model.specs.declared.capabilities.TableMapping.{TableMapping}
 use Rattle.model.specs.declared.rights.Rights.{Rights}
-use Rattle.vspace.specs.Tables.{Holds, IsTable, MapsFrame, MapsTable, TablesAgree}
-use Rattle.vspace.proofs.Steps.{capability-recapped_same, held-before, held-after, table-after, entry-one, entry-differs, word-kept, word-new, size-kept}
+use Rattle.vspace.specs.Tables.{IsTable, MapsFrame, MapsTable, TablesAgree}
+use Rattle.vspace.proofs.Steps.{held-before, held-after, table-after, entry-differs, word-kept, size-kept}
 
 pub record FrameStep (slots : Slots) (memory after : List ℕ) (x f : ℕ) (r : Rights) (o c : Option FrameMapping) (table j word : ℕ) (tm : TableMapping) : Type 0 where
   pub agree : TablesAgree slots memory

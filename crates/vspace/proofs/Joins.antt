@@ -1,26 +1,25 @@
 -- The walk through the tables finds what the mappings that capabilities hold say.
-use Rattle.std.proofs.Common.{◌≡◌, ◌≢◌, ◌∙◌, ℕ, zero, suc, ◌+◌, ◌-◌, ◌*◌, ◌/◌, ◌%◌, ◌^◌, ◌<◌, ◌≤◌, ◌==◌, ◌&&◌, ◌||◌, ◌⊎◌, inl, inr, Bool, true, false, not, Option, Some, None, List, [], ◌∷◌, length, get_or, refl, sym, ap, subst, arith}
-use Rattle.std.specs.Prelude.{bit_and, filter_map, nat_le, nat_lt, if◌then◌else◌, option_and_then}
+use Rattle.std.proofs.Common.{◌≡◌, ◌∙◌, ℕ, zero, suc, ◌+◌, ◌-◌, ◌*◌, ◌/◌, ◌%◌, ◌^◌, ◌<◌, ◌≤◌, ◌==◌, ◌&&◌, ◌||◌, ◌⊎◌, inl, inr, Bool, true, false, not, Option, Some, None, List, [], ◌∷◌, length, get_or, refl, sym, ap, subst, arith}
+use Rattle.std.specs.Prelude.{filter_map, nat_le, nat_lt, if◌then◌else◌, option_and_then}
 use Rattle.std.proofs.lemmas.Bool.{eq-eqb}
-use Rattle.std.proofs.lemmas.Bool.Decides.{eqb_tells, nat_tests}
+use Rattle.std.proofs.lemmas.Bool.Decides.{nat_tests}
 use Rattle.std.proofs.lemmas.List.FromFn.{get_or-range_with_len, length-range_with_len}
-use Rattle.model.specs.AddressSpaces.{allows, mapped, maps_page, page_of, page_size, place_in, place_under}
+use Rattle.model.specs.AddressSpaces.{allows, mapped, maps_page, page_of, place_in, place_under}
 use Rattle.model.specs.Bytes.{word_at}
 use Rattle.model.specs.CapabilityWords.{AreMappingRights, IsCapability}
 use Rattle.model.specs.Invocations.{with_slots}
 use Rattle.model.specs.Scheduling.{head_of}
 use Rattle.model.specs.Slots.{IsFull, Slots, capability_at, is_empty}
-use Rattle.model.specs.State.{State, slot_numbers, slots_of}
-use Rattle.model.specs.Sv32.{entry_at, has_bit, has_right, is_leaf, is_valid, leaf_place, leaf_word, page_address, permits, place_of, table_word, walk}
+use Rattle.model.specs.State.{State, slot_numbers}
+use Rattle.model.specs.Sv32.{entry_at, has_bit, has_right, is_leaf, leaf_place, leaf_word, page_address, permits, table_word, walk}
 use Rattle.model.specs.declared.capabilities.Cap.{Cap}
 use Rattle.model.specs.declared.capabilities.Cap.TheVariants.{Empty, Untyped, Endpoint, Notification, CNode, Frame, PageTable, Tcb, RootTable, InterruptControl, InterruptHandler}
-use Rattle.model.specs.declared.capabilities.FrameMapping.{FrameMapping}
 use Rattle.model.specs.declared.instructions.Access.{Access}
 use Rattle.model.specs.declared.instructions.Access.TheVariants.{Load, Store, Fetch}
 use Rattle.model.specs.declared.rights.Rights.{Rights}
-use Rattle.vspace.specs.Tables.{AreNear, Holds, IsTable, MapsFrame, MapsTable, TablesAgree}
+use Rattle.vspace.specs.Tables.{AreNear, Holds, MapsFrame, MapsTable, TablesAgree}
 use Rattle.vspace.proofs.Entries.{entry_at-valid, entry_at-zero, leaf_word-valid, table_word-place, table_word-valid}
-use Rattle.vspace.proofs.Taken.{FrameMapped, maps_page-cases, page-answer, page-leaf}
+use Rattle.vspace.proofs.Taken.{maps_page-cases, page-answer, page-leaf}
 
 -- ---- what a leaf permits
 

@@ -9,3 +9,4 @@ pub mod Outcomes
 pub mod Writes
 pub mod Joins
 pub mod TableSteps
+pub mod TableOutcomes

@@ -1,20 +1,19 @@
 -- Mapping a frame keeps the tables and the mappings in agreement.
-use Rattle.std.proofs.Common.{◌≡◌, ◌≢◌, ◌∙◌, ℕ, ◌+◌, ◌-◌, ◌*◌, ◌/◌, ◌%◌, ◌^◌, ◌<◌, ◌≤◌, ◌==◌, ◌&&◌, ◌⊎◌, inl, inr, true, false, Option, Some, None, List, length, slice_index, refl, sym, ap, subst, arith}
+use Rattle.std.proofs.Common.{◌≡◌, ◌∙◌, ℕ, ◌+◌, ◌*◌, ◌/◌, ◌%◌, ◌^◌, ◌<◌, ◌≤◌, ◌⊎◌, inl, inr, true, false, Some, None, List, length, refl, sym, ap, subst, arith}
 use Rattle.std.proofs.lemmas.Bool.{eq-eqb}
 use Rattle.std.proofs.lemmas.Bool.Decides.{eqb_tells}
 use Rattle.model.specs.AddressSpaces.{maps_page}
-use Rattle.model.specs.Bytes.{word_at, word_bytes, written}
-use Rattle.model.specs.CapabilityWords.{IsCapability}
-use Rattle.model.specs.Slots.{SameOutside, Slots, capability_at, recapped}
-use Rattle.model.specs.Sv32.{leaf_word, table_word}
+use Rattle.model.specs.Bytes.{word_at}
+use Rattle.model.specs.Slots.{Slots, capability_at, recapped}
+use Rattle.model.specs.Sv32.{leaf_word}
 use Rattle.model.specs.declared.capabilities.Cap.{Cap}
-use Rattle.model.specs.declared.capabilities.Cap.TheVariants.{Frame, PageTable, RootTable}
+use Rattle.model.specs.declared.capabilities.Cap.TheVariants.{Frame, PageTable}
 use Rattle.model.specs.declared.capabilities.FrameMapping.{FrameMapping}
 use Rattle.model.specs.declared.capabilities.TableMapping.{TableMapping}
 use Rattle.model.specs.declared.rights.Rights.{Rights}
-use Rattle.vspace.specs.Tables.{Holds, IsTable, MapsFrame, MapsTable, TablesAgree}
-use Rattle.vspace.proofs.Steps.{capability-recapped_same, held-before, held-after, table-after, entry-one, entry-differs, word-kept, word-new, size-kept}
-use Rattle.vspace.proofs.FrameSteps.{FrameStep, LeavesAgree, agree-after, index_small, one_mapping, region_or_zero, root_or_zero, size_stays, slots_after, table_stands, table_stays, table_was}
+use Rattle.vspace.specs.Tables.{MapsFrame, MapsTable, TablesAgree}
+use Rattle.vspace.proofs.Steps.{capability-recapped_same, held-before, held-after, entry-one, word-kept, word-new}
+use Rattle.vspace.proofs.FrameSteps.{FrameStep, agree-after, index_small, one_mapping, region_or_zero, root_or_zero, size_stays, slots_after, table_stands, table_stays, table_was}
 
 abbrev pub table_of : FrameMapping → TableMapping
 table_of m = record { root = m.root; region = m.page / 2 ^ 10 }

@@ -1,12 +1,12 @@
 -- The definition of the call that maps a frame, by what its checks answer.
-use Rattle.std.proofs.Common.{◌≡◌, ◌≢◌, ◌∙◌, ℕ, ◌+◌, ◌*◌, ◌/◌, ◌%◌, ◌^◌, ◌<◌, ◌≤◌, ◌==◌, ◌||◌, ◌⊎◌, inl, inr, Bool, true, false, not, Option, Some, None, Result, Ok, Err, List, [], ◌∷◌, refl, sym, ap, subst, arith}
+use Rattle.std.proofs.Common.{◌≡◌, ◌∙◌, ℕ, ◌/◌, ◌%◌, ◌^◌, ◌<◌, ◌==◌, ◌||◌, ◌⊎◌, inl, inr, Bool, true, false, not, Option, Some, None, Result, Ok, Err, List, [], ◌∷◌, refl, sym, ap, subst}
 use Rattle.std.specs.Prelude.{bit_and, nat_lt}
 use Rattle.std.specs.Option.{is_some}
 use Rattle.std.proofs.lemmas.Bool.{eq-eqb}
 use Rattle.model.specs.AddressSpaces.{address_limit, is_page_taken, is_region_taken, maps_page, maps_region, page_size, region_pages}
 use Rattle.model.specs.Arguments.{◌>>=◌, check}
-use Rattle.model.specs.CapabilityWords.{AreMappingRights, IsCapability, IsFrameMapping}
-use Rattle.model.specs.Invocations.{Call, map_frame, root_named, with_slots}
+use Rattle.model.specs.CapabilityWords.{AreMappingRights, IsCapability}
+use Rattle.model.specs.Invocations.{map_frame, root_named, with_slots}
 use Rattle.model.specs.Rights.{may_execute, may_read, mapping_rights}
 use Rattle.model.specs.Slots.{IsFull, Slots, capability_at, is_empty, recapped}
 use Rattle.model.specs.State.{State}
@@ -14,7 +14,7 @@ use Rattle.model.specs.declared.capabilities.Cap.{Cap}
 use Rattle.model.specs.declared.capabilities.Cap.TheVariants.{Frame, PageTable, RootTable}
 use Rattle.model.specs.declared.capabilities.FrameMapping.{FrameMapping}
 use Rattle.model.specs.declared.errors.KError.{KError}
-use Rattle.model.specs.declared.errors.KError.TheVariants.{AlignmentError, DeleteFirst, FailedLookup, InvalidArgument, InvalidCapability}
+use Rattle.model.specs.declared.errors.KError.TheVariants.{AlignmentError, DeleteFirst, FailedLookup, InvalidArgument}
 use Rattle.model.specs.declared.rights.Rights.{Rights}
 use Rattle.vspace.specs.Answers.{FreeEntry, GivesMapped, MappingAnswer, PageAnswer, frame_call, page_named}
 use Rattle.vspace.specs.Tables.{AreNear, Holds, MapsFrame, MapsTable, TablesAgree}
@@ -69,7 +69,7 @@ maps_region-own root region t = rw (eq-eqb root root refl, eq-eqb region region 
 maps_page-own : (root page f : ℕ) (r a : Rights) → maps_page root page (Frame f r (Some (record { root = root; page = page; rights = a }))) ≡ true
 maps_page-own root page f r a = rw (eq-eqb root root refl, eq-eqb page page refl) refl
 
-region-taken : (s : State) (slots : Slots) (root region table : ℕ) → AreNear s slots → MapsTable slots root region table → is_region_taken (with_slots s slots) root region ≡ true
+pub region-taken : (s : State) (slots : Slots) (root region table : ℕ) → AreNear s slots → MapsTable slots root region table → is_region_taken (with_slots s slots) root region ≡ true
 region-taken s slots root region table near maps =
     holds-one s slots (maps_region root region) maps.slot near (full_table slots maps.slot table _ maps.held) (ap (maps_region root region) maps.held ∙ maps_region-own root region table)
 

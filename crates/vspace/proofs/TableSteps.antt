@@ -1,5 +1,5 @@
 -- Mapping a page table keeps the tables and the mappings in agreement.
-use Rattle.std.proofs.Common.{◌≡◌, ◌≢◌, ◌∙◌, ℕ, ◌+◌, ◌-◌, ◌*◌, ◌/◌, ◌%◌, ◌^◌, ◌<◌, ◌≤◌, ◌==◌, ◌&&◌, ◌⊎◌, inl, inr, true, false, Option, Some, None, List, length, slice_index, refl, sym, ap, subst, arith}
+use Rattle.std.proofs.Common.{◌≡◌, ◌≢◌, ◌∙◌, ℕ, ◌+◌, ◌*◌, ◌/◌, ◌%◌, ◌^◌, ◌<◌, ◌⊎◌, inl, inr, true, false, Option, Some, None, List, refl, sym, ap, subst, arith}
 use Rattle.std.proofs.lemmas.Bool.{eq-eqb}
 use Rattle.std.proofs.lemmas.Bool.Decides.{eqb_tells}
 use Rattle.model.specs.AddressSpaces.{maps_region}
@@ -13,8 +13,8 @@ use Rattle.model.specs.declared.capabilities.FrameMapping.{FrameMapping}
 use Rattle.model.specs.declared.capabilities.TableMapping.{TableMapping}
 use Rattle.model.specs.declared.rights.Rights.{Rights}
 use Rattle.vspace.specs.Tables.{Holds, IsTable, MapsFrame, MapsTable, TablesAgree}
-use Rattle.vspace.proofs.FrameSteps.{index_small, region_or_zero, root_or_zero}
-use Rattle.vspace.proofs.Steps.{capability-recapped_other, capability-recapped_same, held-before, held-after, table-after, entry-one, entry-differs, word-kept, word-new, size-kept}
+use Rattle.vspace.proofs.FrameSteps.{index_small}
+use Rattle.vspace.proofs.Steps.{capability-recapped_same, held-before, held-after, table-after, entry-one, entry-differs, word-kept, word-new, size-kept}
 
 -- A page table that was not mapped, at x, is mapped for a free region, and its root table has the pointer then.
 pub record TableStep (slots : Slots) (memory after : List ℕ) (x t : ℕ) (m : TableMapping) : Type 0 where

@@ -1,12 +1,12 @@
 -- What the entries of the tables tell of the mappings that capabilities hold.
-use Rattle.std.proofs.Common.{◌≡◌, ◌≢◌, ◌∙◌, ℕ, ◌+◌, ◌-◌, ◌*◌, ◌/◌, ◌%◌, ◌^◌, ◌<◌, ◌≤◌, ◌==◌, ◌&&◌, ◌⊎◌, inl, inr, Bool, true, false, not, Option, Some, None, List, length, get_or, refl, sym, ap, subst, arith}
+use Rattle.std.proofs.Common.{◌≡◌, ◌∙◌, ℕ, ◌+◌, ◌*◌, ◌/◌, ◌%◌, ◌^◌, ◌<◌, ◌⊎◌, inl, inr, Bool, true, false, Some, None, List, refl, ap, subst, arith}
 use Rattle.std.proofs.lemmas.Bool.Decides.{eqb_tells}
 use Rattle.std.proofs.lemmas.List.Folds.{list_any_at, list_any_none}
 use Rattle.std.proofs.lemmas.List.FromFn.{get_or-range_with_len, length-range_with_len}
 use Rattle.model.specs.AddressSpaces.{maps_page, maps_region}
 use Rattle.model.specs.Bytes.{word_at}
-use Rattle.model.specs.CapabilityWords.{AreMappingRights, IsCapability}
-use Rattle.model.specs.Slots.{IsFull, Slots, capability_at, is_empty}
+use Rattle.model.specs.CapabilityWords.{IsCapability}
+use Rattle.model.specs.Slots.{IsFull, Slots, capability_at}
 use Rattle.model.specs.State.{State, holds_some, slot_numbers}
 use Rattle.model.specs.Invocations.{with_slots}
 use Rattle.model.specs.Sv32.{entry_at, leaf_word, table_word}

@@ -1,12 +1,11 @@
 -- A leaf is written, and the frame's capability changes: the agreement and the other bytes stay.
-use Rattle.std.proofs.Common.{◌≡◌, ◌≢◌, ◌∙◌, ℕ, ◌+◌, ◌*◌, ◌/◌, ◌%◌, ◌^◌, ◌<◌, ◌≤◌, ◌⊎◌, inl, inr, false, not, Option, Some, None, List, length, slice_index, refl, sym, ap, subst, arith}
-use Rattle.model.specs.AddressSpaces.{maps_page, page_size}
+use Rattle.std.proofs.Common.{◌≡◌, ◌≢◌, ◌∙◌, ℕ, ◌+◌, ◌*◌, ◌/◌, ◌%◌, ◌^◌, ◌<◌, ◌≤◌, inl, inr, not, Option, Some, None, List, length, refl, sym, ap, subst, arith}
 use Rattle.model.specs.Bytes.{word_bytes, written}
 use Rattle.model.specs.CapabilityWords.{IsCapability, IsFrameMapping, IsPlace}
 use Rattle.model.specs.Slots.{IsFull, OutsideSlots, SameOutside, Slots, capability_at, is_empty, recapped}
 use Rattle.model.specs.Sv32.{leaf_word}
 use Rattle.model.specs.declared.capabilities.Cap.{Cap}
-use Rattle.model.specs.declared.capabilities.Cap.TheVariants.{Empty, Frame, PageTable}
+use Rattle.model.specs.declared.capabilities.Cap.TheVariants.{Empty, Frame}
 use Rattle.model.specs.declared.capabilities.FrameMapping.{FrameMapping}
 use Rattle.model.specs.declared.rights.Rights.{Rights}
 use Rattle.model.proofs.BytesLemmas.{slice_index-written_before, slice_index-written_behind}
@@ -14,7 +13,7 @@ use Rattle.slots.proofs.Changes.{capability_of, entry-other, entry-same}
 use Rattle.vspace.specs.Answers.{FreeEntry, KeptBytes, LeafAnswer}
 use Rattle.vspace.specs.Tables.{IsTable, MapsTable, TablesAgree}
 use Rattle.vspace.proofs.FrameSteps.{index_small}
-use Rattle.vspace.proofs.Mapping.{MapStep, agree-mapped, table_of}
+use Rattle.vspace.proofs.Mapping.{MapStep, agree-mapped}
 use Rattle.vspace.proofs.Unmapping.{UnmapStep, agree-unmapped}
 use Rattle.std.proofs.lemmas.Bool.Decides.{eqb_tells}
 use Rattle.std.specs.Option.{option_map_or}
@@ -57,7 +56,7 @@ pub record Written (slots0 slots1 slots2 : Slots) (memory0 memory1 memory2 : Lis
   pub changed : slots2 ≡ recapped slots1 x c
   pub same : SameOutside slots1 memory1 memory2
 
-same-outside : (slots0 slots1 slots2 : Slots) (memory0 memory1 memory2 : List ℕ) (x place word : ℕ) (c : Cap) (other value : ℕ) → Written slots0 slots1 slots2 memory0 memory1 memory2 x place word c → place ≡ other → word ≡ value → SameOutside slots0 (written memory0 other (word_bytes value)) memory2
+pub same-outside : (slots0 slots1 slots2 : Slots) (memory0 memory1 memory2 : List ℕ) (x place word : ℕ) (c : Cap) (other value : ℕ) → Written slots0 slots1 slots2 memory0 memory1 memory2 x place word c → place ≡ other → word ≡ value → SameOutside slots0 (written memory0 other (word_bytes value)) memory2
 same-outside slots0 slots1 slots2 memory0 memory1 memory2 x place word c other value done here is =
     let first : SameOutside slots0 memory1 memory2 = subst (λ (s : Slots). SameOutside s memory1 memory2) done.kept done.same in
     let wrote : memory1 ≡ written memory0 other (word_bytes value) = done.wrote ∙ ap (λ (p : ℕ). written memory0 p (word_bytes word)) here ∙ ap (λ (w : ℕ). written memory0 other (word_bytes w)) is in

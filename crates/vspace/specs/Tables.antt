@@ -2,7 +2,6 @@
 -- RISC-V Privileged Architecture, "Sv32: Page-Based 32-bit Virtual-Memory Systems".
 use Rattle.std.specs.Prelude.{ℕ, ◌≡◌, ◌≢◌, ◌+◌, ◌*◌, ◌/◌, ◌%◌, ◌^◌, ◌<◌, ◌≤◌, ◌⊎◌, Option, Some, None, option_and_then, List, length}
 use Rattle.model.specs.Bytes.{word_at}
-use Rattle.model.specs.Capabilities.{frame_mapping, table_mapping}
 use Rattle.model.specs.CapabilityWords.{IsCapability}
 use Rattle.model.specs.Slots.{OutsideSlots, Slots, capability_at, IsFull}
 use Rattle.model.specs.State.{State}

@@ -1,5 +1,5 @@
 -- The entries that are read tell what capabilities map.
-use Rattle.std.proofs.Common.{◌≡◌, ◌∙◌, ℕ, ◌+◌, ◌*◌, ◌/◌, ◌%◌, ◌^◌, ◌<◌, ◌≤◌, sym, arith}
+use Rattle.std.proofs.Common.{◌∙◌, ◌/◌, ◌%◌, ◌^◌, sym, arith}
 use Rattle.vspace.proofs.Places.{entry-near, none-there, page-free, page-taken, table-stands, table-there}
 use Rattle.vspace.proofs.frames.free_entry.Goals as goal
 

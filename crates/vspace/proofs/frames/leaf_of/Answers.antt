@@ -1,5 +1,5 @@
 -- A frame that is mapped has its leaf in the page table that the root table names.
-use Rattle.std.proofs.Common.{◌≡◌, ◌∙◌, ℕ, ◌+◌, ◌*◌, ◌/◌, ◌%◌, ◌^◌, Option, Some, None, sym, refl, subst, arith}
+use Rattle.std.proofs.Common.{◌∙◌, ◌+◌, ◌*◌, ◌%◌, ◌^◌, Option, Some, sym, refl, subst, arith}
 use Rattle.model.specs.declared.capabilities.FrameMapping.{FrameMapping}
 use Rattle.vspace.specs.Answers.{LeafAnswer}
 use Rattle.vspace.proofs.Places.{entry-near, leaf-here, leaf-none, table-stands}

@@ -1,5 +1,5 @@
 -- The leaf is written, and the capability says so.
-use Rattle.std.proofs.Common.{◌≡◌, ◌∙◌, ℕ, ◌%◌, ◌^◌, Ok, Some, refl, sym, ap}
+use Rattle.std.proofs.Common.{◌∙◌, ◌%◌, ◌^◌, Ok, Some, sym, ap}
 use Rattle.model.specs.Invocations.{with_slots}
 use Rattle.model.specs.Slots.{Slots, recapped}
 use Rattle.model.specs.declared.capabilities.Cap.TheVariants.{Frame}

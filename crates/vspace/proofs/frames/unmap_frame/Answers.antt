@@ -1,5 +1,5 @@
 -- The leaf is zero, and the capability says that it is not mapped.
-use Rattle.std.proofs.Common.{◌≡◌, ◌∙◌, ℕ, ◌%◌, ◌^◌, Option, Some, None, refl, sym, ap}
+use Rattle.std.proofs.Common.{◌≡◌, ◌∙◌, ℕ, ◌%◌, ◌^◌, Option, None, sym, ap}
 use Rattle.model.specs.Capabilities.{unmapped}
 use Rattle.model.specs.Invocations.{Call, unmap_frame, with_slots}
 use Rattle.model.specs.Slots.{Slots, recapped}

@@ -1,5 +1,5 @@
 -- The walk gives what the mappings say.
-use Rattle.std.proofs.Common.{◌≡◌, ◌∙◌, ℕ, List, sym, ap, arith}
+use Rattle.std.proofs.Common.{◌∙◌, ℕ, List, ap, arith}
 use Rattle.std.specs.Option.{ok_or}
 use Rattle.model.specs.Sv32.{page_fault, walk}
 use Rattle.vspace.proofs.Joins.{walk-place}
