@@ -8,10 +8,10 @@ use Rattle.std.proofs.lemmas.List.{take_at, drop_at, drop_all, take-append-drop,
 use Rattle.model.specs.declared.refusals.Refusal.{Refusal}
 use Rattle.model.specs.declared.refusals.Refusal.TheVariants.{Trailing}
 use Rattle.model.specs.Format.{Spells, ◌>>=◌, many_spelling, many_fit}
-use Rattle.model.specs.Image.{Image, Thread, header_format, untyped_format, object_format, capability_format, interrupt_format, table_format, frame_format, content_format, sections_format, image_format, thread_format}
+use Rattle.model.specs.Image.{Image, Thread, header_format, untyped_format, object_format, capability_format, interrupt_format, table_format, frame_format, content_format, sections_format, image_format, image_with, thread_format}
 use Rattle.image.specs.Stage.{IsStaged, is_staged, later, no_slots, staged_end, staged_front, staged_image, staged_reading}
 use Rattle.image.proofs.Laws.{IsBytes, bind_ok, guard_ok, ok_is}
-use Rattle.image.proofs.ThreadLaws.{thread_law}
+use Rattle.image.proofs.ThreadLaws.{no_slots_laws, thread_law}
 
 -- two lists that agree at each place are one
 pointwise_is : (a b : List ℕ) → pointwise nat_eq a b ≡ true → a ≡ b
@@ -42,15 +42,15 @@ front_len = refl
 
 -- the spelling of an image of the form
 image_spelling : (t : Thread) → (image_format no_slots).spelling (staged_image t) ≡ staged_front ++ ((thread_format no_slots 7).spelling t ++ [])
-unfolding image_format staged_front many_spelling
+unfolding image_with staged_front many_spelling
 image_spelling t = refl
 
 image_fits : (t : Thread) → (thread_format no_slots 7).fits t ≡ true → (image_format no_slots).fits (staged_image t) ≡ true
-unfolding image_format sections_format header_format untyped_format object_format capability_format interrupt_format table_format frame_format content_format many_fit
+unfolding image_with sections_format header_format untyped_format object_format capability_format interrupt_format table_format frame_format content_format many_fit
 image_fits t h = and_from _ _ h refl
 
 thread_fits : (t : Thread) → (image_format no_slots).fits (staged_image t) ≡ true → (thread_format no_slots 7).fits t ≡ true
-unfolding image_format sections_format header_format untyped_format object_format capability_format interrupt_format table_format frame_format content_format many_fit
+unfolding image_with sections_format header_format untyped_format object_format capability_format interrupt_format table_format frame_format content_format many_fit
 thread_fits t h = (and_parts ((thread_format no_slots 7).fits t) true h).0
 
 -- a test that chose
@@ -78,7 +78,7 @@ staged_found bytes image fits h =
     let end = guard_ok (ltb at (length bytes)) (Trailing at) (cond (is_staged t) (Ok (staged_image t)) (Err later)) image b.2 in
     let form = chosen_ok (is_staged t) (Ok (staged_image t)) later image end.1 in
     let is : staged_image t ≡ image = ok_is (staged_image t) image form.1 in
-    let taken = (thread_law 7).takes bytes 236 t at fits long b.1 in
+    let taken = (thread_law no_slots no_slots_laws 7).takes bytes 236 t at fits long b.1 in
     let rest : drop at bytes ≡ [] = no_more bytes at (ltb-false at (length bytes) end.0) in
     let text : drop 236 bytes ≡ (thread_format no_slots 7).spelling t ++ [] = taken.spelled ∙ ap (λ (r : List ℕ). (thread_format no_slots 7).spelling t ++ r) rest in
     let spelled : bytes ≡ (image_format no_slots).spelling (staged_image t) = whole ∙ ap (λ (r : List ℕ). staged_front ++ r) text ∙ sym (image_spelling t) in
@@ -95,7 +95,7 @@ staged_read_thread bytes t staged s =
     let front : starts_with nat_eq bytes staged_front ≡ true = rw whole (begins_with staged_front (text ++ [])) in
     let len : length bytes ≡ 236 + length text = omega (arith, ap (λ (r : List ℕ). length r) whole, length-append staged_front (text ++ []), length-append text [], front_len) in
     let behind : drop 236 bytes ≡ text ++ [] = rw whole (drop_at staged_front (text ++ []) 236 front_len) in
-    let read : (thread_format no_slots 7).reads bytes 236 ≡ Ok (t, 236 + length text) = (thread_law 7).again bytes 236 t [] (omega (arith, len)) (thread_fits t s.fits) behind in
+    let read : (thread_format no_slots 7).reads bytes 236 ≡ Ok (t, 236 + length text) = (thread_law no_slots no_slots_laws 7).again bytes 236 t [] (omega (arith, len)) (thread_fits t s.fits) behind in
     let end : ltb (236 + length text) (length bytes) ≡ false = le-ltb _ _ (omega (arith, len)) in
     rw (front, read, end, staged) refl
 

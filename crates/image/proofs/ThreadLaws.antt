@@ -10,11 +10,11 @@ use Rattle.model.specs.declared.entries.SlotEntry.{SlotEntry}
 use Rattle.model.specs.declared.refusals.Refusal.{Refusal}
 use Rattle.model.specs.declared.refusals.Refusal.TheVariants.{Limit}
 use Rattle.model.specs.Format.{field}
-use Rattle.model.specs.Image.{anything, below, between, not_zero, is_constant, register_format, range_format, term_format, record_header_format, ranges_format, terms_format, record_format, registers_format, words_format, records_format, thread_header_format, thread_format}
+use Rattle.model.specs.Image.{SlotFormat, anything, below, between, not_zero, is_constant, register_format, range_format, term_format, record_header_format, ranges_format, terms_format, record_format, registers_format, words_format, records_format, thread_header_format, thread_format}
 use Rattle.image.specs.Stage.{later, no_slot_count, is_empty, no_slots}
 use Rattle.image.proofs.Laws.{IsBytes, IsLawful, Taken, bind_ok, ok_is, number_law, both_law, named_law, ordered_law, signed_law, wide32, wide64, signed_wide32, signed_wide64}
 
-field_law : (test : ℕ → Bool) → IsLawful (field test)
+pub field_law : (test : ℕ → Bool) → IsLawful (field test)
 field_law test = number_law Limit w32 test wide32
 
 register_law : (least : ℕ) → IsLawful (register_format least)
@@ -88,28 +88,32 @@ no_entries_again count bytes at (x ∷ xs) rest le fits h = absurd cc
 no_entries_law : (count : ℕ) → IsLawful (no_slots.entries count)
 no_entries_law count = record { takes = no_entries_takes count; again = no_entries_again count }
 
--- ---- records and threads
+-- ---- records and threads, by the laws of the slots that a record notes
 
-record_header_law : (words least : ℕ) → IsLawful (record_header_format no_slots words least)
+pub record AreLawful (slots : SlotFormat) : Type 0 where
+  pub count : IsLawful slots.count
+  pub entries : (count : ℕ) → IsLawful (slots.entries count)
+
+record_header_law : (slots : SlotFormat) → AreLawful slots → (words least : ℕ) → IsLawful (record_header_format slots words least)
 unfolding record_header_format
-record_header_law words least = named_law _ _ _ (λ x h. refl) (λ y. refl)
+record_header_law slots laws words least = named_law _ _ _ (λ x h. refl) (λ y. refl)
     (both_law _ _ (field_law (λ point. leb least point && ltb point words)) (λ (a : ℕ).
     both_law _ _ (field_law (between 0 31)) (λ (b : ℕ).
-    both_law _ _ no_slot_law (λ (c : ℕ).
+    both_law _ _ laws.count (λ (c : ℕ).
     both_law _ _ (field_law (between 0 4)) (λ (d : ℕ).
     signed_law w64 is_constant wide64 signed_wide64)))))
 
-record_law : (words least : ℕ) → IsLawful (record_format no_slots words least)
+record_law : (slots : SlotFormat) → AreLawful slots → (words least : ℕ) → IsLawful (record_format slots words least)
 unfolding record_format
-record_law words least = named_law _ _ _ (λ x h. refl) (λ y. refl)
-    (both_law _ _ (record_header_law words least) (λ (header : RecordHeader).
+record_law slots laws words least = named_law _ _ _ (λ x h. refl) (λ y. refl)
+    (both_law _ _ (record_header_law slots laws words least) (λ (header : RecordHeader).
     both_law _ _ (ranges_law header.ranges) (λ (a : List RangeEntry).
-    both_law _ _ (no_entries_law header.slots) (λ (b : List SlotEntry).
+    both_law _ _ (laws.entries header.slots) (λ (b : List SlotEntry).
     terms_law header.terms))))
 
-records_law : (words count : ℕ) → IsLawful (records_format no_slots words count)
+records_law : (slots : SlotFormat) → AreLawful slots → (words count : ℕ) → IsLawful (records_format slots words count)
 unfolding records_format
-records_law words count = ordered_law 0 (record_format no_slots words) (λ r. r.header.point + 1) count (record_law words)
+records_law slots laws words count = ordered_law 0 (record_format slots words) (λ r. r.header.point + 1) count (record_law slots laws words)
 
 thread_header_law : (objects : ℕ) → IsLawful (thread_header_format objects)
 unfolding thread_header_format
@@ -127,10 +131,13 @@ thread_header_law objects = named_law _ _ _ (λ x h. refl) (λ y. refl)
     both_law _ _ (field_law (between 1 65536)) (λ (words : ℕ).
     field_law (between 0 words)))))))))))))
 
-pub thread_law : (objects : ℕ) → IsLawful (thread_format no_slots objects)
+pub thread_law : (slots : SlotFormat) → AreLawful slots → (objects : ℕ) → IsLawful (thread_format slots objects)
 unfolding thread_format
-thread_law objects = named_law _ _ _ (λ x h. refl) (λ y. refl)
+thread_law slots laws objects = named_law _ _ _ (λ x h. refl) (λ y. refl)
     (both_law _ _ (thread_header_law objects) (λ (header : ThreadHeader).
     both_law _ _ (registers_law header.registers) (λ (a : List RegisterEntry).
     both_law _ _ (words_law header.words) (λ (b : List ℕ).
-    records_law header.words header.records))))
+    records_law slots laws header.words header.records))))
+
+pub no_slots_laws : AreLawful no_slots
+no_slots_laws = record { count = no_slot_law; entries = no_entries_law }

@@ -1,5 +1,5 @@
 -- The image: the format of its bytes, field after field. Each field of 4 bytes is unsigned unless said.
-use Rattle.std.specs.Prelude.{ℕ, ◌+◌, ◌-◌, ◌*◌, ◌^◌, min, Bool, true, ◌&&◌, ◌||◌, nat_lt, nat_le, ◌==◌, List, ℤ, pos, negsuc}
+use Rattle.std.specs.Prelude.{ℕ, ◌+◌, ◌-◌, ◌*◌, ◌^◌, min, Bool, true, not, ◌&&◌, ◌||◌, nat_lt, nat_le, ◌==◌, if◌then◌else◌, is_some, List, ℤ, pos, negsuc}
 use Rattle.std.specs.Int.{w32, w64}
 use Rattle.model.specs.declared.refusals.Refusal.TheVariants.{Magic, Version}
 use Rattle.model.specs.declared.entries.UntypedEntry.{UntypedEntry}
@@ -16,6 +16,7 @@ use Rattle.model.specs.declared.entries.ImageHeader.{ImageHeader}
 use Rattle.model.specs.declared.entries.ContentHeader.{ContentHeader}
 use Rattle.model.specs.declared.entries.ThreadHeader.{ThreadHeader}
 use Rattle.model.specs.declared.entries.RecordHeader.{RecordHeader}
+use Rattle.model.specs.CapabilityFields.{unpacked}
 use Rattle.model.specs.Format.{Format, number_or, number, field, signed, both, named, ordered, many}
 
 -- ---- what an image holds
@@ -200,6 +201,34 @@ pub record SlotFormat : Type 0 where
   pub count : Format ℕ
   pub entries : ℕ → Format (List SlotEntry)
 
+-- what stands for no object and for no index: the parent is in the boot CNode
+abbrev pub no_parent : ℕ
+no_parent = 2 ^ 32 - 1
+
+-- whether the number and the index that name a parent go together: both, or neither; an empty slot has no parent
+abbrev pub names_parent : Bool → ℕ → ℕ → Bool
+names_parent is_empty parent index =
+    if parent == no_parent then index == no_parent else not is_empty && nat_lt index (2 ^ 14)
+
+-- A slot of a CNode: its key, the two words of what it holds, and the key of its parent.
+unfoldable pub slot_format : ℕ → ℕ → Format SlotEntry
+slot_format objects least =
+    named (λ x. record { cnode = x.0; index = x.1.0; word0 = x.1.1.0; word1 = x.1.1.1.0; parent_cnode = x.1.1.1.1.0; parent_index = x.1.1.1.1.1 })
+    (λ e. (e.cnode, (e.index, (e.word0, (e.word1, (e.parent_cnode, e.parent_index))))))
+    (both (field (below objects)) (λ cnode.
+    both (field (λ index. nat_le least (pair_key cnode index) && nat_lt index (2 ^ 14))) (λ _.
+    both (field anything) (λ word0.
+    both (field (λ word1. is_some (unpacked word0 word1))) (λ word1.
+    both (field (λ parent. nat_lt parent objects || (parent == no_parent))) (λ parent.
+    field (names_parent ((word0 == 0) && (word1 == 0)) parent)))))))
+
+-- up to 256 slots, the CNode and the index rising together
+abbrev pub slots_format : ℕ → SlotFormat
+slots_format objects = record {
+  count = field (between 0 256);
+  entries = λ count. ordered 0 (slot_format objects) (λ e. pair_key e.cnode e.index + 1) count;
+}
+
 -- points rise strictly and lie below the number of words
 unfoldable pub record_header_format : SlotFormat → ℕ → ℕ → Format RecordHeader
 record_header_format slots words least =
@@ -262,8 +291,16 @@ sections_format =
     both (ordered 0 (frame_format header.objects) (λ e. pair_key e.root e.address + 1) header.frames) (λ _.
     ordered 0 (content_format header.objects) (λ c. c.header.frame + 1) header.contents)))))))
 
-unfoldable pub image_format : SlotFormat → Format Image
-image_format slots =
+-- the format where the slots that a record notes depend on the number of objects
+unfoldable pub image_with : (ℕ → SlotFormat) → Format Image
+image_with slots =
     named (λ x. record { header = x.0.0; untypeds = x.0.1.0; objects = x.0.1.1.0; capabilities = x.0.1.1.1.0; interrupts = x.0.1.1.1.1.0; tables = x.0.1.1.1.1.1.0; frames = x.0.1.1.1.1.1.1.0; contents = x.0.1.1.1.1.1.1.1; threads = x.1 })
     (λ i. (sections_of i, i.threads))
-    (both sections_format (λ sections. many sections.0.threads (thread_format slots sections.0.objects)))
+    (both sections_format (λ sections. many sections.0.threads (thread_format (slots sections.0.objects) sections.0.objects)))
+
+abbrev pub image_format : SlotFormat → Format Image
+image_format slots = image_with (λ _. slots)
+
+-- what all image files are: one image has one spelling
+abbrev pub whole_image : Format Image
+whole_image = image_with slots_format

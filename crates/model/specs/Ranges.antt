@@ -1,10 +1,9 @@
--- The ranges that a certificate keeps registers in, and what an instruction makes of them.
+-- The ranges that a certificate keeps registers in.
 use Rattle.std.specs.Prelude.{ℕ, Bool, true, false, ◌+◌, ◌-◌, ◌^◌, ◌<◌, ◌≤◌, ◌==◌, ◌&&◌, nat_le, nat_lt, if◌then◌else◌, List, slice_index_or, slice_set, ℤ, pos, negsuc}
 use Rattle.model.specs.declared.instructions.Register.{Register}
 use Rattle.model.specs.declared.instructions.ImmediateOp.TheVariants.{Addi, Slti, Sltiu, Xori, Ori, Andi}
 use Rattle.model.specs.declared.instructions.Instr.{Instr}
 use Rattle.model.specs.declared.instructions.Instr.TheVariants.{Upper, Jal, Jalr, Branch, Load, Store, Immediate, Shift, Registers, Fence, Ecall, Ebreak}
-use Rattle.model.specs.Instructions.{plus}
 use Rattle.model.specs.declared.ranges.Range.{Range}
 
 -- every value of a register
@@ -34,13 +33,10 @@ moved_up r n =
 abbrev pub moved_down : Range → ℕ → Range
 moved_down r n = if nat_le n r.low && nat_le n r.high then record { low = r.low - n; high = r.high - n } else full
 
--- ADDI: where both ends stay within 0 to 2 ^ 32 - 1 they move, and else the range is full; a single value wraps
+-- a range moved by a signed number: where both ends stay within 0 to 2 ^ 32 - 1 they move, and else the range is full
 abbrev pub moved : Range → ℤ → Range
 moved r (pos n) = moved_up r n
 moved r (negsuc n) = moved_down r (n + 1)
-
-abbrev pub addi_range : Range → ℤ → Range
-addi_range r immediate = if r.low == r.high then single (plus r.low immediate) else moved r immediate
 
 -- the ranges of each register lie within the others
 abbrev pub AreWithin : List Range → List Range → Type 0

@@ -82,6 +82,9 @@ send_on s thread Calling endpoint badge grant_reply = (send s endpoint (sender t
 send_on s thread Sending endpoint badge grant_reply = (send s endpoint (sender thread BySend badge grant_reply), Waited)
 send_on s thread Trying endpoint badge grant_reply = (try_to_send s endpoint (sender thread BySend badge grant_reply), Plain)
 
+abbrev pub signal_on : State → ℕ → SendCall → ℕ → ℕ → Done
+signal_on s thread kind notification badge = (answered (signal s notification badge) thread kind 0, Plain)
+
 -- A call may end its caller, which then gets no answer, or suspend it, which then passes without one.
 abbrev pub completed : State → ℕ → SendCall → State
 completed s thread kind =
@@ -105,7 +108,7 @@ abbrev pub send_by : State → ℕ → SendCall → ℕ → Cap → Done
 send_by s thread kind slot (Endpoint offset r badge) =
     if may_write r then send_on s thread kind offset badge (may_grant_reply r) else refused s thread kind InvalidCapability
 send_by s thread kind slot (Notification offset r badge) =
-    if may_write r then (answered (signal s offset badge) thread kind 0, Plain) else refused s thread kind InvalidCapability
+    if may_write r then signal_on s thread kind offset badge else refused s thread kind InvalidCapability
 send_by s thread kind slot capability = invokes s thread kind slot capability
 
 -- without a capability NBSend does nothing, and the others fault
@@ -151,22 +154,50 @@ receive_named s thread kind (Err failure) = lacks_capability s thread 1 failure
 abbrev pub receive_call : State → ℕ → ReceiveCall → Done
 receive_call s thread kind = receive_named s thread kind (named_slot s thread)
 
--- ---- all system calls, by the number in a7
+-- ---- all system calls
 
+pub data SystemCall : Type 0 where
+  -- Call, Send, NBSend
+  Sends : SendCall → SystemCall
+  -- Recv, NBRecv
+  Receives : ReceiveCall → SystemCall
+  -- ReplyRecv: the fault of its receive comes after the reply
+  RepliesAndReceives : SystemCall
+  Replies : SystemCall
+  -- to the tail of its priority, with a full slice
+  Yields : SystemCall
+  -- puts the low byte of a0 into the trace
+  PutsCharacter : SystemCall
+
+-- the call of a number
+abbrev pub call_of : ℕ → Option SystemCall
+call_of number =
+    if number == 1 then Some (Sends Calling) else
+    if number == 2 then Some RepliesAndReceives else
+    if number == 3 then Some (Sends Sending) else
+    if number == 4 then Some (Sends Trying) else
+    if number == 5 then Some (Receives Receiving) else
+    if number == 6 then Some Replies else
+    if number == 7 then Some Yields else
+    if number == 8 then Some (Receives Polling) else
+    if number == 9 then Some PutsCharacter else None
+
+abbrev pub calls : State → ℕ → SystemCall → Done
+calls s thread (Sends kind) = send_call s thread kind
+calls s thread (Receives kind) = receive_call s thread kind
+calls s thread RepliesAndReceives = receive_call (reply s thread) thread Receiving
+calls s thread Replies = (passes (reply s thread) thread, Plain)
+calls s thread Yields = (yielded (passes s thread) thread, Plain)
+calls s thread PutsCharacter = (passes s thread, Put (read (registers_of s thread) a0 % 2 ^ 8))
+
+-- another number is a fault
+abbrev pub calls_known : State → ℕ → ℕ → Option SystemCall → Done
+calls_known s thread number (Some call) = calls s thread call
+calls_known s thread number None = faults s thread (unknown_call (registers_of s thread).pc number)
+
+-- the call whose number is in a7
 unfoldable pub system_call : State → ℕ → Done
-system_call s thread =
-    let r = registers_of s thread in
-    let number = read r a7 in
-    if number == 1 then send_call s thread Calling else
-    if number == 2 then receive_call (reply s thread) thread Receiving else
-    if number == 3 then send_call s thread Sending else
-    if number == 4 then send_call s thread Trying else
-    if number == 5 then receive_call s thread Receiving else
-    if number == 6 then (passes (reply s thread) thread, Plain) else
-    if number == 7 then (yielded (passes s thread) thread, Plain) else
-    if number == 8 then receive_call s thread Polling else
-    if number == 9 then (passes s thread, Put (read r a0 % 2 ^ 8)) else
-    faults s thread (unknown_call r.pc number)
+system_call s thread = let number = read (registers_of s thread) a7 in calls_known s thread number (call_of number)
 
 -- ---- one instruction
 

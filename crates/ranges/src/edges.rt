@@ -1,10 +1,11 @@
 //! Where an instruction leads, and with which ranges.
 
-ghost use Rattle.std.specs.Prelude.{◌≡◌, ℤ, true};
-ghost use Rattle.model.specs.Instructions.{IsInstr};
-ghost use Rattle.model.specs.Ranges.{addi_range, is_ranged};
-ghost use Rattle.model.specs.declared.instructions.Register.{Register};
-ghost use Rattle.ranges.specs.Edges.{addi_edges, jal_edges};
+ghost use Rattle.std.specs.Prelude.{◌≡◌, true};
+ghost use Rattle.model.specs.Edges.{after};
+ghost use Rattle.model.specs.Instructions.{IsInstr, plus};
+ghost use Rattle.model.specs.RangeRules.{is_single, value_or};
+ghost use Rattle.model.specs.Ranges.{is_ranged, moved};
+ghost use Rattle.ranges.specs.Edges.{ways_of};
 
 use crate::Bounds;
 use model::{ImmediateOp, Instr, Range};
@@ -39,12 +40,11 @@ pub fn is_ranged(instr: &Instr) -> bool
 }
 
 /// What the instruction at `pc` makes of the ranges, on each way on.
+#[tactic(auto, unfolding(model::specs::Edges::after, model::specs::RangeRules::result_range))]
 pub fn after(pc: u32, instr: Instr, bounds: &Bounds) -> Edges
     requires instr { IsInstr instr }
     requires ranged { is_ranged instr ≡ true }
-    ensures addi { (rd rs1 : Register) (immediate : ℤ) → instr ≡ Instr.Immediate ImmediateOp.Addi rd rs1 immediate
-        → result ≡ addi_edges pc rd rs1 immediate bounds.now }
-    ensures jal { (rd : Register) (offset : ℤ) → instr ≡ Instr.Jal rd offset → result ≡ jal_edges pc rd offset bounds.now }
+    ensures { result ≡ ways_of (after pc instr bounds.now) }
 {
     let next = pc.wrapping_add(4);
     match instr {
@@ -82,7 +82,7 @@ pub fn after(pc: u32, instr: Instr, bounds: &Bounds) -> Edges
 
 /// The range of a sum of a register and an immediate.
 fn addi_range(range: Range, immediate: i32) -> Range
-    ensures { result ≡ addi_range range immediate }
+    ensures { result ≡ value_or (is_single range) (plus range.low immediate) (moved range immediate) }
 {
     if range.low == range.high {
         return Range::single(range.low.wrapping_add(immediate.cast_unsigned()));

@@ -1,0 +1,12 @@
+pub mod Acceptance
+pub mod Descents
+pub mod LookupLaws
+pub mod Opened
+pub mod Placements
+pub mod ReadyLists
+pub mod ReadySteps
+pub mod Removals
+pub mod Signs
+pub mod Spellings
+pub mod WaitLaws
+pub mod WholeImage

@@ -1,0 +1,9 @@
+-- By the laws of the format.
+use Rattle.model_laws.proofs.WholeImage.{one-image, one-spelling}
+use Rattle.model_laws.proofs.image.an_image_has_one_spelling.Goals as goal
+
+pub returns-clause-spelling : goal.returns-clause-spelling
+returns-clause-spelling c = one-spelling
+
+pub returns-clause-image : goal.returns-clause-image
+returns-clause-image c = one-image

@@ -1,0 +1,32 @@
+//! Laws of derivation and removal.
+
+ghost use Rattle.std.specs.Prelude.{◌≡◌, ◌<◌, ◌^◌, ◌/◌, ℕ, true, false, Ok};
+ghost use Rattle.model.specs.Removal.{SlotSet, kept, new_parent, remove, with_bindings};
+ghost use Rattle.model.specs.Slots.{Descendant, IsDerivation, Slots, capability_at, is_full, parent_at};
+ghost use Rattle.model.specs.State.{State};
+ghost use Rattle.model_laws.specs.Capabilities.{apart_from_mapping};
+
+/// A descendant of a descendant is one.
+pub fn descendants_are_closed()
+    ensures { (slots : Slots) (root middle slot : ℕ)
+        → Descendant slots root middle → Descendant slots middle slot → Descendant slots root slot }
+{}
+
+/// Where parents have no circle, no slot descends from itself.
+pub fn no_slot_descends_from_itself()
+    ensures { (slots : Slots) (slot : ℕ) → IsDerivation slots → Descendant slots slot slot → ⊥ }
+{}
+
+/// A full slot outside a removed set stays, below its nearest ancestor that stays.
+pub fn a_removal_keeps_other_slots()
+    ensures { (s t : State) (set : SlotSet) (slot : ℕ) → remove s set ≡ Ok t
+        → slot < 2 ^ s.memory_bits / 16 → is_full s.slots slot ≡ true → with_bindings s set slot ≡ false
+        → (capability_at t.slots slot ≡ kept s (with_bindings s set) slot (capability_at s.slots slot))
+        × (parent_at t.slots slot ≡ new_parent s (with_bindings s set) slot) }
+{}
+
+/// Its capability is the same but for a mapping, or for the watermark of untyped memory.
+pub fn a_removal_changes_mappings_alone()
+    ensures { (s : State) (set : SlotSet) (slot : ℕ)
+        → apart_from_mapping (kept s set slot (capability_at s.slots slot)) ≡ apart_from_mapping (capability_at s.slots slot) }
+{}

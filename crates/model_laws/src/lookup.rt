@@ -1,0 +1,13 @@
+//! Laws of capability lookup.
+
+ghost use Rattle.std.specs.Prelude.{◌≡◌, ℕ, Result};
+ghost use Rattle.model.specs.declared.capabilities.Cap.{Cap};
+ghost use Rattle.model.specs.declared.lookup_failures.LookupFailure.{LookupFailure};
+ghost use Rattle.model.specs.Slots.{Slots};
+ghost use Rattle.model_laws.specs.Lookups.{LeadsTo};
+
+/// An address leads to one slot or one failure.
+pub fn lookup_is_a_function()
+    ensures { (slots : Slots) (address : ℕ) (root : Cap) (left : ℕ) (one other : Result (ℕ × ℕ) LookupFailure)
+        → LeadsTo slots address root left one → LeadsTo slots address root left other → one ≡ other }
+{}
