@@ -9,6 +9,7 @@ mod image_rows;
 mod loading_rows;
 mod lookup;
 mod machine_rows;
+mod mapping_rows;
 mod placement;
 mod scheduling;
 mod spelling;
@@ -38,6 +39,10 @@ pub use machine_rows::{
     a_shift_keeps_the_sign, a_wait_takes_the_joined_word,
     an_interrupt_waits_for_its_acknowledgement, an_odd_jump_traps, five_ticks_rotate,
     the_next_wait_blocks,
+};
+pub use mapping_rows::{
+    a_frame_is_mapped_once_at_a_free_page, a_load_across_the_end_of_a_page_faults,
+    a_page_has_its_rights,
 };
 pub use placement::{placement_is_aligned, placement_is_disjoint, placement_is_inside};
 pub use scheduling::the_ready_list_holds_no_thread_twice;
