@@ -8,15 +8,18 @@ trap 'rm -rf "$copy"' EXIT
 cp -r "$here/../../." "$copy"
 rm -rf "$copy/.git" "$copy/tools"
 git -C "$copy" init -q
-for name in exec_bench store_bench; do
+for name in exec_bench store_bench lookup_bench; do
     mkdir -p "$copy/crates/$name/src"
     cp "$here/$name.rt.in" "$copy/crates/$name/src/main.rt"
 done
+mkdir -p "$copy/crates/lookup_bench/proofs/sample"
+cp "$here/lookup_bench.sample.antt.in" "$copy/crates/lookup_bench/proofs/sample/Answers.antt"
 cat >>"$copy/crates.txt" <<'LIST'
 exec_bench: model rv32_isa rv32_exec
 store_bench: model slots
+lookup_bench: model slots cspace
 LIST
-for name in exec_bench store_bench; do
+for name in exec_bench store_bench lookup_bench; do
     (cd "$copy/crates/$name" && rt run >"$copy/$name.log" 2>&1)
 done
 echo "100 million instructions, proved:"
@@ -36,3 +39,5 @@ peak = resource.getrusage(resource.RUSAGE_CHILDREN).ru_maxrss
 print(round(time.monotonic() - start, 3), "s,", peak, "KiB at most")' \
         "$copy/crates/store_bench/out/store_bench" "$word"
 done
+echo "100 million look-ups through one CNode:"
+time -p "$copy/crates/lookup_bench/out/lookup_bench"
