@@ -34,7 +34,7 @@ word_at-written bytes at word fits small =
     omega (arith, first, second, third, fourth, word-of_bytes word small)
 
 -- a word is the same where its four bytes are
-word_at-same : (old new : List ℕ) (at : ℕ) → ((k : ℕ) → at ≤ k → k < at + 4 → slice_index new k ≡ slice_index old k) → word_at new at ≡ word_at old at
+pub word_at-same : (old new : List ℕ) (at : ℕ) → ((k : ℕ) → at ≤ k → k < at + 4 → slice_index new k ≡ slice_index old k) → word_at new at ≡ word_at old at
 word_at-same old new at same =
     let first = same at (omega arith) (omega arith) in
     let second = same (at + 1) (omega arith) (omega arith) in

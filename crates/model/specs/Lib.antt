@@ -1,9 +1,9 @@
 pub mod Accepted
 pub mod AddressSpaces
 pub mod Arguments
+pub mod Authority
 pub mod Boot
 pub mod BootCalls
-pub mod Authority
 pub mod Bytes
 pub mod CallRules
 pub mod Capabilities
@@ -41,6 +41,7 @@ pub mod Scheduling
 pub mod Slots
 pub mod State
 pub mod Steps
+pub mod Sv32
 pub mod ThreadInvariants
 pub mod ThreadRules
 pub mod Trace

@@ -205,6 +205,10 @@ pub struct MemoryFault {
     pub access: Access,
 }
 
+/// A virtual address that names no place in memory for an access.
+#[derive(Clone, Copy, Debug, PartialEq, Eq)]
+pub struct PageFault;
+
 /// Why an instruction traps. The numbers are those that a fault message carries.
 #[derive(Clone, Copy, Debug, PartialEq, Eq)]
 pub enum Cause {

@@ -28,8 +28,8 @@ pub use errors::KError;
 pub use events::Event;
 pub use faults::FaultKind;
 pub use instructions::{
-    Access, AccessSize, BranchOp, Cause, Exec, ImmediateOp, Instr, LoadOp, MemoryFault, Register,
-    RegisterOp, ShiftOp, StoreOp, UpperOp,
+    Access, AccessSize, BranchOp, Cause, Exec, ImmediateOp, Instr, LoadOp, MemoryFault, PageFault,
+    Register, RegisterOp, ShiftOp, StoreOp, UpperOp,
 };
 pub use labels::{Label, Outcome};
 pub use lookup_failures::LookupFailure;

@@ -12,6 +12,7 @@ mod loading_rows;
 mod lookup_laws;
 mod loop_rows;
 mod machine_rows;
+mod mapping_rows;
 mod placement_laws;
 mod program_rows;
 mod range_laws;
@@ -56,6 +57,10 @@ pub use machine_rows::{
     a_shift_keeps_the_sign, a_wait_takes_the_joined_word,
     an_interrupt_waits_for_its_acknowledgement, an_odd_jump_traps, five_ticks_rotate,
     the_next_wait_blocks,
+};
+pub use mapping_rows::{
+    a_frame_is_mapped_once_at_a_free_page, a_load_across_the_end_of_a_page_faults,
+    a_page_has_its_rights,
 };
 pub use placement_laws::{placement_is_aligned, placement_is_disjoint, placement_is_inside};
 pub use program_rows::{

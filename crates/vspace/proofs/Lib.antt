@@ -1,0 +1,12 @@
+pub mod Entries
+pub mod Steps
+pub mod FrameSteps
+pub mod Mapping
+pub mod Unmapping
+pub mod Taken
+pub mod Places
+pub mod Outcomes
+pub mod Writes
+pub mod Joins
+pub mod TableSteps
+pub mod TableOutcomes

@@ -1,0 +1,143 @@
+-- The definition of the call that maps a page table, by what its checks answer, and what its write leaves.
+use Rattle.std.proofs.Common.{◌≡◌, ◌≢◌, ◌∙◌, ℕ, ◌+◌, ◌*◌, ◌/◌, ◌%◌, ◌^◌, ◌<◌, ◌≤◌, ◌==◌, inl, inr, Bool, true, false, not, Option, Some, None, Result, Ok, Err, List, [], ◌∷◌, length, refl, sym, ap, subst, arith}
+use Rattle.std.specs.Prelude.{nat_lt}
+use Rattle.std.specs.Option.{is_some}
+use Rattle.model.specs.AddressSpaces.{address_limit, is_region_taken, maps_region, page_size, region_pages}
+use Rattle.model.specs.Arguments.{◌>>=◌, check}
+use Rattle.model.specs.CapabilityWords.{IsCapability, IsTableMapping}
+use Rattle.model.specs.Invocations.{map_table, root_named, with_slots}
+use Rattle.model.specs.Slots.{Slots, capability_at, recapped}
+use Rattle.model.specs.State.{State}
+use Rattle.model.specs.Sv32.{table_word}
+use Rattle.model.specs.declared.capabilities.Cap.{Cap}
+use Rattle.model.specs.declared.capabilities.Cap.TheVariants.{Empty, PageTable, RootTable}
+use Rattle.model.specs.declared.capabilities.TableMapping.{TableMapping}
+use Rattle.model.specs.declared.errors.KError.{KError}
+use Rattle.model.specs.declared.errors.KError.TheVariants.{AlignmentError, DeleteFirst, InvalidArgument}
+use Rattle.model.proofs.BytesLemmas.{slice_index-written_before, slice_index-written_behind}
+use Rattle.model.specs.Bytes.{word_bytes}
+use Rattle.slots.proofs.Changes.{capability_of}
+use Rattle.vspace.specs.TableAnswers.{FreePointer, GivesTableMapped, KeptBesideRoots, RegionAnswer, TableMappingAnswer, region_named, table_call}
+use Rattle.vspace.specs.Tables.{Holds, TablesAgree, table_in}
+use Rattle.vspace.proofs.Outcomes.{region-taken}
+use Rattle.vspace.proofs.TableSteps.{TableStep, agree-table_mapped}
+use Rattle.vspace.proofs.Taken.{holds-none, region-answer}
+use Rattle.vspace.proofs.Writes.{Written, same-outside}
+
+-- ---- the entry of the region
+
+pub pointer-free : (slots : Slots) (memory read : List ℕ) (root region : ℕ) → TablesAgree slots memory → Holds slots (RootTable root) → region < 2 ^ 9 → read ≡ memory → is_some (table_in read root region) ≡ false → FreePointer slots root region (root + 4 * region)
+pointer-free slots memory read root region agree rooted near same is =
+    let found : is_some (table_in memory root region) ≡ false = sym (ap (λ (m : List ℕ). is_some (table_in m root region)) same) ∙ is in
+    elim (region-answer slots memory root region agree rooted (omega (arith, near))) [
+      | inl free ↦ record { rooted = rooted; here = refl; free = free.1 }
+      | inr there ↦ absurd (let e = ap is_some there.1 in cc)
+    ]
+
+pub pointer-taken : (slots : Slots) (memory read : List ℕ) (root region : ℕ) → TablesAgree slots memory → Holds slots (RootTable root) → region < 2 ^ 9 → read ≡ memory → is_some (table_in read root region) ≡ true → RegionAnswer slots root region (Err DeleteFirst)
+pointer-taken slots memory read root region agree rooted near same is =
+    let found : is_some (table_in memory root region) ≡ true = sym (ap (λ (m : List ℕ). is_some (table_in m root region)) same) ∙ is in
+    elim (region-answer slots memory root region agree rooted (omega (arith, near))) [
+      | inl free ↦ absurd (let e = ap is_some free.0 in cc)
+      | inr there ↦ (refl, (there.0, there.2))
+    ]
+
+-- ---- the call
+
+abbrev checks : Bool → Bool → Bool → Result State KError → Result State KError
+checks low aligned free last = do
+  _ ← check low InvalidArgument
+  _ ← check aligned AlignmentError
+  _ ← check free DeleteFirst
+  last
+
+abbrev mapping_of : ℕ → ℕ → TableMapping
+mapping_of root region = record { root = root; region = region }
+
+abbrev behind_root : State → Slots → ℕ → ℕ → ℕ → ℕ → Result State KError
+behind_root s slots x t address root =
+    checks (nat_lt address address_limit) (address % (page_size * region_pages) == 0)
+    (not (is_region_taken (with_slots s slots) root (address / (page_size * region_pages))))
+    (Ok (with_slots s (recapped slots x (PageTable t (Some (mapping_of root (address / (page_size * region_pages))))))))
+
+defined : (s : State) (slots : Slots) (cspace : Cap) (caller : Option ℕ) (x t a d address : ℕ) → map_table (with_slots s slots) (table_call cspace caller x t None) (a ∷ d ∷ address ∷ []) ≡ (root_named slots cspace (a ∷ d ∷ []) 0 >>= behind_root s slots x t address)
+defined s slots cspace caller x t a d address = refl
+
+with_root : (s : State) (slots : Slots) (cspace : Cap) (caller : Option ℕ) (x t a d address root : ℕ) → root_named slots cspace (a ∷ d ∷ []) 0 ≡ Ok root → map_table (with_slots s slots) (table_call cspace caller x t None) (a ∷ d ∷ address ∷ []) ≡ behind_root s slots x t address root
+with_root s slots cspace caller x t a d address root is =
+    defined s slots cspace caller x t a d address ∙ ap (λ found. found >>= behind_root s slots x t address) is
+
+checks-low : (low aligned : Bool) (region found : ℕ) → (let answer : Result ℕ KError = check low InvalidArgument >>= λ _. check aligned AlignmentError >>= λ _. Ok region in answer ≡ Ok found) → (low ≡ true) × (aligned ≡ true) × (region ≡ found)
+checks-low false aligned region found is = absurd cc
+checks-low true false region found is = absurd cc
+checks-low true true region found is = (refl, refl, cc)
+
+low_region : (address region : ℕ) → region_named address ≡ Ok region → (nat_lt address address_limit ≡ true) × ((address % (page_size * region_pages) == 0) ≡ true) × (address / (page_size * region_pages) ≡ region)
+low_region address region is = checks-low (nat_lt address address_limit) (address % (page_size * region_pages) == 0) (address / (page_size * region_pages)) region is
+
+checks-taken : (low aligned free : Bool) (last : Result State KError) → low ≡ true → aligned ≡ true → free ≡ false → checks low aligned free last ≡ Err DeleteFirst
+checks-taken low aligned free last a b c = rw (a, b, c) refl
+
+checks-all : (low aligned free : Bool) (last : Result State KError) → low ≡ true → aligned ≡ true → free ≡ true → checks low aligned free last ≡ last
+checks-all low aligned free last a b c = rw (a, b, c) refl
+
+pub gives-taken : (slots : Slots) (cspace : Cap) (x t : ℕ) (o : Option TableMapping) (a d address root region : ℕ) (e : KError) → is_some o ≡ false → root_named slots cspace (a ∷ d ∷ []) 0 ≡ Ok root → region_named address ≡ Ok region → RegionAnswer slots root region (Err e) → let refused : Result (Unit {0}) KError = Err e in GivesTableMapped slots cspace x t o (a ∷ d ∷ address ∷ []) slots refused
+gives-taken slots cspace x t (Some m) a d address root region e absent is named answer = absurd cc
+gives-taken slots cspace x t None a d address root region e absent is named answer = λ s caller near.
+    let low = low_region address region named in
+    let last : Result State KError = Ok (with_slots s (recapped slots x (PageTable t (Some (mapping_of root (address / (page_size * region_pages))))))) in
+    let held : not (is_region_taken (with_slots s slots) root (address / (page_size * region_pages))) ≡ false =
+    ap (λ (p : ℕ). not (is_region_taken (with_slots s slots) root p)) low.2 ∙ ap not (region-taken s slots root region answer.1.0 near answer.1.1) in
+    with_root s slots cspace caller x t a d address root is
+    ∙ checks-taken _ _ _ last low.0 low.1 held ∙ ap (λ (k : KError). Err k) (sym answer.0)
+
+pub gives-table : (slots : Slots) (memory : List ℕ) (cspace : Cap) (x t : ℕ) (o : Option TableMapping) (a d address root region place : ℕ) → TablesAgree slots memory → is_some o ≡ false → root_named slots cspace (a ∷ d ∷ []) 0 ≡ Ok root → region_named address ≡ Ok region → region < 2 ^ 9 → FreePointer slots root region place → TableMappingAnswer slots cspace x t o (a ∷ d ∷ address ∷ []) (Ok (place, record { root = root; region = region }))
+gives-table slots memory cspace x t (Some m) a d address root region place agree absent is named near entry = absurd cc
+gives-table slots memory cspace x t None a d address root region place agree absent is named near entry =
+    let fine : IsCapability (RootTable root) = subst (λ (c : Cap). IsCapability c) entry.rooted.1 (agree.valid entry.rooted.0) in
+    let low = low_region address region named in (
+      refl,
+      entry,
+      (fine, near),
+      λ s caller close.
+          let last : Result State KError = Ok (with_slots s (recapped slots x (PageTable t (Some (mapping_of root (address / (page_size * region_pages))))))) in
+          let free : not (is_region_taken (with_slots s slots) root (address / (page_size * region_pages))) ≡ true =
+          ap (λ (p : ℕ). not (is_region_taken (with_slots s slots) root p)) low.2 ∙ ap not (holds-none s slots (maps_region root region) entry.free) in
+          with_root s slots cspace caller x t a d address root is
+          ∙ checks-all _ _ _ last low.0 low.1 free
+          ∙ ap (λ (p : ℕ). Ok (with_slots s (recapped slots x (PageTable t (Some (mapping_of root p)))))) low.2,
+    )
+
+-- ---- the write
+
+table-open : (slots : Slots) (x t : ℕ) (o : Option TableMapping) → capability_at slots x ≡ PageTable t o → slots x ≢ None
+table-open slots x t o held = λ none. let e : PageTable t o ≡ Empty = sym held ∙ ap capability_of none in absurd (cc e)
+
+pub table-done : (slots0 slots1 slots2 : Slots) (memory0 memory1 memory2 : List ℕ) (x t place word : ℕ) (o : Option TableMapping) (m : TableMapping) → TablesAgree slots0 memory0 → o ≡ None → capability_at slots0 x ≡ PageTable t o → IsTableMapping (Some m) → FreePointer slots0 m.root m.region place → word ≡ table_word t → Written slots0 slots1 slots2 memory0 memory1 memory2 x place word (PageTable t (Some m)) → TablesAgree slots2 memory2
+table-done slots0 slots1 slots2 memory0 memory1 memory2 x t place word o m agree absent held fine entry is done =
+    let was : capability_at slots0 x ≡ PageTable t None = held ∙ ap (λ (k : Option TableMapping). PageTable t k) absent in
+    let old : IsCapability (PageTable t None) = subst (λ (c : Cap). IsCapability c) was (agree.valid x) in
+    let step : TableStep slots0 memory0 memory2 x t m = record {
+      agree = agree;
+      was = was;
+      is_open = table-open slots0 x t o held;
+      fine = (old.0, fine);
+      rooted = entry.rooted;
+      free = entry.free;
+      same = same-outside slots0 slots1 slots2 memory0 memory1 memory2 x place word _ (m.root + 4 * m.region) (table_word t) done entry.here is;
+    } in
+    let new : slots2 ≡ recapped slots0 x (PageTable t (Some m)) = done.changed ∙ ap (λ (s : Slots). recapped s x (PageTable t (Some m))) done.kept in
+    subst (λ (s : Slots). TablesAgree s memory2) (sym new) (agree-table_mapped slots0 memory0 memory2 x t m step)
+
+pub kept-beside : (slots0 slots1 slots2 : Slots) (memory0 memory1 memory2 : List ℕ) (x place word : ℕ) (c : Cap) (m : TableMapping) → TablesAgree slots0 memory0 → IsTableMapping (Some m) → FreePointer slots0 m.root m.region place → Written slots0 slots1 slots2 memory0 memory1 memory2 x place word c → KeptBesideRoots slots0 memory0 memory2
+kept-beside slots0 slots1 slots2 memory0 memory1 memory2 x place word c m agree fine entry done = λ k closed apart.
+    let same = same-outside slots0 slots1 slots2 memory0 memory1 memory2 x place word c place word done refl refl in
+    let stands = agree.roots entry.rooted.0 m.root entry.rooted.1 in
+    let here = entry.here in
+    let region = fine.1 in
+    let fits : place + 4 ≤ length memory0 = omega (arith, stands.within, region, here) in
+    same.bytes k closed
+    ∙ elim (apart m.root entry.rooted) [
+      | inl before ↦ slice_index-written_before memory0 place (word_bytes word) k fits (omega (arith, before, here))
+      | inr behind ↦ slice_index-written_behind memory0 place (word_bytes word) k fits (omega (arith, behind, here, region))
+    ]

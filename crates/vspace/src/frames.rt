@@ -1,0 +1,217 @@
+//! Mapping frames.
+
+ghost use Rattle.std.specs.Prelude.{◌≡◌, ◌<◌, ◌≤◌, ◌/◌, ◌*◌, ◌^◌, ◌||◌, ◌⊎◌, [], ◌∷◌, ◌+◌, IfErr, IfOk, length};
+ghost use Rattle.model.specs.CapabilityWords.{AreMappingRights, IsCapability, IsPlace};
+ghost use Rattle.model.specs.Invocations.{Call, unmap_frame, with_slots};
+ghost use Rattle.model.specs.Lookup.{CNodeIsOpen, CNodesAreOpen};
+ghost use Rattle.model.specs.Rights.{may_execute, may_read, mapping_rights};
+ghost use Rattle.model.specs.Slots.{capability_at};
+ghost use Rattle.model.specs.State.{State};
+ghost use Rattle.model.specs.Sv32.{leaf_word};
+ghost use Rattle.vspace.specs.Answers.{GivesMapped, KeptBytes, LeafAnswer, MappingAnswer, PageAnswer, page_named};
+ghost use Rattle.vspace.specs.Tables.{Holds, TablesAgree};
+
+use crate::arguments::{SlotName, root_named};
+use crate::tables::{is_taken, table_in};
+use model::{Cap, FrameMapping, KError, Rights, Slot};
+use slots::SlotStore;
+use sv32::Pte;
+
+/// A frame's capability, and the slot that holds it.
+#[derive(Clone, Copy, Debug, PartialEq, Eq)]
+pub struct FrameCap {
+    pub slot: Slot,
+    pub offset: u32,
+    pub rights: Rights,
+    pub mapping: Option<FrameMapping>,
+}
+
+/// 1 if both bits are 1.
+fn both(a: u32, b: u32) -> u32
+    requires first { a ≤ 1 }
+    requires second { b ≤ 1 }
+    ensures value { result ≡ a * b }
+    ensures range { result ≤ b }
+{
+    if a == 1 { b } else { 0 }
+}
+
+/// The rights of a mapping by the rights word of a call: those that the frame's capability allows.
+#[tactic(auto, using(std::proofs::lemmas::Nat::and_le_r))]
+fn mapping_rights(frame: Rights, word: u32) -> Rights
+    ensures value { result ≡ mapping_rights frame word }
+    ensures kinds { (result.0 ≡ 0) ⊎ AreMappingRights result.0 }
+{
+    let may_write = u32::from(frame.0 & 1);
+    let may_read = u32::from(frame.0 & 2) / 2;
+    let writes = both(may_write, word % 2);
+    let reads = both(may_read, word / 2 % 2);
+    let executes = both(may_read, word / 4 % 2);
+    Rights((both(writes, reads) + 2 * reads + 4 * executes) as u8)
+}
+
+/// Whether rights let memory be read or executed.
+fn may_be_mapped(rights: Rights) -> bool
+    ensures { result ≡ (may_read rights || may_execute rights) }
+{
+    rights.0 & 2 != 0 || rights.0 & 4 != 0
+}
+
+/// The number of the page at an address that can be mapped: a multiple of 4096 in the lower half.
+fn page_named(address: u32) -> Result<u32, KError>
+    ensures value { result ≡ page_named address }
+    ensures near { IfOk result (λ page. page < 2 ^ 19) }
+{
+    if address >= 0x8000_0000 {
+        return Err(KError::InvalidArgument);
+    }
+    if address % 0x1000 != 0 {
+        return Err(KError::AlignmentError);
+    }
+    Ok(address / 0x1000)
+}
+
+/// The entry for a page in the page table of its region, which has to be there and to be free.
+fn free_entry<S: SlotStore>(store: &S, root: u32, page: u32) -> Result<u32, KError>
+    requires agree { TablesAgree (S.slots store.now) (S.memory store.now) }
+    requires rooted { Holds (S.slots store.now) (Cap.RootTable root) }
+    requires near { page < 2 ^ 19 }
+    ensures answer { PageAnswer (S.slots store.now) root page result }
+{
+    let memory = store.mem();
+    let Some(table) = table_in(memory, root, page / 0x400) else {
+        return Err(KError::FailedLookup);
+    };
+    if is_taken(memory, table, page % 0x400) {
+        return Err(KError::DeleteFirst);
+    }
+    Ok(table as u32 + 4 * (page % 0x400))
+}
+
+/// The place of the leaf, and the mapping, if a frame's capability can be mapped.
+fn mapping_for<S: SlotStore>(
+    store: &S,
+    cspace: Cap,
+    frame: FrameCap,
+    root: SlotName,
+    address: u32,
+    rights: u32,
+) -> Result<(u32, FrameMapping), KError>
+    requires valid { IsCapability cspace }
+    requires root_open { CNodeIsOpen (S.slots store.now) cspace }
+    requires all_open { CNodesAreOpen (S.slots store.now) }
+    requires agree { TablesAgree (S.slots store.now) (S.memory store.now) }
+    ensures answer { MappingAnswer (S.slots store.now) cspace frame.slot frame.offset frame.rights
+        frame.mapping (root.address ∷ root.depth ∷ address ∷ rights ∷ []) result }
+{
+    if frame.mapping.is_some() {
+        return Err(KError::InvalidCapability);
+    }
+    let root = root_named(store, cspace, root)?;
+    let page = page_named(address)?;
+    let place = match free_entry(store, root, page) {
+        Ok(place) => place,
+        Err(error) => return Err(error),
+    };
+    let rights = mapping_rights(frame.rights, rights);
+    if !may_be_mapped(rights) {
+        return Err(KError::InvalidArgument);
+    }
+    Ok((place, FrameMapping { root, page, rights }))
+}
+
+/// The place of a mapped frame's leaf.
+fn leaf_of<S: SlotStore>(store: &S, frame: FrameCap) -> Option<u32>
+    requires agree { TablesAgree (S.slots store.now) (S.memory store.now) }
+    requires held { capability_at (S.slots store.now) frame.slot
+        ≡ Cap.Frame frame.offset frame.rights frame.mapping }
+    ensures place { LeafAnswer (S.slots store.now) frame.mapping result }
+{
+    let mapping = frame.mapping?;
+    let Some(table) = table_in(store.mem(), mapping.root, mapping.page / 0x400) else {
+        return None;
+    };
+    Some(table as u32 + 4 * (mapping.page % 0x400))
+}
+
+/// The leaf of a frame, as a word.
+fn leaf_word(frame: u32, rights: Rights) -> u32
+    requires { IsPlace frame 12 }
+    ensures { result ≡ leaf_word frame rights.0 }
+{
+    Pte::leaf(frame, rights).0
+}
+
+/// Maps a frame at a page, in the page table of its region under the named root table. `rights` is a
+/// rights word; the mapping has those of them that the capability allows.
+///
+/// The first check that fails gives the error: the capability is mapped already or the named slot
+/// holds no root table (`InvalidCapability`), the name is wrong (`RangeError`, `FailedLookup`), the
+/// address is in the upper half (`InvalidArgument`) or inside a page (`AlignmentError`), no page table
+/// is there (`FailedLookup`), the page is taken (`DeleteFirst`), neither read nor execute is left
+/// (`InvalidArgument`). Nothing changes then.
+pub fn map_frame<S: SlotStore>(
+    store: &mut S,
+    cspace: Cap,
+    frame: FrameCap,
+    root: SlotName,
+    address: u32,
+    rights: u32,
+) -> Result<(), KError>
+    requires valid { IsCapability cspace }
+    requires root_open { CNodeIsOpen (S.slots store.old) cspace }
+    requires all_open { CNodesAreOpen (S.slots store.old) }
+    requires agree { TablesAgree (S.slots store.old) (S.memory store.old) }
+    requires held { capability_at (S.slots store.old) frame.slot
+        ≡ Cap.Frame frame.offset frame.rights frame.mapping }
+    requires within { frame.offset + 2 ^ 12 ≤ length (S.memory store.old) }
+    ensures outcome { GivesMapped (S.slots store.old) cspace frame.slot frame.offset frame.rights
+        frame.mapping (root.address ∷ root.depth ∷ address ∷ rights ∷ []) (S.slots store.new) result }
+    ensures unchanged { IfErr result (λ _. (S.slots store.new ≡ S.slots store.old)
+        × (S.memory store.new ≡ S.memory store.old)) }
+    ensures bytes { KeptBytes (S.slots store.old) (S.memory store.old) (S.memory store.new) }
+    ensures agree { TablesAgree (S.slots store.new) (S.memory store.new) }
+{
+    let slot = frame.slot;
+    let offset = frame.offset;
+    let frame_rights = frame.rights;
+    let found = match mapping_for(store, cspace, frame, root, address, rights) {
+        Ok(found) => found,
+        Err(error) => return Err(error),
+    };
+    let (place, mapping) = found;
+    store.write32(place, leaf_word(offset, mapping.rights));
+    let mapped = Cap::Frame {
+        offset,
+        rights: frame_rights,
+        mapping: Some(mapping),
+    };
+    store.set_cap(slot, mapped);
+    Ok(())
+}
+
+/// Unmaps a frame. Nothing happens if it is not mapped.
+pub fn unmap_frame<S: SlotStore>(store: &mut S, frame: FrameCap)
+    requires agree { TablesAgree (S.slots store.old) (S.memory store.old) }
+    requires held { capability_at (S.slots store.old) frame.slot
+        ≡ Cap.Frame frame.offset frame.rights frame.mapping }
+    ensures outcome { (s : State) (call : Call) → call.slot ≡ frame.slot
+        → call.capability ≡ Cap.Frame frame.offset frame.rights frame.mapping
+        → unmap_frame (with_slots s (S.slots store.old)) call ≡ with_slots s (S.slots store.new) }
+    ensures bytes { KeptBytes (S.slots store.old) (S.memory store.old) (S.memory store.new) }
+    ensures agree { TablesAgree (S.slots store.new) (S.memory store.new) }
+{
+    let slot = frame.slot;
+    let offset = frame.offset;
+    let rights = frame.rights;
+    let Some(place) = leaf_of(store, frame) else {
+        return;
+    };
+    store.write32(place, 0);
+    let unmapped = Cap::Frame {
+        offset,
+        rights,
+        mapping: None,
+    };
+    store.set_cap(slot, unmapped);
+}

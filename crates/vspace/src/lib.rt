@@ -1,0 +1,14 @@
+//! Address spaces: mapping frames and page tables under root tables, over any store of slots.
+//! seL4 Reference Manual, "Address Spaces and Virtual Memory".
+#![tactic(auto)]
+
+mod arguments;
+mod frames;
+mod page_tables;
+mod spaces;
+mod tables;
+
+pub use arguments::SlotName;
+pub use frames::{FrameCap, map_frame, unmap_frame};
+pub use page_tables::{PageTableCap, map_table};
+pub use spaces::place_under;

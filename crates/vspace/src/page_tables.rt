@@ -1,0 +1,126 @@
+//! Mapping page tables.
+
+ghost use Rattle.std.specs.Prelude.{◌≡◌, ◌<◌, ◌≤◌, ◌/◌, ◌*◌, ◌^◌, [], ◌∷◌, ◌+◌, IfErr, IfOk, length};
+ghost use Rattle.model.specs.CapabilityWords.{IsCapability, IsPlace};
+ghost use Rattle.model.specs.Lookup.{CNodeIsOpen, CNodesAreOpen};
+ghost use Rattle.model.specs.Slots.{capability_at};
+ghost use Rattle.model.specs.Sv32.{table_word};
+ghost use Rattle.vspace.specs.TableAnswers.{GivesTableMapped, KeptBesideRoots, RegionAnswer, TableMappingAnswer, region_named};
+ghost use Rattle.vspace.specs.Tables.{Holds, TablesAgree};
+
+use crate::arguments::{SlotName, root_named};
+use crate::tables::table_in;
+use model::{Cap, KError, Slot, TableMapping};
+use slots::SlotStore;
+use sv32::Pte;
+
+/// A page table's capability, and the slot that holds it.
+#[derive(Clone, Copy, Debug, PartialEq, Eq)]
+pub struct PageTableCap {
+    pub slot: Slot,
+    pub offset: u32,
+    pub mapping: Option<TableMapping>,
+}
+
+/// The number of the region at an address that can be mapped: a multiple of 4 MiB in the lower half.
+fn region_named(address: u32) -> Result<u32, KError>
+    ensures value { result ≡ region_named address }
+    ensures near { IfOk result (λ region. region < 2 ^ 9) }
+{
+    if address >= 0x8000_0000 {
+        return Err(KError::InvalidArgument);
+    }
+    if address % 0x40_0000 != 0 {
+        return Err(KError::AlignmentError);
+    }
+    Ok(address / 0x40_0000)
+}
+
+/// The place of a region's entry in a root table, which has to be free.
+fn free_pointer<S: SlotStore>(store: &S, root: u32, region: u32) -> Result<u32, KError>
+    requires agree { TablesAgree (S.slots store.now) (S.memory store.now) }
+    requires rooted { Holds (S.slots store.now) (Cap.RootTable root) }
+    requires near { region < 2 ^ 9 }
+    ensures answer { RegionAnswer (S.slots store.now) root region result }
+{
+    if table_in(store.mem(), root, region).is_some() {
+        return Err(KError::DeleteFirst);
+    }
+    Ok(root + 4 * region)
+}
+
+/// The place of the pointer, and the mapping, if a page table's capability can be mapped.
+fn mapping_for<S: SlotStore>(
+    store: &S,
+    cspace: Cap,
+    table: PageTableCap,
+    root: SlotName,
+    address: u32,
+) -> Result<(u32, TableMapping), KError>
+    requires valid { IsCapability cspace }
+    requires root_open { CNodeIsOpen (S.slots store.now) cspace }
+    requires all_open { CNodesAreOpen (S.slots store.now) }
+    requires agree { TablesAgree (S.slots store.now) (S.memory store.now) }
+    ensures answer { TableMappingAnswer (S.slots store.now) cspace table.slot table.offset table.mapping
+        (root.address ∷ root.depth ∷ address ∷ []) result }
+{
+    if table.mapping.is_some() {
+        return Err(KError::InvalidCapability);
+    }
+    let root = root_named(store, cspace, root)?;
+    let region = region_named(address)?;
+    match free_pointer(store, root, region) {
+        Ok(place) => Ok((place, TableMapping { root, region })),
+        Err(error) => Err(error),
+    }
+}
+
+/// The pointer to a table, as a word.
+fn pointer_word(table: u32) -> u32
+    requires { IsPlace table 12 }
+    ensures { result ≡ table_word table }
+{
+    Pte::table(table).0
+}
+
+/// Maps a page table for a region of 4 MiB under the named root table.
+///
+/// The first check that fails gives the error: the capability is mapped already or the named slot
+/// holds no root table (`InvalidCapability`), the name is wrong (`RangeError`, `FailedLookup`), the
+/// address is in the upper half (`InvalidArgument`) or inside a region (`AlignmentError`), the region
+/// is taken (`DeleteFirst`). Nothing changes then.
+pub fn map_table<S: SlotStore>(
+    store: &mut S,
+    cspace: Cap,
+    table: PageTableCap,
+    root: SlotName,
+    address: u32,
+) -> Result<(), KError>
+    requires valid { IsCapability cspace }
+    requires root_open { CNodeIsOpen (S.slots store.old) cspace }
+    requires all_open { CNodesAreOpen (S.slots store.old) }
+    requires agree { TablesAgree (S.slots store.old) (S.memory store.old) }
+    requires held { capability_at (S.slots store.old) table.slot
+        ≡ Cap.PageTable table.offset table.mapping }
+    ensures outcome { GivesTableMapped (S.slots store.old) cspace table.slot table.offset table.mapping
+        (root.address ∷ root.depth ∷ address ∷ []) (S.slots store.new) result }
+    ensures unchanged { IfErr result (λ _. (S.slots store.new ≡ S.slots store.old)
+        × (S.memory store.new ≡ S.memory store.old)) }
+    ensures bytes { KeptBesideRoots (S.slots store.old) (S.memory store.old) (S.memory store.new) }
+    ensures agree { TablesAgree (S.slots store.new) (S.memory store.new) }
+{
+    let slot = table.slot;
+    let offset = table.offset;
+    let found = match mapping_for(store, cspace, table, root, address) {
+        Ok(found) => found,
+        Err(error) => return Err(error),
+    };
+    let (place, mapping) = found;
+    store.write32(place, pointer_word(offset));
+    let mapped = Cap::PageTable {
+        offset,
+        mapping: Some(mapping),
+    };
+    store.set_cap(slot, mapped);
+    Ok(())
+}

@@ -1,0 +1,43 @@
+#!/usr/bin/env bash
+# Measures the interpreter and the table of slots. The programs are proved and built in a copy of the
+# repository, so that the gate knows nothing of them. Takes some minutes the first time.
+set -e
+here=$(cd "$(dirname "$0")" && pwd)
+copy=$(mktemp -d)
+trap 'rm -rf "$copy"' EXIT
+cp -r "$here/../../." "$copy"
+rm -rf "$copy/.git" "$copy/tools"
+git -C "$copy" init -q
+for name in exec_bench store_bench lookup_bench; do
+    mkdir -p "$copy/crates/$name/src"
+    cp "$here/$name.rt.in" "$copy/crates/$name/src/main.rt"
+done
+mkdir -p "$copy/crates/lookup_bench/proofs/sample"
+cp "$here/lookup_bench.sample.antt.in" "$copy/crates/lookup_bench/proofs/sample/Answers.antt"
+cat >>"$copy/crates.txt" <<'LIST'
+exec_bench: model rv32_isa rv32_exec
+store_bench: model slots
+lookup_bench: model slots cspace
+LIST
+for name in exec_bench store_bench lookup_bench; do
+    (cd "$copy/crates/$name" && rt run >"$copy/$name.log" 2>&1)
+done
+echo "100 million instructions, proved:"
+time -p "$copy/crates/exec_bench/out/exec_bench"
+if command -v rustc >/dev/null; then
+    rustc -O -o "$copy/exec_plain" "$here/exec_plain.rs"
+    echo "the same in plain Rust:"
+    time -p "$copy/exec_plain"
+fi
+for word in new insert; do
+    echo "2^20 slots, $word:"
+    python3 -c '
+import resource, subprocess, sys, time
+start = time.monotonic()
+subprocess.run(sys.argv[1:], check=True)
+peak = resource.getrusage(resource.RUSAGE_CHILDREN).ru_maxrss
+print(round(time.monotonic() - start, 3), "s,", peak, "KiB at most")' \
+        "$copy/crates/store_bench/out/store_bench" "$word"
+done
+echo "100 million look-ups through one CNode:"
+time -p "$copy/crates/lookup_bench/out/lookup_bench"
