@@ -181,7 +181,7 @@ pub record WithinInterrupt (number : ℕ) (s after : State) : Type 0 where
   pub lines : (other : ℕ) → other ≢ number → (after.masked other ≡ s.masked other) × (after.pending other ≡ s.pending other)
   pub objects : (offset : ℕ) → s.objects offset ≢ after.objects offset
       → ((badge : ℕ) × (binding s number ≡ Some (offset, badge)))
-        ⊎ ((notification badge : ℕ) × (binding s number ≡ Some (notification, badge)) × BlockedOn notification (thread_at s offset).status)
+      ⊎ ((notification badge : ℕ) × (binding s number ≡ Some (notification, badge)) × BlockedOn notification (thread_at s offset).status)
   pub woken : (offset : ℕ) (old new : ThreadState) → as_thread (s.objects offset) ≡ Some old → as_thread (after.objects offset) ≡ Some new → old ≢ new
       → (word : ℕ) × (new ≡ record old { registers = advanced (write old.registers a0 word); slice = full_slice; status = Runnable })
   pub ready : (priority : ℕ) → (after.ready priority ≡ s.ready priority)

@@ -98,7 +98,7 @@ run_from number s (Fills place fills ∷ later) = filled place (λ after. run_fr
 abbrev pub misplaced : Image → Option ℕ
 misplaced image =
     option_map_or (λ u. Some u.0) (find (overlaps image) (numbered image.untypeds))
-        (if too_few_boot_slots image then Some image.header.untypeds else None)
+    (if too_few_boot_slots image then Some image.header.untypeds else None)
 
 -- Untypeds and boot slots are looked at before the first call.
 abbrev pub boots_unless : Option ℕ → Image → Result State BootFault

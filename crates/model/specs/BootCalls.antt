@@ -88,7 +88,7 @@ thread_calls image t =
     let cspace = boot_argument (original_slot image t.header.cnode) in
     let vspace = boot_argument (original_slot image t.header.root) in
     (call tcb 2 ((t.header.fault ∷ cspace) ++ vspace ++ t.header.guard ∷ []) ∷ call tcb 3 (t.header.priority ∷ [])
-        ∷ call tcb 4 (0 ∷ start_of t ∷ []) ∷ [])
+    ∷ call tcb 4 (0 ∷ start_of t ∷ []) ∷ [])
     ++ map (λ r. call tcb 4 (r.register ∷ r.value ∷ [])) t.registers ++ call tcb 5 [] ∷ []
 
 -- ---- fills

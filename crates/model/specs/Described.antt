@@ -44,8 +44,8 @@ untyped_holding image u = holding u.0 (Untyped (u.1).offset (u.1).bits (watermar
 abbrev pub with_table : Image → ℕ → Cap → Cap
 with_table image number capability =
     option_map_or
-        (λ t. with_table_mapping capability (Some (record { root = offset_of image t.root; region = t.address / page_size / region_pages })))
-        (find (λ t. t.table == number) image.tables) capability
+    (λ t. with_table_mapping capability (Some (record { root = offset_of image t.root; region = t.address / page_size / region_pages })))
+    (find (λ t. t.table == number) image.tables) capability
 
 -- the first capability to an object; a page table's is mapped
 abbrev pub original : Image → ℕ → Cap
@@ -173,7 +173,7 @@ listed_thread t = record {
 abbrev pub described_object : Image → ℕ → Option Object
 described_object image number =
     option_map_or (λ t. Some (ThreadObject (listed_thread t))) (find (λ t. t.header.tcb == number) image.threads)
-        (option_and_then object (type_at image number))
+    (option_and_then object (type_at image number))
 
 -- the object at an offset; untyped memory is none, though it may share its offset with an object
 abbrev pub object_there : Image → ℕ → ℕ → Option Object

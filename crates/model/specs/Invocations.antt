@@ -96,8 +96,8 @@ configure s root thread guard words = do
   _ ← may_have_child s.slots cspace
   _ ← may_have_child s.slots vspace
   let one = inserted s.slots (cspace_slot thread) (with_guard (capability_at s.slots cspace) guard) (Some cspace) in
-    let both = inserted one (vspace_slot thread) (capability_at s.slots vspace) (Some vspace) in
-    Ok (with_thread (with_slots s both) thread (record (thread_at s thread) { fault_address = word words 0 }))
+      let both = inserted one (vspace_slot thread) (capability_at s.slots vspace) (Some vspace) in
+      Ok (with_thread (with_slots s both) thread (record (thread_at s thread) { fault_address = word words 0 }))
 
 -- a runnable thread goes to the tail of its new priority, with its slice
 abbrev pub with_priority : State → ℕ → ℕ → State
@@ -171,7 +171,7 @@ mint s call words = do
   _ ← check (guard_fits (capability_at s.slots source) (word words 5)) IllegalOperation
   _ ← may_have_child s.slots source
   let capability = with_payload (copied (capability_at s.slots source) (word words 4)) (word words 5) in
-    Ok (with_slots s (inserted s.slots destination capability (Some source)))
+      Ok (with_slots s (inserted s.slots destination capability (Some source)))
 
 -- Words: the destination, the source. Parent, children and mapping go along.
 abbrev pub move : State → Call → List ℕ → Result State KError
@@ -188,7 +188,7 @@ mutate s call words = do
   _ ← check (not (carries_messages (capability_at s.slots source))) IllegalOperation
   _ ← check (guard_fits (capability_at s.slots source) (word words 4)) IllegalOperation
   let moved = relocated s.slots source destination in
-    Ok (with_slots s (recapped moved destination (with_payload (capability_at s.slots source) (word words 4))))
+      Ok (with_slots s (recapped moved destination (with_payload (capability_at s.slots source) (word words 4))))
 
 abbrev pub on_cnode : State → Call → ℕ → List ℕ → Result State KError
 on_cnode s call label words =
@@ -225,7 +225,7 @@ map_frame s call frame_rights words =
       _ ← check (not (is_page_taken s root (address / page_size))) DeleteFirst
       _ ← check (may_read allowed || may_execute allowed) InvalidArgument
       let mapping : FrameMapping = record { root = root; page = address / page_size; rights = allowed } in
-        Ok (with_slots s (recapped s.slots call.slot (with_frame_mapping call.capability (Some mapping))))
+          Ok (with_slots s (recapped s.slots call.slot (with_frame_mapping call.capability (Some mapping))))
 
 abbrev pub unmap_frame : State → Call → State
 unmap_frame s call = with_slots s (recapped s.slots call.slot (unmapped call.capability))
@@ -242,7 +242,7 @@ map_table s call words =
       _ ← check (address % region_size == 0) AlignmentError
       _ ← check (not (is_region_taken s root (address / region_size))) DeleteFirst
       let mapping : TableMapping = record { root = root; region = address / region_size } in
-        Ok (with_slots s (recapped s.slots call.slot (with_table_mapping call.capability (Some mapping))))
+          Ok (with_slots s (recapped s.slots call.slot (with_table_mapping call.capability (Some mapping))))
 
 -- a frame that is mapped in the region
 abbrev pub is_in_region : TableMapping → FrameMapping → Bool
@@ -261,7 +261,7 @@ without_region slots table slot = option_map (without_table table) (slots slot)
 abbrev pub unmap_table : State → Call → State
 unmap_table s call =
     option_map_or (λ mapping. with_slots s (without_region (recapped s.slots call.slot (unmapped call.capability)) mapping))
-        (table_mapping call.capability) s
+    (table_mapping call.capability) s
 
 abbrev pub on_frame : State → Call → Rights → ℕ → List ℕ → Result State KError
 on_frame s call frame_rights label words =

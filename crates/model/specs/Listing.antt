@@ -93,7 +93,7 @@ content_line c = line (codes "data" ∷ object_name c.header.frame ∷ map decim
 abbrev pub thread_line : Thread → Text
 thread_line t =
     line (codes "thread" ∷ object_name t.header.tcb ∷ object_name t.header.cnode ∷ decimal t.header.guard ∷ object_name t.header.root
-        ∷ decimal t.header.priority ∷ decimal t.header.budget ∷ decimal t.header.fault ∷ codes "l" ∷ decimal t.header.base ∷ [])
+    ∷ decimal t.header.priority ∷ decimal t.header.budget ∷ decimal t.header.fault ∷ codes "l" ∷ decimal t.header.base ∷ [])
 
 abbrev pub register_line : RegisterEntry → Text
 register_line r = line (codes "reg" ∷ register_name r.register ∷ decimal r.value ∷ [])

@@ -201,7 +201,7 @@ replied s caller (Blocked queue) message = s
 abbrev pub reply : State → ℕ → State
 reply s thread =
     option_map_or (λ caller. replied (with_caller s thread None) caller (thread_at s caller).status (message_of (thread_at s thread)))
-        (thread_at s thread).caller s
+    (thread_at s thread).caller s
 
 -- ---- notifications
 

@@ -51,7 +51,7 @@ thread_original image t = original_slot image t.header.tcb
 abbrev pub object_parent : Image → Thread → Option ℕ → ℕ
 object_parent image t offset =
     option_map_or (original_slot image)
-        (option_and_then (λ place. find (is_object_at image place) (object_numbers image)) offset) (thread_original image t)
+    (option_and_then (λ place. find (is_object_at image place) (object_numbers image)) offset) (thread_original image t)
 
 -- The boot slot that a capability with no other parent hangs below: of untyped memory the untyped that it was made in, of a
 -- handler or an object of the image the first capability to it, and else that of the thread, which is as deep.

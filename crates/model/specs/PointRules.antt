@@ -112,7 +112,7 @@ edges_at image t point state None = []
 abbrev pub rules_on_edges : Image → Numbered → ℕ → PointState → List Rule
 rules_on_edges image t point state =
     flat_map (λ edge. edge_rules t.1 (point_of t point) state.measure edge (noted_at image t edge.target))
-        (edges_at image t point state (instruction_at t.1 point))
+    (edges_at image t point state (instruction_at t.1 point))
 
 -- ---- memory
 

@@ -136,7 +136,7 @@ ended_threads s set =
 abbrev pub set_back : State → SlotSet → List ℕ
 set_back s set =
     filter (λ offset. option_map_or (λ t. waits_on_ended s set t.status && not (ends s set offset)) (as_thread (s.objects offset)) false)
-        (thread_places s)
+    (thread_places s)
 
 -- ---- the whole
 

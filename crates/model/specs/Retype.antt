@@ -166,4 +166,4 @@ retype s root slot offset bits watermark words =
       _ ← may_have_child s.slots slot
       place ← wanted (placement bits watermark (object_bits kind) count) NotEnoughMemory
       let new : NewObjects = record { kind = kind; first = offset + place.0; count = count } in
-        Ok (with_new (record s { slots = recapped s.slots slot (Untyped offset bits place.1) }) new (slot_of cnode.0 index) slot)
+          Ok (with_new (record s { slots = recapped s.slots slot (Untyped offset bits place.1) }) new (slot_of cnode.0 index) slot)

@@ -101,7 +101,7 @@ invokes s thread kind slot capability =
     let message = message_of (thread_at s thread) in
     let call : Call = record { root = cspace_of s thread; caller = Some thread; slot = slot; capability = capability } in
     after_invocation s thread kind
-        (invoke s call message.label (extra_capabilities_of (read (registers_of s thread) a1)) message.words)
+    (invoke s call message.label (extra_capabilities_of (read (registers_of s thread) a1)) message.words)
 
 -- by the kind of the capability: a message, a signal, or else an invocation
 abbrev pub send_by : State → ℕ → SendCall → ℕ → Cap → Done

@@ -70,7 +70,7 @@ walk memory root address access = do
     if is_leaf last then leaf_place memory last 12 address access else None
 
 abbrev pub page_fault : PageFault
-page_fault = record { }
+page_fault = record {}
 
 -- ---- the entries that the kernel writes
 

@@ -37,7 +37,7 @@ root_table_of image t = offset_of image (t.1).header.root
 abbrev pub LieWithin : RegisterFile → List Range → Type 0
 LieWithin r ranges =
     (k : ℕ) → k < 32 → ((range_of ranges (register_numbered k)).low ≤ read r (register_numbered k))
-        × (read r (register_numbered k) ≤ (range_of ranges (register_numbered k)).high)
+    × (read r (register_numbered k) ≤ (range_of ranges (register_numbered k)).high)
 
 -- each word of the program stands at its address, in a page that the thread executes
 abbrev pub ProgramStands : Image → Numbered → State → Type 0
@@ -66,7 +66,7 @@ abbrev pub MapsAreNoted : Image → Numbered → State → List NotedSlot → Ty
 MapsAreNoted image t s slots =
     (page frame : ℕ) (allowed : Rights)
     → Maps s.slots (root_table_of image t) page frame allowed
-        ↔ (ImageMaps image t page frame allowed ⊎ NotedMaps image t slots page frame allowed)
+    ↔ (ImageMaps image t page frame allowed ⊎ NotedMaps image t slots page frame allowed)
 
 -- ---- at a point
 

@@ -1,17 +1,16 @@
 -- What the rows on mappings start from.
-use Rattle.std.specs.Prelude.{ℕ, ◌==◌, if◌then◌else◌, Option, Some, None, Result, Ok, Err, List, [], ◌∷◌, replicate, slice_set}
+use Rattle.std.specs.Prelude.{ℕ, ◌==◌, if◌then◌else◌, Option, Some, None, Result, [], ◌∷◌, replicate, slice_set}
 use Rattle.model.specs.AddressSpaces.{place_under}
 use Rattle.model.specs.Instructions.{Content, RegisterFile}
 use Rattle.model.specs.Invocations.{Call, map_frame}
 use Rattle.model.specs.Rights.{rights}
-use Rattle.model.specs.Slots.{Slots, empty_entry, is_within}
+use Rattle.model.specs.Slots.{empty_entry, is_within}
 use Rattle.model.specs.State.{State}
 use Rattle.model.specs.declared.capabilities.Cap.{Cap}
 use Rattle.model.specs.declared.capabilities.Cap.TheVariants.{CNode, Frame, PageTable, RootTable}
 use Rattle.model.specs.declared.capabilities.FrameMapping.{FrameMapping}
 use Rattle.model.specs.declared.errors.KError.{KError}
-use Rattle.model.specs.declared.slot_entries.Entry.{Entry}
-use Rattle.model_laws.specs.Rows.{bare, root_entry, slots_of_result}
+use Rattle.model_laws.specs.Rows.{bare, root_entry}
 
 abbrev pub mapped_at : ℕ → Option FrameMapping
 mapped_at page = Some (record { root = 0x9000; page = page; rights = rights 3 })
