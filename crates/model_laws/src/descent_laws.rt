@@ -1,8 +1,8 @@
 //! Laws of derivation and removal.
 
-ghost use Rattle.std.specs.Prelude.{◌≡◌, ◌<◌, ◌^◌, ◌/◌, ℕ, true, false, Ok};
+ghost use Rattle.std.specs.Prelude.{◌≡◌, ◌↔◌, ◌<◌, ◌^◌, ◌/◌, ℕ, true, false, Ok};
 ghost use Rattle.model.specs.Removal.{SlotSet, kept, new_parent, remove, with_bindings};
-ghost use Rattle.model.specs.Slots.{Descendant, IsDerivation, Slots, capability_at, is_full, parent_at};
+ghost use Rattle.model.specs.Slots.{Descendant, IsDerivation, Slots, capability_at, is_descendant, is_full, parent_at};
 ghost use Rattle.model.specs.State.{State};
 ghost use Rattle.model_laws.specs.Capabilities.{apart_from_mapping};
 
@@ -29,4 +29,9 @@ pub fn a_removal_keeps_other_slots()
 pub fn a_removal_changes_mappings_alone()
     ensures { (s : State) (set : SlotSet) (slot : ℕ)
         → apart_from_mapping (kept s set slot (capability_at s.slots slot)) ≡ apart_from_mapping (capability_at s.slots slot) }
+{}
+
+/// The test of descent tells what descends.
+pub fn the_test_of_descent_decides()
+    ensures { (slots : Slots) (root slot : ℕ) → IsDerivation slots → (is_descendant slots root slot ≡ true) ↔ Descendant slots root slot }
 {}

@@ -32,7 +32,7 @@ pub use call_rows::{
 };
 pub use descent_laws::{
     a_removal_changes_mappings_alone, a_removal_keeps_other_slots, descendants_are_closed,
-    no_slot_descends_from_itself,
+    no_slot_descends_from_itself, the_test_of_descent_decides,
 };
 pub use form_rows::{
     capabilities_fit, code_is_not_written, mappings_fit, objects_have_room, threads_fit,
@@ -48,7 +48,7 @@ pub use image_rows::{
 pub use loading_rows::{
     solo_is_listed, solo_objects_stand_at, solo_slots_hold, solo_starts_with, solo_takes_calls,
 };
-pub use lookup_laws::lookup_is_a_function;
+pub use lookup_laws::{lookup_is_a_function, lookup_leads_to_its_answer};
 pub use loop_rows::{
     cnodes_are_not_shared, loop_is_accepted, loop_is_read, loop_may_not_delete_its_pool,
     loop_may_not_jump_anywhere, loop_may_not_store_early, yield_is_no_wait,
