@@ -1,5 +1,5 @@
 -- Reading never answers that memory was refused: it takes none.
-use Rattle.std.proofs.Common.{◌≡◌, ◌≢◌, ℕ, zero, suc, ◌+◌, ◌-◌, ◌^◌, ◌*◌, Bool, true, false, cond, ltb, leb, eqb, ◌&&◌, ◌||◌, nat_eq, List, [], ◌∷◌, length, Result, Ok, Err, ℤ, refl, sym, ap, ◌∙◌}
+use Rattle.std.proofs.Common.{◌≡◌, ◌≢◌, ℕ, zero, suc, ◌+◌, ◌-◌, ◌^◌, Bool, true, false, cond, ltb, leb, eqb, ◌&&◌, ◌||◌, nat_eq, List, [], ◌∷◌, length, Result, Ok, Err, ℤ, ap}
 use Rattle.std.specs.Int.{Width, w32, w64, byte_len, cast_signed}
 use Rattle.std.specs.List.{starts_with}
 use Rattle.model.specs.declared.entries.RecordHeader.{RecordHeader}
@@ -9,8 +9,8 @@ use Rattle.model.specs.declared.entries.RegisterEntry.{RegisterEntry}
 use Rattle.model.specs.declared.entries.SlotEntry.{SlotEntry}
 use Rattle.model.specs.declared.refusals.Refusal.{Refusal}
 use Rattle.model.specs.declared.refusals.Refusal.TheVariants.{Limit, OutOfMemory, Trailing, Truncated}
-use Rattle.model.specs.Format.{Format, ◌>>=◌, both, field, many_read, named, number, number_at, number_or, ordered, signed}
-use Rattle.model.specs.Image.{Image, Thread, anything, below, between, is_constant, not_zero, range_format, ranges_format, record_format, record_header_format, records_format, register_format, registers_format, term_format, terms_format, thread_format, thread_header_format, words_format}
+use Rattle.model.specs.Format.{Format, ◌>>=◌, both, field, many_read, named, number, number_at, ordered, signed}
+use Rattle.model.specs.Image.{Thread, anything, below, between, is_constant, not_zero, range_format, ranges_format, record_format, record_header_format, records_format, register_format, registers_format, term_format, terms_format, thread_format, thread_header_format, words_format}
 use Rattle.image.specs.Stage.{is_staged, later, no_slot_count, no_slots, staged_end, staged_front, staged_image, staged_reading}
 
 abbrev refused : {A : Type 0} → Refusal → Result A Refusal
@@ -82,9 +82,9 @@ unfolding many_read
 many_calm format next each zero least bytes at = ok_calm ([], at)
 many_calm format next each (suc n) least bytes at =
     bind_calm ((format least).reads bytes at) (λ first. many_read format next (next first.0) n bytes first.1 >>= λ others. Ok (first.0 ∷ others.0, others.1))
-        ((each least).calm bytes at)
-        (λ first. bind_calm (many_read format next (next first.0) n bytes first.1) (λ others. Ok (first.0 ∷ others.0, others.1))
-            (many_calm format next each n (next first.0) bytes first.1) (λ others. ok_calm (first.0 ∷ others.0, others.1)))
+    ((each least).calm bytes at)
+    (λ first. bind_calm (many_read format next (next first.0) n bytes first.1) (λ others. Ok (first.0 ∷ others.0, others.1))
+    (many_calm format next each n (next first.0) bytes first.1) (λ others. ok_calm (first.0 ∷ others.0, others.1)))
 
 ordered_calm : {A : Type 0} (least : ℕ) (format : ℕ → Format A) (next : A → ℕ) (count : ℕ) → ((k : ℕ) → IsCalm (format k)) → IsCalm (ordered least format next count)
 ordered_calm least format next count each = record { calm = many_calm format next each count least }
@@ -188,5 +188,5 @@ pub staged_calm : (bytes : List ℕ) → staged_reading bytes ≢ Err OutOfMemor
 unfolding staged_reading
 staged_calm bytes =
     cond_calm (starts_with nat_eq bytes staged_front) _ _
-        (bind_calm ((thread_format no_slots 7).reads bytes 236) (staged_end bytes) ((thread_calm 7).calm bytes 236) (λ x. end_calm bytes x.0 x.1))
-        later_calm
+    (bind_calm ((thread_format no_slots 7).reads bytes 236) (staged_end bytes) ((thread_calm 7).calm bytes 236) (λ x. end_calm bytes x.0 x.1))
+    later_calm

@@ -12,7 +12,7 @@ use Rattle.model.specs.PointRules.{program_rules}
 use Rattle.model.specs.Rules.{Rule, first_broken}
 use Rattle.model.specs.ThreadRules.{thread_rules}
 use Rattle.model.specs.WellFormed.{capability_rules, mapping_rules, object_rules}
-use Rattle.model_laws.proofs.WholeImage.{bytes-fit, reading-spelled, spelled-reading}
+use Rattle.image.proofs.WholeImage.{bytes-fit, reading-spelled, spelled-reading}
 
 -- ---- the rules of a phase
 

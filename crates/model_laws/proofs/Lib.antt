@@ -9,4 +9,3 @@ pub mod Removals
 pub mod Signs
 pub mod Spellings
 pub mod WaitLaws
-pub mod WholeImage
