@@ -54,7 +54,7 @@ unfolding image_with sections_format header_format untyped_format object_format 
 thread_fits t h = (and_parts ((thread_format no_slots 7).fits t) true h).0
 
 -- a test that chose
-chosen_ok : {A : Type 0} (b : Bool) (r : Result A Refusal) (d : Refusal) (y : A) → cond b r (Err d) ≡ Ok y → (b ≡ true) × (r ≡ Ok y)
+pub chosen_ok : {A : Type 0} (b : Bool) (r : Result A Refusal) (d : Refusal) (y : A) → cond b r (Err d) ≡ Ok y → (b ≡ true) × (r ≡ Ok y)
 chosen_ok true r d y h = (refl, h)
 chosen_ok false r d y h = absurd cc
 

@@ -1,4 +1,3 @@
-pub mod Acceptance
 pub mod Descents
 pub mod LookupLaws
 pub mod Opened
