@@ -1,6 +1,10 @@
+pub mod Acceptance
 pub mod Calm
+pub mod Followed
 pub mod Laws
 pub mod Sections
 pub mod StageLaws
+pub mod StagedRules
 pub mod ThreadLaws
+pub mod WholeImage
 pub mod Words

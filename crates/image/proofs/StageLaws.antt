@@ -28,7 +28,7 @@ pointwise_same : (a : List ℕ) → pointwise nat_eq a a ≡ true
 pointwise_same [] = refl
 pointwise_same (x ∷ xs) = and_from (nat_eq x x) (pointwise nat_eq xs xs) (eq-eqb x x refl) (pointwise_same xs)
 
-begins : (front bytes : List ℕ) → starts_with nat_eq bytes front ≡ true → bytes ≡ front ++ drop (length front) bytes
+pub begins : (front bytes : List ℕ) → starts_with nat_eq bytes front ≡ true → bytes ≡ front ++ drop (length front) bytes
 begins front bytes h =
     let e : front ≡ take (length front) bytes = pointwise_is front (take (length front) bytes) h in
     sym (take-append-drop (length front) bytes) ∙ ap (λ (t : List ℕ). t ++ drop (length front) bytes) (sym e)
@@ -36,7 +36,7 @@ begins front bytes h =
 begins_with : (front rest : List ℕ) → starts_with nat_eq (front ++ rest) front ≡ true
 begins_with front rest = rw (take_at front rest (length front) refl) (pointwise_same front)
 
-front_len : length staged_front ≡ 236
+pub front_len : length staged_front ≡ 236
 unfolding staged_front sections_format header_format untyped_format object_format capability_format interrupt_format table_format frame_format content_format many_spelling
 front_len = refl
 
@@ -54,7 +54,7 @@ unfolding image_with sections_format header_format untyped_format object_format 
 thread_fits t h = (and_parts ((thread_format no_slots 7).fits t) true h).0
 
 -- a test that chose
-chosen_ok : {A : Type 0} (b : Bool) (r : Result A Refusal) (d : Refusal) (y : A) → cond b r (Err d) ≡ Ok y → (b ≡ true) × (r ≡ Ok y)
+pub chosen_ok : {A : Type 0} (b : Bool) (r : Result A Refusal) (d : Refusal) (y : A) → cond b r (Err d) ≡ Ok y → (b ≡ true) × (r ≡ Ok y)
 chosen_ok true r d y h = (refl, h)
 chosen_ok false r d y h = absurd cc
 

@@ -1,4 +1,3 @@
-pub mod Acceptance
 pub mod Descents
 pub mod LookupLaws
 pub mod Opened
@@ -10,4 +9,3 @@ pub mod Removals
 pub mod Signs
 pub mod Spellings
 pub mod WaitLaws
-pub mod WholeImage

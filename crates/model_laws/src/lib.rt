@@ -5,6 +5,7 @@
 mod boot_rows;
 mod call_rows;
 mod descent_laws;
+mod form_laws;
 mod form_rows;
 mod image_laws;
 mod image_rows;
@@ -34,6 +35,7 @@ pub use descent_laws::{
     a_removal_changes_mappings_alone, a_removal_keeps_other_slots, descendants_are_closed,
     no_slot_descends_from_itself, the_test_of_descent_decides,
 };
+pub use form_laws::{a_refusal_of_the_form_is_the_first_breach, what_the_form_reads_is_the_image};
 pub use form_rows::{
     capabilities_fit, code_is_not_written, mappings_fit, objects_have_room, threads_fit,
 };

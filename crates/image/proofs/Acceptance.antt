@@ -12,7 +12,7 @@ use Rattle.model.specs.PointRules.{program_rules}
 use Rattle.model.specs.Rules.{Rule, first_broken}
 use Rattle.model.specs.ThreadRules.{thread_rules}
 use Rattle.model.specs.WellFormed.{capability_rules, mapping_rules, object_rules}
-use Rattle.model_laws.proofs.WholeImage.{bytes-fit, reading-spelled, spelled-reading}
+use Rattle.image.proofs.WholeImage.{bytes-fit, reading-spelled, spelled-reading}
 
 -- ---- the rules of a phase
 
@@ -24,12 +24,12 @@ first-found [] refusal h = absurd (let clash : ◌≡◌ {A = Option Refusal} No
 first-found (None ∷ rules) refusal h = later rules None (Some refusal) (first-found rules refusal h)
 first-found (Some other ∷ rules) refusal h = (0, omega arith, h)
 
-none-broken : (rules : List Rule) → first_broken rules ≡ None → AreKept rules
+pub none-broken : (rules : List Rule) → first_broken rules ≡ None → AreKept rules
 none-broken [] h = All-nil (λ rule. rule ≡ None)
 none-broken (None ∷ rules) h = All-cons (λ rule. rule ≡ None) None rules refl (none-broken rules h)
 none-broken (Some refusal ∷ rules) h = absurd (let clash : ◌≡◌ {A = Option Refusal} (Some refusal) None = h in cc)
 
-kept-none : (rules : List Rule) → AreKept rules → first_broken rules ≡ None
+pub kept-none : (rules : List Rule) → AreKept rules → first_broken rules ≡ None
 kept-none [] kept = refl
 kept-none (None ∷ rules) kept = kept-none rules (All-tail (λ rule. rule ≡ None) None rules kept)
 kept-none (Some refusal ∷ rules) kept =

@@ -108,7 +108,7 @@ slots_laws objects = record {
 
 -- ---- the whole
 
-sections_law : IsLawful sections_format
+pub sections_law : IsLawful sections_format
 unfolding sections_format
 sections_law =
     both_law _ _ header_law (λ (header : ImageHeader).

@@ -1,0 +1,34 @@
+//! Laws of the one form of images that this release reads.
+
+ghost use Rattle.std.specs.Prelude.{◌≡◌, ◌≤◌, ◌<◌, ◌⊎◌, ℕ, IfErr, List, Ok, Some, true};
+ghost use Rattle.model.specs.Accepted.{IsWellFormed, first_breach, first_in, phases};
+ghost use Rattle.model.specs.Bytes.{AreBytes};
+ghost use Rattle.model.specs.Format.{Spells, reading};
+ghost use Rattle.model.specs.Image.{Image, Thread, whole_image};
+ghost use Rattle.model.specs.PointRules.{program_rules};
+ghost use Rattle.model.specs.Rules.{first_broken};
+ghost use Rattle.model.specs.declared.refusals.Refusal.TheVariants.{BadThread};
+ghost use Rattle.image.specs.Stage.{is_staged, later, staged_image, staged_reading};
+
+/// What this release reads of bytes is the image that they spell.
+pub fn what_the_form_reads_is_the_image()
+    ensures image { (bytes : List ℕ) (image : Image) → staged_reading bytes ≡ Ok image → reading whole_image bytes ≡ Ok image }
+    ensures spelled { (bytes : List ℕ) (image : Image) → AreBytes bytes → staged_reading bytes ≡ Ok image → Spells whole_image bytes image }
+{}
+
+/// What this release refuses to read is a later stage, or it is refused as the first breach.
+pub fn a_refusal_of_the_form_is_the_first_breach()
+    ensures { (bytes : List ℕ) → IfErr (staged_reading bytes) (λ refusal. (refusal ≡ later) ⊎ (first_breach bytes ≡ Some refusal)) }
+{}
+
+/// The images of the form are well formed, but for a thread whose entry is no point of its program.
+pub fn images_of_the_form_are_well_formed()
+    ensures formed { (t : Thread) → is_staged t ≡ true → t.header.entry < t.header.words → IsWellFormed (staged_image t) }
+    ensures entry { (t : Thread) → is_staged t ≡ true → t.header.words ≤ t.header.entry → first_in (phases (staged_image t)) ≡ Some (BadThread 0) }
+{}
+
+/// Of bytes that are read, the first breach is the entry, if it is no point, and else one of the program.
+pub fn the_entry_of_the_form_counts_first()
+    ensures entry { (bytes : List ℕ) (t : Thread) → staged_reading bytes ≡ Ok (staged_image t) → t.header.words ≤ t.header.entry → first_breach bytes ≡ Some (BadThread 0) }
+    ensures program { (bytes : List ℕ) (t : Thread) → staged_reading bytes ≡ Ok (staged_image t) → t.header.entry < t.header.words → first_breach bytes ≡ first_broken (program_rules (staged_image t)) }
+{}
