@@ -1,24 +1,22 @@
 -- A page table is unmapped once its region has no frames.
-use Rattle.std.proofs.Common.{◌≡◌, ◌≢◌, ◌∙◌, ℕ, ◌+◌, ◌*◌, ◌/◌, ◌^◌, ◌<◌, ◌≤◌, inl, inr, true, false, not, Option, Some, None, List, length, refl, sym, ap, subst, arith}
+use Rattle.std.proofs.Common.{◌≡◌, ◌≢◌, ◌∙◌, ℕ, ◌+◌, ◌*◌, ◌/◌, ◌^◌, true, false, Option, Some, None, List, refl, sym, ap, subst}
 use Rattle.std.specs.Prelude.{if◌then◌else◌}
 use Rattle.std.specs.Option.{option_map}
 use Rattle.std.proofs.lemmas.Bool.{eq-eqb}
-use Rattle.std.proofs.lemmas.Bool.Decides.{eqb_tells}
 use Rattle.model.specs.Capabilities.{unmapped}
 use Rattle.model.specs.CapabilityWords.{IsCapability}
-use Rattle.model.specs.Invocations.{Call, stands_in, unmap_table, with_slots, without_region, without_table}
-use Rattle.model.specs.Slots.{IsFull, OutsideSlots, Slots, capability_at, is_empty, parent_at, recapped}
-use Rattle.model.specs.State.{State}
+use Rattle.model.specs.Invocations.{stands_in, without_region, without_table}
+use Rattle.model.specs.Slots.{Slots, capability_at, recapped}
 use Rattle.model.specs.declared.capabilities.Cap.{Cap}
 use Rattle.model.specs.declared.capabilities.Cap.TheVariants.{Empty, Untyped, Endpoint, Notification, CNode, Frame, PageTable, Tcb, RootTable, InterruptControl, InterruptHandler}
 use Rattle.model.specs.declared.capabilities.FrameMapping.{FrameMapping}
 use Rattle.model.specs.declared.capabilities.TableMapping.{TableMapping}
 use Rattle.model.specs.declared.rights.Rights.{Rights}
 use Rattle.model.specs.declared.slot_entries.Entry.{Entry}
-use Rattle.slots.proofs.Changes.{capability_of, entry-other, entry-same, parent_of}
+use Rattle.slots.proofs.Changes.{capability_of, parent_of}
 use Rattle.vspace.specs.Tables.{TablesAgree}
 use Rattle.vspace.proofs.TableRemovals.{TableRemoval, agree-table_unmapped}
-use Rattle.vspace.proofs.Writes.{Written, entry-outside, entry-within, same-outside}
+use Rattle.vspace.proofs.Writes.{Written, same-outside}
 
 -- what is unmapped stands in no region
 unmapped-stands : (m : TableMapping) (c : Cap) → stands_in m (unmapped c) ≡ false
@@ -65,54 +63,10 @@ region-empty old now m cleared y f r n held root region =
     let there : stands_in m (capability_at now y) ≡ true = ap (stands_in m) held ∙ inside in
     cc
 
--- the table's capability changes behind the frames', or before them
-recapped-cleared : (old now : Slots) (m : TableMapping) (x t : ℕ) → Cleared old now m → (y : ℕ) → recapped now x (PageTable t None) y ≡ without_region (recapped old x (PageTable t None)) m y
-recapped-cleared old now m x t cleared y = elim (eqb_tells y x) [
-  | inl same ↦
-      let parents : parent_at now x ≡ parent_at old x = ap parent_of (cleared x) ∙ cleared-parent m (old x) in
-      ap (recapped now x (PageTable t None)) same.1 ∙ entry-same now x _
-      ∙ ap (λ (p : Option ℕ). Some (record { capability = PageTable t None; parent = p })) parents
-      ∙ sym (ap (option_map (without_table m)) (ap (recapped old x (PageTable t None)) same.1 ∙ entry-same old x _))
-  | inr other ↦ entry-other now x _ y other.1 ∙ cleared y ∙ sym (ap (option_map (without_table m)) (entry-other old x _ y other.1))
-]
-
-pub gives-unmapped : (s : State) (old now two three : Slots) (call : Call) (x t : ℕ) (o : Option TableMapping) (m : TableMapping) → Cleared old now m → o ≡ Some m → call.slot ≡ x → call.capability ≡ PageTable t o → two ≡ now → three ≡ recapped two x (PageTable t None) → unmap_table (with_slots s old) call ≡ with_slots s three
-gives-unmapped s old now two three call x t o m cleared is at held kept changed =
-    let whole : call.capability ≡ PageTable t (Some m) = held ∙ ap (λ (k : Option TableMapping). PageTable t k) is in
-    let points = recapped-cleared old now m x t cleared in
-    let slots : recapped now x (PageTable t None) ≡ without_region (recapped old x (PageTable t None)) m = λ i y. points y i in
-    ap (λ (c : Cap). unmap_table (with_slots s old) (record call { capability = c })) whole
-    ∙ ap (λ (k : ℕ). with_slots s (without_region (recapped old k (PageTable t None)) m)) at
-    ∙ ap (λ (k : Slots). with_slots s k) (sym slots)
-    ∙ ap (λ (k : Slots). with_slots s (recapped k x (PageTable t None))) (sym kept)
-    ∙ ap (λ (k : Slots). with_slots s k) (sym changed)
-
-pub gives-unmapped_already : (s : State) (old : Slots) (call : Call) (t : ℕ) (o : Option TableMapping) → o ≡ None → call.capability ≡ PageTable t o → unmap_table (with_slots s old) call ≡ with_slots s old
-gives-unmapped_already s old call t o is held =
-    ap (λ (c : Cap). unmap_table (with_slots s old) (record call { capability = c })) (held ∙ ap (λ (k : Option TableMapping). PageTable t k) is)
-
 -- ---- the write
 
 table-open : (slots : Slots) (x t : ℕ) (o : Option TableMapping) → capability_at slots x ≡ PageTable t o → slots x ≢ None
 table-open slots x t o held = λ none. let e : PageTable t o ≡ Empty = sym held ∙ ap capability_of none in absurd (cc e)
-
-pub table-full : (slots : Slots) (x t : ℕ) (o : Option TableMapping) → capability_at slots x ≡ PageTable t o → IsFull slots x
-table-full slots x t o held = ap (λ (c : Cap). not (is_empty c)) held
-
-pub pointer-small : (slots : Slots) (memory : List ℕ) (x t : ℕ) (m : TableMapping) → TablesAgree slots memory → capability_at slots x ≡ PageTable t (Some m) → (m.region < 2 ^ 9) × (m.root < 2 ^ 24)
-pointer-small slots memory x t m agree held =
-    let fine : IsCapability (PageTable t (Some m)) = subst (λ (c : Cap). IsCapability c) held (agree.valid x) in
-    (fine.1.1, fine.1.0.1)
-
-pub pointer-within : (slots : Slots) (memory : List ℕ) (x t : ℕ) (m : TableMapping) → TablesAgree slots memory → capability_at slots x ≡ PageTable t (Some m) → m.root + 4 * m.region + 4 ≤ length memory
-pointer-within slots memory x t m agree held =
-    let small = pointer-small slots memory x t m agree held in
-    entry-within slots memory m.root m.region (m.root + 4 * m.region) (agree.mapped_roots x t m held) (omega (arith, small.0)) refl
-
-pub pointer-outside : (slots : Slots) (memory : List ℕ) (x t : ℕ) (m : TableMapping) → TablesAgree slots memory → capability_at slots x ≡ PageTable t (Some m) → OutsideSlots slots (m.root + 4 * m.region) 4
-pointer-outside slots memory x t m agree held =
-    let small = pointer-small slots memory x t m agree held in
-    entry-outside slots memory m.root m.region (m.root + 4 * m.region) (agree.mapped_roots x t m held) (omega (arith, small.0)) refl
 
 pub unmap_table-done : (old slots0 slots1 slots2 : Slots) (memory0 memory1 memory2 : List ℕ) (x t : ℕ) (m : TableMapping) → TablesAgree slots0 memory0 → Cleared old slots0 m → capability_at slots0 x ≡ PageTable t (Some m) → Written slots0 slots1 slots2 memory0 memory1 memory2 x (m.root + 4 * m.region) 0 (PageTable t None) → TablesAgree slots2 memory2
 unmap_table-done old slots0 slots1 slots2 memory0 memory1 memory2 x t m agree cleared held done =
