@@ -10,3 +10,6 @@ pub mod Writes
 pub mod Joins
 pub mod TableSteps
 pub mod TableOutcomes
+pub mod TableRemovals
+pub mod Sweeps
+pub mod TableUnmaps

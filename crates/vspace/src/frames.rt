@@ -1,11 +1,11 @@
 //! Mapping frames.
 
-ghost use Rattle.std.specs.Prelude.{◌≡◌, ◌<◌, ◌≤◌, ◌/◌, ◌*◌, ◌^◌, ◌||◌, ◌⊎◌, [], ◌∷◌, ◌+◌, IfErr, IfOk, length};
+ghost use Rattle.std.specs.Prelude.{◌≡◌, ◌<◌, ◌≤◌, ◌/◌, ◌*◌, ◌^◌, ◌||◌, ◌⊎◌, [], ◌∷◌, ◌+◌, None, IfErr, IfOk, length};
 ghost use Rattle.model.specs.CapabilityWords.{AreMappingRights, IsCapability, IsPlace};
 ghost use Rattle.model.specs.Invocations.{Call, unmap_frame, with_slots};
 ghost use Rattle.model.specs.Lookup.{CNodeIsOpen, CNodesAreOpen};
 ghost use Rattle.model.specs.Rights.{may_execute, may_read, mapping_rights};
-ghost use Rattle.model.specs.Slots.{capability_at};
+ghost use Rattle.model.specs.Slots.{capability_at, recapped};
 ghost use Rattle.model.specs.State.{State};
 ghost use Rattle.model.specs.Sv32.{leaf_word};
 ghost use Rattle.vspace.specs.Answers.{GivesMapped, KeptBytes, LeafAnswer, MappingAnswer, PageAnswer, page_named};
@@ -198,6 +198,9 @@ pub fn unmap_frame<S: SlotStore>(store: &mut S, frame: FrameCap)
     ensures outcome { (s : State) (call : Call) → call.slot ≡ frame.slot
         → call.capability ≡ Cap.Frame frame.offset frame.rights frame.mapping
         → unmap_frame (with_slots s (S.slots store.old)) call ≡ with_slots s (S.slots store.new) }
+    ensures slots { S.slots store.new
+        ≡ recapped (S.slots store.old) frame.slot (Cap.Frame frame.offset frame.rights None) }
+    ensures size { length (S.memory store.new) ≡ length (S.memory store.old) }
     ensures bytes { KeptBytes (S.slots store.old) (S.memory store.old) (S.memory store.new) }
     ensures agree { TablesAgree (S.slots store.new) (S.memory store.new) }
 {

@@ -5,10 +5,13 @@
 mod arguments;
 mod frames;
 mod page_tables;
+mod regions;
+mod removals;
 mod spaces;
 mod tables;
 
 pub use arguments::SlotName;
 pub use frames::{FrameCap, map_frame, unmap_frame};
-pub use page_tables::{PageTableCap, map_table};
+pub use page_tables::{PageTableCap, map_table, unmap_table};
+pub use removals::unmap_cap;
 pub use spaces::place_under;

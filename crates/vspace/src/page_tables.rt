@@ -1,14 +1,17 @@
 //! Mapping page tables.
 
-ghost use Rattle.std.specs.Prelude.{◌≡◌, ◌<◌, ◌≤◌, ◌/◌, ◌*◌, ◌^◌, [], ◌∷◌, ◌+◌, IfErr, IfOk, length};
+ghost use Rattle.std.specs.Prelude.{ℕ, ◌≡◌, ◌<◌, ◌≤◌, ◌/◌, ◌*◌, ◌^◌, [], ◌∷◌, ◌+◌, IfErr, IfOk, length};
 ghost use Rattle.model.specs.CapabilityWords.{IsCapability, IsPlace};
+ghost use Rattle.model.specs.Invocations.{Call, unmap_table, with_slots};
 ghost use Rattle.model.specs.Lookup.{CNodeIsOpen, CNodesAreOpen};
-ghost use Rattle.model.specs.Slots.{capability_at};
+ghost use Rattle.model.specs.Slots.{IsFull, capability_at};
+ghost use Rattle.model.specs.State.{State};
 ghost use Rattle.model.specs.Sv32.{table_word};
 ghost use Rattle.vspace.specs.TableAnswers.{GivesTableMapped, KeptBesideRoots, RegionAnswer, TableMappingAnswer, region_named};
 ghost use Rattle.vspace.specs.Tables.{Holds, TablesAgree};
 
 use crate::arguments::{SlotName, root_named};
+use crate::regions::clear_region;
 use crate::tables::table_in;
 use model::{Cap, KError, Slot, TableMapping};
 use slots::SlotStore;
@@ -123,4 +126,30 @@ pub fn map_table<S: SlotStore>(
     };
     store.set_cap(slot, mapped);
     Ok(())
+}
+
+/// Unmaps a page table, and the frames in its region with it. Nothing happens if it is not mapped.
+pub fn unmap_table<S: SlotStore>(store: &mut S, table: PageTableCap)
+    requires agree { TablesAgree (S.slots store.old) (S.memory store.old) }
+    requires held { capability_at (S.slots store.old) table.slot
+        ≡ Cap.PageTable table.offset table.mapping }
+    requires near { (slot : ℕ) → IsFull (S.slots store.old) slot
+        → 16 * slot + 16 ≤ length (S.memory store.old) }
+    ensures outcome { (s : State) (call : Call) → call.slot ≡ table.slot
+        → call.capability ≡ Cap.PageTable table.offset table.mapping
+        → unmap_table (with_slots s (S.slots store.old)) call ≡ with_slots s (S.slots store.new) }
+    ensures agree { TablesAgree (S.slots store.new) (S.memory store.new) }
+{
+    let slot = table.slot;
+    let offset = table.offset;
+    let Some(mapping) = table.mapping else {
+        return;
+    };
+    clear_region(store, mapping);
+    store.write32(mapping.root + 4 * mapping.region, 0);
+    let unmapped = Cap::PageTable {
+        offset,
+        mapping: None,
+    };
+    store.set_cap(slot, unmapped);
 }

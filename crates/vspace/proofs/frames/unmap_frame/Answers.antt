@@ -1,5 +1,5 @@
 -- The leaf is zero, and the capability says that it is not mapped.
-use Rattle.std.proofs.Common.{◌≡◌, ◌∙◌, ℕ, ◌%◌, ◌^◌, Option, None, sym, ap}
+use Rattle.std.proofs.Common.{◌≡◌, ◌∙◌, ℕ, ◌%◌, ◌^◌, List, length, Option, None, sym, ap}
 use Rattle.model.specs.Capabilities.{unmapped}
 use Rattle.model.specs.Invocations.{Call, unmap_frame, with_slots}
 use Rattle.model.specs.Slots.{Slots, recapped}
@@ -10,7 +10,9 @@ use Rattle.model.specs.declared.capabilities.FrameMapping.{FrameMapping}
 use Rattle.model.specs.declared.rights.Rights.{Rights}
 use Rattle.vspace.proofs.FrameSteps.{index_small}
 use Rattle.vspace.proofs.Places.{table-stands}
-use Rattle.vspace.proofs.Writes.{bytes-kept, leaf-absent, leaf-present, recapped-own, unmap-done}
+use Rattle.model.proofs.BytesLemmas.{length-written}
+use Rattle.model.specs.Bytes.{word_bytes}
+use Rattle.vspace.proofs.Writes.{bytes-kept, entry-within, leaf-absent, leaf-present, recapped-own, unmap-done}
 use Rattle.vspace.proofs.frames.unmap_frame.Goals as goal
 
 -- the definition at this capability
@@ -55,3 +57,16 @@ returns-clause-agree g c =
       changed = c.set_cap.ensures.slots;
       same = c.set_cap.ensures.bytes;
     })
+
+pub returns-in_default-clause-slots : goal.returns-in_default-clause-slots
+returns-in_default-clause-slots g c =
+    let absent = leaf-absent (g.S.SlotMap.slots c.args.store.now) c.args.frame.mapping c.in_default.ensures.place in
+    sym (recapped-own (g.S.SlotMap.slots c.args.store.now) c.args.frame.slot c.args.frame.offset c.args.frame.rights c.args.frame.mapping c.requires.held absent)
+
+pub returns-clause-size : goal.returns-clause-size
+returns-clause-size g c =
+    let leaf = leaf-present (g.S.SlotMap.slots c.args.store.now) c.args.frame.mapping c.in-Some.place c.in-Some.ensures.place in
+    let there = leaf.2 in
+    let stands = table-stands (g.S.SlotMap.slots c.args.store.now) (g.S.SlotStore.memory c.args.store.now) leaf.0.root _ there.0 c.requires.agree there.1 in
+    c.set_cap.ensures.bytes.size ∙ ap (λ (m : List ℕ). length m) c.write32.ensures.bytes
+    ∙ length-written (g.S.SlotStore.memory c.args.store.now) c.in-Some.place (word_bytes 0) (entry-within (g.S.SlotMap.slots c.args.store.now) (g.S.SlotStore.memory c.args.store.now) there.0 (leaf.0.page % 2 ^ 10) c.in-Some.place stands (index_small leaf.0.page) there.2)

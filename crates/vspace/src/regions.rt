@@ -1,0 +1,70 @@
+//! Unmapping the frames of a region.
+
+ghost use Rattle.std.specs.Prelude.{ℕ, ◌≡◌, ◌≢◌, ◌+◌, ◌*◌, ◌≤◌, length};
+ghost use Rattle.model.specs.Invocations.{stands_in, without_region};
+ghost use Rattle.model.specs.Slots.{IsFull};
+ghost use Rattle.vspace.specs.Regions.{cleared_at};
+ghost use Rattle.vspace.specs.Tables.{TablesAgree};
+
+use crate::frames::{FrameCap, unmap_frame};
+use model::{Cap, Slot, TableMapping};
+use slots::SlotStore;
+
+/// Whether a capability maps a frame in the region of a page table.
+fn stands_in(held: Cap, region: TableMapping) -> bool
+    ensures { result ≡ stands_in region held }
+{
+    match held {
+        Cap::Frame {
+            mapping: Some(place),
+            ..
+        } => place.root == region.root && place.page / 0x400 == region.region,
+        _ => false,
+    }
+}
+
+/// Unmaps the frame of a slot, if one is mapped in the region.
+fn clear_frame<S: SlotStore>(store: &mut S, slot: Slot, region: TableMapping)
+    requires { TablesAgree (S.slots store.old) (S.memory store.old) }
+    ensures slots { (y : ℕ) → S.slots store.new y ≡ cleared_at (S.slots store.old) slot region y }
+    ensures size { length (S.memory store.new) ≡ length (S.memory store.old) }
+    ensures agree { TablesAgree (S.slots store.new) (S.memory store.new) }
+{
+    if !store.is_open(slot) {
+        return;
+    }
+    let (held, _parent) = store.get(slot);
+    if !stands_in(held, region) {
+        return;
+    }
+    let Cap::Frame {
+        offset,
+        rights,
+        mapping,
+    } = held
+    else {
+        return;
+    };
+    let frame = FrameCap {
+        slot,
+        offset,
+        rights,
+        mapping,
+    };
+    unmap_frame(store, frame);
+}
+
+/// Unmaps all frames of a region. Each slot of memory is looked at.
+pub(crate) fn clear_region<S: SlotStore>(store: &mut S, region: TableMapping)
+    requires agree { TablesAgree (S.slots store.old) (S.memory store.old) }
+    requires near { (slot : ℕ) → IsFull (S.slots store.old) slot
+        → 16 * slot + 16 ≤ length (S.memory store.old) }
+    ensures slots { (y : ℕ) → S.slots store.new y ≡ without_region (S.slots store.old) region y }
+    ensures size { length (S.memory store.new) ≡ length (S.memory store.old) }
+    ensures agree { TablesAgree (S.slots store.new) (S.memory store.new) }
+{
+    let count = store.mem().len() / 16;
+    'slots: for number in 0..count {
+        clear_frame(store, Slot::new(number), region);
+    }
+}

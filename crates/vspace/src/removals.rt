@@ -1,0 +1,53 @@
+//! What a removal asks for.
+
+ghost use Rattle.std.specs.Prelude.{ℕ, ◌≡◌, ◌+◌, ◌*◌, ◌≤◌, length};
+ghost use Rattle.model.specs.Invocations.{Call, with_slots};
+ghost use Rattle.model.specs.Slots.{IsFull, IsOpen, capability_at};
+ghost use Rattle.model.specs.State.{State};
+ghost use Rattle.vspace.specs.Regions.{without_mapping};
+ghost use Rattle.vspace.specs.Tables.{TablesAgree};
+
+use crate::frames::{FrameCap, unmap_frame};
+use crate::page_tables::{PageTableCap, unmap_table};
+use model::{Cap, Slot};
+use slots::SlotStore;
+
+/// Takes away the mapping that the capability in an open slot holds, if it holds one; that of a page
+/// table with the frames in its region.
+pub fn unmap_cap<S: SlotStore>(store: &mut S, slot: Slot)
+    requires is_open { IsOpen (S.slots store.old) slot }
+    requires agree { TablesAgree (S.slots store.old) (S.memory store.old) }
+    requires near { (slot : ℕ) → IsFull (S.slots store.old) slot
+        → 16 * slot + 16 ≤ length (S.memory store.old) }
+    ensures outcome { (s : State) (call : Call) → call.slot ≡ slot
+        → call.capability ≡ capability_at (S.slots store.old) slot
+        → without_mapping (with_slots s (S.slots store.old)) call call.capability
+        ≡ with_slots s (S.slots store.new) }
+    ensures agree { TablesAgree (S.slots store.new) (S.memory store.new) }
+{
+    let (held, _parent) = store.get(slot);
+    match held {
+        Cap::Frame {
+            offset,
+            rights,
+            mapping,
+        } => {
+            let frame = FrameCap {
+                slot,
+                offset,
+                rights,
+                mapping,
+            };
+            unmap_frame(store, frame);
+        }
+        Cap::PageTable { offset, mapping } => {
+            let table = PageTableCap {
+                slot,
+                offset,
+                mapping,
+            };
+            unmap_table(store, table);
+        }
+        _ => {}
+    }
+}
