@@ -24,6 +24,7 @@ mod spelling_laws;
 mod store_rows;
 mod trace_rows;
 mod wait_laws;
+mod walk_rows;
 mod word_rows;
 
 pub use boot_rows::{solo_boots, solo_boots_behind_the_boot_area, solo_boots_with_mappings};
@@ -85,4 +86,8 @@ pub use trace_rows::{
     loop_boots_as_described, loop_runs, solo_boots_as_described, solo_waits_and_wakes,
 };
 pub use wait_laws::{only_waiting_calls_are_waits, waiting_calls_are_waits};
+pub use walk_rows::{
+    a_leaf_has_its_bits, a_walk_meets_two_tables, a_walk_refuses_bad_leaves,
+    an_address_has_two_numbers_and_an_offset,
+};
 pub use word_rows::{words_stand_for, words_stand_for_nothing};
