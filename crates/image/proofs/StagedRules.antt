@@ -1,10 +1,11 @@
 -- The images of the one form are well formed, but for the entry of their thread.
-use Rattle.std.proofs.Common.{◌≡◌, cond, length, ◌⊎◌, ℕ, ◌+◌, ◌*◌, ◌/◌, ◌≤◌, ◌<◌, Bool, true, false, ◌&&◌, eqb, leb, ltb, nat_eq, List, [], ◌∷◌, Option, Some, None, Ok, Err, inl, inr, refl, sym, ap, subst, ◌∙◌, arith}
+use Rattle.std.proofs.Common.{◌≡◌, cond, length, ◌⊎◌, ℕ, ◌+◌, ◌*◌, ◌/◌, ◌≤◌, ◌<◌, Bool, true, false, ◌&&◌, eqb, leb, ltb, nat_eq, List, [], ◌∷◌, Option, Some, None, Result, Ok, Err, inl, inr, refl, sym, ap, subst, ◌∙◌, arith}
 use Rattle.std.proofs.lemmas.Bool.{and_parts, cases_lt, eqb-true, le-leb, le-ltb, leb-true, lt-leb}
 use Rattle.std.proofs.Math.Nat.{mul-div-le}
 use Rattle.std.specs.List.{list_all, range_with_len, starts_with}
-use Rattle.std.specs.Prelude.{map, slice_index_or}
+use Rattle.std.specs.Prelude.{map, slice_get, slice_index_or}
 use Rattle.std.specs.Option.{option_or}
+use Rattle.model.specs.declared.refusals.Refusal.{Refusal}
 use Rattle.model.specs.declared.refusals.Refusal.TheVariants.{BadThread, Trailing}
 use Rattle.model.specs.Accepted.{IsWellFormed, breach_of, first_breach, first_in, phases}
 use Rattle.model.specs.AddressSpaces.{address_limit, page_size}
@@ -18,7 +19,7 @@ use Rattle.model.specs.ThreadRules.{is_bad, is_code, reached, reached_within, sh
 use Rattle.model.specs.WellFormed.{capability_rules, does_not_fit, has_no_room, has_writable_code, mapping_rules, misplaces_frame, misplaces_table, object_rules, overlaps}
 use Rattle.image.specs.Stage.{IsStaged, any_thread, has_no_terms, is_staged, later, no_slots, staged_end, staged_front, staged_image, staged_reading}
 use Rattle.image.proofs.Acceptance.{kept-none, none-broken}
-use Rattle.image.proofs.Laws.{bind_ok, guard_ok, ok_is}
+use Rattle.image.proofs.Laws.{bind_ok, guard_ok, ok_is, ok_of}
 use Rattle.image.proofs.StageLaws.{chosen_ok}
 use Rattle.image.proofs.Followed.{read_as_whole}
 
@@ -212,3 +213,31 @@ good_entry t staged inside =
 pub good_entry_first : (bytes : List ℕ) (t : Thread) → staged_reading bytes ≡ Ok (staged_image t) → t.header.entry < t.header.words → first_breach bytes ≡ first_broken (program_rules (staged_image t))
 unfolding first_breach
 good_entry_first bytes t h inside = ap breach_of (read_as_whole bytes (staged_image t) h) ∙ good_entry t (read_thread bytes t h) inside
+
+-- ---- the thread of what was read
+
+-- what was read has one thread
+pub same_thread : (bytes : List ℕ) (image : Image) (thread t : Thread) → staged_reading bytes ≡ Ok image → slice_get image.threads 0 ≡ Some thread
+    → staged_reading bytes ≡ Ok (staged_image t) → t ≡ thread
+same_thread bytes image thread t read first again =
+    let same : ◌≡◌ {A = Result Image Refusal} (Ok image) (Ok (staged_image t)) = sym read ∙ again in
+    let is : image ≡ staged_image t = ok_is image (staged_image t) same in
+    let firsts : ◌≡◌ {A = Option Thread} (Some t) (Some thread) = ap (λ (i : Image). slice_get i.threads 0) (sym is) ∙ first in
+    cc firsts
+
+-- what was read is the image of its thread
+pub of_its_thread : (bytes : List ℕ) (image : Image) (thread : Thread) → staged_reading bytes ≡ Ok image → slice_get image.threads 0 ≡ Some thread → image ≡ staged_image thread
+of_its_thread bytes image thread read first =
+    let found = read_is_staged bytes image read in
+    let again : staged_reading bytes ≡ Ok (staged_image found.thread) = read ∙ ap (λ (i : Image). ok_of i) found.form in
+    found.form ∙ ap staged_image (same_thread bytes image thread found.thread read first again)
+
+pub read_well_formed : (bytes : List ℕ) (image : Image) (thread : Thread) → staged_reading bytes ≡ Ok image → slice_get image.threads 0 ≡ Some thread
+    → (thread.header.words ≤ thread.header.entry → ⊥) → IsWellFormed image
+read_well_formed bytes image thread read first inside =
+    let is : image ≡ staged_image thread = of_its_thread bytes image thread read first in
+    let staged : is_staged thread ≡ true = read_thread bytes thread (read ∙ ap (λ (i : Image). ok_of i) is) in
+    elim (cases_lt thread.header.entry thread.header.words) [
+      | inl below ↦ subst IsWellFormed (sym is) (well_formed thread staged below)
+      | inr past ↦ absurd (inside past)
+    ]

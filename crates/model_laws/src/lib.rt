@@ -36,7 +36,10 @@ pub use descent_laws::{
     a_removal_changes_mappings_alone, a_removal_keeps_other_slots, descendants_are_closed,
     no_slot_descends_from_itself, the_test_of_descent_decides,
 };
-pub use form_laws::{a_refusal_of_the_form_is_the_first_breach, what_the_form_reads_is_the_image};
+pub use form_laws::{
+    a_refusal_of_the_form_is_the_first_breach, images_of_the_form_are_well_formed,
+    the_entry_of_the_form_counts_first, what_the_form_reads_is_the_image,
+};
 pub use form_rows::{
     capabilities_fit, code_is_not_written, mappings_fit, objects_have_room, threads_fit,
 };

@@ -1,9 +1,11 @@
 //! Accepted images.
 
-ghost use Rattle.std.specs.Prelude.{◌≡◌, Err, IfErr, IfOk};
+ghost use Rattle.std.specs.Prelude.{◌≡◌, ◌≤◌, ◌⊎◌, Err, IfErr, IfOk, Ok, Some};
+ghost use Rattle.model.specs.Accepted.{IsWellFormed, first_breach};
 ghost use Rattle.model.specs.Format.{Spells};
-ghost use Rattle.model.specs.Image.{image_format};
-ghost use Rattle.image.specs.Stage.{IsStaged, no_slots, staged_reading};
+ghost use Rattle.model.specs.Image.{Thread, image_format, whole_image};
+ghost use Rattle.model.specs.declared.refusals.Refusal.TheVariants.{BadThread};
+ghost use Rattle.image.specs.Stage.{IsStaged, later, no_slots, staged_image, staged_reading};
 
 use crate::checks::Certified;
 use crate::states::noted_states;
@@ -42,10 +44,17 @@ impl<'a> Accepted<'a> {
 /// Whether the image may be started: `Ok` lends the very bytes that were verified, and an `Err` names
 /// the first rule that is broken.
 pub fn verify(alloc: Global, bytes: &[u8]) -> Result<Accepted<'_>, Refusal>
-    // What is accepted is spelled by the bytes, and is of the one form.
-    ensures spelled { IfOk result (λ image. Spells (image_format no_slots) bytes.now image × IsStaged image) }
+    // What is accepted is spelled by the bytes, and keeps the rules before those on programs.
+    ensures spelled { IfOk result (λ image. Spells whole_image bytes.now image) }
+    ensures formed { IfOk result (λ image. IsWellFormed image) }
+    // It is of the one form, and its records note no slots.
+    ensures staged { IfOk result (λ image. Spells (image_format no_slots) bytes.now image × IsStaged image) }
     // What cannot be read is refused for the first reason.
     ensures unread { IfErr (staged_reading bytes.now) (λ refusal. result ≡ Err refusal) }
+    // That is the first breach, if it is no later stage.
+    ensures first { IfErr (staged_reading bytes.now) (λ refusal. (refusal ≡ later) ⊎ (first_breach bytes.now ≡ Some refusal)) }
+    // A thread whose entry is no point of its program is refused, and that is the first breach.
+    ensures entry { (t : Thread) → staged_reading bytes.now ≡ Ok (staged_image t) → t.header.words ≤ t.header.entry → (result ≡ Err (BadThread 0)) × (first_breach bytes.now ≡ Some (BadThread 0)) }
 {
     let image = read(bytes)?;
     check_thread(alloc, 0, &image.thread(0))?;
@@ -53,7 +62,10 @@ pub fn verify(alloc: Global, bytes: &[u8]) -> Result<Accepted<'_>, Refusal>
 }
 
 /// The checks of one thread.
-fn check_thread(alloc: Global, number: u32, thread: &ThreadRef) -> Result<(), Refusal> {
+fn check_thread(alloc: Global, number: u32, thread: &ThreadRef) -> Result<(), Refusal>
+    // An entry that is no point of the program is refused.
+    ensures entry { thread.now.header.words ≤ thread.now.header.entry → result ≡ Err (BadThread number) }
+{
     let header = thread.header();
     if header.entry >= header.words {
         return Err(Refusal::BadThread { thread: number });
