@@ -1,5 +1,6 @@
 pub mod Acceptance
 pub mod Calm
+pub mod ConstantMeasures
 pub mod Followed
 pub mod Laws
 pub mod Sections

@@ -13,6 +13,7 @@ mod loading_rows;
 mod lookup_laws;
 mod loop_rows;
 mod machine_rows;
+mod measure_laws;
 mod placement_laws;
 mod program_rows;
 mod range_rows;
@@ -60,6 +61,9 @@ pub use machine_rows::{
     a_shift_keeps_the_sign, a_wait_takes_the_joined_word,
     an_interrupt_waits_for_its_acknowledgement, an_odd_jump_traps, five_ticks_rotate,
     the_next_wait_blocks,
+};
+pub use measure_laws::{
+    a_constant_stays_below, a_measure_without_terms_is_its_constant, constants_fall,
 };
 pub use placement_laws::{placement_is_aligned, placement_is_disjoint, placement_is_inside};
 pub use program_rows::{
