@@ -1,4 +1,5 @@
 pub mod Acceptance
+pub mod BareRecords
 pub mod Calm
 pub mod ConstantMeasures
 pub mod Followed

@@ -188,7 +188,7 @@ read_is_staged bytes image h =
 abbrev thread_of : Image → Thread
 thread_of image = slice_index_or image.threads 0 any_thread
 
-read_thread : (bytes : List ℕ) (t : Thread) → staged_reading bytes ≡ Ok (staged_image t) → is_staged t ≡ true
+pub read_thread : (bytes : List ℕ) (t : Thread) → staged_reading bytes ≡ Ok (staged_image t) → is_staged t ≡ true
 read_thread bytes t h =
     let found = read_is_staged bytes (staged_image t) h in
     let same : t ≡ found.thread = ap thread_of found.form in

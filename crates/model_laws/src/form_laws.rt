@@ -1,6 +1,6 @@
 //! Laws of the one form of images that this release reads.
 
-ghost use Rattle.std.specs.Prelude.{◌≡◌, ◌≤◌, ◌<◌, ◌⊎◌, ℕ, IfErr, List, Ok, Some, true};
+ghost use Rattle.std.specs.Prelude.{◌≡◌, ◌≤◌, ◌<◌, ◌⊎◌, ℕ, All, IfErr, List, [], Ok, Some, true};
 ghost use Rattle.model.specs.Accepted.{IsWellFormed, first_breach, first_in, phases};
 ghost use Rattle.model.specs.Bytes.{AreBytes};
 ghost use Rattle.model.specs.Format.{Spells, reading};
@@ -31,4 +31,9 @@ pub fn images_of_the_form_are_well_formed()
 pub fn the_entry_of_the_form_counts_first()
     ensures entry { (bytes : List ℕ) (t : Thread) → staged_reading bytes ≡ Ok (staged_image t) → t.header.words ≤ t.header.entry → first_breach bytes ≡ Some (BadThread 0) }
     ensures program { (bytes : List ℕ) (t : Thread) → staged_reading bytes ≡ Ok (staged_image t) → t.header.entry < t.header.words → first_breach bytes ≡ first_broken (program_rules (staged_image t)) }
+{}
+
+/// The records of what is read note no slots, and no terms of a measure.
+pub fn records_of_the_form_are_bare()
+    ensures { (bytes : List ℕ) (t : Thread) → AreBytes bytes → staged_reading bytes ≡ Ok (staged_image t) → All (λ r. (r.slots ≡ []) × (r.terms ≡ [])) t.records }
 {}

@@ -36,7 +36,8 @@ pub use descent_laws::{
 };
 pub use form_laws::{
     a_refusal_of_the_form_is_the_first_breach, images_of_the_form_are_well_formed,
-    the_entry_of_the_form_counts_first, what_the_form_reads_is_the_image,
+    records_of_the_form_are_bare, the_entry_of_the_form_counts_first,
+    what_the_form_reads_is_the_image,
 };
 pub use form_rows::{
     capabilities_fit, code_is_not_written, mappings_fit, objects_have_room, threads_fit,
