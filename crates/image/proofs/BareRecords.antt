@@ -7,14 +7,11 @@ use Rattle.model.specs.declared.entries.SlotEntry.{SlotEntry}
 use Rattle.model.specs.declared.entries.TermEntry.{TermEntry}
 use Rattle.model.specs.Format.{many_fit}
 use Rattle.model.specs.Image.{StateRecord, Thread, ranges_format, record_format, record_header_format, records_format, registers_format, term_format, terms_format, thread_format, thread_header_format, words_format}
+use Rattle.image.specs.Certificates.{IsBare}
 use Rattle.image.specs.Stage.{has_no_terms, is_empty, is_staged, no_slots, staged_image, staged_reading}
 use Rattle.image.proofs.Laws.{IsBytes}
 use Rattle.image.proofs.StageLaws.{staged_found, thread_fits}
 use Rattle.image.proofs.StagedRules.{read_thread}
-
--- a record that says nothing but ranges and a constant
-abbrev pub IsBare : StateRecord → Type 0
-IsBare r = (r.slots ≡ []) × (r.terms ≡ [])
 
 nothing : (xs : List SlotEntry) → is_empty xs ≡ true → xs ≡ []
 nothing [] h = refl

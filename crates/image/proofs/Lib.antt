@@ -4,6 +4,7 @@ pub mod Calm
 pub mod ConstantMeasures
 pub mod Followed
 pub mod Laws
+pub mod NotedConstants
 pub mod Sections
 pub mod StageLaws
 pub mod StagedRules
