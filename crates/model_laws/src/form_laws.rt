@@ -1,7 +1,7 @@
 //! Laws of the one form of images that this release reads.
 
 ghost use Rattle.std.specs.Prelude.{◌≡◌, ◌≤◌, ◌<◌, ◌⊎◌, ℕ, All, IfErr, List, Ok, Some, true};
-ghost use Rattle.model.specs.Accepted.{IsWellFormed, first_breach, first_in, phases};
+ghost use Rattle.model.specs.Accepted.{AreKept, IsAccepted, IsWellFormed, first_breach, first_in, phases};
 ghost use Rattle.model.specs.Bytes.{AreBytes};
 ghost use Rattle.model.specs.Format.{Spells, reading};
 ghost use Rattle.model.specs.Image.{Image, Thread, whole_image};
@@ -43,4 +43,9 @@ pub fn records_of_the_form_are_bare()
 /// Where records are bare, each state that is noted has a constant for its measure.
 pub fn bare_records_note_constants()
     ensures { (image : Image) (number : ℕ) (t : Thread) → All IsBare t.records → (point : ℕ) → HasConstant (noted image (number, t) point) }
+{}
+
+/// What is read of the form is accepted where its entry is a point of its program and the program keeps the rules.
+pub fn images_of_the_form_are_accepted_by_their_programs()
+    ensures { (bytes : List ℕ) (t : Thread) → AreBytes bytes → staged_reading bytes ≡ Ok (staged_image t) → t.header.entry < t.header.words → AreKept (program_rules (staged_image t)) → IsAccepted bytes (staged_image t) }
 {}

@@ -36,8 +36,9 @@ pub use descent_laws::{
 };
 pub use form_laws::{
     a_refusal_of_the_form_is_the_first_breach, bare_records_note_constants,
-    images_of_the_form_are_well_formed, records_of_the_form_are_bare,
-    the_entry_of_the_form_counts_first, what_the_form_reads_is_the_image,
+    images_of_the_form_are_accepted_by_their_programs, images_of_the_form_are_well_formed,
+    records_of_the_form_are_bare, the_entry_of_the_form_counts_first,
+    what_the_form_reads_is_the_image,
 };
 pub use form_rows::{
     capabilities_fit, code_is_not_written, mappings_fit, objects_have_room, threads_fit,
