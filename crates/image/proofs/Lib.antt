@@ -1,7 +1,10 @@
 pub mod Acceptance
+pub mod BareRecords
 pub mod Calm
+pub mod ConstantMeasures
 pub mod Followed
 pub mod Laws
+pub mod NotedConstants
 pub mod Sections
 pub mod StageLaws
 pub mod StagedRules

@@ -49,7 +49,7 @@ image_fits : (t : Thread) → (thread_format no_slots 7).fits t ≡ true → (im
 unfolding image_with sections_format header_format untyped_format object_format capability_format interrupt_format table_format frame_format content_format many_fit
 image_fits t h = and_from _ _ h refl
 
-thread_fits : (t : Thread) → (image_format no_slots).fits (staged_image t) ≡ true → (thread_format no_slots 7).fits t ≡ true
+pub thread_fits : (t : Thread) → (image_format no_slots).fits (staged_image t) ≡ true → (thread_format no_slots 7).fits t ≡ true
 unfolding image_with sections_format header_format untyped_format object_format capability_format interrupt_format table_format frame_format content_format many_fit
 thread_fits t h = (and_parts ((thread_format no_slots 7).fits t) true h).0
 

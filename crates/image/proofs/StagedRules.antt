@@ -7,7 +7,7 @@ use Rattle.std.specs.Prelude.{map, slice_get, slice_index_or}
 use Rattle.std.specs.Option.{option_or}
 use Rattle.model.specs.declared.refusals.Refusal.{Refusal}
 use Rattle.model.specs.declared.refusals.Refusal.TheVariants.{BadThread, Trailing}
-use Rattle.model.specs.Accepted.{IsWellFormed, breach_of, first_breach, first_in, phases}
+use Rattle.model.specs.Accepted.{AreKept, IsAccepted, IsWellFormed, breach_of, first_breach, first_in, phases}
 use Rattle.model.specs.AddressSpaces.{address_limit, page_size}
 use Rattle.model.specs.Fills.{program_pages}
 use Rattle.model.specs.Format.{◌>>=◌}
@@ -19,9 +19,9 @@ use Rattle.model.specs.ThreadRules.{is_bad, is_code, reached, reached_within, sh
 use Rattle.model.specs.WellFormed.{capability_rules, does_not_fit, has_no_room, has_writable_code, mapping_rules, misplaces_frame, misplaces_table, object_rules, overlaps}
 use Rattle.image.specs.Stage.{IsStaged, any_thread, has_no_terms, is_staged, later, no_slots, staged_end, staged_front, staged_image, staged_reading}
 use Rattle.image.proofs.Acceptance.{kept-none, none-broken}
-use Rattle.image.proofs.Laws.{bind_ok, guard_ok, ok_is, ok_of}
+use Rattle.image.proofs.Laws.{IsBytes, bind_ok, guard_ok, ok_is, ok_of}
 use Rattle.image.proofs.StageLaws.{chosen_ok}
-use Rattle.image.proofs.Followed.{read_as_whole}
+use Rattle.image.proofs.Followed.{read_as_whole, spelled_as_whole}
 
 -- ---- the rules before those on threads do not look at the thread
 
@@ -188,7 +188,7 @@ read_is_staged bytes image h =
 abbrev thread_of : Image → Thread
 thread_of image = slice_index_or image.threads 0 any_thread
 
-read_thread : (bytes : List ℕ) (t : Thread) → staged_reading bytes ≡ Ok (staged_image t) → is_staged t ≡ true
+pub read_thread : (bytes : List ℕ) (t : Thread) → staged_reading bytes ≡ Ok (staged_image t) → is_staged t ≡ true
 read_thread bytes t h =
     let found = read_is_staged bytes (staged_image t) h in
     let same : t ≡ found.thread = ap thread_of found.form in
@@ -241,3 +241,10 @@ read_well_formed bytes image thread read first inside =
       | inl below ↦ subst IsWellFormed (sym is) (well_formed thread staged below)
       | inr past ↦ absurd (inside past)
     ]
+
+pub read_accepted : (bytes : List ℕ) (t : Thread) → IsBytes bytes → staged_reading bytes ≡ Ok (staged_image t) → t.header.entry < t.header.words → AreKept (program_rules (staged_image t)) → IsAccepted bytes (staged_image t)
+read_accepted bytes t fits read inside programs = record {
+  spelled = spelled_as_whole bytes (staged_image t) fits read;
+  formed = well_formed t (read_thread bytes t read) inside;
+  programs = programs;
+}

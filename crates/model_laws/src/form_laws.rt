@@ -1,13 +1,15 @@
 //! Laws of the one form of images that this release reads.
 
-ghost use Rattle.std.specs.Prelude.{◌≡◌, ◌≤◌, ◌<◌, ◌⊎◌, ℕ, IfErr, List, Ok, Some, true};
-ghost use Rattle.model.specs.Accepted.{IsWellFormed, first_breach, first_in, phases};
+ghost use Rattle.std.specs.Prelude.{◌≡◌, ◌≤◌, ◌<◌, ◌⊎◌, ℕ, All, IfErr, List, Ok, Some, true};
+ghost use Rattle.model.specs.Accepted.{AreKept, IsAccepted, IsWellFormed, first_breach, first_in, phases};
 ghost use Rattle.model.specs.Bytes.{AreBytes};
 ghost use Rattle.model.specs.Format.{Spells, reading};
 ghost use Rattle.model.specs.Image.{Image, Thread, whole_image};
 ghost use Rattle.model.specs.PointRules.{program_rules};
+ghost use Rattle.model.specs.PointStates.{noted};
 ghost use Rattle.model.specs.Rules.{first_broken};
 ghost use Rattle.model.specs.declared.refusals.Refusal.TheVariants.{BadThread};
+ghost use Rattle.image.specs.Certificates.{HasConstant, IsBare};
 ghost use Rattle.image.specs.Stage.{is_staged, later, staged_image, staged_reading};
 
 /// What this release reads of bytes is the image that they spell.
@@ -31,4 +33,19 @@ pub fn images_of_the_form_are_well_formed()
 pub fn the_entry_of_the_form_counts_first()
     ensures entry { (bytes : List ℕ) (t : Thread) → staged_reading bytes ≡ Ok (staged_image t) → t.header.words ≤ t.header.entry → first_breach bytes ≡ Some (BadThread 0) }
     ensures program { (bytes : List ℕ) (t : Thread) → staged_reading bytes ≡ Ok (staged_image t) → t.header.entry < t.header.words → first_breach bytes ≡ first_broken (program_rules (staged_image t)) }
+{}
+
+/// The records of what is read note no slots, and no terms of a measure.
+pub fn records_of_the_form_are_bare()
+    ensures { (bytes : List ℕ) (t : Thread) → AreBytes bytes → staged_reading bytes ≡ Ok (staged_image t) → All IsBare t.records }
+{}
+
+/// Where records are bare, each state that is noted has a constant for its measure.
+pub fn bare_records_note_constants()
+    ensures { (image : Image) (number : ℕ) (t : Thread) → All IsBare t.records → (point : ℕ) → HasConstant (noted image (number, t) point) }
+{}
+
+/// What is read of the form is accepted where its entry is a point of its program and the program keeps the rules.
+pub fn images_of_the_form_are_accepted_by_their_programs()
+    ensures { (bytes : List ℕ) (t : Thread) → AreBytes bytes → staged_reading bytes ≡ Ok (staged_image t) → t.header.entry < t.header.words → AreKept (program_rules (staged_image t)) → IsAccepted bytes (staged_image t) }
 {}

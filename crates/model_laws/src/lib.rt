@@ -14,6 +14,7 @@ mod lookup_laws;
 mod loop_rows;
 mod machine_rows;
 mod mapping_rows;
+mod measure_laws;
 mod placement_laws;
 mod program_rows;
 mod range_laws;
@@ -37,8 +38,10 @@ pub use descent_laws::{
     no_slot_descends_from_itself, the_test_of_descent_decides,
 };
 pub use form_laws::{
-    a_refusal_of_the_form_is_the_first_breach, images_of_the_form_are_well_formed,
-    the_entry_of_the_form_counts_first, what_the_form_reads_is_the_image,
+    a_refusal_of_the_form_is_the_first_breach, bare_records_note_constants,
+    images_of_the_form_are_accepted_by_their_programs, images_of_the_form_are_well_formed,
+    records_of_the_form_are_bare, the_entry_of_the_form_counts_first,
+    what_the_form_reads_is_the_image,
 };
 pub use form_rows::{
     capabilities_fit, code_is_not_written, mappings_fit, objects_have_room, threads_fit,
@@ -67,6 +70,9 @@ pub use machine_rows::{
 pub use mapping_rows::{
     a_frame_is_mapped_once_at_a_free_page, a_load_across_the_end_of_a_page_faults,
     a_page_has_its_rights,
+};
+pub use measure_laws::{
+    a_constant_stays_below, a_measure_without_terms_is_its_constant, constants_fall,
 };
 pub use placement_laws::{placement_is_aligned, placement_is_disjoint, placement_is_inside};
 pub use program_rows::{
