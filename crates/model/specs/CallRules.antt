@@ -27,6 +27,7 @@ use Rattle.model.specs.RangeRules.{is_single, range}
 use Rattle.model.specs.Ranges.{full, single, range_of, with_range}
 use Rattle.model.specs.Rights.{may_grant_reply, may_read, may_write}
 use Rattle.model.specs.Slots.{Slots, capability_at}
+use Rattle.model.specs.Steps.{SendCall, Calling, Sending, Trying, Receiving, Polling, SystemCall, Sends, Receives, RepliesAndReceives, Replies, Yields, PutsCharacter, call_of}
 
 -- ---- what is known behind a call
 
@@ -168,34 +169,29 @@ invocation image t at state call answers = do
 
 -- ---- Call, Send and NBSend
 
-pub data SendKind : Type 0 where
-  Calls : SendKind
-  Sends : SendKind
-  -- without waiting
-  Tries : SendKind
+-- Call has an answer
+abbrev pub answers : SendCall → Bool
+answers Calling = true
+answers Sending = false
+answers Trying = false
 
-abbrev pub answers : SendKind → Bool
-answers Calls = true
-answers Sends = false
-answers Tries = false
-
-abbrev pub sends_message : Point → PointState → SendKind → Rights → Result AfterCall Refusal
-sends_message at state Calls r = do
+abbrev pub sends_message : Point → PointState → SendCall → Rights → Result AfterCall Refusal
+sends_message at state Calling r = do
   _ ← demand (may_write r && may_grant_reply r) (CapNotThere at)
   Ok (leaves state (with_message state.ranges (single 0)) true message_registers)
-sends_message at state Sends r = do
+sends_message at state Sending r = do
   _ ← demand (may_write r) (CapNotThere at)
   Ok (changes_nothing state true)
-sends_message at state Tries r = do
+sends_message at state Trying r = do
   _ ← demand (may_write r) (CapNotThere at)
   Ok (changes_nothing state false)
 
-abbrev pub sends_signal : Point → PointState → SendKind → Rights → Result AfterCall Refusal
+abbrev pub sends_signal : Point → PointState → SendCall → Rights → Result AfterCall Refusal
 sends_signal at state kind r = do
   _ ← demand (may_write r) (CapNotThere at)
   Ok (if answers kind then leaves state (with_answer state.ranges) false (a0 ∷ a1 ∷ []) else changes_nothing state false)
 
-abbrev pub sends : Image → Thread → Point → PointState → SendKind → ℕ → Cap → Result AfterCall Refusal
+abbrev pub sends : Image → Thread → Point → PointState → SendCall → ℕ → Cap → Result AfterCall Refusal
 sends image t at state kind slot (Endpoint offset r badge) = sends_message at state kind r
 sends image t at state kind slot (Notification offset r badge) = sends_signal at state kind r
 sends image t at state kind slot capability =
@@ -204,49 +200,31 @@ sends image t at state kind slot capability =
 
 -- ---- the whole
 
--- what is called with a capability
-pub data CapabilityCall : Type 0 where
-  SendCall : SendKind → CapabilityCall
-  -- whether it waits
-  ReceiveCall : Bool → CapabilityCall
-
-abbrev pub on_capability : Image → Thread → Point → PointState → CapabilityCall → ℕ → Cap → Result AfterCall Refusal
-on_capability image t at state (SendCall kind) slot capability = sends image t at state kind slot capability
-on_capability image t at state (ReceiveCall is_wait) slot capability = receives at state is_wait capability
-
-abbrev pub by_capability : Image → Thread → Point → PointState → CapabilityCall → Result AfterCall Refusal
-by_capability image t at state call =
+-- what the rule for the capability that a0 names says
+abbrev pub by_capability : Image → Thread → Point → PointState → (ℕ → Cap → Result AfterCall Refusal) → Result AfterCall Refusal
+by_capability image t at state rule =
     let slots = (noted_kernel image t state.slots).slots in
     do
       address ← known at state a0
       slot ← found_slot at (called_slot slots (noted_root image t) address)
-      on_capability image t at state call slot (capability_at slots slot)
+      rule slot (capability_at slots slot)
 
-pub data SystemCall : Type 0 where
-  WithCapability : CapabilityCall → SystemCall
-  -- it needs nothing, and changes neither registers nor slots
-  WithNothing : SystemCall
-
--- Call, ReplyRecv, Send, NBSend, Recv, Reply, Yield, NBRecv, PutChar
-abbrev pub system_call_of : ℕ → Option SystemCall
-system_call_of number =
-    if number == 1 then Some (WithCapability (SendCall Calls)) else
-    if number == 2 then Some (WithCapability (ReceiveCall true)) else
-    if number == 3 then Some (WithCapability (SendCall Sends)) else
-    if number == 4 then Some (WithCapability (SendCall Tries)) else
-    if number == 5 then Some (WithCapability (ReceiveCall true)) else
-    if number == 6 then Some WithNothing else
-    if number == 7 then Some WithNothing else
-    if number == 8 then Some (WithCapability (ReceiveCall false)) else
-    if number == 9 then Some WithNothing else None
+-- Reply, Yield and PutChar need nothing, and change neither registers nor slots.
+abbrev pub by_call : Image → Thread → Point → PointState → SystemCall → Result AfterCall Refusal
+by_call image t at state (Sends kind) = by_capability image t at state (sends image t at state kind)
+by_call image t at state (Receives Receiving) = by_capability image t at state (λ slot. receives at state true)
+by_call image t at state (Receives Polling) = by_capability image t at state (λ slot. receives at state false)
+by_call image t at state RepliesAndReceives = by_capability image t at state (λ slot. receives at state true)
+by_call image t at state Replies = Ok (changes_nothing state false)
+by_call image t at state Yields = Ok (changes_nothing state false)
+by_call image t at state PutsCharacter = Ok (changes_nothing state false)
 
 abbrev pub by_number : Image → Thread → Point → PointState → Option SystemCall → Result AfterCall Refusal
-by_number image t at state (Some (WithCapability call)) = by_capability image t at state call
-by_number image t at state (Some WithNothing) = Ok (changes_nothing state false)
+by_number image t at state (Some call) = by_call image t at state call
 by_number image t at state None = Err (CallRefused at IllegalOperation)
 
 -- What is known behind the system call at a point, or why it is refused.
 unfoldable pub after_call : Image → Thread → Point → PointState → Result AfterCall Refusal
 after_call image t at state = do
   number ← known at state a7
-  by_number image t at state (system_call_of number)
+  by_number image t at state (call_of number)
