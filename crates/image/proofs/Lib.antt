@@ -7,6 +7,7 @@ pub mod Laws
 pub mod NotedConstants
 pub mod Sections
 pub mod StageLaws
+pub mod StagedCalls
 pub mod StagedRules
 pub mod ThreadLaws
 pub mod WholeImage

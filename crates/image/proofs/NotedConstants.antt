@@ -18,7 +18,7 @@ use Rattle.model.specs.PointStates.{Noted, Known, Missing, Unmeasured, Numbered,
 use Rattle.model.specs.RangeRules.{destination}
 use Rattle.image.specs.Certificates.{HasConstant, IsBare}
 
-found_in : (test : StateRecord → Bool) (rs : List StateRecord) → All IsBare rs → IfSome (find test rs) IsBare
+pub found_in : (test : StateRecord → Bool) (rs : List StateRecord) → All IsBare rs → IfSome (find test rs) IsBare
 found_in test [] bare = tt
 found_in test (r ∷ rs) bare =
     elim (test r) as (λ b. IfSome (cond b (Some r) (find test rs)) IsBare) [

@@ -17,6 +17,7 @@ use Rattle.model.specs.PointRules.{program_rules}
 use Rattle.model.specs.Rules.{first_broken, refuse_if}
 use Rattle.model.specs.ThreadRules.{is_bad, is_code, reached, reached_within, shares_cspace, shares_vspace, thread_rules}
 use Rattle.model.specs.WellFormed.{capability_rules, does_not_fit, has_no_room, has_writable_code, mapping_rules, misplaces_frame, misplaces_table, object_rules, overlaps}
+use Rattle.image.specs.Certificates.{numbered_thread}
 use Rattle.image.specs.Stage.{IsStaged, any_thread, has_no_terms, is_staged, later, no_slots, staged_end, staged_front, staged_image, staged_reading}
 use Rattle.image.proofs.Acceptance.{kept-none, none-broken}
 use Rattle.image.proofs.Laws.{IsBytes, bind_ok, guard_ok, ok_is, ok_of}
@@ -38,15 +39,6 @@ unfolding mapping_rules misplaces_table misplaces_frame has_writable_code
 mappings_kept t = refl
 
 -- ---- the thread
-
--- a thread with the numbers that the form asks for
-abbrev numbered_thread : Thread → Thread
-numbered_thread t = record {
-  header = record { tcb = 4; cnode = 5; guard = 28; root = 1; priority = t.header.priority; budget = t.header.budget; fault = 0; entry = t.header.entry; base = 0x1000; registers = t.header.registers; words = t.header.words; records = t.header.records };
-  registers = t.registers;
-  words = t.words;
-  records = t.records;
-}
 
 abbrev thread_with : Thread → ℕ → ℕ → ℕ → ℕ → ℕ → ℕ → Thread
 thread_with t tcb cnode guard root fault base = record {

@@ -6,10 +6,14 @@ ghost use Rattle.model.specs.Bytes.{AreBytes};
 ghost use Rattle.model.specs.Format.{Spells, reading};
 ghost use Rattle.model.specs.Image.{Image, Thread, whole_image};
 ghost use Rattle.model.specs.PointRules.{program_rules};
-ghost use Rattle.model.specs.PointStates.{noted};
+ghost use Rattle.model.specs.Measures.{Measure};
+ghost use Rattle.model.specs.Messages.{a0, a7};
+ghost use Rattle.model.specs.PointStates.{call_at, noted};
+ghost use Rattle.model.specs.Ranges.{range_of, single};
 ghost use Rattle.model.specs.Rules.{first_broken};
+ghost use Rattle.model.specs.declared.ranges.Range.{Range};
 ghost use Rattle.model.specs.declared.refusals.Refusal.TheVariants.{BadThread};
-ghost use Rattle.image.specs.Certificates.{HasConstant, IsBare};
+ghost use Rattle.image.specs.Certificates.{HasConstant, IsBare, IsOfForm, waited, with_image_slots};
 ghost use Rattle.image.specs.Stage.{is_staged, later, staged_image, staged_reading};
 
 /// What this release reads of bytes is the image that they spell.
@@ -48,4 +52,12 @@ pub fn bare_records_note_constants()
 /// What is read of the form is accepted where its entry is a point of its program and the program keeps the rules.
 pub fn images_of_the_form_are_accepted_by_their_programs()
     ensures { (bytes : List ℕ) (t : Thread) → AreBytes bytes → staged_reading bytes ≡ Ok (staged_image t) → t.header.entry < t.header.words → AreKept (program_rules (staged_image t)) → IsAccepted bytes (staged_image t) }
+{}
+
+/// The wait on the notification is a system call that threads of the form may make: behind it a0 is any
+/// badge, and all else is as it was.
+pub fn threads_of_the_form_may_wait()
+    ensures { (t : Thread) (point : ℕ) (ranges : List Range) (m : Measure) → IsOfForm t
+        → range_of ranges a7 ≡ single 5 → range_of ranges a0 ≡ single 1
+        → call_at (staged_image t) (0, t) point (with_image_slots t ranges m) ≡ Some (Ok (waited t ranges)) }
 {}

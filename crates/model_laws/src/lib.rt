@@ -48,6 +48,7 @@ pub use form_laws::images_of_the_form_are_accepted_by_their_programs;
 pub use form_laws::images_of_the_form_are_well_formed;
 pub use form_laws::records_of_the_form_are_bare;
 pub use form_laws::the_entry_of_the_form_counts_first;
+pub use form_laws::threads_of_the_form_may_wait;
 pub use form_laws::what_the_form_reads_is_the_image;
 pub use form_rows::capabilities_fit;
 pub use form_rows::code_is_not_written;

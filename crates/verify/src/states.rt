@@ -2,9 +2,13 @@
 //! point before.
 
 ghost use Rattle.std.specs.Prelude.{◌≡◌, ◌+◌, ◌<◌, ◌^◌, ◌≤ℤ◌, ◌≢◌, IfOk, IfSome, negsuc, true, vec_len};
-ghost use Rattle.model.specs.Instructions.{IsInstr};
-ghost use Rattle.model.specs.Ranges.{is_ranged};
+ghost use Rattle.model.specs.CallRules.{badges};
+ghost use Rattle.model.specs.Instructions.{IsInstr, decoded};
+ghost use Rattle.model.specs.Messages.{a0};
+ghost use Rattle.model.specs.NotedStates.{record_ranges};
+ghost use Rattle.model.specs.Ranges.{is_ranged, with_range};
 ghost use Rattle.model.specs.declared.instructions.Instr.TheVariants.{Ecall};
+ghost use Rattle.verify.specs.Matching.{IsWait, known_of};
 ghost use Rattle.verify.specs.States.{IsAtLeast};
 
 use image::{RecordRef, ThreadRef};
@@ -48,12 +52,16 @@ const NOTIFICATION: u32 = 1;
 const GREATEST_BADGE: u32 = (1 << 28) - 1;
 
 /// Whether a system call in this state is a wait on the thread's notification.
-pub(crate) fn waits(bounds: &Bounds) -> bool {
+pub(crate) fn waits(bounds: &Bounds) -> bool
+    ensures { result ≡ true → IsWait bounds.now }
+{
     bounds.get(A7).value() == Some(RECEIVE) && bounds.get(A0).value() == Some(NOTIFICATION)
 }
 
 /// The ranges behind a wait on the notification.
-pub(crate) fn after_wait(bounds: &Bounds) -> Bounds {
+pub(crate) fn after_wait(bounds: &Bounds) -> Bounds
+    ensures { result ≡ with_range bounds.now a0 badges }
+{
     let mut bounds = *bounds;
     bounds.set(
         A0,
@@ -66,11 +74,13 @@ pub(crate) fn after_wait(bounds: &Bounds) -> Bounds {
 }
 
 /// The state of a record.
-fn recorded(record: &RecordRef) -> State
-    ensures { negsuc (2 ^ 63) ≤ℤ result.measure }
+fn recorded(noted: &RecordRef) -> State
+    ensures least { negsuc (2 ^ 63) ≤ℤ result.measure }
+    ensures ranges { result.bounds ≡ record_ranges noted.now }
+    ensures measure { result.measure ≡ noted.now.header.constant }
 {
     let mut bounds = Bounds::full();
-    for entry in record.ranges() {
+    for entry in noted.ranges() {
         if entry.register < 32 {
             let register = Register(entry.register as u8);
             bounds.set(
@@ -84,12 +94,13 @@ fn recorded(record: &RecordRef) -> State
     }
     State {
         bounds,
-        measure: i128::from(record.constant()),
+        measure: i128::from(noted.constant()),
     }
 }
 
 /// The instruction that a word spells, where it is one of this release: ADDI, JAL or ECALL.
 pub(crate) fn known(word: u32) -> Option<Instr>
+    ensures value { result ≡ known_of (decoded word) }
     ensures ranged { IfSome result (λ instr. instr ≢ Ecall → is_ranged instr ≡ true) }
     ensures instr { IfSome result IsInstr }
 {
