@@ -1,14 +1,16 @@
 -- What the certificate of an image of the one form says: ranges and constants, and no more.
-use Rattle.std.specs.Prelude.{◌≡◌, ◌≤◌, All, true, List, [], ◌∷◌}
+use Rattle.std.specs.Prelude.{◌≡◌, ◌≢◌, ◌<◌, ◌≤◌, ◌||◌, ℕ, All, Bool, true, false, List, [], ◌∷◌, Option, Some, None, if◌then◌else◌}
 use Rattle.model.specs.Image.{StateRecord}
+use Rattle.model.specs.declared.instructions.Instr.{Instr}
+use Rattle.model.specs.declared.instructions.Instr.TheVariants.{Ecall}
 use Rattle.model.specs.declared.ranges.Range.{Range}
 use Rattle.model.specs.CallRules.{AfterCall, badges}
 use Rattle.model.specs.Image.{Thread}
 use Rattle.model.specs.Measures.{Measure}
-use Rattle.model.specs.Messages.{a0}
+use Rattle.model.specs.Messages.{a0, a7}
 use Rattle.model.specs.NotedStates.{PointState, image_slots}
-use Rattle.model.specs.PointStates.{Noted, Known, Missing, Unmeasured}
-use Rattle.model.specs.Ranges.{with_range}
+use Rattle.model.specs.PointStates.{Noted, Known, Missing, Unmeasured, instruction_at, noted}
+use Rattle.model.specs.Ranges.{is_ranged, range_of, single, with_range}
 use Rattle.image.specs.Stage.{staged_image}
 
 -- a record that notes no slots and no terms
@@ -43,3 +45,28 @@ pub record IsOfForm (t : Thread) : Type 0 where
   pub numbers : t ≡ numbered_thread t
   pub words : t.header.words ≤ 1024
   pub bare : All IsBare t.records
+
+-- ---- programs
+
+abbrev pub is_ecall : Instr → Bool
+is_ecall Ecall = true
+is_ecall _ = false
+
+-- an instruction that this release knows
+abbrev pub known_of : Option Instr → Option Instr
+known_of None = None
+known_of (Some i) = if is_ecall i || is_ranged i then Some i else None
+
+-- a system call in these ranges is the wait on the notification
+abbrev pub IsWait : List Range → Type 0
+IsWait ranges = (range_of ranges a7 ≡ single 5) × (range_of ranges a0 ≡ single 1)
+
+-- where a point has a state and its instruction is a system call, it is the wait
+abbrev pub OnlyWaits : Thread → ℕ → Type 0
+OnlyWaits t point =
+    (state : PointState) → noted (staged_image t) (0, t) point ≡ Known state → instruction_at t point ≡ Some Ecall → IsWait state.ranges
+
+-- a program of the instructions that this release knows, with no other system call than the wait
+pub record IsPlain (t : Thread) : Type 0 where
+  pub words : (point : ℕ) → point < t.header.words → known_of (instruction_at t point) ≢ None
+  pub waits : (point : ℕ) → point < t.header.words → OnlyWaits t point

@@ -1,3 +1,4 @@
+pub mod Machine
 pub mod Pages
 pub mod Running
 pub mod Sinks

@@ -1,6 +1,7 @@
 //! The machine of the one form of image: one thread, and one interrupt line that signals it.
 
 ghost use Rattle.std.specs.Prelude.{◌≡◌, ◌^◌, ◌*◌, ◌≤◌, length, IfOk};
+ghost use Rattle.microsys.specs.Machine.{machine_of, machine_step};
 
 use crate::pages::{CODE, Pages};
 use image::ThreadRef;
@@ -34,11 +35,14 @@ const NOTIFICATION: u32 = 1;
 /// How many words a page has.
 const PAGE_WORDS: u32 = 1024;
 
+/// How many interrupt lines there are.
+const LINES: usize = 64;
+
 /// Whether a thread runs.
 #[derive(Clone, Copy, Debug, PartialEq, Eq)]
-enum ThreadState {
-    /// It is ready, with so many ticks left.
-    Ready { slice: u8 },
+pub(crate) enum Status {
+    /// It is ready.
+    Ready,
     /// It waits on the notification, and stands at its ECALL.
     Waiting,
     /// It faulted, and nobody handles its faults.
@@ -48,15 +52,17 @@ enum ThreadState {
 /// The state of the machine after boot and after each event.
 #[derive(Drop)]
 pub(crate) struct System {
-    pages: Pages,
-    regs: Regs,
-    state: ThreadState,
+    pub(crate) pages: Pages,
+    pub(crate) regs: Regs,
+    pub(crate) status: Status,
+    /// How many ticks the thread runs on.
+    pub(crate) slice: u8,
     /// The notification's word.
-    word: u32,
-    /// The line was raised and not acknowledged since.
-    masked: bool,
-    /// The line was raised while it was masked.
-    pending: bool,
+    pub(crate) word: u32,
+    /// The bound line was raised and not acknowledged since.
+    pub(crate) masked: bool,
+    /// The lines that were raised while they were masked, or not bound.
+    pub(crate) pending: [bool; LINES],
 }
 
 /// The machine as the image describes it.
@@ -66,10 +72,11 @@ pub(crate) fn boot(alloc: Global, accepted: &Accepted) -> Result<System, AllocEr
     Ok(System {
         pages,
         regs: first_registers(&thread),
-        state: ThreadState::Ready { slice: SLICE },
+        status: Status::Ready,
+        slice: SLICE,
         word: 0,
         masked: false,
-        pending: false,
+        pending: [false; LINES],
     })
 }
 
@@ -99,11 +106,13 @@ fn first_registers(thread: &ThreadRef) -> Regs {
 
 impl System {
     /// One event, and what the trace says of it.
-    pub(crate) fn step(&mut self, event: Event) -> Label {
+    pub(crate) fn step(&mut self, event: Event) -> Label
+        ensures { (machine_of self.new, result) ≡ machine_step (machine_of self.old) event }
+    {
         match event {
-            Event::Step => match self.state {
-                ThreadState::Ready { .. } => self.run_thread(),
-                ThreadState::Waiting | ThreadState::Stopped => Label::Idle,
+            Event::Step => match self.status {
+                Status::Ready => self.run_thread(),
+                Status::Waiting | Status::Stopped => Label::Idle,
             },
             Event::Tick => {
                 self.tick();
@@ -150,7 +159,7 @@ impl System {
             return self.stop(FaultKind::UnknownCall);
         }
         if self.word == 0 {
-            self.state = ThreadState::Waiting;
+            self.status = Status::Waiting;
         } else {
             let word = self.word;
             self.word = 0;
@@ -168,34 +177,39 @@ impl System {
 
     /// Stops the thread for a fault, which nobody handles.
     fn stop(&mut self, kind: FaultKind) -> Outcome {
-        self.state = ThreadState::Stopped;
+        self.status = Status::Stopped;
         Outcome::Faulted(kind)
     }
 
     /// Takes one from the thread's slice. The only thread of its list is the next one too.
     fn tick(&mut self) {
-        if let ThreadState::Ready { slice } = self.state {
-            let slice = if slice <= 1 { SLICE } else { slice - 1 };
-            self.state = ThreadState::Ready { slice };
+        if self.status == Status::Ready {
+            self.slice = if self.slice <= 1 {
+                SLICE
+            } else {
+                self.slice - 1
+            };
         }
     }
 
-    /// Raises an interrupt line. The bound line signals once until it is acknowledged.
+    /// Raises an interrupt line. The bound line signals once until it is acknowledged, and lines above 63
+    /// do nothing.
     fn raise(&mut self, line: u8) {
-        if line != LINE {
+        if line as usize >= LINES {
             return;
         }
-        if self.masked {
-            self.pending = true;
+        if line != LINE || self.masked {
+            self.pending[line as usize] = true;
             return;
         }
         self.masked = true;
-        match self.state {
-            ThreadState::Waiting => {
+        match self.status {
+            Status::Waiting => {
                 self.receive(BADGE);
-                self.state = ThreadState::Ready { slice: SLICE };
+                self.status = Status::Ready;
+                self.slice = SLICE;
             }
-            ThreadState::Ready { .. } | ThreadState::Stopped => self.word |= BADGE,
+            Status::Ready | Status::Stopped => self.word |= BADGE,
         }
     }
 }

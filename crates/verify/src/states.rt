@@ -8,7 +8,7 @@ ghost use Rattle.model.specs.Messages.{a0};
 ghost use Rattle.model.specs.NotedStates.{record_ranges};
 ghost use Rattle.model.specs.Ranges.{is_ranged, with_range};
 ghost use Rattle.model.specs.declared.instructions.Instr.TheVariants.{Ecall};
-ghost use Rattle.verify.specs.Matching.{IsWait, known_of};
+ghost use Rattle.image.specs.Certificates.{IsWait, known_of};
 ghost use Rattle.verify.specs.States.{IsAtLeast};
 
 use image::{RecordRef, ThreadRef};
