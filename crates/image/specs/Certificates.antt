@@ -1,5 +1,5 @@
 -- What the certificate of an image of the one form says: ranges and constants, and no more.
-use Rattle.std.specs.Prelude.{◌≡◌, ◌≢◌, ◌<◌, ◌≤◌, ◌||◌, ℕ, All, Bool, true, false, List, [], ◌∷◌, Option, Some, None, if◌then◌else◌}
+use Rattle.std.specs.Prelude.{◌≡◌, ◌≢◌, ◌<◌, ◌≤◌, ◌+◌, ◌||◌, ℕ, ℤ, All, Bool, true, false, List, [], ◌∷◌, Option, Some, None, if◌then◌else◌}
 use Rattle.model.specs.Image.{StateRecord}
 use Rattle.model.specs.declared.instructions.Instr.{Instr}
 use Rattle.model.specs.declared.instructions.Instr.TheVariants.{Ecall}
@@ -27,6 +27,10 @@ HasConstant Unmeasured = ⊥
 abbrev pub with_image_slots : Thread → List Range → Measure → PointState
 with_image_slots t ranges m = record { ranges = ranges; slots = image_slots (staged_image t) t; measure = m }
 
+-- a measure without terms
+abbrev pub constant_measure : ℤ → Measure
+constant_measure n = record { constant = n; terms = [] }
+
 -- what is known behind the wait on the notification
 abbrev pub waited : Thread → List Range → AfterCall
 waited t ranges = record { ranges = with_range ranges a0 badges; slots = image_slots (staged_image t) t; is_wait = true; written = a0 ∷ [] }
@@ -40,11 +44,17 @@ numbered_thread t = record {
   records = t.records;
 }
 
--- a thread of the form: its numbers, a program of one page, and records that note ranges and constants alone
+-- the points of records rise strictly, from a least one on
+unfoldable pub Rise : ℕ → List StateRecord → Type 0
+Rise least [] = Unit {0}
+Rise least (r ∷ rs) = (least ≤ r.header.point) × Rise (r.header.point + 1) rs
+
+-- a thread of the form: its numbers, a program of one page, and records that rise and note ranges and constants alone
 pub record IsOfForm (t : Thread) : Type 0 where
   pub numbers : t ≡ numbered_thread t
   pub words : t.header.words ≤ 1024
   pub bare : All IsBare t.records
+  pub rising : Rise 0 t.records
 
 -- ---- programs
 
