@@ -29,7 +29,7 @@ found_in test (r ∷ rs) bare =
 no_term : (m : Measure) (register : ℕ) → m.terms ≡ [] → has_term m register ≡ false
 no_term m register none = ap (λ (ts : List TermEntry). list_any (λ t. t.register == register) ts) none
 
-no_term_of : (m : Measure) (o : Option Register) → m.terms ≡ [] → option_map_or (λ rd. has_term m rd.0) o false ≡ false
+pub no_term_of : (m : Measure) (o : Option Register) → m.terms ≡ [] → option_map_or (λ rd. has_term m rd.0) o false ≡ false
 no_term_of m None none = refl
 no_term_of m (Some rd) none = no_term m rd.0 none
 

@@ -1,14 +1,17 @@
 //! The states that a certificate notes at the points of a program: from a record, or derived from the
 //! point before.
 
-ghost use Rattle.std.specs.Prelude.{◌≡◌, ◌+◌, ◌<◌, ◌^◌, ◌≤ℤ◌, ◌≢◌, IfOk, IfSome, negsuc, true, vec_len};
+ghost use Rattle.std.specs.Prelude.{◌≡◌, ◌+◌, ◌<◌, ◌^◌, ◌≤ℤ◌, ◌≢◌, ◌↔◌, IfOk, IfSome, IsTrue, ◌-ℤ◌, negsuc, pos, true};
 ghost use Rattle.model.specs.CallRules.{badges};
 ghost use Rattle.model.specs.Instructions.{IsInstr, decoded};
 ghost use Rattle.model.specs.Messages.{a0};
 ghost use Rattle.model.specs.NotedStates.{record_ranges};
 ghost use Rattle.model.specs.Ranges.{is_ranged, with_range};
 ghost use Rattle.model.specs.declared.instructions.Instr.TheVariants.{Ecall};
-ghost use Rattle.image.specs.Certificates.{IsWait, known_of};
+ghost use Rattle.model.specs.PointStates.{follows};
+ghost use Rattle.image.specs.Certificates.{IsOfForm, IsWait, known_of};
+ghost use Rattle.image.specs.Stage.{staged_image};
+ghost use Rattle.verify.specs.Matching.{AreStates, IsKnownAt, Meets, noted_at};
 ghost use Rattle.verify.specs.States.{IsAtLeast};
 
 use image::{RecordRef, ThreadRef};
@@ -53,7 +56,7 @@ const GREATEST_BADGE: u32 = (1 << 28) - 1;
 
 /// Whether a system call in this state is a wait on the thread's notification.
 pub(crate) fn waits(bounds: &Bounds) -> bool
-    ensures { result ≡ true → IsWait bounds.now }
+    ensures { IsTrue result ↔ IsWait bounds.now }
 {
     bounds.get(A7).value() == Some(RECEIVE) && bounds.get(A0).value() == Some(NOTIFICATION)
 }
@@ -71,6 +74,29 @@ pub(crate) fn after_wait(bounds: &Bounds) -> Bounds
         },
     );
     bounds
+}
+
+/// The state behind a wait: the budget is there anew.
+fn behind_wait(bounds: &Bounds, budget: u64) -> State
+    ensures bounds { result.bounds ≡ with_range bounds.now a0 badges }
+    ensures measure { result.measure ≡ pos budget }
+{
+    State {
+        bounds: after_wait(bounds),
+        measure: i128::from(budget),
+    }
+}
+
+/// The state with these ranges and one instruction less to run.
+fn one_less(bounds: Bounds, measure: i128) -> State
+    requires { negsuc (2 ^ 100) ≤ℤ measure }
+    ensures bounds { result.bounds ≡ bounds }
+    ensures measure { result.measure ≡ measure -ℤ pos 1 }
+{
+    State {
+        bounds,
+        measure: measure - 1,
+    }
 }
 
 /// The state of a record.
@@ -110,36 +136,56 @@ pub(crate) fn known(word: u32) -> Option<Instr>
     }
 }
 
-/// The state behind the fall-through of a point in this state. Its measure is one less, or the budget
-/// behind a wait.
-fn behind(thread: &ThreadRef, point: u32, state: &Noted) -> Noted
+/// The state behind the fall-through of a point in this state, which a later stage knows where it does so
+/// of the point.
+fn behind(thread: &ThreadRef, point: u32, noted: &Noted) -> Noted
     requires within { point < thread.now.header.words }
-    requires measured { IsAtLeast point state.now }
-    ensures { IsAtLeast (point + 1) result }
+    requires form { IsOfForm thread.now }
+    requires measured { IsAtLeast point noted.now }
+    requires meets { Meets thread.now (noted_at thread.now point) noted.now }
+    ensures measured { IsAtLeast (point + 1) result }
+    ensures follows { Meets thread.now (follows (staged_image thread.now) (0, thread.now) point (noted_at thread.now point)) result }
+{
+    match noted {
+        Noted::Absent => Noted::Absent,
+        Noted::Later => match known(thread.word(point)) {
+            Some(Instr::Jal { .. }) => Noted::Absent,
+            _ => Noted::Later,
+        },
+        Noted::Known(state) => behind_state(thread, point, state),
+    }
+}
+
+/// The same of a point with a state. The measure is one less, or the budget behind a wait.
+fn behind_state(thread: &ThreadRef, point: u32, state: &State) -> Noted
+    requires within { point < thread.now.header.words }
+    requires form { IsOfForm thread.now }
+    requires measured { negsuc (2 ^ 63 + point) ≤ℤ state.now.measure }
+    requires meets { IsKnownAt thread.now point state.now }
+    ensures measured { IsAtLeast (point + 1) result }
+    ensures follows { Meets thread.now (follows (staged_image thread.now) (0, thread.now) point (noted_at thread.now point)) result }
 {
     let header = thread.header();
-    let pc = header.base.wrapping_add(point.wrapping_mul(4));
-    match (known(thread.word(point)), state) {
-        (Some(Instr::Ecall), Noted::Known(state)) if waits(&state.bounds) => Noted::Known(State {
-            bounds: after_wait(&state.bounds),
-            measure: i128::from(header.budget),
-        }),
-        (Some(Instr::Ecall), Noted::Known(_)) => Noted::Later,
-        (Some(instr), Noted::Known(state)) => match after(pc, instr, &state.bounds).fall_through {
-            Some(edge) => Noted::Known(State {
-                bounds: edge.bounds,
-                measure: state.measure - 1,
-            }),
-            None => Noted::Absent,
-        },
-        (Some(Instr::Jal { .. }), _) | (None, _) | (_, Noted::Absent) => Noted::Absent,
-        (Some(_), Noted::Later) => Noted::Later,
+    match known(thread.word(point)) {
+        None => Noted::Later,
+        Some(Instr::Ecall) if waits(&state.bounds) => {
+            Noted::Known(behind_wait(&state.bounds, header.budget))
+        }
+        Some(Instr::Ecall) => Noted::Later,
+        Some(instr) => {
+            let pc = header.base.wrapping_add(point.wrapping_mul(4));
+            match after(pc, instr, &state.bounds).fall_through {
+                Some(edge) => Noted::Known(one_less(edge.bounds, state.measure)),
+                None => Noted::Absent,
+            }
+        }
     }
 }
 
 /// The states of all points of a thread's program.
 pub(crate) fn noted_states(alloc: Global, thread: &ThreadRef) -> Result<Vec<Noted>, AllocError>
-    ensures { IfOk result (λ states. vec_len states ≡ thread.now.header.words) }
+    requires { IsOfForm thread.now }
+    ensures { IfOk result (λ states. AreStates thread.now states.items) }
 {
     let words = thread.header().words;
     let mut records = thread.records();
