@@ -72,6 +72,10 @@ none_stray t point ranges m bare =
     let cnodes : List ℕ = reached image (numbered_thread t) in
     rw (slots_own t, none_outside image cnodes (record_of (numbered_thread t) point) (found_in (λ r. r.header.point == point) t.records bare)) refl
 
+pub no_stray_slots : (t : Thread) (point : ℕ) (ranges : List Range) (m : Measure) → IsOfForm t → has_stray_slots (staged_image t) t point (with_image_slots t ranges m) ≡ false
+no_stray_slots t point ranges m form =
+    subst (λ (u : Thread). has_stray_slots (staged_image u) u point (with_image_slots u ranges m) ≡ false) (sym form.numbers) (none_stray t point ranges m form.bare)
+
 -- the wait of a thread of the form
 pub waits_numbered_at : (t : Thread) (point : ℕ) (ranges : List Range) (m : Measure) → All IsBare t.records
     → range_of ranges a7 ≡ single 5 → range_of ranges a0 ≡ single 1

@@ -1,13 +1,16 @@
 //! Accepted images.
 
-ghost use Rattle.std.specs.Prelude.{◌≡◌, ◌≤◌, ◌⊎◌, Err, IfErr, IfOk, Ok, Some};
+ghost use Rattle.std.specs.Prelude.{◌≡◌, ◌<◌, ◌≤◌, ◌⊎◌, Err, IfErr, IfOk, Ok, Some};
 ghost use Rattle.model.specs.Accepted.{IsWellFormed, first_breach};
 ghost use Rattle.model.specs.Format.{Spells};
 ghost use Rattle.model.specs.Image.{Thread, image_format, whole_image};
-ghost use Rattle.model.specs.declared.refusals.Refusal.TheVariants.{BadThread};
+ghost use Rattle.model.specs.declared.refusals.Refusal.TheVariants.{BadThread, OutOfMemory};
+ghost use Rattle.model.specs.PointRules.{rules_of_program};
+ghost use Rattle.image.specs.Certificates.{IsOfForm, IsPlain};
 ghost use Rattle.image.specs.Stage.{IsStaged, later, no_slots, staged_image, staged_reading};
+ghost use Rattle.verify.specs.Checking.{Checks};
 
-use crate::checks::Certified;
+use crate::checks::{Certified, check_words};
 use crate::states::noted_states;
 use image::{ImageRef, ThreadRef, read};
 use model::Refusal;
@@ -57,29 +60,32 @@ pub fn verify(alloc: Global, bytes: &[u8]) -> Result<Accepted<'_>, Refusal>
     ensures entry { (t : Thread) → staged_reading bytes.now ≡ Ok (staged_image t) → t.header.words ≤ t.header.entry → (result ≡ Err (BadThread 0)) × (first_breach bytes.now ≡ Some (BadThread 0)) }
 {
     let image = read(bytes)?;
-    check_thread(alloc, 0, &image.thread(0))?;
+    check_thread(alloc, &image.thread(0))?;
     Ok(Accepted { image })
 }
 
-/// The checks of one thread.
-fn check_thread(alloc: Global, number: u32, thread: &ThreadRef) -> Result<(), Refusal>
+/// The checks of the image's only thread.
+fn check_thread(alloc: Global, thread: &ThreadRef) -> Result<(), Refusal>
+    requires { IsOfForm thread.now }
     // An entry that is no point of the program is refused.
-    ensures entry { thread.now.header.words ≤ thread.now.header.entry → result ≡ Err (BadThread number) }
+    ensures entry { thread.now.header.words ≤ thread.now.header.entry → result ≡ Err (BadThread 0) }
+    // The first rule on programs that is broken is told, if memory is not refused.
+    ensures checks { thread.now.header.entry < thread.now.header.words → (result ≡ Err OutOfMemory) ⊎ Checks thread.now (rules_of_program (staged_image thread.now) (0, thread.now)) result }
+    ensures plain { IfOk result (λ _. IsPlain thread.now) }
 {
     let header = thread.header();
     if header.entry >= header.words {
-        return Err(Refusal::BadThread { thread: number });
+        return Err(Refusal::BadThread { thread: 0 });
     }
+    check_words(thread)?;
     let states = match noted_states(alloc, thread) {
         Ok(states) => states,
         Err(_) => return Err(Refusal::OutOfMemory),
     };
     let certified = Certified {
-        number,
         thread,
         states: states.as_slice(),
     };
-    certified.check_words()?;
     certified.check_entry()?;
     certified.check_points()
 }

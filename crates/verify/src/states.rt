@@ -1,7 +1,7 @@
 //! The states that a certificate notes at the points of a program: from a record, or derived from the
 //! point before.
 
-ghost use Rattle.std.specs.Prelude.{◌≡◌, ◌+◌, ◌<◌, ◌^◌, ◌≤ℤ◌, ◌≢◌, ◌↔◌, IfOk, IfSome, IsTrue, ◌-ℤ◌, negsuc, pos, true};
+ghost use Rattle.std.specs.Prelude.{◌≡◌, ◌+◌, ◌<◌, ◌^◌, ◌≤ℤ◌, ◌≢◌, ◌↔◌, IfOk, IfSome, IsTrue, ◌-ℤ◌, int_lt, negsuc, pos, true};
 ghost use Rattle.model.specs.CallRules.{badges};
 ghost use Rattle.model.specs.Instructions.{IsInstr, decoded};
 ghost use Rattle.model.specs.Messages.{a0};
@@ -26,6 +26,15 @@ use std::alloc::{AllocError, Global};
 pub(crate) struct State {
     pub(crate) bounds: Bounds,
     pub(crate) measure: i128,
+}
+
+impl State {
+    /// Whether its measure leaves no instruction to run.
+    pub(crate) fn is_spent(&self) -> bool
+        ensures { result ≡ int_lt self.now.measure (pos 1) }
+    {
+        self.measure < 1
+    }
 }
 
 /// Whether a point has a state.
