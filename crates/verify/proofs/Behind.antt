@@ -1,7 +1,6 @@
 -- What the fall-through of a point leaves, in programs of the one form.
-use Rattle.std.proofs.Common.{◌≡◌, ◌∙◌, Bool, cond, ◌||◌, ℕ, ◌+◌, ◌*◌, true, false, List, Option, Some, None, Result, Ok, pos, ◌-ℤ◌, ℤ, refl, sym, ap, subst}
-use Rattle.std.specs.Prelude.{option_map, slice_index, if◌then◌else◌}
-use Rattle.model.specs.declared.instructions.ImmediateOp.TheVariants.{Addi, Slti, Sltiu, Xori, Ori, Andi}
+use Rattle.std.proofs.Common.{◌≡◌, ◌∙◌, Bool, cond, ◌||◌, ℕ, true, false, List, Option, Some, None, Result, pos, ◌-ℤ◌, ℤ, refl, sym, ap}
+use Rattle.std.specs.Prelude.{option_map, slice_index, is_some, if◌then◌else◌}
 use Rattle.model.specs.declared.instructions.Instr.{Instr}
 use Rattle.model.specs.declared.instructions.Instr.TheVariants.{Upper, Jal, Jalr, Branch, Load, Store, Immediate, Shift, Registers, Fence, Ecall, Ebreak}
 use Rattle.model.specs.declared.instructions.Register.{Register}
@@ -28,6 +27,10 @@ abbrev at_constant : Thread → List Range → ℤ → PointState
 at_constant t ranges m = with_image_slots t ranges (constant_measure m)
 
 -- ---- words
+
+pub none_of : (o : Option Instr) → is_some o ≡ false → o ≡ None
+none_of None h = refl
+none_of (Some i) h = absurd (let clash : true ≡ false = h in cc)
 
 -- an instruction that is known is what the word spells
 known_is : (b : Bool) (i j : Instr) → cond b (Some i) None ≡ Some j → Some i ≡ Some j

@@ -1,11 +1,11 @@
 -- The rules on the points of a program, one after another.
-use Rattle.std.proofs.Common.{◌≡◌, ◌∙◌, inl, inr, ℤ, ℕ, zero, suc, ◌+◌, ◌-◌, ◌<◌, List, [], ◌∷◌, ◌++◌, Option, Some, None, Err, refl, sym, ap, subst, arith}
+use Rattle.std.proofs.Common.{◌≡◌, ◌∙◌, inl, inr, ℤ, ℕ, suc, ◌+◌, ◌-◌, ◌<◌, List, ◌++◌, None, Err, refl, ap, subst, arith}
 use Rattle.std.proofs.lemmas.Bool.{cases_lt}
 use Rattle.std.specs.List.{flat_map, range_with_len}
 use Rattle.model.specs.declared.refusals.Refusal.{Refusal}
 use Rattle.model.specs.declared.ranges.Range.{Range}
 use Rattle.model.specs.Image.{Thread}
-use Rattle.model.specs.PointRules.{point_rules, rules_of_noted, state_rules}
+use Rattle.model.specs.PointRules.{entry_rules, point_rules, rules_of_noted, rules_of_program, state_rules}
 use Rattle.model.specs.Rules.{Rule, first_broken}
 use Rattle.model.specs.PointStates.{Noted, Known, Missing}
 use Rattle.image.specs.Certificates.{OnlyWaits, constant_measure, with_image_slots}
@@ -76,3 +76,10 @@ pub known_rules : (t : Thread) (point : ℕ) (ranges : List Range) (n : ℤ) →
     → first_broken (point_rules (staged_image t) (0, t) point) ≡ first_broken (state_rules (staged_image t) (0, t) point (with_image_slots t ranges (constant_measure n)))
 unfolding point_rules
 known_rules t point ranges n is = ap (λ (n : Noted). first_broken (rules_of_noted (staged_image t) (0, t) point n)) is
+
+-- ---- a program
+
+-- the rules on a program are those on its entry, and then those on its points
+pub program_parts : (t : Thread) → rules_of_program (staged_image t) (0, t) ≡ entry_rules (staged_image t) (0, t) (noted_at t t.header.entry) ++ rules_from t 0 t.header.words
+unfolding rules_of_program
+program_parts t = refl

@@ -1,5 +1,5 @@
 -- The ranges of a record, one after another.
-use Rattle.std.proofs.Common.{◌≡◌, ◌∙◌, ℕ, ◌-◌, ◌<◌, ◌≤◌, List, length, refl, ap, arith}
+use Rattle.std.proofs.Common.{List}
 use Rattle.model.specs.declared.entries.RangeEntry.{RangeEntry}
 use Rattle.model.specs.declared.ranges.Range.{Range}
 use Rattle.model.specs.Measures.{register_numbered}

@@ -1,11 +1,11 @@
 -- The records of a certificate, gone through in the order of their points.
-use Rattle.std.proofs.Common.{◌≡◌, ◌∙◌, ◌⊎◌, inl, inr, ℕ, zero, suc, ◌+◌, ◌≤◌, ◌<◌, ◌≢◌, Bool, cond, true, false, eqb, List, [], ◌∷◌, ◌++◌, length, ℤ, Option, Some, None, refl, sym, ap, subst, arith}
+use Rattle.std.proofs.Common.{◌≡◌, ◌∙◌, ◌⊎◌, inl, inr, ℕ, zero, suc, ◌+◌, ◌≤◌, ◌<◌, Bool, cond, true, false, eqb, List, [], ◌∷◌, ◌++◌, length, ℤ, Option, Some, None, refl, sym, ap, subst, arith}
 use Rattle.std.specs.Iterator.{YieldsFirst}
-use Rattle.std.specs.Prelude.{All, IfSome, find, slice_get, ◌==◌}
+use Rattle.std.specs.Prelude.{IfSome, find, slice_get, ◌==◌}
 use Rattle.std.proofs.lemmas.Bool.{eq-eqb, ne_eqb}
 use Rattle.model.specs.declared.ranges.Range.{Range}
 use Rattle.model.specs.Image.{StateRecord, Thread}
-use Rattle.model.specs.NotedStates.{entry_slot, image_slots, record_of, record_ranges, record_state}
+use Rattle.model.specs.NotedStates.{record_of, record_ranges, record_state}
 use Rattle.model.specs.PointStates.{Noted as PointNoted, Known as IsKnown, Missing, follows, noted, noted_or}
 use Rattle.image.specs.Certificates.{IsBare, IsOfForm, Rise, constant_measure, with_image_slots}
 use Rattle.image.specs.Stage.{staged_image}
@@ -46,13 +46,13 @@ unfolding Rise
 is_next t point r rest left is =
     let here : eqb r.header.point point ≡ true = eq-eqb r.header.point point is in
     let rising : Rise (point + 1) rest = subst (λ (n : ℕ). Rise (n + 1) rest) is left.rising.1 in (
-        left.same point (omega arith) ∙ ap (λ (b : Bool). cond b (Some r) (found point rest)) here,
-        record {
-          rising = rising;
-          same = λ other le.
-              let differs : eqb r.header.point other ≡ false = ne_eqb r.header.point other (λ same. let again : r.header.point ≡ other = same in omega (arith, le, is, again)) in
-              left.same other (omega (arith, le)) ∙ ap (λ (b : Bool). cond b (Some r) (found other rest)) differs;
-        },
+      left.same point (omega arith) ∙ ap (λ (b : Bool). cond b (Some r) (found point rest)) here,
+      record {
+        rising = rising;
+        same = λ other le.
+            let differs : eqb r.header.point other ≡ false = ne_eqb r.header.point other (λ same. let again : r.header.point ≡ other = same in omega (arith, le, is, again)) in
+            left.same other (omega (arith, le)) ∙ ap (λ (b : Bool). cond b (Some r) (found other rest)) differs;
+      },
     )
 
 -- the next record is that of a later point
@@ -61,8 +61,8 @@ pub is_later : (t : Thread) (point : ℕ) (r : StateRecord) (rest : List StateRe
 unfolding Rise
 is_later t point r rest left differs =
     let above : point + 1 ≤ r.header.point = omega (arith, left.rising.0, differs) in (
-        left.same point (omega arith) ∙ none_below (point + 1) point (r ∷ rest) (above, left.rising.1) (omega arith),
-        record { rising = (above, left.rising.1); same = λ other le. left.same other (omega (arith, le)) },
+      left.same point (omega arith) ∙ none_below (point + 1) point (r ∷ rest) (above, left.rising.1) (omega arith),
+      record { rising = (above, left.rising.1); same = λ other le. left.same other (omega (arith, le)) },
     )
 
 -- no record is left
@@ -138,10 +138,10 @@ pub taken : (t : Thread) (point number : ℕ) (next after : Option StateRecord) 
 taken t point number next after records rest r state form left is same here yields bounds measure =
     let at : r.header.point ≡ point = sym same ∙ here in
     let step = is_next t point r records (subst (λ (o : Option StateRecord). AreLeft t point (left_of o records)) is left) at in (
-        noted_by_record t point r form step.0
-        ∙ ap (λ (ranges : List Range). IsKnown (with_image_slots t ranges (constant_measure r.header.constant))) (sym bounds)
-        ∙ ap (λ (m : ℤ). IsKnown (with_image_slots t state.bounds (constant_measure m))) (sym measure),
-        subst (λ (rs : List StateRecord). AreLeft t (point + 1) rs) (sym (left_after records rest after yields)) step.1,
+      noted_by_record t point r form step.0
+          ∙ ap (λ (ranges : List Range). IsKnown (with_image_slots t ranges (constant_measure r.header.constant))) (sym bounds)
+          ∙ ap (λ (m : ℤ). IsKnown (with_image_slots t state.bounds (constant_measure m))) (sym measure),
+      subst (λ (rs : List StateRecord). AreLeft t (point + 1) rs) (sym (left_after records rest after yields)) step.1,
     )
 
 -- the next record is that of a later point
@@ -150,8 +150,8 @@ pub skipped : (t : Thread) (point number : ℕ) (next : Option StateRecord) (rec
     → Meets t (noted_at t point) derived × AreLeft t (point + 1) (left_of next records)
 skipped t point number next records r derived left is same other meets =
     let step = is_later t point r records (subst (λ (o : Option StateRecord). AreLeft t point (left_of o records)) is left) (λ at. other (same ∙ at)) in (
-        subst (λ n. Meets t n derived) (sym (noted_before t point step.0)) meets,
-        subst (λ (o : Option StateRecord). AreLeft t (point + 1) (left_of o records)) (sym is) step.1,
+      subst (λ n. Meets t n derived) (sym (noted_before t point step.0)) meets,
+      subst (λ (o : Option StateRecord). AreLeft t (point + 1) (left_of o records)) (sym is) step.1,
     )
 
 -- no record is left
@@ -160,8 +160,8 @@ pub ended : (t : Thread) (point : ℕ) (next : Option StateRecord) (records : Li
     → Meets t (noted_at t point) derived × AreLeft t (point + 1) (left_of next records)
 ended t point next records derived left is meets =
     let step = is_last t point (subst (λ (o : Option StateRecord). AreLeft t point (left_of o records)) is left) in (
-        subst (λ n. Meets t n derived) (sym (noted_before t point step.0)) meets,
-        subst (λ (o : Option StateRecord). AreLeft t (point + 1) (left_of o records)) (sym is) step.1,
+      subst (λ n. Meets t n derived) (sym (noted_before t point step.0)) meets,
+      subst (λ (o : Option StateRecord). AreLeft t (point + 1) (left_of o records)) (sym is) step.1,
     )
 
 pub same_left : (t : Thread) (point : ℕ) (next next' : Option StateRecord) (records records' : List StateRecord) → next' ≡ next → records' ≡ records

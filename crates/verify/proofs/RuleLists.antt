@@ -1,10 +1,10 @@
 -- The first of several lists of rules that is broken.
-use Rattle.std.proofs.Common.{◌≡◌, ◌∙◌, ◌⊎◌, inl, inr, ℕ, List, [], ◌∷◌, ◌++◌, Option, Some, None, Result, Ok, Err, refl, sym, ap, subst}
+use Rattle.std.proofs.Common.{◌≡◌, ◌∙◌, inl, inr, ℕ, List, [], ◌∷◌, ◌++◌, Option, Some, None, Result, Ok, Err, refl, sym, ap, subst}
 use Rattle.std.specs.Option.{option_or}
 use Rattle.model.specs.declared.refusals.Refusal.{Refusal}
 use Rattle.model.specs.Image.{Thread}
 use Rattle.model.specs.Rules.{Rule, first_broken}
-use Rattle.verify.specs.Checking.{Checks, IsEdge, IsLater, IsWay, rules_of_edge, rules_of_way, told}
+use Rattle.verify.specs.Checking.{Checks, IsEdge, IsWay, rules_of_edge, rules_of_way, told}
 use Rattle.verify.specs.declared.checks.Limit.{Limit}
 use Rattle.model.specs.Measures.{Measure}
 use Rattle.model.specs.PointRules.{ProgramEdge}

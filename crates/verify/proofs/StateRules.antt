@@ -1,9 +1,8 @@
 -- The rules on a point with a state, in programs of the one form.
-use Rattle.std.proofs.Common.{◌≡◌, ◌≢◌, ◌∙◌, ℕ, ◌+◌, Bool, cond, true, false, ◌||◌, ℤ, pos, List, [], ◌∷◌, ◌++◌, Option, Some, None, Result, Ok, refl, sym, ap, subst}
+use Rattle.std.proofs.Common.{◌≡◌, ◌≢◌, ◌∙◌, ℕ, Bool, cond, true, false, ◌||◌, ℤ, pos, List, [], ◌∷◌, ◌++◌, Option, Some, None, Result, refl, sym, ap}
 use Rattle.std.specs.List.{flat_map}
 use Rattle.std.specs.Option.{option_map_or, option_or}
 use Rattle.std.specs.Prelude.{int_lt, map, option_map, option_to_list}
-use Rattle.model.specs.declared.instructions.ImmediateOp.TheVariants.{Addi, Slti, Sltiu, Xori, Ori, Andi}
 use Rattle.model.specs.declared.instructions.Instr.{Instr}
 use Rattle.model.specs.declared.instructions.Instr.TheVariants.{Upper, Jal, Jalr, Branch, Load, Store, Immediate, Shift, Registers, Fence, Ecall, Ebreak}
 use Rattle.model.specs.declared.ranges.Range.{Range}
@@ -13,10 +12,10 @@ use Rattle.model.specs.declared.refusals.Refusal.TheVariants.{CapNotThere, Compu
 use Rattle.model.specs.CallRules.{AfterCall}
 use Rattle.model.specs.Edges.{Edge, after}
 use Rattle.model.specs.Image.{Thread}
-use Rattle.model.specs.Measures.{Measure, least_value}
+use Rattle.model.specs.Measures.{least_value}
 use Rattle.model.specs.NotedStates.{PointState, has_stray_slots, image_slots}
-use Rattle.model.specs.PointRules.{ProgramEdge, call_edge, call_edges, call_rule, edges_at, edges_of, is_computed_jump, is_illegal, is_unmapped, program_edge, refused_call, rules_on_edges, state_rules}
-use Rattle.model.specs.PointStates.{Noted, address_of, call_at, instruction_at, point_of}
+use Rattle.model.specs.PointRules.{ProgramEdge, call_edge, call_edges, call_rule, edges_at, edges_of, is_computed_jump, is_illegal, is_unmapped, program_edge, refused_call, state_rules}
+use Rattle.model.specs.PointStates.{address_of, call_at, instruction_at, point_of}
 use Rattle.model.specs.Ranges.{is_ranged}
 use Rattle.model.specs.Rules.{Rule, first_broken, refuse_if}
 use Rattle.ranges.specs.Edges.{way_of}
@@ -165,7 +164,7 @@ way_to t i o = option_map (program_edge i (image_slots (staged_image t) t)) o
 pub ways_behind : (t : Thread) (point : ℕ) (ranges : List Range) (n : ℤ) (i : Instr) → instruction_at t point ≡ Some i → is_ranged i ≡ true
     → first_broken (rules_behind t point (at_constant t ranges n))
     ≡ first_broken (rules_of_way t point (constant_measure n) (way_to t i (after (address_of t point) i ranges).taken)
-        ++ rules_of_way t point (constant_measure n) (way_to t i (after (address_of t point) i ranges).fall_through))
+    ++ rules_of_way t point (constant_measure n) (way_to t i (after (address_of t point) i ranges).fall_through))
 ways_behind t point ranges n i is ranged =
     let state : PointState = at_constant t ranges n in
     let e = after (address_of t point) i ranges in

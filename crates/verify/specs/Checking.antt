@@ -1,11 +1,13 @@
 -- What the checks of a program answer, by the rules that they check.
-use Rattle.std.specs.Prelude.{ℕ, ℤ, ◌≡◌, ◌≢◌, ◌<◌, ◌⊎◌, pos, true, false, not, int_le, int_lt, Option, Some, None, Result, Ok, Err, List, [], ◌∷◌}
+use Rattle.std.specs.Prelude.{ℕ, ℤ, ◌≡◌, ◌≢◌, ◌<◌, ◌⊎◌, pos, true, false, not, int_le, int_lt, Option, Some, None, Result, Ok, Err, List, [], ◌∷◌, fold, replicate}
 use Rattle.std.specs.Option.{option_map_or}
 use Rattle.model.specs.declared.refusals.Point.{Point}
 use Rattle.model.specs.declared.refusals.Refusal.{Refusal}
 use Rattle.model.specs.declared.refusals.Refusal.TheVariants.{MeasureNotFalling, OverBudget, Stage}
+use Rattle.model.specs.declared.ranges.Range.{Range}
+use Rattle.model.specs.Ranges.{single, with_range}
 use Rattle.model.specs.Image.{Thread}
-use Rattle.model.specs.Measures.{Measure}
+use Rattle.model.specs.Measures.{Measure, register_numbered}
 use Rattle.model.specs.NotedStates.{PointState, image_slots}
 use Rattle.model.specs.PointRules.{ProgramEdge, call_rule, edge_rules, noted_at, rules_on_edges}
 use Rattle.model.specs.PointStates.{instruction_at, point_of}
@@ -36,6 +38,12 @@ pub record IsCertified (t : Thread) (states : List Noted) : Type 0 where
   pub form : IsOfForm t
   pub words : AreKnown t
   pub noted : AreStates t states
+
+-- ---- the entry
+
+-- the single values that the thread starts with; registers that it does not list are 0
+abbrev pub initial_ranges : Thread → List Range
+initial_ranges t = fold (λ ranges e. with_range ranges (register_numbered e.register) (single e.value)) (replicate 31 (single 0)) t.registers
 
 -- ---- edges
 

@@ -1,3 +1,4 @@
 pub mod Checking
 pub mod Matching
+pub mod Refusing
 pub mod States

@@ -1,14 +1,15 @@
 //! Accepted images.
 
 ghost use Rattle.std.specs.Prelude.{◌≡◌, ◌<◌, ◌≤◌, ◌⊎◌, Err, IfErr, IfOk, Ok, Some};
-ghost use Rattle.model.specs.Accepted.{IsWellFormed, first_breach};
+ghost use Rattle.model.specs.Accepted.{IsAccepted, first_breach};
 ghost use Rattle.model.specs.Format.{Spells};
-ghost use Rattle.model.specs.Image.{Thread, image_format, whole_image};
-ghost use Rattle.model.specs.declared.refusals.Refusal.TheVariants.{BadThread, OutOfMemory};
+ghost use Rattle.model.specs.Image.{Thread, image_format};
 ghost use Rattle.model.specs.PointRules.{rules_of_program};
+ghost use Rattle.model.specs.declared.refusals.Refusal.TheVariants.{BadThread, OutOfMemory};
 ghost use Rattle.image.specs.Certificates.{IsOfForm, IsPlain};
-ghost use Rattle.image.specs.Stage.{IsStaged, later, no_slots, staged_image, staged_reading};
+ghost use Rattle.image.specs.Stage.{IsStaged, no_slots, staged_image, staged_reading};
 ghost use Rattle.verify.specs.Checking.{Checks};
+ghost use Rattle.verify.specs.Refusing.{IsPlainImage, IsRefused};
 
 use crate::checks::{Certified, check_words};
 use crate::states::noted_states;
@@ -47,15 +48,16 @@ impl<'a> Accepted<'a> {
 /// Whether the image may be started: `Ok` lends the very bytes that were verified, and an `Err` names
 /// the first rule that is broken.
 pub fn verify(alloc: Global, bytes: &[u8]) -> Result<Accepted<'_>, Refusal>
-    // What is accepted is spelled by the bytes, and keeps the rules before those on programs.
-    ensures spelled { IfOk result (λ image. Spells whole_image bytes.now image) }
-    ensures formed { IfOk result (λ image. IsWellFormed image) }
-    // It is of the one form, and its records note no slots.
+    // The image that the bytes spell is accepted: no rule of acceptance is broken.
+    ensures accepted { IfOk result (λ image. IsAccepted bytes.now image) }
+    // It is of the one form, and its program makes no other call than the wait.
+    ensures plain { IfOk result (λ image. IsPlainImage image) }
+    // It is spelled in the form without slots in its records.
     ensures staged { IfOk result (λ image. Spells (image_format no_slots) bytes.now image × IsStaged image) }
+    // What is refused is refused for the first breach, if it is no later stage, and memory is not refused.
+    ensures refused { IfErr result (IsRefused bytes.now) }
     // What cannot be read is refused for the first reason.
     ensures unread { IfErr (staged_reading bytes.now) (λ refusal. result ≡ Err refusal) }
-    // That is the first breach, if it is no later stage.
-    ensures first { IfErr (staged_reading bytes.now) (λ refusal. (refusal ≡ later) ⊎ (first_breach bytes.now ≡ Some refusal)) }
     // A thread whose entry is no point of its program is refused, and that is the first breach.
     ensures entry { (t : Thread) → staged_reading bytes.now ≡ Ok (staged_image t) → t.header.words ≤ t.header.entry → (result ≡ Err (BadThread 0)) × (first_breach bytes.now ≡ Some (BadThread 0)) }
 {

@@ -11,7 +11,7 @@ ghost use Rattle.model.specs.Ranges.{is_ranged};
 ghost use Rattle.model.specs.declared.instructions.Instr.TheVariants.{Ecall};
 ghost use Rattle.image.specs.Certificates.{IsWait, OnlyWaits, constant_measure, with_image_slots};
 ghost use Rattle.image.specs.Stage.{staged_image};
-ghost use Rattle.verify.specs.Checking.{AreKnown, Checks, IsCertified, IsEdge, IsLater, IsWay, limited, rules_behind, rules_of_edge, rules_of_way, told};
+ghost use Rattle.verify.specs.Checking.{AreKnown, Checks, IsCertified, initial_ranges, IsEdge, IsLater, IsWay, limited, rules_behind, rules_of_edge, rules_of_way, told};
 ghost use Rattle.verify.specs.declared.checks.Limit.TheVariants.{Below};
 ghost use Rattle.verify.specs.Matching.{IsKnownAt, Meets, noted_at};
 
@@ -87,15 +87,15 @@ impl Certified<'_, '_> {
             Noted::Known(state) if !self.initial().is_within(&state.bounds) => {
                 Err(Refusal::RangeNotKept(at))
             }
-            Noted::Known(state) if state.measure > i128::from(header.budget) => {
-                Err(Refusal::OverBudget(at))
-            }
+            Noted::Known(state) if state.exceeds(header.budget) => Err(Refusal::OverBudget(at)),
             Noted::Known(_) => Ok(()),
         }
     }
 
     /// The values that the thread starts with. Registers that it does not list are 0.
-    fn initial(&self) -> Bounds {
+    fn initial(&self) -> Bounds
+        ensures { result ≡ initial_ranges self.now.thread.now }
+    {
         let mut bounds = Bounds::zero();
         for entry in self.thread.registers() {
             if entry.register < 32 {
@@ -248,9 +248,7 @@ impl Limit {
     {
         match self {
             Limit::Below(before) if state.measure >= before => Err(Refusal::MeasureNotFalling(at)),
-            Limit::Budget(budget) if state.measure > i128::from(budget) => {
-                Err(Refusal::OverBudget(at))
-            }
+            Limit::Budget(budget) if state.exceeds(budget) => Err(Refusal::OverBudget(at)),
             _ => Ok(()),
         }
     }

@@ -35,6 +35,13 @@ impl State {
     {
         self.measure < 1
     }
+
+    /// Whether its measure is above a budget.
+    pub(crate) fn exceeds(&self, budget: u64) -> bool
+        ensures { result ≡ int_lt (pos budget) self.now.measure }
+    {
+        self.measure > i128::from(budget)
+    }
 }
 
 /// Whether a point has a state.

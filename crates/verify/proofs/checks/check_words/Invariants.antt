@@ -1,5 +1,5 @@
 -- The words so far are known.
-use Rattle.std.proofs.Common.{◌≡◌, ◌≢◌, ◌<◌, ℕ, None}
+use Rattle.std.proofs.Common.{◌≢◌, ◌<◌, ℕ, None}
 use Rattle.model.specs.PointStates.{instruction_at}
 use Rattle.image.specs.Certificates.{known_of}
 use Rattle.verify.proofs.checks.check_words.Given as goal

@@ -1,5 +1,5 @@
 -- By what a jump leaves behind it.
-use Rattle.std.proofs.Common.{◌≡◌, ◌∙◌, Option, Some, ap}
+use Rattle.std.proofs.Common.{◌≡◌, ◌∙◌, Some, ap}
 use Rattle.model.specs.declared.instructions.Instr.{Instr}
 use Rattle.model.specs.declared.instructions.Instr.TheVariants.{Jal}
 use Rattle.model.specs.PointStates.{instruction_at}

@@ -1,5 +1,5 @@
 -- By what the fall-through of a system call leaves.
-use Rattle.std.proofs.Common.{◌≡◌, ◌∙◌, sym, pos, ℤ, List, Option, Some, refl, ap, true, false}
+use Rattle.std.proofs.Common.{◌≡◌, ◌∙◌, sym, pos, ℤ, List, Some, ap, true, false}
 use Rattle.model.specs.declared.entries.ThreadHeader.{ThreadHeader}
 use Rattle.model.specs.declared.instructions.Instr.{Instr}
 use Rattle.model.specs.declared.instructions.Instr.TheVariants.{Ecall}

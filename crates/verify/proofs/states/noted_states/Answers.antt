@@ -1,9 +1,9 @@
 -- By the laws on records that are left.
-use Rattle.std.proofs.Common.{◌≡◌, ◌∙◌, ℕ, ◌+◌, ◌<◌, ◌≤◌, List, [], ◌∷◌, ◌++◌, length, refl, sym, ap, subst, arith}
+use Rattle.std.proofs.Common.{◌≡◌, ◌∙◌, ℕ, ◌+◌, List, [], ◌∷◌, ◌++◌, length, refl, sym, ap, subst, arith}
 use Rattle.model.specs.Image.{StateRecord}
 use Rattle.verify.specs.Matching.{Meets, noted_at}
 use Rattle.verify.specs.declared.states.Noted.{Noted}
-use Rattle.verify.proofs.Records.{AreLeft, MeetEach, all_left, all_met, before, ended, left_after, left_of, length_pushed, next_before, none_yet, one_more, same_left, skipped, taken}
+use Rattle.verify.proofs.Records.{AreLeft, MeetEach, all_left, all_met, ended, left_after, left_of, length_pushed, next_before, none_yet, one_more, same_left, skipped, taken}
 use Rattle.verify.proofs.states.noted_states.Goals.{in-Some, in_default-2, in_default}
 use Rattle.verify.proofs.states.noted_states.Goals as goal
 
@@ -11,11 +11,11 @@ pub loop-point-init : goal.loop-point-init
 loop-point-init c =
     let t = c.args.thread.now in
     let rest : left_of c.next-next.result c.next-next.new.self ≡ t.records = left_after c.records-records.result c.next-next.new.self c.next-next.result c.next-next.ensures.steps ∙ c.records-records.ensures in (
-        ap length c.new-states.ensures.items,
-        tt,
-        subst (λ (states : List Noted). MeetEach t states) (sym c.new-states.ensures.items) (none_yet t),
-        subst (λ (rs : List StateRecord). AreLeft t 0 rs) (sym rest) (all_left t c.requires),
-        refl,
+      ap length c.new-states.ensures.items,
+      tt,
+      subst (λ (states : List Noted). MeetEach t states) (sym c.new-states.ensures.items) (none_yet t),
+      subst (λ (rs : List StateRecord). AreLeft t 0 rs) (sym rest) (all_left t c.requires),
+      refl,
     )
 
 pub behind-derived-requires-clause-meets : goal.behind-derived-requires-clause-meets
@@ -43,11 +43,11 @@ loop-point-preserved c =
       | in_default-2 w ↦ same_left t (c.loop-point.point + 1) c.loop-point.next c.match-next.next c.loop-point.records c.match-next.records w.next-is w.records-is (skipped t c.loop-point.point w.point.result c.loop-point.next c.loop-point.records w.in-Some.record c.loop-point.derived inv.3 w.in-Some.is w.point.ensures w.if-point.false inv.4).1
       | in_default w ↦ same_left t (c.loop-point.point + 1) c.loop-point.next c.match-next.next c.loop-point.records c.match-next.records w.next-is w.records-is (ended t c.loop-point.point c.loop-point.next c.loop-point.records c.loop-point.derived inv.3 w.in_default.is inv.4).1
     ] in (
-        ap length items ∙ length_pushed c.loop-point.states.items c.match-next.state ∙ ap (λ (n : ℕ). n + 1) inv.0,
-        c.behind-derived.ensures.measured,
-        subst (λ (states : List Noted). MeetEach t states) (sym items) (one_more t c.loop-point.states.items c.match-next.state inv.2 (subst (λ (n : ℕ). Meets t (noted_at t n) c.match-next.state) (sym inv.0) meets)),
-        left,
-        next_before t c.loop-point.point c.behind-derived.result c.behind-derived.ensures.follows,
+      ap length items ∙ length_pushed c.loop-point.states.items c.match-next.state ∙ ap (λ (n : ℕ). n + 1) inv.0,
+      c.behind-derived.ensures.measured,
+      subst (λ (states : List Noted). MeetEach t states) (sym items) (one_more t c.loop-point.states.items c.match-next.state inv.2 (subst (λ (n : ℕ). Meets t (noted_at t n) c.match-next.state) (sym inv.0) meets)),
+      left,
+      next_before t c.loop-point.point c.behind-derived.result c.behind-derived.ensures.follows,
     )
 
 pub returns : goal.returns

@@ -1,8 +1,6 @@
 -- By the rules behind the wait.
-use Rattle.std.proofs.Common.{◌≡◌, ◌∙◌, ℕ, ◌+◌, inl, inr, List, refl, sym, ap, subst, true, false}
+use Rattle.std.proofs.Common.{◌≡◌, ◌∙◌, ℕ, ◌+◌, inr, refl, sym, ap, true, false}
 use Rattle.model.specs.declared.entries.ThreadHeader.{ThreadHeader}
-use Rattle.model.specs.declared.ranges.Range.{Range}
-use Rattle.model.specs.Rules.{Rule}
 use Rattle.image.specs.Certificates.{constant_measure, with_image_slots}
 use Rattle.verify.specs.Checking.{IsEdge, IsLater, rules_behind, rules_of_edge}
 use Rattle.verify.specs.declared.checks.Limit.TheVariants.{Budget}
@@ -14,8 +12,8 @@ pub returns-then-not-waits-clause-checks : goal.returns-then-not-waits-clause-ch
 returns-then-not-waits-clause-checks c =
     let t = c.args.self.now.thread.now in
     inr (IsLater.later c.at.result (λ plain.
-        let wait = plain.waits c.args.point c.requires.within (with_image_slots t c.args.state.now.bounds (constant_measure c.args.state.now.measure)) c.requires.state c.requires.call in
-        absurd (let clash : false ≡ true = sym c.if-not-waits.true ∙ c.waits.ensures.1 wait in cc)))
+    let wait = plain.waits c.args.point c.requires.within (with_image_slots t c.args.state.now.bounds (constant_measure c.args.state.now.measure)) c.requires.state c.requires.call in
+    absurd (let clash : false ≡ true = sym c.if-not-waits.true ∙ c.waits.ensures.1 wait in cc)))
 
 pub returns-clause-checks : goal.returns-clause-checks
 returns-clause-checks c =

@@ -1,5 +1,5 @@
 -- By the rules on an edge.
-use Rattle.std.proofs.Common.{◌≡◌, ◌∙◌, inl, inr, List, refl, sym, ap, subst, true, false}
+use Rattle.std.proofs.Common.{◌≡◌, ◌∙◌, inl, inr, List, sym, subst, true, false}
 use Rattle.model.specs.declared.ranges.Range.{Range}
 use Rattle.model.specs.Ranges.{AreWithin}
 use Rattle.verify.specs.Checking.{IsLater, limited, rules_of_edge}
@@ -14,8 +14,8 @@ pub returns-in-Known : goal.returns-in-Known
 returns-in-Known c = λ e m is.
     let bounds = c.in-Known.state.bounds in
     let outside : AreWithin e.ranges bounds → ⊥ = λ within.
-        let inside : AreWithin c.args.edge.now.bounds bounds = subst (λ (ranges : List Range). AreWithin ranges bounds) is.ranges within in
-        absurd (let clash : false ≡ true = sym c.if-not-is_within.true ∙ c.is_within.ensures.1 inside in cc) in
+    let inside : AreWithin c.args.edge.now.bounds bounds = subst (λ (ranges : List Range). AreWithin ranges bounds) is.ranges within in
+    absurd (let clash : false ≡ true = sym c.if-not-is_within.true ∙ c.is_within.ensures.1 inside in cc) in
     inl (edge_outside c.args.self.now.thread.now c.args.from c.in-Some.target c.args.edge.now.target e m bounds c.in-Known.state.measure c.at-at.result is.target c.in-Some.ensures c.in-Known.ensures outside c.at-at.ensures)
 
 pub returns-in-Known-2 : goal.returns-in-Known-2

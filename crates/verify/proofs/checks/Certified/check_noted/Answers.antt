@@ -1,5 +1,5 @@
 -- By what is noted of the point.
-use Rattle.std.proofs.Common.{◌≡◌, ◌∙◌, inl, inr, refl, sym, ap, subst, true, false}
+use Rattle.std.proofs.Common.{inr}
 use Rattle.model.specs.PointRules.{point_rules, state_rules}
 use Rattle.image.specs.Certificates.{constant_measure, with_image_slots}
 use Rattle.image.specs.Stage.{staged_image}

@@ -1,16 +1,12 @@
 -- By the rules on a point with a state.
-use Rattle.std.proofs.Common.{◌≡◌, ◌∙◌, ℕ, ℤ, pos, inl, inr, List, Option, Some, refl, sym, ap, subst, true, false}
+use Rattle.std.proofs.Common.{◌≡◌, ◌∙◌, pos, inl, Some, sym, ap, true, false}
 use Rattle.std.specs.Prelude.{int_lt}
-use Rattle.model.specs.declared.instructions.Instr.{Instr}
-use Rattle.model.specs.declared.instructions.Instr.TheVariants.{Ecall}
 use Rattle.model.specs.declared.refusals.Point.{Point}
 use Rattle.model.specs.declared.refusals.Refusal.TheVariants.{MeasureNotFalling}
 use Rattle.model.specs.PointRules.{state_rules}
-use Rattle.model.specs.PointStates.{instruction_at}
 use Rattle.image.specs.Certificates.{constant_measure, with_image_slots}
 use Rattle.image.specs.Stage.{staged_image}
 use Rattle.verify.specs.Checking.{rules_behind}
-use Rattle.verify.proofs.Behind.{instruction_is}
 use Rattle.verify.proofs.RuleLists.{checks_as}
 use Rattle.verify.proofs.StateRules.{low_measure, then_behind}
 use Rattle.verify.proofs.checks.Certified.check_point.Goals as goal

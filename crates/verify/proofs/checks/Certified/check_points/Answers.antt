@@ -1,5 +1,5 @@
 -- By the rules on the points that are left.
-use Rattle.std.proofs.Common.{◌≡◌, ◌∙◌, ℕ, ◌+◌, ◌<◌, ◌≤◌, Result, Err, refl, sym, ap, subst, arith}
+use Rattle.std.proofs.Common.{◌≡◌, ◌∙◌, ◌<◌, Result, Err, sym, ap, subst, arith}
 use Rattle.std.proofs.lemmas.Result.{err_from_is_err_and}
 use Rattle.model.specs.declared.entries.ThreadHeader.{ThreadHeader}
 use Rattle.model.specs.declared.refusals.Refusal.{Refusal}

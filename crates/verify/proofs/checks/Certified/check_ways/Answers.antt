@@ -1,13 +1,11 @@
 -- By the rules on the ways on, the taken one first.
-use Rattle.std.proofs.Common.{◌≡◌, ◌∙◌, ◌++◌, ℕ, ℤ, List, Option, Result, Err, refl, sym, ap, subst}
+use Rattle.std.proofs.Common.{◌≡◌, ◌∙◌, ◌++◌, ℕ, ℤ, List, Result, Err, sym, ap, subst}
 use Rattle.std.proofs.lemmas.Result.{err_from_is_err_and}
-use Rattle.std.specs.Prelude.{option_map}
 use Rattle.model.specs.declared.refusals.Refusal.{Refusal}
-use Rattle.model.specs.Edges.{Edge, after}
+use Rattle.model.specs.Edges.{after}
 use Rattle.model.specs.PointStates.{address_of}
 use Rattle.model.specs.Rules.{Rule}
-use Rattle.ranges.specs.Edges.{way_of, ways_of}
-use Rattle.ranges.specs.declared.edges.Edge.{Edge as Way}
+use Rattle.ranges.specs.Edges.{ways_of}
 use Rattle.ranges.specs.declared.edges.Edges.{Edges as Ways}
 use Rattle.image.specs.Certificates.{constant_measure, with_image_slots}
 use Rattle.verify.specs.Checking.{Checks, IsWay, rules_behind, rules_of_way}
@@ -34,7 +32,7 @@ returns-in_err-check_way-clause-checks c =
     let told : c.from_residual.result ≡ Err c.in_err-check_way.field-0.0 = p.1 ∙ ap (λ (r : Refusal). Err r) p.2 in
     subst (λ (r : Result (Unit {0}) Refusal). Checks t rules r) (sym told)
     (checks_as t (a ++ b) rules (Err c.in_err-check_way.field-0.0) (ways_behind t c.args.point c.args.state.now.bounds n i c.requires.is c.requires.ranged)
-        (refused_before t a b c.in_err-check_way.field-0.0 (c.in_err-check_way.ensures (way_to t i e.taken) (constant_measure n) taken)))
+    (refused_before t a b c.in_err-check_way.field-0.0 (c.in_err-check_way.ensures (way_to t i e.taken) (constant_measure n) taken)))
 
 pub returns-clause-checks : goal.returns-clause-checks
 returns-clause-checks c =
