@@ -1,10 +1,14 @@
 pub mod Acceptance
+pub mod Arrivals
 pub mod BareRecords
 pub mod Calm
 pub mod ConstantMeasures
 pub mod Followed
+pub mod KeptPrograms
 pub mod Laws
 pub mod NotedConstants
+pub mod PlainStates
+pub mod RangesKept
 pub mod Sections
 pub mod StageLaws
 pub mod StagedCalls

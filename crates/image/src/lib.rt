@@ -6,6 +6,7 @@ mod fields;
 mod headers;
 mod reading;
 mod records;
+mod scratch;
 mod stage;
 mod threads;
 

@@ -1,0 +1,10 @@
+-- For a while.
+use Rattle.std.proofs.Common.{refl}
+use Rattle.image.proofs.KeptPrograms.{entry-kept}
+use Rattle.image.proofs.PlainStates.{wait-known}
+use Rattle.image.proofs.Arrivals.{within-wider}
+use Rattle.image.proofs.RangesKept.{addi-keeps}
+use Rattle.image.proofs.scratch.scratch.Goals as goal
+
+pub returns : goal.returns
+returns c n = refl
