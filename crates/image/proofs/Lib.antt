@@ -3,12 +3,14 @@ pub mod Arrivals
 pub mod BareRecords
 pub mod Calm
 pub mod ConstantMeasures
+pub mod DecodedFields
 pub mod Followed
 pub mod KeptPrograms
 pub mod Laws
 pub mod NotedConstants
 pub mod PlainStates
 pub mod RangesKept
+pub mod RegisterWords
 pub mod Sections
 pub mod StageLaws
 pub mod StagedCalls
