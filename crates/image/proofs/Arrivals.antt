@@ -62,10 +62,10 @@ within-wider r ranges others within lie k less = elim (eqb_tells k 0) [
 
 -- ---- constants
 
-record IsCount (z : ℤ) : Type 0 where
-  count : ℕ
-  is : z ≡ pos count
-  least : 1 ≤ count
+pub record IsCount (z : ℤ) : Type 0 where
+  pub count : ℕ
+  pub is : z ≡ pos count
+  pub least : 1 ≤ count
 
 count-of : (z : ℤ) → int_lt z (pos 1) ≡ false → IsCount z
 count-of (pos n) h = record { count = n; is = refl; least = grind (arith, ints, h) }
@@ -77,7 +77,7 @@ fewer m n h = grind (arith, ints, h)
 no-more : (m n : ℕ) → int_le (pos m) (pos n) ≡ true → m ≤ n
 no-more m n h = grind (arith, ints, h)
 
-left-at : (t : Thread) (point : ℕ) (state : PointState) → IsKept t → point < t.header.words → noted (staged_image t) (0, t) point ≡ Known state → IsCount state.measure.constant
+pub left-at : (t : Thread) (point : ℕ) (state : PointState) → IsKept t → point < t.header.words → noted (staged_image t) (0, t) point ≡ Known state → IsCount state.measure.constant
 left-at t point state kept inside known =
     let plain = state-plain t point state kept.form kept.plain inside known in
     count-of state.measure.constant (sym (ap (λ (z : ℤ). int_lt z (pos 1)) (constant_least_value state.measure state.ranges plain.terms)) ∙ measure-kept t point state kept.rules inside known)

@@ -6,6 +6,7 @@ pub mod ConstantMeasures
 pub mod DecodedFields
 pub mod Followed
 pub mod KeptPrograms
+pub mod KeptSteps
 pub mod Laws
 pub mod NotedConstants
 pub mod PlainStates
