@@ -14,6 +14,7 @@ pub mod RangesKept
 pub mod RegisterWords
 pub mod Sections
 pub mod StageLaws
+pub mod StartValues
 pub mod StagedCalls
 pub mod StagedRules
 pub mod ThreadLaws
