@@ -1,3 +1,5 @@
+pub mod KeptRuns
 pub mod PageLemmas
 pub mod Refusals
 pub mod SinkLemmas
+pub mod Stretches
