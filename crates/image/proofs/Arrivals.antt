@@ -17,7 +17,7 @@ use Rattle.model.specs.PointRules.{ProgramEdge, are_ranges_within, entry_rules, 
 use Rattle.model.specs.PointStates.{Known, Missing, Noted, Unmeasured, address_of, noted, point_of}
 use Rattle.model.specs.Ranges.{full, range_of, single}
 use Rattle.model.specs.ThreadInvariants.{LieWithin}
-use Rattle.image.specs.Programs.{AreWords, AtPoint, IsKept}
+use Rattle.image.specs.Programs.{AreWords, AtPoint, IsKept, Moves}
 use Rattle.image.specs.Stage.{staged_image}
 use Rattle.image.proofs.ConstantMeasures.{constant_falls, constant_least_value, constant_measured, constant_stays_below}
 use Rattle.image.proofs.KeptPrograms.{LeadsOn, edge-leads, entry-kept, measure-kept, not-refused}
@@ -83,11 +83,6 @@ left-at t point state kept inside known =
     count-of state.measure.constant (sym (ap (λ (z : ℤ). int_lt z (pos 1)) (constant_least_value state.measure state.ranges plain.terms)) ∙ measure-kept t point state kept.rules inside known)
 
 -- ---- edges
-
--- the registers are those of a thread at a point where less is left
-pub record Moves (t : Thread) (r : RegisterFile) (left : ℕ) : Type 0 where
-  pub at : AtPoint t r
-  pub less : at.left < left
 
 -- over an edge that is no wait
 pub moves-on : (t : Thread) (r behind : RegisterFile) (edge : ProgramEdge) → IsKept t → (a : AtPoint t r) → LeadsOn t a.state.measure edge → edge.is_wait ≡ false

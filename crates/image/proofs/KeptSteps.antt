@@ -30,9 +30,9 @@ use Rattle.model.specs.Ranges.{full, is_ranged, range_of, single, with_range}
 use Rattle.model.specs.Rules.{Rule}
 use Rattle.model.specs.ThreadInvariants.{LieWithin}
 use Rattle.image.specs.Certificates.{IsWait, is_ecall, known_of, waited}
-use Rattle.image.specs.Programs.{AreWords, AtPoint, IsKept}
+use Rattle.image.specs.Programs.{AreWords, AtPoint, GoesOn, IsKept}
 use Rattle.image.specs.Stage.{staged_image}
-use Rattle.image.proofs.Arrivals.{Moves, holds-at, left-at, moves-on, wakes-on}
+use Rattle.image.proofs.Arrivals.{holds-at, left-at, moves-on, wakes-on}
 use Rattle.image.proofs.ConstantMeasures.{constant_measured}
 use Rattle.image.proofs.DecodedFields.{HaveFields, have-fields}
 use Rattle.image.proofs.KeptPrograms.{LeadsOn, edge-leads, entry-kept, not-refused}
@@ -116,12 +116,6 @@ written-pc r x v = elim (x.0 == 0) as (λ (b : Bool). (if b then r else record r
   | false ↦ refl
 ]
 
--- An instruction goes on, changes no byte, and leaves the registers of a thread at a point where less is left.
-pub record GoesOn (t : Thread) (r : RegisterFile) (content : Content) (instr : Instr) (left : ℕ) : Type 0 where
-  pub registers : RegisterFile
-  pub effect : effect r content instr ≡ goes_on registers content
-  pub moves : Moves t registers left
-
 addi-goes : (t : Thread) (r : RegisterFile) (content : Content) (rd rs1 : Register) (immediate : ℤ) → IsKept t → (a : AtPoint t r)
     → instruction_at t a.point ≡ Some (Immediate Addi rd rs1 immediate) → GoesOn t r content (Immediate Addi rd rs1 immediate) a.left
 unfolding effect addi-edge
@@ -139,7 +133,7 @@ addi-goes t r content rd rs1 immediate kept a is =
     let pc : next_pc (write r rd v) ≡ behind (address_of t a.point) = ap (λ (n : ℕ). (n + 4) % 2 ^ 32) (written-pc r rd v ∙ a.pc) in
     record {
       registers = advanced (write r rd v);
-      effect = refl;
+      result = refl;
       moves = moves-on t r (advanced (write r rd v)) edge kept a leads refl pc lie_there (write-words r rd v a.words (omega arith));
     }
 
@@ -181,7 +175,7 @@ jal-goes t r content rd offset kept a is =
     subst (λ (pc : ℕ). LieWithin (jumped r rd offset) (ranges_after pc instr state.ranges)) a.pc (subst (λ (e : Effect). LieWithin e.registers (ranges_after r.pc instr state.ranges)) goes lie) in
     record {
       registers = jumped r rd offset;
-      effect = goes;
+      result = goes;
       moves = moves-on t r (jumped r rd offset) edge kept a leads refl target lie_there (write-words r rd (next_pc r) a.words (omega arith));
     }
 

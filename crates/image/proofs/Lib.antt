@@ -5,6 +5,7 @@ pub mod Calm
 pub mod ConstantMeasures
 pub mod DecodedFields
 pub mod Followed
+pub mod KeptImages
 pub mod KeptPrograms
 pub mod KeptSteps
 pub mod Laws

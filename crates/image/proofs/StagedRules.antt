@@ -55,9 +55,9 @@ with_numbers t tcb cnode guard root fault base a b c d e f =
     ∙ ap (λ (n : ℕ). thread_with t 4 5 n root fault base) c ∙ ap (λ (n : ℕ). thread_with t 4 5 28 n fault base) d
     ∙ ap (λ (n : ℕ). thread_with t 4 5 28 1 n base) e ∙ ap (λ (n : ℕ). thread_with t 4 5 28 1 0 n) f
 
-record HasNumbers (t : Thread) : Type 0 where
-  is : t ≡ numbered_thread t
-  words : t.header.words ≤ 1024
+pub record HasNumbers (t : Thread) : Type 0 where
+  pub is : t ≡ numbered_thread t
+  pub words : t.header.words ≤ 1024
 
 abbrev Holds : Bool → Type 0
 Holds b = b ≡ true
@@ -83,7 +83,7 @@ eight_parts a b c d e f g h all =
     let v = and_parts a b u.0 in
     record { first = v.0; second = v.1; third = u.1; fourth = t.1; fifth = s.1; sixth = r.1; seventh = q.1 }
 
-numbers_of : (t : Thread) → is_staged t ≡ true → HasNumbers t
+pub numbers_of : (t : Thread) → is_staged t ≡ true → HasNumbers t
 numbers_of t h =
     let p = eight_parts (eqb t.header.tcb 4) (eqb t.header.cnode 5) (eqb t.header.guard 28) (eqb t.header.root 1) (eqb t.header.fault 0) (eqb t.header.base 0x1000) (leb t.header.words 1024) (has_no_terms t.records) h in
     record {

@@ -1,8 +1,9 @@
 -- A thread of the one form whose program keeps the rules, and what is true of its registers wherever it stands.
 use Rattle.std.specs.Prelude.{◌≡◌, ◌<◌, ◌≤◌, ◌^◌, ℕ, pos, All, List, length}
+use Rattle.model.specs.declared.instructions.Instr.{Instr}
 use Rattle.model.specs.Accepted.{AreKept}
 use Rattle.model.specs.Image.{Thread}
-use Rattle.model.specs.Instructions.{RegisterFile}
+use Rattle.model.specs.Instructions.{Content, RegisterFile, effect, goes_on}
 use Rattle.model.specs.NotedStates.{PointState}
 use Rattle.model.specs.PointRules.{program_rules}
 use Rattle.model.specs.PointStates.{Known, address_of, noted}
@@ -38,3 +39,14 @@ pub record AtPoint (t : Thread) (r : RegisterFile) : Type 0 where
   pub constant : state.measure.constant ≡ pos left
   pub least : 1 ≤ left
   pub most : left ≤ t.header.budget
+
+-- the registers are those of a thread at a point where less is left
+pub record Moves (t : Thread) (r : RegisterFile) (left : ℕ) : Type 0 where
+  pub at : AtPoint t r
+  pub less : at.left < left
+
+-- An instruction goes on, changes no byte, and leaves the registers of a thread at a point where less is left.
+pub record GoesOn (t : Thread) (r : RegisterFile) (content : Content) (instr : Instr) (left : ℕ) : Type 0 where
+  pub registers : RegisterFile
+  pub result : effect r content instr ≡ goes_on registers content
+  pub moves : Moves t registers left

@@ -23,9 +23,8 @@ use Rattle.model.specs.State.{put}
 use Rattle.model.specs.Steps.{memory_base}
 use Rattle.model.specs.Waits.{is_error, is_fault, is_of, is_wait}
 use Rattle.image.specs.Certificates.{known_of}
-use Rattle.image.specs.Programs.{AtPoint, IsKept}
-use Rattle.image.proofs.Arrivals.{Moves}
-use Rattle.image.proofs.KeptSteps.{GoesOn, IsNext, next-at, ranged-goes, start-at, wait-called, wait-wakes}
+use Rattle.image.specs.Programs.{AtPoint, GoesOn, IsKept}
+use Rattle.image.proofs.KeptSteps.{IsNext, next-at, ranged-goes, start-at, wait-called, wait-wakes}
 use Rattle.microsys.specs.Machine.{Done, HoldsProgram, IsStarted, Machine, after_effect, calls, executes, fetched, is_ready, machine_step, raised, ran, receives, runs, runs_decoded, runs_fetched, signalled, stops, tcb, ticks}
 use Rattle.microsys.specs.Runs.{Stands, StandsBy}
 use Rattle.microsys.specs.declared.machine.Status.{Status}
@@ -100,7 +99,7 @@ runs-instruction t m s instr is = ap (λ (word : Result ℕ MemoryFault). runs_f
 
 -- ADDI and JAL
 goes-executes : (t : Thread) (m : Machine) (instr : Instr) (left : ℕ) (g : GoesOn t m.registers m.content instr left) → executes m instr ≡ (record m { registers = g.registers }, Plain)
-goes-executes t m instr left g = ap (λ (e : Effect). after_effect (record m { registers = e.registers; content = e.content }) e.exec) g.effect
+goes-executes t m instr left g = ap (λ (e : Effect). after_effect (record m { registers = e.registers; content = e.content }) e.exec) g.result
 
 -- the label that the thread's done instruction has
 abbrev labelled : Machine → Done → Machine × Label

@@ -5,6 +5,7 @@ use Rattle.image.proofs.PlainStates.{wait-known}
 use Rattle.image.proofs.Arrivals.{within-wider}
 use Rattle.image.proofs.KeptSteps.{start-at}
 use Rattle.image.proofs.StartValues.{read_values}
+use Rattle.image.proofs.KeptImages.{spelled_kept}
 use Rattle.image.proofs.DecodedFields.{have-fields}
 use Rattle.image.proofs.RegisterWords.{start-words}
 use Rattle.image.proofs.scratch.scratch.Goals as goal
