@@ -1,28 +1,23 @@
 -- Where an instruction leads, the registers are those of a thread at a point again.
-use Rattle.std.proofs.Common.{◌≡◌, ◌==◌, ℕ, zero, suc, ◌+◌, ◌-◌, ◌<◌, ◌≤◌, ◌^◌, Bool, true, false, List, [], ◌∷◌, ℤ, pos, negsuc, int_lt, int_le, nat_le, get_or, if◌then◌else◌, inl, inr, refl, sym, ap, subst, ◌∙◌, arith}
+use Rattle.std.proofs.Common.{◌≡◌, ℕ, zero, suc, ◌+◌, ◌-◌, ◌<◌, ◌≤◌, Bool, true, false, List, ℤ, pos, negsuc, int_lt, int_le, nat_le, get_or, if◌then◌else◌, inl, inr, refl, sym, ap, subst, ◌∙◌, arith}
 use Rattle.std.specs.List.{list_all, range_with_len}
 use Rattle.std.proofs.lemmas.Bool.{and_parts, cases_eq, leb-true}
 use Rattle.std.proofs.lemmas.Bool.Decides.{eqb_tells}
-use Rattle.std.proofs.lemmas.Int.{by_lt_z, ints}
+use Rattle.std.proofs.lemmas.Int.{ints}
 use Rattle.model.specs.declared.ranges.Range.{Range}
-use Rattle.model.specs.declared.entries.RegisterEntry.{RegisterEntry}
-use Rattle.model.specs.declared.refusals.Refusal.TheVariants.{OverBudget, RangeNotKept}
-use Rattle.model.specs.Accepted.{AreKept}
-use Rattle.model.specs.Described.{listed_registers, listed_thread}
 use Rattle.model.specs.Image.{Thread}
 use Rattle.model.specs.Instructions.{RegisterFile, read}
-use Rattle.model.specs.Measures.{falls, measured, register_numbered, stays_below}
+use Rattle.model.specs.Measures.{register_numbered}
 use Rattle.model.specs.NotedStates.{PointState}
-use Rattle.model.specs.PointRules.{ProgramEdge, are_ranges_within, entry_rules, is_range_within, lies_in, start_registers, starts_within}
-use Rattle.model.specs.PointStates.{Known, Missing, Noted, Unmeasured, address_of, noted, point_of}
+use Rattle.model.specs.PointRules.{ProgramEdge, are_ranges_within, is_range_within}
+use Rattle.model.specs.PointStates.{Known, noted}
 use Rattle.model.specs.Ranges.{full, range_of, single}
 use Rattle.model.specs.ThreadInvariants.{LieWithin}
 use Rattle.image.specs.Programs.{AreWords, AtPoint, IsKept, Moves}
 use Rattle.image.specs.Stage.{staged_image}
-use Rattle.image.proofs.ConstantMeasures.{constant_falls, constant_least_value, constant_measured, constant_stays_below}
-use Rattle.image.proofs.KeptPrograms.{LeadsOn, edge-leads, entry-kept, measure-kept, not-refused}
+use Rattle.image.proofs.ConstantMeasures.{constant_falls, constant_least_value, constant_stays_below}
+use Rattle.image.proofs.KeptPrograms.{LeadsOn, measure-kept}
 use Rattle.image.proofs.PlainStates.{state-plain}
-use Rattle.image.proofs.RangesKept.{kept_register, zero_kept}
 
 -- ---- tests of a run of numbers
 

@@ -1,19 +1,17 @@
 -- The fields of an ADDI or a JAL that a word spells: registers below 32, and an immediate of 12 bits.
-use Rattle.std.proofs.Common.{◌≡◌, ◌==◌, ◌||◌, ◌-◌, ℕ, ◌+◌, ◌*◌, ◌/◌, ◌%◌, ◌^◌, ◌<◌, ◌≤◌, Bool, true, false, ℤ, pos, negsuc, List, [], ◌∷◌, Option, Some, None, if◌then◌else◌, nat_lt, cond, refl, subst, arith}
+use Rattle.std.proofs.Common.{◌≡◌, ◌==◌, ◌||◌, ℕ, ◌*◌, ◌^◌, ◌<◌, ◌≤◌, Bool, true, false, pos, Option, Some, None, if◌then◌else◌, nat_lt, refl, arith}
 use Rattle.std.specs.Prelude.{◌-ℤ◌, option_map}
 use Rattle.std.proofs.lemmas.Bool.{ltb-false, ltb-true}
 use Rattle.std.proofs.lemmas.Int.{ints}
 use Rattle.model.specs.declared.instructions.BranchOp.{BranchOp}
 use Rattle.model.specs.declared.instructions.ImmediateOp.{ImmediateOp}
-use Rattle.model.specs.declared.instructions.ImmediateOp.TheVariants.{Addi, Slti, Sltiu, Xori, Ori, Andi}
 use Rattle.model.specs.declared.instructions.Instr.{Instr}
-use Rattle.model.specs.declared.instructions.Instr.TheVariants.{Upper, Jal, Jalr, Branch, Load, Store, Immediate, Shift, Registers, Fence, Ecall, Ebreak}
+use Rattle.model.specs.declared.instructions.Instr.TheVariants.{Jal, Branch, Load, Store, Immediate, Shift, Registers}
 use Rattle.model.specs.declared.instructions.LoadOp.{LoadOp}
 use Rattle.model.specs.declared.instructions.RegisterOp.{RegisterOp}
 use Rattle.model.specs.declared.instructions.ShiftOp.{ShiftOp}
 use Rattle.model.specs.declared.instructions.StoreOp.{StoreOp}
-use Rattle.model.specs.declared.instructions.UpperOp.TheVariants.{Lui, Auipc}
-use Rattle.model.specs.Instructions.{IsImmediate, IsRegister, b_offset, bits, branch_op, decoded, decoded_branch, decoded_fence, decoded_immediate, decoded_jal, decoded_jalr, decoded_load, decoded_registers, decoded_shift, decoded_store, decoded_system, decoded_upper, funct3_of, funct7_of, i_immediate, immediate_op, load_op, rd_of, register_op, rs1_of, rs2_of, s_immediate, shift_op, sign_extended, store_op}
+use Rattle.model.specs.Instructions.{IsImmediate, IsRegister, b_offset, bits, branch_op, decoded, funct3_of, funct7_of, i_immediate, immediate_op, load_op, rd_of, register_op, rs1_of, rs2_of, s_immediate, shift_op, store_op}
 
 abbrev pub HaveFields : Option Instr → Type 0
 HaveFields None = Unit {0}

@@ -1,6 +1,6 @@
 -- What the rules on a program of the form say where they are kept: at its entry, at each point with a state, and on each
 -- edge of such a point.
-use Rattle.std.proofs.Common.{◌≡◌, ℕ, zero, suc, ◌+◌, ◌-◌, ◌*◌, ◌/◌, ◌%◌, ◌<◌, ◌≤◌, Bool, true, false, not, ◌&&◌, nat_le, nat_lt, ◌==◌, List, [], ◌∷◌, ◌++◌, Option, Some, None, if◌then◌else◌, inl, inr, refl, sym, ap, subst, ◌∙◌, arith}
+use Rattle.std.proofs.Common.{◌≡◌, ℕ, zero, suc, ◌+◌, ◌-◌, ◌*◌, ◌/◌, ◌%◌, ◌<◌, ◌≤◌, Bool, true, false, not, ◌&&◌, nat_le, nat_lt, ◌==◌, List, [], ◌∷◌, ◌++◌, Option, Some, None, if◌then◌else◌, inl, inr, refl, ap, subst, ◌∙◌, arith}
 use Rattle.std.specs.Prelude.{flat_map, int_lt, pos}
 use Rattle.std.specs.List.{range_with_len}
 use Rattle.std.specs.Option.{option_map_or}
@@ -10,11 +10,11 @@ use Rattle.model.specs.declared.refusals.Point.{Point}
 use Rattle.model.specs.declared.refusals.Refusal.{Refusal}
 use Rattle.model.specs.declared.refusals.Refusal.TheVariants.{BadTarget, MeasureNotFalling, OverBudget, RangeNotKept}
 use Rattle.model.specs.Accepted.{AreKept}
-use Rattle.model.specs.Image.{Image, Thread}
+use Rattle.model.specs.Image.{Thread}
 use Rattle.model.specs.Measures.{Measure, falls, least_value, stays_below}
-use Rattle.model.specs.NotedStates.{PointState, are_same_slots}
+use Rattle.model.specs.NotedStates.{PointState}
 use Rattle.model.specs.PointRules.{ProgramEdge, are_ranges_within, edge_rules, edges_at, entry_rules, kept_at, noted_at, point_at, point_rules, program_rules, rules_of_noted, rules_of_program, rules_on_edges, state_rules}
-use Rattle.model.specs.PointStates.{Noted, Known, Missing, Unmeasured, Numbered, address_of, instruction_at, noted, point_of}
+use Rattle.model.specs.PointStates.{Noted, Known, Missing, Unmeasured, address_of, instruction_at, noted, point_of}
 use Rattle.model.specs.Rules.{Rule, refuse_if}
 use Rattle.image.specs.Stage.{staged_image}
 
@@ -164,4 +164,3 @@ edge-leads t point state edge h base inside known one =
     let rules : List ProgramEdge → List Rule = λ edges. flat_map (λ e. edge_rules t (point_of (0, t) point) state.measure e (noted_at (staged_image t) (0, t) e.target)) edges in
     let kept : AreKept (rules (edge ∷ [])) = subst (λ (edges : List ProgramEdge). AreKept (rules edges)) one (edges-kept t point state h inside known) in
     leads-at t (point_of (0, t) point) state.measure edge (point_at t edge.target) base refl (kept-left (edge_rules t (point_of (0, t) point) state.measure edge (noted_at (staged_image t) (0, t) edge.target)) [] kept)
-

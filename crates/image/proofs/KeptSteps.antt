@@ -1,11 +1,10 @@
 -- A program that keeps the rules: where its thread starts, and where each instruction leads it.
-use Rattle.std.proofs.Common.{◌≡◌, ◌≢◌, ◌⊎◌, ◌||◌, ◌==◌, ℕ, ◌+◌, ◌-◌, ◌*◌, ◌%◌, ◌<◌, ◌≤◌, ◌^◌, Bool, true, false, List, [], ◌∷◌, ℤ, pos, int_lt, nat_le, Option, Some, None, Result, Ok, Err, get_or, if◌then◌else◌, inl, inr, refl, sym, ap, subst, ◌∙◌, arith}
+use Rattle.std.proofs.Common.{◌≡◌, ◌≢◌, ◌⊎◌, ◌||◌, ◌==◌, ℕ, ◌+◌, ◌-◌, ◌%◌, ◌<◌, ◌≤◌, ◌^◌, Bool, true, false, [], ◌∷◌, ℤ, pos, int_lt, nat_le, Option, Some, None, Result, Ok, get_or, if◌then◌else◌, inl, inr, refl, sym, ap, subst, ◌∙◌, arith}
 use Rattle.std.specs.Prelude.{slice_set}
 use Rattle.std.proofs.lemmas.Bool.{and_parts, eq-eqb, leb-true, not-false, or_cases}
 use Rattle.std.proofs.lemmas.Bool.Decides.{eqb_tells}
 use Rattle.std.proofs.lemmas.Int.{ints}
-use Rattle.model.specs.declared.instructions.Exec.{Exec}
-use Rattle.model.specs.declared.instructions.Exec.TheVariants.{Next, Trap}
+use Rattle.model.specs.declared.instructions.Exec.TheVariants.{Trap}
 use Rattle.model.specs.declared.instructions.Cause.TheVariants.{Misaligned}
 use Rattle.model.specs.declared.instructions.ImmediateOp.TheVariants.{Addi}
 use Rattle.model.specs.declared.instructions.Instr.{Instr}
@@ -19,18 +18,18 @@ use Rattle.model.specs.CallRules.{AfterCall, badges}
 use Rattle.model.specs.Described.{listed_registers, listed_thread}
 use Rattle.model.specs.Edges.{after, behind, edge_to}
 use Rattle.model.specs.Image.{Thread}
-use Rattle.model.specs.Instructions.{Content, Effect, IsImmediate, IsRegister, RegisterFile, advanced, effect, goes_on, jumps, next_pc, plus, read, stays, write}
-use Rattle.model.specs.Measures.{measured, register_numbered}
+use Rattle.model.specs.Instructions.{Content, Effect, IsImmediate, IsRegister, RegisterFile, advanced, effect, goes_on, next_pc, plus, read, stays, write}
+use Rattle.model.specs.Measures.{measured}
 use Rattle.model.specs.Messages.{a0, a7}
 use Rattle.model.specs.NotedStates.{PointState}
 use Rattle.model.specs.PointRules.{ProgramEdge, call_edge, call_edges, edges_at, entry_rules, lies_in, program_edge, start_registers, starts_within}
 use Rattle.model.specs.PointStates.{Known, Missing, Noted, Unmeasured, address_of, call_at, instruction_at, noted, point_of}
 use Rattle.model.specs.RangeRules.{ranges_after}
-use Rattle.model.specs.Ranges.{full, is_ranged, range_of, single, with_range}
+use Rattle.model.specs.Ranges.{full, is_ranged, with_range}
 use Rattle.model.specs.Rules.{Rule}
 use Rattle.model.specs.ThreadInvariants.{LieWithin}
-use Rattle.image.specs.Certificates.{IsWait, is_ecall, known_of, waited}
-use Rattle.image.specs.Programs.{AreWords, AtPoint, GoesOn, IsKept}
+use Rattle.image.specs.Certificates.{is_ecall, known_of, waited}
+use Rattle.image.specs.Programs.{AtPoint, GoesOn, IsKept}
 use Rattle.image.specs.Stage.{staged_image}
 use Rattle.image.proofs.Arrivals.{holds-at, left-at, moves-on, wakes-on}
 use Rattle.image.proofs.ConstantMeasures.{constant_measured}
@@ -235,11 +234,11 @@ next-of t point (Some instr) is known =
     elim (is_ecall instr || is_ranged instr) as (λ (b : Bool). (is_ecall instr || is_ranged instr) ≡ b → IsNext t point) [
       | false ↦ λ none. absurd (known (ap (λ (b : Bool). if b then Some instr else None) none))
       | true ↦ λ some. record {
-          instr = instr;
-          is = is;
-          known = ap (λ (o : Option Instr). known_of o) is ∙ ap (λ (b : Bool). if b then Some instr else None) some;
-          kind = kind-of instr some;
-        }
+        instr = instr;
+        is = is;
+        known = ap (λ (o : Option Instr). known_of o) is ∙ ap (λ (b : Bool). if b then Some instr else None) some;
+        kind = kind-of instr some;
+      }
     ] refl
 
 pub next-at : (t : Thread) (point : ℕ) → IsKept t → point < t.header.words → IsNext t point

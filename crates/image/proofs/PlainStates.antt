@@ -1,7 +1,6 @@
 -- The states of a thread of the form whose program is plain: the slots of the image, a constant, and 31 ranges.
-use Rattle.std.proofs.Common.{◌≡◌, ◌≢◌, ℕ, zero, suc, ◌+◌, ◌-◌, ◌<◌, Bool, true, false, ◌==◌, List, [], ◌∷◌, Option, Some, None, Result, Ok, Err, if◌then◌else◌, length, refl, sym, ap, subst, ◌∙◌, arith}
-use Rattle.std.specs.Prelude.{All, IfSome, fold, slice_set, pos}
-use Rattle.std.specs.Option.{option_map_or}
+use Rattle.std.proofs.Common.{◌≡◌, ◌≢◌, ℕ, zero, suc, ◌-◌, ◌<◌, Bool, true, false, ◌==◌, List, [], ◌∷◌, Option, Some, None, Result, Ok, if◌then◌else◌, length, refl, sym, ap, subst, ◌∙◌, arith}
+use Rattle.std.specs.Prelude.{IfSome, fold, slice_set, pos}
 use Rattle.std.proofs.lemmas.List.{length-set}
 use Rattle.model.specs.declared.entries.RangeEntry.{RangeEntry}
 use Rattle.model.specs.declared.entries.SlotEntry.{SlotEntry}
@@ -13,12 +12,12 @@ use Rattle.model.specs.declared.ranges.Range.{Range}
 use Rattle.model.specs.declared.refusals.Refusal.{Refusal}
 use Rattle.model.specs.CallRules.{AfterCall, badges}
 use Rattle.model.specs.Edges.{after}
-use Rattle.model.specs.Image.{Image, StateRecord, Thread}
+use Rattle.model.specs.Image.{StateRecord, Thread}
 use Rattle.model.specs.Measures.{Measure, has_term, lowered, register_numbered}
 use Rattle.model.specs.Messages.{a0}
-use Rattle.model.specs.NotedStates.{PointState, entry_slot, image_slots, record_of, record_ranges, record_state, with_noted}
+use Rattle.model.specs.NotedStates.{PointState, entry_slot, image_slots, record_of, record_state, with_noted}
 use Rattle.model.specs.PointStates.{Noted, Known, Missing, Unmeasured, address_of, call_at, follows, follows_call, follows_instruction, instruction_at, noted, noted_or}
-use Rattle.model.specs.RangeRules.{destination, range, ranges_after}
+use Rattle.model.specs.RangeRules.{range, ranges_after}
 use Rattle.model.specs.Ranges.{with_range}
 use Rattle.image.specs.Certificates.{IsBare, IsOfForm, IsPlain, IsWait, known_of, waited, with_image_slots}
 use Rattle.image.specs.Stage.{staged_image}

@@ -1,7 +1,6 @@
 -- What is read of the form starts its registers with words.
-use Rattle.std.proofs.Common.{◌≡◌, ℕ, zero, suc, true, false, ◌&&◌, ◌+◌, ◌<◌, ◌^◌, List, [], ◌∷◌, Ok, refl}
+use Rattle.std.proofs.Common.{◌≡◌, ℕ, zero, suc, true, false, ◌&&◌, ◌+◌, ◌<◌, ◌^◌, List, [], ◌∷◌, Ok}
 use Rattle.std.specs.Prelude.{All, nat_lt}
-use Rattle.std.specs.Int.{w32}
 use Rattle.std.proofs.lemmas.Bool.{and_parts, ltb-true}
 use Rattle.std.proofs.lemmas.List.Elements.{All-cons, All-nil}
 use Rattle.model.specs.declared.entries.RegisterEntry.{RegisterEntry}

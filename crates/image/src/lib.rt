@@ -6,7 +6,6 @@ mod fields;
 mod headers;
 mod reading;
 mod records;
-mod scratch;
 mod stage;
 mod threads;
 

@@ -1,8 +1,0 @@
-//! For a while.
-
-ghost use Rattle.std.specs.Prelude.{◌≡◌, ℕ};
-
-/// For a while.
-pub fn scratch()
-    ensures { (n : ℕ) → n ≡ n }
-{}
