@@ -1,5 +1,5 @@
 -- A machine whose thread keeps the rules: where it stands, it stands after each event, and spends its budget on the way.
-use Rattle.std.proofs.Common.{◌≡◌, ◌==◌, ◌||◌, ◌&&◌, ℕ, zero, suc, ◌+◌, ◌-◌, ◌<◌, ◌≤◌, ◌^◌, Bool, true, false, not, List, [], ◌∷◌, Option, Some, None, Result, Ok, Err, if◌then◌else◌, nat_lt, nat_le, inl, inr, refl, sym, ap, subst, ◌∙◌, arith}
+use Rattle.std.proofs.Common.{◌≡◌, ◌==◌, ◌||◌, ℕ, zero, suc, ◌+◌, ◌-◌, ◌<◌, ◌≤◌, ◌^◌, Bool, true, false, not, Option, Some, Result, Ok, if◌then◌else◌, nat_lt, nat_le, inl, inr, refl, sym, ap, subst, ◌∙◌, arith}
 use Rattle.std.specs.Prelude.{bit_or, slice_index}
 use Rattle.std.proofs.lemmas.Bool.{eq-eqb, eqb-true}
 use Rattle.model.specs.declared.events.Event.{Event}
@@ -12,12 +12,11 @@ use Rattle.model.specs.declared.instructions.Instr.TheVariants.{Ecall}
 use Rattle.model.specs.declared.instructions.MemoryFault.{MemoryFault}
 use Rattle.model.specs.declared.labels.Label.{Label}
 use Rattle.model.specs.declared.labels.Label.TheVariants.{Idle, Ticked, Raised, Ran}
-use Rattle.model.specs.declared.labels.Outcome.{Outcome}
 use Rattle.model.specs.declared.labels.Outcome.TheVariants.{Waited, Plain}
 use Rattle.model.specs.Image.{Thread}
 use Rattle.model.specs.Instructions.{Effect, RegisterFile, advanced, decoded, effect, loaded, read, write}
 use Rattle.model.specs.Messages.{a0, a7}
-use Rattle.model.specs.PointStates.{address_of, instruction_at}
+use Rattle.model.specs.PointStates.{instruction_at}
 use Rattle.model.specs.Scheduling.{full_slice}
 use Rattle.model.specs.State.{put}
 use Rattle.model.specs.Steps.{memory_base}
@@ -25,7 +24,7 @@ use Rattle.model.specs.Waits.{is_error, is_fault, is_of, is_wait}
 use Rattle.image.specs.Certificates.{known_of}
 use Rattle.image.specs.Programs.{AtPoint, GoesOn, IsKept}
 use Rattle.image.proofs.KeptSteps.{IsNext, next-at, ranged-goes, start-at, wait-called, wait-wakes}
-use Rattle.microsys.specs.Machine.{Done, HoldsProgram, IsStarted, Machine, after_effect, calls, executes, fetched, is_ready, machine_step, raised, ran, receives, runs, runs_decoded, runs_fetched, signalled, stops, tcb, ticks}
+use Rattle.microsys.specs.Machine.{Done, HoldsProgram, IsStarted, Machine, after_effect, calls, executes, fetched, is_ready, machine_step, ran, receives, runs, runs_decoded, runs_fetched, signalled, stops, tcb}
 use Rattle.microsys.specs.Runs.{Stands, StandsBy}
 use Rattle.microsys.specs.declared.machine.Status.{Status}
 use Rattle.microsys.specs.declared.machine.Status.TheVariants.{Ready, Waiting, Stopped}
@@ -84,8 +83,7 @@ word-fetched t m s = ap (λ (pc : ℕ). loaded m.content Fetch Word pc) s.at.pc 
 pub next_is_known : (t : Thread) (m : Machine) → IsKept t → Stands t m → m.status ≡ Ready
     → (word : ℕ) × (instr : Instr) × (fetched m ≡ Ok word) × (known_of (decoded word) ≡ Some instr) × (instr ≡ Ecall → (read m.registers a7 ≡ 5) × (read m.registers a0 ≡ 1))
 next_is_known t m kept s ready =
-    let next = next-at t s.at.point kept s.at.inside in
-    (
+    let next = next-at t s.at.point kept s.at.inside in (
       slice_index t.words s.at.point,
       next.instr,
       word-fetched t m s,

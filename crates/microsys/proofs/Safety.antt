@@ -1,11 +1,11 @@
 -- Over all events a thread that keeps the rules has no fault and no error, and keeps its budget.
-use Rattle.std.proofs.Common.{◌≡◌, ℕ, ◌-◌, ◌<◌, ◌≤◌, Bool, true, false, List, [], ◌∷◌, if◌then◌else◌, refl, sym, ap, subst, arith}
+use Rattle.std.proofs.Common.{◌≡◌, ℕ, ◌-◌, Bool, false, List, [], ◌∷◌, if◌then◌else◌, sym, subst, arith}
 use Rattle.std.specs.Prelude.{All}
 use Rattle.std.proofs.lemmas.List.Elements.{All-cons, All-nil}
 use Rattle.model.specs.declared.events.Event.{Event}
 use Rattle.model.specs.declared.labels.Label.{Label}
 use Rattle.model.specs.Image.{Thread}
-use Rattle.model.specs.Waits.{KeepsBudget, is_error, is_fault, is_of, is_wait, labels_of}
+use Rattle.model.specs.Waits.{KeepsBudget, is_error, is_fault, labels_of}
 use Rattle.image.specs.Programs.{IsKept}
 use Rattle.microsys.specs.Machine.{HoldsProgram, IsStarted, Machine, machine_after, machine_step, machine_trace, tcb}
 use Rattle.microsys.specs.Runs.{Stands}
