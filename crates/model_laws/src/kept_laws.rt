@@ -16,6 +16,7 @@ ghost use Rattle.model.specs.Ranges.{is_ranged};
 ghost use Rattle.image.specs.Certificates.{IsPlain};
 ghost use Rattle.image.specs.Programs.{AtPoint, GoesOn, IsKept};
 ghost use Rattle.image.specs.Stage.{is_staged, no_slots, staged_image};
+ghost use Rattle.model_laws.specs.Waiter.{waiter};
 
 /// What bytes of the form spell is a thread that keeps the rules, where its rules are kept.
 pub fn what_is_spelled_and_keeps_the_rules_is_kept()
@@ -38,4 +39,9 @@ pub fn a_kept_thread_goes_on()
 pub fn a_kept_thread_waits()
     ensures called { (t : Thread) (r : RegisterFile) → IsKept t → (a : AtPoint t r) → instruction_at t a.point ≡ Some Ecall → (read r a7 ≡ 5) × (read r a0 ≡ 1) }
     ensures wakes { (t : Thread) (r : RegisterFile) (word : ℕ) → IsKept t → (a : AtPoint t r) → instruction_at t a.point ≡ Some Ecall → word < 2 ^ 28 → AtPoint t (advanced (write r a0 word)) }
+{}
+
+/// There is one: it waits again and again.
+pub fn a_thread_that_waits_is_kept()
+    ensures { IsKept waiter }
 {}

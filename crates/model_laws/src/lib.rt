@@ -69,6 +69,7 @@ pub use image_rows::solo_stands_behind_the_boot_area;
 pub use kept_laws::a_kept_thread_goes_on;
 pub use kept_laws::a_kept_thread_starts_at_a_point;
 pub use kept_laws::a_kept_thread_waits;
+pub use kept_laws::a_thread_that_waits_is_kept;
 pub use kept_laws::what_is_spelled_and_keeps_the_rules_is_kept;
 pub use loading_rows::solo_is_listed;
 pub use loading_rows::solo_objects_stand_at;
