@@ -42,7 +42,7 @@ bare_records words (suc count) least (r ∷ rs) fits none =
     let b = and_parts (eqb r.header.terms 0) (has_no_terms rs) none in
     All-cons IsBare r rs (bare_record words least r a.0 b.0) (bare_records words count (r.header.point + 1) rs a.1 b.1)
 
-thread_bare : (t : Thread) → (thread_format no_slots 7).fits t ≡ true → is_staged t ≡ true → All IsBare t.records
+pub thread_bare : (t : Thread) → (thread_format no_slots 7).fits t ≡ true → is_staged t ≡ true → All IsBare t.records
 unfolding thread_format records_format
 thread_bare t fits staged =
     let h = t.header in

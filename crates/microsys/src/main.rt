@@ -5,6 +5,7 @@ mod commands;
 mod event_lists;
 mod machine;
 mod pages;
+mod run_laws;
 mod running;
 mod sinks;
 #[cfg(test)]

@@ -2,7 +2,6 @@ pub mod Descents
 pub mod LookupLaws
 pub mod Opened
 pub mod Placements
-pub mod RangesKept
 pub mod ReadyLists
 pub mod ReadySteps
 pub mod Removals

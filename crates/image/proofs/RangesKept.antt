@@ -76,13 +76,13 @@ kept_word r ranges k other kept =
     let range = read_range ranges k (isnt-zero k other) in
     subst (λ (x : Range). LiesIn (get_or r.words k 0) x) range (subst (λ (n : ℕ). LiesIn n (range_of ranges (register_numbered k))) word kept)
 
-kept_register : (r : RegisterFile) (ranges : List Range) (k : ℕ) → k ≢ 0 → LiesIn (get_or r.words k 0) (get_or ranges (k - 1) full) → KeptAt r ranges k
+pub kept_register : (r : RegisterFile) (ranges : List Range) (k : ℕ) → k ≢ 0 → LiesIn (get_or r.words k 0) (get_or ranges (k - 1) full) → KeptAt r ranges k
 kept_register r ranges k other kept =
     let word = read_word r k (isnt-zero k other) in
     let range = read_range ranges k (isnt-zero k other) in
     subst (λ (x : Range). LiesIn (read r (register_numbered k)) x) (sym range) (subst (λ (n : ℕ). LiesIn n (get_or ranges (k - 1) full)) (sym word) kept)
 
-zero_kept : (r : RegisterFile) (ranges : List Range) (k : ℕ) → k ≡ 0 → KeptAt r ranges k
+pub zero_kept : (r : RegisterFile) (ranges : List Range) (k : ℕ) → k ≡ 0 → KeptAt r ranges k
 zero_kept r ranges k is = subst (λ (n : ℕ). KeptAt r ranges n) (sym is) (omega arith, omega arith)
 
 -- registers other than 0, by what their words and ranges are
