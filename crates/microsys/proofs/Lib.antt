@@ -1,3 +1,4 @@
 pub mod PageLemmas
 pub mod Refusals
 pub mod SinkLemmas
+pub mod StepLemmas
