@@ -1,3 +1,5 @@
+pub mod FormBytes
+pub mod LoadLemmas
 pub mod PageLemmas
 pub mod Refusals
 pub mod SinkLemmas

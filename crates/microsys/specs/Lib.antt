@@ -1,3 +1,4 @@
+pub mod Loaded
 pub mod Machine
 pub mod Pages
 pub mod Running

@@ -145,6 +145,7 @@ machine_after m (event ∷ events) = machine_after (machine_step m event).0 even
 
 -- the thread runs with its registers, nothing was raised, and its pages hold what the image describes
 pub record IsStarted (t : Thread) (m : Machine) : Type 0 where
+  pub place : m.content.place ≡ page_place
   pub registers : m.registers ≡ (listed_thread t).registers
   pub status : m.status ≡ Ready
   pub slice : m.slice ≡ full_slice

@@ -1,8 +1,13 @@
 //! The machine of the one form of image: one thread, and one interrupt line that signals it.
 
-ghost use Rattle.std.specs.Prelude.{◌≡◌, ◌^◌, ◌*◌, ◌≤◌, length, IfOk};
+ghost use Rattle.std.specs.Prelude.{◌≡◌, ◌≢◌, ◌^◌, ◌*◌, ◌≤◌, All, length, min, IfOk};
+ghost use Rattle.image.specs.Certificates.{IsOfForm};
+ghost use Rattle.image.specs.Stage.{staged_image};
+ghost use Rattle.model.specs.Described.{listed_thread};
+ghost use Rattle.model.specs.Image.{Thread};
 ghost use Rattle.model.specs.Instructions.{decoded};
-ghost use Rattle.microsys.specs.Machine.{calls, machine_of, machine_step, raised, ran, receives, runs_decoded, stops, ticks};
+ghost use Rattle.microsys.specs.Loaded.{HoldsWords, IsLoadable};
+ghost use Rattle.microsys.specs.Machine.{IsStarted, calls, machine_of, machine_step, raised, ran, receives, runs_decoded, stops, ticks};
 
 use crate::pages::{CODE, Pages};
 use image::ThreadRef;
@@ -67,7 +72,9 @@ pub(crate) struct System {
 }
 
 /// The machine as the image describes it.
-pub(crate) fn boot(alloc: Global, accepted: &Accepted) -> Result<System, AllocError> {
+pub(crate) fn boot(alloc: Global, accepted: &Accepted) -> Result<System, AllocError>
+    ensures { IfOk result (λ s. (t : Thread) → accepted.now ≡ staged_image t → IsOfForm t → IsLoadable t → IsStarted t (machine_of s)) }
+{
     let thread = accepted.image().thread(0);
     let pages = Pages::new(program_memory(alloc, &thread)?);
     Ok(System {
@@ -83,7 +90,8 @@ pub(crate) fn boot(alloc: Global, accepted: &Accepted) -> Result<System, AllocEr
 
 /// Memory with the thread's program in its code frame.
 fn program_memory(alloc: Global, thread: &ThreadRef) -> Result<Mem, AllocError>
-    ensures { IfOk result (λ memory. length memory ≡ 2 ^ 16) }
+    ensures size { IfOk result (λ memory. length memory ≡ 2 ^ 16) }
+    ensures bytes { IfOk result (HoldsWords thread.now (min thread.now.header.words 1024)) }
 {
     let mut memory = Mem::new(alloc, 16)?;
     for index in 0..thread.header().words.min(PAGE_WORDS) {
@@ -93,7 +101,9 @@ fn program_memory(alloc: Global, thread: &ThreadRef) -> Result<Mem, AllocError>
 }
 
 /// The registers that the thread starts with, and its entry as the pc.
-fn first_registers(thread: &ThreadRef) -> Regs {
+fn first_registers(thread: &ThreadRef) -> Regs
+    ensures { All (λ r. r.register ≢ 0) thread.now.registers → result ≡ (listed_thread thread.now).registers }
+{
     let header = thread.header();
     let mut regs = Regs::new();
     regs.set_pc(header.base.wrapping_add(header.entry.wrapping_mul(4)));
