@@ -1,4 +1,7 @@
+pub mod Fitting
 pub mod FormBytes
+pub mod FormStates
+pub mod HeldPrograms
 pub mod LoadLemmas
 pub mod PageLemmas
 pub mod Refusals
