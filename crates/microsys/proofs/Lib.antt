@@ -6,4 +6,5 @@ pub mod LoadLemmas
 pub mod PageLemmas
 pub mod Refusals
 pub mod SinkLemmas
+pub mod StartedLaws
 pub mod StepLemmas
