@@ -50,7 +50,7 @@ word_there content point places below =
 
 -- ---- their bytes
 
-framed_code : (place : ℕ) → 0x8000 + 0 < place + 1 → place < 0x9000 → is_framed place ≡ true
+pub framed_code : (place : ℕ) → 0x8000 + 0 < place + 1 → place < 0x9000 → is_framed place ≡ true
 framed_code place low high =
     let inside : is_within 0x8000 4096 place ≡ true = rw (le-leb 0x8000 place (omega arith), lt-ltb place (0x8000 + 4096) (omega arith)) refl in
     ap (λ (b : Bool). b || (is_within 0xB000 4096 place || false)) inside

@@ -1,6 +1,7 @@
 pub mod Fetches
 pub mod Fitting
 pub mod FormBytes
+pub mod FormContents
 pub mod FormSpaces
 pub mod FormStates
 pub mod HeldPrograms
