@@ -5,6 +5,7 @@ pub mod FormContents
 pub mod FormSpaces
 pub mod FormStates
 pub mod HeldPrograms
+pub mod KernelStates
 pub mod LoadLemmas
 pub mod PageLemmas
 pub mod Refusals
