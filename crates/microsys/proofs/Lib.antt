@@ -6,6 +6,7 @@ pub mod FormSpaces
 pub mod FormStates
 pub mod HeldPrograms
 pub mod KernelStates
+pub mod KernelSteps
 pub mod LoadLemmas
 pub mod PageLemmas
 pub mod Refusals
