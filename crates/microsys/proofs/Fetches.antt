@@ -1,5 +1,5 @@
 -- A word is the same in two memories with the same places, if the bytes in these places are.
-use Rattle.std.proofs.Common.{◌≡◌, ℕ, zero, suc, List, [], ◌∷◌, map, Option, Some, None, Result, Ok, Err, refl, sym, ap, ◌∙◌}
+use Rattle.std.proofs.Common.{◌≡◌, ℕ, zero, suc, List, ◌∷◌, map, Option, Some, None, Result, Ok, Err, refl, sym, ap, ◌∙◌}
 use Rattle.std.specs.Int.{from_le_bytes, w32}
 use Rattle.model.specs.declared.instructions.Access.{Access}
 use Rattle.model.specs.declared.instructions.AccessSize.TheVariants.{Word}

@@ -1,9 +1,9 @@
 -- The bytes that an image of the form describes: its program at the code page, and 0 elsewhere in its two frames.
-use Rattle.std.proofs.Common.{◌≡◌, ℕ, suc, ◌+◌, ◌-◌, ◌*◌, ◌/◌, ◌<◌, ◌≤◌, ◌⊎◌, Bool, true, false, ◌||◌, cond, leb, ltb, List, [], ◌∷◌, ◌++◌, length, take, get_or, min, slice_index, Option, Some, None, refl, sym, ap, subst, ◌∙◌, arith, inl, inr, length-append}
-use Rattle.std.specs.Prelude.{filter_map, flat_map, if◌then◌else◌, map}
+use Rattle.std.proofs.Common.{◌≡◌, ℕ, ◌+◌, ◌-◌, ◌*◌, ◌/◌, ◌<◌, ◌≤◌, Bool, true, false, ◌||◌, List, [], ◌∷◌, ◌++◌, length, take, min, slice_index, Option, Some, None, refl, sym, ap, subst, ◌∙◌, arith, inl, inr, length-append}
+use Rattle.std.specs.Prelude.{filter_map, if◌then◌else◌, map}
 use Rattle.std.specs.List.{range_with_len}
 use Rattle.std.specs.Option.{option_map_or}
-use Rattle.std.proofs.lemmas.Bool.{cases_Bool, cases_lt, le-leb, le-ltb, lt-leb, lt-ltb}
+use Rattle.std.proofs.lemmas.Bool.{cases_lt, le-leb, le-ltb, lt-leb, lt-ltb}
 use Rattle.std.proofs.lemmas.List.{get_or-take, get_or_past, length-take}
 use Rattle.std.proofs.Math.Nat.{mul-div-le}
 use Rattle.model.specs.AddressSpaces.{page_size}
@@ -56,11 +56,11 @@ program_byte t place low high =
     let long : length (take 4096 bytes) ≡ min 4096 (length bytes) = length-take 4096 bytes in
     elim (cases_lt place (0x8000 + length (take 4096 bytes))) [
       | inl inside ↦
-        let filled : is_filled place (page_of t) ≡ true = rw (le-leb 0x8000 place low, lt-ltb place (0x8000 + length (take 4096 bytes)) inside) refl in
-        ap (byte_by t place) filled ∙ get_or-take 4096 bytes (place - 0x8000) 0 (omega arith)
+          let filled : is_filled place (page_of t) ≡ true = rw (le-leb 0x8000 place low, lt-ltb place (0x8000 + length (take 4096 bytes)) inside) refl in
+          ap (byte_by t place) filled ∙ get_or-take 4096 bytes (place - 0x8000) 0 (omega arith)
       | inr past ↦
-        let filled : is_filled place (page_of t) ≡ false = rw (le-leb 0x8000 place low, le-ltb place (0x8000 + length (take 4096 bytes)) past) refl in
-        ap (byte_by t place) filled ∙ sym (get_or_past bytes (place - 0x8000) 0 (omega arith))
+          let filled : is_filled place (page_of t) ≡ false = rw (le-leb 0x8000 place low, le-ltb place (0x8000 + length (take 4096 bytes)) past) refl in
+          ap (byte_by t place) filled ∙ sym (get_or_past bytes (place - 0x8000) 0 (omega arith))
     ]
 
 byte_before : (t : Thread) (place : ℕ) → place < 0x8000 → byte_by t place (is_filled place (page_of t)) ≡ 0
@@ -140,7 +140,7 @@ loaded_program t place byte le some size h = elim (cases_lt place 0x8000) [
     | inl inside ↦ ap (byte_in t place) (within t.header.words place high inside) ∙ sym (described_program t place byte le some h high (omega arith))
     | inr past ↦ elim (cases_lt place 0x9000) [
       | inl page ↦ ap (byte_in t place) (behind t.header.words place past)
-        ∙ sym (described_program t place byte le some h high page ∙ get_or_past (bytes_of t.words) (place - 0x8000) 0 (omega (arith, length-bytes_of t.words)))
+          ∙ sym (described_program t place byte le some h high page ∙ get_or_past (bytes_of t.words) (place - 0x8000) 0 (omega (arith, length-bytes_of t.words)))
       | inr far ↦ ap (byte_in t place) (behind t.header.words place past) ∙ sym (described_behind t place byte le some h far)
     ]
   ]
@@ -151,9 +151,9 @@ loaded_byte : (t : Thread) (place byte : ℕ) → t.header.words ≤ 1024 → le
 loaded_byte t place byte le size h = elim (cases_lt 0 t.header.words) [
   | inl some ↦ loaded_program t place byte le some size h
   | inr none ↦
-    let zero : t.header.words ≡ 0 = omega arith in
-    let empty : is_within 0x8000 (4 * t.header.words) place ≡ false = ap (λ (n : ℕ). is_within 0x8000 (4 * n) place) zero ∙ none_within place in
-    ap (byte_in t place) empty ∙ sym (described_none t place byte zero h)
+      let zero : t.header.words ≡ 0 = omega arith in
+      let empty : is_within 0x8000 (4 * t.header.words) place ≡ false = ap (λ (n : ℕ). is_within 0x8000 (4 * n) place) zero ∙ none_within place in
+      ap (byte_in t place) empty ∙ sym (described_none t place byte zero h)
 ]
 
 -- memory with the thread's words holds what its image describes

@@ -1,5 +1,5 @@
 -- Memory as the thread of the form sees it: in the kernel's state and in the machine.
-use Rattle.std.proofs.Common.{◌≡◌, ℕ, ◌+◌, ◌/◌, ◌%◌, ◌<◌, Bool, true, false, cond, eqb, Option, Some, None, Result, refl, sym, ap, ◌∙◌, inl, inr, arith}
+use Rattle.std.proofs.Common.{◌≡◌, ℕ, ◌+◌, ◌/◌, ◌%◌, Bool, true, false, Option, Some, None, refl, sym, ap, ◌∙◌, inl, inr, arith}
 use Rattle.std.specs.Prelude.{if◌then◌else◌, ◌==◌, option_and_then, option_map}
 use Rattle.std.specs.Option.{option_map_or}
 use Rattle.std.proofs.lemmas.Bool.{cases_eq, ne_eqb}
@@ -9,7 +9,7 @@ use Rattle.model.specs.declared.instructions.AccessSize.TheVariants.{Word}
 use Rattle.model.specs.declared.rights.Rights.{Rights}
 use Rattle.model.specs.AddressSpaces.{content_of, place_in, place_under}
 use Rattle.model.specs.Image.{Thread}
-use Rattle.model.specs.Instructions.{Content, loaded}
+use Rattle.model.specs.Instructions.{loaded}
 use Rattle.model.specs.Rights.{rights}
 use Rattle.image.specs.Certificates.{numbered_thread}
 use Rattle.microsys.specs.Machine.{Machine, fetched, state_of, tcb}
@@ -17,7 +17,6 @@ use Rattle.microsys.specs.Pages.{page_place}
 use Rattle.microsys.proofs.Fetches.{ReadsSame, loaded_same}
 use Rattle.microsys.proofs.FormBytes.{framed_described, is_framed}
 use Rattle.microsys.proofs.FormSpaces.{mapped_there, vspace_there}
-use Rattle.microsys.proofs.FormStates.{form_state}
 use Rattle.microsys.proofs.HeldPrograms.{framed_code}
 
 abbrev Page : Type 0

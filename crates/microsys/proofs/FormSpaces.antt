@@ -1,24 +1,21 @@
 -- The address space of the form: what its slots map is a page to run (code) and a page to read and write (plain).
-use Rattle.std.proofs.Common.{◌≡◌, ℕ, zero, suc, ◌+◌, ◌/◌, ◌%◌, Bool, true, false, ◌||◌, cond, eqb, List, [], ◌∷◌, Option, Some, None, refl, sym, ap, ◌∙◌, inl, inr}
-use Rattle.std.specs.Prelude.{filter_map, find, if◌then◌else◌, ◌==◌}
+use Rattle.std.proofs.Common.{◌≡◌, ℕ, Bool, true, false, ◌||◌, eqb, List, [], ◌∷◌, Option, Some, None, refl, sym, ap, ◌∙◌, inl, inr}
+use Rattle.std.specs.Prelude.{filter_map, if◌then◌else◌, ◌==◌}
 use Rattle.std.specs.List.{list_all}
 use Rattle.std.specs.Option.{option_map_or}
-use Rattle.std.proofs.lemmas.Bool.{and_parts, cases_eq, eq-eqb, eqb-true, ne_eqb, or_cases}
+use Rattle.std.proofs.lemmas.Bool.{and_parts, cases_eq, eq-eqb, ne_eqb}
 use Rattle.model.specs.declared.capabilities.Cap.{Cap}
 use Rattle.model.specs.declared.capabilities.Cap.TheVariants.{Empty, Untyped, Endpoint, Notification, CNode, Frame, PageTable, Tcb, RootTable, InterruptControl, InterruptHandler}
-use Rattle.model.specs.declared.instructions.Access.{Access}
-use Rattle.model.specs.declared.instructions.Access.TheVariants.{Load, Store, Fetch}
 use Rattle.model.specs.declared.rights.Rights.{Rights}
-use Rattle.model.specs.declared.slot_entries.Entry.{Entry}
-use Rattle.model.specs.AddressSpaces.{is_page, mapped, page_of, place_in, place_under}
+use Rattle.model.specs.AddressSpaces.{page_of}
 use Rattle.model.specs.Capabilities.{root_of}
-use Rattle.model.specs.Described.{Holding, boot_holdings, described, described_slots, held_in, holdings, is_open_slot}
+use Rattle.model.specs.Described.{Holding, boot_holdings, described, held_in, holdings, is_open_slot}
 use Rattle.model.specs.Image.{Thread}
 use Rattle.model.specs.Places.{offset_of, used_by}
 use Rattle.model.specs.Rights.{rights}
 use Rattle.model.specs.Scheduling.{head_of}
 use Rattle.model.specs.Slots.{capability_at, empty_entry}
-use Rattle.model.specs.State.{State, slot_numbers, slots_of, vspace_slot}
+use Rattle.model.specs.State.{slot_numbers, vspace_slot}
 use Rattle.image.specs.Certificates.{numbered_thread}
 use Rattle.image.specs.Stage.{staged_image}
 use Rattle.microsys.specs.Machine.{tcb}

@@ -1,5 +1,5 @@
 -- The machine just booted holds the words of its program at their addresses.
-use Rattle.std.proofs.Common.{◌≡◌, ℕ, ◌+◌, ◌-◌, ◌*◌, ◌/◌, ◌%◌, ◌^◌, ◌<◌, Bool, true, false, ◌||◌, eqb, List, [], ◌∷◌, map, slice_index, Option, Some, None, Result, Ok, Err, refl, sym, ap, subst, ◌∙◌, arith}
+use Rattle.std.proofs.Common.{◌≡◌, ℕ, ◌+◌, ◌-◌, ◌*◌, ◌/◌, ◌%◌, ◌^◌, ◌<◌, Bool, true, false, ◌||◌, List, [], ◌∷◌, map, slice_index, Option, Some, None, Ok, refl, sym, ap, subst, ◌∙◌, arith}
 use Rattle.std.specs.Prelude.{if◌then◌else◌}
 use Rattle.std.specs.Int.{from_le_bytes, w32}
 use Rattle.std.proofs.lemmas.Bool.{eq-eqb, le-leb, lt-ltb}
@@ -14,7 +14,7 @@ use Rattle.model.specs.Image.{Thread}
 use Rattle.model.specs.Instructions.{Content, loaded, named, next_address, place_at}
 use Rattle.model.specs.PointStates.{address_of}
 use Rattle.model.specs.Slots.{is_within}
-use Rattle.image.specs.Certificates.{IsOfForm, numbered_thread}
+use Rattle.image.specs.Certificates.{IsOfForm}
 use Rattle.image.specs.Stage.{staged_image}
 use Rattle.microsys.specs.Machine.{HoldsProgram, IsStarted, Machine}
 use Rattle.microsys.specs.Pages.{page_place}

@@ -1,53 +1,45 @@
 -- A step of the kernel is a step of the machine.
-use Rattle.std.proofs.Common.{◌≡◌, ◌≢◌, ℕ, zero, suc, ◌+◌, ◌%◌, ◌^◌, ◌<◌, ◌≤◌, Bool, true, false, ◌&&◌, ◌||◌, cond, eqb, leb, ltb, List, [], ◌∷◌, Option, Some, None, Result, Ok, Err, refl, sym, ap, subst, ◌∙◌, inl, inr, arith}
-use Rattle.std.specs.Prelude.{find, if◌then◌else◌, nat_lt, not, ◌==◌}
-use Rattle.std.specs.List.{list_all}
+use Rattle.std.proofs.Common.{◌≡◌, ℕ, zero, suc, ◌+◌, ◌%◌, ◌<◌, Bool, true, false, ◌||◌, [], ◌∷◌, Option, Some, None, Result, Ok, refl, sym, ap, subst, ◌∙◌, inl, inr, arith}
+use Rattle.std.specs.Prelude.{if◌then◌else◌, ◌==◌}
 use Rattle.std.specs.Option.{option_map_or}
-use Rattle.std.proofs.lemmas.Bool.{and_parts, cases_eq, cases_lt, eq-eqb, le-ltb, lt-ltb, ltb-true, ne_eqb}
+use Rattle.std.proofs.lemmas.Bool.{cases_eq, eq-eqb, ne_eqb}
 use Rattle.model.specs.declared.capabilities.Cap.{Cap}
-use Rattle.model.specs.declared.capabilities.Cap.TheVariants.{Empty, Notification}
-use Rattle.model.specs.declared.events.Event.{Event}
+use Rattle.model.specs.declared.capabilities.Cap.TheVariants.{Notification}
 use Rattle.model.specs.declared.events.Event.TheVariants as events
-use Rattle.model.specs.declared.instructions.Exec.{Exec}
 use Rattle.model.specs.declared.instructions.Instr.{Instr}
 use Rattle.model.specs.declared.instructions.Instr.TheVariants.{Upper, Jal, Jalr, Branch, Load, Store, Immediate, Shift, Registers, Fence, Ecall, Ebreak}
-use Rattle.model.specs.declared.instructions.Register.{Register}
 use Rattle.model.specs.declared.instructions.MemoryFault.{MemoryFault}
 use Rattle.model.specs.declared.labels.Label.{Label}
-use Rattle.model.specs.declared.labels.Label.TheVariants.{Idle, Ran, Raised, Ticked}
+use Rattle.model.specs.declared.labels.Label.TheVariants.{Idle, Ran}
 use Rattle.model.specs.declared.faults.FaultKind.TheVariants as kinds
 use Rattle.model.specs.declared.instructions.Cause.TheVariants.{Misaligned}
 use Rattle.model.specs.declared.instructions.Exec.TheVariants as outcomes
 use Rattle.model.specs.Faults.{instruction_fault}
-use Rattle.model.specs.declared.labels.Outcome.{Outcome}
 use Rattle.model.specs.declared.labels.Outcome.TheVariants.{Faulted, Plain, Waited}
 use Rattle.model.specs.declared.lookup_failures.LookupFailure.{LookupFailure}
-use Rattle.model.specs.declared.slot_entries.Entry.{Entry}
 use Rattle.model.specs.AddressSpaces.{content_of, with_content}
-use Rattle.model.specs.Described.{Holding, boot_holdings, described, held_in, holdings, is_open_slot}
+use Rattle.model.specs.Described.{boot_holdings, described, holdings, is_open_slot}
 use Rattle.model.specs.Image.{Thread}
-use Rattle.model.specs.Instructions.{advanced, immediate_result, Content, Effect, RegisterFile, decoded, effect, goes_on, jumps, loaded, next_pc, plus, read, stays, write}
-use Rattle.model.specs.Interrupts.{binding, interrupt, raise, signal_of, with_pending}
+use Rattle.model.specs.Instructions.{advanced, immediate_result, Content, Effect, RegisterFile, decoded, effect, goes_on, next_pc, plus, read, stays, write}
 use Rattle.model.specs.Lookup.{called_slot, lookup_within}
 use Rattle.model.specs.Messages.{a0, a7, with_registers}
 use Rattle.model.specs.Places.{offset_of, used_by}
 use Rattle.model.specs.Rights.{rights}
 use Rattle.model.specs.Scheduling.{current, first_below, head_of, tick, ticked}
-use Rattle.model.specs.Slots.{capability_at, empty_entry}
-use Rattle.model.specs.State.{State, binding_slot, cspace_slot, put}
+use Rattle.model.specs.Slots.{capability_at}
+use Rattle.model.specs.State.{State, cspace_slot}
 use Rattle.model.specs.Steps as steps
 use Rattle.model.specs.Steps.{memory_base, step, system_call}
-use Rattle.image.specs.Certificates.{IsOfForm, is_ecall, known_of, numbered_thread}
-use Rattle.image.specs.Stage.{staged_image}
+use Rattle.image.specs.Certificates.{is_ecall, known_of}
 use Rattle.model.specs.Ranges.{is_ranged}
-use Rattle.microsys.specs.Machine.{Done, Machine, after_effect, calls, executes, fetched, is_ready, machine_step, notification, raised, ran, receives, runs, runs_decoded, runs_fetched, state_of, tcb, ticks}
+use Rattle.microsys.specs.Machine.{Done, Machine, after_effect, calls, executes, is_ready, machine_step, notification, ran, receives, runs, runs_decoded, runs_fetched, tcb, ticks}
 use Rattle.microsys.specs.NextSteps.{RunsNext}
 use Rattle.microsys.specs.Pages.{page_place}
 use Rattle.microsys.specs.declared.machine.Status.{Status}
 use Rattle.microsys.specs.declared.machine.Status.TheVariants.{Ready, Waiting, Stopped}
 use Rattle.microsys.proofs.FormContents.{fetched_same}
 use Rattle.microsys.proofs.FormStates.{form_state}
-use Rattle.microsys.proofs.KernelStates.{awake, faulted, kernel, moves, signals_line, signals_thread, ticks_one, waited_on}
+use Rattle.microsys.proofs.KernelStates.{awake, faulted, kernel, moves, ticks_one, waited_on}
 
 -- ---- who runs
 
@@ -62,7 +54,7 @@ first_alone zero priority lt = absurd (omega arith)
 first_alone (suc n) priority lt = elim (cases_eq n priority) [
   | inl same ↦ ap (λ (b : Bool). option_map_or Some (head_of (if b then tcb ∷ [] else [])) (first_below n (λ p. if p == priority then tcb ∷ [] else []))) (eq-eqb n priority same)
   | inr other ↦ ap (λ (b : Bool). option_map_or Some (head_of (if b then tcb ∷ [] else [])) (first_below n (λ p. if p == priority then tcb ∷ [] else []))) (ne_eqb n priority other)
-    ∙ first_alone n priority (omega arith)
+      ∙ first_alone n priority (omega arith)
 ]
 
 runs_alone : (t : Thread) (m : Machine) → t.header.priority < 256 → current (kernel t (awake m)) ≡ Some tcb
@@ -194,7 +186,7 @@ ran_one t m places next = ap (labelled m.registers.pc) (ran_word t m places next
 
 -- ---- the events
 
-steps_on : (t : Thread) (m : Machine) → m.content.place ≡ page_place → t.header.priority < 256 → RunsNext (awake m)
+pub steps_on : (t : Thread) (m : Machine) → m.content.place ≡ page_place → t.header.priority < 256 → RunsNext (awake m)
     → step (kernel t (awake m)) events.Step ≡ with_label t (machine_step (awake m) events.Step)
 unfolding step machine_step
 steps_on t m places lt next =
@@ -206,7 +198,7 @@ asleep t m Ready h = not_known (sym h)
 asleep t m Waiting h = none_below 256
 asleep t m Stopped h = none_below 256
 
-idles : (t : Thread) (m : Machine) (status : Status) → is_ready status ≡ false
+pub idles : (t : Thread) (m : Machine) (status : Status) → is_ready status ≡ false
     → step (kernel t (record m { status = status })) events.Step ≡ with_label t (machine_step (record m { status = status }) events.Step)
 unfolding step machine_step
 idles t m status h =
@@ -214,7 +206,7 @@ idles t m status h =
     ap (λ (o : Option ℕ). option_map_or (steps.ran s) o (s, Idle)) (asleep t m status h)
     ∙ sym (ap (λ (b : Bool). with_label t (if b then ran (record m { status = status }) else (record m { status = status }, Idle))) h)
 
-ticks_on : (t : Thread) (m : Machine) (status : Status) → t.header.priority < 256 → tick (kernel t (record m { status = status })) ≡ kernel t (ticks (record m { status = status }))
+pub ticks_on : (t : Thread) (m : Machine) (status : Status) → t.header.priority < 256 → tick (kernel t (record m { status = status })) ≡ kernel t (ticks (record m { status = status }))
 ticks_on t m Ready lt =
     let s : State = kernel t (awake m) in
     ap (λ (o : Option ℕ). option_map_or (ticked s) o s) (runs_alone t m lt) ∙ ticks_one t m

@@ -5,10 +5,12 @@ pub mod FormContents
 pub mod FormSpaces
 pub mod FormStates
 pub mod HeldPrograms
+pub mod KernelLines
 pub mod KernelStates
 pub mod KernelSteps
 pub mod LoadLemmas
 pub mod PageLemmas
+pub mod Refinement
 pub mod Refusals
 pub mod SinkLemmas
 pub mod StartedLaws

@@ -1,9 +1,9 @@
 -- Loading: words that are written one after another, and registers.
-use Rattle.std.proofs.Common.{◌≡◌, ◌≢◌, ℕ, zero, suc, ◌+◌, ◌-◌, ◌*◌, ◌%◌, ◌^◌, ◌<◌, ◌≤◌, ◌&&◌, Bool, true, false, cond, eqb, leb, ltb, List, [], ◌∷◌, ◌++◌, length, get_or, set, replicate, slice_index, refl, sym, ap, subst, ◌∙◌, arith, inl, inr}
+use Rattle.std.proofs.Common.{◌≡◌, ◌≢◌, ℕ, zero, suc, ◌+◌, ◌-◌, ◌*◌, ◌<◌, ◌≤◌, Bool, true, false, eqb, List, [], ◌∷◌, length, get_or, replicate, slice_index, refl, sym, ap, subst, ◌∙◌, arith, inl, inr}
 use Rattle.std.specs.Prelude.{All, Option, Some, fold, if◌then◌else◌, slice_get, slice_set}
 use Rattle.image.specs.Stage.{staged_image}
 use Rattle.model.specs.declared.entries.RegisterEntry.{RegisterEntry}
-use Rattle.std.proofs.lemmas.Bool.{cases_lt, ne_eqb, le-leb, leb-true, lt-leb, le-ltb, lt-ltb}
+use Rattle.std.proofs.lemmas.Bool.{cases_lt, ne_eqb, le-leb, lt-leb, le-ltb, lt-ltb}
 use Rattle.std.proofs.lemmas.List.{get_or_append_left, get_or-append_right, get_or_past, get_or-replicate, length-replicate, length-set, set_past}
 use Rattle.std.proofs.lemmas.List.Elements.{All-head, All-tail}
 use Rattle.model.specs.declared.instructions.Register.{Register}
@@ -77,17 +77,17 @@ more_at t count old place fits holds =
       | inl low ↦ slice_index-written_before old at piece place fits (omega arith) ∙ holds.bytes place ∙ ap (byte_of t place) (before count place low) ∙ sym (ap (byte_of t place) (before (count + 1) place low))
       | inr high ↦ elim (cases_lt place (0x8000 + 4 * count)) [
         | inl low ↦ slice_index-written_before old at piece place fits low ∙ holds.bytes place ∙ ap (byte_of t place) (within count place high low)
-          ∙ sym (ap (byte_of t place) (within (count + 1) place high (omega arith)))
+            ∙ sym (ap (byte_of t place) (within (count + 1) place high (omega arith)))
         | inr past ↦ elim (cases_lt place (0x8000 + 4 * (count + 1))) [
           | inl inside ↦
-            let k : ℕ = place - (0x8000 + 4 * count) in
-            let here : place ≡ 0x8000 + 4 * count + k = omega arith in
-            let there : place - 0x8000 ≡ 4 * count + k = omega arith in
-            ap (λ (p : ℕ). slice_index (written old at piece) p) here ∙ slice_index-written_inside old at piece k fits (omega arith)
-            ∙ sym (word_piece t.words count k (omega arith)) ∙ ap (λ (p : ℕ). slice_index (bytes_of t.words) p) (sym there)
-            ∙ sym (ap (byte_of t place) (within (count + 1) place high inside))
+              let k : ℕ = place - (0x8000 + 4 * count) in
+              let here : place ≡ 0x8000 + 4 * count + k = omega arith in
+              let there : place - 0x8000 ≡ 4 * count + k = omega arith in
+              ap (λ (p : ℕ). slice_index (written old at piece) p) here ∙ slice_index-written_inside old at piece k fits (omega arith)
+              ∙ sym (word_piece t.words count k (omega arith)) ∙ ap (λ (p : ℕ). slice_index (bytes_of t.words) p) (sym there)
+              ∙ sym (ap (byte_of t place) (within (count + 1) place high inside))
           | inr far ↦ slice_index-written_behind old at piece place fits (omega arith) ∙ holds.bytes place ∙ ap (byte_of t place) (behind count place past)
-            ∙ sym (ap (byte_of t place) (behind (count + 1) place far))
+              ∙ sym (ap (byte_of t place) (behind (count + 1) place far))
         ]
       ]
     ]
@@ -144,7 +144,7 @@ listed_past all rest left e words is size past listed =
     }
 
 pub written_pc : (r : RegisterFile) (x : Register) (value : ℕ) → (write r x value).pc ≡ r.pc
-written_pc r x value = elim (eqb x.0 0) as (λ b. (let w : RegisterFile = if b then r else record r { words = slice_set r.words x.0 value } in w.pc) ≡ r.pc) [ | true ↦ refl | false ↦ refl ]
+written_pc r x value = elim (eqb x.0 0) as (λ b. (let w : RegisterFile = if b then r else record r { words = slice_set r.words x.0 value } in w.pc) ≡ r.pc) [ true ↦ refl | false ↦ refl ]
 
 pub written_size : (r : RegisterFile) (x : Register) (value : ℕ) → length (write r x value).words ≡ length r.words
 written_size r x value = elim (eqb x.0 0) as (λ b. (let w : RegisterFile = if b then r else record r { words = slice_set r.words x.0 value } in length w.words) ≡ length r.words) [

@@ -5,8 +5,7 @@ use Rattle.std.proofs.lemmas.Bool.{cases_eq, eq-eqb, ne_eqb}
 use Rattle.model.specs.Described.{described, listed_thread}
 use Rattle.model.specs.Image.{Thread}
 use Rattle.model.specs.Instructions.{RegisterFile}
-use Rattle.model.specs.State.{NotificationObject, NotificationState, Object, State, ThreadObject, ThreadState}
-use Rattle.model.specs.State.{Status as ThreadStatus}
+use Rattle.model.specs.State.{NotificationObject, Object, ThreadObject, ThreadState}
 use Rattle.image.specs.Certificates.{IsOfForm, numbered_thread}
 use Rattle.image.specs.Stage.{staged_image}
 use Rattle.microsys.specs.Machine.{IsStarted, Machine, is_ready, notification, notification_of, object_of, state_of, status_of, tcb, thread_of, waiters_of}
@@ -35,16 +34,16 @@ objects_same t m started offset =
     let u : Thread = numbered_thread t in
     elim (cases_eq offset tcb) [
       | inl same ↦
-        ap (λ (b : Bool). if b then thread_object (thread_of u m) else (if offset == notification then Some (NotificationObject (notification_of m)) else (form_state t).objects offset)) (eq-eqb offset tcb same)
-        ∙ ap thread_object (thread_same u m started) ∙ sym (thread_there t) ∙ sym (ap (form_state t).objects same)
+          ap (λ (b : Bool). if b then thread_object (thread_of u m) else (if offset == notification then Some (NotificationObject (notification_of m)) else (form_state t).objects offset)) (eq-eqb offset tcb same)
+          ∙ ap thread_object (thread_same u m started) ∙ sym (thread_there t) ∙ sym (ap (form_state t).objects same)
       | inr other ↦
-        ap (λ (b : Bool). if b then thread_object (thread_of u m) else (if offset == notification then Some (NotificationObject (notification_of m)) else (form_state t).objects offset)) (ne_eqb offset tcb other)
-        ∙ elim (cases_eq offset notification) [
-          | inl same ↦
-            ap (λ (b : Bool). if b then Some (NotificationObject (notification_of m)) else (form_state t).objects offset) (eq-eqb offset notification same)
-            ∙ notification_same u m started ∙ sym (notification_there t) ∙ sym (ap (form_state t).objects same)
-          | inr neither ↦ ap (λ (b : Bool). if b then Some (NotificationObject (notification_of m)) else (form_state t).objects offset) (ne_eqb offset notification neither)
-        ]
+          ap (λ (b : Bool). if b then thread_object (thread_of u m) else (if offset == notification then Some (NotificationObject (notification_of m)) else (form_state t).objects offset)) (ne_eqb offset tcb other)
+          ∙ elim (cases_eq offset notification) [
+            | inl same ↦
+                ap (λ (b : Bool). if b then Some (NotificationObject (notification_of m)) else (form_state t).objects offset) (eq-eqb offset notification same)
+                ∙ notification_same u m started ∙ sym (notification_there t) ∙ sym (ap (form_state t).objects same)
+            | inr neither ↦ ap (λ (b : Bool). if b then Some (NotificationObject (notification_of m)) else (form_state t).objects offset) (ne_eqb offset notification neither)
+          ]
     ]
 
 byte_same : (byte : ℕ → ℕ) (place : ℕ) (o : Option ℕ) → ((b : ℕ) → o ≡ Some b → byte place ≡ b) → option_map (λ (_ : ℕ). byte place) o ≡ o
@@ -64,7 +63,7 @@ ready_same t m priority ready =
     ∙ ap (λ (b : Bool). if b then tcb ∷ [] else []) (swapped priority t.header.priority) ∙ sym (ready_there t priority)
 
 masked_same : (m : Machine) (line : ℕ) → m.masked ≡ false → (line == 3 && m.masked) ≡ false
-masked_same m line open_line = ap (λ (b : Bool). line == 3 && b) open_line ∙ elim (line == 3) as (λ b. (b && false) ≡ false) [ | true ↦ refl | false ↦ refl ]
+masked_same m line open_line = ap (λ (b : Bool). line == 3 && b) open_line ∙ elim (line == 3) as (λ b. (b && false) ≡ false) [ true ↦ refl | false ↦ refl ]
 
 numbered_is_described : (t : Thread) (m : Machine) → IsStarted (numbered_thread t) m → state_of (numbered_thread t) m ≡ form_state t
 unfolding described

@@ -1,5 +1,5 @@
 -- What a machine is loaded with: the program's words in its memory, and the thread's registers.
-use Rattle.std.specs.Prelude.{ℕ, ◌≡◌, ◌≢◌, ◌+◌, ◌-◌, ◌*◌, All, List, length, slice_index, if◌then◌else◌}
+use Rattle.std.specs.Prelude.{ℕ, ◌≡◌, ◌≢◌, ◌-◌, ◌*◌, All, List, length, slice_index, if◌then◌else◌}
 use Rattle.model.specs.Fills.{bytes_of}
 use Rattle.model.specs.Image.{Thread}
 use Rattle.model.specs.Slots.{is_within}

@@ -1,5 +1,5 @@
 -- Where a machine stands before an instruction that it shares with the kernel.
-use Rattle.std.specs.Prelude.{ℕ, ◌≡◌, Option, Some, Result, Ok}
+use Rattle.std.specs.Prelude.{ℕ, ◌≡◌, Some, Ok}
 use Rattle.model.specs.declared.instructions.Instr.{Instr}
 use Rattle.model.specs.declared.instructions.Instr.TheVariants.{Ecall}
 use Rattle.model.specs.Instructions.{decoded, read}

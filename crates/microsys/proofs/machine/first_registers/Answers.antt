@@ -1,4 +1,4 @@
-use Rattle.std.proofs.Common.{◌≡◌, ◌∙◌, ap, length}
+use Rattle.std.proofs.Common.{◌∙◌, ap, length}
 use Rattle.model.specs.Instructions.{RegisterFile}
 use Rattle.microsys.proofs.LoadLemmas.{listed_more, listed_past, written_pc, written_size}
 use Rattle.microsys.proofs.machine.first_registers.Goals as goal

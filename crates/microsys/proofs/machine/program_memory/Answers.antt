@@ -1,5 +1,4 @@
-use Rattle.std.proofs.Common.{◌≡◌, length, refl, replicate, ap, ◌∙◌, arith}
-use Rattle.std.proofs.lemmas.List.{length-replicate}
+use Rattle.std.proofs.Common.{refl, ◌∙◌, arith}
 use Rattle.microsys.proofs.LoadLemmas.{holds_more, holds_nothing, length_of_zeros}
 use Rattle.microsys.proofs.machine.program_memory.Goals as goal
 
