@@ -1,11 +1,13 @@
 -- What the format of a thread gives to who loads and runs it.
-use Rattle.std.proofs.Common.{◌≡◌, ◌≢◌, ℕ, zero, suc, ◌+◌, ◌^◌, ◌<◌, ◌≤◌, ◌&&◌, true, false, leb, ltb, List, [], ◌∷◌, length, slice_index, refl, arith}
+use Rattle.std.proofs.Common.{◌≡◌, ◌≢◌, ℕ, zero, suc, ◌+◌, ◌^◌, ◌<◌, ◌≤◌, ◌&&◌, Bool, true, false, leb, ltb, List, [], ◌∷◌, length, slice_index, refl, arith}
 use Rattle.std.specs.Prelude.{All}
 use Rattle.std.proofs.lemmas.Bool.{and_parts, leb-true, ltb-true}
 use Rattle.std.proofs.lemmas.List.Elements.{All-cons, All-nil}
 use Rattle.model.specs.declared.entries.RegisterEntry.{RegisterEntry}
-use Rattle.model.specs.Format.{Spells, field, many_fit}
-use Rattle.model.specs.Image.{Thread, anything, image_format, register_format, records_format, registers_format, thread_format, thread_header_format, words_format}
+use Rattle.model.specs.declared.entries.ThreadHeader.{ThreadHeader}
+use Rattle.std.specs.Int.{w64}
+use Rattle.model.specs.Format.{Spells, field, many_fit, number}
+use Rattle.model.specs.Image.{Thread, anything, below, between, image_format, register_format, records_format, registers_format, thread_format, thread_header_format, words_format}
 use Rattle.image.specs.Stage.{no_slots, staged_image}
 use Rattle.image.proofs.StageLaws.{thread_fits}
 use Rattle.microsys.specs.Loaded.{IsLoadable}
@@ -76,3 +78,23 @@ words_fit t fits = words_below t.header.words t.words (parts_fit t fits).words
 -- the thread of what is spelled
 pub spelled_fits : (bytes : List ℕ) (t : Thread) → Spells (image_format no_slots) bytes (staged_image t) → (thread_format no_slots 7).fits t ≡ true
 spelled_fits bytes t spelled = thread_fits t spelled.fits
+
+abbrev rest_fits : ThreadHeader → Bool
+rest_fits h = (number w64 (between 1 (2 ^ 62))).fits h.budget && ((field anything).fits h.fault && ((field anything).fits h.entry && ((field anything).fits h.base && ((field (between 0 31)).fits h.registers && ((field (between 1 65536)).fits h.words && (field (between 0 h.words)).fits h.records)))))
+
+abbrev root_fits : ThreadHeader → Bool
+root_fits h = (field (below 7)).fits h.root && ((field (between 0 255)).fits h.priority && rest_fits h)
+
+pub priority_fits : (t : Thread) → (thread_format no_slots 7).fits t ≡ true → t.header.priority < 256
+unfolding thread_header_format
+priority_fits t fits =
+    let h = t.header in
+    let a = and_parts ((field (below 7)).fits h.tcb) ((field (below 7)).fits h.cnode && ((field anything).fits h.guard && root_fits h)) (parts_fit t fits).header in
+    let b = and_parts ((field (below 7)).fits h.cnode) ((field anything).fits h.guard && root_fits h) a.1 in
+    let c = and_parts ((field anything).fits h.guard) (root_fits h) b.1 in
+    let d = and_parts ((field (below 7)).fits h.root) ((field (between 0 255)).fits h.priority && rest_fits h) c.1 in
+    let e = and_parts ((field (between 0 255)).fits h.priority) (rest_fits h) d.1 in
+    let f = and_parts (ltb h.priority (2 ^ 32)) (leb 0 h.priority && leb h.priority 255) e.0 in
+    let g = and_parts (leb 0 h.priority) (leb h.priority 255) f.1 in
+    let most : h.priority ≤ 255 = leb-true h.priority 255 g.1 in
+    omega arith

@@ -126,10 +126,10 @@ jumped t m r target false = ap (λ (s : State). let d : steps.Done = (s, Faulted
 abbrev IsKnown : Machine → Instr → Type 0
 IsKnown m instr = instr ≡ Ecall → (read m.registers a7 ≡ 5) × (read m.registers a0 ≡ 1)
 
-abbrev is_known : Instr → Bool
+abbrev pub is_known : Instr → Bool
 is_known i = is_ecall i || is_ranged i
 
-not_known : {A : Type 0} → false ≡ true → A
+pub not_known : {A : Type 0} → false ≡ true → A
 not_known h = absurd cc
 
 executed : (t : Thread) (m : Machine) (instr : Instr) → is_known instr ≡ true → IsKnown m instr → steps.executes (kernel t (awake m)) tcb instr ≡ with_state t (executes (awake m) instr)
@@ -149,9 +149,9 @@ executed t m Fence known waits = not_known known
 executed t m Ecall known waits = let w = waits refl in called t m w.0 w.1
 executed t m Ebreak known waits = not_known known
 
-record IsDecoded (o : Option Instr) (instr : Instr) : Type 0 where
-  is : o ≡ Some instr
-  known : is_known instr ≡ true
+pub record IsDecoded (o : Option Instr) (instr : Instr) : Type 0 where
+  pub is : o ≡ Some instr
+  pub known : is_known instr ≡ true
 
 chosen : (i instr : Instr) (b : Bool) → is_known i ≡ b → (if b then Some i else None) ≡ Some instr → IsDecoded (Some i) instr
 chosen i instr true known h =
@@ -160,7 +160,7 @@ chosen i instr true known h =
     record { is = same; known = subst (λ (x : Instr). is_known x ≡ true) e known }
 chosen i instr false known h = absurd (let clash : ◌≡◌ {A = Option Instr} None (Some instr) = h in cc)
 
-decoded_of : (o : Option Instr) (instr : Instr) → known_of o ≡ Some instr → IsDecoded o instr
+pub decoded_of : (o : Option Instr) (instr : Instr) → known_of o ≡ Some instr → IsDecoded o instr
 decoded_of None instr h = absurd (let clash : ◌≡◌ {A = Option Instr} None (Some instr) = h in cc)
 decoded_of (Some i) instr h = chosen i instr (is_known i) refl h
 

@@ -5,6 +5,7 @@ pub mod FormContents
 pub mod FormSpaces
 pub mod FormStates
 pub mod HeldPrograms
+pub mod KeptContents
 pub mod KernelLines
 pub mod KernelStates
 pub mod KernelSteps

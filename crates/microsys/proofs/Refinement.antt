@@ -5,15 +5,18 @@ use Rattle.model.specs.declared.events.Event.{Event}
 use Rattle.model.specs.declared.events.Event.TheVariants as events
 use Rattle.model.specs.declared.labels.Label.{Label}
 use Rattle.model.specs.declared.labels.Label.TheVariants.{Raised, Ticked}
+use Rattle.model.specs.Described.{described}
 use Rattle.model.specs.Image.{Thread}
 use Rattle.model.specs.State.{State}
 use Rattle.model.specs.Steps.{after, step, trace}
 use Rattle.image.specs.Certificates.{IsOfForm, numbered_thread}
-use Rattle.microsys.specs.Machine.{Machine, machine_after, machine_step, machine_trace, state_of}
+use Rattle.image.specs.Stage.{staged_image}
+use Rattle.microsys.specs.Machine.{IsStarted, Machine, machine_after, machine_step, machine_trace, state_of}
 use Rattle.microsys.specs.NextSteps.{RunsNext}
 use Rattle.microsys.specs.Pages.{page_place}
 use Rattle.microsys.specs.declared.machine.Status.{Status}
 use Rattle.microsys.specs.declared.machine.Status.TheVariants.{Ready, Waiting, Stopped}
+use Rattle.microsys.proofs.StartedLaws.{started_is_described}
 use Rattle.microsys.proofs.KernelLines.{raises}
 use Rattle.microsys.proofs.KernelSteps.{idles, steps_on, ticks_on}
 
@@ -83,3 +86,16 @@ states_refine Holds kept t form lt m holds [] = refl
 states_refine Holds kept t form lt m holds (event ∷ events) =
     ap (λ (next : State × Label). state_from next events) (refines t m event form (kept.places m holds) (kept.next m holds) lt)
     ∙ states_refine Holds kept t form lt (machine_step m event).0 (kept.after m event holds) events
+
+-- ---- from boot on
+
+-- the trace of the state that the image describes is that of the machine just booted
+pub started_traces : (Holds : Machine → Type 0) → IsKept Holds → (t : Thread) → IsOfForm t → t.header.priority < 256 → (m : Machine) → IsStarted t m → Holds m → (events : List Event)
+    → trace (described (staged_image t)) events ≡ machine_trace m events
+started_traces Holds kept t form lt m started holds events =
+    ap (λ (s : State). trace s events) (sym (started_is_described t m form started)) ∙ traces_refine Holds kept t form lt m holds events
+
+pub started_states : (Holds : Machine → Type 0) → IsKept Holds → (t : Thread) → IsOfForm t → t.header.priority < 256 → (m : Machine) → IsStarted t m → Holds m → (events : List Event)
+    → after (described (staged_image t)) events ≡ state_of t (machine_after m events)
+started_states Holds kept t form lt m started holds events =
+    ap (λ (s : State). after s events) (sym (started_is_described t m form started)) ∙ states_refine Holds kept t form lt m holds events
