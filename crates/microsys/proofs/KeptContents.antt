@@ -1,5 +1,5 @@
 -- The events leave memory as it is, where the next instruction is one that this release knows.
-use Rattle.std.proofs.Common.{◌≡◌, ℕ, ◌-◌, ◌%◌, Bool, true, false, ◌||◌, ◌&&◌, eqb, leb, ltb, Option, Some, None, Result, Ok, refl, sym, ap, ◌∙◌}
+use Rattle.std.proofs.Common.{◌≡◌, ℕ, ◌-◌, ◌%◌, Bool, true, false, ◌||◌, Option, Result, refl, ap, ◌∙◌}
 use Rattle.std.specs.Prelude.{if◌then◌else◌, nat_le, nat_lt, not, ◌==◌}
 use Rattle.model.specs.declared.events.Event.{Event}
 use Rattle.model.specs.declared.events.Event.TheVariants as events
@@ -15,7 +15,7 @@ use Rattle.model.specs.State.{put}
 use Rattle.model.specs.declared.faults.FaultKind.TheVariants.{UnknownCall}
 use Rattle.model.specs.declared.labels.Label.TheVariants.{Idle}
 use Rattle.model.specs.declared.labels.Outcome.TheVariants.{Waited}
-use Rattle.microsys.specs.Machine.{Done, Machine, after_effect, calls, executes, is_ready, machine_step, raised, ran, receives, runs, runs_decoded, runs_fetched, signalled, stops, ticks}
+use Rattle.microsys.specs.Machine.{Done, Machine, after_effect, calls, executes, is_ready, machine_step, ran, receives, runs, runs_decoded, runs_fetched, signalled, stops}
 use Rattle.microsys.specs.NextSteps.{RunsNext}
 use Rattle.microsys.specs.declared.machine.Status.{Status}
 use Rattle.microsys.specs.declared.machine.Status.TheVariants.{Ready, Waiting, Stopped}

@@ -7,6 +7,7 @@ use Rattle.model.specs.declared.labels.Label.{Label}
 use Rattle.model.specs.declared.labels.Label.TheVariants.{Raised, Ticked}
 use Rattle.model.specs.Described.{described}
 use Rattle.model.specs.Image.{Thread}
+use Rattle.model.specs.Instructions.{Content}
 use Rattle.model.specs.State.{State}
 use Rattle.model.specs.Steps.{after, step, trace}
 use Rattle.image.specs.Certificates.{IsOfForm, numbered_thread}
@@ -17,6 +18,7 @@ use Rattle.microsys.specs.Pages.{page_place}
 use Rattle.microsys.specs.declared.machine.Status.{Status}
 use Rattle.microsys.specs.declared.machine.Status.TheVariants.{Ready, Waiting, Stopped}
 use Rattle.microsys.proofs.StartedLaws.{started_is_described}
+use Rattle.microsys.proofs.KeptContents.{keeps_content}
 use Rattle.microsys.proofs.KernelLines.{raises}
 use Rattle.microsys.proofs.KernelSteps.{idles, steps_on, ticks_on}
 
@@ -58,44 +60,49 @@ refines t m (events.Irq line) form places next lt = refines_line t m line form
 
 -- ---- traces
 
--- what holds of a machine holds of it after each event, and gives what a step asks for
-pub record IsKept (Holds : Machine → Type 0) : Type 1 where
+-- what holds of a machine holds after each event, and gives what a step asks for
+pub record IsInvariant (Holds : Machine → Type 0) : Type 1 where
   pub after : (m : Machine) (event : Event) → Holds m → Holds (machine_step m event).0
-  pub places : (m : Machine) → Holds m → m.content.place ≡ page_place
   pub next : (m : Machine) → Holds m → m.status ≡ Ready → RunsNext m
+
+places_kept : (m : Machine) (event : Event) → (m.status ≡ Ready → RunsNext m) → m.content.place ≡ page_place → (machine_step m event).0.content.place ≡ page_place
+places_kept m event next places = ap (λ (content : Content). content.place) (keeps_content m event next) ∙ places
 
 abbrev trace_from : State × Label → List Event → List Label
 trace_from next events = next.1 ∷ trace next.0 events
 
-pub traces_refine : (Holds : Machine → Type 0) → IsKept Holds → (t : Thread) → IsOfForm t → t.header.priority < 256 → (m : Machine) → Holds m → (events : List Event)
-    → trace (state_of t m) events ≡ machine_trace m events
+pub traces_refine : (Holds : Machine → Type 0) → IsInvariant Holds → (t : Thread) → IsOfForm t → t.header.priority < 256 → (m : Machine) → m.content.place ≡ page_place → Holds m
+    → (events : List Event) → trace (state_of t m) events ≡ machine_trace m events
 unfolding trace machine_trace
-traces_refine Holds kept t form lt m holds [] = refl
-traces_refine Holds kept t form lt m holds (event ∷ events) =
-    ap (λ (next : State × Label). trace_from next events) (refines t m event form (kept.places m holds) (kept.next m holds) lt)
-    ∙ ap (λ (labels : List Label). (machine_step m event).1 ∷ labels) (traces_refine Holds kept t form lt (machine_step m event).0 (kept.after m event holds) events)
+traces_refine Holds invariant t form lt m places holds [] = refl
+traces_refine Holds invariant t form lt m places holds (event ∷ events) =
+    let next = invariant.next m holds in
+    ap (λ (next : State × Label). trace_from next events) (refines t m event form places next lt)
+    ∙ ap (λ (labels : List Label). (machine_step m event).1 ∷ labels)
+    (traces_refine Holds invariant t form lt (machine_step m event).0 (places_kept m event next places) (invariant.after m event holds) events)
 
 abbrev state_from : State × Label → List Event → State
 state_from next events = after next.0 events
 
 -- the states behind the events are those that the machines stand for
-pub states_refine : (Holds : Machine → Type 0) → IsKept Holds → (t : Thread) → IsOfForm t → t.header.priority < 256 → (m : Machine) → Holds m → (events : List Event)
-    → after (state_of t m) events ≡ state_of t (machine_after m events)
+pub states_refine : (Holds : Machine → Type 0) → IsInvariant Holds → (t : Thread) → IsOfForm t → t.header.priority < 256 → (m : Machine) → m.content.place ≡ page_place → Holds m
+    → (events : List Event) → after (state_of t m) events ≡ state_of t (machine_after m events)
 unfolding after machine_after
-states_refine Holds kept t form lt m holds [] = refl
-states_refine Holds kept t form lt m holds (event ∷ events) =
-    ap (λ (next : State × Label). state_from next events) (refines t m event form (kept.places m holds) (kept.next m holds) lt)
-    ∙ states_refine Holds kept t form lt (machine_step m event).0 (kept.after m event holds) events
+states_refine Holds invariant t form lt m places holds [] = refl
+states_refine Holds invariant t form lt m places holds (event ∷ events) =
+    let next = invariant.next m holds in
+    ap (λ (next : State × Label). state_from next events) (refines t m event form places next lt)
+    ∙ states_refine Holds invariant t form lt (machine_step m event).0 (places_kept m event next places) (invariant.after m event holds) events
 
 -- ---- from boot on
 
 -- the trace of the state that the image describes is that of the machine just booted
-pub started_traces : (Holds : Machine → Type 0) → IsKept Holds → (t : Thread) → IsOfForm t → t.header.priority < 256 → (m : Machine) → IsStarted t m → Holds m → (events : List Event)
+pub started_traces : (Holds : Machine → Type 0) → IsInvariant Holds → (t : Thread) → IsOfForm t → t.header.priority < 256 → (m : Machine) → IsStarted t m → Holds m → (events : List Event)
     → trace (described (staged_image t)) events ≡ machine_trace m events
-started_traces Holds kept t form lt m started holds events =
-    ap (λ (s : State). trace s events) (sym (started_is_described t m form started)) ∙ traces_refine Holds kept t form lt m holds events
+started_traces Holds invariant t form lt m started holds events =
+    ap (λ (s : State). trace s events) (sym (started_is_described t m form started)) ∙ traces_refine Holds invariant t form lt m started.place holds events
 
-pub started_states : (Holds : Machine → Type 0) → IsKept Holds → (t : Thread) → IsOfForm t → t.header.priority < 256 → (m : Machine) → IsStarted t m → Holds m → (events : List Event)
+pub started_states : (Holds : Machine → Type 0) → IsInvariant Holds → (t : Thread) → IsOfForm t → t.header.priority < 256 → (m : Machine) → IsStarted t m → Holds m → (events : List Event)
     → after (described (staged_image t)) events ≡ state_of t (machine_after m events)
-started_states Holds kept t form lt m started holds events =
-    ap (λ (s : State). after s events) (sym (started_is_described t m form started)) ∙ states_refine Holds kept t form lt m holds events
+started_states Holds invariant t form lt m started holds events =
+    ap (λ (s : State). after s events) (sym (started_is_described t m form started)) ∙ states_refine Holds invariant t form lt m started.place holds events
