@@ -1,4 +1,6 @@
+pub mod Loaded
 pub mod Machine
+pub mod NextSteps
 pub mod Pages
 pub mod Running
 pub mod Runs

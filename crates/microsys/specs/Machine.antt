@@ -1,5 +1,5 @@
 -- The machine of the one form of image, in few parts: what events change of the state, and how.
-use Rattle.std.specs.Prelude.{ℕ, ◌≡◌, ◌==◌, ◌+◌, ◌-◌, ◌*◌, ◌<◌, Bool, true, false, not, ◌||◌, ◌&&◌, nat_le, nat_lt, bit_or, if◌then◌else◌, Option, Some, None, option_map, Result, Ok, Err, List, [], ◌∷◌, slice_index, slice_index_or}
+use Rattle.std.specs.Prelude.{ℕ, ◌≡◌, ◌==◌, ◌+◌, ◌-◌, ◌<◌, Bool, true, false, not, ◌||◌, ◌&&◌, nat_le, nat_lt, bit_or, if◌then◌else◌, Option, Some, None, option_map, Result, Ok, Err, List, [], ◌∷◌, slice_index, slice_index_or}
 use Rattle.model.specs.declared.events.Event.{Event}
 use Rattle.model.specs.declared.events.Event.TheVariants as events
 use Rattle.model.specs.declared.faults.FaultKind.{FaultKind}
@@ -145,6 +145,7 @@ machine_after m (event ∷ events) = machine_after (machine_step m event).0 even
 
 -- the thread runs with its registers, nothing was raised, and its pages hold what the image describes
 pub record IsStarted (t : Thread) (m : Machine) : Type 0 where
+  pub place : m.content.place ≡ page_place
   pub registers : m.registers ≡ (listed_thread t).registers
   pub status : m.status ≡ Ready
   pub slice : m.slice ≡ full_slice

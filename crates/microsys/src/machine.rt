@@ -1,7 +1,13 @@
 //! The machine of the one form of image: one thread, and one interrupt line that signals it.
 
-ghost use Rattle.std.specs.Prelude.{◌≡◌, ◌^◌, ◌*◌, ◌≤◌, length, IfOk};
-ghost use Rattle.microsys.specs.Machine.{machine_of, machine_step};
+ghost use Rattle.std.specs.Prelude.{◌≡◌, ◌≢◌, ◌^◌, ◌*◌, ◌≤◌, All, length, min, IfOk};
+ghost use Rattle.image.specs.Certificates.{IsOfForm};
+ghost use Rattle.image.specs.Stage.{staged_image};
+ghost use Rattle.model.specs.Described.{listed_thread};
+ghost use Rattle.model.specs.Image.{Thread};
+ghost use Rattle.model.specs.Instructions.{decoded};
+ghost use Rattle.microsys.specs.Loaded.{HoldsWords, IsLoadable};
+ghost use Rattle.microsys.specs.Machine.{IsStarted, calls, machine_of, machine_step, raised, ran, receives, runs_decoded, stops, ticks};
 
 use crate::pages::{CODE, Pages};
 use image::ThreadRef;
@@ -66,7 +72,9 @@ pub(crate) struct System {
 }
 
 /// The machine as the image describes it.
-pub(crate) fn boot(alloc: Global, accepted: &Accepted) -> Result<System, AllocError> {
+pub(crate) fn boot(alloc: Global, accepted: &Accepted) -> Result<System, AllocError>
+    ensures { IfOk result (λ s. (t : Thread) → accepted.now ≡ staged_image t → IsOfForm t → IsLoadable t → IsStarted t (machine_of s)) }
+{
     let thread = accepted.image().thread(0);
     let pages = Pages::new(program_memory(alloc, &thread)?);
     Ok(System {
@@ -82,7 +90,8 @@ pub(crate) fn boot(alloc: Global, accepted: &Accepted) -> Result<System, AllocEr
 
 /// Memory with the thread's program in its code frame.
 fn program_memory(alloc: Global, thread: &ThreadRef) -> Result<Mem, AllocError>
-    ensures { IfOk result (λ memory. length memory ≡ 2 ^ 16) }
+    ensures size { IfOk result (λ memory. length memory ≡ 2 ^ 16) }
+    ensures bytes { IfOk result (HoldsWords thread.now (min thread.now.header.words 1024)) }
 {
     let mut memory = Mem::new(alloc, 16)?;
     for index in 0..thread.header().words.min(PAGE_WORDS) {
@@ -92,7 +101,9 @@ fn program_memory(alloc: Global, thread: &ThreadRef) -> Result<Mem, AllocError>
 }
 
 /// The registers that the thread starts with, and its entry as the pc.
-fn first_registers(thread: &ThreadRef) -> Regs {
+fn first_registers(thread: &ThreadRef) -> Regs
+    ensures { All (λ r. r.register ≢ 0) thread.now.registers → result ≡ (listed_thread thread.now).registers }
+{
     let header = thread.header();
     let mut regs = Regs::new();
     regs.set_pc(header.base.wrapping_add(header.entry.wrapping_mul(4)));
@@ -106,6 +117,7 @@ fn first_registers(thread: &ThreadRef) -> Regs {
 
 impl System {
     /// One event, and what the trace says of it.
+    #[tactic(auto, unfolding(crate::specs::Machine::machine_step))]
     pub(crate) fn step(&mut self, event: Event) -> Label
         ensures { (machine_of self.new, result) ≡ machine_step (machine_of self.old) event }
     {
@@ -126,7 +138,10 @@ impl System {
     }
 
     /// Runs one instruction of the thread.
-    fn run_thread(&mut self) -> Label {
+    #[tactic(auto, unfolding(crate::specs::Machine::runs))]
+    fn run_thread(&mut self) -> Label
+        ensures { (machine_of self.new, result) ≡ ran (machine_of self.old) }
+    {
         let pc = self.regs.pc();
         let outcome = match self.pages.fetch(pc) {
             Ok(word) => self.run_word(word),
@@ -140,7 +155,9 @@ impl System {
     }
 
     /// Runs the instruction that a word spells.
-    fn run_word(&mut self, word: u32) -> Outcome {
+    fn run_word(&mut self, word: u32) -> Outcome
+        ensures { (machine_of self.new, result) ≡ runs_decoded (machine_of self.old) (decoded word) }
+    {
         let instr = match decode(word) {
             Some(instr) => instr,
             None => return self.stop(FaultKind::Instruction),
@@ -154,7 +171,9 @@ impl System {
     }
 
     /// A system call. An accepted image of the form only waits on its notification.
-    fn call(&mut self) -> Outcome {
+    fn call(&mut self) -> Outcome
+        ensures { (machine_of self.new, result) ≡ calls (machine_of self.old) }
+    {
         if self.regs.read(A7) != RECEIVE || self.regs.read(A0) != NOTIFICATION {
             return self.stop(FaultKind::UnknownCall);
         }
@@ -169,20 +188,26 @@ impl System {
     }
 
     /// Gives the thread a word of the notification, and passes its ECALL.
-    fn receive(&mut self, word: u32) {
+    fn receive(&mut self, word: u32)
+        ensures { machine_of self.new ≡ receives (machine_of self.old) word }
+    {
         let next = self.regs.pc().wrapping_add(4);
         self.regs.write(A0, word);
         self.regs.set_pc(next);
     }
 
     /// Stops the thread for a fault, which nobody handles.
-    fn stop(&mut self, kind: FaultKind) -> Outcome {
+    fn stop(&mut self, kind: FaultKind) -> Outcome
+        ensures { (machine_of self.new, result) ≡ stops (machine_of self.old) kind }
+    {
         self.status = Status::Stopped;
         Outcome::Faulted(kind)
     }
 
     /// Takes one from the thread's slice. The only thread of its list is the next one too.
-    fn tick(&mut self) {
+    fn tick(&mut self)
+        ensures { machine_of self.new ≡ ticks (machine_of self.old) }
+    {
         if self.status == Status::Ready {
             self.slice = if self.slice <= 1 {
                 SLICE
@@ -194,7 +219,9 @@ impl System {
 
     /// Raises an interrupt line. The bound line signals once until it is acknowledged, and lines above 63
     /// do nothing.
-    fn raise(&mut self, line: u8) {
+    fn raise(&mut self, line: u8)
+        ensures { machine_of self.new ≡ raised (machine_of self.old) line }
+    {
         if line as usize >= LINES {
             return;
         }

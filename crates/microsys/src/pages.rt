@@ -30,6 +30,7 @@ impl Pages {
     /// The pages of this memory.
     pub(crate) fn new(memory: Mem) -> Self
         requires { length memory ≡ 2 ^ 16 }
+        ensures { result.memory ≡ memory }
     {
         Pages { memory }
     }
