@@ -76,7 +76,7 @@ rising_records words (suc count) least (r ∷ rs) fits =
     let point = and_parts (leb least r.header.point) (ltb r.header.point words) (header_point words least r.header b.0) in
     (leb-true least r.header.point point.0, rising_records words count (r.header.point + 1) rs a.1)
 
-thread_rises : (t : Thread) → (thread_format no_slots 7).fits t ≡ true → Rise 0 t.records
+pub thread_rises : (t : Thread) → (thread_format no_slots 7).fits t ≡ true → Rise 0 t.records
 unfolding thread_format records_format
 thread_rises t fits =
     let h = t.header in

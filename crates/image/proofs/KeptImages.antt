@@ -7,7 +7,7 @@ use Rattle.model.specs.PointRules.{program_rules}
 use Rattle.image.specs.Certificates.{IsOfForm, IsPlain}
 use Rattle.image.specs.Programs.{IsKept}
 use Rattle.image.specs.Stage.{is_staged, no_slots, staged_image}
-use Rattle.image.proofs.BareRecords.{thread_bare}
+use Rattle.image.proofs.BareRecords.{thread_bare, thread_rises}
 use Rattle.image.proofs.StageLaws.{thread_fits}
 use Rattle.image.proofs.StagedRules.{numbers_of}
 use Rattle.image.proofs.StartValues.{fitting_values}
@@ -15,7 +15,7 @@ use Rattle.image.proofs.StartValues.{fitting_values}
 pub spelled_form : (bytes : List ℕ) (t : Thread) → is_staged t ≡ true → Spells (image_format no_slots) bytes (staged_image t) → IsOfForm t
 spelled_form bytes t staged spelled =
     let numbers = numbers_of t staged in
-    record { numbers = numbers.is; words = numbers.words; bare = thread_bare t (thread_fits t spelled.fits) staged }
+    record { numbers = numbers.is; words = numbers.words; bare = thread_bare t (thread_fits t spelled.fits) staged; rising = thread_rises t (thread_fits t spelled.fits) }
 
 pub spelled_kept : (bytes : List ℕ) (t : Thread) → is_staged t ≡ true → Spells (image_format no_slots) bytes (staged_image t) → t.header.entry < t.header.words
     → IsPlain t → AreKept (program_rules (staged_image t)) → IsKept t
