@@ -4,6 +4,7 @@ pub mod FormBytes
 pub mod FormContents
 pub mod FormSpaces
 pub mod FormStates
+pub mod Headline
 pub mod HeldPrograms
 pub mod KeptContents
 pub mod KeptRuns
@@ -19,3 +20,4 @@ pub mod SinkLemmas
 pub mod StartedLaws
 pub mod StepLemmas
 pub mod Stretches
+pub mod Traces

@@ -1,13 +1,16 @@
 //! A run: an image is verified and booted, and each event puts a line.
 
-ghost use Rattle.std.specs.Prelude.{◌≡◌, ◌≢◌, Err, IfErr};
+ghost use Rattle.std.specs.Prelude.{◌≡◌, ◌≢◌, Err, IfErr, OnErr, OnOk, if◌then◌else◌, is_ok};
 ghost use Rattle.image.specs.Stage.{staged_reading};
 ghost use Rattle.model.specs.declared.boot_faults.BootFault.{BootFault};
 ghost use Rattle.model.specs.declared.refusals.Refusal.{Refusal};
+ghost use Rattle.verify.specs.Refusing.{IsRefused};
 ghost use Rattle.microsys.specs.declared.running.RunFault.TheVariants.{Output, OutOfMemory};
-ghost use Rattle.microsys.specs.Running.{fault_of};
+ghost use Rattle.microsys.specs.Machine.{machine_of, machine_trace};
+ghost use Rattle.microsys.specs.Running.{Failed, PutsAll, PutsSome, ended, fault_of, lines_of};
+ghost use Rattle.microsys.specs.Sinks.{Grows, GrowsByBeginning, one_more};
 
-use crate::machine::boot;
+use crate::machine::{System, boot};
 use crate::sinks::{Sink, SinkFault, put_all};
 use arrayvec::ArrayVec;
 use model::{BootFault, Event, Label, Refusal};
@@ -69,16 +72,32 @@ pub fn run<S: Sink>(
     events: &[Event],
     sink: &mut S,
 ) -> Result<(), RunFault>
+    // The image is accepted, and the lines of the kernel's trace are put, in which nothing is a fault or an
+    // error and each thread keeps its budget.
+    ensures ok { OnOk result (PutsAll bytes.now events.now (S.contents sink.old) (S.contents sink.new)) }
+    // A refusal is the first breach, or that of a later stage, and nothing is put.
+    ensures refused { (refusal : Refusal) → result ≡ Err (RunFault.Refused refusal) → IsRefused bytes.now refusal × (sink.new ≡ sink.old) }
     // An image that cannot be read is refused for the first reason, and nothing is put.
     ensures unread { IfErr (staged_reading bytes.now) (λ refusal. (result ≡ Err (RunFault.Refused refusal)) × (sink.new ≡ sink.old)) }
-    // Where the image is refused, or memory, nothing is put.
-    ensures refused { (refusal : Refusal) → result ≡ Err (RunFault.Refused refusal) → sink.new ≡ sink.old }
+    // Where memory is refused, nothing is put.
     ensures memory { result ≡ Err RunFault.OutOfMemory → sink.new ≡ sink.old }
+    // Where the sink fails, its count of failures tells, and a beginning of those lines is put.
+    ensures output { result ≡ Err RunFault.Output → PutsSome bytes.now events.now (S.contents sink.old) (S.contents sink.new) × Failed (S.failures sink.old) (S.failures sink.new) }
     // Each image boots.
     ensures boots { (fault : BootFault) → result ≢ Err (RunFault.Boot fault) }
 {
     let accepted = verify(alloc, bytes)?;
     let mut system = boot(alloc, &accepted)?;
+    put_trace(&mut system, events, sink)?;
+    Ok(())
+}
+
+/// Puts the lines of all events.
+fn put_trace<S: Sink>(system: &mut System, events: &[Event], sink: &mut S) -> Result<(), SinkFault>
+    ensures ok { OnOk result (Grows (S.contents sink.old) (S.contents sink.new) (lines_of (machine_trace (machine_of system.old) events.now))) }
+    ensures err { OnErr result (GrowsByBeginning (S.contents sink.old) (S.contents sink.new) (lines_of (machine_trace (machine_of system.old) events.now))) }
+    ensures failed { OnErr result (Failed (S.failures sink.old) (S.failures sink.new)) }
+{
     for event in events {
         put_label(sink, system.step(*event))?;
     }
@@ -86,12 +105,23 @@ pub fn run<S: Sink>(
 }
 
 /// Puts the line of a label.
-fn put_label<S: Sink>(sink: &mut S, label: Label) -> Result<(), SinkFault> {
+fn put_label<S: Sink>(sink: &mut S, label: Label) -> Result<(), SinkFault>
+    ensures ok { OnOk result (Grows (S.contents sink.old) (S.contents sink.new) (ended label)) }
+    ensures err { OnErr result (GrowsByBeginning (S.contents sink.old) (S.contents sink.new) (ended label)) }
+    ensures counted { S.failures sink.new ≡ (if is_ok result then S.failures sink.old else one_more (S.failures sink.old)) }
+{
+    put_all(sink, ended_line(label).as_slice())
+}
+
+/// The line of a label with its line feed.
+fn ended_line(label: Label) -> ArrayVec<u8, 33>
+    ensures { result.items ≡ ended label }
+{
     let text = line(label);
-    let mut ended: ArrayVec<u8, 33> = ArrayVec::new();
+    let mut ended = ArrayVec::new();
     for byte in text.as_slice() {
-        let _fits = ended.try_push(*byte);
+        ended.push(*byte);
     }
-    let _fits = ended.try_push(b'\n');
-    put_all(sink, ended.as_slice())
+    ended.push(b'\n');
+    ended
 }

@@ -50,6 +50,8 @@ impl<'a> Accepted<'a> {
 pub fn verify(alloc: Global, bytes: &[u8]) -> Result<Accepted<'_>, Refusal>
     // The image that the bytes spell is accepted: no rule of acceptance is broken.
     ensures accepted { IfOk result (λ image. IsAccepted bytes.now image) }
+    // It is what reading gives.
+    ensures read { IfOk result (λ image. staged_reading bytes.now ≡ Ok image) }
     // It is of the one form, and its program makes no other call than the wait.
     ensures plain { IfOk result (λ image. IsPlainImage image) }
     // It is spelled in the form without slots in its records.
