@@ -80,7 +80,7 @@ stands_at_start bytes t m v started =
     let fits = spelled_fits bytes t v.spelled in
     started_stands t m (is_kept bytes t v) started (holds_program t m v.form (words_fit t fits) started)
 
-invariant : (t : Thread) → IsKept t → IsInvariant (Stands t)
+pub invariant : (t : Thread) → IsKept t → IsInvariant (Stands t)
 invariant t kept = record {
   after = λ m event stands. step_stands t m event kept stands;
   next = λ m stands ready.

@@ -1,17 +1,21 @@
 //! Laws of the machine on its definitions alone: a thread whose program keeps the rules never faults, and
 //! keeps its budget.
 
-ghost use Rattle.std.specs.Prelude.{◌≡◌, ℕ, All, List, Ok, Some, false};
+ghost use Rattle.std.specs.Prelude.{◌≡◌, ◌<◌, ℕ, All, List, Ok, Some, false};
 ghost use Rattle.model.specs.declared.events.Event.{Event};
 ghost use Rattle.model.specs.declared.instructions.Instr.{Instr};
 ghost use Rattle.model.specs.declared.instructions.Instr.TheVariants.{Ecall};
+ghost use Rattle.model.specs.Described.{described};
 ghost use Rattle.model.specs.Image.{Thread};
 ghost use Rattle.model.specs.Instructions.{decoded, read};
 ghost use Rattle.model.specs.Messages.{a0, a7};
+ghost use Rattle.model.specs.Steps.{step, trace};
 ghost use Rattle.model.specs.Waits.{KeepsBudget, is_error, is_fault};
-ghost use Rattle.image.specs.Certificates.{known_of};
+ghost use Rattle.image.specs.Certificates.{IsOfForm, known_of};
 ghost use Rattle.image.specs.Programs.{IsKept};
-ghost use Rattle.microsys.specs.Machine.{HoldsProgram, IsStarted, Machine, fetched, machine_after, machine_step, machine_trace, tcb};
+ghost use Rattle.image.specs.Stage.{staged_image};
+ghost use Rattle.microsys.specs.Machine.{HoldsProgram, IsStarted, Machine, fetched, machine_after, machine_step, machine_trace, state_of, tcb};
+ghost use Rattle.microsys.specs.Pages.{page_place};
 ghost use Rattle.microsys.specs.Runs.{Stands};
 ghost use Rattle.microsys.specs.declared.machine.Status.TheVariants.{Ready};
 
@@ -40,4 +44,14 @@ pub fn a_kept_thread_never_faults()
 pub fn a_kept_thread_keeps_its_budget()
     ensures started { (t : Thread) (m : Machine) (events : List Event) → IsKept t → IsStarted t m → HoldsProgram t m.content → KeepsBudget tcb t.header.budget (machine_trace m events) }
     ensures standing { (t : Thread) (m : Machine) (events : List Event) → IsKept t → Stands t m → KeepsBudget tcb t.header.budget (machine_trace m events) }
+{}
+
+/// The machine stands for a state of the kernel: the one that the image describes when it was booted, and after
+/// each event the one that the kernel reaches. So their labels are the same.
+pub fn the_machine_is_the_kernel()
+    ensures started { (t : Thread) (m : Machine) → IsOfForm t → IsStarted t m → state_of t m ≡ described (staged_image t) }
+    ensures step { (t : Thread) (m : Machine) (event : Event) → IsKept t → Stands t m → m.content.place ≡ page_place → t.header.priority < 256
+        → step (state_of t m) event ≡ (state_of t (machine_step m event).0, (machine_step m event).1) }
+    ensures trace { (t : Thread) (m : Machine) (events : List Event) → IsKept t → Stands t m → IsStarted t m → t.header.priority < 256
+        → trace (described (staged_image t)) events ≡ machine_trace m events }
 {}

@@ -1,5 +1,5 @@
 -- From the checks of a program to the verdict on the bytes.
-use Rattle.std.proofs.Common.{◌≡◌, ◌∙◌, ◌⊎◌, inl, inr, ℕ, ◌<◌, ◌≤◌, List, Some, None, Result, Ok, Err, sym, ap, subst}
+use Rattle.std.proofs.Common.{◌≡◌, ◌∙◌, ◌⊎◌, inl, inr, ℕ, ◌<◌, ◌≤◌, List, Option, Some, None, Result, Ok, Err, refl, sym, ap, subst}
 use Rattle.std.specs.Prelude.{IfErr, slice_get}
 use Rattle.std.proofs.lemmas.Bool.{cases_lt}
 use Rattle.model.specs.declared.refusals.Refusal.{Refusal}
@@ -10,7 +10,7 @@ use Rattle.model.specs.PointRules.{program_rules, rules_of_program}
 use Rattle.model.specs.Rules.{first_broken}
 use Rattle.image.specs.Certificates.{IsOfForm, IsPlain}
 use Rattle.image.specs.Stage.{later, staged_image, staged_reading}
-use Rattle.image.proofs.Acceptance.{none-broken}
+use Rattle.image.proofs.Acceptance.{accepted-no_breach, none-broken}
 use Rattle.image.proofs.BareRecords.{read_of_form}
 use Rattle.image.proofs.Followed.{refused_first}
 use Rattle.image.proofs.Laws.{IsBytes}
@@ -111,3 +111,18 @@ accepted bytes image t was past checks = elim (cases_lt t.header.entry t.header.
 
 pub plain_image : (bytes : List ℕ) (image : Image) (t : Thread) → WasRead bytes image t → IsPlain t → IsPlainImage image
 plain_image bytes image t was plain = record { thread = t; form = is_of bytes image t was; thread_form = form_of bytes image t was; plain = plain }
+
+-- ---- what the rules accept
+
+-- an accepted image of this release is refused for want of memory alone
+only_memory : (bytes : List ℕ) (image : Image) (refusal : Refusal) → IsAccepted bytes image → staged_reading bytes ≡ Ok image → IsPlainImage image → IsRefused bytes refusal
+    → refusal ≡ OutOfMemory
+only_memory bytes image refusal is_accepted read plain (IsRefused.breach other first) =
+    absurd (let clash : ◌≡◌ {A = Option Refusal} None (Some other) = sym (accepted-no_breach bytes image is_accepted) ∙ first in cc)
+only_memory bytes image refusal is_accepted read plain (IsRefused.stage at none) = absurd (none image read plain)
+only_memory bytes image refusal is_accepted read plain IsRefused.memory = refl
+
+pub told_complete : {A : Type 0} (bytes : List ℕ) (result : Result A Refusal) (refusal : Refusal) → result ≡ Err refusal → IsRefused bytes refusal
+    → (image : Image) → IsAccepted bytes image → staged_reading bytes ≡ Ok image → IsPlainImage image → IfErr result (λ r. r ≡ OutOfMemory)
+told_complete {A} bytes result refusal is why image is_accepted read plain =
+    subst (λ (r : Result A Refusal). IfErr r (λ r. r ≡ OutOfMemory)) (sym is) (only_memory bytes image refusal is_accepted read plain why)

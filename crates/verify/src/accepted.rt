@@ -3,7 +3,7 @@
 ghost use Rattle.std.specs.Prelude.{◌≡◌, ◌<◌, ◌≤◌, ◌⊎◌, Err, IfErr, IfOk, Ok, Some};
 ghost use Rattle.model.specs.Accepted.{IsAccepted, first_breach};
 ghost use Rattle.model.specs.Format.{Spells};
-ghost use Rattle.model.specs.Image.{Thread, image_format};
+ghost use Rattle.model.specs.Image.{Image, Thread, image_format};
 ghost use Rattle.model.specs.PointRules.{rules_of_program};
 ghost use Rattle.model.specs.declared.refusals.Refusal.TheVariants.{BadThread, OutOfMemory};
 ghost use Rattle.image.specs.Certificates.{IsOfForm, IsPlain};
@@ -58,6 +58,9 @@ pub fn verify(alloc: Global, bytes: &[u8]) -> Result<Accepted<'_>, Refusal>
     ensures staged { IfOk result (λ image. Spells (image_format no_slots) bytes.now image × IsStaged image) }
     // What is refused is refused for the first breach, if it is no later stage, and memory is not refused.
     ensures refused { IfErr result (IsRefused bytes.now) }
+    // What the rules accept is accepted, if it is of the one form with no other call than the wait, and memory
+    // is not refused.
+    ensures complete { (image : Image) → IsAccepted bytes.now image → staged_reading bytes.now ≡ Ok image → IsPlainImage image → IfErr result (λ refusal. refusal ≡ OutOfMemory) }
     // What cannot be read is refused for the first reason.
     ensures unread { IfErr (staged_reading bytes.now) (λ refusal. result ≡ Err refusal) }
     // A thread whose entry is no point of its program is refused, and that is the first breach.

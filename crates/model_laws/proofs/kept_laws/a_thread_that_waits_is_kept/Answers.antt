@@ -8,7 +8,7 @@ use Rattle.model.specs.declared.ranges.Range.{Range}
 use Rattle.model.specs.PointRules.{program_rules}
 use Rattle.model.specs.PointStates.{Noted, Known, Missing, Unmeasured, instruction_at, noted}
 use Rattle.model.specs.Rules.{first_broken}
-use Rattle.image.specs.Certificates.{IsBare, IsWait, OnlyWaits, known_of}
+use Rattle.image.specs.Certificates.{IsBare, IsWait, OnlyWaits, Rise, known_of}
 use Rattle.image.specs.Stage.{staged_image}
 use Rattle.image.proofs.Acceptance.{none-broken}
 use Rattle.model_laws.specs.Waiter.{waiter}
@@ -43,12 +43,16 @@ waits (suc zero) less state known ecall = absurd (let clash : ◌≡◌ {A = Opt
 waits (suc (suc zero)) less state known ecall = absurd (let clash : ◌≡◌ {A = Option Instr} _ (Some Ecall) = ecall in cc)
 waits (suc (suc (suc point))) less state known ecall = absurd (omega (arith, less))
 
+rising : Rise 0 waiter.records
+unfolding Rise
+rising = (omega arith, tt)
+
 abbrev HasWord : RegisterEntry → Type 0
 HasWord e = e.value < 2 ^ 32
 
 pub returns : goal.returns
 returns c = record {
-  form = record { numbers = refl; words = omega arith; bare = All-cons IsBare _ [] (refl, refl) (All-nil IsBare) };
+  form = record { numbers = refl; words = omega arith; bare = All-cons IsBare _ [] (refl, refl) (All-nil IsBare); rising = rising };
   plain = record { words = words; waits = waits };
   entry = omega arith;
   values = All-cons HasWord (record { register = 10; value = 1 }) (record { register = 17; value = 5 } ∷ []) (omega arith) (All-cons HasWord (record { register = 17; value = 5 }) [] (omega arith) (All-nil HasWord));

@@ -7,7 +7,7 @@ use Rattle.model.specs.declared.refusals.Refusal.TheVariants.{BadThread}
 use Rattle.image.specs.Stage.{staged_reading}
 use Rattle.image.proofs.StagedRules.{bad_entry_first, same_thread}
 use Rattle.verify.specs.Refusing.{IsRefused}
-use Rattle.verify.proofs.Verdicts.{WasRead, accepted, form_of, plain_image, refused, told_refused, unread}
+use Rattle.verify.proofs.Verdicts.{WasRead, accepted, form_of, plain_image, refused, told_complete, told_refused, unread}
 use Rattle.verify.proofs.accepted.verify.Goals as goal
 
 pub returns-in_err-image-clause-refused : goal.returns-in_err-image-clause-refused
@@ -55,3 +55,20 @@ returns-clause-plain c =
     let bytes = c.args.bytes.now in
     let was : WasRead bytes c.in_ok-image.image c.thread.result = record { read = sym c.read.ensures.exact ∙ c.in_ok-image.was; fits = λ i. omega (arith, c.type_inv.bytes i); first = c.thread.ensures } in
     plain_image bytes c.in_ok-image.image c.thread.result was c.in_ok-check_thread.ensures.plain
+
+pub returns-in_err-image-clause-complete : goal.returns-in_err-image-clause-complete
+returns-in_err-image-clause-complete c = λ image accepted read plain.
+    let bytes = c.args.bytes.now in
+    let unreadable : staged_reading bytes ≡ Err c.in_err-image.field-0.0 = sym c.read.ensures.exact ∙ c.in_err-image.was in
+    let p = err_from_is_err_and c.from_residual.result c.from_residual.ensures.1 in
+    let told : c.from_residual.result ≡ Err c.in_err-image.field-0.0 = p.1 ∙ ap (λ (r : Refusal). Err r) p.2 in
+    told_complete bytes c.from_residual.result c.in_err-image.field-0.0 told (unread bytes c.in_err-image.field-0.0 unreadable) image accepted read plain
+
+pub returns-in_err-check_thread-clause-complete : goal.returns-in_err-check_thread-clause-complete
+returns-in_err-check_thread-clause-complete c = λ image accepted read plain.
+    let bytes = c.args.bytes.now in
+    let was : WasRead bytes c.in_ok-image.image c.thread.result = record { read = sym c.read.ensures.exact ∙ c.in_ok-image.was; fits = λ i. omega (arith, c.type_inv.bytes i); first = c.thread.ensures } in
+    let p = err_from_is_err_and c.from_residual-in_err-check_thread.result c.from_residual-in_err-check_thread.ensures.1 in
+    let told = p.1 ∙ ap (λ (r : Refusal). Err r) p.2 in
+    let why : IsRefused bytes c.in_err-check_thread.field-0.0 = refused bytes c.in_ok-image.image c.thread.result c.in_err-check_thread.field-0.0 was c.in_err-check_thread.ensures.entry c.in_err-check_thread.ensures.checks in
+    told_complete bytes c.from_residual-in_err-check_thread.result c.in_err-check_thread.field-0.0 told why image accepted read plain
