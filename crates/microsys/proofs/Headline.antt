@@ -1,12 +1,12 @@
 -- The promise of a run: what is verified and booted runs as the kernel does from the described state, safely.
-use Rattle.std.proofs.Common.{◌≡◌, ◌∙◌, ◌⊎◌, inl, inr, ℕ, zero, suc, ◌<◌, ◌^◌, List, [], ◌∷◌, Option, Some, None, Result, Ok, Err, refl, sym, ap, subst, arith, false}
+use Rattle.std.proofs.Common.{◌≡◌, ◌∙◌, inl, inr, ℕ, zero, suc, ◌<◌, List, Option, Some, None, Ok, refl, sym, ap, subst, arith, false}
 use Rattle.std.specs.Prelude.{All, Contains}
 use Rattle.std.proofs.lemmas.Bool.{cases_lt}
 use Rattle.model.specs.declared.events.Event.{Event}
 use Rattle.model.specs.declared.labels.Label.{Label}
 use Rattle.model.specs.declared.refusals.Refusal.{Refusal}
 use Rattle.model.specs.declared.refusals.Refusal.TheVariants.{BadThread}
-use Rattle.model.specs.Accepted.{IsAccepted, first_breach}
+use Rattle.model.specs.Accepted.{IsAccepted}
 use Rattle.model.specs.Described.{described}
 use Rattle.model.specs.Format.{Spells}
 use Rattle.model.specs.Image.{Image, Thread, image_format}
@@ -15,17 +15,15 @@ use Rattle.model.specs.Steps.{trace}
 use Rattle.model.specs.Waits.{KeepsBudget, is_error, is_fault}
 use Rattle.image.specs.Certificates.{IsOfForm, IsPlain, numbered_thread}
 use Rattle.image.specs.Programs.{IsKept}
-use Rattle.image.specs.Stage.{is_staged, no_slots, staged_image, staged_reading}
+use Rattle.image.specs.Stage.{no_slots, staged_image, staged_reading}
 use Rattle.image.proofs.Acceptance.{accepted-no_breach}
 use Rattle.image.proofs.KeptImages.{spelled_kept}
 use Rattle.image.proofs.StagedRules.{bad_entry_first, read_thread}
 use Rattle.verify.specs.Refusing.{IsPlainImage}
 use Rattle.microsys.specs.Loaded.{IsLoadable}
-use Rattle.microsys.specs.Machine.{HoldsProgram, IsStarted, Machine, fetched, machine_step, machine_trace, tcb}
-use Rattle.microsys.specs.NextSteps.{RunsNext}
+use Rattle.microsys.specs.Machine.{IsStarted, Machine, machine_trace, tcb}
 use Rattle.microsys.specs.Running.{IsSafeRun, trace_of}
 use Rattle.microsys.specs.Runs.{Stands}
-use Rattle.microsys.specs.declared.machine.Status.TheVariants.{Ready}
 use Rattle.microsys.proofs.Fitting.{loadable, priority_fits, spelled_fits, words_fit}
 use Rattle.microsys.proofs.HeldPrograms.{holds_program}
 use Rattle.microsys.proofs.KeptRuns.{next_is_known, started_stands, step_stands}

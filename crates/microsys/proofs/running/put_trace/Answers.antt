@@ -1,6 +1,6 @@
 -- By the laws on lines that are put one after another.
-use Rattle.std.proofs.Common.{◌≡◌, ◌∙◌, ◌<◌, ℕ, length, refl, sym, ap, subst, arith, if◌then◌else◌, true, false}
-use Rattle.std.specs.Prelude.{is_ok, slice_index_or}
+use Rattle.std.proofs.Common.{◌∙◌, refl, ap}
+use Rattle.std.specs.Prelude.{slice_index_or}
 use Rattle.model.specs.declared.events.Event.{Event}
 use Rattle.model.specs.declared.events.Event.TheVariants.{Step}
 use Rattle.microsys.specs.Machine.{machine_of, machine_trace}

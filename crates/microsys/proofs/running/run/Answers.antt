@@ -1,5 +1,5 @@
 -- By the promise of what is verified and booted.
-use Rattle.std.proofs.Common.{◌≡◌, ◌∙◌, List, refl, sym, ap, subst}
+use Rattle.std.proofs.Common.{◌≡◌, List, sym, subst}
 use Rattle.std.proofs.lemmas.Result.{err_from_is_err_and}
 use Rattle.model.specs.declared.labels.Label.{Label}
 use Rattle.microsys.specs.Machine.{IsStarted, machine_of, machine_trace}
