@@ -81,7 +81,7 @@ no-frame (RootTable _) = refl
 no-frame InterruptControl = refl
 no-frame (InterruptHandler _) = refl
 
-no-table : (c : Cap) → table_mapping (unmapped c) ≡ None
+pub no-table : (c : Cap) → table_mapping (unmapped c) ≡ None
 no-table (Frame _ _ _) = refl
 no-table (PageTable _ _) = refl
 no-table Empty = refl
@@ -104,11 +104,33 @@ not_frame now old f r m is held =
     let clash : None ≡ Some m = sym (no-frame (capability_of old)) ∙ ap frame_mapping e in
     cc
 
-not_table : (now old : Option Entry) (t : ℕ) (m : TableMapping) → now ≡ option_map unmapped_entry old → capability_of now ≡ PageTable t (Some m) → ⊥
+pub not_table : (now old : Option Entry) (t : ℕ) (m : TableMapping) → now ≡ option_map unmapped_entry old → capability_of now ≡ PageTable t (Some m) → ⊥
 not_table now old t m is held =
     let e : unmapped (capability_of old) ≡ PageTable t (Some m) = sym (entry-unmapped old) ∙ sym (ap capability_of is) ∙ held in
     let clash : None ≡ Some m = sym (no-table (capability_of old)) ∙ ap table_mapping e in
     cc
+
+unmapped-empty : (c : Cap) → is_empty (unmapped c) ≡ is_empty c
+unmapped-empty (Frame _ _ _) = refl
+unmapped-empty (PageTable _ _) = refl
+unmapped-empty Empty = refl
+unmapped-empty (Untyped _ _ _) = refl
+unmapped-empty (Endpoint _ _ _) = refl
+unmapped-empty (Notification _ _ _) = refl
+unmapped-empty (CNode _ _ _) = refl
+unmapped-empty (Tcb _) = refl
+unmapped-empty (RootTable _) = refl
+unmapped-empty InterruptControl = refl
+unmapped-empty (InterruptHandler _) = refl
+
+-- no slot is filled
+pub full-before : (old now : Slots) (offset number : ℕ) → EndedBelow old now offset number → (y : ℕ) → IsFull now y → IsFull old y
+full-before old now offset number ended y full = elim (ended y) [
+  | inl lost ↦
+      let held : capability_at now y ≡ unmapped (capability_at old y) = ap capability_of lost.1 ∙ entry-unmapped (old y) in
+      ap not (sym (unmapped-empty (capability_at old y))) ∙ ap (λ (c : Cap). not (is_empty c)) (sym held) ∙ full
+  | inr kept ↦ ap (λ (c : Cap). not (is_empty c)) (sym (ap capability_of kept.1)) ∙ full
+]
 
 -- a page table's capability without its mapping
 table-entry : (held : Option Entry) (t : ℕ) (o : Option TableMapping) → capability_of held ≡ PageTable t o → option_map unmapped_entry held ≡ Some (record { capability = PageTable t None; parent = parent_of held })

@@ -14,3 +14,4 @@ pub mod TableRemovals
 pub mod Sweeps
 pub mod TableUnmaps
 pub mod EndedTables
+pub mod BytesBeside

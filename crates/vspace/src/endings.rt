@@ -3,6 +3,7 @@
 ghost use Rattle.std.specs.Prelude.{ℕ, ◌≡◌, ◌+◌, ◌*◌, ◌≤◌, length};
 ghost use Rattle.model.specs.Slots.{IsFull};
 ghost use Rattle.vspace.specs.Endings.{Ended, NoneUnder, ended_at, is_ending};
+ghost use Rattle.vspace.specs.TableAnswers.{KeptBesideTables};
 ghost use Rattle.vspace.specs.Tables.{TablesAgree};
 
 use crate::page_tables::{PageTableCap, unmap_table};
@@ -29,6 +30,7 @@ fn end_table<S: SlotStore>(store: &mut S, slot: Slot, offset: u32)
         → 16 * slot + 16 ≤ length (S.memory store.old) }
     ensures slots { (y : ℕ) → S.slots store.new y ≡ ended_at (S.slots store.old) slot offset y }
     ensures size { length (S.memory store.new) ≡ length (S.memory store.old) }
+    ensures bytes { KeptBesideTables (S.slots store.old) (S.memory store.old) (S.memory store.new) }
     ensures agree { TablesAgree (S.slots store.new) (S.memory store.new) }
 {
     if !store.is_open(slot) {
@@ -63,6 +65,7 @@ pub fn end_tables<S: SlotStore>(store: &mut S, offset: u32)
     ensures slots { (y : ℕ) → Ended (S.slots store.old) offset y (S.slots store.new y) }
     ensures gone { NoneUnder (S.slots store.new) offset }
     ensures size { length (S.memory store.new) ≡ length (S.memory store.old) }
+    ensures bytes { KeptBesideTables (S.slots store.old) (S.memory store.old) (S.memory store.new) }
     ensures agree { TablesAgree (S.slots store.new) (S.memory store.new) }
 {
     let count = store.mem().len() / 16;
