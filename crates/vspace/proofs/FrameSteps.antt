@@ -63,7 +63,7 @@ table_stays slots x f r o c root region table was maps = record {
   held = held-after slots x _ c maps.slot _ was maps.held (λ e. cc);
 }
 
-region_small : (slots : Slots) (memory : List ℕ) → TablesAgree slots memory → (y t : ℕ) (n : TableMapping) → capability_at slots y ≡ PageTable t (Some n) → n.region < 2 ^ 10
+pub region_small : (slots : Slots) (memory : List ℕ) → TablesAgree slots memory → (y t : ℕ) (n : TableMapping) → capability_at slots y ≡ PageTable t (Some n) → n.region < 2 ^ 10
 region_small slots memory agree y t n held =
     let fine : IsCapability (PageTable t (Some n)) = subst (λ (c : Cap). IsCapability c) held (agree.valid y) in
     omega (arith, fine.1.1)

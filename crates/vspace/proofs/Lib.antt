@@ -13,3 +13,5 @@ pub mod TableOutcomes
 pub mod TableRemovals
 pub mod Sweeps
 pub mod TableUnmaps
+pub mod EndedTables
+pub mod BytesBeside

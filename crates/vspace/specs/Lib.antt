@@ -2,3 +2,4 @@ pub mod Answers
 pub mod Tables
 pub mod TableAnswers
 pub mod Regions
+pub mod Endings

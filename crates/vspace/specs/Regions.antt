@@ -2,15 +2,22 @@
 use Rattle.std.specs.Prelude.{ℕ, ◌==◌, if◌then◌else◌, Option}
 use Rattle.model.specs.Invocations.{Call, unmap_frame, unmap_table, without_region}
 use Rattle.model.specs.State.{State}
+use Rattle.std.specs.Option.{option_map_or}
 use Rattle.model.specs.declared.capabilities.Cap.{Cap}
 use Rattle.model.specs.declared.capabilities.Cap.TheVariants.{Frame, PageTable}
-use Rattle.model.specs.Slots.{Slots}
+use Rattle.model.specs.Capabilities.{table_mapping, unmapped}
+use Rattle.model.specs.Slots.{Slots, recapped}
 use Rattle.model.specs.declared.capabilities.TableMapping.{TableMapping}
 use Rattle.model.specs.declared.slot_entries.Entry.{Entry}
 
 -- one slot without its mapping in a region
 abbrev pub cleared_at : Slots → ℕ → TableMapping → ℕ → Option Entry
 cleared_at slots slot region y = if y == slot then without_region slots region y else slots y
+
+-- one slot once the page table that a capability in some slot maps has been unmapped
+abbrev pub unmapped_at : Slots → ℕ → Cap → ℕ → Option Entry
+unmapped_at slots slot capability y =
+    option_map_or (λ mapping. without_region (recapped slots slot (unmapped capability)) mapping y) (table_mapping capability) (slots y)
 
 -- the state without the mapping that a capability holds
 abbrev pub without_mapping : State → Call → Cap → State

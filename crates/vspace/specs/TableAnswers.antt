@@ -57,3 +57,14 @@ KeptBesideRoots slots old new =
     (place : ℕ) → slots (place / 16) ≡ None
     → ((root : ℕ) → Holds slots (RootTable root) → (place < root) ⊎ (root + page_size ≤ place))
     → slice_index new place ≡ slice_index old place
+
+-- a byte stands before or behind a table
+abbrev pub IsBeside : ℕ → ℕ → Type 0
+IsBeside place table = (place < table) ⊎ (table + page_size ≤ place)
+
+-- the bytes that stand in no slot, in no page table that is mapped and in no root table of one are the same
+abbrev pub KeptBesideTables : Slots → List ℕ → List ℕ → Type 0
+KeptBesideTables slots old new =
+    (place : ℕ) → slots (place / 16) ≡ None
+    → ((root region table : ℕ) → MapsTable slots root region table → IsBeside place root × IsBeside place table)
+    → slice_index new place ≡ slice_index old place

@@ -3,6 +3,7 @@
 #![tactic(auto)]
 
 mod arguments;
+mod endings;
 mod frames;
 mod page_tables;
 mod regions;
@@ -11,6 +12,7 @@ mod spaces;
 mod tables;
 
 pub use arguments::SlotName;
+pub use endings::end_tables;
 pub use frames::{FrameCap, map_frame, unmap_frame};
 pub use page_tables::{PageTableCap, map_table, unmap_table};
 pub use removals::unmap_cap;

@@ -7,7 +7,8 @@ ghost use Rattle.model.specs.Lookup.{CNodeIsOpen, CNodesAreOpen};
 ghost use Rattle.model.specs.Slots.{IsFull, capability_at};
 ghost use Rattle.model.specs.State.{State};
 ghost use Rattle.model.specs.Sv32.{table_word};
-ghost use Rattle.vspace.specs.TableAnswers.{GivesTableMapped, KeptBesideRoots, RegionAnswer, TableMappingAnswer, region_named};
+ghost use Rattle.vspace.specs.Regions.{unmapped_at};
+ghost use Rattle.vspace.specs.TableAnswers.{GivesTableMapped, KeptBesideRoots, KeptBesideTables, RegionAnswer, TableMappingAnswer, region_named};
 ghost use Rattle.vspace.specs.Tables.{Holds, TablesAgree};
 
 use crate::arguments::{SlotName, root_named};
@@ -138,6 +139,10 @@ pub fn unmap_table<S: SlotStore>(store: &mut S, table: PageTableCap)
     ensures outcome { (s : State) (call : Call) → call.slot ≡ table.slot
         → call.capability ≡ Cap.PageTable table.offset table.mapping
         → unmap_table (with_slots s (S.slots store.old)) call ≡ with_slots s (S.slots store.new) }
+    ensures slots { (y : ℕ) → S.slots store.new y
+        ≡ unmapped_at (S.slots store.old) table.slot (Cap.PageTable table.offset table.mapping) y }
+    ensures size { length (S.memory store.new) ≡ length (S.memory store.old) }
+    ensures bytes { KeptBesideTables (S.slots store.old) (S.memory store.old) (S.memory store.new) }
     ensures agree { TablesAgree (S.slots store.new) (S.memory store.new) }
 {
     let slot = table.slot;

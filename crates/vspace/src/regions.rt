@@ -3,6 +3,7 @@
 ghost use Rattle.std.specs.Prelude.{ℕ, ◌≡◌, ◌≢◌, ◌+◌, ◌*◌, ◌≤◌, length};
 ghost use Rattle.model.specs.Invocations.{stands_in, without_region};
 ghost use Rattle.model.specs.Slots.{IsFull};
+ghost use Rattle.vspace.specs.Answers.{KeptBytes};
 ghost use Rattle.vspace.specs.Regions.{cleared_at};
 ghost use Rattle.vspace.specs.Tables.{TablesAgree};
 
@@ -28,6 +29,7 @@ fn clear_frame<S: SlotStore>(store: &mut S, slot: Slot, region: TableMapping)
     requires { TablesAgree (S.slots store.old) (S.memory store.old) }
     ensures slots { (y : ℕ) → S.slots store.new y ≡ cleared_at (S.slots store.old) slot region y }
     ensures size { length (S.memory store.new) ≡ length (S.memory store.old) }
+    ensures bytes { KeptBytes (S.slots store.old) (S.memory store.old) (S.memory store.new) }
     ensures agree { TablesAgree (S.slots store.new) (S.memory store.new) }
 {
     if !store.is_open(slot) {
@@ -61,6 +63,7 @@ pub(crate) fn clear_region<S: SlotStore>(store: &mut S, region: TableMapping)
         → 16 * slot + 16 ≤ length (S.memory store.old) }
     ensures slots { (y : ℕ) → S.slots store.new y ≡ without_region (S.slots store.old) region y }
     ensures size { length (S.memory store.new) ≡ length (S.memory store.old) }
+    ensures bytes { KeptBytes (S.slots store.old) (S.memory store.old) (S.memory store.new) }
     ensures agree { TablesAgree (S.slots store.new) (S.memory store.new) }
 {
     let count = store.mem().len() / 16;

@@ -1,7 +1,9 @@
 -- The region has no frames any more, the pointer is zero, and the capability says that it is not mapped.
-use Rattle.std.proofs.Common.{◌∙◌, Option, Some, ap}
+use Rattle.std.proofs.Common.{◌∙◌, Option, None, Some, ap}
 use Rattle.model.specs.declared.capabilities.Cap.TheVariants.{PageTable}
 use Rattle.model.specs.declared.capabilities.TableMapping.{TableMapping}
+use Rattle.vspace.proofs.BytesBeside.{beside-kept, beside-then, fewer-region, pointer-kept}
+use Rattle.vspace.proofs.FrameSteps.{region_small}
 use Rattle.vspace.proofs.TableUnmaps.{table-held, unmap_table-done}
 use Rattle.vspace.proofs.page_tables.unmap_table.Goals as goal
 
@@ -18,3 +20,19 @@ returns-clause-agree g c =
       changed = c.set_cap.ensures.slots;
       same = c.set_cap.ensures.bytes;
     })
+
+pub returns-clause-bytes : goal.returns-clause-bytes
+returns-clause-bytes g c =
+    let m = c.in-Some.mapping in
+    let old = g.S.SlotMap.slots c.args.store.now in
+    let now = g.S.SlotMap.slots c.clear_region.new.store in
+    let memory = g.S.SlotStore.memory c.clear_region.new.store in
+    let was = c.requires.held ∙ ap (λ (o : Option TableMapping). PageTable c.args.table.offset o) c.in-Some.is in
+    let held = table-held old now m c.args.table.slot c.args.table.offset (Some m) c.clear_region.ensures.slots was in
+    let agree = c.clear_region.ensures.agree in
+    beside-then old now (g.S.SlotStore.memory c.args.store.now) memory (g.S.SlotStore.memory c.set_cap.new.self) (fewer-region old now m c.clear_region.ensures.slots) (beside-kept old (g.S.SlotStore.memory c.args.store.now) memory c.clear_region.ensures.bytes) (pointer-kept now (g.S.SlotMap.slots c.write32.new.self) (g.S.SlotMap.slots c.set_cap.new.self) memory (g.S.SlotStore.memory c.write32.new.self) (g.S.SlotStore.memory c.set_cap.new.self) c.args.table.slot c.args.table.offset m (PageTable c.args.table.offset None) (record {
+      kept = c.write32.ensures.slots;
+      wrote = c.write32.ensures.bytes;
+      changed = c.set_cap.ensures.slots;
+      same = c.set_cap.ensures.bytes;
+    }) held (agree.mapped_roots c.args.table.slot c.args.table.offset m held) (region_small now memory agree c.args.table.slot c.args.table.offset m held))
