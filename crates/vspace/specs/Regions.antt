@@ -1,5 +1,5 @@
 -- What unmapping the frames of a region leaves in the slots.
-use Rattle.std.specs.Prelude.{ℕ, ◌==◌, if◌then◌else◌, Option}
+use Rattle.std.specs.Prelude.{ℕ, ◌==◌, if◌then◌else◌, Option, None}
 use Rattle.model.specs.Invocations.{Call, unmap_frame, unmap_table, without_region}
 use Rattle.model.specs.State.{State}
 use Rattle.std.specs.Option.{option_map_or}
@@ -24,3 +24,9 @@ abbrev pub without_mapping : State → Call → Cap → State
 without_mapping s call (Frame f r o) = unmap_frame s call
 without_mapping s call (PageTable t o) = unmap_table s call
 without_mapping s call _ = s
+
+-- one slot without the mapping that the capability in some slot holds
+abbrev pub without_mapping_at : Slots → ℕ → Cap → ℕ → Option Entry
+without_mapping_at slots slot (Frame f r o) y = recapped slots slot (Frame f r None) y
+without_mapping_at slots slot (PageTable t o) y = unmapped_at slots slot (PageTable t o) y
+without_mapping_at slots slot _ y = slots y

@@ -4,7 +4,7 @@ ghost use Rattle.std.specs.Prelude.{ℕ, ◌≡◌, ◌+◌, ◌*◌, ◌≤◌,
 ghost use Rattle.model.specs.Invocations.{Call, with_slots};
 ghost use Rattle.model.specs.Slots.{IsFull, IsOpen, capability_at};
 ghost use Rattle.model.specs.State.{State};
-ghost use Rattle.vspace.specs.Regions.{without_mapping};
+ghost use Rattle.vspace.specs.Regions.{without_mapping, without_mapping_at};
 ghost use Rattle.vspace.specs.TableAnswers.{KeptBesideTables};
 ghost use Rattle.vspace.specs.Tables.{TablesAgree};
 
@@ -24,6 +24,8 @@ pub fn unmap_cap<S: SlotStore>(store: &mut S, slot: Slot)
         → call.capability ≡ capability_at (S.slots store.old) slot
         → without_mapping (with_slots s (S.slots store.old)) call call.capability
         ≡ with_slots s (S.slots store.new) }
+    ensures slots { (y : ℕ) → S.slots store.new y ≡ without_mapping_at (S.slots store.old) slot
+        (capability_at (S.slots store.old) slot) y }
     ensures size { length (S.memory store.new) ≡ length (S.memory store.old) }
     ensures bytes { KeptBesideTables (S.slots store.old) (S.memory store.old) (S.memory store.new) }
     ensures agree { TablesAgree (S.slots store.new) (S.memory store.new) }
