@@ -1,6 +1,5 @@
 //! Rows of the calls on mappings. `machine.rt` has the capabilities and tables that they start from.
 
-ghost use Rattle.std.specs.Prelude.{◌≡◌};
 ghost use Rattle.slots.specs.Table.{table_slots};
 ghost use Rattle.vspace.specs.Tables.{TablesAgree};
 

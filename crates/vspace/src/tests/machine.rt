@@ -1,7 +1,7 @@
 //! Calls in a memory of 2^17 bytes. A CNode of 16 slots at 0x4000 holds itself in slot 0, the root table at
 //! 0x9000 in slot 1, a page table at 0xA000 in slot 2, and frames at 0x11000 and 0x12000 in slots 3 and 4.
 
-ghost use Rattle.std.specs.Prelude.{◌≡◌, ◌≢◌, ◌<◌, ◌^◌, IfOk, IsTrue};
+ghost use Rattle.std.specs.Prelude.{◌≡◌, ◌≢◌, IfOk, IsTrue};
 ghost use Rattle.model.specs.CapabilityWords.{IsCapability};
 ghost use Rattle.model.specs.Lookup.{CNodeIsOpen, CNodesAreOpen};
 ghost use Rattle.model.specs.Slots.{capability_at};
