@@ -1,6 +1,7 @@
 //! Slots in a table of their own, beside the bytes of the machine.
 
-ghost use Rattle.std.specs.Prelude.{ℕ, ◌≡◌, ◌^◌, ◌≤◌, None, IfOk, length, replicate};
+ghost use Rattle.std.specs.Prelude.{ℕ, ◌≡◌, ◌+◌, ◌*◌, ◌^◌, ◌≤◌, None, IfOk, length, replicate};
+ghost use Rattle.model.specs.Slots.{IsFull};
 ghost use Rattle.slots.specs.Table.{full_from, table_slots};
 
 use crate::{SlotMap, SlotStore, table};
@@ -42,6 +43,14 @@ impl PlainSlots {
         let count = memory.len() / 16;
         let records = table::closed_records(alloc, count)?;
         Ok(PlainSlots { memory, records })
+    }
+
+    /// How many slots there are: one for each 16 bytes of memory. None behind them is full.
+    pub fn count(&self) -> u32
+        ensures value { 16 * result ≡ length self.now.0 }
+        ensures near { (s : ℕ) → IsFull (table_slots self.now.1) s → 16 * s + 16 ≤ length self.now.0 }
+    {
+        self.records.len() as u32
     }
 }
 

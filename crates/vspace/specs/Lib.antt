@@ -3,3 +3,4 @@ pub mod Tables
 pub mod TableAnswers
 pub mod Regions
 pub mod Endings
+pub mod Fresh

@@ -6,14 +6,18 @@ mod arguments;
 mod endings;
 mod frames;
 mod page_tables;
+mod probes;
 mod regions;
 mod removals;
 mod spaces;
 mod tables;
+#[cfg(test)]
+mod tests;
 
 pub use arguments::SlotName;
 pub use endings::end_tables;
 pub use frames::{FrameCap, map_frame, unmap_frame};
 pub use page_tables::{PageTableCap, map_table, unmap_table};
+pub use probes::{cnode_is_open, cnodes_are_open, is_fresh};
 pub use removals::unmap_cap;
 pub use spaces::place_under;

@@ -1,0 +1,7 @@
+-- The slots so far are open.
+use Rattle.std.proofs.Common.{ℕ, ◌+◌, ◌<◌}
+use Rattle.model.specs.Slots.{IsOpen}
+use Rattle.vspace.proofs.probes.all_open.Given as goal
+
+abbrev pub invariant-slots : goal.invariant-slots
+invariant-slots g l = (i : ℕ) → i < l.i → IsOpen (g.S.SlotMap.slots l.store) (l.first + i)
