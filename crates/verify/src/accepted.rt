@@ -7,7 +7,7 @@ ghost use Rattle.model.specs.Image.{Image, Thread, image_format};
 ghost use Rattle.model.specs.PointRules.{rules_of_program};
 ghost use Rattle.model.specs.declared.refusals.Refusal.TheVariants.{BadThread, OutOfMemory};
 ghost use Rattle.image.specs.Certificates.{IsOfForm, IsPlain};
-ghost use Rattle.image.specs.Stage.{IsStaged, no_slots, staged_image, staged_reading};
+ghost use Rattle.image.specs.Stage.{IsStaged, later, no_slots, staged_image, staged_reading};
 ghost use Rattle.verify.specs.Checking.{Checks};
 ghost use Rattle.verify.specs.Refusing.{IsPlainImage, IsRefused};
 
@@ -63,6 +63,8 @@ pub fn verify(alloc: Global, bytes: &[u8]) -> Result<Accepted<'_>, Refusal>
     ensures complete { (image : Image) → IsAccepted bytes.now image → staged_reading bytes.now ≡ Ok image → IsPlainImage image → IfErr result (λ refusal. refusal ≡ OutOfMemory) }
     // What cannot be read is refused for the first reason.
     ensures unread { IfErr (staged_reading bytes.now) (λ refusal. result ≡ Err refusal) }
+    // That reason is the first breach, or that the image is of a later stage as a whole.
+    ensures first { IfErr (staged_reading bytes.now) (λ refusal. (refusal ≡ later) ⊎ (first_breach bytes.now ≡ Some refusal)) }
     // A thread whose entry is no point of its program is refused, and that is the first breach.
     ensures entry { (t : Thread) → staged_reading bytes.now ≡ Ok (staged_image t) → t.header.words ≤ t.header.entry → (result ≡ Err (BadThread 0)) × (first_breach bytes.now ≡ Some (BadThread 0)) }
 {

@@ -5,6 +5,7 @@ use Rattle.model.specs.Image.{Thread}
 use Rattle.model.specs.declared.refusals.Refusal.{Refusal}
 use Rattle.model.specs.declared.refusals.Refusal.TheVariants.{BadThread}
 use Rattle.image.specs.Stage.{staged_reading}
+use Rattle.image.proofs.Followed.{refused_first}
 use Rattle.image.proofs.StagedRules.{bad_entry_first, same_thread}
 use Rattle.verify.specs.Refusing.{IsRefused}
 use Rattle.verify.proofs.Verdicts.{WasRead, accepted, form_of, plain_image, refused, told_complete, told_refused, unread}
@@ -72,3 +73,6 @@ returns-in_err-check_thread-clause-complete c = λ image accepted read plain.
     let told = p.1 ∙ ap (λ (r : Refusal). Err r) p.2 in
     let why : IsRefused bytes c.in_err-check_thread.field-0.0 = refused bytes c.in_ok-image.image c.thread.result c.in_err-check_thread.field-0.0 was c.in_err-check_thread.ensures.entry c.in_err-check_thread.ensures.checks in
     told_complete bytes c.from_residual-in_err-check_thread.result c.in_err-check_thread.field-0.0 told why image accepted read plain
+
+pub returns-in_err-image-clause-first : goal.returns-in_err-image-clause-first
+returns-in_err-image-clause-first c = refused_first c.args.bytes.now
