@@ -13,4 +13,5 @@ pub use entries::Entries;
 pub use model::Refusal;
 pub use reading::{ImageRef, read};
 pub use records::{RecordRef, Records};
+pub use stage::NOTIFICATION;
 pub use threads::ThreadRef;

@@ -11,6 +11,9 @@ pub(crate) const LATER: Refusal = Refusal::Stage(Point {
 /// How many objects the image has.
 pub(crate) const OBJECTS: u32 = 7;
 
+/// The address of the notification in the thread's capability space.
+pub const NOTIFICATION: u32 = 1;
+
 /// The sections before the thread: a code page, a data page, a page table, a TCB, a CNode and a
 /// notification that is bound to interrupt line 3.
 #[rattlefmt::skip]

@@ -10,8 +10,8 @@ ghost use Rattle.microsys.specs.Loaded.{HoldsWords, IsLoadable};
 ghost use Rattle.microsys.specs.Machine.{IsStarted, calls, machine_of, machine_step, raised, ran, receives, runs_decoded, stops, ticks};
 
 use crate::pages::{CODE, Pages};
-use image::ThreadRef;
-use model::{Event, FaultKind, Label, Outcome, Register};
+use image::{NOTIFICATION, ThreadRef};
+use model::{Event, FaultKind, Label, Outcome, RECEIVE, Register};
 use pmem::Mem;
 use rv32_exec::{Exec, Regs, View, exec};
 use rv32_isa::decode;
@@ -28,15 +28,6 @@ const BADGE: u32 = 1;
 
 /// How many ticks a thread runs before it goes to the end of its list.
 const SLICE: u8 = 5;
-
-const A0: Register = Register(10);
-
-const A7: Register = Register(17);
-
-/// The call that waits on a notification, and the address of the notification.
-const RECEIVE: u32 = 5;
-
-const NOTIFICATION: u32 = 1;
 
 /// How many words a page has.
 const PAGE_WORDS: u32 = 1024;
@@ -174,7 +165,7 @@ impl System {
     fn call(&mut self) -> Outcome
         ensures { (machine_of self.new, result) ≡ calls (machine_of self.old) }
     {
-        if self.regs.read(A7) != RECEIVE || self.regs.read(A0) != NOTIFICATION {
+        if self.regs.read(Register::A7) != RECEIVE || self.regs.read(Register::A0) != NOTIFICATION {
             return self.stop(FaultKind::UnknownCall);
         }
         if self.word == 0 {
@@ -192,7 +183,7 @@ impl System {
         ensures { machine_of self.new ≡ receives (machine_of self.old) word }
     {
         let next = self.regs.pc().wrapping_add(4);
-        self.regs.write(A0, word);
+        self.regs.write(Register::A0, word);
         self.regs.set_pc(next);
     }
 

@@ -8,6 +8,13 @@ ghost use Rattle.model.specs.Instructions.{access_number, cause_number};
 #[derive(Clone, Copy, Debug, PartialEq, Eq)]
 pub struct Register(pub u8);
 
+impl Register {
+    /// `a0` of the calling convention: a system call's capability, and what it answers.
+    pub const A0: Register = Register(10);
+    /// `a7` of the calling convention: a system call's number.
+    pub const A7: Register = Register(17);
+}
+
 /// What an instruction makes of a 20-bit immediate (2.4).
 #[derive(Clone, Copy, Debug, PartialEq, Eq)]
 pub enum UpperOp {

@@ -16,6 +16,7 @@ mod refusals;
 mod rights;
 mod slot_entries;
 mod slot_numbers;
+mod system_calls;
 
 pub use boot_faults::BootFault;
 pub use capabilities::{Cap, FrameMapping, TableMapping};
@@ -38,3 +39,4 @@ pub use refusals::{Point, Refusal};
 pub use rights::Rights;
 pub use slot_entries::Entry;
 pub use slot_numbers::Slot;
+pub use system_calls::RECEIVE;

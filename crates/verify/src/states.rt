@@ -14,8 +14,8 @@ ghost use Rattle.image.specs.Stage.{staged_image};
 ghost use Rattle.verify.specs.Matching.{AreStates, IsKnownAt, Meets, noted_at};
 ghost use Rattle.verify.specs.States.{IsAtLeast};
 
-use image::{RecordRef, ThreadRef};
-use model::{Instr, Range, Register};
+use image::{NOTIFICATION, RecordRef, ThreadRef};
+use model::{Instr, RECEIVE, Range, Register};
 use ranges::{Bounds, after, is_ranged};
 use rv32_isa::decode;
 use std::alloc::{AllocError, Global};
@@ -55,18 +55,6 @@ pub(crate) enum Noted {
     Known(State),
 }
 
-/// The register that carries the first argument of a system call, and its result.
-const A0: Register = Register(10);
-
-/// The register that carries the number of a system call.
-const A7: Register = Register(17);
-
-/// The number of the call that waits on a notification.
-const RECEIVE: u32 = 5;
-
-/// The address of the notification in the thread's capability space.
-const NOTIFICATION: u32 = 1;
-
 /// The greatest word that a wait on a notification gives.
 const GREATEST_BADGE: u32 = (1 << 28) - 1;
 
@@ -74,7 +62,9 @@ const GREATEST_BADGE: u32 = (1 << 28) - 1;
 pub(crate) fn waits(bounds: &Bounds) -> bool
     ensures { IsTrue result ↔ IsWait bounds.now }
 {
-    bounds.get(A7).value() == Some(RECEIVE) && bounds.get(A0).value() == Some(NOTIFICATION)
+    let number = bounds.get(Register::A7).value();
+    let address = bounds.get(Register::A0).value();
+    number == Some(RECEIVE) && address == Some(NOTIFICATION)
 }
 
 /// The ranges behind a wait on the notification.
@@ -83,7 +73,7 @@ pub(crate) fn after_wait(bounds: &Bounds) -> Bounds
 {
     let mut bounds = *bounds;
     bounds.set(
-        A0,
+        Register::A0,
         Range {
             low: 0,
             high: GREATEST_BADGE,
