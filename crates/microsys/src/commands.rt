@@ -1,5 +1,13 @@
 //! The program: what it answers to the words of its command line.
 
+ghost use Rattle.std.specs.Prelude.{ℕ, ◌≡◌, ◌≢◌};
+ghost use Rattle.command_line.specs.declared.requests.WordsFault.{WordsFault};
+ghost use Rattle.microsys.specs.declared.commands.Failure.{Failure};
+ghost use Rattle.microsys.specs.declared.event_lists.EventsFault.{EventsFault};
+ghost use Rattle.microsys.specs.declared.running.RunFault.{RunFault};
+ghost use Rattle.model.specs.declared.boot_faults.BootFault.{BootFault};
+ghost use Rattle.model.specs.declared.refusals.Refusal.{Refusal};
+
 use crate::event_lists::{EventsFault, events};
 use crate::running::{RunFault, run};
 use crate::sinks::{Sink, SinkFault, put_all};
@@ -39,18 +47,24 @@ pub enum Failure<'a> {
 }
 
 impl From<SinkFault> for Failure<'_> {
+    ghost from_gives = { λ _ failure. failure ≡ Failure.Output };
+
     fn from(_fault: SinkFault) -> Self {
         Failure::Output
     }
 }
 
 impl From<AllocError> for Failure<'_> {
+    ghost from_gives = { λ _ failure. failure ≡ Failure.Memory };
+
     fn from(_fault: AllocError) -> Self {
         Failure::Memory
     }
 }
 
 impl From<WordsFault> for Failure<'_> {
+    ghost from_gives = { λ fault failure. (fault ≡ WordsFault.Usage → failure ≡ Failure.Usage) × (fault ≡ WordsFault.OutOfMemory → failure ≡ Failure.Memory) };
+
     fn from(fault: WordsFault) -> Self {
         match fault {
             WordsFault::Usage => Failure::Usage,
@@ -60,6 +74,8 @@ impl From<WordsFault> for Failure<'_> {
 }
 
 impl From<EventsFault> for Failure<'_> {
+    ghost from_gives = { λ fault failure. ((line : ℕ) → fault ≡ EventsFault.Line line → failure ≡ Failure.Events line) × (fault ≡ EventsFault.OutOfMemory → failure ≡ Failure.Memory) };
+
     fn from(fault: EventsFault) -> Self {
         match fault {
             EventsFault::Line(line) => Failure::Events(line),
@@ -69,6 +85,8 @@ impl From<EventsFault> for Failure<'_> {
 }
 
 impl From<Refusal> for Failure<'_> {
+    ghost from_gives = { λ refusal failure. (refusal ≡ Refusal.OutOfMemory → failure ≡ Failure.Memory) × (refusal ≢ Refusal.OutOfMemory → failure ≡ Failure.Image refusal) };
+
     fn from(refusal: Refusal) -> Self {
         match refusal {
             Refusal::OutOfMemory => Failure::Memory,
@@ -78,6 +96,8 @@ impl From<Refusal> for Failure<'_> {
 }
 
 impl From<RunFault> for Failure<'_> {
+    ghost from_gives = { λ fault failure. (fault ≡ RunFault.Output → failure ≡ Failure.Output) × (fault ≡ RunFault.OutOfMemory → failure ≡ Failure.Memory) × ((refusal : Refusal) → fault ≡ RunFault.Refused refusal → refusal ≢ Refusal.OutOfMemory → failure ≡ Failure.Image refusal) × ((boot : BootFault) → fault ≡ RunFault.Boot boot → failure ≡ Failure.Boot boot) };
+
     fn from(fault: RunFault) -> Self {
         match fault {
             RunFault::Refused(refusal) => Failure::from(refusal),

@@ -1,6 +1,7 @@
 //! Lists of events as text.
 
-ghost use Rattle.std.specs.Prelude.{◌≡◌, ◌≤◌, IfOk, IfSome};
+ghost use Rattle.std.specs.Prelude.{◌≡◌, ◌≤◌, IfOk, IfSome, length};
+ghost use Rattle.microsys.specs.declared.event_lists.EventsFault.{EventsFault};
 
 use model::Event;
 use std::alloc::{AllocFailed, Global};
@@ -24,6 +25,8 @@ pub enum EventsFault {
 }
 
 impl<T: Drop> From<AllocFailed<T>> for EventsFault {
+    ghost from_gives = { λ _ fault. fault ≡ EventsFault.OutOfMemory };
+
     fn from(_fault: AllocFailed<T>) -> EventsFault {
         EventsFault::OutOfMemory
     }
@@ -39,10 +42,12 @@ enum Line {
 }
 
 /// The events of a list: lines `step`, `step N`, `tick` and `irq N`, empty lines and comments.
-pub fn events(alloc: Global, bytes: &[u8]) -> Result<Vec<Event>, EventsFault> {
+pub fn events(alloc: Global, bytes: &[u8]) -> Result<Vec<Event>, EventsFault>
+    ensures most { IfOk result (λ events. length events.items ≤ 1000000) }
+{
     let mut events = Vec::new(alloc);
     let mut number = 0u64;
-    for piece in bytes.split_inclusive(|byte| *byte == b'\n') {
+    'lines: for piece in bytes.split_inclusive(|byte| *byte == b'\n') {
         number = number.saturating_add(1);
         let line = match line_of(without_end(piece)) {
             Some(line) => line,
@@ -52,7 +57,7 @@ pub fn events(alloc: Global, bytes: &[u8]) -> Result<Vec<Event>, EventsFault> {
             if MOST_EVENTS.saturating_sub(events.len()) < count as usize {
                 return Err(EventsFault::Line(number));
             }
-            for _ in 0..count {
+            'times: for _ in 0..count {
                 events.push(event)?;
             }
         }
@@ -88,7 +93,9 @@ fn line_of(line: &[u8]) -> Option<Line> {
 }
 
 /// The number that decimal digits spell, if there is one and it is not too great.
-fn number_of(digits: &[u8]) -> Option<u32> {
+fn number_of(digits: &[u8]) -> Option<u32>
+    ensures greatest { IfSome result (λ number. number ≤ 1000000) }
+{
     if digits.is_empty() {
         return None;
     }

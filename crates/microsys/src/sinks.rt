@@ -1,6 +1,6 @@
 //! Where the program's output goes.
 
-ghost use Rattle.std.specs.Prelude.{◌≡◌, ℕ, List, Option, OnErr, OnOk, Some, if◌then◌else◌, is_ok};
+ghost use Rattle.std.specs.Prelude.{◌≡◌, ℕ, List, [], Option, OnErr, OnOk, Some, if◌then◌else◌, is_ok};
 ghost use Rattle.microsys.specs.Sinks.{Grows, GrowsByBeginning, TakesSome, failures_after, one_more};
 
 use std::alloc::Global;
@@ -40,7 +40,11 @@ pub struct MemorySink {
 
 impl MemorySink {
     /// An empty sink with room for so many bytes.
-    pub fn new(alloc: Global, room: usize) -> Self {
+    pub fn new(alloc: Global, room: usize) -> Self
+        ensures bytes { result.bytes.items ≡ [] }
+        ensures room { result.room ≡ room }
+        ensures failures { result.failures ≡ 0 }
+    {
         MemorySink {
             bytes: Vec::new(alloc),
             room,
@@ -89,7 +93,10 @@ pub struct WriterSink<W: Write + Drop> {
 
 impl<W: Write + Drop> WriterSink<W> {
     /// A sink over this writer.
-    pub fn new(writer: W) -> Self {
+    pub fn new(writer: W) -> Self
+        ensures writer { result.writer ≡ writer }
+        ensures failures { result.failures ≡ 0 }
+    {
         WriterSink {
             writer,
             failures: 0,
