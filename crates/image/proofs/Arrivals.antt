@@ -6,7 +6,7 @@ use Rattle.std.proofs.lemmas.Bool.Decides.{eqb_tells}
 use Rattle.std.proofs.lemmas.Int.{ints}
 use Rattle.model.specs.declared.ranges.Range.{Range}
 use Rattle.model.specs.Image.{Thread}
-use Rattle.model.specs.Instructions.{RegisterFile, read}
+use Rattle.model.specs.ProgramMemory.{RegisterFile, read}
 use Rattle.model.specs.Measures.{register_numbered}
 use Rattle.model.specs.NotedStates.{PointState}
 use Rattle.model.specs.PointRules.{ProgramEdge, are_ranges_within, is_range_within}

@@ -18,7 +18,9 @@ use Rattle.model.specs.CallRules.{AfterCall, badges}
 use Rattle.model.specs.Described.{listed_registers, listed_thread}
 use Rattle.model.specs.Edges.{after, behind, edge_to}
 use Rattle.model.specs.Image.{Thread}
-use Rattle.model.specs.Instructions.{Content, Effect, IsImmediate, IsRegister, RegisterFile, advanced, effect, goes_on, next_pc, plus, read, stays, write}
+use Rattle.model.specs.Instructions.{IsImmediate, IsRegister}
+use Rattle.model.specs.ProgramMemory.{Content, RegisterFile, read, write}
+use Rattle.model.specs.Effects.{Effect, advanced, effect, goes_on, next_pc, plus, stays}
 use Rattle.model.specs.Measures.{measured}
 use Rattle.model.specs.Messages.{a0, a7}
 use Rattle.model.specs.NotedStates.{PointState}

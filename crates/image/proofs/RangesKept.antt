@@ -11,7 +11,9 @@ use Rattle.model.specs.declared.instructions.ImmediateOp.TheVariants.{Addi}
 use Rattle.model.specs.declared.instructions.Instr.TheVariants.{Immediate, Jal}
 use Rattle.model.specs.declared.instructions.Register.{Register}
 use Rattle.model.specs.declared.ranges.Range.{Range}
-use Rattle.model.specs.Instructions.{Content, IsImmediate, IsRegister, RegisterFile, effect, goes_on, jumps, next_pc, plus, read, stays, write}
+use Rattle.model.specs.Instructions.{IsImmediate, IsRegister}
+use Rattle.model.specs.ProgramMemory.{Content, RegisterFile, read, write}
+use Rattle.model.specs.Effects.{effect, goes_on, jumps, next_pc, plus, stays}
 use Rattle.model.specs.Measures.{register_numbered}
 use Rattle.model.specs.RangeRules.{is_single, ranges_after, result_range, value_or}
 use Rattle.model.specs.Ranges.{full, moved, range_of, single, with_range}

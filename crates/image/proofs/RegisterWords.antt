@@ -8,7 +8,7 @@ use Rattle.model.specs.declared.entries.RegisterEntry.{RegisterEntry}
 use Rattle.model.specs.declared.instructions.Register.{Register}
 use Rattle.model.specs.Described.{listed_registers}
 use Rattle.model.specs.Image.{Thread}
-use Rattle.model.specs.Instructions.{RegisterFile, read, write}
+use Rattle.model.specs.ProgramMemory.{RegisterFile, read, write}
 use Rattle.image.specs.Programs.{AreWords}
 
 abbrev IsWord : ℕ → Type 0

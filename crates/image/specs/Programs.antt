@@ -3,7 +3,8 @@ use Rattle.std.specs.Prelude.{◌≡◌, ◌<◌, ◌≤◌, ◌^◌, ℕ, pos, 
 use Rattle.model.specs.declared.instructions.Instr.{Instr}
 use Rattle.model.specs.Accepted.{AreKept}
 use Rattle.model.specs.Image.{Thread}
-use Rattle.model.specs.Instructions.{Content, RegisterFile, effect, goes_on}
+use Rattle.model.specs.ProgramMemory.{Content, RegisterFile}
+use Rattle.model.specs.Effects.{effect, goes_on}
 use Rattle.model.specs.NotedStates.{PointState}
 use Rattle.model.specs.PointRules.{program_rules}
 use Rattle.model.specs.PointStates.{Known, address_of, noted}

@@ -11,7 +11,7 @@ use Rattle.model.specs.Bytes.{word_bytes}
 use Rattle.model.specs.Described.{described}
 use Rattle.model.specs.Fills.{bytes_of}
 use Rattle.model.specs.Image.{Thread}
-use Rattle.model.specs.Instructions.{Content, loaded, named, next_address, place_at}
+use Rattle.model.specs.ProgramMemory.{Content, loaded, named, next_address, place_at}
 use Rattle.model.specs.PointStates.{address_of}
 use Rattle.model.specs.Slots.{is_within}
 use Rattle.image.specs.Certificates.{IsOfForm}

@@ -14,7 +14,9 @@ use Rattle.model.specs.declared.labels.Label.{Label}
 use Rattle.model.specs.declared.labels.Label.TheVariants.{Idle, Ticked, Raised, Ran}
 use Rattle.model.specs.declared.labels.Outcome.TheVariants.{Waited, Plain}
 use Rattle.model.specs.Image.{Thread}
-use Rattle.model.specs.Instructions.{Effect, RegisterFile, advanced, decoded, effect, loaded, read, write}
+use Rattle.model.specs.Decoding.{decoded}
+use Rattle.model.specs.ProgramMemory.{RegisterFile, loaded, read, write}
+use Rattle.model.specs.Effects.{Effect, advanced, effect}
 use Rattle.model.specs.Messages.{a0, a7}
 use Rattle.model.specs.PointStates.{instruction_at}
 use Rattle.model.specs.Scheduling.{full_slice}

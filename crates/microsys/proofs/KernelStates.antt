@@ -6,7 +6,7 @@ use Rattle.std.proofs.lemmas.Bool.{cases_eq, ne_eqb}
 use Rattle.model.specs.AddressSpaces.{content_of, with_content}
 use Rattle.model.specs.Faults.{fault}
 use Rattle.model.specs.Image.{Thread}
-use Rattle.model.specs.Instructions.{RegisterFile}
+use Rattle.model.specs.ProgramMemory.{RegisterFile}
 use Rattle.model.specs.Messages.{deliver_word, waits_for_signal, with_registers, signal}
 use Rattle.model.specs.Scheduling.{block, full_slice, ticked, without, yielded}
 use Rattle.model.specs.State.{FaultMessage, Inactive, Object, State, notification_at, put, thread_at, with_notification, with_thread}

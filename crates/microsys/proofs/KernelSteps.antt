@@ -20,7 +20,9 @@ use Rattle.model.specs.declared.lookup_failures.LookupFailure.{LookupFailure}
 use Rattle.model.specs.AddressSpaces.{content_of, with_content}
 use Rattle.model.specs.Described.{boot_holdings, described, holdings, is_open_slot}
 use Rattle.model.specs.Image.{Thread}
-use Rattle.model.specs.Instructions.{advanced, immediate_result, Content, Effect, RegisterFile, decoded, effect, goes_on, next_pc, plus, read, stays, write}
+use Rattle.model.specs.Decoding.{decoded}
+use Rattle.model.specs.ProgramMemory.{Content, RegisterFile, read, write}
+use Rattle.model.specs.Effects.{advanced, immediate_result, Effect, effect, goes_on, next_pc, plus, stays}
 use Rattle.model.specs.Lookup.{called_slot, lookup_within}
 use Rattle.model.specs.Messages.{a0, a7, with_registers}
 use Rattle.model.specs.Places.{offset_of, used_by}

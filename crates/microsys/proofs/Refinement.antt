@@ -7,7 +7,7 @@ use Rattle.model.specs.declared.labels.Label.{Label}
 use Rattle.model.specs.declared.labels.Label.TheVariants.{Raised, Ticked}
 use Rattle.model.specs.Described.{described}
 use Rattle.model.specs.Image.{Thread}
-use Rattle.model.specs.Instructions.{Content}
+use Rattle.model.specs.ProgramMemory.{Content}
 use Rattle.model.specs.State.{State}
 use Rattle.model.specs.Steps.{after, step, trace}
 use Rattle.image.specs.Certificates.{IsOfForm, numbered_thread}

@@ -4,7 +4,7 @@ use Rattle.std.specs.Prelude.{if◌then◌else◌, ◌==◌, option_map}
 use Rattle.std.proofs.lemmas.Bool.{cases_eq, eq-eqb, ne_eqb}
 use Rattle.model.specs.Described.{described, listed_thread}
 use Rattle.model.specs.Image.{Thread}
-use Rattle.model.specs.Instructions.{RegisterFile}
+use Rattle.model.specs.ProgramMemory.{RegisterFile}
 use Rattle.model.specs.State.{NotificationObject, Object, ThreadObject, ThreadState}
 use Rattle.image.specs.Certificates.{IsOfForm, numbered_thread}
 use Rattle.image.specs.Stage.{staged_image}

@@ -16,7 +16,9 @@ use Rattle.model.specs.declared.labels.Outcome.{Outcome}
 use Rattle.model.specs.declared.labels.Outcome.TheVariants.{Faulted, Waited, Plain}
 use Rattle.model.specs.Described.{described, listed_thread}
 use Rattle.model.specs.Image.{Thread}
-use Rattle.model.specs.Instructions.{Content, RegisterFile, advanced, decoded, effect, loaded, read, write}
+use Rattle.model.specs.Decoding.{decoded}
+use Rattle.model.specs.ProgramMemory.{Content, RegisterFile, loaded, read, write}
+use Rattle.model.specs.Effects.{advanced, effect}
 use Rattle.model.specs.Messages.{a0, a7}
 use Rattle.model.specs.PointStates.{address_of}
 use Rattle.model.specs.Scheduling.{full_slice}

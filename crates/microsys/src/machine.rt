@@ -5,7 +5,7 @@ ghost use Rattle.image.specs.Certificates.{IsOfForm};
 ghost use Rattle.image.specs.Stage.{staged_image};
 ghost use Rattle.model.specs.Described.{listed_thread};
 ghost use Rattle.model.specs.Image.{Thread};
-ghost use Rattle.model.specs.Instructions.{decoded};
+ghost use Rattle.model.specs.Decoding.{decoded};
 ghost use Rattle.microsys.specs.Loaded.{HoldsWords, IsLoadable};
 ghost use Rattle.microsys.specs.Machine.{IsStarted, calls, machine_of, machine_step, raised, ran, receives, runs_decoded, stops, ticks};
 

@@ -12,7 +12,7 @@ use Rattle.model.specs.declared.instructions.Access.{Access}
 use Rattle.model.specs.declared.instructions.Access.TheVariants as accesses
 use Rattle.model.specs.declared.rights.Rights.{Rights}
 use Rattle.model.specs.Capabilities.{frame_mapping, root_of, table_mapping}
-use Rattle.model.specs.Instructions.{Content}
+use Rattle.model.specs.ProgramMemory.{Content}
 use Rattle.model.specs.Rights.{may_read, may_write, may_execute}
 use Rattle.model.specs.Scheduling.{head_of}
 use Rattle.model.specs.Slots.{Slots, capability_at}

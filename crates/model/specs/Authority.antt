@@ -11,7 +11,8 @@ use Rattle.model.specs.declared.rights.Rights.{Rights}
 use Rattle.model.specs.AddressSpaces.{content_of}
 use Rattle.model.specs.Capabilities.{frame_mapping, object_of, unmapped}
 use Rattle.model.specs.Image.{Image, Thread}
-use Rattle.model.specs.Instructions.{advanced, write}
+use Rattle.model.specs.ProgramMemory.{write}
+use Rattle.model.specs.Effects.{advanced}
 use Rattle.model.specs.Interrupts.{binding}
 use Rattle.model.specs.Messages.{Message, a0, delivered, resumption}
 use Rattle.model.specs.NotedKernel.{stands_in}

@@ -7,7 +7,7 @@ use Rattle.model.specs.declared.instructions.BranchOp.{BranchOp}
 use Rattle.model.specs.declared.instructions.BranchOp.TheVariants.{Beq, Bne, Blt, Bge, Bltu, Bgeu}
 use Rattle.model.specs.declared.instructions.Instr.{Instr}
 use Rattle.model.specs.declared.instructions.Instr.TheVariants.{Upper, Jal, Jalr, Branch, Load, Store, Immediate, Shift, Registers, Fence, Ecall, Ebreak}
-use Rattle.model.specs.Instructions.{plus}
+use Rattle.model.specs.Effects.{plus}
 use Rattle.model.specs.Ranges.{range_of, with_range}
 use Rattle.model.specs.RangeRules.{range, is_single, ranges_after}
 

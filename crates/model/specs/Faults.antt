@@ -8,7 +8,7 @@ use Rattle.model.specs.declared.faults.FaultKind.TheVariants.{Capability, Unknow
 use Rattle.model.specs.declared.instructions.Cause.{Cause}
 use Rattle.model.specs.declared.instructions.MemoryFault.{MemoryFault}
 use Rattle.model.specs.declared.lookup_failures.LookupFailure.{LookupFailure}
-use Rattle.model.specs.Instructions.{access_number, cause_number}
+use Rattle.model.specs.Effects.{access_number, cause_number}
 use Rattle.model.specs.LookupNumbers.{bits_left_of, failure_number}
 use Rattle.model.specs.Lookup.{called_slot}
 use Rattle.model.specs.Rights.{may_write, may_grant_reply}

@@ -13,7 +13,7 @@ use Rattle.model.specs.declared.slot_entries.Entry.{Entry}
 use Rattle.model.specs.AddressSpaces.{address_limit, is_page_taken, is_region_taken, page_size, region_pages}
 use Rattle.model.specs.Arguments.{◌>>=◌, check, destination_slot, argument_slot, may_have_child, source_slot, wanted, word}
 use Rattle.model.specs.Capabilities.{badge_fits, carries_messages, cnode_of, copied, frame_mapping, guard_fits, is_badged, is_handler_of, may_be_copied, root_of, thread_of, table_mapping, unmapped, with_frame_mapping, with_payload, with_table_mapping}
-use Rattle.model.specs.Instructions.{write}
+use Rattle.model.specs.ProgramMemory.{write}
 use Rattle.model.specs.Interrupts.{acknowledge}
 use Rattle.model.specs.Messages.{register, with_registers}
 use Rattle.model.specs.Removal.{delete, revoke}

@@ -9,8 +9,10 @@ pub mod CallRules
 pub mod Capabilities
 pub mod CapabilityFields
 pub mod CapabilityWords
+pub mod Decoding
 pub mod Described
 pub mod Edges
+pub mod Effects
 pub mod Faults
 pub mod Fills
 pub mod Format
@@ -30,6 +32,7 @@ pub mod Placement
 pub mod Places
 pub mod PointRules
 pub mod PointStates
+pub mod ProgramMemory
 pub mod RangeRules
 pub mod Ranges
 pub mod Refusals

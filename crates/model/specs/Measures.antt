@@ -12,7 +12,7 @@ use Rattle.model.specs.declared.instructions.RegisterOp.{RegisterOp}
 use Rattle.model.specs.declared.instructions.RegisterOp.TheVariants.{Add, Sub, Sll, Slt, Sltu, Xor, Srl, Sra, Or, And}
 use Rattle.model.specs.declared.instructions.Instr.{Instr}
 use Rattle.model.specs.declared.instructions.Instr.TheVariants.{Upper, Jal, Jalr, Branch, Load, Store, Immediate, Shift, Registers, Fence, Ecall, Ebreak}
-use Rattle.model.specs.Instructions.{RegisterFile, read}
+use Rattle.model.specs.ProgramMemory.{RegisterFile, read}
 use Rattle.model.specs.Ranges.{range_of}
 use Rattle.model.specs.RangeRules.{is_single, destination}
 

@@ -4,7 +4,8 @@
 use Rattle.std.specs.Prelude.{ℕ, ◌==◌, ◌+◌, ◌-◌, ◌*◌, ◌/◌, ◌%◌, ◌^◌, min, bit_or, if◌then◌else◌, Option, Some, None, List, [], ◌∷◌, ◌++◌, length, take, map}
 use Rattle.std.specs.Option.{option_map_or}
 use Rattle.model.specs.declared.instructions.Register.{Register}
-use Rattle.model.specs.Instructions.{RegisterFile, read, write, advanced}
+use Rattle.model.specs.ProgramMemory.{RegisterFile, read, write}
+use Rattle.model.specs.Effects.{advanced}
 use Rattle.model.specs.Labels.{fault_number}
 use Rattle.model.specs.State.{State, Status, Inactive, Runnable, Blocked, AwaitsReply, AwaitsHandler, ThreadState, Sender, Sent, BySend, ByCall, ByFault, NotificationState, thread_at, with_thread, endpoint_at, with_endpoint, notification_at, with_notification}
 use Rattle.model.specs.Scheduling.{block, wake}

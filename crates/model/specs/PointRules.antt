@@ -19,7 +19,8 @@ use Rattle.model.specs.Described.{listed_registers, numbered}
 use Rattle.model.specs.Edges.{Edge, Edges, after}
 use Rattle.model.specs.Image.{Image, Thread}
 use Rattle.model.specs.declared.instructions.AccessSize.{AccessSize}
-use Rattle.model.specs.Instructions.{RegisterFile, load_size, store_size, width_of}
+use Rattle.model.specs.ProgramMemory.{RegisterFile, width_of}
+use Rattle.model.specs.Effects.{load_size, store_size}
 use Rattle.model.specs.Measures.{Form, Measure, behind_form, call_form, falls, least_value, measured, stays_below}
 use Rattle.model.specs.NotedStates.{NotedSlot, PointState, are_same_slots, has_stray_slots, image_slots}
 use Rattle.model.specs.Places.{offset_of}

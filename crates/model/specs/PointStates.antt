@@ -9,7 +9,7 @@ use Rattle.model.specs.declared.refusals.Refusal.{Refusal}
 use Rattle.model.specs.CallRules.{AfterCall, after_call}
 use Rattle.model.specs.Edges.{Edge, after}
 use Rattle.model.specs.Image.{Image, Thread, StateRecord}
-use Rattle.model.specs.Instructions.{decoded}
+use Rattle.model.specs.Decoding.{decoded}
 use Rattle.model.specs.Measures.{Measure, has_term, lowered}
 use Rattle.model.specs.NotedStates.{PointState, has_stray_slots, record_of, record_state}
 use Rattle.model.specs.RangeRules.{destination}

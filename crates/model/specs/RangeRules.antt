@@ -14,7 +14,8 @@ use Rattle.model.specs.declared.instructions.RegisterOp.{RegisterOp}
 use Rattle.model.specs.declared.instructions.RegisterOp.TheVariants.{Add, Sub, Sll, Slt, Sltu, Xor, Srl, Sra, Or, And}
 use Rattle.model.specs.declared.instructions.Instr.{Instr}
 use Rattle.model.specs.declared.instructions.Instr.TheVariants.{Upper, Jal, Jalr, Branch, Load, Store, Immediate, Shift, Registers, Fence, Ecall, Ebreak}
-use Rattle.model.specs.Instructions.{word_of, upper_result, immediate_result, shift_result, register_result}
+use Rattle.model.specs.Instructions.{word_of}
+use Rattle.model.specs.Effects.{upper_result, immediate_result, shift_result, register_result}
 use Rattle.model.specs.Ranges.{full, single, range_of, with_range, moved}
 
 -- ---- ranges of results

@@ -3,7 +3,7 @@
 use Rattle.std.specs.Prelude.{ℕ, ◌==◌, ◌+◌, ◌/◌, ◌^◌, Bool, if◌then◌else◌, Option, Some, None, List, [], replicate}
 use Rattle.std.specs.Option.{option_map_or}
 use Rattle.std.specs.List.{list_any, range_with_len}
-use Rattle.model.specs.Instructions.{RegisterFile}
+use Rattle.model.specs.ProgramMemory.{RegisterFile}
 use Rattle.model.specs.Slots.{Slots, capability_at}
 use Rattle.model.specs.declared.capabilities.Cap.{Cap}
 use Rattle.model.specs.declared.faults.FaultKind.{FaultKind}

@@ -23,7 +23,9 @@ use Rattle.model.specs.declared.lookup_failures.LookupFailure.{LookupFailure}
 use Rattle.model.specs.declared.lookup_failures.LookupFailure.TheVariants.{MissingCapability}
 use Rattle.model.specs.AddressSpaces.{content_of, with_content}
 use Rattle.model.specs.Faults.{capability_fault, fault, instruction_fault, memory_fault, unknown_call}
-use Rattle.model.specs.Instructions.{RegisterFile, decoded, effect, loaded, read, write}
+use Rattle.model.specs.Decoding.{decoded}
+use Rattle.model.specs.ProgramMemory.{RegisterFile, loaded, read, write}
+use Rattle.model.specs.Effects.{effect}
 use Rattle.model.specs.Interrupts.{raise}
 use Rattle.model.specs.Invocations.{Call, invoke}
 use Rattle.model.specs.Labels.{error_number}

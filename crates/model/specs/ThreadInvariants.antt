@@ -13,7 +13,7 @@ use Rattle.model.specs.AddressSpaces.{Maps, content_of, page_size}
 use Rattle.model.specs.CallRules.{AfterCall}
 use Rattle.model.specs.Described.{original}
 use Rattle.model.specs.Image.{Image}
-use Rattle.model.specs.Instructions.{RegisterFile, loaded, read}
+use Rattle.model.specs.ProgramMemory.{RegisterFile, loaded, read}
 use Rattle.model.specs.Measures.{measured, register_numbered}
 use Rattle.model.specs.NotedKernel.{noted_after, noted_root}
 use Rattle.model.specs.NotedStates.{NotedSlot, PointState}

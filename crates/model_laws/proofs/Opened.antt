@@ -2,7 +2,8 @@
 use Rattle.model.specs.Format.{many_read as format_many_read, many_spelling as format_many_spelling, many_fit as format_many_fit}
 use Rattle.model.specs.Image.{header_format as image_header_format, untyped_format as image_untyped_format, object_format as image_object_format, capability_format as image_capability_format, interrupt_format as image_interrupt_format, table_format as image_table_format, frame_format as image_frame_format, content_format as image_content_format, thread_header_format as image_thread_header_format, register_format as image_register_format, range_format as image_range_format, term_format as image_term_format, slot_format as image_slot_format, record_header_format as image_record_header_format, ranges_format as image_ranges_format, terms_format as image_terms_format, record_format as image_record_format, registers_format as image_registers_format, words_format as image_words_format, records_format as image_records_format, thread_format as image_thread_format, sections_format as image_sections_format, image_with as image_image_with}
 use Rattle.model.specs.CapabilityFields.{fields_of_kind as capabilityfields_fields_of_kind, is_capability as capabilityfields_is_capability, unpacked as capabilityfields_unpacked}
-use Rattle.model.specs.Instructions.{decoded as instructions_decoded, effect as instructions_effect}
+use Rattle.model.specs.Decoding.{decoded as instructions_decoded}
+use Rattle.model.specs.Effects.{effect as instructions_effect}
 use Rattle.model.specs.RangeRules.{ones_within as rangerules_ones_within, result_range as rangerules_result_range}
 use Rattle.model.specs.Edges.{narrowed as edges_narrowed, after as edges_after}
 use Rattle.model.specs.Measures.{substituted as measures_substituted, greatest as measures_greatest, least as measures_least, exact_sum as measures_exact_sum, falls as measures_falls, stays_below as measures_stays_below}

@@ -26,7 +26,9 @@ use Rattle.model.specs.Placement.{placement}
 use Rattle.model.specs.Rights.{mapping_rights, may_execute, may_grant_reply, may_read, may_write}
 use Rattle.model.specs.Slots.{capability_at, is_full, recapped}
 use Rattle.model.specs.Arguments.{◌>>=◌, argument_slot, check, destination_slot, may_have_child, source_slot, wanted, word}
-use Rattle.model.specs.Instructions.{RegisterFile, decoded, effect, loaded, read}
+use Rattle.model.specs.Decoding.{decoded}
+use Rattle.model.specs.ProgramMemory.{RegisterFile, loaded, read}
+use Rattle.model.specs.Effects.{effect}
 use Rattle.model.specs.Interrupts.{acknowledge, binding, interrupt, raise, with_pending}
 use Rattle.model.specs.Faults.{fault, handler, tell}
 use Rattle.model.specs.Invocations.{Call, bind, configure, copy, decodes, get_handler, given_guard_fits, is_caller, is_mapped, map_frame, map_table, may_be_bound, mint, move, mutate, root_named, set_priority, set_register, invoke, on_cnode, on_frame, on_handler, on_table, on_thread, perform, resume, suspend, unmap_table, with_priority, with_slots, without_region}

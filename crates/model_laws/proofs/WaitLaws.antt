@@ -24,7 +24,9 @@ use Rattle.model.specs.declared.labels.Outcome.TheVariants.{Plain}
 use Rattle.model.specs.declared.lookup_failures.LookupFailure.{LookupFailure}
 use Rattle.model.specs.declared.lookup_failures.LookupFailure.TheVariants.{MissingCapability}
 use Rattle.model.specs.AddressSpaces.{content_of, with_content}
-use Rattle.model.specs.Instructions.{Content, RegisterFile, is_taken, load_size, next_pc, plus, store_size, write, branches, decoded, effect, goes_on, stays, jumps, loaded, loads, read, stored, stores}
+use Rattle.model.specs.Decoding.{decoded}
+use Rattle.model.specs.ProgramMemory.{Content, RegisterFile, write, loaded, read, stored}
+use Rattle.model.specs.Effects.{is_taken, load_size, next_pc, plus, store_size, branches, effect, goes_on, stays, jumps, loads, stores}
 use Rattle.model.specs.Messages.{a7, reply, with_registers}
 use Rattle.model.specs.Rights.{may_grant_reply, may_read, may_write}
 use Rattle.model.specs.Scheduling.{current}

@@ -1,7 +1,7 @@
 -- What the rows on mappings start from.
 use Rattle.std.specs.Prelude.{ℕ, ◌==◌, if◌then◌else◌, Option, Some, None, Result, [], ◌∷◌, replicate, slice_set}
 use Rattle.model.specs.AddressSpaces.{place_under}
-use Rattle.model.specs.Instructions.{Content, RegisterFile}
+use Rattle.model.specs.ProgramMemory.{Content, RegisterFile}
 use Rattle.model.specs.Invocations.{Call, map_frame}
 use Rattle.model.specs.Rights.{rights}
 use Rattle.model.specs.Slots.{empty_entry, is_within}

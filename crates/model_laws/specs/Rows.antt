@@ -7,7 +7,7 @@ use Rattle.model.specs.declared.instructions.Instr.{Instr}
 use Rattle.model.specs.declared.instructions.Instr.TheVariants.{Jalr, Shift}
 use Rattle.model.specs.declared.instructions.ShiftOp.TheVariants.{Srai}
 use Rattle.model.specs.declared.slot_entries.Entry.{Entry}
-use Rattle.model.specs.Instructions.{Content, RegisterFile}
+use Rattle.model.specs.ProgramMemory.{Content, RegisterFile}
 use Rattle.model.specs.Messages.{register, signal, wait}
 use Rattle.model.specs.Removal.{delete}
 use Rattle.model.specs.Rights.{rights}

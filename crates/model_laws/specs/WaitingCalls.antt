@@ -6,7 +6,8 @@ use Rattle.model.specs.declared.instructions.AccessSize.TheVariants.{Word}
 use Rattle.model.specs.declared.instructions.Instr.TheVariants.{Ecall}
 use Rattle.model.specs.declared.rights.Rights.{Rights}
 use Rattle.model.specs.AddressSpaces.{content_of}
-use Rattle.model.specs.Instructions.{decoded, loaded, read}
+use Rattle.model.specs.Decoding.{decoded}
+use Rattle.model.specs.ProgramMemory.{loaded, read}
 use Rattle.model.specs.Messages.{a7}
 use Rattle.model.specs.Scheduling.{current}
 use Rattle.model.specs.Slots.{capability_at}

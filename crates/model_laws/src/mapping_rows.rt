@@ -2,7 +2,7 @@
 
 ghost use Rattle.std.specs.Prelude.{◌≡◌, pos, None, Some, Ok, Err};
 ghost use Rattle.model.specs.AddressSpaces.{place_under};
-ghost use Rattle.model.specs.Instructions.{effect, stays};
+ghost use Rattle.model.specs.Effects.{effect, stays};
 ghost use Rattle.model.specs.Messages.{register};
 ghost use Rattle.model.specs.Rights.{rights};
 ghost use Rattle.model.specs.Slots.{capability_at};
@@ -40,7 +40,7 @@ pub fn a_page_has_its_rights()
 {}
 
 /// A load of four bytes from 0x00401FFE faults at 0x00402000, and no register changes.
-#[tactic(auto, unfolding(model::specs::Instructions::effect, model::specs::State::slot_numbers))]
+#[tactic(auto, unfolding(model::specs::Effects::effect, model::specs::State::slot_numbers))]
 pub fn a_load_across_the_end_of_a_page_faults()
     ensures { effect near_the_end space_content (instructions.Load Lw (register 1) (register 2) (pos 0))
         ≡ stays near_the_end space_content (outcomes.Memory 0x402000 accesses.Load) }

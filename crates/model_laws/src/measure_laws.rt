@@ -1,7 +1,7 @@
 //! Laws of measures without terms: the rules on measures compare constants.
 
 ghost use Rattle.std.specs.Prelude.{◌≡◌, ℕ, List, [], int_le, int_lt, pos};
-ghost use Rattle.model.specs.Instructions.{RegisterFile};
+ghost use Rattle.model.specs.ProgramMemory.{RegisterFile};
 ghost use Rattle.model.specs.Measures.{Form, Measure, falls, least_value, measured, stays_below};
 ghost use Rattle.model.specs.declared.ranges.Range.{Range};
 

@@ -6,7 +6,9 @@ ghost use Rattle.model.specs.declared.instructions.ImmediateOp.TheVariants.{Addi
 ghost use Rattle.model.specs.declared.instructions.Instr.TheVariants.{Immediate, Jal};
 ghost use Rattle.model.specs.declared.instructions.Register.{Register};
 ghost use Rattle.model.specs.declared.ranges.Range.{Range};
-ghost use Rattle.model.specs.Instructions.{Content, IsImmediate, IsRegister, RegisterFile, effect, read};
+ghost use Rattle.model.specs.Instructions.{IsImmediate, IsRegister};
+ghost use Rattle.model.specs.ProgramMemory.{Content, RegisterFile, read};
+ghost use Rattle.model.specs.Effects.{effect};
 ghost use Rattle.model.specs.RangeRules.{ranges_after};
 ghost use Rattle.model.specs.ThreadInvariants.{LieWithin};
 

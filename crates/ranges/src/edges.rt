@@ -2,7 +2,8 @@
 
 ghost use Rattle.std.specs.Prelude.{◌≡◌, true};
 ghost use Rattle.model.specs.Edges.{after};
-ghost use Rattle.model.specs.Instructions.{IsInstr, plus};
+ghost use Rattle.model.specs.Instructions.{IsInstr};
+ghost use Rattle.model.specs.Effects.{plus};
 ghost use Rattle.model.specs.RangeRules.{is_single, value_or};
 ghost use Rattle.model.specs.Ranges.{is_ranged, moved};
 ghost use Rattle.ranges.specs.Edges.{ways_of};

@@ -9,7 +9,7 @@ use Rattle.model.specs.declared.refusals.Refusal.{Refusal}
 use Rattle.model.specs.CallRules.{AfterCall, badges}
 use Rattle.model.specs.Edges.{Edge, after}
 use Rattle.model.specs.Image.{Thread}
-use Rattle.model.specs.Instructions.{decoded}
+use Rattle.model.specs.Decoding.{decoded}
 use Rattle.model.specs.Messages.{a0}
 use Rattle.model.specs.NotedStates.{PointState}
 use Rattle.model.specs.PointStates.{Noted, Known, Missing, Unmeasured, address_of, follows, follows_call, follows_edge, follows_instruction, instruction_at}

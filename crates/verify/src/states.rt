@@ -3,7 +3,8 @@
 
 ghost use Rattle.std.specs.Prelude.{◌≡◌, ◌+◌, ◌<◌, ◌^◌, ◌≤ℤ◌, ◌≢◌, ◌↔◌, IfOk, IfSome, IsTrue, ◌-ℤ◌, int_lt, negsuc, pos, true};
 ghost use Rattle.model.specs.CallRules.{badges};
-ghost use Rattle.model.specs.Instructions.{IsInstr, decoded};
+ghost use Rattle.model.specs.Instructions.{IsInstr};
+ghost use Rattle.model.specs.Decoding.{decoded};
 ghost use Rattle.model.specs.Messages.{a0};
 ghost use Rattle.model.specs.NotedStates.{record_ranges};
 ghost use Rattle.model.specs.Ranges.{is_ranged, with_range};

@@ -1,5 +1,5 @@
 -- Each slot of the map is open.
-use Rattle.std.proofs.Common.{ℕ, ◌≡◌, refl}
+use Rattle.std.proofs.Common.{ℕ, refl}
 use Rattle.model.specs.Slots.{Slots, IsOpen, capability_at}
 use Rattle.model.specs.Lookup.{CNodeIsOpen}
 use Rattle.model.specs.declared.capabilities.Cap.{Cap}

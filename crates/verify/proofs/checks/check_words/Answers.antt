@@ -1,7 +1,7 @@
 -- A word that is not known makes the program one for a later stage.
 use Rattle.std.proofs.Common.{◌≡◌, ◌∙◌, ℕ, ◌<◌, None, sym, ap, subst}
 use Rattle.model.specs.declared.entries.ThreadHeader.{ThreadHeader}
-use Rattle.model.specs.Instructions.{decoded}
+use Rattle.model.specs.Decoding.{decoded}
 use Rattle.model.specs.PointStates.{instruction_at}
 use Rattle.image.specs.Certificates.{known_of}
 use Rattle.verify.specs.Checking.{IsLater}
