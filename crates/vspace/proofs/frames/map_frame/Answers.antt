@@ -4,7 +4,7 @@ use Rattle.model.specs.Invocations.{with_slots}
 use Rattle.model.specs.Slots.{Slots, recapped}
 use Rattle.model.specs.declared.capabilities.Cap.TheVariants.{Frame}
 use Rattle.vspace.proofs.FrameSteps.{index_small}
-use Rattle.vspace.proofs.Writes.{bytes-kept, map-done, table-of_page}
+use Rattle.vspace.proofs.Writes.{bytes-kept, entry-outside, map-done, table-of_page}
 use Rattle.vspace.proofs.frames.map_frame.Goals as goal
 
 pub returns-clause-outcome : goal.returns-clause-outcome
@@ -37,3 +37,10 @@ returns-clause-agree g c =
       changed = c.set_cap.ensures.slots;
       same = c.set_cap.ensures.bytes;
     })
+
+pub write32-requires-clause-outside : goal.write32-requires-clause-outside
+write32-requires-clause-outside g c =
+    let found = c.in-Ok.found in
+    let entry = c.in-Ok.ensures.answer.1 in
+    let memory = g.S.SlotStore.memory c.args.store.now in
+    entry-outside (g.S.SlotMap.slots c.args.store.now) memory entry.table (found.1.page % 2 ^ 10) found.0 (table-of_page _ memory found.1.root found.1.page found.0 c.requires.agree entry) (index_small found.1.page) entry.here
