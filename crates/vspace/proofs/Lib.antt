@@ -15,3 +15,4 @@ pub mod Sweeps
 pub mod TableUnmaps
 pub mod EndedTables
 pub mod BytesBeside
+pub mod AgreementPut

@@ -2,6 +2,7 @@
 //! seL4 Reference Manual, "Address Spaces and Virtual Memory".
 #![tactic(auto)]
 
+mod agreement;
 mod arguments;
 mod endings;
 mod frames;
@@ -14,6 +15,7 @@ mod tables;
 #[cfg(test)]
 mod tests;
 
+pub use agreement::an_unmapped_capability_may_be_put;
 pub use arguments::SlotName;
 pub use endings::end_tables;
 pub use frames::{FrameCap, map_frame, unmap_frame};
