@@ -13,11 +13,8 @@ use Rattle.model.specs.declared.rights.Rights.{Rights}
 use Rattle.model.specs.declared.slot_entries.Entry.{Entry}
 use Rattle.slots.proofs.Changes.{capability_of, entry-other, entry-same}
 use Rattle.vspace.specs.Agreement.{IsNewPageTable, IsNewRoot, MayBePut}
+use Rattle.vspace.proofs.AgreementCarried.{open-some}
 use Rattle.vspace.specs.Tables.{Holds, IsTable, MapsFrame, MapsTable, TablesAgree}
-
--- an open slot holds something
-pub open-some : (slots : Slots) (x : ℕ) → IsOpen slots x → slots x ≢ None
-open-some slots x is_open = λ none. let clash : IsOpen (λ s. None) x = subst (λ (held : Option Entry). IsSome held) none is_open in absurd (cc clash)
 
 pub record PutStep (slots : Slots) (memory : List ℕ) (x : ℕ) (c : Cap) : Type 0 where
   pub agree : TablesAgree slots memory

@@ -15,7 +15,11 @@ mod tables;
 #[cfg(test)]
 mod tests;
 
-pub use agreement::an_unmapped_capability_may_be_put;
+pub use agreement::{
+    a_capability_without_tables_may_change, a_moved_capability_keeps_its_mapping,
+    an_unmapped_capability_may_be_put, an_unmapped_capability_may_be_removed,
+    bytes_beside_tables_may_change, slots_may_be_closed, slots_may_be_opened,
+};
 pub use arguments::SlotName;
 pub use endings::end_tables;
 pub use frames::{FrameCap, map_frame, unmap_frame};
