@@ -1,6 +1,6 @@
 -- A capability without mapping is removed, one is moved, one without tables changes; slots are opened and closed, and
 -- bytes beside the tables change: each carries the tables and the mappings along.
-use Rattle.std.proofs.Common.{◌≡◌, ◌≢◌, ◌∙◌, ℕ, ◌+◌, ◌*◌, ◌/◌, ◌%◌, ◌^◌, ◌<◌, ◌≤◌, ◌⊎◌, ◌==◌, inl, inr, true, false, if◌then◌else◌, Option, Some, None, List, length, refl, sym, ap, subst, arith}
+use Rattle.std.proofs.Common.{◌≡◌, ◌≢◌, ◌∙◌, ℕ, ◌+◌, ◌*◌, ◌/◌, ◌^◌, ◌<◌, ◌≤◌, ◌==◌, inl, inr, true, false, if◌then◌else◌, Option, Some, None, List, refl, sym, ap, subst, arith}
 use Rattle.std.specs.Option.{option_map}
 use Rattle.std.proofs.lemmas.Bool.{eq-eqb, ne_eqb}
 use Rattle.std.proofs.lemmas.Bool.Decides.{eqb_tells}
@@ -9,14 +9,12 @@ use Rattle.model.specs.CapabilityWords.{IsCapability}
 use Rattle.model.specs.Slots.{IsOpen, Slots, adopted, capability_at, closed, empty_entry, is_within, opened, parent_at, recapped, relocated, spliced, with_entry, with_parent}
 use Rattle.model.specs.declared.capabilities.Cap.{Cap}
 use Rattle.model.specs.declared.capabilities.Cap.TheVariants.{Empty, Frame, PageTable, RootTable}
-use Rattle.model.specs.declared.capabilities.FrameMapping.{FrameMapping}
-use Rattle.model.specs.declared.capabilities.TableMapping.{TableMapping}
-use Rattle.model.specs.declared.rights.Rights.{Rights}
 use Rattle.model.specs.declared.slot_entries.Entry.{Entry}
 use Rattle.model.proofs.BytesLemmas.{word_at-same}
-use Rattle.slots.proofs.Changes.{capability-adopted, capability-closed, capability-opened, capability_of, entry-other, entry-same}
-use Rattle.vspace.specs.Agreement.{IsNamed, IsOutsideTables, IsWithoutTables, SameInTables}
-use Rattle.vspace.specs.Tables.{Holds, IsTable, TablesAgree}
+use Rattle.slots.proofs.Changes.{capability-adopted, capability-opened, capability_of, entry-other, entry-same}
+use Rattle.slots.proofs.Tables.{within-bounds}
+use Rattle.vspace.specs.Agreement.{IsNamedTable, IsOutsideTables, IsWithoutTables, SameInTables}
+use Rattle.vspace.specs.Tables.{Holds, TablesAgree}
 use Rattle.vspace.proofs.AgreementCarried.{Carries, Stays, agree-carried, open-some, stays-closed}
 use Rattle.vspace.proofs.Steps.{capability-recapped_other, closed-after, held-before}
 
@@ -45,8 +43,8 @@ before-spliced slots x y v some held = elim (eqb_tells y x) [
 after-spliced : (slots : Slots) (x y : ℕ) (v : Cap) → unmapped (capability_at slots x) ≡ capability_at slots x → unmapped v ≢ v → capability_at slots y ≡ v → Holds (spliced slots x) v
 after-spliced slots x y v none mapped held =
     let differ : y ≢ x = λ same.
-        let here : capability_at slots x ≡ v = sym (ap (capability_at slots) same) ∙ held in
-        mapped (sym (ap unmapped here) ∙ none ∙ here) in
+    let here : capability_at slots x ≡ v = sym (ap (capability_at slots) same) ∙ held in
+    mapped (sym (ap unmapped here) ∙ none ∙ here) in
     (y, other-spliced slots x y differ ∙ held)
 
 valid-spliced : (slots : Slots) (memory : List ℕ) (x : ℕ) → TablesAgree slots memory → (y : ℕ) → IsCapability (capability_at (spliced slots x) y)
@@ -222,10 +220,10 @@ carries-same old new memory agree same = record {
   kept_frames = λ y frame r m held. (y, same y ∙ held);
 }
 
-none-opened : (slots : Slots) (first count table place : ℕ) → IsOutsideTables slots first count → IsNamed slots table → table ≤ place → place < table + 2 ^ 12 → slots (place / 16) ≡ None → opened slots first count (place / 16) ≡ None
+none-opened : (slots : Slots) (first count table place : ℕ) → IsOutsideTables slots first count → IsNamedTable slots table → table ≤ place → place < table + 2 ^ 12 → slots (place / 16) ≡ None → opened slots first count (place / 16) ≡ None
 none-opened slots first count table place beside named low high none =
     elim (is_within first count (place / 16)) as (λ b. is_within first count (place / 16) ≡ b → (if b then Some empty_entry else slots (place / 16)) ≡ None) [
-      | true ↦ λ inside. absurd (elim (beside table place named inside) [
+      | true ↦ λ inside. absurd (elim (beside table place named (within-bounds first count (place / 16) inside).0 (within-bounds first count (place / 16) inside).1) [
         | inl before ↦ omega (arith, before, low)
         | inr behind ↦ omega (arith, behind, high)
       ])
@@ -243,16 +241,17 @@ stays-opened slots memory first count beside = record {
   words = λ table i named is few. refl;
 }
 
-pub agree-opened : (slots : Slots) (memory : List ℕ) (first count : ℕ) → TablesAgree slots memory → ((slot : ℕ) → is_within first count slot ≡ true → slots slot ≡ None) → IsOutsideTables slots first count → TablesAgree (opened slots first count) memory
+pub agree-opened : (slots : Slots) (memory : List ℕ) (first count : ℕ) → TablesAgree slots memory → ((slot : ℕ) → first ≤ slot → slot < first + count → slots slot ≡ None) → IsOutsideTables slots first count → TablesAgree (opened slots first count) memory
 agree-opened slots memory first count agree none beside =
+    let within = λ (y : ℕ) (inside : is_within first count y ≡ true). let at = within-bounds first count y inside in none y at.0 at.1 in
     agree-carried slots (opened slots first count) memory memory agree
-    (carries-same slots (opened slots first count) memory agree (λ y. (capability-opened slots first count y none).0))
+    (carries-same slots (opened slots first count) memory agree (λ y. (capability-opened slots first count y within).0))
     (stays-opened slots memory first count beside)
 
-empty-closed : (slots : Slots) (first count y : ℕ) → ((slot : ℕ) → is_within first count slot ≡ true → capability_at slots slot ≡ Empty) → capability_at (closed slots first count) y ≡ capability_at slots y
+empty-closed : (slots : Slots) (first count y : ℕ) → ((slot : ℕ) → first ≤ slot → slot < first + count → capability_at slots slot ≡ Empty) → capability_at (closed slots first count) y ≡ capability_at slots y
 empty-closed slots first count y empty =
     elim (is_within first count y) as (λ b. is_within first count y ≡ b → capability_of (if b then None else slots y) ≡ capability_at slots y) [
-      | true ↦ λ inside. sym (empty y inside)
+      | true ↦ λ inside. sym (empty y (within-bounds first count y inside).0 (within-bounds first count y inside).1)
       | false ↦ λ outside. refl
     ] refl
 
@@ -260,7 +259,7 @@ none-closed : (slots : Slots) (first count y : ℕ) → slots y ≡ None → clo
 none-closed slots first count y none =
     elim (is_within first count y) as (λ b. (if b then None else slots y) ≡ None) [ true ↦ refl | false ↦ none ]
 
-pub agree-closed : (slots : Slots) (memory : List ℕ) (first count : ℕ) → TablesAgree slots memory → ((slot : ℕ) → is_within first count slot ≡ true → capability_at slots slot ≡ Empty) → TablesAgree (closed slots first count) memory
+pub agree-closed : (slots : Slots) (memory : List ℕ) (first count : ℕ) → TablesAgree slots memory → ((slot : ℕ) → first ≤ slot → slot < first + count → capability_at slots slot ≡ Empty) → TablesAgree (closed slots first count) memory
 agree-closed slots memory first count agree empty =
     agree-carried slots (closed slots first count) memory memory agree
     (carries-same slots (closed slots first count) memory agree (λ y. empty-closed slots first count y empty))

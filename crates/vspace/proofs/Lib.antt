@@ -18,3 +18,4 @@ pub mod BytesBeside
 pub mod AgreementCarried
 pub mod AgreementPut
 pub mod AgreementSlots
+pub mod AgreementBytes

@@ -1,8 +1,8 @@
 -- Which changes of slots and memory leave the page tables and the mappings in agreement.
-use Rattle.std.specs.Prelude.{ℕ, ◌≡◌, ◌≢◌, ◌+◌, ◌/◌, ◌<◌, ◌≤◌, ◌⊎◌, ⊤, true, Option, Some, None, List, length, slice_index}
+use Rattle.std.specs.Prelude.{ℕ, ◌≡◌, ◌≢◌, ◌+◌, ◌/◌, ◌<◌, ◌≤◌, ◌⊎◌, ⊤, Option, Some, None, List, length, slice_index}
 use Rattle.model.specs.AddressSpaces.{page_size}
 use Rattle.model.specs.CapabilityWords.{IsCapability}
-use Rattle.model.specs.Slots.{Slots, capability_at, is_within}
+use Rattle.model.specs.Slots.{Slots, capability_at}
 use Rattle.model.specs.declared.capabilities.Cap.{Cap}
 use Rattle.model.specs.declared.capabilities.Cap.TheVariants.{Frame, PageTable, RootTable}
 use Rattle.model.specs.declared.capabilities.TableMapping.{TableMapping}
@@ -38,7 +38,7 @@ IsWithoutTables (PageTable table m) = ⊥
 IsWithoutTables (RootTable root) = ⊥
 IsWithoutTables capability = ⊤
 
--- a capability names a table: it is the root table, the page table, or a page table that is mapped under it
+-- a capability names a table: its own, or the root table that its page table is mapped under
 abbrev pub NamesTable : Cap → ℕ → Type 0
 NamesTable (RootTable root) table = table ≡ root
 NamesTable (PageTable t None) table = table ≡ t
@@ -46,15 +46,15 @@ NamesTable (PageTable t (Some m)) table = (table ≡ t) ⊎ (table ≡ m.root)
 NamesTable capability table = ⊥
 
 -- some capability names a table
-abbrev pub IsNamed : Slots → ℕ → Type 0
-IsNamed slots table = (slot : ℕ) × NamesTable (capability_at slots slot) table
+abbrev pub IsNamedTable : Slots → ℕ → Type 0
+IsNamedTable slots table = (slot : ℕ) × NamesTable (capability_at slots slot) table
 
 -- the bytes of these slots stand in no table that a capability names
 abbrev pub IsOutsideTables : Slots → ℕ → ℕ → Type 0
 IsOutsideTables slots first count =
-    (table place : ℕ) → IsNamed slots table → is_within first count (place / 16) ≡ true → IsBeside place table
+    (table place : ℕ) → IsNamedTable slots table → first ≤ place / 16 → place / 16 < first + count → IsBeside place table
 
 -- the bytes of each table that a capability names are the same
 pub record SameInTables (slots : Slots) (old new : List ℕ) : Type 0 where
   pub size : length new ≡ length old
-  pub bytes : (table place : ℕ) → IsNamed slots table → table ≤ place → place < table + page_size → slice_index new place ≡ slice_index old place
+  pub bytes : (table place : ℕ) → IsNamedTable slots table → table ≤ place → place < table + page_size → slice_index new place ≡ slice_index old place

@@ -18,7 +18,8 @@ mod tests;
 pub use agreement::{
     a_capability_without_tables_may_change, a_moved_capability_keeps_its_mapping,
     an_unmapped_capability_may_be_put, an_unmapped_capability_may_be_removed,
-    bytes_beside_tables_may_change, slots_may_be_closed, slots_may_be_opened,
+    bytes_beside_tables_may_change, bytes_of_slots_may_change, slots_may_be_closed,
+    slots_may_be_opened, what_may_be_put_stays_so,
 };
 pub use arguments::SlotName;
 pub use endings::end_tables;
