@@ -1,5 +1,5 @@
--- Where each table and each mapping of the new slots was in the old ones, and none that is mapped was lost, the tables
--- agree as before.
+-- Where each table and each mapping of the new slots was in the old ones, and none that is mapped was lost, the
+-- tables agree as before.
 use Rattle.std.proofs.Common.{◌≡◌, ◌≢◌, ◌∙◌, ℕ, ◌+◌, ◌*◌, ◌/◌, ◌%◌, ◌^◌, ◌<◌, ◌⊎◌, inl, inr, Option, Some, None, IsSome, List, length, refl, sym, subst, arith}
 use Rattle.model.specs.Bytes.{word_at}
 use Rattle.model.specs.CapabilityWords.{IsCapability}
