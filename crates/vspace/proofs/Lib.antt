@@ -15,3 +15,7 @@ pub mod Sweeps
 pub mod TableUnmaps
 pub mod EndedTables
 pub mod BytesBeside
+pub mod AgreementCarried
+pub mod AgreementPut
+pub mod AgreementSlots
+pub mod AgreementBytes

@@ -62,7 +62,7 @@ beside p q a b differ = elim (leb_tells p q) [
 ]
 
 -- the bytes of a table are the same where only slots have changed
-word-outside : (slots : Slots) (old new : List ℕ) (t i : ℕ) → SameOutside slots old new → OutsideSlots slots t (2 ^ 12) → i < 2 ^ 10 → word_at new (t + 4 * i) ≡ word_at old (t + 4 * i)
+pub word-outside : (slots : Slots) (old new : List ℕ) (t i : ℕ) → SameOutside slots old new → OutsideSlots slots t (2 ^ 12) → i < 2 ^ 10 → word_at new (t + 4 * i) ≡ word_at old (t + 4 * i)
 word-outside slots old new t i same outside small =
     word_at-same old new (t + 4 * i) (λ k low high. same.bytes k (outside k (omega arith) (omega arith)))
 

@@ -4,3 +4,4 @@ pub mod TableAnswers
 pub mod Regions
 pub mod Endings
 pub mod Fresh
+pub mod Agreement

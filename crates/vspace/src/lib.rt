@@ -2,6 +2,7 @@
 //! seL4 Reference Manual, "Address Spaces and Virtual Memory".
 #![tactic(auto)]
 
+mod agreement;
 mod arguments;
 mod endings;
 mod frames;
@@ -14,6 +15,12 @@ mod tables;
 #[cfg(test)]
 mod tests;
 
+pub use agreement::{
+    a_capability_without_tables_may_change, a_moved_capability_keeps_its_mapping,
+    an_unmapped_capability_may_be_put, an_unmapped_capability_may_be_removed,
+    bytes_beside_tables_may_change, bytes_of_slots_may_change, slots_may_be_closed,
+    slots_may_be_opened, what_may_be_put_stays_so,
+};
 pub use arguments::SlotName;
 pub use endings::end_tables;
 pub use frames::{FrameCap, map_frame, unmap_frame};
