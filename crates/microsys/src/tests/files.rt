@@ -7,96 +7,36 @@ use std::rt::{Env, Files};
 use std::test::Fail;
 use std::{env, fs};
 
-/// The front of each image of the form, as 59 words of 4 bytes: the magic bytes, version, memory
-/// bits and boot radix; the counts; the untyped; the objects; the capabilities; the interrupt; the
-/// table; the frames.
+/// The front of each image of the form, in words of 4 bytes, a section a row or two.
+#[rattlefmt::skip]
 const FRONT: [u32; 59] = [
-    0x5359_534D,
-    1,
-    16,
-    4,
-    1,
-    7,
-    2,
-    1,
-    1,
-    2,
-    0,
-    1,
-    0x8000,
-    15,
-    0,
-    6,
-    0,
-    0,
-    8,
-    0,
-    0,
-    7,
-    0,
-    0,
-    6,
-    0,
-    0,
-    2,
-    0,
-    0,
-    5,
-    4,
-    0,
-    4,
-    0,
-    5,
-    1,
-    6,
-    2,
-    0,
-    5,
-    2,
-    7,
-    0,
-    0,
-    3,
-    6,
-    1,
-    1,
-    0,
-    2,
-    1,
-    0x1000,
-    0,
-    4,
-    1,
-    0x2000,
-    3,
-    3,
+    // the magic bytes, version, memory bits, boot radix; then how many entries each section has
+    0x5359_534D, 1, 16, 4,
+    1, 7, 2, 1, 1, 2, 0, 1,
+    // the untyped memory: offset, bits
+    0x8000, 15,
+    // the objects: untyped, type, size
+    0, 6, 0,  0, 8, 0,  0, 7, 0,  0, 6, 0,  0, 2, 0,  0, 5, 4,  0, 4, 0,
+    // the capabilities: CNode, index, source, rights, badge
+    5, 1, 6, 2, 0,  5, 2, 7, 0, 0,
+    // the interrupt: line, notification, badge
+    3, 6, 1,
+    // the page table: root, address, table
+    1, 0, 2,
+    // the frames: root, address, frame, rights
+    1, 0x1000, 0, 4,  1, 0x2000, 3, 3,
 ];
 
-/// The thread of the sample: its fixed part, four words of program, and a record with constant 3.
+/// The thread of the sample.
+#[rattlefmt::skip]
 const THREAD: [u32; 23] = [
-    4,
-    5,
-    28,
-    1,
-    100,
-    4,
-    0,
-    0,
-    0,
-    0x1000,
-    0,
-    4,
-    1,
-    0x0010_0513,
-    0x0050_0893,
-    0x73,
-    0xFF5F_F06F,
-    0,
-    0,
-    0,
-    0,
-    3,
-    0,
+    // TCB, CNode, guard word, root, priority, budget (two words), fault address, entry, base, and how many
+    // registers, words and records there are
+    4, 5, 28, 1, 100, 4, 0, 0, 0, 0x1000, 0, 4, 1,
+    // addi x10, x0, 1; addi x17, x0, 5; ecall; jal x0, -12
+    0x0010_0513, 0x0050_0893, 0x73, 0xFF5F_F06F,
+    // the record: point, ranges, slots, terms, constant (two words)
+    0, 0, 0, 0, 3, 0,
 ];
 
 /// The bytes of the sample image, 328 of them.
