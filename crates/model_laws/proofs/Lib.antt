@@ -1,3 +1,5 @@
+pub mod BranchedRegisters
+pub mod BranchedSides
 pub mod Descents
 pub mod LookupLaws
 pub mod Opened

@@ -3,6 +3,7 @@
 #![tactic(auto)]
 
 mod boot_rows;
+mod branch_laws;
 mod call_rows;
 mod descent_laws;
 mod form_laws;
@@ -32,6 +33,9 @@ mod word_rows;
 pub use boot_rows::solo_boots;
 pub use boot_rows::solo_boots_behind_the_boot_area;
 pub use boot_rows::solo_boots_with_mappings;
+pub use branch_laws::a_branch_keeps_the_registers_in_its_ranges;
+pub use branch_laws::joined_sides_keep_their_value;
+pub use branch_laws::narrowed_sides_keep_their_values;
 pub use call_rows::worker_deletes;
 pub use call_rows::worker_has;
 pub use call_rows::worker_keeps_its_pool;

@@ -1,0 +1,6 @@
+-- Each operation, both ways.
+use Rattle.model_laws.proofs.BranchedSides.{narrowed_kept}
+use Rattle.model_laws.proofs.branch_laws.narrowed_sides_keep_their_values.Goals as goal
+
+pub returns : goal.returns
+returns c = narrowed_kept
