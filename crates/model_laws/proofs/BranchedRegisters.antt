@@ -100,12 +100,12 @@ both_kept a b sides true same inside = equal_kept a b sides.0 sides.1 (same refl
 both_kept a b sides false same inside = inside
 
 pub branch_kept : (r : RegisterFile) (ranges : List Range) (op : BranchOp) (rs1 rs2 : Register) (taken : Bool)
-    → length r.words ≡ 32 → length ranges ≡ 31 → ((x : Register) → read r x < 2 ^ 32) → IsRegister rs1 → IsRegister rs2 → LieWithin r ranges
+    → length ranges ≡ 31 → ((x : Register) → read r x < 2 ^ 32) → IsRegister rs1 → IsRegister rs2 → LieWithin r ranges
     → is_taken op (read r rs1) (read r rs2) ≡ taken
     → (kept : List Range) × (branch_ranges op taken rs1 rs2 ranges ≡ Some kept) × LieWithin r kept
-branch_kept r ranges op rs1 rs2 taken words long small first second before goes =
+branch_kept r ranges op rs1 rs2 taken long small first second before goes =
     let sides : Range × Range = narrowed op taken (range_of ranges rs1) (range_of ranges rs2) in
     let inside : AreInside (read r rs1) (read r rs2) sides =
-    narrowed_kept op taken (read r rs1) (read r rs2) (range_of ranges rs1) (range_of ranges rs2) (small rs1) (small rs2) (before rs1.0 first) (before rs2.0 second) goes in
+        narrowed_kept op taken (read r rs1) (read r rs2) (range_of ranges rs1) (range_of ranges rs2) (small rs1) (small rs2) (before rs1.0 first) (before rs2.0 second) goes in
     sides_kept r ranges rs1 rs2 (joined (rs1.0 == rs2.0) sides) long first second before
     (both_kept (read r rs1) (read r rs2) sides (rs1.0 == rs2.0) (λ same. ap (λ (n : ℕ). read r (register_numbered n)) (eqb-true rs1.0 rs2.0 same)) inside)

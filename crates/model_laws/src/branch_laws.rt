@@ -28,7 +28,7 @@ pub fn joined_sides_keep_their_value()
 /// The way that a branch goes is never ruled out, and the registers lie in the ranges on it.
 pub fn a_branch_keeps_the_registers_in_its_ranges()
     ensures { (r : RegisterFile) (ranges : List Range) (op : BranchOp) (rs1 rs2 : Register) (taken : Bool)
-        → length r.words ≡ 32 → length ranges ≡ 31 → ((x : Register) → read r x < 2 ^ 32)
+        → length ranges ≡ 31 → ((x : Register) → read r x < 2 ^ 32)
         → IsRegister rs1 → IsRegister rs2 → LieWithin r ranges → is_taken op (read r rs1) (read r rs2) ≡ taken
         → (kept : List Range) × (branch_ranges op taken rs1 rs2 ranges ≡ Some kept) × LieWithin r kept }
 {}
