@@ -5,6 +5,7 @@ pub mod Placements
 pub mod ReadyLists
 pub mod ReadySteps
 pub mod Removals
+pub mod Results
 pub mod Signs
 pub mod Spellings
 pub mod WaitLaws
