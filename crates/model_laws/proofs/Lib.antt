@@ -9,3 +9,4 @@ pub mod Results
 pub mod Signs
 pub mod Spellings
 pub mod WaitLaws
+pub mod Written

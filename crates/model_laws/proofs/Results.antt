@@ -29,7 +29,7 @@ one-in true = (omega arith, omega arith)
 one-in false = (omega arith, omega arith)
 
 -- a number lies in one range where a test holds, and else in the other
-chosen : (n : ℕ) (r other : Range) (b : Bool) → LiesIn n other → (b ≡ true → LiesIn n r) → LiesIn n (if b then r else other)
+pub chosen : (n : ℕ) (r other : Range) (b : Bool) → LiesIn n other → (b ≡ true → LiesIn n r) → LiesIn n (if b then r else other)
 chosen n r other true otherwise inside = inside refl
 chosen n r other false otherwise inside = otherwise
 
@@ -157,7 +157,7 @@ shifts-in Srli a amount r small less here = right-in a amount r here
 shifts-in Srai a amount r small less here = arithmetic-in a amount r (right_range r amount) small here (right-in a amount r here)
 
 -- by an amount that is known where its range is single
-known : (b : ℕ) (s : Range) → LiesIn b s → is_single s ≡ true → b ≡ s.low
+pub known : (b : ℕ) (s : Range) → LiesIn b s → is_single s ≡ true → b ≡ s.low
 known b s there is =
     let ends : s.low ≡ s.high = eqb-true s.low s.high is in
     omega (arith, ends, there.0, there.1)
@@ -214,7 +214,7 @@ moved-in r n (negsuc m) small fits here =
 immediate-small : (z : ℤ) → IsImmediate z → word_of z < 2 ^ 32
 immediate-small z fits = grind arith
 
-single-in : (n : ℕ) → LiesIn n (single n)
+pub single-in : (n : ℕ) → LiesIn n (single n)
 single-in n = (omega arith, omega arith)
 
 pub immediates-in : (op : ImmediateOp) (a : ℕ) (immediate : ℤ) (r : Range) → a < 2 ^ 32 → IsImmediate immediate → LiesIn a r

@@ -1,4 +1,4 @@
--- What it says that a value lies in a range.
+-- When a value lies in a range.
 use Rattle.std.specs.Prelude.{ℕ, ◌≤◌}
 use Rattle.model.specs.declared.ranges.Range.{Range}
 
