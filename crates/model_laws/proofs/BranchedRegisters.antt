@@ -15,7 +15,7 @@ use Rattle.model.specs.Measures.{register_numbered}
 use Rattle.model.specs.ProgramMemory.{RegisterFile, read}
 use Rattle.model.specs.Ranges.{full, range_of, single, with_range}
 use Rattle.model.specs.ThreadInvariants.{LieWithin}
-use Rattle.model_laws.specs.Branched.{IsInside}
+use Rattle.model_laws.specs.Inside.{LiesIn}
 use Rattle.model_laws.proofs.BranchedSides.{AreInside, equal_kept, narrowed_kept}
 
 -- ---- a register's range is replaced by another that holds its value
@@ -42,24 +42,24 @@ range_elsewhere ranges x k out some other apart =
 
 -- what is read of a register lies in its range
 abbrev KeptAt : RegisterFile → List Range → ℕ → Type 0
-KeptAt r ranges k = IsInside (read r (register_numbered k)) (range_of ranges (register_numbered k))
+KeptAt r ranges k = LiesIn (read r (register_numbered k)) (range_of ranges (register_numbered k))
 
 replaced_at : (r : RegisterFile) (ranges : List Range) (x : Register) (out : Range) (k : ℕ) → length ranges ≡ 31 → IsRegister x → x.0 ≢ 0
-    → k < 32 → LieWithin r ranges → IsInside (read r x) out → KeptAt r (slice_set ranges (x.0 - 1) out) k
+    → k < 32 → LieWithin r ranges → LiesIn (read r x) out → KeptAt r (slice_set ranges (x.0 - 1) out) k
 replaced_at r ranges x out k long fits some less before value = elim (eqb_tells k 0) [
   | inl none ↦ zero_kept r (slice_set ranges (x.0 - 1) out) k none.1
   | inr other ↦ elim (eqb_tells k x.0) [
     | inl here ↦
         let word : read r x ≡ read r (register_numbered k) = ap (λ (n : ℕ). read r (register_numbered n)) (sym here.1) in
-        subst (λ (s : Range). IsInside (read r (register_numbered k)) s) (sym (range_here ranges x.0 k out long fits some here.1))
-        (subst (λ (n : ℕ). IsInside n out) word value)
+        subst (λ (s : Range). LiesIn (read r (register_numbered k)) s) (sym (range_here ranges x.0 k out long fits some here.1))
+        (subst (λ (n : ℕ). LiesIn n out) word value)
     | inr apart ↦
-        subst (λ (s : Range). IsInside (read r (register_numbered k)) s) (sym (range_elsewhere ranges x.0 k out some other.1 apart.1)) (before k less)
+        subst (λ (s : Range). LiesIn (read r (register_numbered k)) s) (sym (range_elsewhere ranges x.0 k out some other.1 apart.1)) (before k less)
   ]
 ]
 
 replaced_within : (r : RegisterFile) (ranges : List Range) (x : Register) (out : Range) → length ranges ≡ 31 → IsRegister x
-    → LieWithin r ranges → IsInside (read r x) out → LieWithin r (with_range ranges x out)
+    → LieWithin r ranges → LiesIn (read r x) out → LieWithin r (with_range ranges x out)
 replaced_within r ranges x out long fits before value =
     elim (eqb_tells x.0 0) [
       | inl none ↦
@@ -67,7 +67,7 @@ replaced_within r ranges x out long fits before value =
           subst (λ (s : List Range). LieWithin r s) (sym same) before
       | inr some ↦ λ k less.
           let same : with_range ranges x out ≡ slice_set ranges (x.0 - 1) out = ap (λ (b : Bool). if b then ranges else slice_set ranges (x.0 - 1) out) some.0 in
-          subst (λ (s : List Range). IsInside (read r (register_numbered k)) (range_of s (register_numbered k))) (sym same)
+          subst (λ (s : List Range). LiesIn (read r (register_numbered k)) (range_of s (register_numbered k))) (sym same)
           (replaced_at r ranges x out k long fits some.1 less before value)
     ]
 
@@ -80,7 +80,7 @@ still_long ranges x out =
 
 -- ---- both sides
 
-isnt_empty : (n : ℕ) (r : Range) → IsInside n r → is_empty r ≡ false
+isnt_empty : (n : ℕ) (r : Range) → LiesIn n r → is_empty r ≡ false
 isnt_empty n r inside = le-ltb r.high r.low (omega (arith, inside.0, inside.1))
 
 sides_kept : (r : RegisterFile) (ranges : List Range) (rs1 rs2 : Register) (sides : Range × Range) → length ranges ≡ 31

@@ -9,15 +9,15 @@ use Rattle.model.specs.Edges.{empty_range, equal_sides, have_one_sign, if_one_si
 use Rattle.model.specs.Effects.{is_taken}
 use Rattle.model.specs.Instructions.{signed}
 use Rattle.model.specs.RangeRules.{is_single, range}
-use Rattle.model_laws.specs.Branched.{IsInside}
+use Rattle.model_laws.specs.Inside.{LiesIn}
 
 -- each value in its side
 abbrev pub AreInside : ℕ → ℕ → Range × Range → Type 0
-AreInside a b sides = IsInside a sides.0 × IsInside b sides.1
+AreInside a b sides = LiesIn a sides.0 × LiesIn b sides.1
 
 -- ---- equal sides
 
-pub equal_kept : (a b : ℕ) (r s : Range) → a ≡ b → IsInside a r → IsInside b s → AreInside a b (equal_sides r s)
+pub equal_kept : (a b : ℕ) (r s : Range) → a ≡ b → LiesIn a r → LiesIn b s → AreInside a b (equal_sides r s)
 equal_kept a b r s same first second =
     ((omega (arith, same, first.0, second.0), omega (arith, same, first.1, second.1)), (omega (arith, same, first.0, second.0), omega (arith, same, first.1, second.1)))
 
@@ -31,13 +31,13 @@ high_kept : (a n high : ℕ) (b : Bool) → (b ≡ true → high ≡ n) → a �
 high_kept a n high true is apart most = let same = is refl in omega (arith, same, apart, most)
 high_kept a n high false is apart most = most
 
-without_kept : (a n : ℕ) (r : Range) → a ≢ n → IsInside a r → IsInside a (without r n)
+without_kept : (a n : ℕ) (r : Range) → a ≢ n → LiesIn a r → LiesIn a (without r n)
 without_kept a n r apart inside =
     (low_kept a n r.low (r.low == n) (eqb-true r.low n) apart inside.0, high_kept a n r.high (r.high == n) (eqb-true r.high n) apart inside.1)
 
-unequal_side_kept : (a b : ℕ) (r s : Range) → a ≢ b → IsInside a r → IsInside b s → IsInside a (unequal_side r s)
+unequal_side_kept : (a b : ℕ) (r s : Range) → a ≢ b → LiesIn a r → LiesIn b s → LiesIn a (unequal_side r s)
 unequal_side_kept a b r s apart first second =
-    elim (is_single s) as (λ one. is_single s ≡ one → IsInside a (if one then without r s.low else r)) [
+    elim (is_single s) as (λ one. is_single s ≡ one → LiesIn a (if one then without r s.low else r)) [
       | true ↦ λ is.
           let ends : s.low ≡ s.high = eqb-true s.low s.high is in
           let same : b ≡ s.low = omega (arith, ends, second.0, second.1) in
@@ -45,22 +45,22 @@ unequal_side_kept a b r s apart first second =
       | false ↦ λ isnt. first
     ] refl
 
-unequal_kept : (a b : ℕ) (r s : Range) → a ≢ b → IsInside a r → IsInside b s → AreInside a b (unequal_sides r s)
+unequal_kept : (a b : ℕ) (r s : Range) → a ≢ b → LiesIn a r → LiesIn b s → AreInside a b (unequal_sides r s)
 unequal_kept a b r s apart first second =
     (unequal_side_kept a b r s apart first second, unequal_side_kept b a s r (λ same. apart (sym same)) second first)
 
 -- ---- lesser sides, and others
 
-lesser_side : (a b low high : ℕ) (r : Range) (none : Bool) → (none ≡ true → high ≡ 0) → a < b → b ≤ high → IsInside a r
-    → IsInside a (if none then empty_range else range r.low (min r.high (high - 1)))
+lesser_side : (a b low high : ℕ) (r : Range) (none : Bool) → (none ≡ true → high ≡ 0) → a < b → b ≤ high → LiesIn a r
+    → LiesIn a (if none then empty_range else range r.low (min r.high (high - 1)))
 lesser_side a b low high r true is less most inside = let zero = is refl in absurd (omega (arith, zero, less, most))
 lesser_side a b low high r false is less most inside = (inside.0, omega (arith, less, most, inside.1))
 
-lesser_kept : (a b : ℕ) (r s : Range) → a < b → IsInside a r → IsInside b s → AreInside a b (lesser_sides r s)
+lesser_kept : (a b : ℕ) (r s : Range) → a < b → LiesIn a r → LiesIn b s → AreInside a b (lesser_sides r s)
 lesser_kept a b r s less first second =
     (lesser_side a b s.low s.high r (s.high == 0) (eqb-true s.high 0) less second.1 first, (omega (arith, less, first.0, second.0), second.1))
 
-not_lesser_kept : (a b : ℕ) (r s : Range) → b ≤ a → IsInside a r → IsInside b s → AreInside a b (not_lesser_sides r s)
+not_lesser_kept : (a b : ℕ) (r s : Range) → b ≤ a → LiesIn a r → LiesIn b s → AreInside a b (not_lesser_sides r s)
 not_lesser_kept a b r s more first second =
     ((omega (arith, more, first.0, second.0), first.1), (second.0, omega (arith, more, first.1, second.1)))
 
@@ -73,7 +73,7 @@ high_signs : (a b : ℕ) → a < 2 ^ 32 → b < 2 ^ 32 → 2 ^ 31 ≤ a → 2 ^ 
 high_signs a b small less first second = grind (arith, ints)
 
 -- where both ranges have one sign, signed numbers compare as unsigned ones
-one_sign : (a b : ℕ) (r s : Range) → a < 2 ^ 32 → b < 2 ^ 32 → IsInside a r → IsInside b s → have_one_sign r s ≡ true
+one_sign : (a b : ℕ) (r s : Range) → a < 2 ^ 32 → b < 2 ^ 32 → LiesIn a r → LiesIn b s → have_one_sign r s ≡ true
     → int_lt (signed a) (signed b) ≡ nat_lt a b
 one_sign a b r s small less first second same =
     elim (nat_lt r.high (2 ^ 31) && nat_lt s.high (2 ^ 31)) as (λ t. (nat_lt r.high (2 ^ 31) && nat_lt s.high (2 ^ 31)) ≡ t
@@ -91,7 +91,7 @@ one_sign a b r s small less first second same =
     ] refl same
 
 -- sides that are narrowed for one sign alone
-one_sign_kept : (a b : ℕ) (r s : Range) (sides : Range × Range) → IsInside a r → IsInside b s
+one_sign_kept : (a b : ℕ) (r s : Range) (sides : Range × Range) → LiesIn a r → LiesIn b s
     → (have_one_sign r s ≡ true → AreInside a b sides) → AreInside a b (if_one_sign r s sides)
 one_sign_kept a b r s sides first second narrower =
     elim (have_one_sign r s) as (λ t. have_one_sign r s ≡ t → AreInside a b (if t then sides else (r, s))) [
@@ -99,13 +99,13 @@ one_sign_kept a b r s sides first second narrower =
       | false ↦ λ other. (first, second)
     ] refl
 
-signed_lesser_kept : (a b : ℕ) (r s : Range) → a < 2 ^ 32 → b < 2 ^ 32 → IsInside a r → IsInside b s → int_lt (signed a) (signed b) ≡ true
+signed_lesser_kept : (a b : ℕ) (r s : Range) → a < 2 ^ 32 → b < 2 ^ 32 → LiesIn a r → LiesIn b s → int_lt (signed a) (signed b) ≡ true
     → AreInside a b (if_one_sign r s (lesser_sides r s))
 signed_lesser_kept a b r s small less first second test =
     one_sign_kept a b r s (lesser_sides r s) first second
     (λ same. lesser_kept a b r s (ltb-true a b (sym (one_sign a b r s small less first second same) ∙ test)) first second)
 
-signed_not_lesser_kept : (a b : ℕ) (r s : Range) → a < 2 ^ 32 → b < 2 ^ 32 → IsInside a r → IsInside b s → int_lt (signed a) (signed b) ≡ false
+signed_not_lesser_kept : (a b : ℕ) (r s : Range) → a < 2 ^ 32 → b < 2 ^ 32 → LiesIn a r → LiesIn b s → int_lt (signed a) (signed b) ≡ false
     → AreInside a b (if_one_sign r s (not_lesser_sides r s))
 signed_not_lesser_kept a b r s small less first second test =
     one_sign_kept a b r s (not_lesser_sides r s) first second
@@ -113,7 +113,7 @@ signed_not_lesser_kept a b r s small less first second test =
 
 -- ---- the six operations, both ways
 
-pub narrowed_kept : (op : BranchOp) (taken : Bool) (a b : ℕ) (r s : Range) → a < 2 ^ 32 → b < 2 ^ 32 → IsInside a r → IsInside b s
+pub narrowed_kept : (op : BranchOp) (taken : Bool) (a b : ℕ) (r s : Range) → a < 2 ^ 32 → b < 2 ^ 32 → LiesIn a r → LiesIn b s
     → is_taken op a b ≡ taken → AreInside a b (narrowed op taken r s)
 unfolding narrowed
 narrowed_kept Beq true a b r s small less first second goes = equal_kept a b r s (eqb-true a b goes) first second
@@ -132,7 +132,7 @@ narrowed_kept Bge false a b r s small less first second goes =
     signed_lesser_kept a b r s small less first second (not-false (int_lt (signed a) (signed b)) goes)
 
 -- both sides are one register
-pub joined_kept : (op : BranchOp) (taken : Bool) (a : ℕ) (r : Range) → a < 2 ^ 32 → IsInside a r → is_taken op a a ≡ taken
+pub joined_kept : (op : BranchOp) (taken : Bool) (a : ℕ) (r : Range) → a < 2 ^ 32 → LiesIn a r → is_taken op a a ≡ taken
     → AreInside a a (joined true (narrowed op taken r r))
 joined_kept op taken a r small inside goes =
     let sides = narrowed_kept op taken a a r r small small inside inside goes in

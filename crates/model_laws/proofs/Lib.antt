@@ -7,6 +7,8 @@ pub mod Placements
 pub mod ReadyLists
 pub mod ReadySteps
 pub mod Removals
+pub mod Results
 pub mod Signs
 pub mod Spellings
 pub mod WaitLaws
+pub mod Written

@@ -9,20 +9,20 @@ ghost use Rattle.model.specs.Effects.{is_taken};
 ghost use Rattle.model.specs.Instructions.{IsRegister};
 ghost use Rattle.model.specs.ProgramMemory.{RegisterFile, read};
 ghost use Rattle.model.specs.ThreadInvariants.{LieWithin};
-ghost use Rattle.model_laws.specs.Branched.{IsInside};
+ghost use Rattle.model_laws.specs.Inside.{LiesIn};
 
 /// Each side of a branch that goes this way stays in what the branch narrows its range to.
 pub fn narrowed_sides_keep_their_values()
     ensures { (op : BranchOp) (taken : Bool) (a b : ℕ) (r s : Range)
-        → a < 2 ^ 32 → b < 2 ^ 32 → IsInside a r → IsInside b s → is_taken op a b ≡ taken
-        → IsInside a (narrowed op taken r s).0 × IsInside b (narrowed op taken r s).1 }
+        → a < 2 ^ 32 → b < 2 ^ 32 → LiesIn a r → LiesIn b s → is_taken op a b ≡ taken
+        → LiesIn a (narrowed op taken r s).0 × LiesIn b (narrowed op taken r s).1 }
 {}
 
 /// The same where both sides are one register.
 pub fn joined_sides_keep_their_value()
     ensures { (op : BranchOp) (taken : Bool) (a : ℕ) (r : Range)
-        → a < 2 ^ 32 → IsInside a r → is_taken op a a ≡ taken
-        → IsInside a (joined true (narrowed op taken r r)).0 × IsInside a (joined true (narrowed op taken r r)).1 }
+        → a < 2 ^ 32 → LiesIn a r → is_taken op a a ≡ taken
+        → LiesIn a (joined true (narrowed op taken r r)).0 × LiesIn a (joined true (narrowed op taken r r)).1 }
 {}
 
 /// The way that a branch goes is never ruled out, and the registers lie in the ranges on it.

@@ -1,0 +1,6 @@
+-- By the cases of the operation.
+use Rattle.model_laws.proofs.Results.{registers-in}
+use Rattle.model_laws.proofs.result_laws.results_of_registers_lie_in_their_ranges.Goals as goal
+
+pub returns : goal.returns
+returns c = registers-in
