@@ -106,6 +106,6 @@ pub branch_kept : (r : RegisterFile) (ranges : List Range) (op : BranchOp) (rs1 
 branch_kept r ranges op rs1 rs2 taken long small first second before goes =
     let sides : Range × Range = narrowed op taken (range_of ranges rs1) (range_of ranges rs2) in
     let inside : AreInside (read r rs1) (read r rs2) sides =
-        narrowed_kept op taken (read r rs1) (read r rs2) (range_of ranges rs1) (range_of ranges rs2) (small rs1) (small rs2) (before rs1.0 first) (before rs2.0 second) goes in
+    narrowed_kept op taken (read r rs1) (read r rs2) (range_of ranges rs1) (range_of ranges rs2) (small rs1) (small rs2) (before rs1.0 first) (before rs2.0 second) goes in
     sides_kept r ranges rs1 rs2 (joined (rs1.0 == rs2.0) sides) long first second before
     (both_kept (read r rs1) (read r rs2) sides (rs1.0 == rs2.0) (λ same. ap (λ (n : ℕ). read r (register_numbered n)) (eqb-true rs1.0 rs2.0 same)) inside)
