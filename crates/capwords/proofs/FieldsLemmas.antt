@@ -6,8 +6,8 @@ use Rattle.model.specs.declared.capabilities.Cap.{Cap}
 use Rattle.model.specs.declared.capabilities.Cap.TheVariants.{Empty, Untyped, Endpoint, Notification, CNode, Frame, PageTable, Tcb, RootTable, InterruptControl, InterruptHandler}
 use Rattle.model.specs.declared.capabilities.FrameMapping.{FrameMapping}
 use Rattle.model.specs.declared.capabilities.TableMapping.{TableMapping}
-use Rattle.model.specs.CapabilityWords.{AreEndpointRights, AreMappingRights, IsCapability, IsFrameMapping, IsTableMapping, head_word, mapping_word, words_of}
-use Rattle.model.specs.CapabilityFields.{fields_of_kind, fields_of, frame_mapping_of, table_mapping_of}
+use Rattle.model.specs.Capabilities.CapabilityWords.{AreEndpointRights, AreMappingRights, IsCapability, IsFrameMapping, IsTableMapping, head_word, mapping_word, words_of}
+use Rattle.model.specs.Capabilities.CapabilityFields.{fields_of_kind, fields_of, frame_mapping_of, table_mapping_of}
 
 -- a multiple of an object's size is one of sixteen
 sixteenths_above : (offset more : ℕ) → offset % 2 ^ (more + 4) ≡ 0 → offset / 16 * 16 ≡ offset

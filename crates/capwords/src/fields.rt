@@ -1,7 +1,7 @@
 //! Reading fields out of words, before it is known that they are a capability's.
 
 ghost use Rattle.std.specs.Prelude.{◌≡◌, ◌<◌};
-ghost use Rattle.model.specs.CapabilityFields.{fields_of, fields_of_kind, frame_mapping_of, table_mapping_of};
+ghost use Rattle.model.specs.Capabilities.CapabilityFields.{fields_of, fields_of_kind, frame_mapping_of, table_mapping_of};
 
 use model::{Cap, FrameMapping, Rights, TableMapping};
 
@@ -33,7 +33,7 @@ fn table_mapping(word: u32) -> Option<TableMapping>
 }
 
 /// The capability with these fields, by its kind.
-#[tactic(auto, unfolding(model::specs::CapabilityFields::fields_of_kind))]
+#[tactic(auto, unfolding(model::specs::Capabilities::CapabilityFields::fields_of_kind))]
 fn of_kind(kind: u32, detail: u8, rights: u8, offset: u32, word: u32) -> Cap
     ensures { result ≡ fields_of_kind kind detail rights offset word }
 {

@@ -1,7 +1,7 @@
 //! The two words of a capability, and the capability of two words.
 
 ghost use Rattle.std.specs.Prelude.{◌≡◌, ◌^◌, ◌<◌, Some, IfSome};
-ghost use Rattle.model.specs.CapabilityWords.{IsCapability, head_word, mapping_word, words_of};
+ghost use Rattle.model.specs.Capabilities.CapabilityWords.{IsCapability, head_word, mapping_word, words_of};
 
 use crate::fields::read_fields;
 use crate::validity::is_capability;

@@ -1,7 +1,7 @@
 -- One CNode of a lookup.
 use Rattle.std.proofs.Common.{ℕ, zero, suc, ◌≡◌, ◌∙◌, ◌==◌, ◌+◌, ◌/◌, ◌<◌, ◌||◌, true, false, not, Some, Result, Ok, Err, refl, sym, ap, arith}
-use Rattle.model.specs.Slots.{Slots, capability_at}
-use Rattle.model.specs.Lookup.{resolve, is_cnode, go_on, lookup_within}
+use Rattle.model.specs.Capabilities.Slots.{Slots, capability_at}
+use Rattle.model.specs.Capabilities.Lookup.{resolve, is_cnode, go_on, lookup_within}
 use Rattle.model.specs.declared.slot_entries.Entry.{Entry}
 use Rattle.model.specs.declared.capabilities.Cap.{Cap}
 use Rattle.model.specs.declared.capabilities.Cap.TheVariants.{Empty, Untyped, Endpoint, Notification, CNode, Frame, PageTable, Tcb, RootTable, InterruptControl, InterruptHandler}

@@ -1,9 +1,9 @@
 //! From a capability address to a slot.
 
 ghost use Rattle.std.specs.Prelude.{ℕ, ◌≡◌, ◌+◌, ◌/◌, ◌^◌, ◌%◌, ◌<◌, ◌≤◌, ◌==◌, ◌||◌, not, IfOk};
-ghost use Rattle.model.specs.CapabilityWords.{IsCapability, IsGuardWord, IsPlace};
-ghost use Rattle.model.specs.Lookup.{CNodeIsOpen, CNodesAreOpen, is_cnode, lookup, resolve};
-ghost use Rattle.model.specs.Slots.{IsOpen};
+ghost use Rattle.model.specs.Capabilities.CapabilityWords.{IsCapability, IsGuardWord, IsPlace};
+ghost use Rattle.model.specs.Capabilities.Lookup.{CNodeIsOpen, CNodesAreOpen, is_cnode, lookup, resolve};
+ghost use Rattle.model.specs.Capabilities.Slots.{IsOpen};
 
 use model::{Cap, LookupFailure, Slot};
 use slots::SlotMap;

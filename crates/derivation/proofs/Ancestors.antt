@@ -4,12 +4,12 @@ use Rattle.std.specs.Option.{option_map_or}
 use Rattle.std.proofs.Math.Bool.{or-true}
 use Rattle.std.proofs.lemmas.Bool.{eq-eqb}
 use Rattle.std.proofs.lemmas.Bool.Decides.{eqb_tells}
-use Rattle.model.specs.Slots.{Slots, Descendant, child, deeper, IsDerivation, IsFull, IsOpen, depth_of, depth_within, is_empty, is_full, parent_at}
+use Rattle.model.specs.Capabilities.Slots.{Slots, Descendant, child, deeper, IsDerivation, IsFull, IsOpen, depth_of, depth_within, is_empty, is_full, parent_at}
 use Rattle.model.specs.declared.capabilities.Cap.TheVariants.{Empty}
 use Rattle.model.specs.declared.slot_entries.Entry.{Entry}
 use Rattle.slots.proofs.Depths.{Parents, depth-none, depth-some}
 use Rattle.slots.specs.Order.{IsOrderOf, times_in}
-use Rattle.model.specs.Slots.{descends_within, is_descendant}
+use Rattle.model.specs.Capabilities.Slots.{descends_within, is_descendant}
 use Rattle.derivation.specs.Descendants.{descendants}
 use Rattle.derivation.proofs.Behind.{times-filter}
 

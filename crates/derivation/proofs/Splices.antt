@@ -2,7 +2,7 @@
 use Rattle.std.proofs.Common.{ℕ, ◌≡◌, ◌≢◌, ◌∙◌, ◌==◌, inl, inr, Some, None, true, false, if◌then◌else◌, refl, sym, ap, arith}
 use Rattle.std.proofs.lemmas.Bool.Decides.{eqb_tells}
 use Rattle.std.proofs.lemmas.Bool.{ne_eqb}
-use Rattle.model.specs.Slots.{Slots, Descendant, child, deeper, IsDerivation, empty_entry, parent_at, spliced, with_parent}
+use Rattle.model.specs.Capabilities.Slots.{Slots, Descendant, child, deeper, IsDerivation, empty_entry, parent_at, spliced, with_parent}
 use Rattle.slots.proofs.Changes.{entry-other, entry-same, parent-adopted, parent_of}
 use Rattle.slots.proofs.Depths.{adopted_parent, depth-own_parent}
 

@@ -1,7 +1,7 @@
 -- Which slots descend from a slot, as a list.
 -- seL4 Reference Manual, "Capability Derivation Tree".
 use Rattle.std.specs.Prelude.{ℕ, ◌==◌, List, filter, if◌then◌else◌}
-use Rattle.model.specs.Slots.{Slots, is_descendant}
+use Rattle.model.specs.Capabilities.Slots.{Slots, is_descendant}
 
 -- the descendants of a root, in the order of a list
 abbrev pub descendants : List ℕ → Slots → ℕ → List ℕ

@@ -1,8 +1,8 @@
 //! Changes of what is derived from what.
 
 ghost use Rattle.std.specs.Prelude.{ℕ, ◌≡◌, ◌≢◌, ◌<◌, ◌≤◌, ◌↔◌, Some, OnOk, OnErr, IsOk};
-ghost use Rattle.model.specs.CapabilityWords.{IsCapability};
-ghost use Rattle.model.specs.Slots.{Descendant, IsFull, SameOutside, depth_of, empty_entry, inserted, relocated, spliced};
+ghost use Rattle.model.specs.Capabilities.CapabilityWords.{IsCapability};
+ghost use Rattle.model.specs.Capabilities.Slots.{Descendant, IsFull, SameOutside, depth_of, empty_entry, inserted, relocated, spliced};
 ghost use Rattle.derivation.specs.Descendants.{name_after_move};
 ghost use Rattle.model.specs.declared.capabilities.Cap.{Cap};
 ghost use Rattle.model.specs.declared.capabilities.Cap.TheVariants.{Empty};

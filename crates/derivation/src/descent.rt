@@ -2,9 +2,9 @@
 
 ghost use Rattle.std.specs.Prelude.{ℕ, ◌≡◌, ◌↔◌, IsTrue, IfSome, if◌then◌else◌};
 ghost use Rattle.std.specs.Option.{ForSome};
-ghost use Rattle.model.specs.Slots.{Descendant, IsDerivation, IsFull, IsOpen};
+ghost use Rattle.model.specs.Capabilities.Slots.{Descendant, IsDerivation, IsFull, IsOpen};
 ghost use Rattle.slots.specs.Order.{after, times_in};
-ghost use Rattle.model.specs.Slots.{is_descendant};
+ghost use Rattle.model.specs.Capabilities.Slots.{is_descendant};
 ghost use Rattle.derivation.specs.Descendants.{descendants};
 
 use model::Slot;

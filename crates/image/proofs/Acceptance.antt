@@ -4,14 +4,14 @@ use Rattle.std.specs.Prelude.{All, Contains}
 use Rattle.std.specs.Option.{option_or}
 use Rattle.std.proofs.lemmas.List.Elements.{All-cons, All-head, All-tail, All-nil}
 use Rattle.model.specs.declared.refusals.Refusal.{Refusal}
-use Rattle.model.specs.Accepted.{AreKept, Breach, unread, broken, IsAccepted, IsWellFormed, breach_of, first_breach, first_in, phases}
-use Rattle.model.specs.Bytes.{AreBytes}
-use Rattle.model.specs.Format.{reading}
-use Rattle.model.specs.Image.{Image, whole_image}
-use Rattle.model.specs.PointRules.{program_rules}
-use Rattle.model.specs.Rules.{Rule, first_broken}
-use Rattle.model.specs.ThreadRules.{thread_rules}
-use Rattle.model.specs.WellFormed.{capability_rules, mapping_rules, object_rules}
+use Rattle.model.specs.Acceptance.Accepted.{AreKept, Breach, unread, broken, IsAccepted, IsWellFormed, breach_of, first_breach, first_in, phases}
+use Rattle.model.specs.Shared.Bytes.{AreBytes}
+use Rattle.model.specs.Images.Format.{reading}
+use Rattle.model.specs.Images.Image.{Image, whole_image}
+use Rattle.model.specs.Acceptance.PointRules.{program_rules}
+use Rattle.model.specs.Acceptance.Rules.{Rule, first_broken}
+use Rattle.model.specs.Acceptance.ThreadRules.{thread_rules}
+use Rattle.model.specs.Acceptance.WellFormed.{capability_rules, mapping_rules, object_rules}
 use Rattle.image.proofs.WholeImage.{bytes-fit, reading-spelled, spelled-reading}
 
 -- ---- the rules of a phase

@@ -5,14 +5,14 @@ use Rattle.std.proofs.lemmas.Bool.{and_parts, cases_eq, leb-true}
 use Rattle.std.proofs.lemmas.Bool.Decides.{eqb_tells}
 use Rattle.std.proofs.lemmas.Int.{ints}
 use Rattle.model.specs.declared.ranges.Range.{Range}
-use Rattle.model.specs.Image.{Thread}
-use Rattle.model.specs.ProgramMemory.{RegisterFile, read}
-use Rattle.model.specs.Measures.{register_numbered}
-use Rattle.model.specs.NotedStates.{PointState}
-use Rattle.model.specs.PointRules.{ProgramEdge, are_ranges_within, is_range_within}
-use Rattle.model.specs.PointStates.{Known, noted}
-use Rattle.model.specs.Ranges.{full, range_of, single}
-use Rattle.model.specs.ThreadInvariants.{LieWithin}
+use Rattle.model.specs.Images.Image.{Thread}
+use Rattle.model.specs.Machine.ProgramMemory.{RegisterFile, read}
+use Rattle.model.specs.Acceptance.Measures.{register_numbered}
+use Rattle.model.specs.Acceptance.NotedStates.{PointState}
+use Rattle.model.specs.Acceptance.PointRules.{ProgramEdge, are_ranges_within, is_range_within}
+use Rattle.model.specs.Acceptance.PointStates.{Known, noted}
+use Rattle.model.specs.Acceptance.Ranges.{full, range_of, single}
+use Rattle.model.specs.Acceptance.ThreadInvariants.{LieWithin}
 use Rattle.image.specs.Programs.{AreWords, AtPoint, IsKept, Moves}
 use Rattle.image.specs.Stage.{staged_image}
 use Rattle.image.proofs.ConstantMeasures.{constant_falls, constant_least_value, constant_stays_below}

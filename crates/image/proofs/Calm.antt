@@ -9,8 +9,8 @@ use Rattle.model.specs.declared.entries.RegisterEntry.{RegisterEntry}
 use Rattle.model.specs.declared.entries.SlotEntry.{SlotEntry}
 use Rattle.model.specs.declared.refusals.Refusal.{Refusal}
 use Rattle.model.specs.declared.refusals.Refusal.TheVariants.{Limit, OutOfMemory, Trailing, Truncated}
-use Rattle.model.specs.Format.{Format, ◌>>=◌, both, field, many_read, named, number, number_at, ordered, signed}
-use Rattle.model.specs.Image.{Thread, anything, below, between, is_constant, not_zero, range_format, ranges_format, record_format, record_header_format, records_format, register_format, registers_format, term_format, terms_format, thread_format, thread_header_format, words_format}
+use Rattle.model.specs.Images.Format.{Format, ◌>>=◌, both, field, many_read, named, number, number_at, ordered, signed}
+use Rattle.model.specs.Images.Image.{Thread, anything, below, between, is_constant, not_zero, range_format, ranges_format, record_format, record_header_format, records_format, register_format, registers_format, term_format, terms_format, thread_format, thread_header_format, words_format}
 use Rattle.image.specs.Stage.{is_staged, later, no_slot_count, no_slots, staged_end, staged_front, staged_image, staged_reading}
 
 abbrev refused : {A : Type 0} → Refusal → Result A Refusal

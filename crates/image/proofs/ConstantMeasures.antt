@@ -5,9 +5,9 @@ use Rattle.std.proofs.lemmas.Int.{by_lt_z, ints}
 use Rattle.std.specs.List.{range_with_len}
 use Rattle.model.specs.declared.entries.TermEntry.{TermEntry}
 use Rattle.model.specs.declared.ranges.Range.{Range}
-use Rattle.model.specs.ProgramMemory.{RegisterFile, read}
-use Rattle.model.specs.Measures.{Form, Measure, constant_form, difference_form, falls, greatest, greatest_term, least, least_term, least_value, measured, range_at, register_numbered, stays_below, substituted, sum_form, sum_of, times_form, variable_form}
-use Rattle.model.specs.Ranges.{range_of}
+use Rattle.model.specs.Machine.ProgramMemory.{RegisterFile, read}
+use Rattle.model.specs.Acceptance.Measures.{Form, Measure, constant_form, difference_form, falls, greatest, greatest_term, least, least_term, least_value, measured, range_at, register_numbered, stays_below, substituted, sum_form, sum_of, times_form, variable_form}
+use Rattle.model.specs.Acceptance.Ranges.{range_of}
 
 -- a form of no variable
 record IsConstant (f : Form) : Type 0 where

@@ -11,8 +11,8 @@ use Rattle.model.specs.declared.instructions.LoadOp.{LoadOp}
 use Rattle.model.specs.declared.instructions.RegisterOp.{RegisterOp}
 use Rattle.model.specs.declared.instructions.ShiftOp.{ShiftOp}
 use Rattle.model.specs.declared.instructions.StoreOp.{StoreOp}
-use Rattle.model.specs.Instructions.{IsImmediate, IsRegister, bits}
-use Rattle.model.specs.Decoding.{b_offset, branch_op, decoded, funct3_of, funct7_of, i_immediate, immediate_op, load_op, rd_of, register_op, rs1_of, rs2_of, s_immediate, shift_op, store_op}
+use Rattle.model.specs.Machine.Instructions.{IsImmediate, IsRegister, bits}
+use Rattle.model.specs.Machine.Decoding.{b_offset, branch_op, decoded, funct3_of, funct7_of, i_immediate, immediate_op, load_op, rd_of, register_op, rs1_of, rs2_of, s_immediate, shift_op, store_op}
 
 abbrev pub HaveFields : Option Instr → Type 0
 HaveFields None = Unit {0}

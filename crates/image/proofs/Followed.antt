@@ -12,9 +12,9 @@ use Rattle.model.specs.declared.entries.TermEntry.{TermEntry}
 use Rattle.model.specs.declared.entries.ThreadHeader.{ThreadHeader}
 use Rattle.model.specs.declared.refusals.Refusal.{Refusal}
 use Rattle.model.specs.declared.refusals.Refusal.TheVariants.{Limit, Trailing, Truncated}
-use Rattle.model.specs.Accepted.{breach_of, first_breach}
-use Rattle.model.specs.Format.{Format, Spells, ◌>>=◌, both, field, many_read, many_spelling, many_fit, named, number_at, reading, signed}
-use Rattle.model.specs.Image.{Image, Sections, SlotFormat, StateRecord, Thread, anything, between, capability_format, content_format, frame_format, header_format, image_with, interrupt_format, is_constant, object_format, record_format, record_header_format, ranges_format, records_format, registers_format, sections_format, slots_format, table_format, terms_format, thread_format, thread_header_format, untyped_format, whole_image, words_format}
+use Rattle.model.specs.Acceptance.Accepted.{breach_of, first_breach}
+use Rattle.model.specs.Images.Format.{Format, Spells, ◌>>=◌, both, field, many_read, many_spelling, many_fit, named, number_at, reading, signed}
+use Rattle.model.specs.Images.Image.{Image, Sections, SlotFormat, StateRecord, Thread, anything, between, capability_format, content_format, frame_format, header_format, image_with, interrupt_format, is_constant, object_format, record_format, record_header_format, ranges_format, records_format, registers_format, sections_format, slots_format, table_format, terms_format, thread_format, thread_header_format, untyped_format, whole_image, words_format}
 use Rattle.image.specs.Stage.{any_thread, is_staged, later, no_slot_count, no_slots, staged_end, staged_front, staged_image, staged_reading, staged_sections}
 use Rattle.image.proofs.Laws.{IsBytes, bind_ok, ok_is}
 use Rattle.image.proofs.StageLaws.{begins}

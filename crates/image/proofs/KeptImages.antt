@@ -1,9 +1,9 @@
 -- Bytes that spell an image of the form have a thread of the form; with rules that are kept, one that keeps them.
 use Rattle.std.proofs.Common.{◌≡◌, ℕ, ◌<◌, true, List}
-use Rattle.model.specs.Accepted.{AreKept}
-use Rattle.model.specs.Format.{Spells}
-use Rattle.model.specs.Image.{Thread, image_format}
-use Rattle.model.specs.PointRules.{program_rules}
+use Rattle.model.specs.Acceptance.Accepted.{AreKept}
+use Rattle.model.specs.Images.Format.{Spells}
+use Rattle.model.specs.Images.Image.{Thread, image_format}
+use Rattle.model.specs.Acceptance.PointRules.{program_rules}
 use Rattle.image.specs.Certificates.{IsOfForm, IsPlain}
 use Rattle.image.specs.Programs.{IsKept}
 use Rattle.image.specs.Stage.{is_staged, no_slots, staged_image}

@@ -9,13 +9,13 @@ use Rattle.std.proofs.lemmas.List.Elements.{All-cons, All-head, All-tail, All-ni
 use Rattle.model.specs.declared.refusals.Point.{Point}
 use Rattle.model.specs.declared.refusals.Refusal.{Refusal}
 use Rattle.model.specs.declared.refusals.Refusal.TheVariants.{BadTarget, MeasureNotFalling, OverBudget, RangeNotKept}
-use Rattle.model.specs.Accepted.{AreKept}
-use Rattle.model.specs.Image.{Thread}
-use Rattle.model.specs.Measures.{Measure, falls, least_value, stays_below}
-use Rattle.model.specs.NotedStates.{PointState}
-use Rattle.model.specs.PointRules.{ProgramEdge, are_ranges_within, edge_rules, edges_at, entry_rules, kept_at, noted_at, point_at, point_rules, program_rules, rules_of_noted, rules_of_program, rules_on_edges, state_rules}
-use Rattle.model.specs.PointStates.{Noted, Known, Missing, Unmeasured, address_of, instruction_at, noted, point_of}
-use Rattle.model.specs.Rules.{Rule, refuse_if}
+use Rattle.model.specs.Acceptance.Accepted.{AreKept}
+use Rattle.model.specs.Images.Image.{Thread}
+use Rattle.model.specs.Acceptance.Measures.{Measure, falls, least_value, stays_below}
+use Rattle.model.specs.Acceptance.NotedStates.{PointState}
+use Rattle.model.specs.Acceptance.PointRules.{ProgramEdge, are_ranges_within, edge_rules, edges_at, entry_rules, kept_at, noted_at, point_at, point_rules, program_rules, rules_of_noted, rules_of_program, rules_on_edges, state_rules}
+use Rattle.model.specs.Acceptance.PointStates.{Noted, Known, Missing, Unmeasured, address_of, instruction_at, noted, point_of}
+use Rattle.model.specs.Acceptance.Rules.{Rule, refuse_if}
 use Rattle.image.specs.Stage.{staged_image}
 
 -- ---- lists of rules

@@ -13,23 +13,23 @@ use Rattle.model.specs.declared.instructions.Register.{Register}
 use Rattle.model.specs.declared.ranges.Range.{Range}
 use Rattle.model.specs.declared.refusals.Refusal.{Refusal}
 use Rattle.model.specs.declared.refusals.Refusal.TheVariants.{OverBudget, RangeNotKept}
-use Rattle.model.specs.Accepted.{AreKept}
-use Rattle.model.specs.CallRules.{AfterCall, badges}
-use Rattle.model.specs.Described.{listed_registers, listed_thread}
-use Rattle.model.specs.Edges.{after, behind, edge_to}
-use Rattle.model.specs.Image.{Thread}
-use Rattle.model.specs.Instructions.{IsImmediate, IsRegister}
-use Rattle.model.specs.ProgramMemory.{Content, RegisterFile, read, write}
-use Rattle.model.specs.Effects.{Effect, advanced, effect, goes_on, next_pc, plus, stays}
-use Rattle.model.specs.Measures.{measured}
-use Rattle.model.specs.Messages.{a0, a7}
-use Rattle.model.specs.NotedStates.{PointState}
-use Rattle.model.specs.PointRules.{ProgramEdge, call_edge, call_edges, edges_at, entry_rules, lies_in, program_edge, start_registers, starts_within}
-use Rattle.model.specs.PointStates.{Known, Missing, Noted, Unmeasured, address_of, call_at, instruction_at, noted, point_of}
-use Rattle.model.specs.RangeRules.{ranges_after}
-use Rattle.model.specs.Ranges.{full, is_ranged, with_range}
-use Rattle.model.specs.Rules.{Rule}
-use Rattle.model.specs.ThreadInvariants.{LieWithin}
+use Rattle.model.specs.Acceptance.Accepted.{AreKept}
+use Rattle.model.specs.Acceptance.CallRules.{AfterCall, badges}
+use Rattle.model.specs.Images.Described.{listed_registers, listed_thread}
+use Rattle.model.specs.Acceptance.Edges.{after, behind, edge_to}
+use Rattle.model.specs.Images.Image.{Thread}
+use Rattle.model.specs.Machine.Instructions.{IsImmediate, IsRegister}
+use Rattle.model.specs.Machine.ProgramMemory.{Content, RegisterFile, read, write}
+use Rattle.model.specs.Machine.Effects.{Effect, advanced, effect, goes_on, next_pc, plus, stays}
+use Rattle.model.specs.Acceptance.Measures.{measured}
+use Rattle.model.specs.Kernel.Messages.{a0, a7}
+use Rattle.model.specs.Acceptance.NotedStates.{PointState}
+use Rattle.model.specs.Acceptance.PointRules.{ProgramEdge, call_edge, call_edges, edges_at, entry_rules, lies_in, program_edge, start_registers, starts_within}
+use Rattle.model.specs.Acceptance.PointStates.{Known, Missing, Noted, Unmeasured, address_of, call_at, instruction_at, noted, point_of}
+use Rattle.model.specs.Acceptance.RangeRules.{ranges_after}
+use Rattle.model.specs.Acceptance.Ranges.{full, is_ranged, with_range}
+use Rattle.model.specs.Acceptance.Rules.{Rule}
+use Rattle.model.specs.Acceptance.ThreadInvariants.{LieWithin}
 use Rattle.image.specs.Certificates.{is_ecall, known_of, waited}
 use Rattle.image.specs.Programs.{AtPoint, GoesOn, IsKept}
 use Rattle.image.specs.Stage.{staged_image}

@@ -10,7 +10,7 @@ use Rattle.std.specs.Int.{cast_signed, cast_unsigned}
 use mir.Val.{bits, hbits, SFits}
 use Rattle.model.specs.declared.refusals.Refusal.{Refusal}
 use Rattle.model.specs.declared.refusals.Refusal.TheVariants.{Limit}
-use Rattle.model.specs.Format.{Format, ◌>>=◌, number_at, number_or, number, fits_signed, signed, both, named, many_read, many_spelling, many_fit, ordered}
+use Rattle.model.specs.Images.Format.{Format, ◌>>=◌, number_at, number_or, number, fits_signed, signed, both, named, many_read, many_spelling, many_fit, ordered}
 
 abbrev pub IsBytes : List ℕ → Type 0
 IsBytes bytes = (i : ℕ) → get_or bytes i 0 < 256

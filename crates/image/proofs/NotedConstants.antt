@@ -9,13 +9,13 @@ use Rattle.model.specs.declared.instructions.Instr.{Instr}
 use Rattle.model.specs.declared.instructions.Instr.TheVariants.{Upper, Jal, Jalr, Branch, Load, Store, Immediate, Shift, Registers, Fence, Ecall, Ebreak}
 use Rattle.model.specs.declared.instructions.Register.{Register}
 use Rattle.model.specs.declared.refusals.Refusal.{Refusal}
-use Rattle.model.specs.CallRules.{AfterCall}
-use Rattle.model.specs.Edges.{Edge, after}
-use Rattle.model.specs.Image.{Image, StateRecord, Thread}
-use Rattle.model.specs.Measures.{Measure, has_term}
-use Rattle.model.specs.NotedStates.{PointState, record_of, record_state}
-use Rattle.model.specs.PointStates.{Noted, Known, Missing, Unmeasured, Numbered, address_of, behind_call, call_at, follows, follows_call, follows_edge, follows_instruction, instruction_at, noted, noted_or}
-use Rattle.model.specs.RangeRules.{destination}
+use Rattle.model.specs.Acceptance.CallRules.{AfterCall}
+use Rattle.model.specs.Acceptance.Edges.{Edge, after}
+use Rattle.model.specs.Images.Image.{Image, StateRecord, Thread}
+use Rattle.model.specs.Acceptance.Measures.{Measure, has_term}
+use Rattle.model.specs.Acceptance.NotedStates.{PointState, record_of, record_state}
+use Rattle.model.specs.Acceptance.PointStates.{Noted, Known, Missing, Unmeasured, Numbered, address_of, behind_call, call_at, follows, follows_call, follows_edge, follows_instruction, instruction_at, noted, noted_or}
+use Rattle.model.specs.Acceptance.RangeRules.{destination}
 use Rattle.image.specs.Certificates.{HasConstant, IsBare}
 
 pub found_in : (test : StateRecord → Bool) (rs : List StateRecord) → All IsBare rs → IfSome (find test rs) IsBare

@@ -10,15 +10,15 @@ use Rattle.model.specs.declared.instructions.Instr.TheVariants.{Upper, Jal, Jalr
 use Rattle.model.specs.declared.instructions.Register.{Register}
 use Rattle.model.specs.declared.ranges.Range.{Range}
 use Rattle.model.specs.declared.refusals.Refusal.{Refusal}
-use Rattle.model.specs.CallRules.{AfterCall, badges}
-use Rattle.model.specs.Edges.{after}
-use Rattle.model.specs.Image.{StateRecord, Thread}
-use Rattle.model.specs.Measures.{Measure, has_term, lowered, register_numbered}
-use Rattle.model.specs.Messages.{a0}
-use Rattle.model.specs.NotedStates.{PointState, entry_slot, image_slots, record_of, record_state, with_noted}
-use Rattle.model.specs.PointStates.{Noted, Known, Missing, Unmeasured, address_of, call_at, follows, follows_call, follows_instruction, instruction_at, noted, noted_or}
-use Rattle.model.specs.RangeRules.{range, ranges_after}
-use Rattle.model.specs.Ranges.{with_range}
+use Rattle.model.specs.Acceptance.CallRules.{AfterCall, badges}
+use Rattle.model.specs.Acceptance.Edges.{after}
+use Rattle.model.specs.Images.Image.{StateRecord, Thread}
+use Rattle.model.specs.Acceptance.Measures.{Measure, has_term, lowered, register_numbered}
+use Rattle.model.specs.Kernel.Messages.{a0}
+use Rattle.model.specs.Acceptance.NotedStates.{PointState, entry_slot, image_slots, record_of, record_state, with_noted}
+use Rattle.model.specs.Acceptance.PointStates.{Noted, Known, Missing, Unmeasured, address_of, call_at, follows, follows_call, follows_instruction, instruction_at, noted, noted_or}
+use Rattle.model.specs.Acceptance.RangeRules.{range, ranges_after}
+use Rattle.model.specs.Acceptance.Ranges.{with_range}
 use Rattle.image.specs.Certificates.{IsBare, IsOfForm, IsPlain, IsWait, known_of, waited, with_image_slots}
 use Rattle.image.specs.Stage.{staged_image}
 use Rattle.image.proofs.NotedConstants.{found_in}

@@ -11,13 +11,13 @@ use Rattle.model.specs.declared.instructions.ImmediateOp.TheVariants.{Addi}
 use Rattle.model.specs.declared.instructions.Instr.TheVariants.{Immediate, Jal}
 use Rattle.model.specs.declared.instructions.Register.{Register}
 use Rattle.model.specs.declared.ranges.Range.{Range}
-use Rattle.model.specs.Instructions.{IsImmediate, IsRegister}
-use Rattle.model.specs.ProgramMemory.{Content, RegisterFile, read, write}
-use Rattle.model.specs.Effects.{effect, goes_on, jumps, next_pc, plus, stays}
-use Rattle.model.specs.Measures.{register_numbered}
-use Rattle.model.specs.RangeRules.{is_single, ranges_after, result_range, value_or}
-use Rattle.model.specs.Ranges.{full, moved, range_of, single, with_range}
-use Rattle.model.specs.ThreadInvariants.{LieWithin}
+use Rattle.model.specs.Machine.Instructions.{IsImmediate, IsRegister}
+use Rattle.model.specs.Machine.ProgramMemory.{Content, RegisterFile, read, write}
+use Rattle.model.specs.Machine.Effects.{effect, goes_on, jumps, next_pc, plus, stays}
+use Rattle.model.specs.Acceptance.Measures.{register_numbered}
+use Rattle.model.specs.Acceptance.RangeRules.{is_single, ranges_after, result_range, value_or}
+use Rattle.model.specs.Acceptance.Ranges.{full, moved, range_of, single, with_range}
+use Rattle.model.specs.Acceptance.ThreadInvariants.{LieWithin}
 
 -- a value in a range
 abbrev LiesIn : ℕ → Range → Type 0

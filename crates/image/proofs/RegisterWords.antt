@@ -6,9 +6,9 @@ use Rattle.std.proofs.lemmas.List.{get_or_past, length-set}
 use Rattle.std.proofs.lemmas.List.Elements.{All-head, All-replicate, All-set, All-tail}
 use Rattle.model.specs.declared.entries.RegisterEntry.{RegisterEntry}
 use Rattle.model.specs.declared.instructions.Register.{Register}
-use Rattle.model.specs.Described.{listed_registers}
-use Rattle.model.specs.Image.{Thread}
-use Rattle.model.specs.ProgramMemory.{RegisterFile, read, write}
+use Rattle.model.specs.Images.Described.{listed_registers}
+use Rattle.model.specs.Images.Image.{Thread}
+use Rattle.model.specs.Machine.ProgramMemory.{RegisterFile, read, write}
 use Rattle.image.specs.Programs.{AreWords}
 
 abbrev IsWord : ℕ → Type 0

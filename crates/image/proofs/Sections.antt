@@ -1,7 +1,7 @@
 -- Reading entries one after the other, as a loop does.
 use Rattle.std.proofs.Common.{◌≡◌, ℕ, suc, ◌-◌, ◌+◌, ◌<◌, ◌≤◌, true, false, is_ok, List, [], ◌∷◌, Result, Ok, Err, refl, sym, ap, ◌∙◌, arith}
 use Rattle.model.specs.declared.refusals.Refusal.{Refusal}
-use Rattle.model.specs.Format.{Format, ◌>>=◌, end_of, values_of, many_read}
+use Rattle.model.specs.Images.Format.{Format, ◌>>=◌, end_of, values_of, many_read}
 
 end_of-put : {A : Type 0} (x : A) (read : Result (List A × ℕ) Refusal) → end_of (read >>= λ xs. Ok (x ∷ xs.0, xs.1)) ≡ end_of read
 end_of-put x (Ok xs) = refl

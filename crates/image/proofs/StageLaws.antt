@@ -7,8 +7,8 @@ use Rattle.std.proofs.lemmas.Bool.{and_parts, and_from, eqb-true, eq-eqb, ltb-fa
 use Rattle.std.proofs.lemmas.List.{take_at, drop_at, drop_all, take-append-drop, length-append}
 use Rattle.model.specs.declared.refusals.Refusal.{Refusal}
 use Rattle.model.specs.declared.refusals.Refusal.TheVariants.{Trailing}
-use Rattle.model.specs.Format.{Spells, ◌>>=◌, many_spelling, many_fit}
-use Rattle.model.specs.Image.{Image, Thread, header_format, untyped_format, object_format, capability_format, interrupt_format, table_format, frame_format, content_format, sections_format, image_format, image_with, thread_format}
+use Rattle.model.specs.Images.Format.{Spells, ◌>>=◌, many_spelling, many_fit}
+use Rattle.model.specs.Images.Image.{Image, Thread, header_format, untyped_format, object_format, capability_format, interrupt_format, table_format, frame_format, content_format, sections_format, image_format, image_with, thread_format}
 use Rattle.image.specs.Stage.{IsStaged, is_staged, later, no_slots, staged_end, staged_front, staged_image, staged_reading}
 use Rattle.image.proofs.Laws.{IsBytes, bind_ok, guard_ok, ok_is}
 use Rattle.image.proofs.ThreadLaws.{no_slots_laws, thread_law}

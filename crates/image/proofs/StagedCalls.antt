@@ -7,21 +7,21 @@ use Rattle.model.specs.declared.entries.SlotEntry.{SlotEntry}
 use Rattle.model.specs.declared.ranges.Range.{Range}
 use Rattle.model.specs.declared.refusals.Point.{Point}
 use Rattle.model.specs.declared.refusals.Refusal.{Refusal}
-use Rattle.model.specs.CallRules.{AfterCall, after_call, by_number, found_slot, one_value, receives}
-use Rattle.model.specs.Described.{boot_holdings, described, holdings, is_open_slot}
-use Rattle.model.specs.Format.{◌>>=◌}
-use Rattle.model.specs.Image.{Image, StateRecord, Thread}
-use Rattle.model.specs.Lookup.{called_slot, lookup_within}
-use Rattle.model.specs.Measures.{Measure}
-use Rattle.model.specs.Messages.{a0, a7}
-use Rattle.model.specs.NotedKernel.{noted_kernel, noted_root}
-use Rattle.model.specs.NotedStates.{PointState, entry_key, has_stray_slots, image_slots, is_own, is_stray, leads_to_boot, notes_outside, record_of}
-use Rattle.model.specs.Places.{offset_of, used_by}
-use Rattle.model.specs.PointStates.{call_at, point_of}
-use Rattle.model.specs.Ranges.{range_of, single}
-use Rattle.model.specs.Slots.{capability_at}
-use Rattle.model.specs.Steps.{call_of}
-use Rattle.model.specs.ThreadRules.{reached, reached_within}
+use Rattle.model.specs.Acceptance.CallRules.{AfterCall, after_call, by_number, found_slot, one_value, receives}
+use Rattle.model.specs.Images.Described.{boot_holdings, described, holdings, is_open_slot}
+use Rattle.model.specs.Images.Format.{◌>>=◌}
+use Rattle.model.specs.Images.Image.{Image, StateRecord, Thread}
+use Rattle.model.specs.Capabilities.Lookup.{called_slot, lookup_within}
+use Rattle.model.specs.Acceptance.Measures.{Measure}
+use Rattle.model.specs.Kernel.Messages.{a0, a7}
+use Rattle.model.specs.Acceptance.NotedKernel.{noted_kernel, noted_root}
+use Rattle.model.specs.Acceptance.NotedStates.{PointState, entry_key, has_stray_slots, image_slots, is_own, is_stray, leads_to_boot, notes_outside, record_of}
+use Rattle.model.specs.Images.Places.{offset_of, used_by}
+use Rattle.model.specs.Acceptance.PointStates.{call_at, point_of}
+use Rattle.model.specs.Acceptance.Ranges.{range_of, single}
+use Rattle.model.specs.Capabilities.Slots.{capability_at}
+use Rattle.model.specs.Kernel.Steps.{call_of}
+use Rattle.model.specs.Acceptance.ThreadRules.{reached, reached_within}
 use Rattle.image.specs.Certificates.{IsBare, IsOfForm, numbered_thread, waited, with_image_slots}
 use Rattle.image.specs.Stage.{staged_image}
 use Rattle.image.proofs.NotedConstants.{found_in}

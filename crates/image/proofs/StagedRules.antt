@@ -7,16 +7,16 @@ use Rattle.std.specs.Prelude.{map, slice_get, slice_index_or}
 use Rattle.std.specs.Option.{option_or}
 use Rattle.model.specs.declared.refusals.Refusal.{Refusal}
 use Rattle.model.specs.declared.refusals.Refusal.TheVariants.{BadThread, Trailing}
-use Rattle.model.specs.Accepted.{AreKept, IsAccepted, IsWellFormed, breach_of, first_breach, first_in, phases}
-use Rattle.model.specs.AddressSpaces.{address_limit, page_size}
-use Rattle.model.specs.Fills.{program_pages}
-use Rattle.model.specs.Format.{◌>>=◌}
-use Rattle.model.specs.Image.{Image, Thread, thread_format}
-use Rattle.model.specs.Places.{used_by}
-use Rattle.model.specs.PointRules.{program_rules}
-use Rattle.model.specs.Rules.{first_broken, refuse_if}
-use Rattle.model.specs.ThreadRules.{is_bad, is_code, reached, reached_within, shares_cspace, shares_vspace, thread_rules}
-use Rattle.model.specs.WellFormed.{capability_rules, does_not_fit, has_no_room, has_writable_code, mapping_rules, misplaces_frame, misplaces_table, object_rules, overlaps}
+use Rattle.model.specs.Acceptance.Accepted.{AreKept, IsAccepted, IsWellFormed, breach_of, first_breach, first_in, phases}
+use Rattle.model.specs.Kernel.AddressSpaces.{address_limit, page_size}
+use Rattle.model.specs.Images.Fills.{program_pages}
+use Rattle.model.specs.Images.Format.{◌>>=◌}
+use Rattle.model.specs.Images.Image.{Image, Thread, thread_format}
+use Rattle.model.specs.Images.Places.{used_by}
+use Rattle.model.specs.Acceptance.PointRules.{program_rules}
+use Rattle.model.specs.Acceptance.Rules.{first_broken, refuse_if}
+use Rattle.model.specs.Acceptance.ThreadRules.{is_bad, is_code, reached, reached_within, shares_cspace, shares_vspace, thread_rules}
+use Rattle.model.specs.Acceptance.WellFormed.{capability_rules, does_not_fit, has_no_room, has_writable_code, mapping_rules, misplaces_frame, misplaces_table, object_rules, overlaps}
 use Rattle.image.specs.Certificates.{numbered_thread}
 use Rattle.image.specs.Stage.{IsStaged, any_thread, has_no_terms, is_staged, later, no_slots, staged_end, staged_front, staged_image, staged_reading}
 use Rattle.image.proofs.Acceptance.{kept-none, none-broken}

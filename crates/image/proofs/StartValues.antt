@@ -4,8 +4,8 @@ use Rattle.std.specs.Prelude.{All, nat_lt}
 use Rattle.std.proofs.lemmas.Bool.{and_parts, ltb-true}
 use Rattle.std.proofs.lemmas.List.Elements.{All-cons, All-nil}
 use Rattle.model.specs.declared.entries.RegisterEntry.{RegisterEntry}
-use Rattle.model.specs.Format.{field, many_fit}
-use Rattle.model.specs.Image.{Thread, between, records_format, register_format, registers_format, thread_format, thread_header_format, words_format}
+use Rattle.model.specs.Images.Format.{field, many_fit}
+use Rattle.model.specs.Images.Image.{Thread, between, records_format, register_format, registers_format, thread_format, thread_header_format, words_format}
 use Rattle.image.specs.Stage.{no_slots, staged_image, staged_reading}
 use Rattle.image.proofs.Laws.{IsBytes}
 use Rattle.image.proofs.StageLaws.{staged_found, thread_fits}

@@ -9,8 +9,8 @@ use Rattle.model.specs.declared.entries.RegisterEntry.{RegisterEntry}
 use Rattle.model.specs.declared.entries.SlotEntry.{SlotEntry}
 use Rattle.model.specs.declared.refusals.Refusal.{Refusal}
 use Rattle.model.specs.declared.refusals.Refusal.TheVariants.{Limit}
-use Rattle.model.specs.Format.{field}
-use Rattle.model.specs.Image.{SlotFormat, anything, below, between, not_zero, is_constant, register_format, range_format, term_format, record_header_format, ranges_format, terms_format, record_format, registers_format, words_format, records_format, thread_header_format, thread_format}
+use Rattle.model.specs.Images.Format.{field}
+use Rattle.model.specs.Images.Image.{SlotFormat, anything, below, between, not_zero, is_constant, register_format, range_format, term_format, record_header_format, ranges_format, terms_format, record_format, registers_format, words_format, records_format, thread_header_format, thread_format}
 use Rattle.image.specs.Stage.{later, no_slot_count, is_empty, no_slots}
 use Rattle.image.proofs.Laws.{IsBytes, IsLawful, Taken, bind_ok, ok_is, number_law, both_law, named_law, ordered_law, signed_law, wide32, wide64, signed_wide32, signed_wide64}
 

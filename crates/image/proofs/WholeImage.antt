@@ -13,10 +13,10 @@ use Rattle.model.specs.declared.entries.TableEntry.{TableEntry}
 use Rattle.model.specs.declared.entries.FrameEntry.{FrameEntry}
 use Rattle.model.specs.declared.refusals.Refusal.{Refusal}
 use Rattle.model.specs.declared.refusals.Refusal.TheVariants.{Magic, Version, Trailing}
-use Rattle.model.specs.Bytes.{AreBytes}
-use Rattle.model.specs.CapabilityFields.{unpacked}
-use Rattle.model.specs.Format.{Spells, reading}
-use Rattle.model.specs.Image.{Image, Sections, anything, below, between, capability_format, content_format, frame_format, header_format, image_with, interrupt_format, magic, names_parent, no_parent, object_format, pair_key, sections_format, size_fits, slot_format, slots_format, table_format, untyped_format, whole_image, words_format}
+use Rattle.model.specs.Shared.Bytes.{AreBytes}
+use Rattle.model.specs.Capabilities.CapabilityFields.{unpacked}
+use Rattle.model.specs.Images.Format.{Spells, reading}
+use Rattle.model.specs.Images.Image.{Image, Sections, anything, below, between, capability_format, content_format, frame_format, header_format, image_with, interrupt_format, magic, names_parent, no_parent, object_format, pair_key, sections_format, size_fits, slot_format, slots_format, table_format, untyped_format, whole_image, words_format}
 use Rattle.image.proofs.Laws.{IsBytes, IsLawful, bind_ok, guard_ok, ok_is, number_law, both_law, named_law, ordered_law, wide32}
 use Rattle.image.proofs.ThreadLaws.{AreLawful, field_law, thread_law, words_law}
 

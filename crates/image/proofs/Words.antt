@@ -4,8 +4,8 @@ use Rattle.std.specs.Int.{w32}
 use Rattle.std.proofs.lemmas.Bool.{ltb-false, le-ltb}
 use Rattle.model.specs.declared.refusals.Refusal.{Refusal}
 use Rattle.model.specs.declared.refusals.Refusal.TheVariants.{Truncated}
-use Rattle.model.specs.Format.{◌>>=◌, end_of, values_of, many_read, number_at, field}
-use Rattle.model.specs.Image.{anything, words_format}
+use Rattle.model.specs.Images.Format.{◌>>=◌, end_of, values_of, many_read, number_at, field}
+use Rattle.model.specs.Images.Image.{anything, words_format}
 use Rattle.image.proofs.Laws.{bind_ok, guard_ok, ok_is}
 use Rattle.image.proofs.Sections.{read_from_end}
 

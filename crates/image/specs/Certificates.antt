@@ -1,16 +1,16 @@
 -- What the certificate of an image of the one form says: ranges and constants, and no more.
 use Rattle.std.specs.Prelude.{◌≡◌, ◌≢◌, ◌<◌, ◌≤◌, ◌+◌, ◌||◌, ℕ, ℤ, All, Bool, true, false, List, [], ◌∷◌, Option, Some, None, if◌then◌else◌}
-use Rattle.model.specs.Image.{StateRecord}
+use Rattle.model.specs.Images.Image.{StateRecord}
 use Rattle.model.specs.declared.instructions.Instr.{Instr}
 use Rattle.model.specs.declared.instructions.Instr.TheVariants.{Ecall}
 use Rattle.model.specs.declared.ranges.Range.{Range}
-use Rattle.model.specs.CallRules.{AfterCall, badges}
-use Rattle.model.specs.Image.{Thread}
-use Rattle.model.specs.Measures.{Measure}
-use Rattle.model.specs.Messages.{a0, a7}
-use Rattle.model.specs.NotedStates.{PointState, image_slots}
-use Rattle.model.specs.PointStates.{Noted, Known, Missing, Unmeasured, instruction_at, noted}
-use Rattle.model.specs.Ranges.{is_ranged, range_of, single, with_range}
+use Rattle.model.specs.Acceptance.CallRules.{AfterCall, badges}
+use Rattle.model.specs.Images.Image.{Thread}
+use Rattle.model.specs.Acceptance.Measures.{Measure}
+use Rattle.model.specs.Kernel.Messages.{a0, a7}
+use Rattle.model.specs.Acceptance.NotedStates.{PointState, image_slots}
+use Rattle.model.specs.Acceptance.PointStates.{Noted, Known, Missing, Unmeasured, instruction_at, noted}
+use Rattle.model.specs.Acceptance.Ranges.{is_ranged, range_of, single, with_range}
 use Rattle.image.specs.Stage.{staged_image}
 
 -- a record that notes no slots and no terms

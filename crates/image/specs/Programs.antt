@@ -1,14 +1,14 @@
 -- A thread of the one form whose program keeps the rules, and what is true of its registers wherever it stands.
 use Rattle.std.specs.Prelude.{◌≡◌, ◌<◌, ◌≤◌, ◌^◌, ℕ, pos, All, List, length}
 use Rattle.model.specs.declared.instructions.Instr.{Instr}
-use Rattle.model.specs.Accepted.{AreKept}
-use Rattle.model.specs.Image.{Thread}
-use Rattle.model.specs.ProgramMemory.{Content, RegisterFile}
-use Rattle.model.specs.Effects.{effect, goes_on}
-use Rattle.model.specs.NotedStates.{PointState}
-use Rattle.model.specs.PointRules.{program_rules}
-use Rattle.model.specs.PointStates.{Known, address_of, noted}
-use Rattle.model.specs.ThreadInvariants.{LieWithin}
+use Rattle.model.specs.Acceptance.Accepted.{AreKept}
+use Rattle.model.specs.Images.Image.{Thread}
+use Rattle.model.specs.Machine.ProgramMemory.{Content, RegisterFile}
+use Rattle.model.specs.Machine.Effects.{effect, goes_on}
+use Rattle.model.specs.Acceptance.NotedStates.{PointState}
+use Rattle.model.specs.Acceptance.PointRules.{program_rules}
+use Rattle.model.specs.Acceptance.PointStates.{Known, address_of, noted}
+use Rattle.model.specs.Acceptance.ThreadInvariants.{LieWithin}
 use Rattle.image.specs.Certificates.{IsOfForm, IsPlain}
 use Rattle.image.specs.Stage.{staged_image}
 

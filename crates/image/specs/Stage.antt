@@ -5,8 +5,8 @@ use Rattle.std.specs.Int.{w32, to_le_bytes}
 use Rattle.model.specs.declared.entries.SlotEntry.{SlotEntry}
 use Rattle.model.specs.declared.refusals.Refusal.{Refusal}
 use Rattle.model.specs.declared.refusals.Refusal.TheVariants.{Limit, Stage, Trailing}
-use Rattle.model.specs.Format.{Format, field, ◌>>=◌}
-use Rattle.model.specs.Image.{Image, Thread, StateRecord, Sections, SlotFormat, anything, sections_of, sections_format, thread_format}
+use Rattle.model.specs.Images.Format.{Format, field, ◌>>=◌}
+use Rattle.model.specs.Images.Image.{Image, Thread, StateRecord, Sections, SlotFormat, anything, sections_of, sections_format, thread_format}
 
 -- the refusal of what is a later stage as a whole
 abbrev pub later : Refusal

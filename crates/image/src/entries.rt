@@ -2,8 +2,8 @@
 
 ghost use Rattle.std.specs.Prelude.{◌≡◌, ◌≤◌, ◌+◌, ℕ, IfOk};
 ghost use Rattle.std.specs.Iterator.{YieldsFirst, item_count};
-ghost use Rattle.model.specs.Format.{Format, end_of, ordered};
-ghost use Rattle.model.specs.Image.{register_format, range_format, term_format};
+ghost use Rattle.model.specs.Images.Format.{Format, end_of, ordered};
+ghost use Rattle.model.specs.Images.Image.{register_format, range_format, term_format};
 
 use crate::fields::{any_word, coefficient, word_between};
 use model::{RangeEntry, Refusal, RegisterEntry, TermEntry};
@@ -26,7 +26,7 @@ pub trait Entry: Sized + Drop {
         ensures { result ≡ key self.now };
 }
 
-#[tactic(auto, unfolding(model::specs::Image::register_format))]
+#[tactic(auto, unfolding(model::specs::Images::Image::register_format))]
 impl Entry for RegisterEntry {
     ghost format = { register_format };
 
@@ -46,7 +46,7 @@ impl Entry for RegisterEntry {
     }
 }
 
-#[tactic(auto, unfolding(model::specs::Image::range_format))]
+#[tactic(auto, unfolding(model::specs::Images::Image::range_format))]
 impl Entry for RangeEntry {
     ghost format = { range_format };
 
@@ -75,7 +75,7 @@ impl Entry for RangeEntry {
     }
 }
 
-#[tactic(auto, unfolding(model::specs::Image::term_format))]
+#[tactic(auto, unfolding(model::specs::Images::Image::term_format))]
 impl Entry for TermEntry {
     ghost format = { term_format };
 
@@ -128,7 +128,7 @@ pub struct Entries<'a, E: Entry> {
 
 impl<'a, E: Entry> Model for Entries<'a, E> {
     ghost use Rattle.std.specs.Prelude.{◌≡◌, List, true, is_ok, ◌+◌};
-    ghost use Rattle.model.specs.Format.{many_read, values_of};
+    ghost use Rattle.model.specs.Images.Format.{many_read, values_of};
 
     ghost Value = { List E };
 

@@ -2,8 +2,8 @@
 
 ghost use Rattle.std.specs.Prelude.{◌≡◌, IfOk, ◌≤◌, ◌+◌, ◌<◌, length};
 ghost use Rattle.std.specs.Int.{w32, w64};
-ghost use Rattle.model.specs.Format.{field, number, signed};
-ghost use Rattle.model.specs.Image.{anything, below, between, is_constant, not_zero};
+ghost use Rattle.model.specs.Images.Format.{field, number, signed};
+ghost use Rattle.model.specs.Images.Image.{anything, below, between, is_constant, not_zero};
 
 use byteorder::{ByteOrder, LittleEndian};
 use model::Refusal;

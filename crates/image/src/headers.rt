@@ -1,8 +1,8 @@
 //! The fixed parts of threads and records.
 
 ghost use Rattle.std.specs.Prelude.{◌≡◌, ◌<◌, ◌&&◌, nat_le, nat_lt, IfOk};
-ghost use Rattle.model.specs.Format.{field};
-ghost use Rattle.model.specs.Image.{record_header_format, thread_header_format};
+ghost use Rattle.model.specs.Images.Format.{field};
+ghost use Rattle.model.specs.Images.Image.{record_header_format, thread_header_format};
 ghost use Rattle.image.specs.Stage.{no_slot_count, no_slots};
 
 use crate::fields::{any_word, constant, double_between, word_below, word_between};
@@ -10,7 +10,7 @@ use crate::stage::LATER;
 use model::{RecordHeader, Refusal, ThreadHeader};
 
 /// The fixed part of the thread at `at`, and the offset behind it.
-#[tactic(auto, unfolding(model::specs::Image::thread_header_format))]
+#[tactic(auto, unfolding(model::specs::Images::Image::thread_header_format))]
 pub(crate) fn thread_header(
     bytes: &[u8],
     at: usize,
@@ -61,7 +61,7 @@ fn slot_count(bytes: &[u8], at: usize) -> Result<(u32, usize), Refusal>
 
 /// The fixed part of the record at `at` of a program of `words` words, and the offset behind it. Its
 /// point is not below `least`.
-#[tactic(auto, unfolding(model::specs::Image::record_header_format))]
+#[tactic(auto, unfolding(model::specs::Images::Image::record_header_format))]
 pub(crate) fn record_header(
     bytes: &[u8],
     at: usize,

@@ -1,8 +1,8 @@
 //! Reading an image.
 
 ghost use Rattle.std.specs.Prelude.{◌≡◌, ◌<◌, IfOk, IsOkAnd, Some, nat_eq, slice_get};
-ghost use Rattle.model.specs.Format.{Spells};
-ghost use Rattle.model.specs.Image.{Image, image_format};
+ghost use Rattle.model.specs.Images.Format.{Spells};
+ghost use Rattle.model.specs.Images.Image.{Image, image_format};
 ghost use Rattle.std.specs.List.{starts_with};
 ghost use Rattle.image.specs.Stage.{IsStaged, has_no_terms, is_staged, no_slots, staged_front, staged_reading};
 
@@ -20,7 +20,7 @@ pub struct ImageRef<'a> {
 
 impl<'a> Model for ImageRef<'a> {
     ghost use Rattle.std.specs.Prelude.{◌≡◌, true};
-    ghost use Rattle.model.specs.Image.{Image};
+    ghost use Rattle.model.specs.Images.Image.{Image};
     ghost use Rattle.image.specs.Stage.{is_staged, staged_image};
 
     ghost Value = { Image };

@@ -2,8 +2,8 @@
 
 ghost use Rattle.std.specs.Prelude.{◌≡◌, ◌<◌, IfOk};
 ghost use Rattle.std.specs.Iterator.{YieldsFirst, item_count};
-ghost use Rattle.model.specs.Format.{end_of};
-ghost use Rattle.model.specs.Image.{record_format, records_format};
+ghost use Rattle.model.specs.Images.Format.{end_of};
+ghost use Rattle.model.specs.Images.Image.{record_format, records_format};
 ghost use Rattle.image.specs.Stage.{no_slots};
 
 use crate::entries::{Entries, entries_end};
@@ -22,8 +22,8 @@ pub struct RecordRef<'a> {
 
 impl<'a> Model for RecordRef<'a> {
     ghost use Rattle.std.specs.Prelude.{◌≡◌, Ok, [], true, is_ok};
-    ghost use Rattle.model.specs.Format.{end_of, values_of};
-    ghost use Rattle.model.specs.Image.{StateRecord, ranges_format, terms_format};
+    ghost use Rattle.model.specs.Images.Format.{end_of, values_of};
+    ghost use Rattle.model.specs.Images.Image.{StateRecord, ranges_format, terms_format};
 
     ghost Value = { StateRecord };
 
@@ -40,7 +40,7 @@ impl<'a> Model for RecordRef<'a> {
 
 /// The record at `at` of a program of `words` words, and the offset behind it. Its point is not below
 /// `least`.
-#[tactic(auto, unfolding(model::specs::Image::record_format, model::specs::Image::ranges_format, model::specs::Image::terms_format))]
+#[tactic(auto, unfolding(model::specs::Images::Image::record_format, model::specs::Images::Image::ranges_format, model::specs::Images::Image::terms_format))]
 pub(crate) fn record_at<'a>(
     bytes: &'a [u8],
     at: usize,
@@ -64,7 +64,7 @@ pub(crate) fn record_at<'a>(
 
 impl<'a> RecordRef<'a> {
     /// The ranges that the record lists, in rising order of their registers.
-    #[tactic(auto, unfolding(model::specs::Image::ranges_format))]
+    #[tactic(auto, unfolding(model::specs::Images::Image::ranges_format))]
     pub fn ranges(&self) -> Entries<'a, RangeEntry>
         ensures { result ≡ self.now.ranges }
     {
@@ -130,8 +130,8 @@ pub struct Records<'a> {
 
 impl<'a> Model for Records<'a> {
     ghost use Rattle.std.specs.Prelude.{◌≡◌, List, true, is_ok, ◌≤◌, ◌+◌};
-    ghost use Rattle.model.specs.Format.{many_read, values_of};
-    ghost use Rattle.model.specs.Image.{StateRecord, record_format};
+    ghost use Rattle.model.specs.Images.Format.{many_read, values_of};
+    ghost use Rattle.model.specs.Images.Image.{StateRecord, record_format};
     ghost use Rattle.image.specs.Stage.{no_slots};
 
     ghost Value = { List StateRecord };

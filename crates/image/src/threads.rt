@@ -1,8 +1,8 @@
 //! The threads of an image.
 
 ghost use Rattle.std.specs.Prelude.{◌≡◌, ◌<◌, slice_index};
-ghost use Rattle.model.specs.Format.{end_of};
-ghost use Rattle.model.specs.Image.{thread_format, words_format};
+ghost use Rattle.model.specs.Images.Format.{end_of};
+ghost use Rattle.model.specs.Images.Image.{thread_format, words_format};
 ghost use Rattle.image.specs.Stage.{no_slots};
 
 use crate::entries::{Entries, entries_end};
@@ -24,8 +24,8 @@ pub struct ThreadRef<'a> {
 
 impl<'a> Model for ThreadRef<'a> {
     ghost use Rattle.std.specs.Prelude.{◌≡◌, Ok, true, is_ok};
-    ghost use Rattle.model.specs.Format.{end_of, values_of};
-    ghost use Rattle.model.specs.Image.{Thread, registers_format, words_format, records_format};
+    ghost use Rattle.model.specs.Images.Format.{end_of, values_of};
+    ghost use Rattle.model.specs.Images.Image.{Thread, registers_format, words_format, records_format};
     ghost use Rattle.image.specs.Stage.{no_slots};
 
     ghost Value = { Thread };
@@ -55,7 +55,7 @@ fn words_end(bytes: &[u8], start: usize, count: u32) -> Result<usize, Refusal>
 }
 
 /// The thread at `at` of an image with so many objects, and the offset behind it.
-#[tactic(auto, unfolding(model::specs::Image::thread_format, model::specs::Image::registers_format))]
+#[tactic(auto, unfolding(model::specs::Images::Image::thread_format, model::specs::Images::Image::registers_format))]
 pub(crate) fn thread_at<'a>(
     bytes: &'a [u8],
     at: usize,
@@ -99,7 +99,7 @@ impl<'a> ThreadRef<'a> {
     }
 
     /// The registers that the thread starts with, in rising order.
-    #[tactic(auto, unfolding(model::specs::Image::registers_format))]
+    #[tactic(auto, unfolding(model::specs::Images::Image::registers_format))]
     pub fn registers(&self) -> Entries<'a, RegisterEntry>
         ensures { result ≡ self.now.registers }
     {
@@ -124,7 +124,7 @@ impl<'a> ThreadRef<'a> {
     }
 
     /// The records of the certificate, in rising order of their points.
-    #[tactic(auto, unfolding(model::specs::Image::records_format))]
+    #[tactic(auto, unfolding(model::specs::Images::Image::records_format))]
     pub fn records(&self) -> Records<'a>
         ensures { result ≡ self.now.records }
     {

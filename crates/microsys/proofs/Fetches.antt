@@ -4,7 +4,7 @@ use Rattle.std.specs.Int.{from_le_bytes, w32}
 use Rattle.model.specs.declared.instructions.Access.{Access}
 use Rattle.model.specs.declared.instructions.AccessSize.TheVariants.{Word}
 use Rattle.model.specs.declared.instructions.MemoryFault.{MemoryFault}
-use Rattle.model.specs.ProgramMemory.{Content, ◌>>=◌, loaded, named, next_address, places_from}
+use Rattle.model.specs.Machine.ProgramMemory.{Content, ◌>>=◌, loaded, named, next_address, places_from}
 
 -- the memories name the same places for an access, and have the same bytes there
 pub record ReadsSame (access : Access) (a b : Content) : Type 0 where

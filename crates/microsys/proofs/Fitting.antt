@@ -6,8 +6,8 @@ use Rattle.std.proofs.lemmas.List.Elements.{All-cons, All-nil}
 use Rattle.model.specs.declared.entries.RegisterEntry.{RegisterEntry}
 use Rattle.model.specs.declared.entries.ThreadHeader.{ThreadHeader}
 use Rattle.std.specs.Int.{w64}
-use Rattle.model.specs.Format.{Spells, field, many_fit, number}
-use Rattle.model.specs.Image.{Thread, anything, below, between, image_format, register_format, records_format, registers_format, thread_format, thread_header_format, words_format}
+use Rattle.model.specs.Images.Format.{Spells, field, many_fit, number}
+use Rattle.model.specs.Images.Image.{Thread, anything, below, between, image_format, register_format, records_format, registers_format, thread_format, thread_header_format, words_format}
 use Rattle.image.specs.Stage.{no_slots, staged_image}
 use Rattle.image.proofs.StageLaws.{thread_fits}
 use Rattle.microsys.specs.Loaded.{IsLoadable}

@@ -6,13 +6,13 @@ use Rattle.std.specs.Option.{option_map_or}
 use Rattle.std.proofs.lemmas.Bool.{cases_lt, le-leb, le-ltb, lt-leb, lt-ltb}
 use Rattle.std.proofs.lemmas.List.{get_or-take, get_or_past, length-take}
 use Rattle.std.proofs.Math.Nat.{mul-div-le}
-use Rattle.model.specs.AddressSpaces.{page_size}
-use Rattle.model.specs.Bytes.{word_bytes}
-use Rattle.model.specs.Described.{described}
-use Rattle.model.specs.Fills.{Fill, bytes_of, described_bytes, filled_byte, fills, is_filled, page_fill}
-use Rattle.model.specs.Image.{Thread}
-use Rattle.model.specs.Places.{offset_of, used_by}
-use Rattle.model.specs.Slots.{is_within}
+use Rattle.model.specs.Kernel.AddressSpaces.{page_size}
+use Rattle.model.specs.Shared.Bytes.{word_bytes}
+use Rattle.model.specs.Images.Described.{described}
+use Rattle.model.specs.Images.Fills.{Fill, bytes_of, described_bytes, filled_byte, fills, is_filled, page_fill}
+use Rattle.model.specs.Images.Image.{Thread}
+use Rattle.model.specs.Images.Places.{offset_of, used_by}
+use Rattle.model.specs.Capabilities.Slots.{is_within}
 use Rattle.image.specs.Certificates.{IsOfForm, numbered_thread}
 use Rattle.image.specs.Stage.{staged_image}
 use Rattle.microsys.specs.Loaded.{HoldsWords}

@@ -7,10 +7,10 @@ use Rattle.model.specs.declared.instructions.Access.{Access}
 use Rattle.model.specs.declared.instructions.Access.TheVariants.{Load, Store, Fetch}
 use Rattle.model.specs.declared.instructions.AccessSize.TheVariants.{Word}
 use Rattle.model.specs.declared.rights.Rights.{Rights}
-use Rattle.model.specs.AddressSpaces.{content_of, place_in, place_under}
-use Rattle.model.specs.Image.{Thread}
-use Rattle.model.specs.ProgramMemory.{loaded}
-use Rattle.model.specs.Rights.{rights}
+use Rattle.model.specs.Kernel.AddressSpaces.{content_of, place_in, place_under}
+use Rattle.model.specs.Images.Image.{Thread}
+use Rattle.model.specs.Machine.ProgramMemory.{loaded}
+use Rattle.model.specs.Capabilities.Rights.{rights}
 use Rattle.image.specs.Certificates.{numbered_thread}
 use Rattle.microsys.specs.Machine.{Machine, fetched, state_of, tcb}
 use Rattle.microsys.specs.Pages.{page_place}

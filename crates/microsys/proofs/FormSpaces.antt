@@ -7,15 +7,15 @@ use Rattle.std.proofs.lemmas.Bool.{and_parts, cases_eq, eq-eqb, ne_eqb}
 use Rattle.model.specs.declared.capabilities.Cap.{Cap}
 use Rattle.model.specs.declared.capabilities.Cap.TheVariants.{Empty, Untyped, Endpoint, Notification, CNode, Frame, PageTable, Tcb, RootTable, InterruptControl, InterruptHandler}
 use Rattle.model.specs.declared.rights.Rights.{Rights}
-use Rattle.model.specs.AddressSpaces.{page_of}
-use Rattle.model.specs.Capabilities.{root_of}
-use Rattle.model.specs.Described.{Holding, boot_holdings, described, held_in, holdings, is_open_slot}
-use Rattle.model.specs.Image.{Thread}
-use Rattle.model.specs.Places.{offset_of, used_by}
-use Rattle.model.specs.Rights.{rights}
-use Rattle.model.specs.Scheduling.{head_of}
-use Rattle.model.specs.Slots.{capability_at, empty_entry}
-use Rattle.model.specs.State.{slot_numbers, vspace_slot}
+use Rattle.model.specs.Kernel.AddressSpaces.{page_of}
+use Rattle.model.specs.Capabilities.CapabilityKinds.{root_of}
+use Rattle.model.specs.Images.Described.{Holding, boot_holdings, described, held_in, holdings, is_open_slot}
+use Rattle.model.specs.Images.Image.{Thread}
+use Rattle.model.specs.Images.Places.{offset_of, used_by}
+use Rattle.model.specs.Capabilities.Rights.{rights}
+use Rattle.model.specs.Kernel.Scheduling.{head_of}
+use Rattle.model.specs.Capabilities.Slots.{capability_at, empty_entry}
+use Rattle.model.specs.Kernel.State.{slot_numbers, vspace_slot}
 use Rattle.image.specs.Certificates.{numbered_thread}
 use Rattle.image.specs.Stage.{staged_image}
 use Rattle.microsys.specs.Machine.{tcb}

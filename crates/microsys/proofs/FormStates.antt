@@ -1,10 +1,10 @@
 -- The kernel's state of an image of the form, field by field.
 use Rattle.std.proofs.Common.{◌≡◌, ℕ, true, false, eqb, [], ◌∷◌, map, Some, refl}
 use Rattle.std.specs.Prelude.{if◌then◌else◌, ◌==◌}
-use Rattle.model.specs.Described.{described, listed_thread}
-use Rattle.model.specs.Image.{Thread}
-use Rattle.model.specs.Places.{offset_of, used_by}
-use Rattle.model.specs.State.{NotificationObject, State, ThreadObject, new_notification}
+use Rattle.model.specs.Images.Described.{described, listed_thread}
+use Rattle.model.specs.Images.Image.{Thread}
+use Rattle.model.specs.Images.Places.{offset_of, used_by}
+use Rattle.model.specs.Kernel.State.{NotificationObject, State, ThreadObject, new_notification}
 use Rattle.image.specs.Certificates.{numbered_thread}
 use Rattle.image.specs.Stage.{staged_image}
 use Rattle.microsys.specs.Machine.{notification, tcb}

@@ -6,13 +6,13 @@ use Rattle.model.specs.declared.events.Event.{Event}
 use Rattle.model.specs.declared.labels.Label.{Label}
 use Rattle.model.specs.declared.refusals.Refusal.{Refusal}
 use Rattle.model.specs.declared.refusals.Refusal.TheVariants.{BadThread}
-use Rattle.model.specs.Accepted.{IsAccepted}
-use Rattle.model.specs.Described.{described}
-use Rattle.model.specs.Format.{Spells}
-use Rattle.model.specs.Image.{Image, Thread, image_format}
-use Rattle.model.specs.Places.{offset_of, used_by}
-use Rattle.model.specs.Steps.{trace}
-use Rattle.model.specs.Waits.{KeepsBudget, is_error, is_fault}
+use Rattle.model.specs.Acceptance.Accepted.{IsAccepted}
+use Rattle.model.specs.Images.Described.{described}
+use Rattle.model.specs.Images.Format.{Spells}
+use Rattle.model.specs.Images.Image.{Image, Thread, image_format}
+use Rattle.model.specs.Images.Places.{offset_of, used_by}
+use Rattle.model.specs.Kernel.Steps.{trace}
+use Rattle.model.specs.Kernel.Waits.{KeepsBudget, is_error, is_fault}
 use Rattle.image.specs.Certificates.{IsOfForm, IsPlain, numbered_thread}
 use Rattle.image.specs.Programs.{IsKept}
 use Rattle.image.specs.Stage.{no_slots, staged_image, staged_reading}

@@ -7,13 +7,13 @@ use Rattle.std.proofs.lemmas.Nat.{from_le_bytes-to_le_bytes_4}
 use Rattle.model.specs.declared.instructions.Access.{Access}
 use Rattle.model.specs.declared.instructions.Access.TheVariants.{Fetch}
 use Rattle.model.specs.declared.instructions.AccessSize.TheVariants.{Word}
-use Rattle.model.specs.Bytes.{word_bytes}
-use Rattle.model.specs.Described.{described}
-use Rattle.model.specs.Fills.{bytes_of}
-use Rattle.model.specs.Image.{Thread}
-use Rattle.model.specs.ProgramMemory.{Content, loaded, named, next_address, place_at}
-use Rattle.model.specs.PointStates.{address_of}
-use Rattle.model.specs.Slots.{is_within}
+use Rattle.model.specs.Shared.Bytes.{word_bytes}
+use Rattle.model.specs.Images.Described.{described}
+use Rattle.model.specs.Images.Fills.{bytes_of}
+use Rattle.model.specs.Images.Image.{Thread}
+use Rattle.model.specs.Machine.ProgramMemory.{Content, loaded, named, next_address, place_at}
+use Rattle.model.specs.Acceptance.PointStates.{address_of}
+use Rattle.model.specs.Capabilities.Slots.{is_within}
 use Rattle.image.specs.Certificates.{IsOfForm}
 use Rattle.image.specs.Stage.{staged_image}
 use Rattle.microsys.specs.Machine.{HoldsProgram, IsStarted, Machine}

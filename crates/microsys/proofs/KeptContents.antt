@@ -8,12 +8,12 @@ use Rattle.model.specs.declared.instructions.Exec.TheVariants as outcomes
 use Rattle.model.specs.declared.instructions.Instr.{Instr}
 use Rattle.model.specs.declared.instructions.Instr.TheVariants.{Upper, Jal, Jalr, Branch, Load, Store, Immediate, Shift, Registers, Fence, Ecall, Ebreak}
 use Rattle.model.specs.declared.instructions.MemoryFault.{MemoryFault}
-use Rattle.model.specs.Decoding.{decoded}
-use Rattle.model.specs.ProgramMemory.{RegisterFile, read, write}
-use Rattle.model.specs.Effects.{Effect, effect, goes_on, next_pc, plus, stays}
-use Rattle.model.specs.Messages.{a0, a7}
-use Rattle.model.specs.Scheduling.{full_slice}
-use Rattle.model.specs.State.{put}
+use Rattle.model.specs.Machine.Decoding.{decoded}
+use Rattle.model.specs.Machine.ProgramMemory.{RegisterFile, read, write}
+use Rattle.model.specs.Machine.Effects.{Effect, effect, goes_on, next_pc, plus, stays}
+use Rattle.model.specs.Kernel.Messages.{a0, a7}
+use Rattle.model.specs.Kernel.Scheduling.{full_slice}
+use Rattle.model.specs.Kernel.State.{put}
 use Rattle.model.specs.declared.faults.FaultKind.TheVariants.{UnknownCall}
 use Rattle.model.specs.declared.labels.Label.TheVariants.{Idle}
 use Rattle.model.specs.declared.labels.Outcome.TheVariants.{Waited}

@@ -13,16 +13,16 @@ use Rattle.model.specs.declared.instructions.MemoryFault.{MemoryFault}
 use Rattle.model.specs.declared.labels.Label.{Label}
 use Rattle.model.specs.declared.labels.Label.TheVariants.{Idle, Ticked, Raised, Ran}
 use Rattle.model.specs.declared.labels.Outcome.TheVariants.{Waited, Plain}
-use Rattle.model.specs.Image.{Thread}
-use Rattle.model.specs.Decoding.{decoded}
-use Rattle.model.specs.ProgramMemory.{RegisterFile, loaded, read, write}
-use Rattle.model.specs.Effects.{Effect, advanced, effect}
-use Rattle.model.specs.Messages.{a0, a7}
-use Rattle.model.specs.PointStates.{instruction_at}
-use Rattle.model.specs.Scheduling.{full_slice}
-use Rattle.model.specs.State.{put}
-use Rattle.model.specs.Steps.{memory_base}
-use Rattle.model.specs.Waits.{is_error, is_fault, is_of, is_wait}
+use Rattle.model.specs.Images.Image.{Thread}
+use Rattle.model.specs.Machine.Decoding.{decoded}
+use Rattle.model.specs.Machine.ProgramMemory.{RegisterFile, loaded, read, write}
+use Rattle.model.specs.Machine.Effects.{Effect, advanced, effect}
+use Rattle.model.specs.Kernel.Messages.{a0, a7}
+use Rattle.model.specs.Acceptance.PointStates.{instruction_at}
+use Rattle.model.specs.Kernel.Scheduling.{full_slice}
+use Rattle.model.specs.Kernel.State.{put}
+use Rattle.model.specs.Kernel.Steps.{memory_base}
+use Rattle.model.specs.Kernel.Waits.{is_error, is_fault, is_of, is_wait}
 use Rattle.image.specs.Certificates.{known_of}
 use Rattle.image.specs.Programs.{AtPoint, GoesOn, IsKept}
 use Rattle.image.proofs.KeptSteps.{IsNext, next-at, ranged-goes, start-at, wait-called, wait-wakes}

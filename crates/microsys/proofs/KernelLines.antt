@@ -7,12 +7,12 @@ use Rattle.std.proofs.lemmas.Bool.{and_parts, cases_eq, cases_lt, le-ltb, lt-ltb
 use Rattle.model.specs.declared.capabilities.Cap.{Cap}
 use Rattle.model.specs.declared.capabilities.Cap.TheVariants.{Empty}
 use Rattle.model.specs.declared.slot_entries.Entry.{Entry}
-use Rattle.model.specs.Described.{Holding, boot_holdings, described, held_in, holdings, is_open_slot}
-use Rattle.model.specs.Image.{Thread}
-use Rattle.model.specs.Interrupts.{binding, interrupt, raise, signal_of, with_pending}
-use Rattle.model.specs.Places.{offset_of, used_by}
-use Rattle.model.specs.Slots.{capability_at, empty_entry}
-use Rattle.model.specs.State.{State, put}
+use Rattle.model.specs.Images.Described.{Holding, boot_holdings, described, held_in, holdings, is_open_slot}
+use Rattle.model.specs.Images.Image.{Thread}
+use Rattle.model.specs.Kernel.Interrupts.{binding, interrupt, raise, signal_of, with_pending}
+use Rattle.model.specs.Images.Places.{offset_of, used_by}
+use Rattle.model.specs.Capabilities.Slots.{capability_at, empty_entry}
+use Rattle.model.specs.Kernel.State.{State, put}
 use Rattle.image.specs.Certificates.{numbered_thread}
 use Rattle.image.specs.Stage.{staged_image}
 use Rattle.microsys.specs.Machine.{Machine, notification, raised, signalled}

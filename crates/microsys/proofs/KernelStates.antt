@@ -3,13 +3,13 @@ use Rattle.std.proofs.Common.{◌≡◌, ℕ, ◌-◌, Bool, true, false, ◌&&�
 use Rattle.std.specs.Prelude.{bit_or, if◌then◌else◌, ◌==◌, nat_le, option_map}
 use Rattle.std.specs.Option.{option_map_or}
 use Rattle.std.proofs.lemmas.Bool.{cases_eq, ne_eqb}
-use Rattle.model.specs.AddressSpaces.{content_of, with_content}
-use Rattle.model.specs.Faults.{fault}
-use Rattle.model.specs.Image.{Thread}
-use Rattle.model.specs.ProgramMemory.{RegisterFile}
-use Rattle.model.specs.Messages.{deliver_word, waits_for_signal, with_registers, signal}
-use Rattle.model.specs.Scheduling.{block, full_slice, ticked, without, yielded}
-use Rattle.model.specs.State.{FaultMessage, Inactive, Object, State, notification_at, put, thread_at, with_notification, with_thread}
+use Rattle.model.specs.Kernel.AddressSpaces.{content_of, with_content}
+use Rattle.model.specs.Kernel.Faults.{fault}
+use Rattle.model.specs.Images.Image.{Thread}
+use Rattle.model.specs.Machine.ProgramMemory.{RegisterFile}
+use Rattle.model.specs.Kernel.Messages.{deliver_word, waits_for_signal, with_registers, signal}
+use Rattle.model.specs.Kernel.Scheduling.{block, full_slice, ticked, without, yielded}
+use Rattle.model.specs.Kernel.State.{FaultMessage, Inactive, Object, State, notification_at, put, thread_at, with_notification, with_thread}
 use Rattle.image.specs.Certificates.{numbered_thread}
 use Rattle.microsys.specs.Machine.{Machine, is_ready, notification, object_of, receives, signalled, state_of, tcb}
 use Rattle.microsys.specs.declared.machine.Status.{Status}

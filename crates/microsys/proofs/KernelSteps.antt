@@ -14,26 +14,26 @@ use Rattle.model.specs.declared.labels.Label.TheVariants.{Idle, Ran}
 use Rattle.model.specs.declared.faults.FaultKind.TheVariants as kinds
 use Rattle.model.specs.declared.instructions.Cause.TheVariants.{Misaligned}
 use Rattle.model.specs.declared.instructions.Exec.TheVariants as outcomes
-use Rattle.model.specs.Faults.{instruction_fault}
+use Rattle.model.specs.Kernel.Faults.{instruction_fault}
 use Rattle.model.specs.declared.labels.Outcome.TheVariants.{Faulted, Plain, Waited}
 use Rattle.model.specs.declared.lookup_failures.LookupFailure.{LookupFailure}
-use Rattle.model.specs.AddressSpaces.{content_of, with_content}
-use Rattle.model.specs.Described.{boot_holdings, described, holdings, is_open_slot}
-use Rattle.model.specs.Image.{Thread}
-use Rattle.model.specs.Decoding.{decoded}
-use Rattle.model.specs.ProgramMemory.{Content, RegisterFile, read, write}
-use Rattle.model.specs.Effects.{advanced, immediate_result, Effect, effect, goes_on, next_pc, plus, stays}
-use Rattle.model.specs.Lookup.{called_slot, lookup_within}
-use Rattle.model.specs.Messages.{a0, a7, with_registers}
-use Rattle.model.specs.Places.{offset_of, used_by}
-use Rattle.model.specs.Rights.{rights}
-use Rattle.model.specs.Scheduling.{current, first_below, head_of, tick, ticked}
-use Rattle.model.specs.Slots.{capability_at}
-use Rattle.model.specs.State.{State, cspace_slot}
-use Rattle.model.specs.Steps as steps
-use Rattle.model.specs.Steps.{memory_base, step, system_call}
+use Rattle.model.specs.Kernel.AddressSpaces.{content_of, with_content}
+use Rattle.model.specs.Images.Described.{boot_holdings, described, holdings, is_open_slot}
+use Rattle.model.specs.Images.Image.{Thread}
+use Rattle.model.specs.Machine.Decoding.{decoded}
+use Rattle.model.specs.Machine.ProgramMemory.{Content, RegisterFile, read, write}
+use Rattle.model.specs.Machine.Effects.{advanced, immediate_result, Effect, effect, goes_on, next_pc, plus, stays}
+use Rattle.model.specs.Capabilities.Lookup.{called_slot, lookup_within}
+use Rattle.model.specs.Kernel.Messages.{a0, a7, with_registers}
+use Rattle.model.specs.Images.Places.{offset_of, used_by}
+use Rattle.model.specs.Capabilities.Rights.{rights}
+use Rattle.model.specs.Kernel.Scheduling.{current, first_below, head_of, tick, ticked}
+use Rattle.model.specs.Capabilities.Slots.{capability_at}
+use Rattle.model.specs.Kernel.State.{State, cspace_slot}
+use Rattle.model.specs.Kernel.Steps as steps
+use Rattle.model.specs.Kernel.Steps.{memory_base, step, system_call}
 use Rattle.image.specs.Certificates.{is_ecall, known_of}
-use Rattle.model.specs.Ranges.{is_ranged}
+use Rattle.model.specs.Acceptance.Ranges.{is_ranged}
 use Rattle.microsys.specs.Machine.{Done, Machine, after_effect, calls, executes, is_ready, machine_step, notification, ran, receives, runs, runs_decoded, runs_fetched, tcb, ticks}
 use Rattle.microsys.specs.NextSteps.{RunsNext}
 use Rattle.microsys.specs.Pages.{page_place}

@@ -7,12 +7,12 @@ use Rattle.std.proofs.lemmas.Bool.{cases_lt, ne_eqb, le-leb, lt-leb, le-ltb, lt-
 use Rattle.std.proofs.lemmas.List.{get_or_append_left, get_or-append_right, get_or_past, get_or-replicate, length-replicate, length-set, set_past}
 use Rattle.std.proofs.lemmas.List.Elements.{All-head, All-tail}
 use Rattle.model.specs.declared.instructions.Register.{Register}
-use Rattle.model.specs.ProgramMemory.{RegisterFile, write}
+use Rattle.model.specs.Machine.ProgramMemory.{RegisterFile, write}
 use Rattle.model.proofs.BytesLemmas.{slice_index-written_before, slice_index-written_behind, slice_index-written_inside}
-use Rattle.model.specs.Bytes.{word_bytes, written}
-use Rattle.model.specs.Fills.{bytes_of}
-use Rattle.model.specs.Image.{Image, Thread}
-use Rattle.model.specs.Slots.{is_within}
+use Rattle.model.specs.Shared.Bytes.{word_bytes, written}
+use Rattle.model.specs.Images.Fills.{bytes_of}
+use Rattle.model.specs.Images.Image.{Image, Thread}
+use Rattle.model.specs.Capabilities.Slots.{is_within}
 use Rattle.microsys.specs.Loaded.{HoldsWords}
 
 -- ---- the bytes of words

@@ -4,8 +4,8 @@ use Rattle.std.proofs.lemmas.Bool.{cases_eq, eq-eqb, ne_eqb}
 use Rattle.std.proofs.lemmas.List.{take-append-drop, take_more_set, drop-set-lt, get_or-set_same, get_or-set_other}
 use Rattle.model.specs.declared.instructions.Access.{Access}
 use Rattle.model.specs.declared.instructions.Access.TheVariants.{Load, Store, Fetch}
-use Rattle.model.specs.Bytes.{written}
-use Rattle.model.specs.ProgramMemory.{named}
+use Rattle.model.specs.Shared.Bytes.{written}
+use Rattle.model.specs.Machine.ProgramMemory.{named}
 use Rattle.microsys.specs.Pages.{page_place}
 
 named_some : (o : Option ℕ) (access : Access) (address place : ℕ) → named o access address ≡ Ok place → o ≡ Some place

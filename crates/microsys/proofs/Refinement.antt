@@ -5,11 +5,11 @@ use Rattle.model.specs.declared.events.Event.{Event}
 use Rattle.model.specs.declared.events.Event.TheVariants as events
 use Rattle.model.specs.declared.labels.Label.{Label}
 use Rattle.model.specs.declared.labels.Label.TheVariants.{Raised, Ticked}
-use Rattle.model.specs.Described.{described}
-use Rattle.model.specs.Image.{Thread}
-use Rattle.model.specs.ProgramMemory.{Content}
-use Rattle.model.specs.State.{State}
-use Rattle.model.specs.Steps.{after, step, trace}
+use Rattle.model.specs.Images.Described.{described}
+use Rattle.model.specs.Images.Image.{Thread}
+use Rattle.model.specs.Machine.ProgramMemory.{Content}
+use Rattle.model.specs.Kernel.State.{State}
+use Rattle.model.specs.Kernel.Steps.{after, step, trace}
 use Rattle.image.specs.Certificates.{IsOfForm, numbered_thread}
 use Rattle.image.specs.Stage.{staged_image}
 use Rattle.microsys.specs.Machine.{IsStarted, Machine, machine_after, machine_step, machine_trace, state_of}

@@ -1,7 +1,7 @@
 -- A run tells the refusal of an image that cannot be read as it is.
 use Rattle.std.proofs.Common.{◌≡◌, ◌∙◌, List, ℕ, Result, Ok, Err, refl, ap}
 use Rattle.std.specs.Prelude.{IfErr}
-use Rattle.model.specs.Image.{Image}
+use Rattle.model.specs.Images.Image.{Image}
 use Rattle.model.specs.declared.refusals.Refusal.{Refusal}
 use Rattle.model.specs.declared.refusals.Refusal.TheVariants as refusals
 use Rattle.image.specs.Stage.{staged_reading}

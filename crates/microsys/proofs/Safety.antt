@@ -4,8 +4,8 @@ use Rattle.std.specs.Prelude.{All}
 use Rattle.std.proofs.lemmas.List.Elements.{All-cons, All-nil}
 use Rattle.model.specs.declared.events.Event.{Event}
 use Rattle.model.specs.declared.labels.Label.{Label}
-use Rattle.model.specs.Image.{Thread}
-use Rattle.model.specs.Waits.{KeepsBudget, is_error, is_fault, labels_of}
+use Rattle.model.specs.Images.Image.{Thread}
+use Rattle.model.specs.Kernel.Waits.{KeepsBudget, is_error, is_fault, labels_of}
 use Rattle.image.specs.Programs.{IsKept}
 use Rattle.microsys.specs.Machine.{HoldsProgram, IsStarted, Machine, machine_after, machine_step, machine_trace, tcb}
 use Rattle.microsys.specs.Runs.{Stands}

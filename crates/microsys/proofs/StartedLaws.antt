@@ -2,10 +2,10 @@
 use Rattle.std.proofs.Common.{◌≡◌, ℕ, Bool, true, false, ◌&&◌, eqb, List, [], ◌∷◌, Option, Some, None, refl, sym, ap, subst, ◌∙◌, inl, inr}
 use Rattle.std.specs.Prelude.{if◌then◌else◌, ◌==◌, option_map}
 use Rattle.std.proofs.lemmas.Bool.{cases_eq, eq-eqb, ne_eqb}
-use Rattle.model.specs.Described.{described, listed_thread}
-use Rattle.model.specs.Image.{Thread}
-use Rattle.model.specs.ProgramMemory.{RegisterFile}
-use Rattle.model.specs.State.{NotificationObject, Object, ThreadObject, ThreadState}
+use Rattle.model.specs.Images.Described.{described, listed_thread}
+use Rattle.model.specs.Images.Image.{Thread}
+use Rattle.model.specs.Machine.ProgramMemory.{RegisterFile}
+use Rattle.model.specs.Kernel.State.{NotificationObject, Object, ThreadObject, ThreadState}
 use Rattle.image.specs.Certificates.{IsOfForm, numbered_thread}
 use Rattle.image.specs.Stage.{staged_image}
 use Rattle.microsys.specs.Machine.{IsStarted, Machine, is_ready, notification, notification_of, object_of, state_of, status_of, tcb, thread_of, waiters_of}

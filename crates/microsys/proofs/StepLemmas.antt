@@ -12,9 +12,9 @@ use Rattle.model.specs.declared.labels.Label.{Label}
 use Rattle.model.specs.declared.labels.Label.TheVariants.{Ran}
 use Rattle.model.specs.declared.labels.Outcome.{Outcome}
 use Rattle.model.specs.declared.labels.Outcome.TheVariants.{Waited}
-use Rattle.model.specs.ProgramMemory.{Content, RegisterFile, loaded, read}
-use Rattle.model.specs.Effects.{effect}
-use Rattle.model.specs.Messages.{a0, a7}
+use Rattle.model.specs.Machine.ProgramMemory.{Content, RegisterFile, loaded, read}
+use Rattle.model.specs.Machine.Effects.{effect}
+use Rattle.model.specs.Kernel.Messages.{a0, a7}
 use Rattle.microsys.specs.Machine.{Done, Machine, after_effect, calls, executes, fetched, raised, ran, receives, runs, runs_fetched, stops}
 use Rattle.microsys.specs.declared.machine.Status.TheVariants.{Ready, Waiting}
 

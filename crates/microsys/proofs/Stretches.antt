@@ -3,7 +3,7 @@ use Rattle.std.proofs.Common.{◌≡◌, ℕ, ◌-◌, ◌≤◌, Bool, true, fa
 use Rattle.std.specs.List.{list_all}
 use Rattle.std.proofs.lemmas.Bool.{and_parts, not-true}
 use Rattle.model.specs.declared.labels.Label.{Label}
-use Rattle.model.specs.Waits.{IsStretch, KeepsBudget, NoneWaits, is_wait, labels_of}
+use Rattle.model.specs.Kernel.Waits.{IsStretch, KeepsBudget, NoneWaits, is_wait, labels_of}
 
 -- what is left behind a label
 abbrev pub left_behind : ℕ → ℕ → Label → ℕ

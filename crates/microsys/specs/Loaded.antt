@@ -1,8 +1,8 @@
 -- What a machine is loaded with: the program's words in its memory, and the thread's registers.
 use Rattle.std.specs.Prelude.{ℕ, ◌≡◌, ◌≢◌, ◌-◌, ◌*◌, All, List, length, slice_index, if◌then◌else◌}
-use Rattle.model.specs.Fills.{bytes_of}
-use Rattle.model.specs.Image.{Thread}
-use Rattle.model.specs.Slots.{is_within}
+use Rattle.model.specs.Images.Fills.{bytes_of}
+use Rattle.model.specs.Images.Image.{Thread}
+use Rattle.model.specs.Capabilities.Slots.{is_within}
 
 -- what the format of a thread gives: all of its words, and registers other than 0
 pub record IsLoadable (t : Thread) : Type 0 where

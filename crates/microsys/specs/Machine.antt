@@ -14,17 +14,17 @@ use Rattle.model.specs.declared.labels.Label.{Label}
 use Rattle.model.specs.declared.labels.Label.TheVariants.{Idle, Ticked, Raised, Ran}
 use Rattle.model.specs.declared.labels.Outcome.{Outcome}
 use Rattle.model.specs.declared.labels.Outcome.TheVariants.{Faulted, Waited, Plain}
-use Rattle.model.specs.Described.{described, listed_thread}
-use Rattle.model.specs.Image.{Thread}
-use Rattle.model.specs.Decoding.{decoded}
-use Rattle.model.specs.ProgramMemory.{Content, RegisterFile, loaded, read, write}
-use Rattle.model.specs.Effects.{advanced, effect}
-use Rattle.model.specs.Messages.{a0, a7}
-use Rattle.model.specs.PointStates.{address_of}
-use Rattle.model.specs.Scheduling.{full_slice}
-use Rattle.model.specs.State.{State, Object, ThreadObject, NotificationObject, Inactive, Runnable, Blocked, ThreadState, NotificationState, put}
-use Rattle.model.specs.State.{Status as ThreadStatus}
-use Rattle.model.specs.Steps.{memory_base}
+use Rattle.model.specs.Images.Described.{described, listed_thread}
+use Rattle.model.specs.Images.Image.{Thread}
+use Rattle.model.specs.Machine.Decoding.{decoded}
+use Rattle.model.specs.Machine.ProgramMemory.{Content, RegisterFile, loaded, read, write}
+use Rattle.model.specs.Machine.Effects.{advanced, effect}
+use Rattle.model.specs.Kernel.Messages.{a0, a7}
+use Rattle.model.specs.Acceptance.PointStates.{address_of}
+use Rattle.model.specs.Kernel.Scheduling.{full_slice}
+use Rattle.model.specs.Kernel.State.{State, Object, ThreadObject, NotificationObject, Inactive, Runnable, Blocked, ThreadState, NotificationState, put}
+use Rattle.model.specs.Kernel.State.{Status as ThreadStatus}
+use Rattle.model.specs.Kernel.Steps.{memory_base}
 use Rattle.image.specs.Stage.{staged_image}
 use Rattle.microsys.specs.Pages.{page_place}
 use Rattle.microsys.specs.declared.machine.Status.{Status}

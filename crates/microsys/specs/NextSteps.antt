@@ -2,9 +2,9 @@
 use Rattle.std.specs.Prelude.{ℕ, ◌≡◌, Some, Ok}
 use Rattle.model.specs.declared.instructions.Instr.{Instr}
 use Rattle.model.specs.declared.instructions.Instr.TheVariants.{Ecall}
-use Rattle.model.specs.Decoding.{decoded}
-use Rattle.model.specs.ProgramMemory.{read}
-use Rattle.model.specs.Messages.{a0, a7}
+use Rattle.model.specs.Machine.Decoding.{decoded}
+use Rattle.model.specs.Machine.ProgramMemory.{read}
+use Rattle.model.specs.Kernel.Messages.{a0, a7}
 use Rattle.image.specs.Certificates.{known_of}
 use Rattle.microsys.specs.Machine.{Machine, fetched}
 

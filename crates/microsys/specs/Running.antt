@@ -4,13 +4,13 @@ use Rattle.model.specs.declared.events.Event.{Event}
 use Rattle.model.specs.declared.labels.Label.{Label}
 use Rattle.model.specs.declared.refusals.Refusal.{Refusal}
 use Rattle.model.specs.declared.refusals.Refusal.TheVariants as refusals
-use Rattle.model.specs.Accepted.{IsAccepted}
-use Rattle.model.specs.Described.{described}
-use Rattle.model.specs.Image.{Image, Thread}
-use Rattle.model.specs.Places.{offset_of}
-use Rattle.model.specs.Steps.{trace}
-use Rattle.model.specs.Trace.{line_of}
-use Rattle.model.specs.Waits.{KeepsBudget, is_error, is_fault}
+use Rattle.model.specs.Acceptance.Accepted.{IsAccepted}
+use Rattle.model.specs.Images.Described.{described}
+use Rattle.model.specs.Images.Image.{Image, Thread}
+use Rattle.model.specs.Images.Places.{offset_of}
+use Rattle.model.specs.Kernel.Steps.{trace}
+use Rattle.model.specs.Shared.Trace.{line_of}
+use Rattle.model.specs.Kernel.Waits.{KeepsBudget, is_error, is_fault}
 use Rattle.microsys.specs.Sinks.{Grows, GrowsByBeginning}
 use Rattle.microsys.specs.declared.running.RunFault.{RunFault}
 use Rattle.microsys.specs.declared.running.RunFault.TheVariants.{Refused, OutOfMemory}

@@ -1,8 +1,8 @@
 -- What is true of the machine, before and after each event, whose thread keeps the rules.
 use Rattle.std.specs.Prelude.{◌≡◌, ◌≤◌, ℕ, Some}
 use Rattle.model.specs.declared.instructions.Instr.TheVariants.{Ecall}
-use Rattle.model.specs.Image.{Thread}
-use Rattle.model.specs.PointStates.{instruction_at}
+use Rattle.model.specs.Images.Image.{Thread}
+use Rattle.model.specs.Acceptance.PointStates.{instruction_at}
 use Rattle.image.specs.Programs.{AtPoint}
 use Rattle.microsys.specs.Machine.{HoldsProgram, Machine}
 use Rattle.microsys.specs.declared.machine.Status.{Status}

@@ -3,9 +3,9 @@
 ghost use Rattle.std.specs.Prelude.{◌≡◌, ◌≢◌, ◌^◌, ◌*◌, ◌≤◌, All, length, min, IfOk};
 ghost use Rattle.image.specs.Certificates.{IsOfForm};
 ghost use Rattle.image.specs.Stage.{staged_image};
-ghost use Rattle.model.specs.Described.{listed_thread};
-ghost use Rattle.model.specs.Image.{Thread};
-ghost use Rattle.model.specs.Decoding.{decoded};
+ghost use Rattle.model.specs.Images.Described.{listed_thread};
+ghost use Rattle.model.specs.Images.Image.{Thread};
+ghost use Rattle.model.specs.Machine.Decoding.{decoded};
 ghost use Rattle.microsys.specs.Loaded.{HoldsWords, IsLoadable};
 ghost use Rattle.microsys.specs.Machine.{IsStarted, calls, machine_of, machine_step, raised, ran, receives, runs_decoded, stops, ticks};
 

@@ -1,7 +1,7 @@
 -- What a write of bytes keeps and changes.
 use Rattle.std.proofs.Common.{ℕ, ◌≡◌, ◌∙◌, ◌+◌, ◌*◌, ◌/◌, ◌%◌, ◌^◌, ◌<◌, ◌≤◌, List, length, slice_index, ap, arith}
 use Rattle.std.proofs.lemmas.Grind.{common_steps}
-use Rattle.model.specs.Bytes.{word_at, word_bytes, written}
+use Rattle.model.specs.Shared.Bytes.{word_at, word_bytes, written}
 
 -- a write that fits keeps the number of bytes
 pub length-written : (bytes : List ℕ) (at : ℕ) (piece : List ℕ) → at + length piece ≤ length bytes → length (written bytes at piece) ≡ length bytes

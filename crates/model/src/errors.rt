@@ -1,7 +1,7 @@
 //! Why the kernel refuses an invocation.
 
 ghost use Rattle.std.specs.Prelude.{◌≡◌};
-ghost use Rattle.model.specs.Labels.{error_number};
+ghost use Rattle.model.specs.Shared.Labels.{error_number};
 
 /// Why an invocation is refused. The numbers are those that a thread reads in its message
 /// information word; 0 there means that there was no error.

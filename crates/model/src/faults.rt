@@ -1,7 +1,7 @@
 //! Why a thread cannot go on.
 
 ghost use Rattle.std.specs.Prelude.{◌≡◌};
-ghost use Rattle.model.specs.Labels.{fault_number};
+ghost use Rattle.model.specs.Shared.Labels.{fault_number};
 
 /// Why a thread cannot go on. The numbers are the labels of the fault messages.
 #[derive(Clone, Copy, Debug, PartialEq, Eq)]

@@ -2,7 +2,7 @@
 //! come of one.
 
 ghost use Rattle.std.specs.Prelude.{◌≡◌};
-ghost use Rattle.model.specs.Effects.{access_number, cause_number};
+ghost use Rattle.model.specs.Machine.Effects.{access_number, cause_number};
 
 /// The number of a register, 0 to 31. Register 0 reads as zero.
 #[derive(Clone, Copy, Debug, PartialEq, Eq)]

@@ -1,7 +1,7 @@
 //! Why a capability address names no slot. seL4 Reference Manual, "Lookup Failure Description".
 
 ghost use Rattle.std.specs.Prelude.{◌≡◌};
-ghost use Rattle.model.specs.LookupNumbers.{bits_left_of, failure_number};
+ghost use Rattle.model.specs.Capabilities.LookupNumbers.{bits_left_of, failure_number};
 
 /// Why a lookup fails, with the number of bits that were left where it failed.
 #[derive(Clone, Copy, Debug, PartialEq, Eq)]

@@ -1,7 +1,7 @@
 //! Ranges of register values.
 
 ghost use Rattle.std.specs.Prelude.{◌≡◌, ◌≤◌, ◌↔◌, IsTrue, None, Some, if◌then◌else◌, ◌==◌};
-ghost use Rattle.model.specs.Ranges.{IsWithin, full, single};
+ghost use Rattle.model.specs.Acceptance.Ranges.{IsWithin, full, single};
 
 /// A range of unsigned values of a register, both ends included.
 #[derive(Clone, Copy, Debug, PartialEq, Eq)]

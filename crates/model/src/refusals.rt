@@ -1,7 +1,7 @@
 //! Why an image is refused.
 
 ghost use Rattle.std.specs.Prelude.{◌≡◌};
-ghost use Rattle.model.specs.Refusals.{refusal_number, refusal_name, refusal_items};
+ghost use Rattle.model.specs.Shared.Refusals.{refusal_number, refusal_name, refusal_items};
 
 use crate::KError;
 

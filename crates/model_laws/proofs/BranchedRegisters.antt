@@ -8,13 +8,13 @@ use Rattle.image.proofs.RangesKept.{zero_kept}
 use Rattle.model.specs.declared.instructions.BranchOp.{BranchOp}
 use Rattle.model.specs.declared.instructions.Register.{Register}
 use Rattle.model.specs.declared.ranges.Range.{Range}
-use Rattle.model.specs.Edges.{branch_ranges, is_empty, joined, narrowed, with_sides}
-use Rattle.model.specs.Effects.{is_taken}
-use Rattle.model.specs.Instructions.{IsRegister}
-use Rattle.model.specs.Measures.{register_numbered}
-use Rattle.model.specs.ProgramMemory.{RegisterFile, read}
-use Rattle.model.specs.Ranges.{full, range_of, single, with_range}
-use Rattle.model.specs.ThreadInvariants.{LieWithin}
+use Rattle.model.specs.Acceptance.Edges.{branch_ranges, is_empty, joined, narrowed, with_sides}
+use Rattle.model.specs.Machine.Effects.{is_taken}
+use Rattle.model.specs.Machine.Instructions.{IsRegister}
+use Rattle.model.specs.Acceptance.Measures.{register_numbered}
+use Rattle.model.specs.Machine.ProgramMemory.{RegisterFile, read}
+use Rattle.model.specs.Acceptance.Ranges.{full, range_of, single, with_range}
+use Rattle.model.specs.Acceptance.ThreadInvariants.{LieWithin}
 use Rattle.model_laws.specs.Inside.{LiesIn}
 use Rattle.model_laws.proofs.BranchedSides.{AreInside, equal_kept, narrowed_kept}
 

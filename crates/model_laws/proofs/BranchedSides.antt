@@ -5,10 +5,10 @@ use Rattle.std.proofs.lemmas.Bool.{and_parts, eqb-true, eqb-false, ltb-true, ltb
 use Rattle.model.specs.declared.instructions.BranchOp.{BranchOp}
 use Rattle.model.specs.declared.instructions.BranchOp.TheVariants.{Beq, Bne, Blt, Bge, Bltu, Bgeu}
 use Rattle.model.specs.declared.ranges.Range.{Range}
-use Rattle.model.specs.Edges.{empty_range, equal_sides, have_one_sign, if_one_sign, joined, lesser_sides, narrowed, not_lesser_sides, unequal_side, unequal_sides, without}
-use Rattle.model.specs.Effects.{is_taken}
-use Rattle.model.specs.Instructions.{signed}
-use Rattle.model.specs.RangeRules.{is_single, range}
+use Rattle.model.specs.Acceptance.Edges.{empty_range, equal_sides, have_one_sign, if_one_sign, joined, lesser_sides, narrowed, not_lesser_sides, unequal_side, unequal_sides, without}
+use Rattle.model.specs.Machine.Effects.{is_taken}
+use Rattle.model.specs.Machine.Instructions.{signed}
+use Rattle.model.specs.Acceptance.RangeRules.{is_single, range}
 use Rattle.model_laws.specs.Inside.{LiesIn}
 
 -- each value in its side

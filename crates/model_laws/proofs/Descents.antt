@@ -1,6 +1,6 @@
 -- Descent and depth.
 use Rattle.std.proofs.Common.{ℕ, ◌<◌, arith}
-use Rattle.model.specs.Slots.{Slots, Descendant, child, deeper, IsDerivation, depth_of}
+use Rattle.model.specs.Capabilities.Slots.{Slots, Descendant, child, deeper, IsDerivation, depth_of}
 use Rattle.derivation.proofs.Ancestors.{depth-child}
 
 pub descends-on : (slots : Slots) (root middle slot : ℕ) → Descendant slots root middle → Descendant slots middle slot → Descendant slots root slot

@@ -6,9 +6,9 @@ use Rattle.model.specs.declared.capabilities.Cap.{Cap}
 use Rattle.model.specs.declared.capabilities.Cap.TheVariants.{Empty, Untyped, Endpoint, Notification, CNode, Frame, PageTable, Tcb, RootTable, InterruptControl, InterruptHandler}
 use Rattle.model.specs.declared.lookup_failures.LookupFailure.{LookupFailure}
 use Rattle.model.specs.declared.lookup_failures.LookupFailure.TheVariants.{DepthMismatch, GuardMismatch}
-use Rattle.model.specs.CapabilityWords.{IsCapability}
-use Rattle.model.specs.Lookup.{go_on, is_cnode, lookup, lookup_within, resolve}
-use Rattle.model.specs.Slots.{Slots, IsDerivation, capability_at}
+use Rattle.model.specs.Capabilities.CapabilityWords.{IsCapability}
+use Rattle.model.specs.Capabilities.Lookup.{go_on, is_cnode, lookup, lookup_within, resolve}
+use Rattle.model.specs.Capabilities.Slots.{Slots, IsDerivation, capability_at}
 use Rattle.model_laws.specs.Lookups.{LeadsTo, no_cnode, unresolved, ends, goes_on, slot_under}
 
 abbrev Found : Type 0

@@ -1,35 +1,35 @@
 -- All definitions opened, so that rows on them compute.
-use Rattle.model.specs.Format.{many_read as format_many_read, many_spelling as format_many_spelling, many_fit as format_many_fit}
-use Rattle.model.specs.Image.{header_format as image_header_format, untyped_format as image_untyped_format, object_format as image_object_format, capability_format as image_capability_format, interrupt_format as image_interrupt_format, table_format as image_table_format, frame_format as image_frame_format, content_format as image_content_format, thread_header_format as image_thread_header_format, register_format as image_register_format, range_format as image_range_format, term_format as image_term_format, slot_format as image_slot_format, record_header_format as image_record_header_format, ranges_format as image_ranges_format, terms_format as image_terms_format, record_format as image_record_format, registers_format as image_registers_format, words_format as image_words_format, records_format as image_records_format, thread_format as image_thread_format, sections_format as image_sections_format, image_with as image_image_with}
-use Rattle.model.specs.CapabilityFields.{fields_of_kind as capabilityfields_fields_of_kind, is_capability as capabilityfields_is_capability, unpacked as capabilityfields_unpacked}
-use Rattle.model.specs.Decoding.{decoded as instructions_decoded}
-use Rattle.model.specs.Effects.{effect as instructions_effect}
-use Rattle.model.specs.RangeRules.{ones_within as rangerules_ones_within, result_range as rangerules_result_range}
-use Rattle.model.specs.Edges.{narrowed as edges_narrowed, after as edges_after}
-use Rattle.model.specs.Measures.{substituted as measures_substituted, greatest as measures_greatest, least as measures_least, exact_sum as measures_exact_sum, falls as measures_falls, stays_below as measures_stays_below}
-use Rattle.model.specs.Slots.{depth_within as slots_depth_within, descends_within as slots_descends_within}
-use Rattle.model.specs.Lookup.{lookup_within as lookup_lookup_within}
-use Rattle.model.specs.Places.{used_by as places_used_by, offset_of as places_offset_of}
-use Rattle.model.specs.Fills.{fills as fills_fills, described_bytes as fills_described_bytes}
-use Rattle.model.specs.Described.{boot_holdings as described_boot_holdings, holdings as described_holdings, is_open_slot as described_is_open_slot, described as described_described}
-use Rattle.model.specs.WellFormed.{overlaps as wellformed_overlaps, has_no_room as wellformed_has_no_room, object_rules as wellformed_object_rules, does_not_fit as wellformed_does_not_fit, capability_rules as wellformed_capability_rules, misplaces_table as wellformed_misplaces_table, misplaces_frame as wellformed_misplaces_frame, has_writable_code as wellformed_has_writable_code, mapping_rules as wellformed_mapping_rules}
-use Rattle.model.specs.ThreadRules.{reached_within as threadrules_reached_within, reached as threadrules_reached, is_bad as threadrules_is_bad, shares_cspace as threadrules_shares_cspace, shares_vspace as threadrules_shares_vspace, thread_rules as threadrules_thread_rules}
-use Rattle.model.specs.NotedStates.{put_in as notedstates_put_in, image_slots as notedstates_image_slots, record_state as notedstates_record_state, leads_to_boot as notedstates_leads_to_boot, has_stray_slots as notedstates_has_stray_slots}
-use Rattle.model.specs.NotedKernel.{noted_kernel as notedkernel_noted_kernel, noted_after as notedkernel_noted_after}
-use Rattle.model.specs.CallRules.{all_known as callrules_all_known, after_call as callrules_after_call}
-use Rattle.model.specs.PointStates.{call_at as pointstates_call_at, noted as pointstates_noted}
-use Rattle.model.specs.PointRules.{edges_at as pointrules_edges_at, is_unmapped as pointrules_is_unmapped, state_rules as pointrules_state_rules, point_rules as pointrules_point_rules, rules_of_program as pointrules_rules_of_program, program_rules as pointrules_program_rules}
-use Rattle.model.specs.Accepted.{first_in as accepted_first_in, first_breach as accepted_first_breach}
-use Rattle.model.specs.Messages.{word_registers as messages_word_registers}
-use Rattle.model.specs.Scheduling.{first_below as scheduling_first_below}
-use Rattle.model.specs.State.{slot_numbers as state_slot_numbers}
-use Rattle.model.specs.Removal.{ancestor_outside as removal_ancestor_outside, remove as removal_remove}
-use Rattle.model.specs.Retype.{retype as retype_retype}
-use Rattle.model.specs.Invocations.{invoke as invocations_invoke, configure_with_guard as invocations_configure_with_guard}
-use Rattle.model.specs.Boot.{boot_area as boot_boot_area, made as boot_made, run_from as boot_run_from, booted as boot_booted}
-use Rattle.model.specs.BootCalls.{operations as bootcalls_operations}
-use Rattle.model.specs.Listing.{listing_lines as listing_listing_lines, listing as listing_listing}
-use Rattle.model.specs.Steps.{system_call as steps_system_call, runs as steps_runs, step as steps_step, trace as steps_trace, after as steps_after}
+use Rattle.model.specs.Images.Format.{many_read as format_many_read, many_spelling as format_many_spelling, many_fit as format_many_fit}
+use Rattle.model.specs.Images.Image.{header_format as image_header_format, untyped_format as image_untyped_format, object_format as image_object_format, capability_format as image_capability_format, interrupt_format as image_interrupt_format, table_format as image_table_format, frame_format as image_frame_format, content_format as image_content_format, thread_header_format as image_thread_header_format, register_format as image_register_format, range_format as image_range_format, term_format as image_term_format, slot_format as image_slot_format, record_header_format as image_record_header_format, ranges_format as image_ranges_format, terms_format as image_terms_format, record_format as image_record_format, registers_format as image_registers_format, words_format as image_words_format, records_format as image_records_format, thread_format as image_thread_format, sections_format as image_sections_format, image_with as image_image_with}
+use Rattle.model.specs.Capabilities.CapabilityFields.{fields_of_kind as capabilityfields_fields_of_kind, is_capability as capabilityfields_is_capability, unpacked as capabilityfields_unpacked}
+use Rattle.model.specs.Machine.Decoding.{decoded as instructions_decoded}
+use Rattle.model.specs.Machine.Effects.{effect as instructions_effect}
+use Rattle.model.specs.Acceptance.RangeRules.{ones_within as rangerules_ones_within, result_range as rangerules_result_range}
+use Rattle.model.specs.Acceptance.Edges.{narrowed as edges_narrowed, after as edges_after}
+use Rattle.model.specs.Acceptance.Measures.{substituted as measures_substituted, greatest as measures_greatest, least as measures_least, exact_sum as measures_exact_sum, falls as measures_falls, stays_below as measures_stays_below}
+use Rattle.model.specs.Capabilities.Slots.{depth_within as slots_depth_within, descends_within as slots_descends_within}
+use Rattle.model.specs.Capabilities.Lookup.{lookup_within as lookup_lookup_within}
+use Rattle.model.specs.Images.Places.{used_by as places_used_by, offset_of as places_offset_of}
+use Rattle.model.specs.Images.Fills.{fills as fills_fills, described_bytes as fills_described_bytes}
+use Rattle.model.specs.Images.Described.{boot_holdings as described_boot_holdings, holdings as described_holdings, is_open_slot as described_is_open_slot, described as described_described}
+use Rattle.model.specs.Acceptance.WellFormed.{overlaps as wellformed_overlaps, has_no_room as wellformed_has_no_room, object_rules as wellformed_object_rules, does_not_fit as wellformed_does_not_fit, capability_rules as wellformed_capability_rules, misplaces_table as wellformed_misplaces_table, misplaces_frame as wellformed_misplaces_frame, has_writable_code as wellformed_has_writable_code, mapping_rules as wellformed_mapping_rules}
+use Rattle.model.specs.Acceptance.ThreadRules.{reached_within as threadrules_reached_within, reached as threadrules_reached, is_bad as threadrules_is_bad, shares_cspace as threadrules_shares_cspace, shares_vspace as threadrules_shares_vspace, thread_rules as threadrules_thread_rules}
+use Rattle.model.specs.Acceptance.NotedStates.{put_in as notedstates_put_in, image_slots as notedstates_image_slots, record_state as notedstates_record_state, leads_to_boot as notedstates_leads_to_boot, has_stray_slots as notedstates_has_stray_slots}
+use Rattle.model.specs.Acceptance.NotedKernel.{noted_kernel as notedkernel_noted_kernel, noted_after as notedkernel_noted_after}
+use Rattle.model.specs.Acceptance.CallRules.{all_known as callrules_all_known, after_call as callrules_after_call}
+use Rattle.model.specs.Acceptance.PointStates.{call_at as pointstates_call_at, noted as pointstates_noted}
+use Rattle.model.specs.Acceptance.PointRules.{edges_at as pointrules_edges_at, is_unmapped as pointrules_is_unmapped, state_rules as pointrules_state_rules, point_rules as pointrules_point_rules, rules_of_program as pointrules_rules_of_program, program_rules as pointrules_program_rules}
+use Rattle.model.specs.Acceptance.Accepted.{first_in as accepted_first_in, first_breach as accepted_first_breach}
+use Rattle.model.specs.Kernel.Messages.{word_registers as messages_word_registers}
+use Rattle.model.specs.Kernel.Scheduling.{first_below as scheduling_first_below}
+use Rattle.model.specs.Kernel.State.{slot_numbers as state_slot_numbers}
+use Rattle.model.specs.Kernel.Removal.{ancestor_outside as removal_ancestor_outside, remove as removal_remove}
+use Rattle.model.specs.Kernel.Retype.{retype as retype_retype}
+use Rattle.model.specs.Kernel.Invocations.{invoke as invocations_invoke, configure_with_guard as invocations_configure_with_guard}
+use Rattle.model.specs.Images.Boot.{boot_area as boot_boot_area, made as boot_made, run_from as boot_run_from, booted as boot_booted}
+use Rattle.model.specs.Images.BootCalls.{operations as bootcalls_operations}
+use Rattle.model.specs.Images.Listing.{listing_lines as listing_listing_lines, listing as listing_listing}
+use Rattle.model.specs.Kernel.Steps.{system_call as steps_system_call, runs as steps_runs, step as steps_step, trace as steps_trace, after as steps_after}
 use Rattle.std.specs.Fmt.{digits}
 use Rattle.model_laws.specs.Solo.{booted_or, bytes_of, solo, solo_events, solo_image, two_threads, yielding}
 use Rattle.model_laws.specs.Worker.{loop_image, loop_with, reading_with}

@@ -4,8 +4,8 @@ use Rattle.std.proofs.lemmas.Bool.{eq-eqb}
 use Rattle.std.proofs.lemmas.Bool.Decides.{eqb_tells}
 use Rattle.slots.specs.Order.{times_in}
 use Rattle.derivation.proofs.Behind.{times-filter}
-use Rattle.model.specs.Scheduling.{without}
-use Rattle.model.specs.State.{put}
+use Rattle.model.specs.Kernel.Scheduling.{without}
+use Rattle.model.specs.Kernel.State.{put}
 use Rattle.model_laws.specs.Ready.{HoldsNoneTwice}
 
 -- the thread is gone, and others stand as often as before

@@ -20,24 +20,24 @@ use Rattle.model.specs.declared.labels.Outcome.TheVariants.{Plain}
 use Rattle.model.specs.declared.lookup_failures.LookupFailure.{LookupFailure}
 use Rattle.model.specs.declared.lookup_failures.LookupFailure.TheVariants.{MissingCapability}
 use Rattle.model.specs.declared.rights.Rights.{Rights}
-use Rattle.model.specs.AddressSpaces.{content_of, with_content, address_limit, is_page_taken, is_region_taken, page_size, region_pages}
-use Rattle.model.specs.Capabilities.{badge_fits, carries_messages, cnode_of, frame_mapping, guard_fits, is_badged, is_handler_of, may_be_copied, root_of, table_mapping, unmapped}
-use Rattle.model.specs.Placement.{placement}
-use Rattle.model.specs.Rights.{mapping_rights, may_execute, may_grant_reply, may_read, may_write}
-use Rattle.model.specs.Slots.{capability_at, is_full, recapped}
-use Rattle.model.specs.Arguments.{◌>>=◌, argument_slot, check, destination_slot, may_have_child, source_slot, wanted, word}
-use Rattle.model.specs.Decoding.{decoded}
-use Rattle.model.specs.ProgramMemory.{RegisterFile, loaded, read}
-use Rattle.model.specs.Effects.{effect}
-use Rattle.model.specs.Interrupts.{acknowledge, binding, interrupt, raise, with_pending}
-use Rattle.model.specs.Faults.{fault, handler, tell}
-use Rattle.model.specs.Invocations.{Call, bind, configure, copy, decodes, get_handler, given_guard_fits, is_caller, is_mapped, map_frame, map_table, may_be_bound, mint, move, mutate, root_named, set_priority, set_register, invoke, on_cnode, on_frame, on_handler, on_table, on_thread, perform, resume, suspend, unmap_table, with_priority, with_slots, without_region}
-use Rattle.model.specs.Messages.{Message, a7, waits_for_signal, deliver, deliver_word, message_of, message_sent, passes, resumption, waits_to_receive, with_caller, with_registers, receive, receives, received, received_waiting, replied, reply, reply_to_fault, sends, signal, signals, takes_word, tries_to_send, try_to_receive}
-use Rattle.model.specs.Removal.{SlotSet, ended_threads, ends, set_back, slots_without, delete, remove, without_slots}
-use Rattle.model.specs.Retype.{any_full, is_large_enough, is_small_enough, node, object_bits, retype, type_of}
-use Rattle.model.specs.Scheduling.{at_tail, block, current, full_slice, is_runnable, leaves, tick, ticked, to_tail, unready, wake, yielded}
-use Rattle.model.specs.State.{FaultMessage, NotificationState, Sender, Sent, BySend, ByCall, ByFault, State, Status, Inactive, Runnable, Blocked, AwaitsReply, AwaitsHandler, as_thread, binding_slot, cspace_slot, endpoint_at, holds_some, slot_of, vspace_slot, notification_at, put, thread_at, with_endpoint, with_notification, with_thread}
-use Rattle.model.specs.Steps.{Done, SystemCall, Sends, Receives, RepliesAndReceives, Replies, Yields, PutsCharacter, call_of, calls, calls_known, registers_of, lacks_capability, named_slot, signal_on, SendCall, Calling, Sending, Trying, ReceiveCall, Receiving, Polling, after_effect, after_invocation, answered, completed, invokes, ran, receive_by, receive_named, receive_on_endpoint, receive_on_notification, refused, runs, runs_decoded, runs_fetched, send_by, send_named, send_on, sender, sends_nothing, step, system_call}
+use Rattle.model.specs.Kernel.AddressSpaces.{content_of, with_content, address_limit, is_page_taken, is_region_taken, page_size, region_pages}
+use Rattle.model.specs.Capabilities.CapabilityKinds.{badge_fits, carries_messages, cnode_of, frame_mapping, guard_fits, is_badged, is_handler_of, may_be_copied, root_of, table_mapping, unmapped}
+use Rattle.model.specs.Capabilities.Placement.{placement}
+use Rattle.model.specs.Capabilities.Rights.{mapping_rights, may_execute, may_grant_reply, may_read, may_write}
+use Rattle.model.specs.Capabilities.Slots.{capability_at, is_full, recapped}
+use Rattle.model.specs.Kernel.Arguments.{◌>>=◌, argument_slot, check, destination_slot, may_have_child, source_slot, wanted, word}
+use Rattle.model.specs.Machine.Decoding.{decoded}
+use Rattle.model.specs.Machine.ProgramMemory.{RegisterFile, loaded, read}
+use Rattle.model.specs.Machine.Effects.{effect}
+use Rattle.model.specs.Kernel.Interrupts.{acknowledge, binding, interrupt, raise, with_pending}
+use Rattle.model.specs.Kernel.Faults.{fault, handler, tell}
+use Rattle.model.specs.Kernel.Invocations.{Call, bind, configure, copy, decodes, get_handler, given_guard_fits, is_caller, is_mapped, map_frame, map_table, may_be_bound, mint, move, mutate, root_named, set_priority, set_register, invoke, on_cnode, on_frame, on_handler, on_table, on_thread, perform, resume, suspend, unmap_table, with_priority, with_slots, without_region}
+use Rattle.model.specs.Kernel.Messages.{Message, a7, waits_for_signal, deliver, deliver_word, message_of, message_sent, passes, resumption, waits_to_receive, with_caller, with_registers, receive, receives, received, received_waiting, replied, reply, reply_to_fault, sends, signal, signals, takes_word, tries_to_send, try_to_receive}
+use Rattle.model.specs.Kernel.Removal.{SlotSet, ended_threads, ends, set_back, slots_without, delete, remove, without_slots}
+use Rattle.model.specs.Kernel.Retype.{any_full, is_large_enough, is_small_enough, node, object_bits, retype, type_of}
+use Rattle.model.specs.Kernel.Scheduling.{at_tail, block, current, full_slice, is_runnable, leaves, tick, ticked, to_tail, unready, wake, yielded}
+use Rattle.model.specs.Kernel.State.{FaultMessage, NotificationState, Sender, Sent, BySend, ByCall, ByFault, State, Status, Inactive, Runnable, Blocked, AwaitsReply, AwaitsHandler, as_thread, binding_slot, cspace_slot, endpoint_at, holds_some, slot_of, vspace_slot, notification_at, put, thread_at, with_endpoint, with_notification, with_thread}
+use Rattle.model.specs.Kernel.Steps.{Done, SystemCall, Sends, Receives, RepliesAndReceives, Replies, Yields, PutsCharacter, call_of, calls, calls_known, registers_of, lacks_capability, named_slot, signal_on, SendCall, Calling, Sending, Trying, ReceiveCall, Receiving, Polling, after_effect, after_invocation, answered, completed, invokes, ran, receive_by, receive_named, receive_on_endpoint, receive_on_notification, refused, runs, runs_decoded, runs_fetched, send_by, send_named, send_on, sender, sends_nothing, step, system_call}
 use Rattle.model_laws.specs.Ready.{HoldsNoneTwice}
 use Rattle.model_laws.proofs.ReadyLists.{moved-none_twice, unready-none_twice}
 

@@ -9,12 +9,12 @@ use Rattle.model.specs.declared.capabilities.Cap.{Cap}
 use Rattle.model.specs.declared.capabilities.Cap.TheVariants.{Empty, Untyped, Endpoint, Notification, CNode, Frame, PageTable, Tcb, RootTable, InterruptControl, InterruptHandler}
 use Rattle.model.specs.declared.errors.KError.TheVariants.{RevokeFirst}
 use Rattle.model.specs.declared.slot_entries.Entry.{Entry}
-use Rattle.model.specs.Capabilities.{object_of}
-use Rattle.model.specs.Removal.{SlotSet, closes, ended_threads, ends, ends_filled, frame_loses, is_slot_of, kept, kept_entry, new_parent, remove, set_back, slots_without, table_loses, wants_revoke_first, with_bindings, without_slots}
-use Rattle.model.specs.AddressSpaces.{page_size}
-use Rattle.model.specs.Scheduling.{leaves, wake}
-use Rattle.model.specs.Slots.{capability_at, empty_entry, is_empty, is_full, parent_at}
-use Rattle.model.specs.State.{State, slot_numbers, slots_of}
+use Rattle.model.specs.Capabilities.CapabilityKinds.{object_of}
+use Rattle.model.specs.Kernel.Removal.{SlotSet, closes, ended_threads, ends, ends_filled, frame_loses, is_slot_of, kept, kept_entry, new_parent, remove, set_back, slots_without, table_loses, wants_revoke_first, with_bindings, without_slots}
+use Rattle.model.specs.Kernel.AddressSpaces.{page_size}
+use Rattle.model.specs.Kernel.Scheduling.{leaves, wake}
+use Rattle.model.specs.Capabilities.Slots.{capability_at, empty_entry, is_empty, is_full, parent_at}
+use Rattle.model.specs.Kernel.State.{State, slot_numbers, slots_of}
 use Rattle.model_laws.specs.Capabilities.{apart_from_mapping}
 
 -- ---- tests over lists

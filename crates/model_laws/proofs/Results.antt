@@ -15,11 +15,11 @@ use Rattle.model.specs.declared.instructions.ShiftOp.TheVariants.{Slli, Srli, Sr
 use Rattle.model.specs.declared.instructions.RegisterOp.{RegisterOp}
 use Rattle.model.specs.declared.instructions.RegisterOp.TheVariants.{Add, Sub, Sll, Slt, Sltu, Xor, Srl, Sra, Or, And}
 use Rattle.model.specs.declared.ranges.Range.{Range}
-use Rattle.model.specs.Instructions.{IsImmediate, signed, word_of}
-use Rattle.model.specs.ProgramMemory.{FitsSize}
-use Rattle.model.specs.Effects.{immediate_result, load_result, load_size, one_if, plus, register_result, shift_result}
-use Rattle.model.specs.RangeRules.{and_range, difference_range, if_positive, immediate_range, is_single, left_by, left_range, load_range, ones_above, ones_within, or_range, range, register_range, right_by, right_range, shift_range, sum_range, xor_range}
-use Rattle.model.specs.Ranges.{full, moved, single}
+use Rattle.model.specs.Machine.Instructions.{IsImmediate, signed, word_of}
+use Rattle.model.specs.Machine.ProgramMemory.{FitsSize}
+use Rattle.model.specs.Machine.Effects.{immediate_result, load_result, load_size, one_if, plus, register_result, shift_result}
+use Rattle.model.specs.Acceptance.RangeRules.{and_range, difference_range, if_positive, immediate_range, is_single, left_by, left_range, load_range, ones_above, ones_within, or_range, range, register_range, right_by, right_range, shift_range, sum_range, xor_range}
+use Rattle.model.specs.Acceptance.Ranges.{full, moved, single}
 use Rattle.model_laws.specs.Inside.{LiesIn}
 
 -- ---- tests

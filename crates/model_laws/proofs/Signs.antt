@@ -1,7 +1,7 @@
 -- Signed immediates come back from their bits.
 use Rattle.std.proofs.Common.{◌≡◌, ◌+◌, ◌*◌, ◌^◌, ℤ, arith}
-use Rattle.model.specs.Instructions.{bits, word_of, IsImmediate, IsBranchOffset, IsJumpOffset}
-use Rattle.model.specs.Decoding.{sign_extended}
+use Rattle.model.specs.Machine.Instructions.{bits, word_of, IsImmediate, IsBranchOffset, IsJumpOffset}
+use Rattle.model.specs.Machine.Decoding.{sign_extended}
 
 pub i-sign : (z : ℤ) → IsImmediate z → sign_extended (bits (word_of z) 0 12) (2 ^ 11) ≡ z
 i-sign z fits = grind arith

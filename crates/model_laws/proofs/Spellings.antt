@@ -18,8 +18,8 @@ use Rattle.model.specs.declared.instructions.RegisterOp.TheVariants.{Add, Sub, S
 use Rattle.model.specs.declared.instructions.Instr.{Instr}
 use Rattle.model.specs.declared.instructions.Instr.TheVariants.{Upper, Jal, Jalr, Branch, Load, Store, Immediate, Shift, Registers, Fence, Ecall, Ebreak}
 use Rattle.model.specs.declared.instructions.Register.{Register}
-use Rattle.model.specs.Instructions.{Spells, bits, word_of}
-use Rattle.model.specs.Decoding.{b_offset, branch_op, decoded, decoded_branch, decoded_fence, decoded_immediate, decoded_jal, decoded_jalr, decoded_load, decoded_registers, decoded_shift, decoded_store, decoded_system, decoded_upper, funct3_of, funct7_of, i_immediate, immediate_op, j_offset, load_op, rd_of, register_op, rs1_of, rs2_of, s_immediate, shift_op, sign_extended, store_op}
+use Rattle.model.specs.Machine.Instructions.{Spells, bits, word_of}
+use Rattle.model.specs.Machine.Decoding.{b_offset, branch_op, decoded, decoded_branch, decoded_fence, decoded_immediate, decoded_jal, decoded_jalr, decoded_load, decoded_registers, decoded_shift, decoded_store, decoded_system, decoded_upper, funct3_of, funct7_of, i_immediate, immediate_op, j_offset, load_op, rd_of, register_op, rs1_of, rs2_of, s_immediate, shift_op, sign_extended, store_op}
 use Rattle.model_laws.proofs.Signs.{i-sign, b-sign, j-sign}
 
 -- `decoded`, with the opcode as a value of its own

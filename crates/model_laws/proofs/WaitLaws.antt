@@ -23,17 +23,17 @@ use Rattle.model.specs.declared.labels.Outcome.{Outcome}
 use Rattle.model.specs.declared.labels.Outcome.TheVariants.{Plain}
 use Rattle.model.specs.declared.lookup_failures.LookupFailure.{LookupFailure}
 use Rattle.model.specs.declared.lookup_failures.LookupFailure.TheVariants.{MissingCapability}
-use Rattle.model.specs.AddressSpaces.{content_of, with_content}
-use Rattle.model.specs.Decoding.{decoded}
-use Rattle.model.specs.ProgramMemory.{Content, RegisterFile, write, loaded, read, stored}
-use Rattle.model.specs.Effects.{is_taken, load_size, next_pc, plus, store_size, branches, effect, goes_on, stays, jumps, loads, stores}
-use Rattle.model.specs.Messages.{a7, reply, with_registers}
-use Rattle.model.specs.Rights.{may_grant_reply, may_read, may_write}
-use Rattle.model.specs.Scheduling.{current}
-use Rattle.model.specs.Slots.{capability_at}
-use Rattle.model.specs.State.{State}
-use Rattle.model.specs.Steps.{Done, SystemCall, Sends, Receives, RepliesAndReceives, Replies, Yields, PutsCharacter, SendCall, Calling, Sending, Trying, Receiving, Polling, after_effect, after_invocation, call_of, calls, calls_known, invokes, lacks_capability, named_slot, ran, receive_by, receive_named, receive_on_endpoint, receive_on_notification, refused, registers_of, runs, runs_decoded, runs_fetched, send_by, send_named, send_on, signal_on, sends_nothing, step, system_call}
-use Rattle.model.specs.Waits.{is_error, is_fault, is_wait, is_waited}
+use Rattle.model.specs.Kernel.AddressSpaces.{content_of, with_content}
+use Rattle.model.specs.Machine.Decoding.{decoded}
+use Rattle.model.specs.Machine.ProgramMemory.{Content, RegisterFile, write, loaded, read, stored}
+use Rattle.model.specs.Machine.Effects.{is_taken, load_size, next_pc, plus, store_size, branches, effect, goes_on, stays, jumps, loads, stores}
+use Rattle.model.specs.Kernel.Messages.{a7, reply, with_registers}
+use Rattle.model.specs.Capabilities.Rights.{may_grant_reply, may_read, may_write}
+use Rattle.model.specs.Kernel.Scheduling.{current}
+use Rattle.model.specs.Capabilities.Slots.{capability_at}
+use Rattle.model.specs.Kernel.State.{State}
+use Rattle.model.specs.Kernel.Steps.{Done, SystemCall, Sends, Receives, RepliesAndReceives, Replies, Yields, PutsCharacter, SendCall, Calling, Sending, Trying, Receiving, Polling, after_effect, after_invocation, call_of, calls, calls_known, invokes, lacks_capability, named_slot, ran, receive_by, receive_named, receive_on_endpoint, receive_on_notification, refused, registers_of, runs, runs_decoded, runs_fetched, send_by, send_named, send_on, signal_on, sends_nothing, step, system_call}
+use Rattle.model.specs.Kernel.Waits.{is_error, is_fault, is_wait, is_waited}
 use Rattle.model_laws.specs.WaitingCalls.{IsWaitingCall, receives, replies_and_receives, calls_endpoint, sends_to_endpoint, NamesEndpoint, StandsAtWait}
 
 abbrev Waits : Done → Type 0

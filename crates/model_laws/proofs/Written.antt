@@ -22,12 +22,12 @@ use Rattle.model.specs.declared.instructions.RegisterOp.{RegisterOp}
 use Rattle.model.specs.declared.instructions.ShiftOp.{ShiftOp}
 use Rattle.model.specs.declared.ranges.Range.{Range}
 use Rattle.std.specs.Prelude.{ℤ}
-use Rattle.model.specs.Instructions.{IsImmediate, IsInstr, IsRegister}
-use Rattle.model.specs.ProgramMemory.{Content, FitsSize, RegisterFile, ◌>>=◌, places_from, read, stored, width_of, write}
-use Rattle.model.specs.Effects.{branches, effect, goes_on, immediate_result, is_taken, jumps, load_result, load_size, loads, next_pc, plus, register_result, shift_result, stays, store_size, stores, upper_result}
-use Rattle.model.specs.RangeRules.{destination, immediate_range, is_single, load_range, ranges_after, register_range, result_range, shift_range, value_or}
-use Rattle.model.specs.Ranges.{full, range_of, single, with_range}
-use Rattle.model.specs.ThreadInvariants.{LieWithin}
+use Rattle.model.specs.Machine.Instructions.{IsImmediate, IsInstr, IsRegister}
+use Rattle.model.specs.Machine.ProgramMemory.{Content, FitsSize, RegisterFile, ◌>>=◌, places_from, read, stored, width_of, write}
+use Rattle.model.specs.Machine.Effects.{branches, effect, goes_on, immediate_result, is_taken, jumps, load_result, load_size, loads, next_pc, plus, register_result, shift_result, stays, store_size, stores, upper_result}
+use Rattle.model.specs.Acceptance.RangeRules.{destination, immediate_range, is_single, load_range, ranges_after, register_range, result_range, shift_range, value_or}
+use Rattle.model.specs.Acceptance.Ranges.{full, range_of, single, with_range}
+use Rattle.model.specs.Acceptance.ThreadInvariants.{LieWithin}
 use Rattle.model_laws.specs.Inside.{LiesIn}
 use Rattle.model_laws.proofs.Results.{chosen, immediates-in, known, loads-in, registers-in, shifts-in, single-in}
 

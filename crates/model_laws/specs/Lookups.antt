@@ -4,8 +4,8 @@ use Rattle.model.specs.declared.capabilities.Cap.{Cap}
 use Rattle.model.specs.declared.capabilities.Cap.TheVariants.{CNode}
 use Rattle.model.specs.declared.lookup_failures.LookupFailure.{LookupFailure}
 use Rattle.model.specs.declared.lookup_failures.LookupFailure.TheVariants.{InvalidRoot}
-use Rattle.model.specs.Lookup.{is_cnode, resolve}
-use Rattle.model.specs.Slots.{Slots, capability_at}
+use Rattle.model.specs.Capabilities.Lookup.{is_cnode, resolve}
+use Rattle.model.specs.Capabilities.Slots.{Slots, capability_at}
 
 -- the slot of an index under a CNode
 abbrev pub slot_under : ℕ → ℕ × ℕ → ℕ

@@ -1,11 +1,11 @@
 -- What the rows on mappings start from.
 use Rattle.std.specs.Prelude.{ℕ, ◌==◌, if◌then◌else◌, Option, Some, None, Result, [], ◌∷◌, replicate, slice_set}
-use Rattle.model.specs.AddressSpaces.{place_under}
-use Rattle.model.specs.ProgramMemory.{Content, RegisterFile}
-use Rattle.model.specs.Invocations.{Call, map_frame}
-use Rattle.model.specs.Rights.{rights}
-use Rattle.model.specs.Slots.{empty_entry, is_within}
-use Rattle.model.specs.State.{State}
+use Rattle.model.specs.Kernel.AddressSpaces.{place_under}
+use Rattle.model.specs.Machine.ProgramMemory.{Content, RegisterFile}
+use Rattle.model.specs.Kernel.Invocations.{Call, map_frame}
+use Rattle.model.specs.Capabilities.Rights.{rights}
+use Rattle.model.specs.Capabilities.Slots.{empty_entry, is_within}
+use Rattle.model.specs.Kernel.State.{State}
 use Rattle.model.specs.declared.capabilities.Cap.{Cap}
 use Rattle.model.specs.declared.capabilities.Cap.TheVariants.{CNode, Frame, PageTable, RootTable}
 use Rattle.model.specs.declared.capabilities.FrameMapping.{FrameMapping}

@@ -7,11 +7,11 @@ use Rattle.model.specs.declared.instructions.Instr.TheVariants.{Immediate, Regis
 use Rattle.model.specs.declared.instructions.RegisterOp.{RegisterOp}
 use Rattle.model.specs.declared.instructions.ShiftOp.{ShiftOp}
 use Rattle.model.specs.declared.ranges.Range.{Range}
-use Rattle.model.specs.Edges.{branch_ranges}
-use Rattle.model.specs.Measures.{register_numbered}
-use Rattle.model.specs.NotedStates.{full_ranges}
-use Rattle.model.specs.RangeRules.{result_range}
-use Rattle.model.specs.Ranges.{range_of, with_range}
+use Rattle.model.specs.Acceptance.Edges.{branch_ranges}
+use Rattle.model.specs.Acceptance.Measures.{register_numbered}
+use Rattle.model.specs.Acceptance.NotedStates.{full_ranges}
+use Rattle.model.specs.Acceptance.RangeRules.{result_range}
+use Rattle.model.specs.Acceptance.Ranges.{range_of, with_range}
 use Rattle.std.specs.Prelude.{Bool, ℤ}
 
 abbrev pub with_both : Range → Range → List Range

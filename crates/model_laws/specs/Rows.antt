@@ -7,12 +7,12 @@ use Rattle.model.specs.declared.instructions.Instr.{Instr}
 use Rattle.model.specs.declared.instructions.Instr.TheVariants.{Jalr, Shift}
 use Rattle.model.specs.declared.instructions.ShiftOp.TheVariants.{Srai}
 use Rattle.model.specs.declared.slot_entries.Entry.{Entry}
-use Rattle.model.specs.ProgramMemory.{Content, RegisterFile}
-use Rattle.model.specs.Messages.{register, signal, wait}
-use Rattle.model.specs.Removal.{delete}
-use Rattle.model.specs.Rights.{rights}
-use Rattle.model.specs.Slots.{Slots, empty_entry, is_within}
-use Rattle.model.specs.State.{State, ThreadState, Runnable, ThreadObject, NotificationObject, new_notification, new_thread, put}
+use Rattle.model.specs.Machine.ProgramMemory.{Content, RegisterFile}
+use Rattle.model.specs.Kernel.Messages.{register, signal, wait}
+use Rattle.model.specs.Kernel.Removal.{delete}
+use Rattle.model.specs.Capabilities.Rights.{rights}
+use Rattle.model.specs.Capabilities.Slots.{Slots, empty_entry, is_within}
+use Rattle.model.specs.Kernel.State.{State, ThreadState, Runnable, ThreadObject, NotificationObject, new_notification, new_thread, put}
 
 -- ---- lookups
 

@@ -9,12 +9,12 @@ use Rattle.model.specs.declared.labels.Label.{Label}
 use Rattle.model.specs.declared.labels.Label.TheVariants.{Ran}
 use Rattle.model.specs.declared.labels.Outcome.TheVariants.{Plain}
 use Rattle.model.specs.declared.ranges.Range.{Range}
-use Rattle.model.specs.Boot.{boot_area, booted}
-use Rattle.model.specs.State.{State}
+use Rattle.model.specs.Images.Boot.{boot_area, booted}
+use Rattle.model.specs.Kernel.State.{State}
 use Rattle.model.specs.declared.refusals.Refusal.{Refusal}
-use Rattle.model.specs.Bytes.{word_bytes}
-use Rattle.model.specs.Format.{reading}
-use Rattle.model.specs.Image.{Image, Thread, whole_image}
+use Rattle.model.specs.Shared.Bytes.{word_bytes}
+use Rattle.model.specs.Images.Format.{reading}
+use Rattle.model.specs.Images.Image.{Image, Thread, whole_image}
 
 -- the header and the sections before the thread, by words
 abbrev pub solo_front : List ℕ

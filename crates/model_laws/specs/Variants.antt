@@ -3,7 +3,7 @@ use Rattle.std.specs.Prelude.{ℕ, [], ◌∷◌, ◌++◌, map}
 use Rattle.model.specs.declared.entries.CapabilityEntry.{CapabilityEntry}
 use Rattle.model.specs.declared.entries.FrameEntry.{FrameEntry}
 use Rattle.model.specs.declared.entries.ThreadHeader.{ThreadHeader}
-use Rattle.model.specs.Image.{Image, Thread}
+use Rattle.model.specs.Images.Image.{Image, Thread}
 use Rattle.model_laws.specs.Solo.{solo_image}
 
 unfoldable pub with_radix : ℕ → Image

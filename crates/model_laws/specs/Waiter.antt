@@ -1,6 +1,6 @@
 -- A thread of the one form that waits on its notification again and again: ECALL, ADDI a0, x0, 1, and JAL back.
 use Rattle.std.specs.Prelude.{pos, [], ◌∷◌}
-use Rattle.model.specs.Image.{Thread}
+use Rattle.model.specs.Images.Image.{Thread}
 
 abbrev pub waiter : Thread
 waiter = record {

@@ -5,14 +5,14 @@ use Rattle.model.specs.declared.instructions.Access.TheVariants.{Fetch}
 use Rattle.model.specs.declared.instructions.AccessSize.TheVariants.{Word}
 use Rattle.model.specs.declared.instructions.Instr.TheVariants.{Ecall}
 use Rattle.model.specs.declared.rights.Rights.{Rights}
-use Rattle.model.specs.AddressSpaces.{content_of}
-use Rattle.model.specs.Decoding.{decoded}
-use Rattle.model.specs.ProgramMemory.{loaded, read}
-use Rattle.model.specs.Messages.{a7}
-use Rattle.model.specs.Scheduling.{current}
-use Rattle.model.specs.Slots.{capability_at}
-use Rattle.model.specs.State.{State}
-use Rattle.model.specs.Steps.{SystemCall, Sends, Receives, RepliesAndReceives, Calling, Sending, Receiving, call_of, named_slot, registers_of}
+use Rattle.model.specs.Kernel.AddressSpaces.{content_of}
+use Rattle.model.specs.Machine.Decoding.{decoded}
+use Rattle.model.specs.Machine.ProgramMemory.{loaded, read}
+use Rattle.model.specs.Kernel.Messages.{a7}
+use Rattle.model.specs.Kernel.Scheduling.{current}
+use Rattle.model.specs.Capabilities.Slots.{capability_at}
+use Rattle.model.specs.Kernel.State.{State}
+use Rattle.model.specs.Kernel.Steps.{SystemCall, Sends, Receives, RepliesAndReceives, Calling, Sending, Receiving, call_of, named_slot, registers_of}
 
 -- a0 names a capability to an endpoint
 pub record NamesEndpoint (s : State) (thread : ℕ) : Type 0 where

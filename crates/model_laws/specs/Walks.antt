@@ -1,7 +1,7 @@
 -- Memories that the rows on walks start from: a root table, a page table and a page, one behind another.
 use Rattle.std.specs.Prelude.{ℕ, ◌-◌, List, replicate}
-use Rattle.model.specs.Bytes.{word_bytes, written}
-use Rattle.model.specs.Sv32.{leaf_word, table_word}
+use Rattle.model.specs.Shared.Bytes.{word_bytes, written}
+use Rattle.model.specs.Machine.Sv32.{leaf_word, table_word}
 
 unfoldable pub memory_with : ℕ → ℕ → List ℕ
 memory_with pointer leaf = written (written (replicate 0x3000 0) 4 (word_bytes pointer)) 0x1004 (word_bytes leaf)

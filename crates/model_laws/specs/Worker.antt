@@ -10,12 +10,12 @@ use Rattle.model.specs.declared.labels.Label.TheVariants.{Idle, Ran}
 use Rattle.model.specs.declared.labels.Outcome.{Outcome}
 use Rattle.model.specs.declared.labels.Outcome.TheVariants.{Completed, Plain, Waited}
 use Rattle.model.specs.declared.refusals.Refusal.{Refusal}
-use Rattle.model.specs.CallRules.{AfterCall, after_call}
-use Rattle.model.specs.Format.{reading}
-use Rattle.model.specs.Image.{Image, StateRecord, Thread, no_parent, whole_image}
-use Rattle.model.specs.Measures.{register_numbered}
-use Rattle.model.specs.NotedStates.{NotedSlot, PointState, SlotKey, full_ranges, image_slots}
-use Rattle.model.specs.Ranges.{single, with_range}
+use Rattle.model.specs.Acceptance.CallRules.{AfterCall, after_call}
+use Rattle.model.specs.Images.Format.{reading}
+use Rattle.model.specs.Images.Image.{Image, StateRecord, Thread, no_parent, whole_image}
+use Rattle.model.specs.Acceptance.Measures.{register_numbered}
+use Rattle.model.specs.Acceptance.NotedStates.{NotedSlot, PointState, SlotKey, full_ranges, image_slots}
+use Rattle.model.specs.Acceptance.Ranges.{single, with_range}
 use Rattle.model_laws.specs.Solo.{at_point}
 
 abbrev pub worker_thread : Thread

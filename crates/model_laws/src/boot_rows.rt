@@ -1,7 +1,7 @@
 //! Rows on booting: the image `solo`, and what stops the loader.
 
 ghost use Rattle.std.specs.Prelude.{◌≡◌, Err, is_ok, true};
-ghost use Rattle.model.specs.Boot.{booted};
+ghost use Rattle.model.specs.Images.Boot.{booted};
 ghost use Rattle.model.specs.declared.boot_faults.BootFault.TheVariants.{Kernel, Outside};
 ghost use Rattle.model.specs.declared.errors.KError.TheVariants.{InvalidArgument};
 ghost use Rattle.model_laws.specs.Solo.{solo_image, solo_mapped, solo_at};

@@ -4,11 +4,11 @@ ghost use Rattle.std.specs.Prelude.{◌≡◌, ◌<◌, ◌^◌, ℕ, Bool, true
 ghost use Rattle.model.specs.declared.instructions.BranchOp.{BranchOp};
 ghost use Rattle.model.specs.declared.instructions.Register.{Register};
 ghost use Rattle.model.specs.declared.ranges.Range.{Range};
-ghost use Rattle.model.specs.Edges.{branch_ranges, joined, narrowed};
-ghost use Rattle.model.specs.Effects.{is_taken};
-ghost use Rattle.model.specs.Instructions.{IsRegister};
-ghost use Rattle.model.specs.ProgramMemory.{RegisterFile, read};
-ghost use Rattle.model.specs.ThreadInvariants.{LieWithin};
+ghost use Rattle.model.specs.Acceptance.Edges.{branch_ranges, joined, narrowed};
+ghost use Rattle.model.specs.Machine.Effects.{is_taken};
+ghost use Rattle.model.specs.Machine.Instructions.{IsRegister};
+ghost use Rattle.model.specs.Machine.ProgramMemory.{RegisterFile, read};
+ghost use Rattle.model.specs.Acceptance.ThreadInvariants.{LieWithin};
 ghost use Rattle.model_laws.specs.Inside.{LiesIn};
 
 /// Each side of a branch that goes this way stays in what the branch narrows its range to.

@@ -1,9 +1,9 @@
 //! Rows on system calls of a thread with a pool.
 
 ghost use Rattle.std.specs.Prelude.{◌≡◌, [], ◌∷◌, None, Some};
-ghost use Rattle.model.specs.Accepted.{first_in};
-ghost use Rattle.model.specs.Rights.{rights};
-ghost use Rattle.model.specs.WellFormed.{object_rules};
+ghost use Rattle.model.specs.Acceptance.Accepted.{first_in};
+ghost use Rattle.model.specs.Capabilities.Rights.{rights};
+ghost use Rattle.model.specs.Acceptance.WellFormed.{object_rules};
 ghost use Rattle.model.specs.declared.capabilities.Cap.TheVariants.{CNode, Endpoint, Frame, RootTable, Untyped};
 ghost use Rattle.model.specs.declared.errors.KError.TheVariants.{IllegalOperation, TruncatedMessage};
 ghost use Rattle.model.specs.declared.refusals.Refusal.TheVariants.{CallNotConstant, CallRefused, CapNotThere, PoolLost};

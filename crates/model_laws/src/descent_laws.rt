@@ -1,9 +1,9 @@
 //! Laws of derivation and removal.
 
 ghost use Rattle.std.specs.Prelude.{◌≡◌, ◌↔◌, ◌<◌, ◌^◌, ◌/◌, ℕ, true, false, Ok};
-ghost use Rattle.model.specs.Removal.{SlotSet, kept, new_parent, remove, with_bindings};
-ghost use Rattle.model.specs.Slots.{Descendant, IsDerivation, Slots, capability_at, is_descendant, is_full, parent_at};
-ghost use Rattle.model.specs.State.{State};
+ghost use Rattle.model.specs.Kernel.Removal.{SlotSet, kept, new_parent, remove, with_bindings};
+ghost use Rattle.model.specs.Capabilities.Slots.{Descendant, IsDerivation, Slots, capability_at, is_descendant, is_full, parent_at};
+ghost use Rattle.model.specs.Kernel.State.{State};
 ghost use Rattle.model_laws.specs.Capabilities.{apart_from_mapping};
 
 /// A descendant of a descendant is one.

@@ -1,16 +1,16 @@
 //! Laws of the one form of images that this release reads.
 
 ghost use Rattle.std.specs.Prelude.{◌≡◌, ◌≤◌, ◌<◌, ◌⊎◌, ℕ, All, IfErr, List, Ok, Some, true};
-ghost use Rattle.model.specs.Accepted.{AreKept, IsAccepted, IsWellFormed, first_breach, first_in, phases};
-ghost use Rattle.model.specs.Bytes.{AreBytes};
-ghost use Rattle.model.specs.Format.{Spells, reading};
-ghost use Rattle.model.specs.Image.{Image, Thread, whole_image};
-ghost use Rattle.model.specs.PointRules.{program_rules};
-ghost use Rattle.model.specs.Measures.{Measure};
-ghost use Rattle.model.specs.Messages.{a0, a7};
-ghost use Rattle.model.specs.PointStates.{call_at, noted};
-ghost use Rattle.model.specs.Ranges.{range_of, single};
-ghost use Rattle.model.specs.Rules.{first_broken};
+ghost use Rattle.model.specs.Acceptance.Accepted.{AreKept, IsAccepted, IsWellFormed, first_breach, first_in, phases};
+ghost use Rattle.model.specs.Shared.Bytes.{AreBytes};
+ghost use Rattle.model.specs.Images.Format.{Spells, reading};
+ghost use Rattle.model.specs.Images.Image.{Image, Thread, whole_image};
+ghost use Rattle.model.specs.Acceptance.PointRules.{program_rules};
+ghost use Rattle.model.specs.Acceptance.Measures.{Measure};
+ghost use Rattle.model.specs.Kernel.Messages.{a0, a7};
+ghost use Rattle.model.specs.Acceptance.PointStates.{call_at, noted};
+ghost use Rattle.model.specs.Acceptance.Ranges.{range_of, single};
+ghost use Rattle.model.specs.Acceptance.Rules.{first_broken};
 ghost use Rattle.model.specs.declared.ranges.Range.{Range};
 ghost use Rattle.model.specs.declared.refusals.Refusal.TheVariants.{BadThread};
 ghost use Rattle.image.specs.Certificates.{HasConstant, IsBare, IsOfForm, waited, with_image_slots};

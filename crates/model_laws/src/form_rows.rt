@@ -1,7 +1,7 @@
 //! Rows on well-formed images, each with one thing wrong.
 
 ghost use Rattle.std.specs.Prelude.{◌≡◌, None, Some};
-ghost use Rattle.model.specs.Accepted.{first_in, phases};
+ghost use Rattle.model.specs.Acceptance.Accepted.{first_in, phases};
 ghost use Rattle.model.specs.declared.refusals.Refusal.TheVariants.{BadCap, BadMapping, BadObject, BadThread, NoRoom, SharedVSpace, UntypedOverlap, WritableCode};
 ghost use Rattle.model_laws.specs.Variants.{capability, frame, with_capability, with_content, with_frames, with_interrupt, with_other_root, with_radix, with_table, with_thread, with_untyped};
 

@@ -1,10 +1,10 @@
 //! Laws of images and of acceptance.
 
 ghost use Rattle.std.specs.Prelude.{◌≡◌, ℕ, List, None, Some, Ok};
-ghost use Rattle.model.specs.Accepted.{Breach, IsAccepted, first_breach};
-ghost use Rattle.model.specs.Bytes.{AreBytes};
-ghost use Rattle.model.specs.Format.{Spells, reading};
-ghost use Rattle.model.specs.Image.{Image, whole_image};
+ghost use Rattle.model.specs.Acceptance.Accepted.{Breach, IsAccepted, first_breach};
+ghost use Rattle.model.specs.Shared.Bytes.{AreBytes};
+ghost use Rattle.model.specs.Images.Format.{Spells, reading};
+ghost use Rattle.model.specs.Images.Image.{Image, whole_image};
 ghost use Rattle.model.specs.declared.refusals.Refusal.{Refusal};
 
 /// An image has one spelling, and bytes spell at most one image.

@@ -1,7 +1,7 @@
 //! Rows on what bytes are refused as, or are not: the image `solo`, and bytes that differ from it.
 
 ghost use Rattle.std.specs.Prelude.{◌≡◌, ◌++◌, [], ◌∷◌, None, Some, slice_set, take};
-ghost use Rattle.model.specs.Accepted.{first_breach};
+ghost use Rattle.model.specs.Acceptance.Accepted.{first_breach};
 ghost use Rattle.model.specs.declared.refusals.Refusal.TheVariants.{BadMapping, OverBudget, RangeNotKept, Trailing, Truncated, UntypedOverlap};
 ghost use Rattle.model_laws.specs.Solo.{at_point, solo};
 

@@ -1,11 +1,11 @@
 //! Rows on what an image describes and on how it is loaded, on the image `solo`.
 
 ghost use Rattle.std.specs.Prelude.{◌≡◌, [], ◌∷◌, None, Some, codes, length, map};
-ghost use Rattle.model.specs.BootCalls.{all_calls};
-ghost use Rattle.model.specs.Described.{described};
-ghost use Rattle.model.specs.Listing.{listing_lines};
-ghost use Rattle.model.specs.Places.{boot_slots, offset_of, watermark_of};
-ghost use Rattle.model.specs.Rights.{rights};
+ghost use Rattle.model.specs.Images.BootCalls.{all_calls};
+ghost use Rattle.model.specs.Images.Described.{described};
+ghost use Rattle.model.specs.Images.Listing.{listing_lines};
+ghost use Rattle.model.specs.Images.Places.{boot_slots, offset_of, watermark_of};
+ghost use Rattle.model.specs.Capabilities.Rights.{rights};
 ghost use Rattle.model.specs.declared.capabilities.Cap.TheVariants.{CNode, Frame, Notification, PageTable, RootTable, Untyped};
 ghost use Rattle.model_laws.specs.Solo.{solo_image};
 

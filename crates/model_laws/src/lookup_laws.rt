@@ -3,9 +3,9 @@
 ghost use Rattle.std.specs.Prelude.{◌≡◌, ℕ, Result};
 ghost use Rattle.model.specs.declared.capabilities.Cap.{Cap};
 ghost use Rattle.model.specs.declared.lookup_failures.LookupFailure.{LookupFailure};
-ghost use Rattle.model.specs.CapabilityWords.{IsCapability};
-ghost use Rattle.model.specs.Lookup.{lookup};
-ghost use Rattle.model.specs.Slots.{IsDerivation, Slots};
+ghost use Rattle.model.specs.Capabilities.CapabilityWords.{IsCapability};
+ghost use Rattle.model.specs.Capabilities.Lookup.{lookup};
+ghost use Rattle.model.specs.Capabilities.Slots.{IsDerivation, Slots};
 ghost use Rattle.model_laws.specs.Lookups.{LeadsTo};
 
 /// An address leads to one slot or one failure.

@@ -1,9 +1,9 @@
 //! Rows on the acceptance of the worker's loop, and of programs that differ from it.
 
 ghost use Rattle.std.specs.Prelude.{◌≡◌, None, Ok, Some};
-ghost use Rattle.model.specs.Accepted.{first_in, phases};
-ghost use Rattle.model.specs.Format.{reading};
-ghost use Rattle.model.specs.Image.{whole_image};
+ghost use Rattle.model.specs.Acceptance.Accepted.{first_in, phases};
+ghost use Rattle.model.specs.Images.Format.{reading};
+ghost use Rattle.model.specs.Images.Image.{whole_image};
 ghost use Rattle.model.specs.declared.errors.KError.TheVariants.{IllegalOperation};
 ghost use Rattle.model.specs.declared.refusals.Refusal.TheVariants.{CallRefused, CapNotThere, ComputedJump, IllegalInstruction, MeasureNotFalling, NotMapped, PoolLost, SharedCSpace};
 ghost use Rattle.model_laws.specs.Solo.{at_point, two_threads, yielding};

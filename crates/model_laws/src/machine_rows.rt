@@ -6,24 +6,24 @@ ghost use Rattle.model.specs.declared.instructions.Exec.TheVariants.{Trap};
 ghost use Rattle.model.specs.declared.instructions.ImmediateOp.TheVariants.{Addi};
 ghost use Rattle.model.specs.declared.instructions.ShiftOp.TheVariants.{Srai};
 ghost use Rattle.model.specs.declared.instructions.Instr.TheVariants.{Jalr, Shift};
-ghost use Rattle.model.specs.Decoding.{decoded};
-ghost use Rattle.model.specs.ProgramMemory.{read};
-ghost use Rattle.model.specs.Effects.{effect};
-ghost use Rattle.model.specs.Interrupts.{acknowledge, raise};
-ghost use Rattle.model.specs.Messages.{a0, a1, register, signal, wait};
-ghost use Rattle.model.specs.Scheduling.{current, tick};
-ghost use Rattle.model.specs.State.{Blocked, notification_at, thread_at};
+ghost use Rattle.model.specs.Machine.Decoding.{decoded};
+ghost use Rattle.model.specs.Machine.ProgramMemory.{read};
+ghost use Rattle.model.specs.Machine.Effects.{effect};
+ghost use Rattle.model.specs.Kernel.Interrupts.{acknowledge, raise};
+ghost use Rattle.model.specs.Kernel.Messages.{a0, a1, register, signal, wait};
+ghost use Rattle.model.specs.Kernel.Scheduling.{current, tick};
+ghost use Rattle.model.specs.Kernel.State.{Blocked, notification_at, thread_at};
 ghost use Rattle.model_laws.specs.Rows.{bell, bound, driver, no_memory, ones, signalled, shift_by_four, jump_to_ones, two_threads, waited};
 
 /// `srai x1, x1, 4` of a word of ones is a word of ones.
-#[tactic(auto, unfolding(model::specs::Decoding::decoded, model::specs::Effects::effect))]
+#[tactic(auto, unfolding(model::specs::Machine::Decoding::decoded, model::specs::Machine::Effects::effect))]
 pub fn a_shift_keeps_the_sign()
     ensures spelled { decoded 0x4040D093 ≡ Some shift_by_four }
     ensures result { read (effect ones no_memory shift_by_four).registers (register 1) ≡ 0xFFFFFFFF }
 {}
 
 /// `jalr x0, 0(x1)` then goes to 0xFFFFFFFE, which is no multiple of 4.
-#[tactic(auto, unfolding(model::specs::Decoding::decoded, model::specs::Effects::effect))]
+#[tactic(auto, unfolding(model::specs::Machine::Decoding::decoded, model::specs::Machine::Effects::effect))]
 pub fn an_odd_jump_traps()
     ensures spelled { decoded 0x00008067 ≡ Some jump_to_ones }
     ensures result { (effect ones no_memory jump_to_ones).exec ≡ Trap Misaligned }
@@ -54,7 +54,7 @@ pub fn an_interrupt_waits_for_its_acknowledgement()
 
 /// Two threads at priority 100: the first runs on for four ticks, and the fifth puts it behind the
 /// other.
-#[tactic(auto, unfolding(model::specs::Scheduling::first_below))]
+#[tactic(auto, unfolding(model::specs::Kernel::Scheduling::first_below))]
 pub fn five_ticks_rotate()
     ensures before { current (tick (tick (tick (tick two_threads)))) ≡ Some driver }
     ensures behind { current (tick (tick (tick (tick (tick two_threads))))) ≡ Some 0x400 }

@@ -1,8 +1,8 @@
 //! Laws of measures without terms: the rules on measures compare constants.
 
 ghost use Rattle.std.specs.Prelude.{◌≡◌, ℕ, List, [], int_le, int_lt, pos};
-ghost use Rattle.model.specs.ProgramMemory.{RegisterFile};
-ghost use Rattle.model.specs.Measures.{Form, Measure, falls, least_value, measured, stays_below};
+ghost use Rattle.model.specs.Machine.ProgramMemory.{RegisterFile};
+ghost use Rattle.model.specs.Acceptance.Measures.{Form, Measure, falls, least_value, measured, stays_below};
 ghost use Rattle.model.specs.declared.ranges.Range.{Range};
 
 /// A measure without terms is its constant, whatever the registers hold.

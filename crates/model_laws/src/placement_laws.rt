@@ -1,7 +1,7 @@
 //! Laws of retype placement.
 
 ghost use Rattle.std.specs.Prelude.{◌≡◌, ◌+◌, ◌*◌, ◌^◌, ◌%◌, ◌<◌, ◌≤◌, ℕ, Some};
-ghost use Rattle.model.specs.Placement.{placement};
+ghost use Rattle.model.specs.Capabilities.Placement.{placement};
 
 /// New objects stand behind the watermark, each at a multiple of its size.
 pub fn placement_is_aligned()

@@ -1,7 +1,7 @@
 //! Rows on the rules on programs, each with one thing wrong.
 
 ghost use Rattle.std.specs.Prelude.{◌≡◌, [], ◌∷◌, None, Some, pos};
-ghost use Rattle.model.specs.Accepted.{first_in, phases};
+ghost use Rattle.model.specs.Acceptance.Accepted.{first_in, phases};
 ghost use Rattle.model.specs.declared.refusals.Refusal.TheVariants.{BadTarget, CapNotThere, MeasureNotFalling, NotMapped, OverBudget, RangeNotKept};
 ghost use Rattle.model_laws.specs.Programs.{constant_at, empty_slot, nop, notification_slot, noted_as, program, range_entry, waiting};
 ghost use Rattle.model_laws.specs.Solo.{at_point};

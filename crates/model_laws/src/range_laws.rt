@@ -6,11 +6,11 @@ ghost use Rattle.model.specs.declared.instructions.ImmediateOp.TheVariants.{Addi
 ghost use Rattle.model.specs.declared.instructions.Instr.TheVariants.{Immediate, Jal};
 ghost use Rattle.model.specs.declared.instructions.Register.{Register};
 ghost use Rattle.model.specs.declared.ranges.Range.{Range};
-ghost use Rattle.model.specs.Instructions.{IsImmediate, IsRegister};
-ghost use Rattle.model.specs.ProgramMemory.{Content, RegisterFile, read};
-ghost use Rattle.model.specs.Effects.{effect};
-ghost use Rattle.model.specs.RangeRules.{ranges_after};
-ghost use Rattle.model.specs.ThreadInvariants.{LieWithin};
+ghost use Rattle.model.specs.Machine.Instructions.{IsImmediate, IsRegister};
+ghost use Rattle.model.specs.Machine.ProgramMemory.{Content, RegisterFile, read};
+ghost use Rattle.model.specs.Machine.Effects.{effect};
+ghost use Rattle.model.specs.Acceptance.RangeRules.{ranges_after};
+ghost use Rattle.model.specs.Acceptance.ThreadInvariants.{LieWithin};
 
 /// Where registers lie in their ranges, they lie in the ranges behind ADDI once it ran.
 pub fn addi_keeps_ranges()

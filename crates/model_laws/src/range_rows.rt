@@ -1,9 +1,9 @@
 //! Rows on ranges of results and on what branches leave.
 
 ghost use Rattle.std.specs.Prelude.{◌≡◌, ◌^◌, ◌-◌, None, Some, true, false, pos, negsuc};
-ghost use Rattle.model.specs.Ranges.{full, single};
-ghost use Rattle.model.specs.RangeRules.{range};
-ghost use Rattle.model.specs.Measures.{register_numbered};
+ghost use Rattle.model.specs.Acceptance.Ranges.{full, single};
+ghost use Rattle.model.specs.Acceptance.RangeRules.{range};
+ghost use Rattle.model.specs.Acceptance.Measures.{register_numbered};
 ghost use Rattle.model.specs.declared.instructions.BranchOp.TheVariants.{Beq, Bne, Blt, Bge, Bltu, Bgeu};
 ghost use Rattle.model.specs.declared.instructions.ImmediateOp.TheVariants.{Addi, Andi, Ori, Sltiu, Xori};
 ghost use Rattle.model.specs.declared.instructions.Instr.TheVariants.{Jal, Load, Upper};

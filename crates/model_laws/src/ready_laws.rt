@@ -2,8 +2,8 @@
 
 ghost use Rattle.std.specs.Prelude.{◌≡◌, ℕ, List};
 ghost use Rattle.model_laws.specs.Ready.{HoldsNoneTwice};
-ghost use Rattle.model.specs.State.{State};
-ghost use Rattle.model.specs.Steps.{step};
+ghost use Rattle.model.specs.Kernel.State.{State};
+ghost use Rattle.model.specs.Kernel.Steps.{step};
 ghost use Rattle.model.specs.declared.events.Event.{Event};
 
 /// No event puts a thread into the ready list twice.

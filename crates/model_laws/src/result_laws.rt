@@ -9,11 +9,11 @@ ghost use Rattle.model.specs.declared.instructions.LoadOp.{LoadOp};
 ghost use Rattle.model.specs.declared.instructions.Instr.{Instr};
 ghost use Rattle.model.specs.declared.instructions.Register.{Register};
 ghost use Rattle.model.specs.declared.ranges.Range.{Range};
-ghost use Rattle.model.specs.Instructions.{IsImmediate, IsInstr};
-ghost use Rattle.model.specs.ProgramMemory.{Content, FitsSize, RegisterFile, read};
-ghost use Rattle.model.specs.Effects.{effect, immediate_result, load_result, load_size, register_result, shift_result};
-ghost use Rattle.model.specs.RangeRules.{destination, immediate_range, load_range, ranges_after, register_range, result_range, shift_range};
-ghost use Rattle.model.specs.ThreadInvariants.{LieWithin};
+ghost use Rattle.model.specs.Machine.Instructions.{IsImmediate, IsInstr};
+ghost use Rattle.model.specs.Machine.ProgramMemory.{Content, FitsSize, RegisterFile, read};
+ghost use Rattle.model.specs.Machine.Effects.{effect, immediate_result, load_result, load_size, register_result, shift_result};
+ghost use Rattle.model.specs.Acceptance.RangeRules.{destination, immediate_range, load_range, ranges_after, register_range, result_range, shift_range};
+ghost use Rattle.model.specs.Acceptance.ThreadInvariants.{LieWithin};
 ghost use Rattle.model_laws.specs.Inside.{LiesIn};
 
 /// Of two words in their ranges, the result of each operation lies in the range of the rule.

@@ -2,8 +2,8 @@
 
 ghost use Rattle.std.specs.Prelude.{◌≡◌, ℕ, Some};
 ghost use Rattle.model.specs.declared.instructions.Instr.{Instr};
-ghost use Rattle.model.specs.Instructions.{Spells};
-ghost use Rattle.model.specs.Decoding.{decoded};
+ghost use Rattle.model.specs.Machine.Instructions.{Spells};
+ghost use Rattle.model.specs.Machine.Decoding.{decoded};
 
 /// A word spells at most one instruction.
 pub fn a_word_spells_one_instruction()

@@ -2,8 +2,8 @@
 
 ghost use Rattle.std.specs.Prelude.{◌≡◌, ◌++◌, [], ◌∷◌, map, replicate};
 ghost use Rattle.std.specs.List.{range_with_len};
-ghost use Rattle.model.specs.Described.{described};
-ghost use Rattle.model.specs.Steps.{trace};
+ghost use Rattle.model.specs.Images.Described.{described};
+ghost use Rattle.model.specs.Kernel.Steps.{trace};
 ghost use Rattle.model.specs.declared.events.Event.TheVariants.{Step};
 ghost use Rattle.model.specs.declared.labels.Label.TheVariants.{Idle, Raised, Ran};
 ghost use Rattle.model.specs.declared.labels.Outcome.TheVariants.{Waited};

@@ -3,9 +3,9 @@
 ghost use Rattle.std.specs.Prelude.{◌≡◌, ◌||◌, ℕ, true};
 ghost use Rattle.model.specs.declared.events.Event.{Event};
 ghost use Rattle.model.specs.declared.events.Event.TheVariants.{Step};
-ghost use Rattle.model.specs.State.{State};
-ghost use Rattle.model.specs.Steps.{step};
-ghost use Rattle.model.specs.Waits.{is_error, is_fault, is_wait};
+ghost use Rattle.model.specs.Kernel.State.{State};
+ghost use Rattle.model.specs.Kernel.Steps.{step};
+ghost use Rattle.model.specs.Kernel.Waits.{is_error, is_fault, is_wait};
 ghost use Rattle.model_laws.specs.WaitingCalls.{StandsAtWait};
 
 /// A label is a wait only where the current thread makes one of the waiting calls.

@@ -1,7 +1,7 @@
 //! Worked rows of page table entries and walks.
 
 ghost use Rattle.std.specs.Prelude.{◌≡◌, ◌/◌, ◌%◌, ◌^◌, ℕ, None, Some};
-ghost use Rattle.model.specs.Sv32.{leaf_word, table_word, walk};
+ghost use Rattle.model.specs.Machine.Sv32.{leaf_word, table_word, walk};
 ghost use Rattle.model.specs.declared.instructions.Access.TheVariants.{Fetch, Load, Store};
 ghost use Rattle.model_laws.specs.Walks.{misaligned, two_tables, write_only};
 
@@ -18,7 +18,7 @@ pub fn a_leaf_has_its_bits()
 {}
 
 /// A walk over a root table, a page table and a page.
-#[tactic(auto, unfolding(model::specs::Sv32::walk, model::specs::Sv32::entry_at, model::specs::Sv32::leaf_place, crate::specs::Walks::memory_with))]
+#[tactic(auto, unfolding(model::specs::Machine::Sv32::walk, model::specs::Machine::Sv32::entry_at, model::specs::Machine::Sv32::leaf_place, crate::specs::Walks::memory_with))]
 pub fn a_walk_meets_two_tables()
     ensures load { walk two_tables 0 0x00401004 Load ≡ Some 0x2004 }
     ensures store { walk two_tables 0 0x00401004 Store ≡ Some 0x2004 }
@@ -28,7 +28,7 @@ pub fn a_walk_meets_two_tables()
 {}
 
 /// An entry that is written and not read is none, and a great page is aligned.
-#[tactic(auto, unfolding(model::specs::Sv32::walk, model::specs::Sv32::entry_at, model::specs::Sv32::leaf_place, crate::specs::Walks::memory_with))]
+#[tactic(auto, unfolding(model::specs::Machine::Sv32::walk, model::specs::Machine::Sv32::entry_at, model::specs::Machine::Sv32::leaf_place, crate::specs::Walks::memory_with))]
 pub fn a_walk_refuses_bad_leaves()
     ensures write_only { walk write_only 0 0x00401004 Store ≡ None }
     ensures misaligned { walk misaligned 0 0x00401004 Load ≡ None }

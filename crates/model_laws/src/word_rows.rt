@@ -1,8 +1,8 @@
 //! Rows on the words of capabilities.
 
 ghost use Rattle.std.specs.Prelude.{◌≡◌, None, Some};
-ghost use Rattle.model.specs.CapabilityFields.{unpacked};
-ghost use Rattle.model.specs.Rights.{rights};
+ghost use Rattle.model.specs.Capabilities.CapabilityFields.{unpacked};
+ghost use Rattle.model.specs.Capabilities.Rights.{rights};
 ghost use Rattle.model.specs.declared.capabilities.Cap.TheVariants.{CNode, Empty, Frame, InterruptControl, InterruptHandler, PageTable};
 
 /// Words that stand for a capability.

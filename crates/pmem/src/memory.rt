@@ -1,7 +1,7 @@
 //! The bytes of the machine.
 
 ghost use Rattle.std.specs.Prelude.{◌≡◌, ◌+◌, ◌^◌, ◌<◌, ◌≤◌, [], ◌∷◌, IfOk, OnOk, length, replicate, slice_index};
-ghost use Rattle.model.specs.Bytes.{AreBytes, word_at, word_bytes, written};
+ghost use Rattle.model.specs.Shared.Bytes.{AreBytes, word_at, word_bytes, written};
 
 use byteorder::{ByteOrder, LittleEndian};
 use std::alloc::{AllocError, Global};
@@ -16,7 +16,7 @@ pub struct Mem {
 
 impl Model for Mem {
     ghost use Rattle.std.specs.Prelude.{ℕ, List, length, ◌^◌, ◌≤◌};
-    ghost use Rattle.model.specs.Bytes.{AreBytes};
+    ghost use Rattle.model.specs.Shared.Bytes.{AreBytes};
 
     ghost Value = { List ℕ };
 

@@ -1,6 +1,6 @@
 -- The ways on from an instruction, as the code has them: where each leads, and the ranges behind it.
 use Rattle.std.specs.Prelude.{option_map}
-use Rattle.model.specs.Edges.{Edge, Edges}
+use Rattle.model.specs.Acceptance.Edges.{Edge, Edges}
 use Rattle.ranges.specs.declared.edges.Edge.{Edge as Way}
 use Rattle.ranges.specs.declared.edges.Edges.{Edges as Ways}
 

@@ -1,8 +1,8 @@
 //! The ranges of all registers.
 
 ghost use Rattle.std.specs.Prelude.{◌≡◌, ◌↔◌, AllPairs, IsTrue, length, replicate};
-ghost use Rattle.model.specs.Instructions.{IsRegister};
-ghost use Rattle.model.specs.Ranges.{AreWithin, full, range_of, single, with_range};
+ghost use Rattle.model.specs.Machine.Instructions.{IsRegister};
+ghost use Rattle.model.specs.Acceptance.Ranges.{AreWithin, full, range_of, single, with_range};
 
 use model::{Range, Register};
 use std::marker::Model;

@@ -1,11 +1,11 @@
 //! Where an instruction leads, and with which ranges.
 
 ghost use Rattle.std.specs.Prelude.{◌≡◌, true};
-ghost use Rattle.model.specs.Edges.{after};
-ghost use Rattle.model.specs.Instructions.{IsInstr};
-ghost use Rattle.model.specs.Effects.{plus};
-ghost use Rattle.model.specs.RangeRules.{is_single, value_or};
-ghost use Rattle.model.specs.Ranges.{is_ranged, moved};
+ghost use Rattle.model.specs.Acceptance.Edges.{after};
+ghost use Rattle.model.specs.Machine.Instructions.{IsInstr};
+ghost use Rattle.model.specs.Machine.Effects.{plus};
+ghost use Rattle.model.specs.Acceptance.RangeRules.{is_single, value_or};
+ghost use Rattle.model.specs.Acceptance.Ranges.{is_ranged, moved};
 ghost use Rattle.ranges.specs.Edges.{ways_of};
 
 use crate::Bounds;
@@ -41,7 +41,7 @@ pub fn is_ranged(instr: &Instr) -> bool
 }
 
 /// What the instruction at `pc` makes of the ranges, on each way on.
-#[tactic(auto, unfolding(model::specs::Edges::after, model::specs::RangeRules::result_range))]
+#[tactic(auto, unfolding(model::specs::Acceptance::Edges::after, model::specs::Acceptance::RangeRules::result_range))]
 pub fn after(pc: u32, instr: Instr, bounds: &Bounds) -> Edges
     requires instr { IsInstr instr }
     requires ranged { is_ranged instr ≡ true }

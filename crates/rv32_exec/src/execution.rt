@@ -2,9 +2,9 @@
 
 ghost use Rattle.std.specs.Prelude.{◌≡◌, ◌%◌, ◌==◌, if◌then◌else◌};
 ghost use Rattle.model.specs.declared.instructions.Access.TheVariants.{Load};
-ghost use Rattle.model.specs.Instructions.{IsInstr, IsRegister};
-ghost use Rattle.model.specs.ProgramMemory.{loaded, read, stored, write};
-ghost use Rattle.model.specs.Effects.{advanced, effect, loads, next_pc, plus, stores, load_size, store_size};
+ghost use Rattle.model.specs.Machine.Instructions.{IsInstr, IsRegister};
+ghost use Rattle.model.specs.Machine.ProgramMemory.{loaded, read, stored, write};
+ghost use Rattle.model.specs.Machine.Effects.{advanced, effect, loads, next_pc, plus, stores, load_size, store_size};
 
 use crate::results::{
     immediate_result, is_taken, load_result, load_size, register_result, shift_result, store_size,
@@ -17,7 +17,7 @@ use model::{Cause, Exec, Instr, LoadOp, Register, StoreOp};
 const ZERO: Register = Register(0);
 
 /// Runs one instruction. Where it does not answer `Next`, nothing has changed.
-#[tactic(auto, unfolding(model::specs::Effects::effect))]
+#[tactic(auto, unfolding(model::specs::Machine::Effects::effect))]
 pub fn exec<V: View>(regs: &mut Regs, instr: Instr, view: &mut V) -> Exec
     requires { IsInstr instr }
     ensures outcome { result ≡ (effect regs.old (V.content view.old) instr).exec }

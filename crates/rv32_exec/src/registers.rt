@@ -1,8 +1,8 @@
 //! The registers of one thread.
 
 ghost use Rattle.std.specs.Prelude.{◌≡◌, ◌^◌, ◌<◌, replicate, length};
-ghost use Rattle.model.specs.Instructions.{IsRegister};
-ghost use Rattle.model.specs.ProgramMemory.{RegisterFile, read, write};
+ghost use Rattle.model.specs.Machine.Instructions.{IsRegister};
+ghost use Rattle.model.specs.Machine.ProgramMemory.{RegisterFile, read, write};
 
 use model::Register;
 use std::marker::Model;

@@ -1,8 +1,8 @@
 //! What operations make of their operands (RISC-V Unprivileged ISA, 2.4 to 2.6).
 
 ghost use Rattle.std.specs.Prelude.{◌≡◌, ◌*◌, ◌+◌, ◌<◌, ◌^◌};
-ghost use Rattle.model.specs.ProgramMemory.{FitsSize};
-ghost use Rattle.model.specs.Effects.{immediate_result, is_taken, load_result, load_size, register_result, shift_result, store_size, upper_result};
+ghost use Rattle.model.specs.Machine.ProgramMemory.{FitsSize};
+ghost use Rattle.model.specs.Machine.Effects.{immediate_result, is_taken, load_result, load_size, register_result, shift_result, store_size, upper_result};
 
 use model::{AccessSize, BranchOp, ImmediateOp, LoadOp, RegisterOp, ShiftOp, StoreOp, UpperOp};
 

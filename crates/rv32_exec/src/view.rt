@@ -1,7 +1,7 @@
 //! Memory as a program sees it.
 
 ghost use Rattle.std.specs.Prelude.{◌≡◌, ℕ, ◌<◌, ◌^◌, IfOk, MatchResult, Ok, Err};
-ghost use Rattle.model.specs.ProgramMemory.{Content, FitsSize, IsNamed, place_at, put_byte, loaded, stored};
+ghost use Rattle.model.specs.Machine.ProgramMemory.{Content, FitsSize, IsNamed, place_at, put_byte, loaded, stored};
 
 use model::{Access, AccessSize, MemoryFault};
 

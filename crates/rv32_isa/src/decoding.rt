@@ -4,15 +4,15 @@ ghost use Rattle.std.specs.Prelude.{◌≡◌, ℤ, ◌⊎◌, Some, IfSome};
 ghost use Rattle.model.specs.declared.instructions.BranchOp.{BranchOp};
 ghost use Rattle.model.specs.declared.instructions.Instr.{Instr};
 ghost use Rattle.model.specs.declared.instructions.Register.{Register};
-ghost use Rattle.model.specs.Instructions.{IsBranchOffset, Spells, b_type, bits, upper_opcode};
-ghost use Rattle.model.specs.Decoding.{b_offset, decoded, decoded_branch, decoded_immediate, decoded_jal, decoded_jalr, decoded_load, decoded_registers, decoded_shift, decoded_store, decoded_system, decoded_upper};
+ghost use Rattle.model.specs.Machine.Instructions.{IsBranchOffset, Spells, b_type, bits, upper_opcode};
+ghost use Rattle.model.specs.Machine.Decoding.{b_offset, decoded, decoded_branch, decoded_immediate, decoded_jal, decoded_jalr, decoded_load, decoded_registers, decoded_shift, decoded_store, decoded_system, decoded_upper};
 
 use crate::fields::{field, register, signed};
 use crate::operations::{branch_op, immediate_op, load_op, register_op, shift_op, store_op};
 use model::{Instr, UpperOp};
 
 /// The instruction that a word spells, or `None` where it spells none of RV32I.
-#[tactic(auto, unfolding(model::specs::Decoding::decoded))]
+#[tactic(auto, unfolding(model::specs::Machine::Decoding::decoded))]
 pub fn decode(word: u32) -> Option<Instr>
     ensures value { result ≡ decoded word }
     ensures some { IfSome result (λ i. Spells word i) }

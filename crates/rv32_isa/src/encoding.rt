@@ -1,7 +1,7 @@
 //! From instructions to words.
 
 ghost use Rattle.std.specs.Prelude.{◌≡◌, ◌+◌, ◌*◌, ◌^◌, ◌↔◌, IsTrue, pos, neg_ℤ, ◌≤ℤ◌, ◌<ℤ◌};
-ghost use Rattle.model.specs.Instructions.{IsImmediate, IsInstr, IsRegister, Spells, bits, word_of};
+ghost use Rattle.model.specs.Machine.Instructions.{IsImmediate, IsInstr, IsRegister, Spells, bits, word_of};
 
 use crate::fields::field;
 use crate::operations::{

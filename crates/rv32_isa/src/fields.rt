@@ -1,8 +1,8 @@
 //! The fields of a word (RISC-V Unprivileged ISA, 2.2 and 2.3).
 
 ghost use Rattle.std.specs.Prelude.{◌≡◌, ◌+◌, ◌*◌, ◌^◌, ◌<◌, ◌≤◌};
-ghost use Rattle.model.specs.Instructions.{bits};
-ghost use Rattle.model.specs.Decoding.{register_at, sign_extended};
+ghost use Rattle.model.specs.Machine.Instructions.{bits};
+ghost use Rattle.model.specs.Machine.Decoding.{register_at, sign_extended};
 
 use model::Register;
 

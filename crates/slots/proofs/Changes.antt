@@ -2,7 +2,7 @@
 use Rattle.std.proofs.Common.{ℕ, ◌≡◌, ◌≢◌, ◌∙◌, ◌==◌, true, false, not, if◌then◌else◌, Option, Some, None, refl, sym, ap}
 use Rattle.std.specs.Option.{option_map, option_map_or}
 use Rattle.std.proofs.lemmas.Bool.{eq-eqb, ne_eqb}
-use Rattle.model.specs.Slots.{Slots, IsFull, adopted, capability_at, closed, empty_entry, is_empty, is_full, is_within, opened, parent_at, with_entry}
+use Rattle.model.specs.Capabilities.Slots.{Slots, IsFull, adopted, capability_at, closed, empty_entry, is_empty, is_full, is_within, opened, parent_at, with_entry}
 use Rattle.model.specs.declared.capabilities.Cap.{Cap}
 use Rattle.model.specs.declared.capabilities.Cap.TheVariants.{Empty, Untyped, Endpoint, Notification, CNode, Frame, PageTable, Tcb, RootTable, InterruptControl, InterruptHandler}
 use Rattle.model.specs.declared.slot_entries.Entry.{Entry}

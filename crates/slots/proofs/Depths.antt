@@ -2,7 +2,7 @@
 use Rattle.std.proofs.Common.{ℕ, zero, suc, ◌≡◌, ◌≢◌, ◌∙◌, ◌==◌, ◌+◌, ◌≤◌, inl, inr, if◌then◌else◌, Option, Some, None, refl, sym, ap, arith}
 use Rattle.std.specs.Option.{option_map_or}
 use Rattle.std.proofs.lemmas.Bool.Decides.{eqb_tells}
-use Rattle.model.specs.Slots.{depth_within}
+use Rattle.model.specs.Capabilities.Slots.{depth_within}
 
 abbrev pub Parents : Type 0
 Parents = ℕ → Option ℕ

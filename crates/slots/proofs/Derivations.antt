@@ -2,8 +2,8 @@
 use Rattle.std.proofs.Common.{ℕ, ◌≡◌, ◌≢◌, ◌∙◌, ◌<◌, ◌≤◌, inl, inr, true, not, if◌then◌else◌, Option, Some, None, refl, sym, ap, subst, arith}
 use Rattle.std.proofs.lemmas.Bool.{eq-eqb}
 use Rattle.std.proofs.lemmas.Bool.Decides.{eqb_tells}
-use Rattle.model.specs.CapabilityWords.{IsCapability}
-use Rattle.model.specs.Slots.{Slots, IsDerivation, IsFull, capability_at, closed, depth_of, depth_within, empty_entry, is_empty, is_full, is_within, opened, parent_at, recapped, inserted, relocated, spliced, with_entry, with_parent}
+use Rattle.model.specs.Capabilities.CapabilityWords.{IsCapability}
+use Rattle.model.specs.Capabilities.Slots.{Slots, IsDerivation, IsFull, capability_at, closed, depth_of, depth_within, empty_entry, is_empty, is_full, is_within, opened, parent_at, recapped, inserted, relocated, spliced, with_entry, with_parent}
 use Rattle.model.specs.declared.capabilities.Cap.{Cap}
 use Rattle.model.specs.declared.capabilities.Cap.TheVariants.{Empty}
 use Rattle.model.specs.declared.slot_entries.Entry.{Entry}

@@ -5,7 +5,7 @@ use Rattle.std.proofs.lemmas.Bool.Decides.{eqb_tells}
 use Rattle.std.proofs.lemmas.Bool.{cases_lt}
 use Rattle.std.proofs.lemmas.List.{get_or_past}
 use Rattle.std.specs.Option.{option_map_or}
-use Rattle.model.specs.Slots.{Slots, is_empty, is_full}
+use Rattle.model.specs.Capabilities.Slots.{Slots, is_empty, is_full}
 use Rattle.model.specs.declared.capabilities.Cap.TheVariants.{Empty}
 use Rattle.model.specs.declared.slot_entries.Entry.{Entry}
 use Rattle.slots.specs.Order.{IsOrderOf, first_of, next_after, times_in}

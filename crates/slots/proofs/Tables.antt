@@ -4,7 +4,7 @@ use Rattle.std.proofs.lemmas.Bool.{cases_lt}
 use Rattle.std.proofs.lemmas.List.{get_or_past, get_or-replicate, length-replicate, take-append-le, take_all}
 use Rattle.std.proofs.lemmas.Nat.{pow-add}
 use Rattle.std.proofs.lemmas.Bool.Decides.{nat_tests}
-use Rattle.model.specs.Slots.{Slots, IsDerivation, is_within, parent_at}
+use Rattle.model.specs.Capabilities.Slots.{Slots, IsDerivation, is_within, parent_at}
 use Rattle.model.specs.declared.slot_entries.Entry.{Entry}
 use Rattle.slots.specs.Table.{IsTable, table_slots}
 use Rattle.slots.proofs.Changes.{capability_of, parent_of}

@@ -1,6 +1,6 @@
 -- The order in which a store lists its full slots.
 use Rattle.std.specs.Prelude.{ℕ, ◌≡◌, ◌==◌, ◌+◌, Option, Some, None, List, [], ◌∷◌, if◌then◌else◌}
-use Rattle.model.specs.Slots.{Slots, is_full}
+use Rattle.model.specs.Capabilities.Slots.{Slots, is_full}
 
 -- how often a slot stands in a list
 abbrev pub times_in : List ℕ → ℕ → ℕ

@@ -1,6 +1,6 @@
 -- Slots as a table with a record for each 16 bytes of memory.
 use Rattle.std.specs.Prelude.{ℕ, zero, suc, ◌≡◌, ◌+◌, ◌*◌, ◌^◌, ◌≤◌, Option, None, List, [], ◌∷◌, length, slice_index_or, if◌then◌else◌}
-use Rattle.model.specs.Slots.{Slots, IsDerivation, is_full}
+use Rattle.model.specs.Capabilities.Slots.{Slots, IsDerivation, is_full}
 use Rattle.model.specs.declared.slot_entries.Entry.{Entry}
 
 -- the slots of a table; nothing is open behind its end

@@ -1,8 +1,8 @@
 //! A map of slots that can be read.
 
 ghost use Rattle.std.specs.Prelude.{◌≡◌, Some};
-ghost use Rattle.model.specs.CapabilityWords.{IsCapability};
-ghost use Rattle.model.specs.Slots.{IsOpen, Slots};
+ghost use Rattle.model.specs.Capabilities.CapabilityWords.{IsCapability};
+ghost use Rattle.model.specs.Capabilities.Slots.{IsOpen, Slots};
 ghost use Rattle.model.specs.declared.slot_entries.Entry.{Entry};
 
 use model::{Cap, Slot};

@@ -1,7 +1,7 @@
 //! Slots in a table of their own, beside the bytes of the machine.
 
 ghost use Rattle.std.specs.Prelude.{ℕ, ◌≡◌, ◌+◌, ◌*◌, ◌^◌, ◌≤◌, None, IfOk, length, replicate};
-ghost use Rattle.model.specs.Slots.{IsFull};
+ghost use Rattle.model.specs.Capabilities.Slots.{IsFull};
 ghost use Rattle.slots.specs.Table.{full_from, table_slots};
 
 use crate::{SlotMap, SlotStore, table};

@@ -1,7 +1,7 @@
 //! Tests of what the changes of a store ask for.
 
 ghost use Rattle.std.specs.Prelude.{◌≡◌, ◌↔◌, Some, IsTrue};
-ghost use Rattle.model.specs.Slots.{IsFull, empty_entry};
+ghost use Rattle.model.specs.Capabilities.Slots.{IsFull, empty_entry};
 
 use crate::SlotStore;
 use model::{Cap, Slot};

@@ -2,9 +2,9 @@
 
 ghost use Rattle.std.specs.Prelude.{ℕ, ◌≡◌, ◌≢◌, ◌↔◌, ◌+◌, ◌*◌, ◌<◌, ◌≤◌, [], ◌∷◌, List, Some, None, IsTrue, length, replicate};
 ghost use Rattle.std.specs.Option.{ForSome};
-ghost use Rattle.model.specs.Bytes.{word_bytes, written};
-ghost use Rattle.model.specs.CapabilityWords.{IsCapability};
-ghost use Rattle.model.specs.Slots.{IsDerivation, IsFull, IsOpen, OutsideSlots, SameOutside, closed, depth_of, empty_entry, inserted, opened, recapped, relocated, spliced};
+ghost use Rattle.model.specs.Shared.Bytes.{word_bytes, written};
+ghost use Rattle.model.specs.Capabilities.CapabilityWords.{IsCapability};
+ghost use Rattle.model.specs.Capabilities.Slots.{IsDerivation, IsFull, IsOpen, OutsideSlots, SameOutside, closed, depth_of, empty_entry, inserted, opened, recapped, relocated, spliced};
 ghost use Rattle.slots.specs.Order.{IsOrderOf, after};
 ghost use Rattle.model.specs.declared.capabilities.Cap.{Cap};
 ghost use Rattle.model.specs.declared.capabilities.Cap.TheVariants.{Empty};

@@ -1,8 +1,8 @@
 //! Page table entries.
 
 ghost use Rattle.std.specs.Prelude.{⊤, ◌≡◌, ◌+◌, ◌*◌, ◌/◌, ◌^◌, ◌<◌, [], ◌∷◌, codes};
-ghost use Rattle.model.specs.CapabilityWords.{IsPlace};
-ghost use Rattle.model.specs.Sv32.{has_bit, is_leaf, is_valid, leaf_word, page_address, permits, table_word};
+ghost use Rattle.model.specs.Capabilities.CapabilityWords.{IsPlace};
+ghost use Rattle.model.specs.Machine.Sv32.{has_bit, is_leaf, is_valid, leaf_word, page_address, permits, table_word};
 
 use bitflags::{Flag, Flags, bitflag_items};
 use model::{Access, Rights};

@@ -2,7 +2,7 @@
 
 ghost use Rattle.std.specs.Prelude.{◌≡◌, ◌+◌, ◌*◌, ◌^◌, ◌<◌, ◌≤◌, option_map, Some, length};
 ghost use Rattle.std.specs.Option.{ok_or};
-ghost use Rattle.model.specs.Sv32.{entry_at, leaf_place, page_fault, place_of, walk};
+ghost use Rattle.model.specs.Machine.Sv32.{entry_at, leaf_place, page_fault, place_of, walk};
 
 use crate::Pte;
 use model::{Access, PageFault};
@@ -23,7 +23,7 @@ pub fn place_of(physical: u64) -> Option<u64>
 }
 
 /// The entry of this number, below 1024, in the table at a place, if memory has it and it is valid.
-#[tactic(auto, unfolding(model::specs::Sv32::entry_at))]
+#[tactic(auto, unfolding(model::specs::Machine::Sv32::entry_at))]
 pub fn entry_at(memory: &Mem, table: u64, number: u32) -> Option<Pte>
     requires near { table < 2 ^ 35 }
     requires small { number < 2 ^ 10 }
@@ -39,7 +39,7 @@ pub fn entry_at(memory: &Mem, table: u64, number: u32) -> Option<Pte>
 }
 
 /// The place that an address has in the page of 2^`bits` bytes that a leaf names.
-#[tactic(auto, unfolding(model::specs::Sv32::leaf_place))]
+#[tactic(auto, unfolding(model::specs::Machine::Sv32::leaf_place))]
 fn leaf_place(memory: &Mem, leaf: Pte, bits: u32, address: u32, access: Access) -> Option<u32>
     requires { bits ≤ 22 }
     ensures { result ≡ leaf_place memory.now leaf.0 bits address access }
@@ -55,7 +55,7 @@ fn leaf_place(memory: &Mem, leaf: Pte, bits: u32, address: u32, access: Access) 
 }
 
 /// The place that an address names under a root table.
-#[tactic(auto, unfolding(model::specs::Sv32::walk))]
+#[tactic(auto, unfolding(model::specs::Machine::Sv32::walk))]
 fn translate(memory: &Mem, root: u32, address: u32, access: Access) -> Option<u32>
     ensures { result ≡ walk memory.now root address access }
 {

@@ -2,7 +2,7 @@
 
 ghost use Rattle.std.specs.Prelude.{◌≡◌, ◌+◌, ◌<◌, ◌≤◌, ◌++◌, decimal, length};
 ghost use Rattle.arrayvec.specs.ArrayVec.{array_vec_len};
-ghost use Rattle.model.specs.Trace.{hex_digit, hex_byte, hex_word};
+ghost use Rattle.model.specs.Shared.Trace.{hex_digit, hex_byte, hex_word};
 
 use arrayvec::ArrayVec;
 
@@ -54,7 +54,7 @@ pub(crate) fn push_hex_byte(to: &mut Line, byte: u8)
 }
 
 /// Appends a word as eight hexadecimal digits.
-#[tactic(auto, unfolding(model::specs::Trace::hex_word))]
+#[tactic(auto, unfolding(model::specs::Shared::Trace::hex_word))]
 pub(crate) fn push_hex_word(to: &mut Line, word: u32)
     requires { array_vec_len to.old + 8 ≤ 32 }
     ensures text { to.new.items ≡ to.old.items ++ hex_word word }

@@ -2,7 +2,7 @@
 
 ghost use Rattle.std.specs.Prelude.{◌≡◌, ◌+◌, ◌≤◌, ◌++◌};
 ghost use Rattle.arrayvec.specs.ArrayVec.{array_vec_len};
-ghost use Rattle.model.specs.Trace.{line_of, text_of_outcome};
+ghost use Rattle.model.specs.Shared.Trace.{line_of, text_of_outcome};
 
 use crate::digits::{Line, push_decimal, push_hex_byte, push_hex_word, push_text};
 use arrayvec::ArrayVec;

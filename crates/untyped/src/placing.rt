@@ -2,7 +2,7 @@
 
 ghost use Rattle.std.specs.Prelude.{◌≡◌, ◌+◌, ◌*◌, ◌^◌, ◌%◌, ◌<◌, ◌≤◌, ℕ, Some, IfOk};
 ghost use Rattle.std.specs.Result.{result_ok};
-ghost use Rattle.model.specs.Placement.{align, place_of_object, placement};
+ghost use Rattle.model.specs.Capabilities.Placement.{align, place_of_object, placement};
 
 /// The untyped has no room for the objects.
 #[derive(Clone, Copy, Debug, PartialEq, Eq)]

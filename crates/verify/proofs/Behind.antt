@@ -6,15 +6,15 @@ use Rattle.model.specs.declared.instructions.Instr.TheVariants.{Upper, Jal, Jalr
 use Rattle.model.specs.declared.instructions.Register.{Register}
 use Rattle.model.specs.declared.ranges.Range.{Range}
 use Rattle.model.specs.declared.refusals.Refusal.{Refusal}
-use Rattle.model.specs.CallRules.{AfterCall, badges}
-use Rattle.model.specs.Edges.{Edge, after}
-use Rattle.model.specs.Image.{Thread}
-use Rattle.model.specs.Decoding.{decoded}
-use Rattle.model.specs.Messages.{a0}
-use Rattle.model.specs.NotedStates.{PointState}
-use Rattle.model.specs.PointStates.{Noted, Known, Missing, Unmeasured, address_of, follows, follows_call, follows_edge, follows_instruction, instruction_at}
-use Rattle.model.specs.RangeRules.{destination}
-use Rattle.model.specs.Ranges.{is_ranged, with_range}
+use Rattle.model.specs.Acceptance.CallRules.{AfterCall, badges}
+use Rattle.model.specs.Acceptance.Edges.{Edge, after}
+use Rattle.model.specs.Images.Image.{Thread}
+use Rattle.model.specs.Machine.Decoding.{decoded}
+use Rattle.model.specs.Kernel.Messages.{a0}
+use Rattle.model.specs.Acceptance.NotedStates.{PointState}
+use Rattle.model.specs.Acceptance.PointStates.{Noted, Known, Missing, Unmeasured, address_of, follows, follows_call, follows_edge, follows_instruction, instruction_at}
+use Rattle.model.specs.Acceptance.RangeRules.{destination}
+use Rattle.model.specs.Acceptance.Ranges.{is_ranged, with_range}
 use Rattle.ranges.specs.declared.edges.Edge.{Edge as Way}
 use Rattle.ranges.specs.Edges.{way_of}
 use Rattle.image.specs.Certificates.{IsOfForm, IsWait, is_ecall, known_of, constant_measure, with_image_slots}

@@ -11,14 +11,14 @@ use Rattle.model.specs.declared.ranges.Range.{Range}
 use Rattle.model.specs.declared.refusals.Point.{Point}
 use Rattle.model.specs.declared.refusals.Refusal.{Refusal}
 use Rattle.model.specs.declared.refusals.Refusal.TheVariants.{CapNotThere, OverBudget, RangeNotKept}
-use Rattle.model.specs.Described.{listed_registers}
-use Rattle.model.specs.Image.{Thread}
-use Rattle.model.specs.Measures.{measured, register_numbered}
-use Rattle.model.specs.NotedStates.{are_same_slots, image_slots}
-use Rattle.model.specs.PointRules.{entry_rules, lies_in, start_registers}
-use Rattle.model.specs.PointStates.{Noted, Known, point_of}
-use Rattle.model.specs.Ranges.{AreWithin, IsWithin, full, single, with_range}
-use Rattle.model.specs.Rules.{first_broken, refuse_if}
+use Rattle.model.specs.Images.Described.{listed_registers}
+use Rattle.model.specs.Images.Image.{Thread}
+use Rattle.model.specs.Acceptance.Measures.{measured, register_numbered}
+use Rattle.model.specs.Acceptance.NotedStates.{are_same_slots, image_slots}
+use Rattle.model.specs.Acceptance.PointRules.{entry_rules, lies_in, start_registers}
+use Rattle.model.specs.Acceptance.PointStates.{Noted, Known, point_of}
+use Rattle.model.specs.Acceptance.Ranges.{AreWithin, IsWithin, full, single, with_range}
+use Rattle.model.specs.Acceptance.Rules.{first_broken, refuse_if}
 use Rattle.image.specs.Certificates.{IsOfForm, constant_measure, with_image_slots}
 use Rattle.image.specs.Stage.{staged_image}
 use Rattle.image.proofs.ConstantMeasures.{constant_measured}

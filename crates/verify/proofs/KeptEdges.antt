@@ -8,15 +8,15 @@ use Rattle.model.specs.declared.ranges.Range.{Range}
 use Rattle.model.specs.declared.refusals.Point.{Point}
 use Rattle.model.specs.declared.refusals.Refusal.{Refusal}
 use Rattle.model.specs.declared.refusals.Refusal.TheVariants.{CapNotThere, MeasureNotFalling, OverBudget, RangeNotKept}
-use Rattle.model.specs.Image.{Thread}
-use Rattle.model.specs.Measures.{Measure, falls, stays_below}
-use Rattle.model.specs.NotedStates.{PointState, are_same_slots, image_slots}
-use Rattle.model.specs.Places.{offset_of, used_by}
-use Rattle.model.specs.PointRules.{ProgramEdge, are_ranges_within, edge_rules, is_range_within, kept_at, point_at}
-use Rattle.model.specs.PointStates.{Noted, Known, Missing, noted, point_of}
-use Rattle.model.specs.Ranges.{AreWithin, IsWithin, full}
-use Rattle.model.specs.Rules.{Rule, first_broken, refuse_if}
-use Rattle.model.specs.ThreadRules.{reached, reached_within}
+use Rattle.model.specs.Images.Image.{Thread}
+use Rattle.model.specs.Acceptance.Measures.{Measure, falls, stays_below}
+use Rattle.model.specs.Acceptance.NotedStates.{PointState, are_same_slots, image_slots}
+use Rattle.model.specs.Images.Places.{offset_of, used_by}
+use Rattle.model.specs.Acceptance.PointRules.{ProgramEdge, are_ranges_within, edge_rules, is_range_within, kept_at, point_at}
+use Rattle.model.specs.Acceptance.PointStates.{Noted, Known, Missing, noted, point_of}
+use Rattle.model.specs.Acceptance.Ranges.{AreWithin, IsWithin, full}
+use Rattle.model.specs.Acceptance.Rules.{Rule, first_broken, refuse_if}
+use Rattle.model.specs.Acceptance.ThreadRules.{reached, reached_within}
 use Rattle.image.specs.Certificates.{IsOfForm, constant_measure, numbered_thread, with_image_slots}
 use Rattle.image.specs.Stage.{staged_image}
 use Rattle.image.proofs.ConstantMeasures.{constant_falls, constant_stays_below}

@@ -4,10 +4,10 @@ use Rattle.std.proofs.lemmas.Bool.{cases_lt}
 use Rattle.std.specs.List.{flat_map, range_with_len}
 use Rattle.model.specs.declared.refusals.Refusal.{Refusal}
 use Rattle.model.specs.declared.ranges.Range.{Range}
-use Rattle.model.specs.Image.{Thread}
-use Rattle.model.specs.PointRules.{entry_rules, point_rules, rules_of_noted, rules_of_program, state_rules}
-use Rattle.model.specs.Rules.{Rule, first_broken}
-use Rattle.model.specs.PointStates.{Noted, Known, Missing}
+use Rattle.model.specs.Images.Image.{Thread}
+use Rattle.model.specs.Acceptance.PointRules.{entry_rules, point_rules, rules_of_noted, rules_of_program, state_rules}
+use Rattle.model.specs.Acceptance.Rules.{Rule, first_broken}
+use Rattle.model.specs.Acceptance.PointStates.{Noted, Known, Missing}
 use Rattle.image.specs.Certificates.{OnlyWaits, constant_measure, with_image_slots}
 use Rattle.verify.specs.Matching.{noted_at}
 use Rattle.image.specs.Stage.{staged_image}

@@ -4,9 +4,9 @@ use Rattle.std.specs.Iterator.{YieldsFirst}
 use Rattle.std.specs.Prelude.{IfSome, find, slice_get, ◌==◌}
 use Rattle.std.proofs.lemmas.Bool.{eq-eqb, ne_eqb}
 use Rattle.model.specs.declared.ranges.Range.{Range}
-use Rattle.model.specs.Image.{StateRecord, Thread}
-use Rattle.model.specs.NotedStates.{record_of, record_ranges, record_state}
-use Rattle.model.specs.PointStates.{Noted as PointNoted, Known as IsKnown, Missing, follows, noted, noted_or}
+use Rattle.model.specs.Images.Image.{StateRecord, Thread}
+use Rattle.model.specs.Acceptance.NotedStates.{record_of, record_ranges, record_state}
+use Rattle.model.specs.Acceptance.PointStates.{Noted as PointNoted, Known as IsKnown, Missing, follows, noted, noted_or}
 use Rattle.image.specs.Certificates.{IsBare, IsOfForm, Rise, constant_measure, with_image_slots}
 use Rattle.image.specs.Stage.{staged_image}
 use Rattle.image.proofs.NotedConstants.{found_in}

@@ -2,12 +2,12 @@
 use Rattle.std.proofs.Common.{◌≡◌, ◌∙◌, inl, inr, ℕ, List, [], ◌∷◌, ◌++◌, Option, Some, None, Result, Ok, Err, refl, sym, ap, subst}
 use Rattle.std.specs.Option.{option_or}
 use Rattle.model.specs.declared.refusals.Refusal.{Refusal}
-use Rattle.model.specs.Image.{Thread}
-use Rattle.model.specs.Rules.{Rule, first_broken}
+use Rattle.model.specs.Images.Image.{Thread}
+use Rattle.model.specs.Acceptance.Rules.{Rule, first_broken}
 use Rattle.verify.specs.Checking.{Checks, IsEdge, IsWay, rules_of_edge, rules_of_way, told}
 use Rattle.verify.specs.declared.checks.Limit.{Limit}
-use Rattle.model.specs.Measures.{Measure}
-use Rattle.model.specs.PointRules.{ProgramEdge}
+use Rattle.model.specs.Acceptance.Measures.{Measure}
+use Rattle.model.specs.Acceptance.PointRules.{ProgramEdge}
 use Rattle.ranges.specs.declared.edges.Edge.{Edge as Way}
 
 pub first_of_both : (a b : List Rule) → first_broken (a ++ b) ≡ option_or (first_broken a) (first_broken b)

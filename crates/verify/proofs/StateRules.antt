@@ -9,15 +9,15 @@ use Rattle.model.specs.declared.ranges.Range.{Range}
 use Rattle.model.specs.declared.refusals.Point.{Point}
 use Rattle.model.specs.declared.refusals.Refusal.{Refusal}
 use Rattle.model.specs.declared.refusals.Refusal.TheVariants.{CapNotThere, ComputedJump, IllegalInstruction, MeasureNotFalling, NotMapped}
-use Rattle.model.specs.CallRules.{AfterCall}
-use Rattle.model.specs.Edges.{Edge, after}
-use Rattle.model.specs.Image.{Thread}
-use Rattle.model.specs.Measures.{least_value}
-use Rattle.model.specs.NotedStates.{PointState, has_stray_slots, image_slots}
-use Rattle.model.specs.PointRules.{ProgramEdge, call_edge, call_edges, call_rule, edges_at, edges_of, is_computed_jump, is_illegal, is_unmapped, program_edge, refused_call, state_rules}
-use Rattle.model.specs.PointStates.{address_of, call_at, instruction_at, point_of}
-use Rattle.model.specs.Ranges.{is_ranged}
-use Rattle.model.specs.Rules.{Rule, first_broken, refuse_if}
+use Rattle.model.specs.Acceptance.CallRules.{AfterCall}
+use Rattle.model.specs.Acceptance.Edges.{Edge, after}
+use Rattle.model.specs.Images.Image.{Thread}
+use Rattle.model.specs.Acceptance.Measures.{least_value}
+use Rattle.model.specs.Acceptance.NotedStates.{PointState, has_stray_slots, image_slots}
+use Rattle.model.specs.Acceptance.PointRules.{ProgramEdge, call_edge, call_edges, call_rule, edges_at, edges_of, is_computed_jump, is_illegal, is_unmapped, program_edge, refused_call, state_rules}
+use Rattle.model.specs.Acceptance.PointStates.{address_of, call_at, instruction_at, point_of}
+use Rattle.model.specs.Acceptance.Ranges.{is_ranged}
+use Rattle.model.specs.Acceptance.Rules.{Rule, first_broken, refuse_if}
 use Rattle.ranges.specs.Edges.{way_of}
 use Rattle.image.specs.Certificates.{IsOfForm, IsWait, constant_measure, is_ecall, known_of, waited, with_image_slots}
 use Rattle.image.specs.Stage.{staged_image}

@@ -4,10 +4,10 @@ use Rattle.std.specs.Prelude.{IfErr, slice_get}
 use Rattle.std.proofs.lemmas.Bool.{cases_lt}
 use Rattle.model.specs.declared.refusals.Refusal.{Refusal}
 use Rattle.model.specs.declared.refusals.Refusal.TheVariants.{BadThread, OutOfMemory}
-use Rattle.model.specs.Accepted.{AreKept, IsAccepted, first_breach}
-use Rattle.model.specs.Image.{Image, Thread}
-use Rattle.model.specs.PointRules.{program_rules, rules_of_program}
-use Rattle.model.specs.Rules.{first_broken}
+use Rattle.model.specs.Acceptance.Accepted.{AreKept, IsAccepted, first_breach}
+use Rattle.model.specs.Images.Image.{Image, Thread}
+use Rattle.model.specs.Acceptance.PointRules.{program_rules, rules_of_program}
+use Rattle.model.specs.Acceptance.Rules.{first_broken}
 use Rattle.image.specs.Certificates.{IsOfForm, IsPlain}
 use Rattle.image.specs.Stage.{later, staged_image, staged_reading}
 use Rattle.image.proofs.Acceptance.{accepted-no_breach, none-broken}

@@ -5,13 +5,13 @@ use Rattle.model.specs.declared.refusals.Point.{Point}
 use Rattle.model.specs.declared.refusals.Refusal.{Refusal}
 use Rattle.model.specs.declared.refusals.Refusal.TheVariants.{MeasureNotFalling, OverBudget, Stage}
 use Rattle.model.specs.declared.ranges.Range.{Range}
-use Rattle.model.specs.Ranges.{single, with_range}
-use Rattle.model.specs.Image.{Thread}
-use Rattle.model.specs.Measures.{Measure, register_numbered}
-use Rattle.model.specs.NotedStates.{PointState, image_slots}
-use Rattle.model.specs.PointRules.{ProgramEdge, call_rule, edge_rules, noted_at, rules_on_edges}
-use Rattle.model.specs.PointStates.{instruction_at, point_of}
-use Rattle.model.specs.Rules.{Rule, first_broken, refuse_if}
+use Rattle.model.specs.Acceptance.Ranges.{single, with_range}
+use Rattle.model.specs.Images.Image.{Thread}
+use Rattle.model.specs.Acceptance.Measures.{Measure, register_numbered}
+use Rattle.model.specs.Acceptance.NotedStates.{PointState, image_slots}
+use Rattle.model.specs.Acceptance.PointRules.{ProgramEdge, call_rule, edge_rules, noted_at, rules_on_edges}
+use Rattle.model.specs.Acceptance.PointStates.{instruction_at, point_of}
+use Rattle.model.specs.Acceptance.Rules.{Rule, first_broken, refuse_if}
 use Rattle.ranges.specs.declared.edges.Edge.{Edge as Way}
 use Rattle.image.specs.Certificates.{IsOfForm, IsPlain, constant_measure, known_of}
 use Rattle.image.specs.Stage.{staged_image}

@@ -1,7 +1,7 @@
 -- How the states that the verifier keeps of points meet those that the certificate notes.
 use Rattle.std.specs.Prelude.{ℕ, ◌≡◌, List, length, slice_get, Some}
-use Rattle.model.specs.Image.{Thread}
-use Rattle.model.specs.PointStates.{Noted as PointNoted, Known as IsKnown, Missing, noted}
+use Rattle.model.specs.Images.Image.{Thread}
+use Rattle.model.specs.Acceptance.PointStates.{Noted as PointNoted, Known as IsKnown, Missing, noted}
 use Rattle.image.specs.Certificates.{IsPlain, constant_measure, with_image_slots}
 use Rattle.image.specs.Stage.{staged_image}
 use Rattle.verify.specs.declared.states.Noted.{Noted}

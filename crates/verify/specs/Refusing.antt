@@ -3,8 +3,8 @@ use Rattle.std.specs.Prelude.{ℕ, ◌≡◌, List, Some, Ok}
 use Rattle.model.specs.declared.refusals.Point.{Point}
 use Rattle.model.specs.declared.refusals.Refusal.{Refusal}
 use Rattle.model.specs.declared.refusals.Refusal.TheVariants.{OutOfMemory, Stage}
-use Rattle.model.specs.Accepted.{first_breach}
-use Rattle.model.specs.Image.{Image, Thread}
+use Rattle.model.specs.Acceptance.Accepted.{first_breach}
+use Rattle.model.specs.Images.Image.{Image, Thread}
 use Rattle.image.specs.Certificates.{IsOfForm, IsPlain}
 use Rattle.image.specs.Stage.{staged_image, staged_reading}
 

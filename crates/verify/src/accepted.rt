@@ -1,10 +1,10 @@
 //! Accepted images.
 
 ghost use Rattle.std.specs.Prelude.{◌≡◌, ◌<◌, ◌≤◌, ◌⊎◌, Err, IfErr, IfOk, Ok, Some};
-ghost use Rattle.model.specs.Accepted.{IsAccepted, first_breach};
-ghost use Rattle.model.specs.Format.{Spells};
-ghost use Rattle.model.specs.Image.{Image, Thread, image_format};
-ghost use Rattle.model.specs.PointRules.{rules_of_program};
+ghost use Rattle.model.specs.Acceptance.Accepted.{IsAccepted, first_breach};
+ghost use Rattle.model.specs.Images.Format.{Spells};
+ghost use Rattle.model.specs.Images.Image.{Image, Thread, image_format};
+ghost use Rattle.model.specs.Acceptance.PointRules.{rules_of_program};
 ghost use Rattle.model.specs.declared.refusals.Refusal.TheVariants.{BadThread, OutOfMemory};
 ghost use Rattle.image.specs.Certificates.{IsOfForm, IsPlain};
 ghost use Rattle.image.specs.Stage.{IsStaged, later, no_slots, staged_image, staged_reading};
@@ -25,7 +25,7 @@ pub struct Accepted<'a> {
 }
 
 impl<'a> Model for Accepted<'a> {
-    ghost use Rattle.model.specs.Image.{Image};
+    ghost use Rattle.model.specs.Images.Image.{Image};
     ghost use Rattle.image.specs.Stage.{IsStaged};
 
     ghost Value = { Image };

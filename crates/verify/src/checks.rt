@@ -3,11 +3,11 @@
 ghost use Rattle.std.specs.Prelude.{ℕ, ◌≡◌, ◌<◌, ◌+◌, ◌^◌, IfErr, IfOk, Option, Some, true};
 ghost use Rattle.std.specs.List.{range_with_len};
 ghost use Rattle.std.specs.Prelude.{flat_map};
-ghost use Rattle.model.specs.Measures.{Measure};
-ghost use Rattle.model.specs.PointRules.{ProgramEdge, entry_rules, point_at, point_rules, state_rules};
-ghost use Rattle.model.specs.Instructions.{IsInstr};
-ghost use Rattle.model.specs.PointStates.{address_of, instruction_at};
-ghost use Rattle.model.specs.Ranges.{is_ranged};
+ghost use Rattle.model.specs.Acceptance.Measures.{Measure};
+ghost use Rattle.model.specs.Acceptance.PointRules.{ProgramEdge, entry_rules, point_at, point_rules, state_rules};
+ghost use Rattle.model.specs.Machine.Instructions.{IsInstr};
+ghost use Rattle.model.specs.Acceptance.PointStates.{address_of, instruction_at};
+ghost use Rattle.model.specs.Acceptance.Ranges.{is_ranged};
 ghost use Rattle.model.specs.declared.instructions.Instr.TheVariants.{Ecall};
 ghost use Rattle.image.specs.Certificates.{IsWait, OnlyWaits, constant_measure, with_image_slots};
 ghost use Rattle.image.specs.Stage.{staged_image};

@@ -2,14 +2,14 @@
 //! point before.
 
 ghost use Rattle.std.specs.Prelude.{◌≡◌, ◌+◌, ◌<◌, ◌^◌, ◌≤ℤ◌, ◌≢◌, ◌↔◌, IfOk, IfSome, IsTrue, ◌-ℤ◌, int_lt, negsuc, pos, true};
-ghost use Rattle.model.specs.CallRules.{badges};
-ghost use Rattle.model.specs.Instructions.{IsInstr};
-ghost use Rattle.model.specs.Decoding.{decoded};
-ghost use Rattle.model.specs.Messages.{a0};
-ghost use Rattle.model.specs.NotedStates.{record_ranges};
-ghost use Rattle.model.specs.Ranges.{is_ranged, with_range};
+ghost use Rattle.model.specs.Acceptance.CallRules.{badges};
+ghost use Rattle.model.specs.Machine.Instructions.{IsInstr};
+ghost use Rattle.model.specs.Machine.Decoding.{decoded};
+ghost use Rattle.model.specs.Kernel.Messages.{a0};
+ghost use Rattle.model.specs.Acceptance.NotedStates.{record_ranges};
+ghost use Rattle.model.specs.Acceptance.Ranges.{is_ranged, with_range};
 ghost use Rattle.model.specs.declared.instructions.Instr.TheVariants.{Ecall};
-ghost use Rattle.model.specs.PointStates.{follows};
+ghost use Rattle.model.specs.Acceptance.PointStates.{follows};
 ghost use Rattle.image.specs.Certificates.{IsOfForm, IsWait, known_of};
 ghost use Rattle.image.specs.Stage.{staged_image};
 ghost use Rattle.verify.specs.Matching.{AreStates, IsKnownAt, Meets, noted_at};

@@ -1,6 +1,6 @@
 -- The bytes of slots change: no table stands there, so the tables agree as before, and what may be put stays so.
 use Rattle.std.proofs.Common.{◌≡◌, ◌∙◌, ℕ, inl, inr, Some, None, List, refl, sym, subst, arith}
-use Rattle.model.specs.Slots.{SameOutside, Slots, capability_at}
+use Rattle.model.specs.Capabilities.Slots.{SameOutside, Slots, capability_at}
 use Rattle.model.specs.declared.capabilities.Cap.{Cap}
 use Rattle.model.specs.declared.capabilities.Cap.TheVariants.{Empty, Untyped, Endpoint, Notification, CNode, Frame, PageTable, Tcb, RootTable, InterruptControl, InterruptHandler}
 use Rattle.vspace.specs.Agreement.{IsNamedTable, IsNewPageTable, IsNewRoot, MayBePut, NamesTable, SameInTables}

@@ -1,10 +1,10 @@
 -- Where each table and each mapping of the new slots was in the old ones, and none that is mapped was lost, the
 -- tables agree as before.
 use Rattle.std.proofs.Common.{◌≡◌, ◌≢◌, ◌∙◌, ℕ, ◌+◌, ◌*◌, ◌/◌, ◌%◌, ◌^◌, ◌<◌, ◌⊎◌, inl, inr, Option, Some, None, IsSome, List, length, refl, sym, subst, arith}
-use Rattle.model.specs.Bytes.{word_at}
-use Rattle.model.specs.CapabilityWords.{IsCapability}
-use Rattle.model.specs.Slots.{IsOpen, Slots, capability_at}
-use Rattle.model.specs.Sv32.{leaf_word, table_word}
+use Rattle.model.specs.Shared.Bytes.{word_at}
+use Rattle.model.specs.Capabilities.CapabilityWords.{IsCapability}
+use Rattle.model.specs.Capabilities.Slots.{IsOpen, Slots, capability_at}
+use Rattle.model.specs.Machine.Sv32.{leaf_word, table_word}
 use Rattle.model.specs.declared.capabilities.Cap.{Cap}
 use Rattle.model.specs.declared.capabilities.Cap.TheVariants.{Empty, Frame, PageTable, RootTable}
 use Rattle.model.specs.declared.capabilities.FrameMapping.{FrameMapping}

@@ -1,10 +1,10 @@
 -- A capability without mapping is put in an empty slot: the tables and the mappings agree as before.
 use Rattle.std.proofs.Common.{◌≡◌, ◌≢◌, ◌∙◌, ℕ, ◌+◌, ◌*◌, ◌/◌, ◌%◌, ◌^◌, ◌<◌, ◌⊎◌, inl, inr, Option, Some, None, List, refl, sym, ap, subst}
 use Rattle.std.proofs.lemmas.Bool.Decides.{eqb_tells}
-use Rattle.model.specs.Bytes.{word_at}
-use Rattle.model.specs.CapabilityWords.{IsCapability}
-use Rattle.model.specs.Slots.{IsOpen, Slots, capability_at, inserted}
-use Rattle.model.specs.Sv32.{leaf_word}
+use Rattle.model.specs.Shared.Bytes.{word_at}
+use Rattle.model.specs.Capabilities.CapabilityWords.{IsCapability}
+use Rattle.model.specs.Capabilities.Slots.{IsOpen, Slots, capability_at, inserted}
+use Rattle.model.specs.Machine.Sv32.{leaf_word}
 use Rattle.model.specs.declared.capabilities.Cap.{Cap}
 use Rattle.model.specs.declared.capabilities.Cap.TheVariants.{Empty, Untyped, Endpoint, Notification, CNode, Frame, PageTable, Tcb, RootTable, InterruptControl, InterruptHandler}
 use Rattle.model.specs.declared.capabilities.FrameMapping.{FrameMapping}

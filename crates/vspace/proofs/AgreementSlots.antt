@@ -4,9 +4,9 @@ use Rattle.std.proofs.Common.{◌≡◌, ◌≢◌, ◌∙◌, ℕ, ◌+◌, ◌
 use Rattle.std.specs.Option.{option_map}
 use Rattle.std.proofs.lemmas.Bool.{eq-eqb, ne_eqb}
 use Rattle.std.proofs.lemmas.Bool.Decides.{eqb_tells}
-use Rattle.model.specs.Capabilities.{unmapped}
-use Rattle.model.specs.CapabilityWords.{IsCapability}
-use Rattle.model.specs.Slots.{IsOpen, Slots, adopted, capability_at, closed, empty_entry, is_within, opened, parent_at, recapped, relocated, spliced, with_entry, with_parent}
+use Rattle.model.specs.Capabilities.CapabilityKinds.{unmapped}
+use Rattle.model.specs.Capabilities.CapabilityWords.{IsCapability}
+use Rattle.model.specs.Capabilities.Slots.{IsOpen, Slots, adopted, capability_at, closed, empty_entry, is_within, opened, parent_at, recapped, relocated, spliced, with_entry, with_parent}
 use Rattle.model.specs.declared.capabilities.Cap.{Cap}
 use Rattle.model.specs.declared.capabilities.Cap.TheVariants.{Empty, Frame, PageTable, RootTable}
 use Rattle.model.specs.declared.slot_entries.Entry.{Entry}

@@ -2,10 +2,10 @@
 use Rattle.std.proofs.Common.{◌≡◌, ◌∙◌, ℕ, ◌+◌, ◌*◌, ◌/◌, ◌^◌, ◌<◌, ◌≤◌, inl, inr, true, false, Option, Some, None, List, length, refl, sym, ap, arith}
 use Rattle.std.specs.Prelude.{if◌then◌else◌, nat_lt}
 use Rattle.std.specs.Option.{option_map}
-use Rattle.model.specs.Bytes.{word_bytes}
-use Rattle.model.specs.Capabilities.{table_mapping, unmapped}
-use Rattle.model.specs.Invocations.{stands_in, without_region, without_table}
-use Rattle.model.specs.Slots.{Slots, capability_at}
+use Rattle.model.specs.Shared.Bytes.{word_bytes}
+use Rattle.model.specs.Capabilities.CapabilityKinds.{table_mapping, unmapped}
+use Rattle.model.specs.Kernel.Invocations.{stands_in, without_region, without_table}
+use Rattle.model.specs.Capabilities.Slots.{Slots, capability_at}
 use Rattle.model.specs.declared.capabilities.Cap.{Cap}
 use Rattle.model.specs.declared.capabilities.Cap.TheVariants.{PageTable}
 use Rattle.model.specs.declared.capabilities.TableMapping.{TableMapping}

@@ -4,9 +4,9 @@ use Rattle.std.specs.Prelude.{if◌then◌else◌}
 use Rattle.std.specs.Option.{option_map}
 use Rattle.std.proofs.lemmas.Bool.{eq-eqb}
 use Rattle.std.proofs.lemmas.Bool.Decides.{eqb_tells}
-use Rattle.model.specs.Capabilities.{frame_mapping, table_mapping, unmapped}
-use Rattle.model.specs.Invocations.{stands_in, without_region, without_table}
-use Rattle.model.specs.Slots.{IsFull, Slots, capability_at, is_empty, parent_at, recapped}
+use Rattle.model.specs.Capabilities.CapabilityKinds.{frame_mapping, table_mapping, unmapped}
+use Rattle.model.specs.Kernel.Invocations.{stands_in, without_region, without_table}
+use Rattle.model.specs.Capabilities.Slots.{IsFull, Slots, capability_at, is_empty, parent_at, recapped}
 use Rattle.model.specs.declared.capabilities.Cap.{Cap}
 use Rattle.model.specs.declared.capabilities.Cap.TheVariants.{Empty, Untyped, Endpoint, Notification, CNode, Frame, PageTable, Tcb, RootTable, InterruptControl, InterruptHandler}
 use Rattle.model.specs.declared.capabilities.FrameMapping.{FrameMapping}

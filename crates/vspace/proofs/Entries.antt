@@ -2,9 +2,9 @@
 use Rattle.std.proofs.Common.{◌≡◌, ℕ, ◌+◌, ◌-◌, ◌*◌, ◌/◌, ◌%◌, ◌^◌, ◌≤◌, ◌==◌, ◌&&◌, ◌||◌, true, false, not, Some, None, List, length, refl, arith}
 use Rattle.std.specs.Prelude.{nat_le, if◌then◌else◌}
 use Rattle.std.proofs.lemmas.Bool.Decides.{nat_tests}
-use Rattle.model.specs.Bytes.{word_at}
-use Rattle.model.specs.CapabilityWords.{AreMappingRights}
-use Rattle.model.specs.Sv32.{entry_at, is_valid, leaf_word, page_address, place_of, table_word}
+use Rattle.model.specs.Shared.Bytes.{word_at}
+use Rattle.model.specs.Capabilities.CapabilityWords.{AreMappingRights}
+use Rattle.model.specs.Machine.Sv32.{entry_at, is_valid, leaf_word, page_address, place_of, table_word}
 use Rattle.vspace.specs.Tables.{table_in}
 
 -- a table's pointer: valid, no leaf, and naming the table

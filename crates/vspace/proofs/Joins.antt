@@ -4,14 +4,14 @@ use Rattle.std.specs.Prelude.{filter_map, nat_le, nat_lt, if◌then◌else◌, o
 use Rattle.std.proofs.lemmas.Bool.{eq-eqb}
 use Rattle.std.proofs.lemmas.Bool.Decides.{nat_tests}
 use Rattle.std.proofs.lemmas.List.FromFn.{get_or-range_with_len, length-range_with_len}
-use Rattle.model.specs.AddressSpaces.{allows, mapped, maps_page, page_of, place_in, place_under}
-use Rattle.model.specs.Bytes.{word_at}
-use Rattle.model.specs.CapabilityWords.{AreMappingRights, IsCapability}
-use Rattle.model.specs.Invocations.{with_slots}
-use Rattle.model.specs.Scheduling.{head_of}
-use Rattle.model.specs.Slots.{IsFull, Slots, capability_at, is_empty}
-use Rattle.model.specs.State.{State, slot_numbers}
-use Rattle.model.specs.Sv32.{entry_at, has_bit, has_right, is_leaf, leaf_place, leaf_word, page_address, permits, table_word, walk}
+use Rattle.model.specs.Kernel.AddressSpaces.{allows, mapped, maps_page, page_of, place_in, place_under}
+use Rattle.model.specs.Shared.Bytes.{word_at}
+use Rattle.model.specs.Capabilities.CapabilityWords.{AreMappingRights, IsCapability}
+use Rattle.model.specs.Kernel.Invocations.{with_slots}
+use Rattle.model.specs.Kernel.Scheduling.{head_of}
+use Rattle.model.specs.Capabilities.Slots.{IsFull, Slots, capability_at, is_empty}
+use Rattle.model.specs.Kernel.State.{State, slot_numbers}
+use Rattle.model.specs.Machine.Sv32.{entry_at, has_bit, has_right, is_leaf, leaf_place, leaf_word, page_address, permits, table_word, walk}
 use Rattle.model.specs.declared.capabilities.Cap.{Cap}
 use Rattle.model.specs.declared.capabilities.Cap.TheVariants.{Empty, Untyped, Endpoint, Notification, CNode, Frame, PageTable, Tcb, RootTable, InterruptControl, InterruptHandler}
 use Rattle.model.specs.declared.instructions.Access.{Access}

@@ -2,10 +2,10 @@
 use Rattle.std.proofs.Common.{◌≡◌, ◌∙◌, ℕ, ◌+◌, ◌*◌, ◌/◌, ◌%◌, ◌^◌, ◌<◌, ◌≤◌, ◌⊎◌, inl, inr, true, false, Some, None, List, length, refl, sym, ap, subst, arith}
 use Rattle.std.proofs.lemmas.Bool.{eq-eqb}
 use Rattle.std.proofs.lemmas.Bool.Decides.{eqb_tells}
-use Rattle.model.specs.AddressSpaces.{maps_page}
-use Rattle.model.specs.Bytes.{word_at}
-use Rattle.model.specs.Slots.{Slots, capability_at, recapped}
-use Rattle.model.specs.Sv32.{leaf_word}
+use Rattle.model.specs.Kernel.AddressSpaces.{maps_page}
+use Rattle.model.specs.Shared.Bytes.{word_at}
+use Rattle.model.specs.Capabilities.Slots.{Slots, capability_at, recapped}
+use Rattle.model.specs.Machine.Sv32.{leaf_word}
 use Rattle.model.specs.declared.capabilities.Cap.{Cap}
 use Rattle.model.specs.declared.capabilities.Cap.TheVariants.{Frame, PageTable}
 use Rattle.model.specs.declared.capabilities.FrameMapping.{FrameMapping}

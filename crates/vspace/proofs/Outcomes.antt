@@ -3,13 +3,13 @@ use Rattle.std.proofs.Common.{◌≡◌, ◌∙◌, ℕ, ◌/◌, ◌%◌, ◌^�
 use Rattle.std.specs.Prelude.{bit_and, nat_lt}
 use Rattle.std.specs.Option.{is_some}
 use Rattle.std.proofs.lemmas.Bool.{eq-eqb}
-use Rattle.model.specs.AddressSpaces.{address_limit, is_page_taken, is_region_taken, maps_page, maps_region, page_size, region_pages}
-use Rattle.model.specs.Arguments.{◌>>=◌, check}
-use Rattle.model.specs.CapabilityWords.{AreMappingRights, IsCapability}
-use Rattle.model.specs.Invocations.{map_frame, root_named, with_slots}
-use Rattle.model.specs.Rights.{may_execute, may_read, mapping_rights}
-use Rattle.model.specs.Slots.{IsFull, Slots, capability_at, is_empty, recapped}
-use Rattle.model.specs.State.{State}
+use Rattle.model.specs.Kernel.AddressSpaces.{address_limit, is_page_taken, is_region_taken, maps_page, maps_region, page_size, region_pages}
+use Rattle.model.specs.Kernel.Arguments.{◌>>=◌, check}
+use Rattle.model.specs.Capabilities.CapabilityWords.{AreMappingRights, IsCapability}
+use Rattle.model.specs.Kernel.Invocations.{map_frame, root_named, with_slots}
+use Rattle.model.specs.Capabilities.Rights.{may_execute, may_read, mapping_rights}
+use Rattle.model.specs.Capabilities.Slots.{IsFull, Slots, capability_at, is_empty, recapped}
+use Rattle.model.specs.Kernel.State.{State}
 use Rattle.model.specs.declared.capabilities.Cap.{Cap}
 use Rattle.model.specs.declared.capabilities.Cap.TheVariants.{Frame, PageTable, RootTable}
 use Rattle.model.specs.declared.capabilities.FrameMapping.{FrameMapping}

@@ -1,9 +1,9 @@
 -- The place of a page's entry, by what was read.
 use Rattle.std.proofs.Common.{◌≡◌, ◌∙◌, ℕ, ◌+◌, ◌*◌, ◌/◌, ◌%◌, ◌^◌, ◌<◌, ◌≤◌, inl, inr, true, false, Option, Some, None, Err, List, length, refl, sym, ap, subst, arith}
 use Rattle.std.specs.Option.{is_some}
-use Rattle.model.specs.Slots.{Slots, capability_at}
-use Rattle.model.specs.Sv32.{entry_at}
-use Rattle.model.specs.CapabilityWords.{IsCapability}
+use Rattle.model.specs.Capabilities.Slots.{Slots, capability_at}
+use Rattle.model.specs.Machine.Sv32.{entry_at}
+use Rattle.model.specs.Capabilities.CapabilityWords.{IsCapability}
 use Rattle.model.specs.declared.capabilities.Cap.{Cap}
 use Rattle.model.specs.declared.capabilities.Cap.TheVariants.{Frame, RootTable}
 use Rattle.model.specs.declared.capabilities.FrameMapping.{FrameMapping}

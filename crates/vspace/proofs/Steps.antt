@@ -1,9 +1,9 @@
 -- What another capability in one slot, and another word in one table, leave of the rest.
 use Rattle.std.proofs.Common.{◌≡◌, ◌≢◌, ◌∙◌, ℕ, ◌+◌, ◌*◌, ◌/◌, ◌%◌, ◌^◌, ◌<◌, ◌≤◌, ◌⊎◌, inl, inr, Option, Some, None, List, length, sym, ap, arith}
 use Rattle.std.proofs.lemmas.Bool.Decides.{eqb_tells, leb_tells}
-use Rattle.model.specs.Bytes.{word_at, word_bytes, written}
+use Rattle.model.specs.Shared.Bytes.{word_at, word_bytes, written}
 use Rattle.model.proofs.BytesLemmas.{length-written, word_at-same, word_at-written, word_at-written_before, word_at-written_behind}
-use Rattle.model.specs.Slots.{OutsideSlots, SameOutside, Slots, capability_at, parent_at, recapped}
+use Rattle.model.specs.Capabilities.Slots.{OutsideSlots, SameOutside, Slots, capability_at, parent_at, recapped}
 use Rattle.model.specs.declared.capabilities.Cap.{Cap}
 use Rattle.model.specs.declared.slot_entries.Entry.{Entry}
 use Rattle.slots.proofs.Changes.{capability_of, entry-other, entry-same}

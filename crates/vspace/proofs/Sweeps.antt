@@ -1,7 +1,7 @@
 -- What becomes of the slots when the frames of a region are unmapped one after another.
 use Rattle.std.specs.Prelude.{ℕ, ◌≡◌, if◌then◌else◌, nat_lt}
-use Rattle.model.specs.Invocations.{without_region}
-use Rattle.model.specs.Slots.{Slots}
+use Rattle.model.specs.Kernel.Invocations.{without_region}
+use Rattle.model.specs.Capabilities.Slots.{Slots}
 use Rattle.model.specs.declared.capabilities.TableMapping.{TableMapping}
 
 -- the slots below a number are without the region, and the others as they were

@@ -2,20 +2,20 @@
 use Rattle.std.proofs.Common.{◌≡◌, ◌≢◌, ◌∙◌, ℕ, ◌+◌, ◌*◌, ◌/◌, ◌%◌, ◌^◌, ◌<◌, ◌≤◌, ◌==◌, inl, inr, Bool, true, false, not, Option, Some, None, Result, Ok, Err, List, [], ◌∷◌, length, refl, sym, ap, subst, arith}
 use Rattle.std.specs.Prelude.{nat_lt}
 use Rattle.std.specs.Option.{is_some}
-use Rattle.model.specs.AddressSpaces.{address_limit, is_region_taken, maps_region, page_size, region_pages}
-use Rattle.model.specs.Arguments.{◌>>=◌, check}
-use Rattle.model.specs.CapabilityWords.{IsCapability, IsTableMapping}
-use Rattle.model.specs.Invocations.{map_table, root_named, with_slots}
-use Rattle.model.specs.Slots.{Slots, capability_at, recapped}
-use Rattle.model.specs.State.{State}
-use Rattle.model.specs.Sv32.{table_word}
+use Rattle.model.specs.Kernel.AddressSpaces.{address_limit, is_region_taken, maps_region, page_size, region_pages}
+use Rattle.model.specs.Kernel.Arguments.{◌>>=◌, check}
+use Rattle.model.specs.Capabilities.CapabilityWords.{IsCapability, IsTableMapping}
+use Rattle.model.specs.Kernel.Invocations.{map_table, root_named, with_slots}
+use Rattle.model.specs.Capabilities.Slots.{Slots, capability_at, recapped}
+use Rattle.model.specs.Kernel.State.{State}
+use Rattle.model.specs.Machine.Sv32.{table_word}
 use Rattle.model.specs.declared.capabilities.Cap.{Cap}
 use Rattle.model.specs.declared.capabilities.Cap.TheVariants.{Empty, PageTable, RootTable}
 use Rattle.model.specs.declared.capabilities.TableMapping.{TableMapping}
 use Rattle.model.specs.declared.errors.KError.{KError}
 use Rattle.model.specs.declared.errors.KError.TheVariants.{AlignmentError, DeleteFirst, InvalidArgument}
 use Rattle.model.proofs.BytesLemmas.{slice_index-written_before, slice_index-written_behind}
-use Rattle.model.specs.Bytes.{word_bytes}
+use Rattle.model.specs.Shared.Bytes.{word_bytes}
 use Rattle.slots.proofs.Changes.{capability_of}
 use Rattle.vspace.specs.TableAnswers.{FreePointer, GivesTableMapped, KeptBesideRoots, RegionAnswer, TableMappingAnswer, region_named, table_call}
 use Rattle.vspace.specs.Tables.{Holds, TablesAgree, table_in}

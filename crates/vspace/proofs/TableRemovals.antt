@@ -1,10 +1,10 @@
 -- Unmapping a page table in whose region no frame is mapped keeps the tables and the mappings in agreement.
 use Rattle.std.proofs.Common.{◌≡◌, ◌≢◌, ◌∙◌, ℕ, ◌+◌, ◌*◌, ◌/◌, ◌%◌, ◌^◌, ◌<◌, ◌⊎◌, inl, inr, Option, Some, None, List, refl, sym, ap, subst, arith}
 use Rattle.std.proofs.lemmas.Bool.Decides.{eqb_tells}
-use Rattle.model.specs.Bytes.{word_at, word_bytes, written}
-use Rattle.model.specs.CapabilityWords.{IsCapability}
-use Rattle.model.specs.Slots.{SameOutside, Slots, capability_at, recapped}
-use Rattle.model.specs.Sv32.{leaf_word, table_word}
+use Rattle.model.specs.Shared.Bytes.{word_at, word_bytes, written}
+use Rattle.model.specs.Capabilities.CapabilityWords.{IsCapability}
+use Rattle.model.specs.Capabilities.Slots.{SameOutside, Slots, capability_at, recapped}
+use Rattle.model.specs.Machine.Sv32.{leaf_word, table_word}
 use Rattle.model.specs.declared.capabilities.Cap.{Cap}
 use Rattle.model.specs.declared.capabilities.Cap.TheVariants.{Frame, PageTable, RootTable}
 use Rattle.model.specs.declared.capabilities.FrameMapping.{FrameMapping}

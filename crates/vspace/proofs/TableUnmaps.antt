@@ -3,10 +3,10 @@ use Rattle.std.proofs.Common.{◌≡◌, ◌≢◌, ◌∙◌, ℕ, ◌+◌, ◌
 use Rattle.std.specs.Prelude.{if◌then◌else◌}
 use Rattle.std.specs.Option.{option_map}
 use Rattle.std.proofs.lemmas.Bool.{eq-eqb}
-use Rattle.model.specs.Capabilities.{unmapped}
-use Rattle.model.specs.CapabilityWords.{IsCapability}
-use Rattle.model.specs.Invocations.{stands_in, without_region, without_table}
-use Rattle.model.specs.Slots.{Slots, capability_at, recapped}
+use Rattle.model.specs.Capabilities.CapabilityKinds.{unmapped}
+use Rattle.model.specs.Capabilities.CapabilityWords.{IsCapability}
+use Rattle.model.specs.Kernel.Invocations.{stands_in, without_region, without_table}
+use Rattle.model.specs.Capabilities.Slots.{Slots, capability_at, recapped}
 use Rattle.model.specs.declared.capabilities.Cap.{Cap}
 use Rattle.model.specs.declared.capabilities.Cap.TheVariants.{Empty, Untyped, Endpoint, Notification, CNode, Frame, PageTable, Tcb, RootTable, InterruptControl, InterruptHandler}
 use Rattle.model.specs.declared.capabilities.FrameMapping.{FrameMapping}

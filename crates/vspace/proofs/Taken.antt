@@ -3,13 +3,13 @@ use Rattle.std.proofs.Common.{◌≡◌, ◌∙◌, ℕ, ◌+◌, ◌*◌, ◌/�
 use Rattle.std.proofs.lemmas.Bool.Decides.{eqb_tells}
 use Rattle.std.proofs.lemmas.List.Folds.{list_any_at, list_any_none}
 use Rattle.std.proofs.lemmas.List.FromFn.{get_or-range_with_len, length-range_with_len}
-use Rattle.model.specs.AddressSpaces.{maps_page, maps_region}
-use Rattle.model.specs.Bytes.{word_at}
-use Rattle.model.specs.CapabilityWords.{IsCapability}
-use Rattle.model.specs.Slots.{IsFull, Slots, capability_at}
-use Rattle.model.specs.State.{State, holds_some, slot_numbers}
-use Rattle.model.specs.Invocations.{with_slots}
-use Rattle.model.specs.Sv32.{entry_at, leaf_word, table_word}
+use Rattle.model.specs.Kernel.AddressSpaces.{maps_page, maps_region}
+use Rattle.model.specs.Shared.Bytes.{word_at}
+use Rattle.model.specs.Capabilities.CapabilityWords.{IsCapability}
+use Rattle.model.specs.Capabilities.Slots.{IsFull, Slots, capability_at}
+use Rattle.model.specs.Kernel.State.{State, holds_some, slot_numbers}
+use Rattle.model.specs.Kernel.Invocations.{with_slots}
+use Rattle.model.specs.Machine.Sv32.{entry_at, leaf_word, table_word}
 use Rattle.model.specs.declared.capabilities.Cap.{Cap}
 use Rattle.model.specs.declared.capabilities.Cap.TheVariants.{Empty, Untyped, Endpoint, Notification, CNode, Frame, PageTable, Tcb, RootTable, InterruptControl, InterruptHandler}
 use Rattle.model.specs.declared.capabilities.FrameMapping.{FrameMapping}

@@ -1,9 +1,9 @@
 -- Unmapping a frame keeps the tables and the mappings in agreement.
 use Rattle.std.proofs.Common.{◌≡◌, ◌≢◌, ◌∙◌, ℕ, ◌+◌, ◌*◌, ◌/◌, ◌%◌, ◌^◌, ◌<◌, ◌⊎◌, inl, inr, Option, Some, None, List, sym, ap, arith}
 use Rattle.std.proofs.lemmas.Bool.Decides.{eqb_tells}
-use Rattle.model.specs.Bytes.{word_at}
-use Rattle.model.specs.Slots.{Slots, capability_at}
-use Rattle.model.specs.Sv32.{leaf_word, table_word}
+use Rattle.model.specs.Shared.Bytes.{word_at}
+use Rattle.model.specs.Capabilities.Slots.{Slots, capability_at}
+use Rattle.model.specs.Machine.Sv32.{leaf_word, table_word}
 use Rattle.model.specs.declared.capabilities.Cap.TheVariants.{Frame, PageTable}
 use Rattle.model.specs.declared.capabilities.FrameMapping.{FrameMapping}
 use Rattle.model.specs.declared.capabilities.TableMapping.{TableMapping}

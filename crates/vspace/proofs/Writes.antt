@@ -1,9 +1,9 @@
 -- A leaf is written, and the frame's capability changes: the agreement and the other bytes stay.
 use Rattle.std.proofs.Common.{◌≡◌, ◌≢◌, ◌∙◌, ℕ, ◌+◌, ◌*◌, ◌/◌, ◌%◌, ◌^◌, ◌<◌, ◌≤◌, inl, inr, not, Option, Some, None, List, length, refl, sym, ap, subst, arith}
-use Rattle.model.specs.Bytes.{word_bytes, written}
-use Rattle.model.specs.CapabilityWords.{IsCapability, IsFrameMapping, IsPlace}
-use Rattle.model.specs.Slots.{IsFull, OutsideSlots, SameOutside, Slots, capability_at, is_empty, recapped}
-use Rattle.model.specs.Sv32.{leaf_word}
+use Rattle.model.specs.Shared.Bytes.{word_bytes, written}
+use Rattle.model.specs.Capabilities.CapabilityWords.{IsCapability, IsFrameMapping, IsPlace}
+use Rattle.model.specs.Capabilities.Slots.{IsFull, OutsideSlots, SameOutside, Slots, capability_at, is_empty, recapped}
+use Rattle.model.specs.Machine.Sv32.{leaf_word}
 use Rattle.model.specs.declared.capabilities.Cap.{Cap}
 use Rattle.model.specs.declared.capabilities.Cap.TheVariants.{Empty, Frame}
 use Rattle.model.specs.declared.capabilities.FrameMapping.{FrameMapping}

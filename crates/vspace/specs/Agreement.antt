@@ -1,8 +1,8 @@
 -- Which changes of slots and memory leave the page tables and the mappings in agreement.
 use Rattle.std.specs.Prelude.{ℕ, ◌≡◌, ◌≢◌, ◌+◌, ◌/◌, ◌<◌, ◌≤◌, ◌⊎◌, ⊤, Option, Some, None, List, length, slice_index}
-use Rattle.model.specs.AddressSpaces.{page_size}
-use Rattle.model.specs.CapabilityWords.{IsCapability}
-use Rattle.model.specs.Slots.{Slots, capability_at}
+use Rattle.model.specs.Kernel.AddressSpaces.{page_size}
+use Rattle.model.specs.Capabilities.CapabilityWords.{IsCapability}
+use Rattle.model.specs.Capabilities.Slots.{Slots, capability_at}
 use Rattle.model.specs.declared.capabilities.Cap.{Cap}
 use Rattle.model.specs.declared.capabilities.Cap.TheVariants.{Frame, PageTable, RootTable}
 use Rattle.model.specs.declared.capabilities.TableMapping.{TableMapping}

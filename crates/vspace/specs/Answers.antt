@@ -1,11 +1,11 @@
 -- What the calls on mappings answer: as the definitions of the invocations say of every state with these slots.
 use Rattle.std.specs.Prelude.{ℕ, ◌≡◌, ◌==◌, ◌+◌, ◌*◌, ◌/◌, ◌%◌, ◌^◌, ◌⊎◌, ◌<◌, ◌≤◌, false, nat_lt, slice_index, List, Option, Some, None, Result, Ok, Err}
-use Rattle.model.specs.AddressSpaces.{address_limit, maps_page, maps_region, page_size}
-use Rattle.model.specs.Arguments.{◌>>=◌, check}
-use Rattle.model.specs.CapabilityWords.{IsFrameMapping}
-use Rattle.model.specs.Invocations.{Call, map_frame, with_slots}
-use Rattle.model.specs.Slots.{Slots, capability_at, recapped}
-use Rattle.model.specs.State.{State}
+use Rattle.model.specs.Kernel.AddressSpaces.{address_limit, maps_page, maps_region, page_size}
+use Rattle.model.specs.Kernel.Arguments.{◌>>=◌, check}
+use Rattle.model.specs.Capabilities.CapabilityWords.{IsFrameMapping}
+use Rattle.model.specs.Kernel.Invocations.{Call, map_frame, with_slots}
+use Rattle.model.specs.Capabilities.Slots.{Slots, capability_at, recapped}
+use Rattle.model.specs.Kernel.State.{State}
 use Rattle.model.specs.declared.capabilities.Cap.{Cap}
 use Rattle.model.specs.declared.capabilities.Cap.TheVariants.{Frame}
 use Rattle.model.specs.declared.capabilities.FrameMapping.{FrameMapping}

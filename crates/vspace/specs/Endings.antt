@@ -1,7 +1,7 @@
 -- What becomes of the mappings when a page table or a root table ends.
 use Rattle.std.specs.Prelude.{ℕ, ◌≡◌, ◌==◌, ◌/◌, ◌^◌, ◌⊎◌, ◌||◌, Bool, false, if◌then◌else◌, Option, Some, option_map}
-use Rattle.model.specs.Capabilities.{unmapped}
-use Rattle.model.specs.Slots.{Slots, capability_at}
+use Rattle.model.specs.Capabilities.CapabilityKinds.{unmapped}
+use Rattle.model.specs.Capabilities.Slots.{Slots, capability_at}
 use Rattle.model.specs.declared.capabilities.Cap.{Cap}
 use Rattle.model.specs.declared.capabilities.Cap.TheVariants.{Frame, PageTable}
 use Rattle.model.specs.declared.slot_entries.Entry.{Entry}

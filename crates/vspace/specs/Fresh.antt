@@ -1,7 +1,7 @@
 -- Slots that map nothing yet, beside tables without an entry.
 use Rattle.std.specs.Prelude.{ℕ, ◌≡◌, ◌==◌, ◌+◌, ◌*◌, ◌^◌, ◌<◌, ◌&&◌, Bool, true, false, Some, None, List}
-use Rattle.model.specs.Bytes.{word_at}
-use Rattle.model.specs.Slots.{Slots, capability_at}
+use Rattle.model.specs.Shared.Bytes.{word_at}
+use Rattle.model.specs.Capabilities.Slots.{Slots, capability_at}
 use Rattle.model.specs.declared.capabilities.Cap.{Cap}
 use Rattle.model.specs.declared.capabilities.Cap.TheVariants.{Empty, Untyped, Endpoint, Notification, CNode, Frame, PageTable, Tcb, RootTable, InterruptControl, InterruptHandler}
 use Rattle.vspace.specs.Tables.{IsTable}

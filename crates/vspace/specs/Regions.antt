@@ -1,12 +1,12 @@
 -- What unmapping the frames of a region leaves in the slots.
 use Rattle.std.specs.Prelude.{ℕ, ◌==◌, if◌then◌else◌, Option, None}
-use Rattle.model.specs.Invocations.{Call, unmap_frame, unmap_table, without_region}
-use Rattle.model.specs.State.{State}
+use Rattle.model.specs.Kernel.Invocations.{Call, unmap_frame, unmap_table, without_region}
+use Rattle.model.specs.Kernel.State.{State}
 use Rattle.std.specs.Option.{option_map_or}
 use Rattle.model.specs.declared.capabilities.Cap.{Cap}
 use Rattle.model.specs.declared.capabilities.Cap.TheVariants.{Frame, PageTable}
-use Rattle.model.specs.Capabilities.{table_mapping, unmapped}
-use Rattle.model.specs.Slots.{Slots, recapped}
+use Rattle.model.specs.Capabilities.CapabilityKinds.{table_mapping, unmapped}
+use Rattle.model.specs.Capabilities.Slots.{Slots, recapped}
 use Rattle.model.specs.declared.capabilities.TableMapping.{TableMapping}
 use Rattle.model.specs.declared.slot_entries.Entry.{Entry}
 

@@ -1,11 +1,11 @@
 -- What the call that maps a page table answers: as the definition of the invocation says of every state with these slots.
 use Rattle.std.specs.Prelude.{ℕ, ◌≡◌, ◌==◌, ◌+◌, ◌*◌, ◌/◌, ◌%◌, ◌<◌, ◌≤◌, ◌⊎◌, nat_lt, slice_index, List, Option, Some, None, Result, Ok, Err}
-use Rattle.model.specs.AddressSpaces.{address_limit, page_size, region_pages}
-use Rattle.model.specs.Arguments.{◌>>=◌, check}
-use Rattle.model.specs.CapabilityWords.{IsTableMapping}
-use Rattle.model.specs.Invocations.{Call, map_table, with_slots}
-use Rattle.model.specs.Slots.{Slots, recapped}
-use Rattle.model.specs.State.{State}
+use Rattle.model.specs.Kernel.AddressSpaces.{address_limit, page_size, region_pages}
+use Rattle.model.specs.Kernel.Arguments.{◌>>=◌, check}
+use Rattle.model.specs.Capabilities.CapabilityWords.{IsTableMapping}
+use Rattle.model.specs.Kernel.Invocations.{Call, map_table, with_slots}
+use Rattle.model.specs.Capabilities.Slots.{Slots, recapped}
+use Rattle.model.specs.Kernel.State.{State}
 use Rattle.model.specs.declared.capabilities.Cap.{Cap}
 use Rattle.model.specs.declared.capabilities.Cap.TheVariants.{PageTable, RootTable}
 use Rattle.model.specs.declared.capabilities.TableMapping.{TableMapping}

@@ -1,11 +1,11 @@
 -- How the page tables in machine memory stand for the mappings that capabilities hold.
 -- RISC-V Privileged Architecture, "Sv32: Page-Based 32-bit Virtual-Memory Systems".
 use Rattle.std.specs.Prelude.{ℕ, ◌≡◌, ◌≢◌, ◌+◌, ◌*◌, ◌/◌, ◌%◌, ◌^◌, ◌<◌, ◌≤◌, ◌⊎◌, Option, Some, None, option_and_then, List, length}
-use Rattle.model.specs.Bytes.{word_at}
-use Rattle.model.specs.CapabilityWords.{IsCapability}
-use Rattle.model.specs.Slots.{OutsideSlots, Slots, capability_at, IsFull}
-use Rattle.model.specs.State.{State}
-use Rattle.model.specs.Sv32.{entry_at, leaf_word, page_address, place_of, table_word}
+use Rattle.model.specs.Shared.Bytes.{word_at}
+use Rattle.model.specs.Capabilities.CapabilityWords.{IsCapability}
+use Rattle.model.specs.Capabilities.Slots.{OutsideSlots, Slots, capability_at, IsFull}
+use Rattle.model.specs.Kernel.State.{State}
+use Rattle.model.specs.Machine.Sv32.{entry_at, leaf_word, page_address, place_of, table_word}
 use Rattle.model.specs.declared.capabilities.Cap.{Cap}
 use Rattle.model.specs.declared.capabilities.Cap.TheVariants.{Frame, PageTable, RootTable}
 use Rattle.model.specs.declared.capabilities.FrameMapping.{FrameMapping}

@@ -2,9 +2,9 @@
 //! and of memory. Each law is the contract of a function that does nothing.
 
 ghost use Rattle.std.specs.Prelude.{◌≡◌, ◌≢◌, ◌+◌, ◌<◌, ◌≤◌, ℕ, List, None, Option};
-ghost use Rattle.model.specs.Capabilities.{unmapped};
-ghost use Rattle.model.specs.CapabilityWords.{IsCapability};
-ghost use Rattle.model.specs.Slots.{IsOpen, SameOutside, Slots, capability_at, closed, inserted, opened, recapped, relocated, spliced};
+ghost use Rattle.model.specs.Capabilities.CapabilityKinds.{unmapped};
+ghost use Rattle.model.specs.Capabilities.CapabilityWords.{IsCapability};
+ghost use Rattle.model.specs.Capabilities.Slots.{IsOpen, SameOutside, Slots, capability_at, closed, inserted, opened, recapped, relocated, spliced};
 ghost use Rattle.model.specs.declared.capabilities.Cap.{Cap};
 ghost use Rattle.model.specs.declared.capabilities.Cap.TheVariants.{Empty};
 ghost use Rattle.vspace.specs.Agreement.{IsOutsideTables, IsWithoutTables, MayBePut, SameInTables};

@@ -1,11 +1,11 @@
 //! The slots that the words of a call name.
 
 ghost use Rattle.std.specs.Prelude.{◌≡◌, ◌≤◌, [], ◌∷◌, IfOk};
-ghost use Rattle.model.specs.Arguments.{argument_slot};
-ghost use Rattle.model.specs.CapabilityWords.{IsCapability};
-ghost use Rattle.model.specs.Invocations.{root_named};
-ghost use Rattle.model.specs.Lookup.{CNodeIsOpen, CNodesAreOpen};
-ghost use Rattle.model.specs.Slots.{IsOpen};
+ghost use Rattle.model.specs.Kernel.Arguments.{argument_slot};
+ghost use Rattle.model.specs.Capabilities.CapabilityWords.{IsCapability};
+ghost use Rattle.model.specs.Kernel.Invocations.{root_named};
+ghost use Rattle.model.specs.Capabilities.Lookup.{CNodeIsOpen, CNodesAreOpen};
+ghost use Rattle.model.specs.Capabilities.Slots.{IsOpen};
 ghost use Rattle.vspace.specs.Tables.{Holds};
 
 use cspace::lookup;

@@ -1,7 +1,7 @@
 //! Ending a table: what is mapped in it goes with it.
 
 ghost use Rattle.std.specs.Prelude.{ℕ, ◌≡◌, ◌+◌, ◌*◌, ◌≤◌, length};
-ghost use Rattle.model.specs.Slots.{IsFull};
+ghost use Rattle.model.specs.Capabilities.Slots.{IsFull};
 ghost use Rattle.vspace.specs.Endings.{Ended, NoneUnder, ended_at, is_ending};
 ghost use Rattle.vspace.specs.TableAnswers.{KeptBesideTables};
 ghost use Rattle.vspace.specs.Tables.{TablesAgree};

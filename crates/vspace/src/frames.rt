@@ -1,13 +1,13 @@
 //! Mapping frames.
 
 ghost use Rattle.std.specs.Prelude.{◌≡◌, ◌<◌, ◌≤◌, ◌/◌, ◌*◌, ◌^◌, ◌||◌, ◌⊎◌, [], ◌∷◌, ◌+◌, None, IfErr, IfOk, length};
-ghost use Rattle.model.specs.CapabilityWords.{AreMappingRights, IsCapability, IsPlace};
-ghost use Rattle.model.specs.Invocations.{Call, unmap_frame, with_slots};
-ghost use Rattle.model.specs.Lookup.{CNodeIsOpen, CNodesAreOpen};
-ghost use Rattle.model.specs.Rights.{may_execute, may_read, mapping_rights};
-ghost use Rattle.model.specs.Slots.{capability_at, recapped};
-ghost use Rattle.model.specs.State.{State};
-ghost use Rattle.model.specs.Sv32.{leaf_word};
+ghost use Rattle.model.specs.Capabilities.CapabilityWords.{AreMappingRights, IsCapability, IsPlace};
+ghost use Rattle.model.specs.Kernel.Invocations.{Call, unmap_frame, with_slots};
+ghost use Rattle.model.specs.Capabilities.Lookup.{CNodeIsOpen, CNodesAreOpen};
+ghost use Rattle.model.specs.Capabilities.Rights.{may_execute, may_read, mapping_rights};
+ghost use Rattle.model.specs.Capabilities.Slots.{capability_at, recapped};
+ghost use Rattle.model.specs.Kernel.State.{State};
+ghost use Rattle.model.specs.Machine.Sv32.{leaf_word};
 ghost use Rattle.vspace.specs.Answers.{GivesMapped, KeptBytes, LeafAnswer, MappingAnswer, PageAnswer, page_named};
 ghost use Rattle.vspace.specs.Tables.{Holds, TablesAgree};
 

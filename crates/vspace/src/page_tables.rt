@@ -1,12 +1,12 @@
 //! Mapping page tables.
 
 ghost use Rattle.std.specs.Prelude.{ℕ, ◌≡◌, ◌<◌, ◌≤◌, ◌/◌, ◌*◌, ◌^◌, [], ◌∷◌, ◌+◌, IfErr, IfOk, length};
-ghost use Rattle.model.specs.CapabilityWords.{IsCapability, IsPlace};
-ghost use Rattle.model.specs.Invocations.{Call, unmap_table, with_slots};
-ghost use Rattle.model.specs.Lookup.{CNodeIsOpen, CNodesAreOpen};
-ghost use Rattle.model.specs.Slots.{IsFull, capability_at};
-ghost use Rattle.model.specs.State.{State};
-ghost use Rattle.model.specs.Sv32.{table_word};
+ghost use Rattle.model.specs.Capabilities.CapabilityWords.{IsCapability, IsPlace};
+ghost use Rattle.model.specs.Kernel.Invocations.{Call, unmap_table, with_slots};
+ghost use Rattle.model.specs.Capabilities.Lookup.{CNodeIsOpen, CNodesAreOpen};
+ghost use Rattle.model.specs.Capabilities.Slots.{IsFull, capability_at};
+ghost use Rattle.model.specs.Kernel.State.{State};
+ghost use Rattle.model.specs.Machine.Sv32.{table_word};
 ghost use Rattle.vspace.specs.Regions.{unmapped_at};
 ghost use Rattle.vspace.specs.TableAnswers.{GivesTableMapped, KeptBesideRoots, KeptBesideTables, RegionAnswer, TableMappingAnswer, region_named};
 ghost use Rattle.vspace.specs.Tables.{Holds, TablesAgree};

@@ -1,10 +1,10 @@
 //! Tests of what the calls on mappings ask for.
 
 ghost use Rattle.std.specs.Prelude.{ℕ, ◌≡◌, ◌==◌, ◌+◌, ◌*◌, ◌%◌, ◌^◌, ◌<◌, ◌≤◌, IsTrue, length};
-ghost use Rattle.model.specs.Bytes.{word_at};
-ghost use Rattle.model.specs.CapabilityWords.{IsCapability};
-ghost use Rattle.model.specs.Lookup.{CNodeIsOpen, CNodesAreOpen};
-ghost use Rattle.model.specs.Slots.{IsFull, IsOpen, OutsideSlots, capability_at};
+ghost use Rattle.model.specs.Shared.Bytes.{word_at};
+ghost use Rattle.model.specs.Capabilities.CapabilityWords.{IsCapability};
+ghost use Rattle.model.specs.Capabilities.Lookup.{CNodeIsOpen, CNodesAreOpen};
+ghost use Rattle.model.specs.Capabilities.Slots.{IsFull, IsOpen, OutsideSlots, capability_at};
 ghost use Rattle.vspace.specs.Fresh.{IsBlank, MapNothing, maps_nothing};
 ghost use Rattle.vspace.specs.Tables.{TablesAgree};
 

@@ -1,8 +1,8 @@
 //! Unmapping the frames of a region.
 
 ghost use Rattle.std.specs.Prelude.{ℕ, ◌≡◌, ◌≢◌, ◌+◌, ◌*◌, ◌≤◌, length};
-ghost use Rattle.model.specs.Invocations.{stands_in, without_region};
-ghost use Rattle.model.specs.Slots.{IsFull};
+ghost use Rattle.model.specs.Kernel.Invocations.{stands_in, without_region};
+ghost use Rattle.model.specs.Capabilities.Slots.{IsFull};
 ghost use Rattle.vspace.specs.Answers.{KeptBytes};
 ghost use Rattle.vspace.specs.Regions.{cleared_at};
 ghost use Rattle.vspace.specs.Tables.{TablesAgree};

@@ -1,9 +1,9 @@
 //! What a removal asks for.
 
 ghost use Rattle.std.specs.Prelude.{ℕ, ◌≡◌, ◌+◌, ◌*◌, ◌≤◌, length};
-ghost use Rattle.model.specs.Invocations.{Call, with_slots};
-ghost use Rattle.model.specs.Slots.{IsFull, IsOpen, capability_at};
-ghost use Rattle.model.specs.State.{State};
+ghost use Rattle.model.specs.Kernel.Invocations.{Call, with_slots};
+ghost use Rattle.model.specs.Capabilities.Slots.{IsFull, IsOpen, capability_at};
+ghost use Rattle.model.specs.Kernel.State.{State};
 ghost use Rattle.vspace.specs.Regions.{without_mapping, without_mapping_at};
 ghost use Rattle.vspace.specs.TableAnswers.{KeptBesideTables};
 ghost use Rattle.vspace.specs.Tables.{TablesAgree};

@@ -2,7 +2,7 @@
 
 ghost use Rattle.std.specs.Prelude.{◌≡◌, ◌<◌, ◌≤◌, ◌^◌, ◌*◌, ◌+◌, ◌-◌, IfSome, length};
 ghost use Rattle.std.specs.Option.{is_some};
-ghost use Rattle.model.specs.Sv32.{entry_at};
+ghost use Rattle.model.specs.Machine.Sv32.{entry_at};
 ghost use Rattle.vspace.specs.Tables.{table_in};
 
 use pmem::Mem;

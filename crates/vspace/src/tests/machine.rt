@@ -2,9 +2,9 @@
 //! 0x9000 in slot 1, a page table at 0xA000 in slot 2, and frames at 0x11000 and 0x12000 in slots 3 and 4.
 
 ghost use Rattle.std.specs.Prelude.{◌≡◌, ◌≢◌, IfOk, IsTrue};
-ghost use Rattle.model.specs.CapabilityWords.{IsCapability};
-ghost use Rattle.model.specs.Lookup.{CNodeIsOpen, CNodesAreOpen};
-ghost use Rattle.model.specs.Slots.{capability_at};
+ghost use Rattle.model.specs.Capabilities.CapabilityWords.{IsCapability};
+ghost use Rattle.model.specs.Capabilities.Lookup.{CNodeIsOpen, CNodesAreOpen};
+ghost use Rattle.model.specs.Capabilities.Slots.{capability_at};
 ghost use Rattle.slots.specs.Table.{table_slots};
 ghost use Rattle.vspace.specs.Tables.{TablesAgree};
 

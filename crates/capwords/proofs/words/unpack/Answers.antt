@@ -1,6 +1,6 @@
 -- If the words are a capability's, then the fields that were read are that capability's.
 use Rattle.std.proofs.Common.{◌≡◌, ◌∙◌, Some, get_or, ap, inl, inr, true}
-use Rattle.model.specs.CapabilityWords.{words_of}
+use Rattle.model.specs.Capabilities.CapabilityWords.{words_of}
 use Rattle.capwords.proofs.FieldsLemmas.{fields_of_words}
 use Rattle.capwords.proofs.words.unpack.Goals as goal
 

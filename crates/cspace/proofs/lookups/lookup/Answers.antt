@@ -1,7 +1,7 @@
 -- Each CNode takes one step of the definition.
 use Rattle.std.proofs.Common.{◌≡◌, ◌∙◌, ◌+◌, ◌/◌, ◌==◌, ◌||◌, true, false, not, Ok, sym, ap, subst, arith}
-use Rattle.model.specs.Lookup.{CNodeIsOpen, is_cnode, lookup, lookup_within}
-use Rattle.model.specs.Slots.{capability_at}
+use Rattle.model.specs.Capabilities.Lookup.{CNodeIsOpen, is_cnode, lookup, lookup_within}
+use Rattle.model.specs.Capabilities.Slots.{capability_at}
 use Rattle.model.specs.declared.capabilities.Cap.{Cap}
 use Rattle.model.specs.declared.capabilities.Cap.TheVariants.{CNode}
 use Rattle.cspace.proofs.Places.{slot_below}

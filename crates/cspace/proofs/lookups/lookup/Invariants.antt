@@ -1,7 +1,7 @@
 -- The rest of the lookup, through enough CNodes, is the whole lookup.
 use Rattle.std.proofs.Common.{ℕ, ◌≡◌, ◌<◌, ◌≤◌}
-use Rattle.model.specs.CapabilityWords.{IsCapability}
-use Rattle.model.specs.Lookup.{CNodeIsOpen, lookup, lookup_within}
+use Rattle.model.specs.Capabilities.CapabilityWords.{IsCapability}
+use Rattle.model.specs.Capabilities.Lookup.{CNodeIsOpen, lookup, lookup_within}
 use Rattle.cspace.proofs.lookups.lookup.Given as goal
 
 abbrev pub invariant-nodes : goal.invariant-nodes

@@ -1,7 +1,7 @@
 -- Each slot of the map is open.
 use Rattle.std.proofs.Common.{ℕ, refl}
-use Rattle.model.specs.Slots.{Slots, IsOpen, capability_at}
-use Rattle.model.specs.Lookup.{CNodeIsOpen}
+use Rattle.model.specs.Capabilities.Slots.{Slots, IsOpen, capability_at}
+use Rattle.model.specs.Capabilities.Lookup.{CNodeIsOpen}
 use Rattle.model.specs.declared.capabilities.Cap.{Cap}
 use Rattle.model.specs.declared.capabilities.Cap.TheVariants.{Empty, Untyped, Endpoint, Notification, CNode, Frame, PageTable, Tcb, RootTable, InterruptControl, InterruptHandler}
 use Rattle.cspace.specs.Sample.{sample}

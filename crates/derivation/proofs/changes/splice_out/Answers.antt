@@ -1,6 +1,6 @@
 -- Descent of the others is as it was.
 use Rattle.std.proofs.Common.{sym, subst}
-use Rattle.model.specs.Slots.{Slots, Descendant}
+use Rattle.model.specs.Capabilities.Slots.{Slots, Descendant}
 use Rattle.derivation.proofs.Splices.{descendant-after, descendant-before}
 use Rattle.derivation.proofs.changes.splice_out.Goals as goal
 

@@ -1,8 +1,8 @@
 -- One step up the parents is one step of the test.
 use Rattle.std.proofs.Common.{◌≡◌, ◌≢◌, ◌∙◌, ◌+◌, ◌-◌, Some, None, suc, sym, ap, arith}
 use Rattle.std.proofs.lemmas.Bool.{ne_eqb}
-use Rattle.model.specs.Slots.{Slots, parent_at}
-use Rattle.model.specs.Slots.{descends_within}
+use Rattle.model.specs.Capabilities.Slots.{Slots, parent_at}
+use Rattle.model.specs.Capabilities.Slots.{descends_within}
 use Rattle.derivation.proofs.Ancestors.{descends-none, descends-on, descends-root, descends-zero, full-open, parent-held}
 use Rattle.derivation.proofs.descent.is_below.Goals as goal
 

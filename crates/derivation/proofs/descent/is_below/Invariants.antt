@@ -1,7 +1,7 @@
 -- What is left of the test from here is the whole test.
 use Rattle.std.proofs.Common.{◌≡◌, ◌-◌}
-use Rattle.model.specs.Slots.{IsOpen, parent_at}
-use Rattle.model.specs.Slots.{descends_within, is_descendant}
+use Rattle.model.specs.Capabilities.Slots.{IsOpen, parent_at}
+use Rattle.model.specs.Capabilities.Slots.{descends_within, is_descendant}
 use Rattle.derivation.proofs.descent.is_below.Given as goal
 
 abbrev pub invariant-up : goal.invariant-up

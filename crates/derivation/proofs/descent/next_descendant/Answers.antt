@@ -1,8 +1,8 @@
 -- What stands first behind a slot is the next full one; the descendants among them are those of the part.
 use Rattle.std.proofs.Common.{◌≡◌, ◌∙◌, ◌<◌, true, false, Some, [], ◌∷◌, filter, cond, length, sym, ap, subst, arith}
-use Rattle.model.specs.Slots.{Slots, IsFull}
+use Rattle.model.specs.Capabilities.Slots.{Slots, IsFull}
 use Rattle.slots.specs.Order.{first_of}
-use Rattle.model.specs.Slots.{is_descendant}
+use Rattle.model.specs.Capabilities.Slots.{is_descendant}
 use Rattle.derivation.proofs.Ancestors.{descendants-once, full-open, listed-full, order-once}
 use Rattle.derivation.proofs.Behind.{after-behind, after-filter, behind, behind-step, first-none, first-some, times-behind}
 use Rattle.derivation.proofs.descent.next_descendant.Goals as goal

@@ -1,8 +1,8 @@
 -- The first descendant behind here is the one that is looked for.
 use Rattle.std.proofs.Common.{ℕ, ◌≡◌, Some, filter, length}
-use Rattle.model.specs.Slots.{IsFull}
+use Rattle.model.specs.Capabilities.Slots.{IsFull}
 use Rattle.slots.specs.Order.{after, first_of}
-use Rattle.model.specs.Slots.{is_descendant}
+use Rattle.model.specs.Capabilities.Slots.{is_descendant}
 use Rattle.derivation.specs.Descendants.{descendants}
 use Rattle.derivation.proofs.Behind.{behind}
 use Rattle.derivation.proofs.descent.next_descendant.Given as goal

@@ -1,5 +1,5 @@
 use Rattle.std.proofs.Common.{◌≡◌, ◌-◌, ◌+◌}
-use Rattle.model.specs.Format.{end_of, many_read}
+use Rattle.model.specs.Images.Format.{end_of, many_read}
 use Rattle.image.proofs.entries.entries_end.Given as goal
 
 abbrev pub invariant-loop : goal.invariant-loop

@@ -1,5 +1,5 @@
-use Rattle.model.specs.Format.{many_spelling}
-use Rattle.model.specs.Image.{header_format, untyped_format, object_format, capability_format, interrupt_format, table_format, frame_format, content_format, sections_format}
+use Rattle.model.specs.Images.Format.{many_spelling}
+use Rattle.model.specs.Images.Image.{header_format, untyped_format, object_format, capability_format, interrupt_format, table_format, frame_format, content_format, sections_format}
 use Rattle.image.specs.Stage.{staged_front}
 use Rattle.image.proofs.reading.has_front.Goals as goal
 

@@ -1,6 +1,6 @@
 use Rattle.std.proofs.Common.{refl}
 use Rattle.std.proofs.lemmas.Result.{err_from_is_err_and}
-use Rattle.model.specs.Image.{ranges_format, terms_format, record_format}
+use Rattle.model.specs.Images.Image.{ranges_format, terms_format, record_format}
 use Rattle.image.proofs.Sections.{read_from_end, refused_from_end}
 use Rattle.image.proofs.records.record_at.Goals as goal
 

@@ -1,6 +1,6 @@
 use Rattle.std.proofs.Common.{◌+◌}
 use Rattle.std.proofs.lemmas.Result.{err_from_is_err_and}
-use Rattle.model.specs.Image.{record_format, records_format}
+use Rattle.model.specs.Images.Image.{record_format, records_format}
 use Rattle.image.specs.Stage.{no_slots}
 use Rattle.image.proofs.Sections.{end_of-more, end_of-refused, end_of-none}
 use Rattle.image.proofs.records.records_end.Goals as goal

@@ -1,6 +1,6 @@
 use Rattle.std.proofs.Common.{◌≡◌, ◌-◌, ◌+◌}
-use Rattle.model.specs.Format.{end_of, many_read}
-use Rattle.model.specs.Image.{record_format}
+use Rattle.model.specs.Images.Format.{end_of, many_read}
+use Rattle.model.specs.Images.Image.{record_format}
 use Rattle.image.specs.Stage.{no_slots}
 use Rattle.image.proofs.records.records_end.Given as goal
 

@@ -1,6 +1,6 @@
 use Rattle.std.proofs.lemmas.Result.{err_from_is_err_and}
-use Rattle.model.specs.Format.{field}
-use Rattle.model.specs.Image.{anything, words_format}
+use Rattle.model.specs.Images.Format.{field}
+use Rattle.model.specs.Images.Image.{anything, words_format}
 use Rattle.image.proofs.Sections.{end_of-more, end_of-refused, end_of-none}
 use Rattle.image.proofs.threads.words_end.Goals as goal
 

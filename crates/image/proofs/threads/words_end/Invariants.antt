@@ -1,6 +1,6 @@
 use Rattle.std.proofs.Common.{◌≡◌, ◌-◌}
-use Rattle.model.specs.Format.{end_of, many_read, field}
-use Rattle.model.specs.Image.{anything}
+use Rattle.model.specs.Images.Format.{end_of, many_read, field}
+use Rattle.model.specs.Images.Image.{anything}
 use Rattle.image.proofs.threads.words_end.Given as goal
 
 abbrev pub invariant-loop : goal.invariant-loop

@@ -1,7 +1,7 @@
 use Rattle.std.proofs.Common.{◌≡◌, ◌≢◌, ℕ, List, refl, ap, subst, slice_index, sym, ◌∙◌, min}
 use Rattle.std.specs.Prelude.{All}
-use Rattle.model.specs.Described.{listed_thread}
-use Rattle.model.specs.Image.{Thread}
+use Rattle.model.specs.Images.Described.{listed_thread}
+use Rattle.model.specs.Images.Image.{Thread}
 use Rattle.microsys.specs.Loaded.{HoldsWords}
 use Rattle.microsys.proofs.FormBytes.{loaded_bytes}
 use Rattle.microsys.proofs.LoadLemmas.{all_false, booted_is}

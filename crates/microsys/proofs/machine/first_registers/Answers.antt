@@ -1,5 +1,5 @@
 use Rattle.std.proofs.Common.{◌∙◌, ap, length}
-use Rattle.model.specs.ProgramMemory.{RegisterFile}
+use Rattle.model.specs.Machine.ProgramMemory.{RegisterFile}
 use Rattle.microsys.proofs.LoadLemmas.{listed_more, listed_past, written_pc, written_size}
 use Rattle.microsys.proofs.machine.first_registers.Goals as goal
 

@@ -1,5 +1,5 @@
 -- Case by case.
-use Rattle.model.specs.Slots.{capability_at}
+use Rattle.model.specs.Capabilities.Slots.{capability_at}
 use Rattle.model_laws.proofs.Removals.{kept-apart}
 use Rattle.model_laws.proofs.descent_laws.a_removal_changes_mappings_alone.Goals as goal
 

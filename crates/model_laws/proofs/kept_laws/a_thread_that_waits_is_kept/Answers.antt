@@ -5,9 +5,9 @@ use Rattle.model.specs.declared.entries.RegisterEntry.{RegisterEntry}
 use Rattle.model.specs.declared.instructions.Instr.{Instr}
 use Rattle.model.specs.declared.instructions.Instr.TheVariants.{Ecall}
 use Rattle.model.specs.declared.ranges.Range.{Range}
-use Rattle.model.specs.PointRules.{program_rules}
-use Rattle.model.specs.PointStates.{Noted, Known, Missing, Unmeasured, instruction_at, noted}
-use Rattle.model.specs.Rules.{first_broken}
+use Rattle.model.specs.Acceptance.PointRules.{program_rules}
+use Rattle.model.specs.Acceptance.PointStates.{Noted, Known, Missing, Unmeasured, instruction_at, noted}
+use Rattle.model.specs.Acceptance.Rules.{first_broken}
 use Rattle.image.specs.Certificates.{IsBare, IsWait, OnlyWaits, Rise, known_of}
 use Rattle.image.specs.Stage.{staged_image}
 use Rattle.image.proofs.Acceptance.{none-broken}

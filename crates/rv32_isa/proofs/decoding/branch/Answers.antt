@@ -6,7 +6,7 @@ use Rattle.model.specs.declared.instructions.BranchOp.{BranchOp}
 use Rattle.model.specs.declared.instructions.Instr.{Instr}
 use Rattle.model.specs.declared.instructions.Instr.TheVariants.{Upper, Jal, Jalr, Branch, Load, Store, Immediate, Shift, Registers, Fence, Ecall, Ebreak}
 use Rattle.model.specs.declared.instructions.Register.{Register}
-use Rattle.model.specs.Instructions.{Spells, bits, branch_funct3}
+use Rattle.model.specs.Machine.Instructions.{Spells, bits, branch_funct3}
 use Rattle.rv32_isa.proofs.decoding.branch.Goals as goal
 
 small_funct3 : (op : BranchOp) → branch_funct3 op < 8

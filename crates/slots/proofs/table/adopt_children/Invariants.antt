@@ -1,7 +1,7 @@
 -- The entries that were passed are adopted.
 use Rattle.std.proofs.Common.{ℕ, ◌≡◌, nat_lt, if◌then◌else◌}
 use Rattle.std.specs.Option.{option_map}
-use Rattle.model.specs.Slots.{adopted}
+use Rattle.model.specs.Capabilities.Slots.{adopted}
 use Rattle.slots.specs.Table.{table_slots}
 use Rattle.slots.proofs.table.adopt_children.Given as goal
 

@@ -1,6 +1,6 @@
 -- Each parent takes one from the bound and adds one to the count.
 use Rattle.std.proofs.Common.{◌≡◌, ◌∙◌, ◌+◌, ◌-◌, Some, suc, sym, ap, arith}
-use Rattle.model.specs.Slots.{depth_of, depth_within, parent_at}
+use Rattle.model.specs.Capabilities.Slots.{depth_of, depth_within, parent_at}
 use Rattle.slots.specs.Table.{table_slots}
 use Rattle.slots.proofs.Depths.{Parents, depth-le, depth-none, depth-some}
 use Rattle.slots.proofs.table.depth_at.Goals as goal

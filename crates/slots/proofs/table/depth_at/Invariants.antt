@@ -1,6 +1,6 @@
 -- What was counted, and the depth that is left, is the whole depth.
 use Rattle.std.proofs.Common.{◌≡◌, ◌+◌, ◌-◌}
-use Rattle.model.specs.Slots.{depth_of, depth_within, parent_at}
+use Rattle.model.specs.Capabilities.Slots.{depth_of, depth_within, parent_at}
 use Rattle.slots.specs.Table.{table_slots}
 use Rattle.slots.proofs.table.depth_at.Given as goal
 

@@ -1,6 +1,6 @@
 -- The slots that were passed hold the record, and the others what they held.
 use Rattle.std.proofs.Common.{ℕ, ◌≡◌, ◌-◌, if◌then◌else◌}
-use Rattle.model.specs.Slots.{is_within}
+use Rattle.model.specs.Capabilities.Slots.{is_within}
 use Rattle.slots.specs.Table.{table_slots}
 use Rattle.slots.proofs.table.put_range.Given as goal
 

@@ -1,6 +1,6 @@
 -- Nothing is open at first, and then the range is, empty.
 use Rattle.std.proofs.Common.{◌∙◌, Some, ap, if◌then◌else◌}
-use Rattle.model.specs.Slots.{empty_entry}
+use Rattle.model.specs.Capabilities.Slots.{empty_entry}
 use Rattle.slots.specs.Table.{table_slots}
 use Rattle.slots.proofs.Tables.{bounds-within}
 use Rattle.slots.proofs.tests.a_range_opens_and_closes.Goals as goal

@@ -1,6 +1,6 @@
 -- The first place is a multiple of the size, and multiples lie a size apart.
 use Rattle.std.proofs.Common.{◌≡◌, ◌^◌, ◌<◌, arith}
-use Rattle.model.specs.Placement.{align}
+use Rattle.model.specs.Capabilities.Placement.{align}
 use Rattle.untyped.proofs.Multiples.{sum_is_multiple, ends_before}
 use Rattle.untyped.proofs.placing.place.Goals as goal
 

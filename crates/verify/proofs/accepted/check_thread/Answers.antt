@@ -2,8 +2,8 @@
 use Rattle.std.proofs.Common.{◌≡◌, ◌∙◌, ◌++◌, inr, List, Result, Err, sym, ap, subst}
 use Rattle.std.proofs.lemmas.Result.{err_from_is_err_and}
 use Rattle.model.specs.declared.refusals.Refusal.{Refusal}
-use Rattle.model.specs.PointRules.{entry_rules, rules_of_program}
-use Rattle.model.specs.Rules.{Rule, first_broken}
+use Rattle.model.specs.Acceptance.PointRules.{entry_rules, rules_of_program}
+use Rattle.model.specs.Acceptance.Rules.{Rule, first_broken}
 use Rattle.image.specs.Stage.{staged_image}
 use Rattle.verify.specs.Checking.{Checks}
 use Rattle.verify.specs.Matching.{noted_at}

@@ -1,7 +1,7 @@
 -- By the laws of the form, and the checks of its program.
 use Rattle.std.proofs.Common.{◌≡◌, ◌≤◌, ◌∙◌, Err, Ok, Result, sym, ap, subst, refl, arith}
 use Rattle.std.proofs.lemmas.Result.{err_from_is_err_and}
-use Rattle.model.specs.Image.{Thread}
+use Rattle.model.specs.Images.Image.{Thread}
 use Rattle.model.specs.declared.refusals.Refusal.{Refusal}
 use Rattle.model.specs.declared.refusals.Refusal.TheVariants.{BadThread}
 use Rattle.image.specs.Stage.{staged_reading}

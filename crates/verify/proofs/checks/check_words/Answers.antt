@@ -1,8 +1,8 @@
 -- A word that is not known makes the program one for a later stage.
 use Rattle.std.proofs.Common.{◌≡◌, ◌∙◌, ℕ, ◌<◌, None, sym, ap, subst}
 use Rattle.model.specs.declared.entries.ThreadHeader.{ThreadHeader}
-use Rattle.model.specs.Decoding.{decoded}
-use Rattle.model.specs.PointStates.{instruction_at}
+use Rattle.model.specs.Machine.Decoding.{decoded}
+use Rattle.model.specs.Acceptance.PointStates.{instruction_at}
 use Rattle.image.specs.Certificates.{known_of}
 use Rattle.verify.specs.Checking.{IsLater}
 use Rattle.verify.proofs.Behind.{none_of}

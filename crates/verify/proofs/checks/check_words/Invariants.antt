@@ -1,6 +1,6 @@
 -- The words so far are known.
 use Rattle.std.proofs.Common.{◌≢◌, ◌<◌, ℕ, None}
-use Rattle.model.specs.PointStates.{instruction_at}
+use Rattle.model.specs.Acceptance.PointStates.{instruction_at}
 use Rattle.image.specs.Certificates.{known_of}
 use Rattle.verify.proofs.checks.check_words.Given as goal
 

@@ -2,7 +2,7 @@
 use Rattle.std.proofs.Common.{◌≡◌, ◌∙◌, Some, ap}
 use Rattle.model.specs.declared.instructions.Instr.{Instr}
 use Rattle.model.specs.declared.instructions.Instr.TheVariants.{Jal}
-use Rattle.model.specs.PointStates.{instruction_at}
+use Rattle.model.specs.Acceptance.PointStates.{instruction_at}
 use Rattle.verify.proofs.Behind.{behind_a_jump, instruction_is}
 use Rattle.verify.proofs.states.behind.Goals as goal
 

@@ -1,6 +1,6 @@
 -- By the laws on records that are left.
 use Rattle.std.proofs.Common.{◌≡◌, ◌∙◌, ℕ, ◌+◌, List, [], ◌∷◌, ◌++◌, length, refl, sym, ap, subst, arith}
-use Rattle.model.specs.Image.{StateRecord}
+use Rattle.model.specs.Images.Image.{StateRecord}
 use Rattle.verify.specs.Matching.{Meets, noted_at}
 use Rattle.verify.specs.declared.states.Noted.{Noted}
 use Rattle.verify.proofs.Records.{AreLeft, MeetEach, all_left, all_met, ended, left_after, left_of, length_pushed, next_before, none_yet, one_more, same_left, skipped, taken}

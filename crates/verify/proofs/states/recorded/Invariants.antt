@@ -1,7 +1,7 @@
 -- What is set so far, and then the rest, is all of the record's ranges.
 use Rattle.std.proofs.Common.{◌≡◌, length}
 use Rattle.std.specs.Prelude.{fold}
-use Rattle.model.specs.NotedStates.{record_ranges}
+use Rattle.model.specs.Acceptance.NotedStates.{record_ranges}
 use Rattle.verify.proofs.Recorded.{with_entry}
 use Rattle.verify.proofs.states.recorded.Given as goal
 

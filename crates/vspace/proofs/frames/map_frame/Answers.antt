@@ -1,7 +1,7 @@
 -- The leaf is written, and the capability says so.
 use Rattle.std.proofs.Common.{◌∙◌, ◌%◌, ◌^◌, Ok, Some, sym, ap}
-use Rattle.model.specs.Invocations.{with_slots}
-use Rattle.model.specs.Slots.{Slots, recapped}
+use Rattle.model.specs.Kernel.Invocations.{with_slots}
+use Rattle.model.specs.Capabilities.Slots.{Slots, recapped}
 use Rattle.model.specs.declared.capabilities.Cap.TheVariants.{Frame}
 use Rattle.vspace.proofs.FrameSteps.{index_small}
 use Rattle.vspace.proofs.Writes.{bytes-kept, entry-outside, map-done, table-of_page}

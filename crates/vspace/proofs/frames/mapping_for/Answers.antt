@@ -1,6 +1,6 @@
 -- What the checks answer is what the definition gives.
 use Rattle.std.proofs.Common.{◌∙◌, ◌||◌, sym, ap}
-use Rattle.model.specs.Rights.{may_execute, may_read}
+use Rattle.model.specs.Capabilities.Rights.{may_execute, may_read}
 use Rattle.model.specs.declared.rights.Rights.{Rights}
 use Rattle.vspace.proofs.Outcomes.{gives-frame, gives-no_place, gives-no_rights}
 use Rattle.vspace.proofs.frames.mapping_for.Goals as goal

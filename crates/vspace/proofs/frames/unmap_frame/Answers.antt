@@ -1,9 +1,9 @@
 -- The leaf is zero, and the capability says that it is not mapped.
 use Rattle.std.proofs.Common.{◌≡◌, ◌∙◌, ℕ, ◌%◌, ◌^◌, List, length, Option, None, sym, ap}
-use Rattle.model.specs.Capabilities.{unmapped}
-use Rattle.model.specs.Invocations.{Call, unmap_frame, with_slots}
-use Rattle.model.specs.Slots.{Slots, recapped}
-use Rattle.model.specs.State.{State}
+use Rattle.model.specs.Capabilities.CapabilityKinds.{unmapped}
+use Rattle.model.specs.Kernel.Invocations.{Call, unmap_frame, with_slots}
+use Rattle.model.specs.Capabilities.Slots.{Slots, recapped}
+use Rattle.model.specs.Kernel.State.{State}
 use Rattle.model.specs.declared.capabilities.Cap.{Cap}
 use Rattle.model.specs.declared.capabilities.Cap.TheVariants.{Frame}
 use Rattle.model.specs.declared.capabilities.FrameMapping.{FrameMapping}
@@ -11,7 +11,7 @@ use Rattle.model.specs.declared.rights.Rights.{Rights}
 use Rattle.vspace.proofs.FrameSteps.{index_small}
 use Rattle.vspace.proofs.Places.{table-stands}
 use Rattle.model.proofs.BytesLemmas.{length-written}
-use Rattle.model.specs.Bytes.{word_bytes}
+use Rattle.model.specs.Shared.Bytes.{word_bytes}
 use Rattle.vspace.proofs.Writes.{bytes-kept, entry-within, leaf-absent, leaf-present, recapped-own, unmap-done}
 use Rattle.vspace.proofs.frames.unmap_frame.Goals as goal
 

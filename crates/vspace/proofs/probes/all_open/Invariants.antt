@@ -1,6 +1,6 @@
 -- The slots so far are open.
 use Rattle.std.proofs.Common.{ℕ, ◌+◌, ◌<◌}
-use Rattle.model.specs.Slots.{IsOpen}
+use Rattle.model.specs.Capabilities.Slots.{IsOpen}
 use Rattle.vspace.proofs.probes.all_open.Given as goal
 
 abbrev pub invariant-slots : goal.invariant-slots

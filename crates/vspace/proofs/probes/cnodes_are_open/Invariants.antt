@@ -1,7 +1,7 @@
 -- The CNodes in the slots so far have open slots.
 use Rattle.std.proofs.Common.{ℕ, ◌<◌}
-use Rattle.model.specs.Lookup.{CNodeIsOpen}
-use Rattle.model.specs.Slots.{capability_at}
+use Rattle.model.specs.Capabilities.Lookup.{CNodeIsOpen}
+use Rattle.model.specs.Capabilities.Slots.{capability_at}
 use Rattle.vspace.proofs.probes.cnodes_are_open.Given as goal
 
 abbrev pub invariant-slots : goal.invariant-slots

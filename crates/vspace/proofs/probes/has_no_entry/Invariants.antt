@@ -1,6 +1,6 @@
 -- The words so far are 0.
 use Rattle.std.proofs.Common.{ℕ, ◌≡◌, ◌+◌, ◌*◌, ◌<◌}
-use Rattle.model.specs.Bytes.{word_at}
+use Rattle.model.specs.Shared.Bytes.{word_at}
 use Rattle.vspace.proofs.probes.has_no_entry.Given as goal
 
 abbrev pub invariant-words : goal.invariant-words

@@ -1,6 +1,6 @@
 -- The slots so far map nothing.
 use Rattle.std.proofs.Common.{ℕ, ◌≡◌, ◌==◌, ◌<◌, true}
-use Rattle.model.specs.Slots.{capability_at}
+use Rattle.model.specs.Capabilities.Slots.{capability_at}
 use Rattle.vspace.specs.Fresh.{maps_nothing}
 use Rattle.vspace.proofs.probes.map_nothing.Given as goal
 

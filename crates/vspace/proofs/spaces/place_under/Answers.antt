@@ -1,7 +1,7 @@
 -- The walk gives what the mappings say.
 use Rattle.std.proofs.Common.{◌∙◌, ℕ, List, ap, arith}
 use Rattle.std.specs.Option.{ok_or}
-use Rattle.model.specs.Sv32.{page_fault, walk}
+use Rattle.model.specs.Machine.Sv32.{page_fault, walk}
 use Rattle.vspace.proofs.Joins.{walk-place}
 use Rattle.vspace.proofs.spaces.place_under.Goals as goal
 

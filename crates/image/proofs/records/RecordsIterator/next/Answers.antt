@@ -1,5 +1,5 @@
 use Rattle.std.proofs.Common.{◌+◌, ◌-◌, List, length, ap, sym, ◌∙◌, arith}
-use Rattle.model.specs.Image.{StateRecord, record_format}
+use Rattle.model.specs.Images.Image.{StateRecord, record_format}
 use Rattle.image.specs.Stage.{no_slots}
 use Rattle.image.proofs.Sections.{values_of-none, first_of, first_not_refused}
 use Rattle.image.proofs.records.RecordsIterator.next.Goals as goal

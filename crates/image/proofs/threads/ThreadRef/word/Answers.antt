@@ -1,5 +1,5 @@
 use Rattle.std.proofs.Common.{◌<◌, ◌+◌, ◌*◌, slice_index, sym, ap, ◌∙◌, arith}
-use Rattle.model.specs.Image.{Thread}
+use Rattle.model.specs.Images.Image.{Thread}
 use Rattle.image.proofs.Words.{word_in, not_refused, read_as}
 use Rattle.image.proofs.threads.ThreadRef.word.Goals as goal
 

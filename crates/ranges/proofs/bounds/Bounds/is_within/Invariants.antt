@@ -1,5 +1,5 @@
 use Rattle.std.proofs.Common.{ℕ, ◌<◌, slice_index_or}
-use Rattle.model.specs.Ranges.{IsWithin, full}
+use Rattle.model.specs.Acceptance.Ranges.{IsWithin, full}
 use Rattle.ranges.proofs.bounds.Bounds.is_within.Given as goal
 
 abbrev pub invariant-loop-i : goal.invariant-loop-i

@@ -1,6 +1,6 @@
 -- insert: the change keeps the table sound.
 use Rattle.std.proofs.Common.{◌≡◌, ◌∙◌, Option, List, length, ap, subst, arith}
-use Rattle.model.specs.Slots.{Slots, inserted}
+use Rattle.model.specs.Capabilities.Slots.{Slots, inserted}
 use Rattle.model.specs.declared.slot_entries.Entry.{Entry}
 use Rattle.slots.specs.Table.{IsTable, table_slots}
 use Rattle.slots.proofs.Derivations.{derivation-inserted}

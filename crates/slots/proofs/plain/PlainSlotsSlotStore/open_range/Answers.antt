@@ -1,6 +1,6 @@
 -- open range: the change keeps the table sound.
 use Rattle.std.proofs.Common.{◌≡◌, ◌∙◌, Option, Some, List, length, if◌then◌else◌, ap, subst, arith}
-use Rattle.model.specs.Slots.{Slots, opened, is_within}
+use Rattle.model.specs.Capabilities.Slots.{Slots, opened, is_within}
 use Rattle.model.specs.declared.slot_entries.Entry.{Entry}
 use Rattle.slots.specs.Table.{IsTable, table_slots}
 use Rattle.slots.proofs.Derivations.{derivation-opened}

@@ -1,6 +1,6 @@
 -- relocate: the change keeps the table sound.
 use Rattle.std.proofs.Common.{◌≡◌, ◌∙◌, Option, List, length, ap, subst, arith}
-use Rattle.model.specs.Slots.{Slots, relocated}
+use Rattle.model.specs.Capabilities.Slots.{Slots, relocated}
 use Rattle.model.specs.declared.slot_entries.Entry.{Entry}
 use Rattle.slots.specs.Table.{IsTable, table_slots}
 use Rattle.slots.proofs.Derivations.{derivation-relocated}

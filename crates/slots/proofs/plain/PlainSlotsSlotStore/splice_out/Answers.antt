@@ -1,6 +1,6 @@
 -- splice out: the change keeps the table sound.
 use Rattle.std.proofs.Common.{◌≡◌, ◌∙◌, Option, List, length, ap, subst, arith}
-use Rattle.model.specs.Slots.{Slots, spliced}
+use Rattle.model.specs.Capabilities.Slots.{Slots, spliced}
 use Rattle.model.specs.declared.slot_entries.Entry.{Entry}
 use Rattle.slots.specs.Table.{IsTable, table_slots}
 use Rattle.slots.proofs.Derivations.{derivation-spliced}

@@ -1,7 +1,7 @@
 -- By the rules on an edge.
 use Rattle.std.proofs.Common.{◌≡◌, ◌∙◌, inl, inr, List, sym, subst, true, false}
 use Rattle.model.specs.declared.ranges.Range.{Range}
-use Rattle.model.specs.Ranges.{AreWithin}
+use Rattle.model.specs.Acceptance.Ranges.{AreWithin}
 use Rattle.verify.specs.Checking.{IsLater, limited, rules_of_edge}
 use Rattle.verify.proofs.KeptEdges.{edge_limited, edge_outside}
 use Rattle.verify.proofs.RuleLists.{checks_told}

@@ -5,8 +5,8 @@ use Rattle.model.specs.declared.entries.ThreadHeader.{ThreadHeader}
 use Rattle.model.specs.declared.ranges.Range.{Range}
 use Rattle.model.specs.declared.refusals.Point.{Point}
 use Rattle.model.specs.declared.refusals.Refusal.TheVariants.{OverBudget, RangeNotKept}
-use Rattle.model.specs.PointStates.{Known, point_of}
-use Rattle.model.specs.Ranges.{AreWithin}
+use Rattle.model.specs.Acceptance.PointStates.{Known, point_of}
+use Rattle.model.specs.Acceptance.Ranges.{AreWithin}
 use Rattle.image.specs.Certificates.{constant_measure, with_image_slots}
 use Rattle.verify.specs.Checking.{IsLater, initial_ranges}
 use Rattle.verify.specs.Matching.{noted_at}

@@ -2,9 +2,9 @@
 use Rattle.std.proofs.Common.{◌≡◌, ◌∙◌, ◌++◌, ℕ, ℤ, List, Result, Err, sym, ap, subst}
 use Rattle.std.proofs.lemmas.Result.{err_from_is_err_and}
 use Rattle.model.specs.declared.refusals.Refusal.{Refusal}
-use Rattle.model.specs.Edges.{after}
-use Rattle.model.specs.PointStates.{address_of}
-use Rattle.model.specs.Rules.{Rule}
+use Rattle.model.specs.Acceptance.Edges.{after}
+use Rattle.model.specs.Acceptance.PointStates.{address_of}
+use Rattle.model.specs.Acceptance.Rules.{Rule}
 use Rattle.ranges.specs.Edges.{ways_of}
 use Rattle.ranges.specs.declared.edges.Edges.{Edges as Ways}
 use Rattle.image.specs.Certificates.{constant_measure, with_image_slots}

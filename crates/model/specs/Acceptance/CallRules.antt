@@ -1,0 +1,230 @@
+-- The system calls that a program may make: what has to be known of each, and what is known behind it.
+-- seL4 Reference Manual, "System Calls", for the calls; which of them are accepted is this project's own.
+use Rattle.std.specs.Prelude.{ℕ, ◌==◌, ◌-◌, ◌/◌, ◌%◌, ◌^◌, Bool, true, false, not, ◌&&◌, ◌||◌, nat_le, Option, Some, None, Result, Ok, Err, List, [], ◌∷◌, fold, replicate, take, if◌then◌else◌}
+use Rattle.std.specs.Option.{option_map_or}
+use Rattle.model.specs.declared.capabilities.Cap.{Cap}
+use Rattle.model.specs.declared.capabilities.Cap.TheVariants.{Untyped, Endpoint, Notification, CNode, Frame, InterruptHandler}
+use Rattle.model.specs.declared.errors.KError.{KError}
+use Rattle.model.specs.declared.errors.KError.TheVariants.{IllegalOperation}
+use Rattle.model.specs.declared.instructions.Register.{Register}
+use Rattle.model.specs.declared.lookup_failures.LookupFailure.{LookupFailure}
+use Rattle.model.specs.declared.ranges.Range.{Range}
+use Rattle.model.specs.declared.refusals.Point.{Point}
+use Rattle.model.specs.declared.refusals.Refusal.{Refusal}
+use Rattle.model.specs.declared.refusals.Refusal.TheVariants.{CallNotConstant, CallRefused, CapNotThere, PoolLost}
+use Rattle.model.specs.declared.rights.Rights.{Rights}
+use Rattle.model.specs.Kernel.Arguments.{argument_slot, word}
+use Rattle.model.specs.Capabilities.CapabilityKinds.{is_untyped}
+use Rattle.model.specs.Images.Format.{◌>>=◌}
+use Rattle.model.specs.Images.Image.{Image, Thread}
+use Rattle.model.specs.Kernel.Invocations.{Call, decodes, invoke, listed_words}
+use Rattle.model.specs.Capabilities.Lookup.{called_slot}
+use Rattle.model.specs.Kernel.Messages.{a0, a1, a7, extra_capabilities_of, label_of, length_of, word_registers}
+use Rattle.model.specs.Acceptance.NotedKernel.{noted_after, noted_kernel, noted_root}
+use Rattle.model.specs.Acceptance.NotedStates.{NotedSlot, PointState}
+use Rattle.model.specs.Images.Places.{offset_of}
+use Rattle.model.specs.Acceptance.RangeRules.{is_single, range}
+use Rattle.model.specs.Acceptance.Ranges.{full, single, range_of, with_range}
+use Rattle.model.specs.Capabilities.Rights.{may_grant_reply, may_read, may_write}
+use Rattle.model.specs.Capabilities.Slots.{Slots, capability_at}
+use Rattle.model.specs.Kernel.Steps.{SendCall, Calling, Sending, Trying, Receiving, Polling, SystemCall, Sends, Receives, RepliesAndReceives, Replies, Yields, PutsCharacter, call_of}
+
+-- ---- what is known behind a call
+
+pub record AfterCall : Type 0 where
+  pub ranges : List Range
+  pub slots : List NotedSlot
+  -- whether the call is one from which instructions are counted anew
+  pub is_wait : Bool
+  -- the registers that the call writes
+  pub written : List Register
+
+-- ---- checks
+
+abbrev pub demand : Bool → Refusal → Result (Unit {0}) Refusal
+demand test refusal = if test then Ok tt else Err refusal
+
+abbrev pub one_value : Point → Range → Result ℕ Refusal
+one_value at r = if is_single r then Ok r.low else Err (CallNotConstant at)
+
+-- the value of a register that has to have one
+abbrev pub known : Point → PointState → Register → Result ℕ Refusal
+known at state x = one_value at (range_of state.ranges x)
+
+unfoldable pub all_known : Point → PointState → List Register → Result (List ℕ) Refusal
+all_known at state [] = Ok []
+all_known at state (x ∷ xs) = do
+  value ← known at state x
+  values ← all_known at state xs
+  Ok (value ∷ values)
+
+-- what the kernel refuses
+abbrev pub kernel_allows : {A : Type 0} → Point → Result A KError → Result A Refusal
+kernel_allows at (Ok x) = Ok x
+kernel_allows at (Err error) = Err (CallRefused at error)
+
+abbrev pub found_slot : Point → Result ℕ LookupFailure → Result ℕ Refusal
+found_slot at (Ok slot) = Ok slot
+found_slot at (Err failure) = Err (CapNotThere at)
+
+-- ---- what calls write
+
+-- any badge, or any word of a notification
+abbrev pub badges : Range
+badges = range 0 (2 ^ 28 - 1)
+
+abbrev pub with_all : List Range → List Register → Range → List Range
+with_all ranges xs r = fold (λ known x. with_range known x r) ranges xs
+
+-- a message: what a0 becomes, and any info and words
+abbrev pub with_message : List Range → Range → List Range
+with_message ranges badge = with_all (with_range ranges a0 badge) (a1 ∷ word_registers) full
+
+abbrev pub with_answer : List Range → List Range
+with_answer ranges = with_range (with_range ranges a0 (single 0)) a1 (single 0)
+
+abbrev pub message_registers : List Register
+message_registers = a0 ∷ a1 ∷ word_registers
+
+abbrev pub leaves : PointState → List Range → Bool → List Register → AfterCall
+leaves state ranges is_wait written = record { ranges = ranges; slots = state.slots; is_wait = is_wait; written = written }
+
+-- registers and slots stay
+abbrev pub changes_nothing : PointState → Bool → AfterCall
+changes_nothing state is_wait = leaves state state.ranges is_wait []
+
+-- ---- receives
+
+-- Recv and ReplyRecv wait, NBRecv does not
+abbrev pub receives : Point → PointState → Bool → Cap → Result AfterCall Refusal
+receives at state is_wait (Endpoint offset r badge) = do
+  _ ← demand (may_read r) (CapNotThere at)
+  Ok (leaves state (with_message state.ranges badges) is_wait message_registers)
+receives at state is_wait (Notification offset r badge) = do
+  _ ← demand (may_read r) (CapNotThere at)
+  Ok (leaves state (with_range state.ranges a0 badges) is_wait (a0 ∷ []))
+receives at state is_wait _ = Err (CapNotThere at)
+
+-- ---- invocations
+
+-- whether the slot that an argument names holds such a capability
+abbrev pub names_such : (Cap → Bool) → Slots → Result ℕ KError → Bool
+names_such test slots (Ok slot) = test (capability_at slots slot)
+names_such test slots (Err error) = false
+
+-- whether a call on a CNode is Delete or Move of untyped memory
+abbrev pub loses_pool : Slots → Call → ℕ → List ℕ → Bool
+loses_pool slots call label words =
+    (label == 11 && names_such is_untyped slots (argument_slot slots call.capability words 0))
+    || (label == 9 && names_such is_untyped slots (argument_slot slots call.root words 2))
+
+-- endpoints, notifications and frames
+abbrev pub may_travel : Cap → Bool
+may_travel (Endpoint offset r badge) = true
+may_travel (Notification offset r badge) = true
+may_travel (Frame offset r mapping) = true
+may_travel _ = false
+
+-- Copy, Mint and Move of what may travel; Delete and Revoke
+abbrev pub may_call_cnode : Slots → Cap → ℕ → List ℕ → Bool
+may_call_cnode slots root label words =
+    (nat_le 7 label && nat_le label 9 && names_such may_travel slots (argument_slot slots root words 2))
+    || (label == 11) || (label == 12)
+
+-- Retype to endpoints, notifications and frames; frames are mapped without execute; interrupts are acknowledged
+abbrev pub may_call : Slots → Call → Cap → ℕ → List ℕ → Bool
+may_call slots call (Untyped offset bits watermark) label words =
+    let kind = word words 0 in (kind == 3) || (kind == 4) || (kind == 6)
+may_call slots call (CNode offset radix guard) label words = may_call_cnode slots call.root label words
+may_call slots call (Frame offset r mapping) label words = (label == 14) || (word words 3 / 4 % 2 == 0)
+may_call slots call (InterruptHandler irq_line) label words = label == 18
+may_call slots call _ label words = false
+
+-- how many words a call that decodes lists
+abbrev pub word_count : Cap → ℕ → ℕ
+word_count capability label = option_map_or (λ count. count) (listed_words capability label) 0
+
+-- what an invocation leaves, by the info word and the words that it lists
+abbrev pub invoked : Image → Thread → Point → PointState → Call → ℕ → List ℕ → Bool → Result AfterCall Refusal
+invoked image t at state call label words answers =
+    let s = noted_kernel image t state.slots in
+    do
+      after ← kernel_allows at (invoke s call label 0 words)
+      _ ← demand (not (loses_pool s.slots call label words)) (PoolLost at)
+      _ ← demand (may_call s.slots call call.capability label words) (CallRefused at IllegalOperation)
+      Ok (record {
+        ranges = if answers then with_answer state.ranges else state.ranges;
+        slots = noted_after image t after.slots;
+        is_wait = false;
+        written = if answers then a0 ∷ a1 ∷ [] else [];
+      })
+
+-- Whether capabilities come along, the label and the number of words are looked at before the words are.
+abbrev pub invocation : Image → Thread → Point → PointState → Call → Bool → Result AfterCall Refusal
+invocation image t at state call answers = do
+  info ← known at state a1
+  _ ← kernel_allows at (decodes call.capability (label_of info) (extra_capabilities_of info) (replicate (length_of info) 0))
+  words ← all_known at state (take (word_count call.capability (label_of info)) word_registers)
+  invoked image t at state call (label_of info) words answers
+
+-- ---- Call, Send and NBSend
+
+-- Call has an answer
+abbrev pub answers : SendCall → Bool
+answers Calling = true
+answers Sending = false
+answers Trying = false
+
+abbrev pub sends_message : Point → PointState → SendCall → Rights → Result AfterCall Refusal
+sends_message at state Calling r = do
+  _ ← demand (may_write r && may_grant_reply r) (CapNotThere at)
+  Ok (leaves state (with_message state.ranges (single 0)) true message_registers)
+sends_message at state Sending r = do
+  _ ← demand (may_write r) (CapNotThere at)
+  Ok (changes_nothing state true)
+sends_message at state Trying r = do
+  _ ← demand (may_write r) (CapNotThere at)
+  Ok (changes_nothing state false)
+
+abbrev pub sends_signal : Point → PointState → SendCall → Rights → Result AfterCall Refusal
+sends_signal at state kind r = do
+  _ ← demand (may_write r) (CapNotThere at)
+  Ok (if answers kind then leaves state (with_answer state.ranges) false (a0 ∷ a1 ∷ []) else changes_nothing state false)
+
+abbrev pub sends : Image → Thread → Point → PointState → SendCall → ℕ → Cap → Result AfterCall Refusal
+sends image t at state kind slot (Endpoint offset r badge) = sends_message at state kind r
+sends image t at state kind slot (Notification offset r badge) = sends_signal at state kind r
+sends image t at state kind slot capability =
+    let call : Call = record { root = noted_root image t; caller = Some (offset_of image t.header.tcb); slot = slot; capability = capability } in
+    invocation image t at state call (answers kind)
+
+-- ---- the whole
+
+-- what the rule for the capability that a0 names says
+abbrev pub by_capability : Image → Thread → Point → PointState → (ℕ → Cap → Result AfterCall Refusal) → Result AfterCall Refusal
+by_capability image t at state rule =
+    let slots = (noted_kernel image t state.slots).slots in
+    do
+      address ← known at state a0
+      slot ← found_slot at (called_slot slots (noted_root image t) address)
+      rule slot (capability_at slots slot)
+
+-- Reply, Yield and PutChar need nothing, and change neither registers nor slots.
+abbrev pub by_call : Image → Thread → Point → PointState → SystemCall → Result AfterCall Refusal
+by_call image t at state (Sends kind) = by_capability image t at state (sends image t at state kind)
+by_call image t at state (Receives Receiving) = by_capability image t at state (λ slot. receives at state true)
+by_call image t at state (Receives Polling) = by_capability image t at state (λ slot. receives at state false)
+by_call image t at state RepliesAndReceives = by_capability image t at state (λ slot. receives at state true)
+by_call image t at state Replies = Ok (changes_nothing state false)
+by_call image t at state Yields = Ok (changes_nothing state false)
+by_call image t at state PutsCharacter = Ok (changes_nothing state false)
+
+abbrev pub by_number : Image → Thread → Point → PointState → Option SystemCall → Result AfterCall Refusal
+by_number image t at state (Some call) = by_call image t at state call
+by_number image t at state None = Err (CallRefused at IllegalOperation)
+
+-- What is known behind the system call at a point, or why it is refused.
+unfoldable pub after_call : Image → Thread → Point → PointState → Result AfterCall Refusal
+after_call image t at state = do
+  number ← known at state a7
+  by_number image t at state (call_of number)
