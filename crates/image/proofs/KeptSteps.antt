@@ -15,7 +15,7 @@ use Rattle.model.specs.declared.refusals.Refusal.{Refusal}
 use Rattle.model.specs.declared.refusals.Refusal.TheVariants.{OverBudget, RangeNotKept}
 use Rattle.model.specs.Acceptance.Accepted.{AreKept}
 use Rattle.model.specs.Acceptance.CallRules.{AfterCall, badges}
-use Rattle.model.specs.Images.Described.{listed_registers, listed_thread}
+use Rattle.model.specs.Images.Described.{listed_registers, listed_thread, start_registers}
 use Rattle.model.specs.Acceptance.Edges.{after, behind, edge_to}
 use Rattle.model.specs.Images.Image.{Thread}
 use Rattle.model.specs.Machine.Instructions.{IsImmediate, IsRegister}
@@ -24,7 +24,7 @@ use Rattle.model.specs.Machine.Effects.{Effect, advanced, effect, goes_on, next_
 use Rattle.model.specs.Acceptance.Measures.{measured}
 use Rattle.model.specs.Kernel.Messages.{a0, a7}
 use Rattle.model.specs.Acceptance.NotedStates.{PointState}
-use Rattle.model.specs.Acceptance.PointRules.{ProgramEdge, call_edge, call_edges, edges_at, entry_rules, lies_in, program_edge, start_registers, starts_within}
+use Rattle.model.specs.Acceptance.PointRules.{ProgramEdge, call_edge, call_edges, edges_at, entry_rules, lies_in, program_edge, starts_within}
 use Rattle.model.specs.Acceptance.PointStates.{Known, Missing, Noted, Unmeasured, address_of, call_at, instruction_at, noted, point_of}
 use Rattle.model.specs.Acceptance.RangeRules.{ranges_after}
 use Rattle.model.specs.Acceptance.Ranges.{full, is_ranged, with_range}

@@ -13,3 +13,4 @@ pub mod PointStates
 pub mod PointRules
 pub mod Accepted
 pub mod ThreadInvariants
+pub mod Authority

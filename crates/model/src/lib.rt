@@ -9,6 +9,7 @@ mod errors;
 mod events;
 mod faults;
 mod instructions;
+mod invocations;
 mod labels;
 mod lookup_failures;
 mod ranges;
@@ -31,6 +32,10 @@ pub use faults::FaultKind;
 pub use instructions::{
     Access, AccessSize, BranchOp, Cause, Exec, ImmediateOp, Instr, LoadOp, MemoryFault, PageFault,
     Register, RegisterOp, ShiftOp, StoreOp, UpperOp,
+};
+pub use invocations::{
+    CNodeCall, FrameCall, HandlerCall, Invocation, RetypeCall, SlotName, TableCall, ThreadCall,
+    UntypedMemory,
 };
 pub use labels::{Label, Outcome};
 pub use lookup_failures::LookupFailure;

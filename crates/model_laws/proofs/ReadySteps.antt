@@ -20,23 +20,43 @@ use Rattle.model.specs.declared.labels.Outcome.TheVariants.{Plain}
 use Rattle.model.specs.declared.lookup_failures.LookupFailure.{LookupFailure}
 use Rattle.model.specs.declared.lookup_failures.LookupFailure.TheVariants.{MissingCapability}
 use Rattle.model.specs.declared.rights.Rights.{Rights}
-use Rattle.model.specs.Kernel.AddressSpaces.{content_of, with_content, address_limit, is_page_taken, is_region_taken, page_size, region_pages}
+use Rattle.model.specs.Kernel.AddressSpaces.{content_of, with_content, address_limit, is_page_taken, is_region_taken, page_size, region_pages, region_size}
 use Rattle.model.specs.Capabilities.CapabilityKinds.{badge_fits, carries_messages, cnode_of, frame_mapping, guard_fits, is_badged, is_handler_of, may_be_copied, root_of, table_mapping, unmapped}
 use Rattle.model.specs.Capabilities.Placement.{placement}
 use Rattle.model.specs.Capabilities.Rights.{mapping_rights, may_execute, may_grant_reply, may_read, may_write}
 use Rattle.model.specs.Capabilities.Slots.{capability_at, is_full, recapped}
-use Rattle.model.specs.Kernel.Arguments.{◌>>=◌, argument_slot, check, destination_slot, may_have_child, source_slot, wanted, word}
+use Rattle.model.specs.Kernel.Arguments.{◌>>=◌, Call, argument_slot, check, destination_slot, may_have_child, source_slot, wanted}
 use Rattle.model.specs.Machine.Decoding.{decoded}
 use Rattle.model.specs.Machine.ProgramMemory.{RegisterFile, loaded, read}
 use Rattle.model.specs.Machine.Effects.{effect}
 use Rattle.model.specs.Kernel.Interrupts.{acknowledge, binding, interrupt, raise, with_pending}
 use Rattle.model.specs.Kernel.Faults.{fault, handler, tell}
-use Rattle.model.specs.Kernel.Invocations.{Call, bind, configure, copy, decodes, get_handler, given_guard_fits, is_caller, is_mapped, map_frame, map_table, may_be_bound, mint, move, mutate, root_named, set_priority, set_register, invoke, on_cnode, on_frame, on_handler, on_table, on_thread, perform, resume, suspend, unmap_table, with_priority, with_slots, without_region}
+use Rattle.model.specs.Kernel.CallForms.{decode}
+use Rattle.model.specs.Kernel.CNodeCalls.{copy, mint, move, mutate, on_cnode}
+use Rattle.model.specs.Kernel.InterruptCalls.{bind, get_handler, may_be_bound, on_handler}
+use Rattle.model.specs.Kernel.Invocations.{invoke, perform}
+use Rattle.model.specs.Kernel.MappingCalls.{is_mapped, map_frame, map_table, on_frame, on_table, root_named, unmap_table, without_region}
+use Rattle.model.specs.Kernel.ThreadCalls.{configure, given_guard_fits, is_caller, on_thread, resume, set_priority, set_register, suspend, with_priority}
+use Rattle.model.specs.declared.invocations.CNodeCall.{CNodeCall}
+use Rattle.model.specs.declared.invocations.CNodeCall.TheVariants.{Copy, Mint, Move, Mutate, Delete, Revoke}
+use Rattle.model.specs.declared.invocations.FrameCall.{FrameCall}
+use Rattle.model.specs.declared.invocations.FrameCall.TheVariants.{MapFrame, UnmapFrame}
+use Rattle.model.specs.declared.invocations.HandlerCall.{HandlerCall}
+use Rattle.model.specs.declared.invocations.HandlerCall.TheVariants.{Acknowledge, SetNotification, Clear}
+use Rattle.model.specs.declared.invocations.Invocation.{Invocation}
+use Rattle.model.specs.declared.invocations.Invocation.TheVariants.{OnUntyped, OnThread, OnCNode, OnFrame, OnTable, OnControl, OnHandler}
+use Rattle.model.specs.declared.invocations.RetypeCall.{RetypeCall}
+use Rattle.model.specs.declared.invocations.SlotName.{SlotName}
+use Rattle.model.specs.declared.invocations.TableCall.{TableCall}
+use Rattle.model.specs.declared.invocations.TableCall.TheVariants.{MapTable, UnmapTable}
+use Rattle.model.specs.declared.invocations.ThreadCall.{ThreadCall}
+use Rattle.model.specs.declared.invocations.ThreadCall.TheVariants.{Configure, SetPriority, SetRegister, Resume, Suspend}
+use Rattle.model.specs.declared.invocations.UntypedMemory.{UntypedMemory}
 use Rattle.model.specs.Kernel.Messages.{Message, a7, waits_for_signal, deliver, deliver_word, message_of, message_sent, passes, resumption, waits_to_receive, with_caller, with_registers, receive, receives, received, received_waiting, replied, reply, reply_to_fault, sends, signal, signals, takes_word, tries_to_send, try_to_receive}
 use Rattle.model.specs.Kernel.Removal.{SlotSet, ended_threads, ends, set_back, slots_without, delete, remove, without_slots}
 use Rattle.model.specs.Kernel.Retype.{any_full, is_large_enough, is_small_enough, node, object_bits, retype, type_of}
 use Rattle.model.specs.Kernel.Scheduling.{at_tail, block, current, full_slice, is_runnable, leaves, tick, ticked, to_tail, unready, wake, yielded}
-use Rattle.model.specs.Kernel.State.{FaultMessage, NotificationState, Sender, Sent, BySend, ByCall, ByFault, State, Status, Inactive, Runnable, Blocked, AwaitsReply, AwaitsHandler, as_thread, binding_slot, cspace_slot, endpoint_at, holds_some, slot_of, vspace_slot, notification_at, put, thread_at, with_endpoint, with_notification, with_thread}
+use Rattle.model.specs.Kernel.State.{FaultMessage, NotificationState, Sender, Sent, BySend, ByCall, ByFault, State, Status, Inactive, Runnable, Blocked, AwaitsReply, AwaitsHandler, as_thread, binding_slot, cspace_slot, endpoint_at, holds_some, slot_of, vspace_slot, notification_at, put, thread_at, with_endpoint, with_notification, with_slots, with_thread}
 use Rattle.model.specs.Kernel.Steps.{Done, SystemCall, Sends, Receives, RepliesAndReceives, Replies, Yields, PutsCharacter, call_of, calls, calls_known, registers_of, lacks_capability, named_slot, signal_on, SendCall, Calling, Sending, Trying, ReceiveCall, Receiving, Polling, after_effect, after_invocation, answered, completed, invokes, ran, receive_by, receive_named, receive_on_endpoint, receive_on_notification, refused, runs, runs_decoded, runs_fetched, send_by, send_named, send_on, sender, sends_nothing, step, system_call}
 use Rattle.model_laws.specs.Ready.{HoldsNoneTwice}
 use Rattle.model_laws.proofs.ReadyLists.{moved-none_twice, unready-none_twice}
@@ -232,12 +252,10 @@ remove-sound s set before = either_result _ _ _ error (fine (without_slots-sound
 delete-sound : (s : State) (slot : ℕ) → Sound s → SoundResult (delete s slot)
 delete-sound s slot before = either_result _ _ _ (remove-sound s _ before) (fine before)
 
-retype-sound : (s : State) (root : Cap) (slot offset bits watermark : ℕ) (words : List ℕ) → Sound s → SoundResult (retype s root slot offset bits watermark words)
+retype-sound : (s : State) (root : Cap) (slot : ℕ) (memory : UntypedMemory) (call : RetypeCall) → Sound s → SoundResult (retype s root slot memory call)
 unfolding retype
-retype-sound s root slot offset bits watermark words before =
-    let index : ℕ = word words 4 in
-    let count : ℕ = word words 5 in
-    bind-sound (wanted (type_of (word words 0) (word words 1)) InvalidArgument) _ (λ kind. bind-sound (check (is_large_enough kind) InvalidArgument) _ (λ _. bind-sound (check (is_small_enough kind) RangeError) _ (λ _. bind-sound (node s.slots root words 2) _ (λ cnode. bind-sound (check (nat_le 1 count && nat_le count 256 && nat_le (index + count) (2 ^ cnode.1)) RangeError) _ (λ _. bind-sound (check (not (any_full s.slots (slot_of cnode.0 index) count)) DeleteFirst) _ (λ _. bind-sound (may_have_child s.slots slot) _ (λ _. bind-sound (wanted (placement bits watermark (object_bits kind) count) NotEnoughMemory) _ (λ place. fine (same refl before)))))))))
+retype-sound s root slot memory call before =
+    bind-sound (wanted (type_of call.kind call.size) InvalidArgument) _ (λ kind. bind-sound (check (is_large_enough kind) InvalidArgument) _ (λ _. bind-sound (check (is_small_enough kind) RangeError) _ (λ _. bind-sound (node s.slots root call.node) _ (λ cnode. bind-sound (check (nat_le 1 call.count && nat_le call.count 256 && nat_le (call.index + call.count) (2 ^ cnode.1)) RangeError) _ (λ _. bind-sound (check (not (any_full s.slots (slot_of cnode.0 call.index) call.count)) DeleteFirst) _ (λ _. bind-sound (may_have_child s.slots slot) _ (λ _. bind-sound (wanted (placement memory.bits memory.watermark (object_bits kind) call.count) NotEnoughMemory) _ (λ place. fine (same refl before)))))))))
 
 with_priority-sound : (s : State) (thread priority : ℕ) → Sound s → Sound (with_priority s thread priority)
 with_priority-sound s thread priority before =
@@ -251,108 +269,100 @@ resume-sound s thread before = either (is_runnable (thread_at s thread).status) 
 suspend-sound : (s : State) (thread : ℕ) → Sound s → Sound (suspend s thread)
 suspend-sound s thread before = block-sound (leaves s thread) thread Inactive (leaves-sound s thread (same refl before))
 
-configure-sound : (s : State) (root : Cap) (thread : ℕ) (guard : Option ℕ) (words : List ℕ) → Sound s → SoundResult (configure s root thread guard words)
-configure-sound s root thread guard words before =
-    bind-sound (source_slot s.slots root words 1) _ (λ cspace. bind-sound (wanted (cnode_of (capability_at s.slots cspace)) InvalidCapability) _ (λ _. bind-sound (source_slot s.slots root words 3) _ (λ vspace. bind-sound (wanted (root_of (capability_at s.slots vspace)) InvalidCapability) _ (λ _. bind-sound (check (not (is_full s.slots (cspace_slot thread)) && not (is_full s.slots (vspace_slot thread))) DeleteFirst) _ (λ _. bind-sound (check (given_guard_fits (capability_at s.slots cspace) guard) IllegalOperation) _ (λ _. bind-sound (may_have_child s.slots cspace) _ (λ _. bind-sound (may_have_child s.slots vspace) _ (λ _. fine (same refl before)))))))))
+configure-sound : (s : State) (root : Cap) (thread : ℕ) (guard : Option ℕ) (fault_address : ℕ) (cspace_name vspace_name : SlotName) → Sound s
+    → SoundResult (configure s root thread guard fault_address cspace_name vspace_name)
+configure-sound s root thread guard fault_address cspace_name vspace_name before =
+    bind-sound (source_slot s.slots root cspace_name) _ (λ cspace. bind-sound (wanted (cnode_of (capability_at s.slots cspace)) InvalidCapability) _ (λ _. bind-sound (source_slot s.slots root vspace_name) _ (λ vspace. bind-sound (wanted (root_of (capability_at s.slots vspace)) InvalidCapability) _ (λ _. bind-sound (check (not (is_full s.slots (cspace_slot thread)) && not (is_full s.slots (vspace_slot thread))) DeleteFirst) _ (λ _. bind-sound (check (given_guard_fits (capability_at s.slots cspace) guard) IllegalOperation) _ (λ _. bind-sound (may_have_child s.slots cspace) _ (λ _. bind-sound (may_have_child s.slots vspace) _ (λ _. fine (same refl before)))))))))
 
-set_priority-sound : (s : State) (thread : ℕ) (words : List ℕ) → Sound s → SoundResult (set_priority s thread words)
-set_priority-sound s thread words before = bind-sound (check (nat_le (word words 0) 255) RangeError) _ (λ _. fine (with_priority-sound s thread (word words 0) before))
+set_priority-sound : (s : State) (thread priority : ℕ) → Sound s → SoundResult (set_priority s thread priority)
+set_priority-sound s thread priority before = bind-sound (check (nat_le priority 255) RangeError) _ (λ _. fine (with_priority-sound s thread priority before))
 
-set_register-sound : (s : State) (caller : Option ℕ) (thread : ℕ) (words : List ℕ) → Sound s → SoundResult (set_register s caller thread words)
-set_register-sound s caller thread words before =
-    let index : ℕ = word words 0 in
-    let value : ℕ = word words 1 in
+set_register-sound : (s : State) (caller : Option ℕ) (thread index value : ℕ) → Sound s → SoundResult (set_register s caller thread index value)
+set_register-sound s caller thread index value before =
     bind-sound (check (not (is_caller caller thread)) IllegalOperation) _ (λ _. bind-sound (check (nat_le index 31) RangeError) _ (λ _. bind-sound (check (not (index == 0) || value % 4 == 0) AlignmentError) _ (λ _. fine (same refl before))))
 
-on_thread-sound : (s : State) (call : Call) (thread label : ℕ) (words : List ℕ) → Sound s → SoundResult (on_thread s call thread label words)
-on_thread-sound s call thread label words before =
-    either_result (label == 2) _ _ (configure-sound s call.root thread None words before)
-    (either_result (label == 3) _ _ (set_priority-sound s thread words before)
-    (either_result (label == 4) _ _ (set_register-sound s call.caller thread words before)
-    (either_result (label == 5) _ _ (fine (resume-sound s thread before))
-    (either_result (label == 6) _ _ (fine (suspend-sound s thread before)) error))))
+on_thread-sound : (s : State) (call : Call) (thread : ℕ) (c : ThreadCall) → Sound s → SoundResult (on_thread s call thread c)
+on_thread-sound s call thread (Configure fault_address cspace vspace) before = configure-sound s call.root thread None fault_address cspace vspace before
+on_thread-sound s call thread (SetPriority priority) before = set_priority-sound s thread priority (same refl before)
+on_thread-sound s call thread (SetRegister index value) before = set_register-sound s call.caller thread index value (same refl before)
+on_thread-sound s call thread Resume before = fine (resume-sound s thread before)
+on_thread-sound s call thread Suspend before = fine (suspend-sound s thread before)
 
-copy-sound : (s : State) (call : Call) (words : List ℕ) → Sound s → SoundResult (copy s call words)
-copy-sound s call words before =
-    bind-sound (destination_slot s.slots call.capability words 0) _ (λ destination. bind-sound (source_slot s.slots call.root words 2) _ (λ source. bind-sound (check (may_be_copied (capability_at s.slots source)) IllegalOperation) _ (λ _. bind-sound (may_have_child s.slots source) _ (λ _. fine (same refl before)))))
+copy-sound : (s : State) (call : Call) (destination_name source_name : SlotName) (rights_word : ℕ) → Sound s
+    → SoundResult (copy s call destination_name source_name rights_word)
+copy-sound s call destination_name source_name rights_word before =
+    bind-sound (destination_slot s.slots call.capability destination_name) _ (λ destination. bind-sound (source_slot s.slots call.root source_name) _ (λ source. bind-sound (check (may_be_copied (capability_at s.slots source)) IllegalOperation) _ (λ _. bind-sound (may_have_child s.slots source) _ (λ _. fine (same refl before)))))
 
-mint-sound : (s : State) (call : Call) (words : List ℕ) → Sound s → SoundResult (mint s call words)
-mint-sound s call words before =
-    bind-sound (destination_slot s.slots call.capability words 0) _ (λ destination. bind-sound (source_slot s.slots call.root words 2) _ (λ source. bind-sound (check (may_be_copied (capability_at s.slots source)) IllegalOperation) _ (λ _. bind-sound (check (not (is_badged (capability_at s.slots source))) IllegalOperation) _ (λ _. bind-sound (check (badge_fits (capability_at s.slots source) (word words 5)) RangeError) _ (λ _. bind-sound (check (guard_fits (capability_at s.slots source) (word words 5)) IllegalOperation) _ (λ _. bind-sound (may_have_child s.slots source) _ (λ _. fine (same refl before))))))))
+mint-sound : (s : State) (call : Call) (destination_name source_name : SlotName) (rights_word payload : ℕ) → Sound s
+    → SoundResult (mint s call destination_name source_name rights_word payload)
+mint-sound s call destination_name source_name rights_word payload before =
+    bind-sound (destination_slot s.slots call.capability destination_name) _ (λ destination. bind-sound (source_slot s.slots call.root source_name) _ (λ source. bind-sound (check (may_be_copied (capability_at s.slots source)) IllegalOperation) _ (λ _. bind-sound (check (not (is_badged (capability_at s.slots source))) IllegalOperation) _ (λ _. bind-sound (check (badge_fits (capability_at s.slots source) payload) RangeError) _ (λ _. bind-sound (check (guard_fits (capability_at s.slots source) payload) IllegalOperation) _ (λ _. bind-sound (may_have_child s.slots source) _ (λ _. fine (same refl before))))))))
 
-move-sound : (s : State) (call : Call) (words : List ℕ) → Sound s → SoundResult (move s call words)
-move-sound s call words before =
-    bind-sound (destination_slot s.slots call.capability words 0) _ (λ destination. bind-sound (source_slot s.slots call.root words 2) _ (λ source. fine (same refl before)))
+move-sound : (s : State) (call : Call) (destination_name source_name : SlotName) → Sound s → SoundResult (move s call destination_name source_name)
+move-sound s call destination_name source_name before =
+    bind-sound (destination_slot s.slots call.capability destination_name) _ (λ destination. bind-sound (source_slot s.slots call.root source_name) _ (λ source. fine (same refl before)))
 
-mutate-sound : (s : State) (call : Call) (words : List ℕ) → Sound s → SoundResult (mutate s call words)
-mutate-sound s call words before =
-    bind-sound (destination_slot s.slots call.capability words 0) _ (λ destination. bind-sound (source_slot s.slots call.root words 2) _ (λ source. bind-sound (check (not (carries_messages (capability_at s.slots source))) IllegalOperation) _ (λ _. bind-sound (check (guard_fits (capability_at s.slots source) (word words 4)) IllegalOperation) _ (λ _. fine (same refl before)))))
+mutate-sound : (s : State) (call : Call) (destination_name source_name : SlotName) (payload : ℕ) → Sound s
+    → SoundResult (mutate s call destination_name source_name payload)
+mutate-sound s call destination_name source_name payload before =
+    bind-sound (destination_slot s.slots call.capability destination_name) _ (λ destination. bind-sound (source_slot s.slots call.root source_name) _ (λ source. bind-sound (check (not (carries_messages (capability_at s.slots source))) IllegalOperation) _ (λ _. bind-sound (check (guard_fits (capability_at s.slots source) payload) IllegalOperation) _ (λ _. fine (same refl before)))))
 
-on_cnode-sound : (s : State) (call : Call) (label : ℕ) (words : List ℕ) → Sound s → SoundResult (on_cnode s call label words)
-on_cnode-sound s call label words before =
-    either_result (label == 7) _ _ (copy-sound s call words before)
-    (either_result (label == 8) _ _ (mint-sound s call words before)
-    (either_result (label == 9) _ _ (move-sound s call words before)
-    (either_result (label == 10) _ _ (mutate-sound s call words before)
-    (either_result (label == 11) _ _ (bind-sound (argument_slot s.slots call.capability words 0) _ (λ slot. delete-sound s slot before))
-    (either_result (label == 12) _ _ (bind-sound (argument_slot s.slots call.capability words 0) _ (λ slot. remove-sound s _ before)) error)))))
+on_cnode-sound : (s : State) (call : Call) (c : CNodeCall) → Sound s → SoundResult (on_cnode s call c)
+on_cnode-sound s call (Copy destination source rights_word) before = copy-sound s call destination source rights_word before
+on_cnode-sound s call (Mint destination source rights_word payload) before = mint-sound s call destination source rights_word payload before
+on_cnode-sound s call (Move destination source) before = move-sound s call destination source before
+on_cnode-sound s call (Mutate destination source payload) before = mutate-sound s call destination source payload before
+on_cnode-sound s call (Delete name) before = bind-sound (argument_slot s.slots call.capability name) _ (λ slot. delete-sound s slot (same refl before))
+on_cnode-sound s call (Revoke name) before = bind-sound (argument_slot s.slots call.capability name) _ (λ slot. remove-sound s _ (same refl before))
 
-map_frame-sound : (s : State) (call : Call) (frame_rights : Rights) (words : List ℕ) → Sound s → SoundResult (map_frame s call frame_rights words)
-map_frame-sound s call frame_rights words before =
-    let address : ℕ = word words 2 in
-    let allowed : Rights = mapping_rights frame_rights (word words 3) in
-    bind-sound (check (not (is_mapped (frame_mapping call.capability))) InvalidCapability) _ (λ _. bind-sound (root_named s.slots call.root words 0) _ (λ root. bind-sound (check (nat_lt address address_limit) InvalidArgument) _ (λ _. bind-sound (check (address % page_size == 0) AlignmentError) _ (λ _. bind-sound (check (is_region_taken s root (address / page_size / region_pages)) FailedLookup) _ (λ _. bind-sound (check (not (is_page_taken s root (address / page_size))) DeleteFirst) _ (λ _. bind-sound (check (may_read allowed || may_execute allowed) InvalidArgument) _ (λ _. fine (same refl before))))))))
+map_frame-sound : (s : State) (call : Call) (held : Rights) (root_name : SlotName) (address rights_word : ℕ) → Sound s
+    → SoundResult (map_frame s call held root_name address rights_word)
+map_frame-sound s call held root_name address rights_word before =
+    let allowed : Rights = mapping_rights held rights_word in
+    bind-sound (check (not (is_mapped (frame_mapping call.capability))) InvalidCapability) _ (λ _. bind-sound (root_named s.slots call.root root_name) _ (λ root. bind-sound (check (nat_lt address address_limit) InvalidArgument) _ (λ _. bind-sound (check (address % page_size == 0) AlignmentError) _ (λ _. bind-sound (check (is_region_taken s root (address / page_size / region_pages)) FailedLookup) _ (λ _. bind-sound (check (not (is_page_taken s root (address / page_size))) DeleteFirst) _ (λ _. bind-sound (check (may_read allowed || may_execute allowed) InvalidArgument) _ (λ _. fine (same refl before))))))))
 
-on_frame-sound : (s : State) (call : Call) (r : Rights) (label : ℕ) (words : List ℕ) → Sound s → SoundResult (on_frame s call r label words)
-on_frame-sound s call r label words before =
-    either_result (label == 13) _ _ (map_frame-sound s call r words before) (either_result (label == 14) _ _ (fine (same refl before)) error)
+on_frame-sound : (s : State) (call : Call) (held : Rights) (c : FrameCall) → Sound s → SoundResult (on_frame s call held c)
+on_frame-sound s call held (MapFrame root address rights_word) before = map_frame-sound s call held root address rights_word before
+on_frame-sound s call held UnmapFrame before = fine (same refl before)
 
 unmap_table-sound : (s : State) (call : Call) → Sound s → Sound (unmap_table s call)
 unmap_table-sound s call before =
     perhaps (λ mapping. with_slots s (without_region (recapped s.slots call.slot (unmapped call.capability)) mapping)) (table_mapping call.capability) s
     (λ mapping. same refl before) before
 
-map_table-sound : (s : State) (call : Call) (words : List ℕ) → Sound s → SoundResult (map_table s call words)
-map_table-sound s call words before =
-    let address : ℕ = word words 2 in
-    let region_size : ℕ = page_size * region_pages in
-    bind-sound (check (not (is_mapped (table_mapping call.capability))) InvalidCapability) _ (λ _. bind-sound (root_named s.slots call.root words 0) _ (λ root. bind-sound (check (nat_lt address address_limit) InvalidArgument) _ (λ _. bind-sound (check (address % region_size == 0) AlignmentError) _ (λ _. bind-sound (check (not (is_region_taken s root (address / region_size))) DeleteFirst) _ (λ _. fine (same refl before))))))
+map_table-sound : (s : State) (call : Call) (root_name : SlotName) (address : ℕ) → Sound s → SoundResult (map_table s call root_name address)
+map_table-sound s call root_name address before =
+    bind-sound (check (not (is_mapped (table_mapping call.capability))) InvalidCapability) _ (λ _. bind-sound (root_named s.slots call.root root_name) _ (λ root. bind-sound (check (nat_lt address address_limit) InvalidArgument) _ (λ _. bind-sound (check (address % region_size == 0) AlignmentError) _ (λ _. bind-sound (check (not (is_region_taken s root (address / region_size))) DeleteFirst) _ (λ _. fine (same refl before))))))
 
-on_table-sound : (s : State) (call : Call) (label : ℕ) (words : List ℕ) → Sound s → SoundResult (on_table s call label words)
-on_table-sound s call label words before =
-    either_result (label == 15) _ _ (map_table-sound s call words before) (either_result (label == 16) _ _ (fine (unmap_table-sound s call before)) error)
+on_table-sound : (s : State) (call : Call) (c : TableCall) → Sound s → SoundResult (on_table s call c)
+on_table-sound s call (MapTable root address) before = map_table-sound s call root address before
+on_table-sound s call UnmapTable before = fine (unmap_table-sound s call before)
 
-get_handler-sound : (s : State) (call : Call) (words : List ℕ) → Sound s → SoundResult (get_handler s call words)
-get_handler-sound s call words before =
-    let line : ℕ = word words 0 in
-    bind-sound (check (nat_le line 63) RangeError) _ (λ _. bind-sound (check (not (holds_some s (is_handler_of line))) RevokeFirst) _ (λ _. bind-sound (destination_slot s.slots call.root words 1) _ (λ destination. bind-sound (may_have_child s.slots call.slot) _ (λ _. fine (same refl before)))))
+get_handler-sound : (s : State) (call : Call) (line : ℕ) (name : SlotName) → Sound s → SoundResult (get_handler s call line name)
+get_handler-sound s call line name before =
+    bind-sound (check (nat_le line 63) RangeError) _ (λ _. bind-sound (check (not (holds_some s (is_handler_of line))) RevokeFirst) _ (λ _. bind-sound (destination_slot s.slots call.root name) _ (λ destination. bind-sound (may_have_child s.slots call.slot) _ (λ _. fine (same refl before)))))
 
-bind_line-sound : (s : State) (call : Call) (line : ℕ) (words : List ℕ) → Sound s → SoundResult (bind s call line words)
-bind_line-sound s call line words before =
-    bind-sound (source_slot s.slots call.root words 0) _ (λ source. bind-sound (check (may_be_bound (capability_at s.slots source)) InvalidCapability) _ (λ _. bind-sound (may_have_child s.slots source) _ (λ _. bind-state (delete s (binding_slot s line)) _ (delete-sound s (binding_slot s line) before) (λ after sound. fine (same refl sound)))))
+bind_line-sound : (s : State) (call : Call) (line : ℕ) (name : SlotName) → Sound s → SoundResult (bind s call line name)
+bind_line-sound s call line name before =
+    bind-sound (source_slot s.slots call.root name) _ (λ source. bind-sound (check (may_be_bound (capability_at s.slots source)) InvalidCapability) _ (λ _. bind-sound (may_have_child s.slots source) _ (λ _. bind-state (delete s (binding_slot s line)) _ (delete-sound s (binding_slot s line) before) (λ after sound. fine (same refl sound)))))
 
-on_handler-sound : (s : State) (call : Call) (irq_line label : ℕ) (words : List ℕ) → Sound s → SoundResult (on_handler s call irq_line label words)
-on_handler-sound s call irq_line label words before =
-    either_result (label == 18) _ _ (fine (acknowledge-sound s irq_line before))
-    (either_result (label == 19) _ _ (bind_line-sound s call irq_line words before)
-    (either_result (label == 20) _ _ (delete-sound s (binding_slot s irq_line) before) error))
+on_handler-sound : (s : State) (call : Call) (irq_line : ℕ) (c : HandlerCall) → Sound s → SoundResult (on_handler s call irq_line c)
+on_handler-sound s call irq_line Acknowledge before = fine (acknowledge-sound s irq_line before)
+on_handler-sound s call irq_line (SetNotification name) before = bind_line-sound s call irq_line name before
+on_handler-sound s call irq_line Clear before = delete-sound s (binding_slot s irq_line) (same refl before)
 
-perform-sound : (s : State) (call : Call) (capability : Cap) (label : ℕ) (words : List ℕ) → Sound s → SoundResult (perform s call capability label words)
-perform-sound s call Empty label words before = error
-perform-sound s call (Untyped offset bits watermark) label words before = retype-sound s call.root call.slot offset bits watermark words (same refl before)
-perform-sound s call (Endpoint offset r badge) label words before = error
-perform-sound s call (Notification offset r badge) label words before = error
-perform-sound s call (CNode offset radix guard) label words before = on_cnode-sound s call label words (same refl before)
-perform-sound s call (Frame offset r mapping) label words before = on_frame-sound s call r label words (same refl before)
-perform-sound s call (PageTable offset mapping) label words before = on_table-sound s call label words (same refl before)
-perform-sound s call (Tcb offset) label words before = on_thread-sound s call offset label words (same refl before)
-perform-sound s call (RootTable offset) label words before = error
-perform-sound s call InterruptControl label words before = get_handler-sound s call words before
-perform-sound s call (InterruptHandler irq_line) label words before = on_handler-sound s call irq_line label words (same refl before)
+perform-sound : (s : State) (call : Call) (c : Invocation) → Sound s → SoundResult (perform s call c)
+perform-sound s call (OnUntyped memory c) before = retype-sound s call.root call.slot memory c (same refl before)
+perform-sound s call (OnThread thread c) before = on_thread-sound s call thread c (same refl before)
+perform-sound s call (OnCNode c) before = on_cnode-sound s call c (same refl before)
+perform-sound s call (OnFrame held c) before = on_frame-sound s call held c (same refl before)
+perform-sound s call (OnTable c) before = on_table-sound s call c (same refl before)
+perform-sound s call (OnControl irq_line destination) before = get_handler-sound s call irq_line destination (same refl before)
+perform-sound s call (OnHandler irq_line c) before = on_handler-sound s call irq_line c (same refl before)
 
 invoke-sound : (s : State) (call : Call) (label extra : ℕ) (words : List ℕ) → Sound s → SoundResult (invoke s call label extra words)
 unfolding invoke
-invoke-sound s call label extra words before = bind-sound (decodes call.capability label extra words) _ (λ _. perform-sound s call call.capability label words before)
+invoke-sound s call label extra words before = bind-sound (decode call.capability label extra words) _ (λ c. perform-sound s call c before)
 
 -- ---- system calls
 

@@ -2,7 +2,8 @@
 use Rattle.std.specs.Prelude.{ℕ, ◌==◌, if◌then◌else◌, Option, Some, None, Result, [], ◌∷◌, replicate, slice_set}
 use Rattle.model.specs.Kernel.AddressSpaces.{place_under}
 use Rattle.model.specs.Machine.ProgramMemory.{Content, RegisterFile}
-use Rattle.model.specs.Kernel.Invocations.{Call, map_frame}
+use Rattle.model.specs.Kernel.Arguments.{Call}
+use Rattle.model.specs.Kernel.MappingCalls.{map_frame}
 use Rattle.model.specs.Capabilities.Rights.{rights}
 use Rattle.model.specs.Capabilities.Slots.{empty_entry, is_within}
 use Rattle.model.specs.Kernel.State.{State}
@@ -30,11 +31,11 @@ frame_call slot capability = record { root = CNode 0 4 28; caller = None; slot =
 
 -- the frame of slot 3 mapped at an address under the root table of slot 1, by a rights word
 abbrev pub map_at : ℕ → ℕ → Result State KError
-map_at address word = map_frame space (frame_call 3 (Frame 0x11000 (rights 3) None)) (rights 3) (1 ∷ 32 ∷ address ∷ word ∷ [])
+map_at address word = map_frame space (frame_call 3 (Frame 0x11000 (rights 3) None)) (rights 3) (record { address = 1; depth = 32 }) address word
 
 -- the frame of slot 4, which is mapped
 abbrev pub map_again : Result State KError
-map_again = map_frame space (frame_call 4 (Frame 0x12000 (rights 3) (mapped_at 0x401))) (rights 3) (1 ∷ 32 ∷ 0x402000 ∷ 3 ∷ [])
+map_again = map_frame space (frame_call 4 (Frame 0x12000 (rights 3) (mapped_at 0x401))) (rights 3) (record { address = 1; depth = 32 }) 0x402000 3
 
 -- memory as a program under the root table sees it
 abbrev pub space_content : Content

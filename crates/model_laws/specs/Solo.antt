@@ -9,7 +9,8 @@ use Rattle.model.specs.declared.labels.Label.{Label}
 use Rattle.model.specs.declared.labels.Label.TheVariants.{Ran}
 use Rattle.model.specs.declared.labels.Outcome.TheVariants.{Plain}
 use Rattle.model.specs.declared.ranges.Range.{Range}
-use Rattle.model.specs.Images.Boot.{boot_area, booted}
+use Rattle.model.specs.Images.Boot.{booted}
+use Rattle.model.specs.Kernel.Setup.{boot_area}
 use Rattle.model.specs.Kernel.State.{State}
 use Rattle.model.specs.declared.refusals.Refusal.{Refusal}
 use Rattle.model.specs.Shared.Bytes.{word_bytes}
@@ -130,4 +131,4 @@ state_or otherwise (Err fault) = otherwise
 
 -- the state that loading leaves, or else the empty machine
 unfoldable pub booted_or : Image → State
-booted_or image = state_or (boot_area image) (booted image)
+booted_or image = state_or (boot_area image.header.memory_bits image.header.boot_radix) (booted image)

@@ -42,11 +42,6 @@ pub fn fifteen_frames_fit()
     ensures sixteen { placement 16 0x10 12 16 ≡ None }
 {}
 
-/// Once it is revoked all of it is free.
-pub fn revoked_memory_is_free()
-    ensures { placement 16 0 12 16 ≡ Some (0, 0x10000) }
-{}
-
 /// Slot 1 has the child 2, which has the child 3; slot 4 stands beside slot 1.
 #[tactic(auto, unfolding(model::specs::Capabilities::Slots::depth_within, model::specs::Capabilities::Slots::descends_within))]
 pub fn descendants_of_the_tree()

@@ -11,11 +11,11 @@ use Rattle.model.specs.declared.ranges.Range.{Range}
 use Rattle.model.specs.declared.refusals.Point.{Point}
 use Rattle.model.specs.declared.refusals.Refusal.{Refusal}
 use Rattle.model.specs.declared.refusals.Refusal.TheVariants.{CapNotThere, OverBudget, RangeNotKept}
-use Rattle.model.specs.Images.Described.{listed_registers}
+use Rattle.model.specs.Images.Described.{listed_registers, start_registers}
 use Rattle.model.specs.Images.Image.{Thread}
 use Rattle.model.specs.Acceptance.Measures.{measured, register_numbered}
 use Rattle.model.specs.Acceptance.NotedStates.{are_same_slots, image_slots}
-use Rattle.model.specs.Acceptance.PointRules.{entry_rules, lies_in, start_registers}
+use Rattle.model.specs.Acceptance.PointRules.{entry_rules, lies_in}
 use Rattle.model.specs.Acceptance.PointStates.{Noted, Known, point_of}
 use Rattle.model.specs.Acceptance.Ranges.{AreWithin, IsWithin, full, single, with_range}
 use Rattle.model.specs.Acceptance.Rules.{first_broken, refuse_if}

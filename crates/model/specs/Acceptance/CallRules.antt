@@ -1,23 +1,31 @@
 -- The system calls that a program may make: what has to be known of each, and what is known behind it.
 -- seL4 Reference Manual, "System Calls", for the calls; which of them are accepted is this project's own.
-use Rattle.std.specs.Prelude.{ℕ, ◌==◌, ◌-◌, ◌/◌, ◌%◌, ◌^◌, Bool, true, false, not, ◌&&◌, ◌||◌, nat_le, Option, Some, None, Result, Ok, Err, List, [], ◌∷◌, fold, replicate, take, if◌then◌else◌}
+use Rattle.std.specs.Prelude.{ℕ, ◌==◌, ◌-◌, ◌/◌, ◌%◌, ◌^◌, Bool, true, false, not, ◌&&◌, Option, Some, None, Result, Ok, Err, List, [], ◌∷◌, fold, take, if◌then◌else◌}
 use Rattle.std.specs.Option.{option_map_or}
 use Rattle.model.specs.declared.capabilities.Cap.{Cap}
-use Rattle.model.specs.declared.capabilities.Cap.TheVariants.{Untyped, Endpoint, Notification, CNode, Frame, InterruptHandler}
+use Rattle.model.specs.declared.capabilities.Cap.TheVariants.{Endpoint, Notification, Frame}
 use Rattle.model.specs.declared.errors.KError.{KError}
 use Rattle.model.specs.declared.errors.KError.TheVariants.{IllegalOperation}
 use Rattle.model.specs.declared.instructions.Register.{Register}
+use Rattle.model.specs.declared.invocations.CNodeCall.{CNodeCall}
+use Rattle.model.specs.declared.invocations.CNodeCall.TheVariants.{Copy, Mint, Move, Mutate, Delete, Revoke}
+use Rattle.model.specs.declared.invocations.FrameCall.TheVariants.{MapFrame, UnmapFrame}
+use Rattle.model.specs.declared.invocations.HandlerCall.TheVariants.{Acknowledge}
+use Rattle.model.specs.declared.invocations.Invocation.{Invocation}
+use Rattle.model.specs.declared.invocations.Invocation.TheVariants.{OnUntyped, OnCNode, OnFrame, OnHandler}
 use Rattle.model.specs.declared.lookup_failures.LookupFailure.{LookupFailure}
 use Rattle.model.specs.declared.ranges.Range.{Range}
 use Rattle.model.specs.declared.refusals.Point.{Point}
 use Rattle.model.specs.declared.refusals.Refusal.{Refusal}
 use Rattle.model.specs.declared.refusals.Refusal.TheVariants.{CallNotConstant, CallRefused, CapNotThere, PoolLost}
 use Rattle.model.specs.declared.rights.Rights.{Rights}
-use Rattle.model.specs.Kernel.Arguments.{argument_slot, word}
+use Rattle.model.specs.Kernel.Arguments.{Call, argument_slot}
+use Rattle.model.specs.Kernel.CallForms.{called}
 use Rattle.model.specs.Capabilities.CapabilityKinds.{is_untyped}
 use Rattle.model.specs.Images.Format.{◌>>=◌}
 use Rattle.model.specs.Images.Image.{Image, Thread}
-use Rattle.model.specs.Kernel.Invocations.{Call, decodes, invoke, listed_words}
+use Rattle.model.specs.Kernel.Invocations.{perform}
+use Rattle.model.specs.Kernel.Retype.{NewObject, NewEndpoint, NewNotification, NewFrame, type_of}
 use Rattle.model.specs.Capabilities.Lookup.{called_slot}
 use Rattle.model.specs.Kernel.Messages.{a0, a1, a7, extra_capabilities_of, label_of, length_of, word_registers}
 use Rattle.model.specs.Acceptance.NotedKernel.{noted_after, noted_kernel, noted_root}
@@ -112,11 +120,11 @@ abbrev pub names_such : (Cap → Bool) → Slots → Result ℕ KError → Bool
 names_such test slots (Ok slot) = test (capability_at slots slot)
 names_such test slots (Err error) = false
 
--- whether a call on a CNode is Delete or Move of untyped memory
-abbrev pub loses_pool : Slots → Call → ℕ → List ℕ → Bool
-loses_pool slots call label words =
-    (label == 11 && names_such is_untyped slots (argument_slot slots call.capability words 0))
-    || (label == 9 && names_such is_untyped slots (argument_slot slots call.root words 2))
+-- Delete or Move of untyped memory
+abbrev pub loses_pool : Slots → Call → Invocation → Bool
+loses_pool slots call (OnCNode (Delete name)) = names_such is_untyped slots (argument_slot slots call.capability name)
+loses_pool slots call (OnCNode (Move destination source)) = names_such is_untyped slots (argument_slot slots call.root source)
+loses_pool slots call _ = false
 
 -- endpoints, notifications and frames
 abbrev pub may_travel : Cap → Bool
@@ -126,32 +134,38 @@ may_travel (Frame offset r mapping) = true
 may_travel _ = false
 
 -- Copy, Mint and Move of what may travel; Delete and Revoke
-abbrev pub may_call_cnode : Slots → Cap → ℕ → List ℕ → Bool
-may_call_cnode slots root label words =
-    (nat_le 7 label && nat_le label 9 && names_such may_travel slots (argument_slot slots root words 2))
-    || (label == 11) || (label == 12)
+abbrev pub may_call_cnode : Slots → Cap → CNodeCall → Bool
+may_call_cnode slots root (Copy destination source rights_word) = names_such may_travel slots (argument_slot slots root source)
+may_call_cnode slots root (Mint destination source rights_word payload) = names_such may_travel slots (argument_slot slots root source)
+may_call_cnode slots root (Move destination source) = names_such may_travel slots (argument_slot slots root source)
+may_call_cnode slots root (Mutate destination source payload) = false
+may_call_cnode slots root (Delete name) = true
+may_call_cnode slots root (Revoke name) = true
 
--- Retype to endpoints, notifications and frames; frames are mapped without execute; interrupts are acknowledged
-abbrev pub may_call : Slots → Call → Cap → ℕ → List ℕ → Bool
-may_call slots call (Untyped offset bits watermark) label words =
-    let kind = word words 0 in (kind == 3) || (kind == 4) || (kind == 6)
-may_call slots call (CNode offset radix guard) label words = may_call_cnode slots call.root label words
-may_call slots call (Frame offset r mapping) label words = (label == 14) || (word words 3 / 4 % 2 == 0)
-may_call slots call (InterruptHandler irq_line) label words = label == 18
-may_call slots call _ label words = false
+-- the types of new objects that a program may make: endpoints, notifications and frames
+abbrev pub may_make : Option NewObject → Bool
+may_make (Some NewEndpoint) = true
+may_make (Some NewNotification) = true
+may_make (Some NewFrame) = true
+may_make _ = false
 
--- how many words a call that decodes lists
-abbrev pub word_count : Cap → ℕ → ℕ
-word_count capability label = option_map_or (λ count. count) (listed_words capability label) 0
+-- Retype to what a program may make; frames are mapped without execute; interrupts are acknowledged
+abbrev pub may_call : Slots → Call → Invocation → Bool
+may_call slots call (OnUntyped memory retyped) = may_make (type_of retyped.kind retyped.size)
+may_call slots call (OnCNode c) = may_call_cnode slots call.root c
+may_call slots call (OnFrame held (MapFrame root address rights_word)) = rights_word / 4 % 2 == 0
+may_call slots call (OnFrame held UnmapFrame) = true
+may_call slots call (OnHandler irq_line Acknowledge) = true
+may_call slots call _ = false
 
--- what an invocation leaves, by the info word and the words that it lists
-abbrev pub invoked : Image → Thread → Point → PointState → Call → ℕ → List ℕ → Bool → Result AfterCall Refusal
-invoked image t at state call label words answers =
+-- what an invocation leaves
+abbrev pub invoked : Image → Thread → Point → PointState → Call → Invocation → Bool → Result AfterCall Refusal
+invoked image t at state call c answers =
     let s = noted_kernel image t state.slots in
     do
-      after ← kernel_allows at (invoke s call label 0 words)
-      _ ← demand (not (loses_pool s.slots call label words)) (PoolLost at)
-      _ ← demand (may_call s.slots call call.capability label words) (CallRefused at IllegalOperation)
+      after ← kernel_allows at (perform s call c)
+      _ ← demand (not (loses_pool s.slots call c)) (PoolLost at)
+      _ ← demand (may_call s.slots call c) (CallRefused at IllegalOperation)
       Ok (record {
         ranges = if answers then with_answer state.ranges else state.ranges;
         slots = noted_after image t after.slots;
@@ -163,9 +177,9 @@ invoked image t at state call label words answers =
 abbrev pub invocation : Image → Thread → Point → PointState → Call → Bool → Result AfterCall Refusal
 invocation image t at state call answers = do
   info ← known at state a1
-  _ ← kernel_allows at (decodes call.capability (label_of info) (extra_capabilities_of info) (replicate (length_of info) 0))
-  words ← all_known at state (take (word_count call.capability (label_of info)) word_registers)
-  invoked image t at state call (label_of info) words answers
+  form ← kernel_allows at (called call.capability (label_of info) (extra_capabilities_of info) (length_of info))
+  words ← all_known at state (take form.count word_registers)
+  invoked image t at state call (form.call words) answers
 
 -- ---- Call, Send and NBSend
 

@@ -15,7 +15,7 @@ use Rattle.model.specs.declared.refusals.Refusal.{Refusal}
 use Rattle.model.specs.declared.refusals.Refusal.TheVariants.{BadTarget, CapNotThere, ComputedJump, IllegalInstruction, MeasureNotFalling, NotMapped, OverBudget, RangeNotKept}
 use Rattle.model.specs.Kernel.AddressSpaces.{allows, page_of, page_size}
 use Rattle.model.specs.Acceptance.CallRules.{AfterCall}
-use Rattle.model.specs.Images.Described.{listed_registers, numbered}
+use Rattle.model.specs.Images.Described.{listed_registers, numbered, start_registers}
 use Rattle.model.specs.Acceptance.Edges.{Edge, Edges, after}
 use Rattle.model.specs.Images.Image.{Image, Thread}
 use Rattle.model.specs.declared.instructions.AccessSize.{AccessSize}
@@ -194,9 +194,6 @@ unfoldable pub point_rules : Image → Numbered → ℕ → List Rule
 point_rules image t point = rules_of_noted image t point (noted image t point)
 
 -- ---- the entry
-
-abbrev pub start_registers : Thread → RegisterFile
-start_registers t = record { pc = address_of t t.header.entry; words = listed_registers t }
 
 abbrev pub lies_in : ℕ → Range → Bool
 lies_in n r = nat_le r.low n && nat_le n r.high

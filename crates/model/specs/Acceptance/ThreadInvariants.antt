@@ -1,6 +1,6 @@
 -- What stays true of a thread of an accepted image: it stands where its certificate says, with what that notes, and its
 -- instructions since the last wait and its measure together stay within its budget.
-use Rattle.std.specs.Prelude.{ℕ, ◌≡◌, ◌*◌, ◌<◌, ◌≤◌, ◌⊎◌, ◌↔◌, ◌+ℤ◌, ◌≤ℤ◌, pos, true, Some, Ok, List, Contains, slice_index}
+use Rattle.std.specs.Prelude.{ℕ, ◌≡◌, ◌*◌, ◌^◌, ◌<◌, ◌≤◌, ◌⊎◌, ◌↔◌, ◌+ℤ◌, ◌≤ℤ◌, pos, true, Some, None, Ok, List, Contains, slice_index}
 use Rattle.model.specs.declared.capabilities.Cap.TheVariants.{Frame}
 use Rattle.model.specs.declared.entries.FrameEntry.{FrameEntry}
 use Rattle.model.specs.declared.instructions.Access.TheVariants.{Fetch}
@@ -15,13 +15,13 @@ use Rattle.model.specs.Images.Described.{original}
 use Rattle.model.specs.Images.Image.{Image}
 use Rattle.model.specs.Machine.ProgramMemory.{RegisterFile, loaded, read}
 use Rattle.model.specs.Acceptance.Measures.{measured, register_numbered}
-use Rattle.model.specs.Acceptance.NotedKernel.{noted_after, noted_root}
+use Rattle.model.specs.Acceptance.NotedKernel.{noted_after, noted_root, slot_of_key}
 use Rattle.model.specs.Acceptance.NotedStates.{NotedSlot, PointState}
 use Rattle.model.specs.Images.Places.{offset_of}
 use Rattle.model.specs.Acceptance.PointStates.{Known, Numbered, address_of, call_at, instruction_at, noted}
 use Rattle.model.specs.Acceptance.Ranges.{range_of}
 use Rattle.model.specs.Capabilities.Rights.{mapping_rights, frame_rights}
-use Rattle.model.specs.Capabilities.Slots.{capability_at}
+use Rattle.model.specs.Capabilities.Slots.{capability_at, parent_at}
 use Rattle.model.specs.Kernel.State.{State, Status, Inactive, Runnable, Blocked, AwaitsReply, AwaitsHandler, ThreadObject, ThreadState, cspace_slot, vspace_slot}
 use Rattle.model.specs.Kernel.Waits.{open_count}
 
@@ -68,6 +68,13 @@ MapsAreNoted image t s slots =
     → Maps s.slots (root_table_of image t) page frame allowed
     ↔ (ImageMaps image t page frame allowed ⊎ NotedMaps image t slots page frame allowed)
 
+-- ---- parents
+
+pub record HasBootParent (s : State) (slot : ℕ) : Type 0 where
+  pub parent : ℕ
+  pub is : parent_at s.slots slot ≡ Some parent
+  pub boot : parent < 2 ^ s.boot_radix
+
 -- ---- at a point
 
 -- the thread stands at a point with a state, and all but its measure is as noted there
@@ -77,6 +84,9 @@ pub record StandsAt (image : Image) (t : Numbered) (s : State) (own : ThreadStat
   pub pc : own.registers.pc ≡ address_of t.1 point
   pub registers : LieWithin own.registers state.ranges
   pub slots : noted_after image t.1 s.slots ≡ state.slots
+  -- what the slots do not say: one without noted parent has its parent in the boot CNode
+  pub parents : (slot : NotedSlot) → Contains state.slots slot → slot.parent ≡ None
+      → HasBootParent s (slot_of_key image slot.key)
   pub program : ProgramStands image t s
   pub maps : MapsAreNoted image t s state.slots
   -- the thread's own two slots hold what the image gives it

@@ -9,7 +9,7 @@ use Rattle.model.specs.declared.entries.InterruptEntry.{InterruptEntry}
 use Rattle.model.specs.declared.entries.FrameEntry.{FrameEntry}
 use Rattle.model.specs.declared.entries.TableEntry.{TableEntry}
 use Rattle.model.specs.declared.refusals.Refusal.TheVariants.{UntypedOverlap, NoRoom, BadObject, BadCap, BadMapping, WritableCode}
-use Rattle.model.specs.Kernel.AddressSpaces.{address_limit, page_size, region_pages}
+use Rattle.model.specs.Kernel.AddressSpaces.{address_limit, page_size, region_size}
 use Rattle.model.specs.Capabilities.CapabilityKinds.{is_guard_word}
 use Rattle.model.specs.Capabilities.CapabilityFields.{is_badge}
 use Rattle.model.specs.Images.Described.{numbered}
@@ -17,27 +17,24 @@ use Rattle.model.specs.Images.Image.{Image, Content}
 use Rattle.model.specs.Capabilities.Placement.{placement}
 use Rattle.model.specs.Images.Places.{bits_of, boot_slots, is_handler, object_at, type_at, untyped_at, used_before}
 use Rattle.model.specs.Kernel.Retype.{NewObject, NewUntyped, NewThread, NewEndpoint, NewNotification, NewCNode, NewFrame, NewPageTable, NewRootTable}
+use Rattle.model.specs.Kernel.State.{boot_area_end}
 use Rattle.model.specs.Acceptance.Rules.{Rule, refuse_if}
 
 -- ---- untypeds and objects
-
--- where untyped memory may begin: behind the boot CNode and the 64 slots of the interrupt table
-abbrev pub boot_area_end : Image → ℕ
-boot_area_end image = 2 ^ (image.header.boot_radix + 4) + 1024
 
 abbrev pub untyped_end : UntypedEntry → ℕ
 untyped_end u = u.offset + 2 ^ u.bits
 
 -- the end of the untyped before this one, or of the boot area
 abbrev pub end_before : Image → ℕ → ℕ
-end_before image zero = boot_area_end image
+end_before image zero = boot_area_end image.header.boot_radix
 end_before image (suc number) = untyped_end (untyped_at image number)
 
 -- whether an untyped is misaligned, passes the end of memory, or overlaps what stands before it
 unfoldable pub overlaps : Image → ℕ × UntypedEntry → Bool
 overlaps image (number, u) =
     not (u.offset % 2 ^ u.bits == 0) || nat_lt (2 ^ image.header.memory_bits) (untyped_end u)
-    || nat_lt u.offset (boot_area_end image) || nat_lt u.offset (end_before image number)
+    || nat_lt u.offset (boot_area_end image.header.boot_radix) || nat_lt u.offset (end_before image number)
 
 -- whether an object does not fit behind the ones before it in its untyped
 unfoldable pub has_no_room : Image → ℕ → Bool
@@ -128,9 +125,6 @@ capability_rules image =
     ++ map (λ i. refuse_if (signals_nothing image i.1) (BadCap (image.header.capabilities + i.0))) (numbered image.interrupts)
 
 -- ---- mappings and contents
-
-abbrev pub region_size : ℕ
-region_size = page_size * region_pages
 
 -- a virtual address that is a multiple of a size
 abbrev pub is_address : ℕ → ℕ → Bool

@@ -1,51 +1,26 @@
 -- Booting: what comes of loading an image into an empty machine, by kernel calls alone.
 -- seL4 Reference Manual, "System Bootstrapping".
-use Rattle.std.specs.Prelude.{ℕ, suc, ◌==◌, ◌+◌, ◌-◌, ◌^◌, false, nat_lt, Option, Some, None, option_map, Result, Ok, Err, List, [], ◌∷◌, ◌++◌, map, find, fold, slice_index, if◌then◌else◌}
+use Rattle.std.specs.Prelude.{ℕ, suc, ◌==◌, ◌-◌, Option, Some, None, option_and_then, Result, Ok, Err, List, [], ◌∷◌, find, if◌then◌else◌}
 use Rattle.std.specs.Option.{option_map_or}
 use Rattle.model.specs.declared.boot_faults.BootFault.{BootFault}
 use Rattle.model.specs.declared.boot_faults.BootFault.TheVariants.{Kernel, Outside}
 use Rattle.model.specs.declared.capabilities.Cap.{Cap}
-use Rattle.model.specs.declared.capabilities.Cap.TheVariants.{CNode, InterruptControl, Untyped}
+use Rattle.model.specs.declared.capabilities.Cap.TheVariants.{CNode}
 use Rattle.model.specs.declared.errors.KError.{KError}
 use Rattle.model.specs.declared.errors.KError.TheVariants.{FailedLookup}
 use Rattle.model.specs.declared.lookup_failures.LookupFailure.{LookupFailure}
-use Rattle.model.specs.Kernel.Arguments.{◌>>=◌}
-use Rattle.model.specs.Images.BootCalls.{LoaderCall, Operation, Calls, Fills, boot_cnode, operations}
-use Rattle.model.specs.Images.Described.{Holding, held_in, holding, numbered}
-use Rattle.model.specs.Images.Fills.{Fill, is_filled}
+use Rattle.model.specs.Kernel.Arguments.{◌>>=◌, Call}
+use Rattle.model.specs.Images.BootCalls.{LoaderCall, Operation, PutsUntyped, PutsControl, Calls, Fills, boot_cnode, operations}
+use Rattle.model.specs.Images.Described.{numbered}
+use Rattle.model.specs.Images.Fills.{Fill}
 use Rattle.model.specs.Images.Image.{Image}
-use Rattle.model.specs.Kernel.Invocations.{Call, configure_with_guard, invoke}
+use Rattle.model.specs.Kernel.CallForms.{configure_label}
+use Rattle.model.specs.Kernel.Invocations.{configure_with_guard, invoke}
+use Rattle.model.specs.Kernel.Setup.{boot_area, fill, put_control, put_untyped}
 use Rattle.model.specs.Capabilities.Lookup.{called_slot}
-use Rattle.model.specs.Images.Places.{control_slot}
-use Rattle.model.specs.Capabilities.Slots.{Slots, capability_at, empty_entry}
+use Rattle.model.specs.Capabilities.Slots.{capability_at}
 use Rattle.model.specs.Kernel.State.{State}
 use Rattle.model.specs.Acceptance.WellFormed.{overlaps, too_few_boot_slots}
-
--- ---- the empty machine
-
--- untyped memory, not used yet, and interrupt control
-abbrev pub first_holdings : Image → List Holding
-first_holdings image =
-    map (λ u. holding u.0 (Untyped (u.1).offset (u.1).bits 0) None) (numbered image.untypeds)
-    ++ holding (control_slot image) InterruptControl None ∷ []
-
--- the slots of the boot CNode, and the 64 of the interrupt table behind it
-abbrev pub first_slots : Image → Slots
-first_slots image slot =
-    if nat_lt slot (2 ^ image.header.boot_radix + 64)
-    then Some (option_map_or (λ held. held) (held_in (first_holdings image) slot) empty_entry) else None
-
-unfoldable pub boot_area : Image → State
-boot_area image = record {
-  memory_bits = image.header.memory_bits;
-  boot_radix = image.header.boot_radix;
-  slots = first_slots image;
-  objects = λ offset. None;
-  bytes = λ place. None;
-  ready = λ priority. [];
-  masked = λ line. false;
-  pending = λ line. false;
-}
 
 -- ---- one call
 
@@ -67,16 +42,17 @@ boot_call s address =
 
 -- Configure has a sixth word, the guard word of the thread's CNode.
 abbrev pub performed : State → ℕ → List ℕ → Call → Result State KError
-performed s label words call = if label == 2 then configure_with_guard s call words else invoke s call label 0 words
+performed s label words call = if label == configure_label then configure_with_guard s call words else invoke s call label 0 words
 
 unfoldable pub made : State → LoaderCall → Result State KError
 made s c = boot_call s c.address >>= λ call. performed s c.label c.words call
 
 -- ---- filling frames
 
--- bytes written from the beginning of a frame on
-abbrev pub with_fill : State → Fill → State
-with_fill s f = record s { bytes = λ place. if is_filled place f then option_map (λ _. slice_index f.bytes (place - f.offset)) (s.bytes place) else s.bytes place }
+-- one fill after another, if each can be made
+abbrev pub fill_all : State → List Fill → Option State
+fill_all s [] = Some s
+fill_all s (f ∷ later) = option_and_then (λ filled. fill_all filled later) (fill s f.offset f.bytes)
 
 -- ---- the whole
 
@@ -84,15 +60,21 @@ abbrev pub goes_on : ℕ → (State → Result State BootFault) → Result State
 goes_on number next (Ok s) = next s
 goes_on number next (Err error) = Err (Kernel number error)
 
-abbrev pub filled : ℕ → (State → Result State BootFault) → State → Option (List Fill) → Result State BootFault
-filled number next s (Some fills) = next (fold with_fill s fills)
-filled number next s None = Err (Outside number)
+abbrev pub goes_on_inside : ℕ → (State → Result State BootFault) → Option State → Result State BootFault
+goes_on_inside number next (Some s) = next s
+goes_on_inside number next None = Err (Outside number)
 
--- the operations one after another, from a call number on; the first that fails gives the fault
-unfoldable pub run_from : ℕ → State → List Operation → Result State BootFault
-run_from number s [] = Ok s
-run_from number s (Calls call ∷ later) = goes_on number (λ after. run_from (suc number) after later) (made s call)
-run_from number s (Fills place fills ∷ later) = filled place (λ after. run_from number after later) s fills
+-- The operations one after another, their calls counted from a number on; the first that fails gives the fault. Untyped memory lies
+-- outside by its own number, and interrupt control by the number of untypeds.
+unfoldable pub run_from : Image → ℕ → State → List Operation → Result State BootFault
+run_from image number s [] = Ok s
+run_from image number s (PutsUntyped untyped u ∷ later) =
+    goes_on_inside untyped (λ after. run_from image number after later) (put_untyped s untyped u.offset u.bits)
+run_from image number s (PutsControl slot ∷ later) =
+    goes_on_inside image.header.untypeds (λ after. run_from image number after later) (put_control s slot)
+run_from image number s (Calls call ∷ later) = goes_on number (λ after. run_from image (suc number) after later) (made s call)
+run_from image number s (Fills place fills ∷ later) =
+    goes_on_inside place (λ after. run_from image number after later) (option_and_then (fill_all s) fills)
 
 -- the first untyped that is not where untyped memory may stand, or the number of untypeds where boot slots do not suffice
 abbrev pub misplaced : Image → Option ℕ
@@ -103,7 +85,7 @@ misplaced image =
 -- Untypeds and boot slots are looked at before the first call.
 abbrev pub boots_unless : Option ℕ → Image → Result State BootFault
 boots_unless (Some number) image = Err (Outside number)
-boots_unless None image = run_from 0 (boot_area image) (operations image)
+boots_unless None image = run_from image 0 (boot_area image.header.memory_bits image.header.boot_radix) (operations image)
 
 -- what comes of loading an image
 unfoldable pub booted : Image → Result State BootFault

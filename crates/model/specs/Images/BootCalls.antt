@@ -6,10 +6,12 @@ use Rattle.model.specs.declared.entries.CapabilityEntry.{CapabilityEntry}
 use Rattle.model.specs.declared.entries.FrameEntry.{FrameEntry}
 use Rattle.model.specs.declared.entries.InterruptEntry.{InterruptEntry}
 use Rattle.model.specs.declared.entries.TableEntry.{TableEntry}
+use Rattle.model.specs.declared.entries.UntypedEntry.{UntypedEntry}
 use Rattle.model.specs.Kernel.AddressSpaces.{page_size}
-use Rattle.model.specs.Images.Described.{numbered}
+use Rattle.model.specs.Images.Described.{numbered, start_of}
 use Rattle.model.specs.Images.Fills.{Fill, content_fill, frame_at, program_fills, program_pages}
 use Rattle.model.specs.Images.Image.{Image, Thread, Content}
+use Rattle.model.specs.Kernel.CallForms.{configure_label, copy_label, get_handler_label, map_frame_label, map_table_label, mint_label, move_label, resume_label, retype_label, set_notification_label, set_priority_label, set_register_label}
 use Rattle.model.specs.Images.Places.{control_slot, frame_copy_slot, handler_slot, notification_copy_slot, object_at, original_slot, source_slot, type_at}
 use Rattle.model.specs.Acceptance.WellFormed.{is_frame_type, is_root_type, is_untyped_type, source_type}
 
@@ -19,14 +21,18 @@ pub record LoaderCall : Type 0 where
   pub label : ℕ
   pub words : List ℕ
 
--- One operation of the loader.
+-- One operation of the loader. What cannot be done lies outside, by a number.
 pub data Operation : Type 0 where
+  -- untyped memory of this number is put into its boot slot
+  PutsUntyped : ℕ → UntypedEntry → Operation
+  -- interrupt control is put into this boot slot
+  PutsControl : ℕ → Operation
   Calls : LoaderCall → Operation
-  -- frames are filled, or where one is missing this number lies outside
+  -- frames are filled, if all are there
   Fills : ℕ → Option (List Fill) → Operation
 
-abbrev pub call : ℕ → ℕ → List ℕ → LoaderCall
-call address label words = record { address = address; label = label; words = words }
+abbrev pub loader_call : ℕ → ℕ → List ℕ → LoaderCall
+loader_call address label words = record { address = address; label = label; words = words }
 
 -- the address of the boot CNode itself
 abbrev pub boot_cnode : ℕ
@@ -42,11 +48,11 @@ boot_argument slot = slot ∷ 32 ∷ []
 abbrev pub object_call : Image → ℕ → LoaderCall
 object_call image number =
     let o = object_at image number in
-    call o.untyped 1 (o.kind ∷ o.size ∷ 0 ∷ 0 ∷ original_slot image number ∷ 1 ∷ [])
+    loader_call o.untyped retype_label (o.kind ∷ o.size ∷ 0 ∷ 0 ∷ original_slot image number ∷ 1 ∷ [])
 
 -- Get: an interrupt's handler
 abbrev pub interrupt_call : Image → ℕ × InterruptEntry → LoaderCall
-interrupt_call image i = call (control_slot image) 17 ((i.1).line ∷ boot_argument (handler_slot image i.0))
+interrupt_call image i = loader_call (control_slot image) get_handler_label ((i.1).line ∷ boot_argument (handler_slot image i.0))
 
 -- the slot that a capability is listed for: an index with as many bits as its CNode takes, and the source
 abbrev pub listed_arguments : Image → CapabilityEntry → List ℕ
@@ -56,30 +62,26 @@ listed_arguments image c = (c.index ∷ (object_at image c.cnode).size ∷ []) +
 abbrev pub capability_call : Image → CapabilityEntry → LoaderCall
 capability_call image c =
     if is_untyped_type (source_type image c.source)
-    then call (original_slot image c.cnode) 9 (listed_arguments image c)
-    else call (original_slot image c.cnode) 8 (listed_arguments image c ++ c.rights ∷ c.payload ∷ [])
+    then loader_call (original_slot image c.cnode) move_label (listed_arguments image c)
+    else loader_call (original_slot image c.cnode) mint_label (listed_arguments image c ++ c.rights ∷ c.payload ∷ [])
 
 -- Map: a page table
 abbrev pub table_call : Image → TableEntry → LoaderCall
-table_call image t = call (original_slot image t.table) 15 (boot_argument (original_slot image t.root) ++ t.address ∷ [])
+table_call image t = loader_call (original_slot image t.table) map_table_label (boot_argument (original_slot image t.root) ++ t.address ∷ [])
 
 -- Copy and Map: a frame, by a copy with all rights
 abbrev pub frame_calls : Image → ℕ × FrameEntry → List LoaderCall
 frame_calls image f =
     let copy = frame_copy_slot image f.0 in
-    call boot_cnode 7 (boot_argument copy ++ boot_argument (original_slot image (f.1).frame) ++ 3 ∷ [])
-    ∷ call copy 13 (boot_argument (original_slot image (f.1).root) ++ (f.1).address ∷ (f.1).rights ∷ []) ∷ []
+    loader_call boot_cnode copy_label (boot_argument copy ++ boot_argument (original_slot image (f.1).frame) ++ 3 ∷ [])
+    ∷ loader_call copy map_frame_label (boot_argument (original_slot image (f.1).root) ++ (f.1).address ∷ (f.1).rights ∷ []) ∷ []
 
 -- Mint and SetNotification: the notification that an interrupt signals, by a copy with all rights and the badge
 abbrev pub signal_calls : Image → ℕ × InterruptEntry → List LoaderCall
 signal_calls image i =
     let copy = notification_copy_slot image i.0 in
-    call boot_cnode 8 (boot_argument copy ++ boot_argument (original_slot image (i.1).notification) ++ 11 ∷ (i.1).badge ∷ [])
-    ∷ call (handler_slot image i.0) 19 (boot_argument copy) ∷ []
-
--- where a thread begins
-abbrev pub start_of : Thread → ℕ
-start_of t = (t.header.base + 4 * t.header.entry) % 2 ^ 32
+    loader_call boot_cnode mint_label (boot_argument copy ++ boot_argument (original_slot image (i.1).notification) ++ 11 ∷ (i.1).badge ∷ [])
+    ∷ loader_call (handler_slot image i.0) set_notification_label (boot_argument copy) ∷ []
 
 -- Configure with the thread's guard word as a sixth word, SetPriority, SetRegister for the pc and each listed register, Resume
 abbrev pub thread_calls : Image → Thread → List LoaderCall
@@ -87,9 +89,9 @@ thread_calls image t =
     let tcb = original_slot image t.header.tcb in
     let cspace = boot_argument (original_slot image t.header.cnode) in
     let vspace = boot_argument (original_slot image t.header.root) in
-    (call tcb 2 ((t.header.fault ∷ cspace) ++ vspace ++ t.header.guard ∷ []) ∷ call tcb 3 (t.header.priority ∷ [])
-    ∷ call tcb 4 (0 ∷ start_of t ∷ []) ∷ [])
-    ++ map (λ r. call tcb 4 (r.register ∷ r.value ∷ [])) t.registers ++ call tcb 5 [] ∷ []
+    (loader_call tcb configure_label ((t.header.fault ∷ cspace) ++ vspace ++ t.header.guard ∷ []) ∷ loader_call tcb set_priority_label (t.header.priority ∷ [])
+    ∷ loader_call tcb set_register_label (0 ∷ start_of t ∷ []) ∷ [])
+    ++ map (λ r. loader_call tcb set_register_label (r.register ∷ r.value ∷ [])) t.registers ++ loader_call tcb resume_label [] ∷ []
 
 -- ---- fills
 
@@ -120,7 +122,7 @@ last_calls image = flat_map (signal_calls image) (numbered image.interrupts) ++ 
 
 unfoldable pub operations : Image → List Operation
 operations image =
-    map Calls (first_calls image) ++ map (content_operation image) image.contents
+    map (λ u. PutsUntyped u.0 u.1) (numbered image.untypeds) ++ PutsControl (control_slot image) ∷ map Calls (first_calls image) ++ map (content_operation image) image.contents
     ++ map (program_operation image) (numbered image.threads) ++ map Calls (last_calls image)
 
 -- all calls, numbered from 0 in this order

@@ -21,7 +21,8 @@ use Rattle.model.specs.Kernel.Retype.{first_capability, object}
 use Rattle.model.specs.Capabilities.Rights.{rights, endpoint_rights, frame_rights, mapping_rights}
 use Rattle.model.specs.Kernel.Scheduling.{full_slice}
 use Rattle.model.specs.Capabilities.Slots.{Slots, empty_entry, is_within}
-use Rattle.model.specs.Kernel.State.{State, ThreadState, Object, ThreadObject, Runnable, cspace_slot, vspace_slot, slot_of}
+use Rattle.model.specs.Kernel.State.{State, ThreadState, Object, ThreadObject, Runnable, boot_area_slots, cspace_slot, line_slot, vspace_slot, slot_of}
+use Rattle.model.specs.Machine.ProgramMemory.{RegisterFile}
 
 -- a full slot
 abbrev pub Holding : Type 0
@@ -84,7 +85,7 @@ notification_holding image i =
 -- slot i of the interrupt table binds line i; the table stands behind the boot CNode
 abbrev pub binding_holding : Image → ℕ × InterruptEntry → Holding
 binding_holding image i =
-    holding (2 ^ image.header.boot_radix + (i.1).line) (signalled image i.1) (Some (notification_copy_slot image i.0))
+    holding (line_slot image.header.boot_radix (i.1).line) (signalled image i.1) (Some (notification_copy_slot image i.0))
 
 -- ---- the slots of CNodes and threads
 
@@ -143,7 +144,7 @@ is_object_slot image slot number =
 
 unfoldable pub is_open_slot : Image → ℕ → Bool
 is_open_slot image slot =
-    nat_lt slot (2 ^ image.header.boot_radix + 64) || list_any (is_object_slot image slot) (range_with_len 0 image.header.objects)
+    nat_lt slot (boot_area_slots image.header.boot_radix) || list_any (is_object_slot image slot) (range_with_len 0 image.header.objects)
 
 -- what a slot holds by a list of full slots
 abbrev pub held_in : List Holding → ℕ → Option Entry
@@ -159,9 +160,16 @@ described_slots image slot =
 abbrev pub listed_registers : Thread → List ℕ
 listed_registers t = fold (λ words r. slice_set words r.register r.value) (replicate 32 0) t.registers
 
+-- where a thread begins
+abbrev pub start_of : Thread → ℕ
+start_of t = (t.header.base + 4 * t.header.entry) % 2 ^ 32
+
+abbrev pub start_registers : Thread → RegisterFile
+start_registers t = record { pc = start_of t; words = listed_registers t }
+
 abbrev pub listed_thread : Thread → ThreadState
 listed_thread t = record {
-  registers = record { pc = (t.header.base + 4 * t.header.entry) % 2 ^ 32; words = listed_registers t };
+  registers = start_registers t;
   priority = t.header.priority;
   slice = full_slice;
   fault_address = t.header.fault;

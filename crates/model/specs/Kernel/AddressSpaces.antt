@@ -1,7 +1,7 @@
 -- Address spaces: the pages that capabilities map under a root table.
 -- seL4 Reference Manual, "Address Spaces and Virtual Memory"; a virtual address has a page of 4096 bytes in bits 12 to 31,
 -- and a page table maps the 1024 pages of a region of 4 MiB (RISC-V Privileged Architecture, "Sv32").
-use Rattle.std.specs.Prelude.{ℕ, ◌≡◌, ◌==◌, ◌+◌, ◌/◌, ◌%◌, ◌^◌, ◌&&◌, Bool, false, if◌then◌else◌, Option, Some, None, option_and_then}
+use Rattle.std.specs.Prelude.{ℕ, ◌≡◌, ◌==◌, ◌+◌, ◌*◌, ◌/◌, ◌%◌, ◌^◌, ◌&&◌, Bool, false, if◌then◌else◌, Option, Some, None, option_and_then}
 use Rattle.std.specs.Prelude.{filter_map}
 use Rattle.std.specs.Option.{option_map_or}
 use Rattle.model.specs.declared.capabilities.Cap.{Cap}
@@ -24,6 +24,10 @@ page_size = 2 ^ 12
 
 abbrev pub region_pages : ℕ
 region_pages = 2 ^ 10
+
+-- bytes of a region
+abbrev pub region_size : ℕ
+region_size = page_size * region_pages
 
 -- virtual addresses from here on are never mapped
 abbrev pub address_limit : ℕ

@@ -4,7 +4,7 @@ use Rattle.std.specs.Prelude.{ℕ, zero, suc, ◌==◌, ◌-◌, ◌*◌, ◌/�
 use Rattle.std.specs.Option.{option_map_or}
 use Rattle.std.specs.List.{list_any, range_with_len}
 use Rattle.model.specs.declared.capabilities.Cap.{Cap}
-use Rattle.model.specs.declared.capabilities.Cap.TheVariants.{Untyped, Frame, PageTable}
+use Rattle.model.specs.declared.capabilities.Cap.TheVariants.{Untyped, Frame, PageTable, RootTable}
 use Rattle.model.specs.declared.capabilities.FrameMapping.{FrameMapping}
 use Rattle.model.specs.declared.capabilities.TableMapping.{TableMapping}
 use Rattle.model.specs.declared.errors.KError.{KError}
@@ -89,13 +89,21 @@ loses_last_child s set slot =
     list_any (λ child. set child && is_some_slot slot (parent_at s.slots child)) (slots_of s)
     && not (list_any (λ child. not (set child) && is_some_slot slot (new_parent s set child)) (slots_of s))
 
+abbrev pub is_root_at : ℕ → Cap → Bool
+is_root_at offset (RootTable root) = root == offset
+is_root_at offset _ = false
+
+-- the set takes the last capability to a root table; an object of another kind at its offset is none
+abbrev pub ends_root : State → SlotSet → ℕ → Bool
+ends_root s set root = takes_last s set (is_root_at root)
+
 -- a mapping goes with its root table, and that of a frame with the page table that it stands in
 abbrev pub frame_loses : State → SlotSet → FrameMapping → Bool
 frame_loses s set mapping =
-    ends s set mapping.root || some_inside s set (maps_region mapping.root (mapping.page / region_pages))
+    ends_root s set mapping.root || some_inside s set (maps_region mapping.root (mapping.page / region_pages))
 
 abbrev pub table_loses : State → SlotSet → TableMapping → Bool
-table_loses s set mapping = ends s set mapping.root
+table_loses s set mapping = ends_root s set mapping.root
 
 -- what becomes of the capability in a slot that stays
 abbrev pub kept : State → SlotSet → ℕ → Cap → Cap

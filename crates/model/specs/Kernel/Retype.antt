@@ -7,13 +7,16 @@ use Rattle.model.specs.declared.capabilities.Cap.{Cap}
 use Rattle.model.specs.declared.capabilities.Cap.TheVariants.{Untyped, Endpoint, Notification, CNode, Frame, PageTable, Tcb, RootTable}
 use Rattle.model.specs.declared.errors.KError.{KError}
 use Rattle.model.specs.declared.errors.KError.TheVariants.{DeleteFirst, FailedLookup, InvalidArgument, NotEnoughMemory, RangeError}
-use Rattle.model.specs.Kernel.Arguments.{◌>>=◌, argument_slot, check, may_have_child, wanted, word}
+use Rattle.model.specs.declared.invocations.RetypeCall.{RetypeCall}
+use Rattle.model.specs.declared.invocations.SlotName.{SlotName}
+use Rattle.model.specs.declared.invocations.UntypedMemory.{UntypedMemory}
+use Rattle.model.specs.Kernel.Arguments.{◌>>=◌, argument_slot, check, may_have_child, wanted}
 use Rattle.model.specs.Capabilities.CapabilityKinds.{cnode_of}
 use Rattle.model.specs.Capabilities.Placement.{placement}
 use Rattle.model.specs.Kernel.Removal.{slot_count}
 use Rattle.model.specs.Capabilities.Rights.{endpoint_rights, frame_rights}
 use Rattle.model.specs.Capabilities.Slots.{Slots, capability_at, empty_entry, is_full, is_within, recapped}
-use Rattle.model.specs.Kernel.State.{State, Object, ThreadObject, EndpointObject, NotificationObject, CNodeObject, FrameObject, PageTableObject, RootTableObject, new_endpoint, new_notification, new_thread, slot_of}
+use Rattle.model.specs.Kernel.State.{State, Object, ThreadObject, EndpointObject, NotificationObject, CNodeObject, FrameObject, PageTableObject, RootTableObject, new_endpoint, new_notification, new_thread, slot_of, with_slots}
 
 -- ---- the types of objects
 
@@ -101,12 +104,12 @@ pub record NewObjects : Type 0 where
 abbrev pub size_of : NewObjects → ℕ
 size_of new = 2 ^ object_bits new.kind
 
-abbrev pub offset_of : NewObjects → ℕ → ℕ
-offset_of new i = new.first + i * size_of new
+abbrev pub place_of_new : NewObjects → ℕ → ℕ
+place_of_new new i = new.first + i * size_of new
 
 -- whether this holds of one of them
 abbrev pub some_new : NewObjects → (ℕ → Bool) → Bool
-some_new new test = list_any test (map (offset_of new) (range_with_len 0 new.count))
+some_new new test = list_any test (map (place_of_new new) (range_with_len 0 new.count))
 
 -- the objects with the new ones
 abbrev pub with_new_objects : NewObjects → (ℕ → Option Object) → ℕ → Option Object
@@ -122,7 +125,7 @@ with_new_slots new slots slot =
 abbrev pub with_first_capabilities : NewObjects → ℕ → ℕ → Slots → Slots
 with_first_capabilities new window parent slots slot =
     if is_within window new.count slot
-    then Some (record { capability = first_capability new.kind (offset_of new (slot - window)); parent = Some parent })
+    then Some (record { capability = first_capability new.kind (place_of_new new (slot - window)); parent = Some parent })
     else slots slot
 
 -- the bytes with those of the new frames, which are zero
@@ -140,30 +143,27 @@ with_new s new window parent = record s {
 
 -- ---- the call
 
--- the CNode that an address and a depth name; depth 0 names the root itself
-abbrev pub node : Slots → Cap → List ℕ → ℕ → Result (ℕ × ℕ) KError
-node slots root words i =
-    if word words (i + 1) == 0
+-- the CNode of this name; depth 0 names the root itself
+abbrev pub node : Slots → Cap → SlotName → Result (ℕ × ℕ) KError
+node slots root name =
+    if name.depth == 0
     then wanted (cnode_of root) FailedLookup
-    else (argument_slot slots root words i >>= λ slot. wanted (cnode_of (capability_at slots slot)) FailedLookup)
+    else (argument_slot slots root name >>= λ slot. wanted (cnode_of (capability_at slots slot)) FailedLookup)
 
 abbrev pub any_full : Slots → ℕ → ℕ → Bool
 any_full slots first count = list_any (is_full slots) (range_with_len first count)
 
--- Words: type, size, the CNode's address and depth, the first index, how many. The untyped memory at an offset, of
--- 2 ^ bits bytes, stands in `slot` and is used up to its watermark.
-unfoldable pub retype : State → Cap → ℕ → ℕ → ℕ → ℕ → List ℕ → Result State KError
-retype s root slot offset bits watermark words =
-    let index = word words 4 in
-    let count = word words 5 in
-    do
-      kind ← wanted (type_of (word words 0) (word words 1)) InvalidArgument
-      _ ← check (is_large_enough kind) InvalidArgument
-      _ ← check (is_small_enough kind) RangeError
-      cnode ← node s.slots root words 2
-      _ ← check (nat_le 1 count && nat_le count 256 && nat_le (index + count) (2 ^ cnode.1)) RangeError
-      _ ← check (not (any_full s.slots (slot_of cnode.0 index) count)) DeleteFirst
-      _ ← may_have_child s.slots slot
-      place ← wanted (placement bits watermark (object_bits kind) count) NotEnoughMemory
-      let new : NewObjects = record { kind = kind; first = offset + place.0; count = count } in
-          Ok (with_new (record s { slots = recapped s.slots slot (Untyped offset bits place.1) }) new (slot_of cnode.0 index) slot)
+-- the untyped memory stands in `slot`
+unfoldable pub retype : State → Cap → ℕ → UntypedMemory → RetypeCall → Result State KError
+retype s root slot memory call = do
+  kind ← wanted (type_of call.kind call.size) InvalidArgument
+  _ ← check (is_large_enough kind) InvalidArgument
+  _ ← check (is_small_enough kind) RangeError
+  cnode ← node s.slots root call.node
+  _ ← check (nat_le 1 call.count && nat_le call.count 256 && nat_le (call.index + call.count) (2 ^ cnode.1)) RangeError
+  _ ← check (not (any_full s.slots (slot_of cnode.0 call.index) call.count)) DeleteFirst
+  _ ← may_have_child s.slots slot
+  place ← wanted (placement memory.bits memory.watermark (object_bits kind) call.count) NotEnoughMemory
+  let new : NewObjects = record { kind = kind; first = memory.offset + place.0; count = call.count } in
+      let used = recapped s.slots slot (Untyped memory.offset memory.bits place.1) in
+      Ok (with_new (with_slots s used) new (slot_of cnode.0 call.index) slot)

@@ -1,6 +1,6 @@
 -- The state of the kernel between two events: what there is, apart from how it is represented.
 -- seL4 Reference Manual, "Kernel Services and Objects", for the kinds of objects and for capabilities.
-use Rattle.std.specs.Prelude.{ℕ, ◌==◌, ◌+◌, ◌/◌, ◌^◌, Bool, if◌then◌else◌, Option, Some, None, List, [], replicate}
+use Rattle.std.specs.Prelude.{ℕ, ◌==◌, ◌+◌, ◌*◌, ◌/◌, ◌^◌, Bool, if◌then◌else◌, Option, Some, None, List, [], replicate}
 use Rattle.std.specs.Option.{option_map_or}
 use Rattle.std.specs.List.{list_any, range_with_len}
 use Rattle.model.specs.Machine.ProgramMemory.{RegisterFile}
@@ -111,6 +111,9 @@ pub record State : Type 0 where
   -- the lines that were raised meanwhile
   pub pending : ℕ → Bool
 
+abbrev pub with_slots : State → Slots → State
+with_slots s slots = record s { slots = slots }
+
 -- a map with another value at one place
 abbrev pub put : {A : Type 0} → (ℕ → A) → ℕ → A → ℕ → A
 put map place value other = if other == place then value else map other
@@ -187,9 +190,20 @@ cspace_slot thread = slot_of thread 0
 abbrev pub vspace_slot : ℕ → ℕ
 vspace_slot thread = slot_of thread 1
 
--- The boot CNode stands at offset 0, and the interrupt table with a slot for each of 64 lines behind it.
+-- The boot CNode stands at offset 0, and the interrupt table with a slot for each of 64 lines behind it: a line's slot, and
+-- how many slots both have.
+abbrev pub line_slot : ℕ → ℕ → ℕ
+line_slot radix line = 2 ^ radix + line
+
+abbrev pub boot_area_slots : ℕ → ℕ
+boot_area_slots radix = line_slot radix 64
+
+-- where untyped memory may begin
+abbrev pub boot_area_end : ℕ → ℕ
+boot_area_end radix = 16 * boot_area_slots radix
+
 abbrev pub binding_slot : State → ℕ → ℕ
-binding_slot s line = 2 ^ s.boot_radix + line
+binding_slot s line = line_slot s.boot_radix line
 
 -- the numbers of all slots that memory of 2 ^ bits bytes can have
 unfoldable pub slot_numbers : ℕ → List ℕ

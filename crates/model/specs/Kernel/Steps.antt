@@ -27,7 +27,8 @@ use Rattle.model.specs.Machine.Decoding.{decoded}
 use Rattle.model.specs.Machine.ProgramMemory.{RegisterFile, loaded, read, write}
 use Rattle.model.specs.Machine.Effects.{effect}
 use Rattle.model.specs.Kernel.Interrupts.{raise}
-use Rattle.model.specs.Kernel.Invocations.{Call, invoke}
+use Rattle.model.specs.Kernel.Arguments.{Call}
+use Rattle.model.specs.Kernel.Invocations.{invoke}
 use Rattle.model.specs.Shared.Labels.{error_number}
 use Rattle.model.specs.Capabilities.Lookup.{called_slot}
 use Rattle.model.specs.Kernel.Messages.{a0, a1, a7, extra_capabilities_of, info_word, message_of, passes, passes_with, poll, receive, reply, send, signal, try_to_receive, try_to_send, wait, with_registers}

@@ -1,0 +1,255 @@
+-- Authority: what an event may change. A thread holds what stands in the slots of the CNodes that the image gives it, before
+-- its step.
+-- seL4 Reference Manual, "Capability-based Access Control"; the clauses are our own.
+use Rattle.std.specs.Prelude.{ℕ, ◌≡◌, ◌≢◌, ◌+◌, ◌^◌, ◌≤◌, ◌⊎◌, false, IsSome, IsTrue, bit_and, bit_or, Contains, Option, Some, None, List, [], ◌∷◌, ◌++◌}
+use Rattle.std.specs.List.{list_any}
+use Rattle.model.specs.declared.capabilities.Cap.{Cap}
+use Rattle.model.specs.declared.capabilities.Cap.TheVariants.{Empty, Untyped, Endpoint, Notification, Frame, InterruptControl, InterruptHandler}
+use Rattle.model.specs.declared.capabilities.FrameMapping.{FrameMapping}
+use Rattle.model.specs.declared.capabilities.TableMapping.{TableMapping}
+use Rattle.model.specs.declared.events.Event.{Event}
+use Rattle.model.specs.declared.events.Event.TheVariants.{Step, Tick, Irq}
+use Rattle.model.specs.declared.instructions.Access.TheVariants.{Store}
+use Rattle.model.specs.declared.rights.Rights.{Rights}
+use Rattle.model.specs.Acceptance.NotedKernel.{stands_in}
+use Rattle.model.specs.Acceptance.ThreadRules.{reached}
+use Rattle.model.specs.Capabilities.CapabilityKinds.{frame_mapping, table_mapping, unmapped}
+use Rattle.model.specs.Capabilities.Rights.{rights}
+use Rattle.model.specs.Capabilities.Slots.{capability_at}
+use Rattle.model.specs.Images.Image.{Image, Thread}
+use Rattle.model.specs.Images.Places.{offset_of}
+use Rattle.model.specs.Kernel.AddressSpaces.{content_of}
+use Rattle.model.specs.Kernel.Deliveries.{Reason, woken}
+use Rattle.model.specs.Kernel.Interrupts.{binding}
+use Rattle.model.specs.Kernel.Kinds.{Names, frame_around, kind_at, times}
+use Rattle.model.specs.Kernel.Messages.{a0}
+use Rattle.model.specs.Kernel.Retype.{NewObject, NewEndpoint, NewNotification, NewFrame, object, object_bits}
+use Rattle.model.specs.Kernel.Scheduling.{current, head_of, is_runnable, without}
+use Rattle.model.specs.Kernel.State.{State, Runnable, ThreadObject, EndpointObject, NotificationObject, EndpointState, NotificationState, ThreadState, notification_at}
+use Rattle.model.specs.Machine.Effects.{advanced}
+use Rattle.model.specs.Machine.ProgramMemory.{write}
+
+-- ---- capabilities
+
+-- the rights of a capability to an object
+abbrev pub rights_of : Cap → Rights
+rights_of (Endpoint offset r badge) = r
+rights_of (Notification offset r badge) = r
+rights_of (Frame offset r mapping) = r
+rights_of _ = rights 0
+
+abbrev pub badge_of : Cap → ℕ
+badge_of (Endpoint offset r badge) = badge
+badge_of (Notification offset r badge) = badge
+badge_of _ = 0
+
+-- a capability apart from its mapping, or its watermark
+abbrev pub without_use : Cap → Cap
+without_use (Untyped offset bits watermark) = Untyped offset bits 0
+without_use capability = unmapped capability
+
+-- ---- what a thread holds
+
+-- the thread's control block
+abbrev pub self_of : Image → Thread → ℕ
+self_of image t = offset_of image t.header.tcb
+
+-- a slot of the thread's CNodes
+abbrev pub IsOwnSlot : Image → Thread → ℕ → Type 0
+IsOwnSlot image t slot = IsTrue (list_any (stands_in image slot) (reached image t))
+
+-- the thread holds such a capability
+pub record Holds (image : Image) (t : Thread) (s : State) (Such : Cap → Type 0) : Type 0 where
+  pub slot : ℕ
+  pub own : IsOwnSlot image t slot
+  pub such : Such (capability_at s.slots slot)
+
+-- untyped memory around all bytes of a piece of memory
+pub record IsUntypedAround (first size : ℕ) (capability : Cap) : Type 0 where
+  pub offset : ℕ
+  pub bits : ℕ
+  pub watermark : ℕ
+  pub is : capability ≡ Untyped offset bits watermark
+  pub begins : offset ≤ first
+  pub ends : first + size ≤ offset + 2 ^ bits
+
+-- a handler of a line that is bound to this notification
+pub record HandlesBinding (s : State) (notification : ℕ) (capability : Cap) : Type 0 where
+  pub number : ℕ
+  pub badge : ℕ
+  pub is : capability ≡ InterruptHandler number
+  pub bound : binding s number ≡ Some (notification, badge)
+
+-- ---- new capabilities
+
+-- a capability to an object of the same type, with these rights among its own, and with this badge or none
+pub record Covers (new : Cap) (held : Cap) : Type 0 where
+  pub kind : NewObject
+  pub offset : ℕ
+  pub names : Names kind offset new
+  pub same : Names kind offset held
+  pub rights : bit_and (rights_of held).0 (rights_of new).0 ≡ (rights_of new).0
+  pub badge : (badge_of held ≡ 0) ⊎ (badge_of held ≡ badge_of new)
+
+-- why a thread may have a capability that is new in a slot of its own
+pub data Granted (image : Image) (t : Thread) (s after : State) : Cap → Type 0 where
+  -- it held one to the same object with these rights
+  held : (capability : Cap) → Holds image t s (Covers capability) → Granted image t s after capability
+  -- the object appeared, whole inside untyped memory that it held
+  appeared : (capability : Cap) (kind : NewObject) (offset : ℕ) → Names kind offset capability
+      → s.objects offset ≡ None → kind_at after offset ≡ Some kind → Holds image t s (IsUntypedAround offset (2 ^ object_bits kind))
+      → Granted image t s after capability
+  -- untyped memory inside untyped memory that it held
+  pool : (offset bits watermark : ℕ) → Holds image t s (IsUntypedAround offset (2 ^ bits)) → Granted image t s after (Untyped offset bits watermark)
+  handler : (number : ℕ) → Holds image t s (λ capability. capability ≡ InterruptHandler number) → Granted image t s after (InterruptHandler number)
+  control : Holds image t s (λ capability. capability ≡ InterruptControl) → Granted image t s after InterruptControl
+
+-- ---- objects and bytes
+
+-- an object appears, all new, or ends, inside untyped memory that the thread holds
+pub data ObjectChange (image : Image) (t : Thread) (s after : State) (offset : ℕ) : Type 0 where
+  appears : (kind : NewObject) → s.objects offset ≡ None → after.objects offset ≡ object kind
+      → Holds image t s (IsUntypedAround offset (2 ^ object_bits kind)) → ObjectChange image t s after offset
+  ends : (kind : NewObject) → kind_at s offset ≡ Some kind → after.objects offset ≡ None
+      → Holds image t s (IsUntypedAround offset (2 ^ object_bits kind)) → ObjectChange image t s after offset
+
+-- a byte changes: the thread wrote it into a frame that stays, or it comes with a frame, as 0, or goes with it
+pub data ByteChange (image : Image) (t : Thread) (s after : State) (place : ℕ) : Type 0 where
+  written : IsSome (s.bytes place) → IsSome (after.bytes place) → (address : ℕ)
+      → (content_of s (self_of image t)).place Store address ≡ Some place → ByteChange image t s after place
+  comes_with_frame : kind_at s (frame_around place) ≢ Some NewFrame → kind_at after (frame_around place) ≡ Some NewFrame
+      → after.bytes place ≡ Some 0 → ByteChange image t s after place
+  goes_with_frame : kind_at s (frame_around place) ≡ Some NewFrame → kind_at after (frame_around place) ≢ Some NewFrame
+      → after.bytes place ≡ None → ByteChange image t s after place
+
+-- ---- the ready list
+
+-- a thread of this priority that did not run, and does so now
+pub record IsWoken (s after : State) (priority thread : ℕ) : Type 0 where
+  pub before : ThreadState
+  pub changed : ThreadState
+  pub was : s.objects thread ≡ Some (ThreadObject before)
+  pub rested : is_runnable before.status ≡ false
+  pub is : after.objects thread ≡ Some (ThreadObject changed)
+  pub runs : changed.status ≡ Runnable
+  pub at : changed.priority ≡ priority
+
+-- Without the thread itself the list is the old one with threads behind it that were woken, each once. The thread moves, or
+-- leaves.
+pub record ReadyChange (s after : State) (self priority : ℕ) : Type 0 where
+  pub added : List ℕ
+  pub list : without self (after.ready priority) ≡ without self (s.ready priority) ++ added
+  pub woken : (thread : ℕ) → Contains added thread → IsWoken s after priority thread
+  pub once : (thread : ℕ) → times thread added ≤ 1
+  pub own : times self (after.ready priority) ≤ times self (s.ready priority)
+
+-- ---- a step of a thread
+
+pub record WithinAuthority (image : Image) (t : Thread) (s after : State) : Type 0 where
+  pub memory_bits : after.memory_bits ≡ s.memory_bits
+  pub boot_radix : after.boot_radix ≡ s.boot_radix
+  pub bytes : (place : ℕ) → s.bytes place ≢ after.bytes place → ByteChange image t s after place
+  pub objects : (offset : ℕ) → kind_at s offset ≢ kind_at after offset → ObjectChange image t s after offset
+  -- slots change only in its CNodes
+  pub slots : (slot : ℕ) → s.slots slot ≢ after.slots slot → IsOwnSlot image t slot
+  -- mappings change only under its root table
+  pub frame_mappings : (slot : ℕ) (mapping : FrameMapping)
+      → frame_mapping (capability_at s.slots slot) ≢ frame_mapping (capability_at after.slots slot)
+      → (frame_mapping (capability_at s.slots slot) ≡ Some mapping) ⊎ (frame_mapping (capability_at after.slots slot) ≡ Some mapping)
+      → mapping.root ≡ offset_of image t.header.root
+  pub table_mappings : (slot : ℕ) (mapping : TableMapping)
+      → table_mapping (capability_at s.slots slot) ≢ table_mapping (capability_at after.slots slot)
+      → (table_mapping (capability_at s.slots slot) ≡ Some mapping) ⊎ (table_mapping (capability_at after.slots slot) ≡ Some mapping)
+      → mapping.root ≡ offset_of image t.header.root
+  -- a capability that is new in a slot was granted
+  pub capabilities : (slot : ℕ) → without_use (capability_at s.slots slot) ≢ without_use (capability_at after.slots slot)
+      → capability_at after.slots slot ≢ Empty → Granted image t s after (capability_at after.slots slot)
+  -- endpoints and notifications change only where it holds them, or the handler of a line that is bound to them
+  pub endpoints : (offset : ℕ) (old new : EndpointState) → s.objects offset ≡ Some (EndpointObject old)
+      → after.objects offset ≡ Some (EndpointObject new) → old ≢ new → Holds image t s (Names NewEndpoint offset)
+  pub notifications : (offset : ℕ) (old new : NotificationState) → s.objects offset ≡ Some (NotificationObject old)
+      → after.objects offset ≡ Some (NotificationObject new) → old ≢ new
+      → Holds image t s (Names NewNotification offset) ⊎ Holds image t s (HandlesBinding s offset)
+  -- another thread changes only for one of the reasons
+  pub threads : (other : ℕ) (old new : ThreadState) → other ≢ self_of image t → s.objects other ≡ Some (ThreadObject old)
+      → after.objects other ≡ Some (ThreadObject new) → old ≢ new → Reason s after (self_of image t) (Holds image t s) other old new
+  -- lines change only where it holds the handler
+  pub lines : (number : ℕ) → (s.masked number ≢ after.masked number) ⊎ (s.pending number ≢ after.pending number)
+      → Holds image t s (λ capability. capability ≡ InterruptHandler number)
+  pub ready : (priority : ℕ) → ReadyChange s after (self_of image t) priority
+
+-- ---- ticks
+
+-- slots, bytes and the shape of the machine stay
+pub record SameStore (s after : State) : Type 0 where
+  pub memory_bits : after.memory_bits ≡ s.memory_bits
+  pub boot_radix : after.boot_radix ≡ s.boot_radix
+  pub slots : (slot : ℕ) → after.slots slot ≡ s.slots slot
+  pub bytes : (place : ℕ) → after.bytes place ≡ s.bytes place
+
+-- a tick changes the current thread's slice and place alone
+pub record WithinTick (s after : State) : Type 0 where
+  pub store : SameStore s after
+  pub masked : (number : ℕ) → after.masked number ≡ s.masked number
+  pub pending : (number : ℕ) → after.pending number ≡ s.pending number
+  pub others : (offset : ℕ) → current s ≢ Some offset → after.objects offset ≡ s.objects offset
+  pub runs : (thread : ℕ) (old : ThreadState) → current s ≡ Some thread → s.objects thread ≡ Some (ThreadObject old)
+      → (slice : ℕ) × (after.objects thread ≡ Some (ThreadObject (record old { slice = slice })))
+  pub idle : current s ≡ None → (priority : ℕ) → after.ready priority ≡ s.ready priority
+  pub ready : (thread priority : ℕ) → current s ≡ Some thread → without thread (after.ready priority) ≡ without thread (s.ready priority)
+  pub once : (thread priority : ℕ) → current s ≡ Some thread → times thread (after.ready priority) ≤ times thread (s.ready priority)
+
+-- ---- interrupts
+
+-- the interrupt of a line is delivered: the line is bound, and not masked
+pub record IsDelivered (number : ℕ) (s : State) (notification badge : ℕ) : Type 0 where
+  pub bound : binding s number ≡ Some (notification, badge)
+  pub unmasked : s.masked number ≡ false
+
+-- what becomes of the notification that a line is bound to, and of the first thread that waits there
+pub data InterruptChange (number : ℕ) (s after : State) (offset : ℕ) : Type 0 where
+  -- nobody waits: the badge joins the word
+  joins : (badge : ℕ) (old : NotificationState) → IsDelivered number s offset badge
+      → s.objects offset ≡ Some (NotificationObject old) → old.waiters ≡ []
+      → after.objects offset ≡ Some (NotificationObject (record old { word = bit_or old.word badge }))
+      → InterruptChange number s after offset
+  -- the first waiter goes
+  passes_on : (badge waiter : ℕ) (others : List ℕ) (old : NotificationState) → IsDelivered number s offset badge
+      → s.objects offset ≡ Some (NotificationObject old) → old.waiters ≡ waiter ∷ others
+      → after.objects offset ≡ Some (NotificationObject (record old { waiters = others }))
+      → InterruptChange number s after offset
+  -- and it is that waiter, which gets the badge
+  wakes : (notification badge : ℕ) (old : ThreadState) → IsDelivered number s notification badge
+      → head_of (notification_at s notification).waiters ≡ Some offset → s.objects offset ≡ Some (ThreadObject old)
+      → after.objects offset ≡ Some (ThreadObject (woken old (advanced (write old.registers a0 badge))))
+      → InterruptChange number s after offset
+
+-- the first waiter, and nobody else, goes to the tail of its priority
+pub data InterruptReady (number : ℕ) (s after : State) (priority : ℕ) : Type 0 where
+  stays : after.ready priority ≡ s.ready priority → InterruptReady number s after priority
+  adds : (notification badge thread : ℕ) → IsDelivered number s notification badge
+      → head_of (notification_at s notification).waiters ≡ Some thread → IsWoken s after priority thread
+      → after.ready priority ≡ s.ready priority ++ thread ∷ [] → InterruptReady number s after priority
+
+-- an interrupt changes its line, the notification that is bound to it, and the first thread that waits there
+pub record WithinInterrupt (number : ℕ) (s after : State) : Type 0 where
+  pub store : SameStore s after
+  pub masked : (other : ℕ) → other ≢ number → after.masked other ≡ s.masked other
+  pub pending : (other : ℕ) → other ≢ number → after.pending other ≡ s.pending other
+  pub objects : (offset : ℕ) → s.objects offset ≢ after.objects offset → InterruptChange number s after offset
+  pub ready : (priority : ℕ) → InterruptReady number s after priority
+
+-- ---- an event
+
+-- the step of a thread of the image
+pub record OwnStep (image : Image) (s after : State) : Type 0 where
+  pub thread : Thread
+  pub listed : Contains image.threads thread
+  pub runs : current s ≡ Some (self_of image thread)
+  pub within : WithinAuthority image thread s after
+
+-- An event stays within authority: where no thread runs, a step changes nothing.
+abbrev pub StaysWithin : Image → State → Event → State → Type 0
+StaysWithin image s Step after = ((current s ≡ None) × (after ≡ s)) ⊎ OwnStep image s after
+StaysWithin image s Tick after = WithinTick s after
+StaysWithin image s (Irq irq_line) after = WithinInterrupt irq_line s after

@@ -1,0 +1,93 @@
+-- What a step of one thread makes of another, and why: each change is named by the reason for it, and tied to the message, the
+-- badge and the queue of that reason.
+-- seL4 Reference Manual, "Message Passing (IPC)" and "Notifications". The threads of accepted images have no faults, so
+-- none is told to another thread here.
+use Rattle.std.specs.Prelude.{ℕ, ◌≡◌, ◌≢◌, ◌==◌, ◌⊎◌, Bool, if◌then◌else◌, IsTrue, Option, Some, None, List, ◌∷◌}
+use Rattle.model.specs.declared.capabilities.Cap.{Cap}
+use Rattle.model.specs.declared.capabilities.Cap.TheVariants.{Endpoint, Notification, InterruptHandler}
+use Rattle.model.specs.declared.rights.Rights.{Rights}
+use Rattle.model.specs.Capabilities.Rights.{may_read, may_write}
+use Rattle.model.specs.Kernel.Interrupts.{binding}
+use Rattle.model.specs.Kernel.Messages.{a0, delivered, message_of, resumption}
+use Rattle.model.specs.Kernel.Scheduling.{full_slice, head_of}
+use Rattle.model.specs.Kernel.State.{State, Status, Inactive, Runnable, Blocked, AwaitsReply, AwaitsHandler, Sender, Sent, BySend, ByCall, ByFault, ThreadState, endpoint_at, notification_at, thread_at}
+use Rattle.model.specs.Machine.Effects.{advanced}
+use Rattle.model.specs.Machine.ProgramMemory.{RegisterFile, write}
+
+-- a thread that is made runnable with these registers
+abbrev pub woken : ThreadState → RegisterFile → ThreadState
+woken t registers = record t { registers = registers; slice = full_slice; status = Runnable }
+
+-- ---- who may deliver
+
+-- a capability by which a thread sends to an endpoint, with this badge
+pub record SendsTo (endpoint badge : ℕ) (capability : Cap) : Type 0 where
+  pub allowed : Rights
+  pub is : capability ≡ Endpoint endpoint allowed badge
+  pub writes : IsTrue (may_write allowed)
+
+-- a capability by which a thread receives from an endpoint
+pub record ReceivesFrom (endpoint : ℕ) (capability : Cap) : Type 0 where
+  pub allowed : Rights
+  pub badge : ℕ
+  pub is : capability ≡ Endpoint endpoint allowed badge
+  pub reads : IsTrue (may_read allowed)
+
+-- a capability by which a thread signals a notification, with this badge
+pub data Signals (s : State) (notification badge : ℕ) (capability : Cap) : Type 0 where
+  by_right : (allowed : Rights) → capability ≡ Notification notification allowed badge → IsTrue (may_write allowed)
+      → Signals s notification badge capability
+  -- the acknowledgement of a line that is bound to it
+  by_line : (number : ℕ) → capability ≡ InterruptHandler number → binding s number ≡ Some (notification, badge)
+      → Signals s notification badge capability
+
+-- ---- what becomes of the other thread
+
+-- The receiver of a call has the right to reply to the caller, which waits for that from then on; one of a message keeps what it has.
+pub data MayReply (after : State) (sender : ℕ) (before caller : Option ℕ) : Type 0 where
+  as_before : caller ≡ before → MayReply after sender before caller
+  to_sender : caller ≡ Some sender → (thread_at after sender).status ≡ AwaitsReply → MayReply after sender before caller
+
+-- a sender whose message was received: one that sent runs again, one that called waits for the reply or stops
+abbrev pub once_received : Sender → Sent → ThreadState → ThreadState
+once_received sender BySend t = woken t (advanced t.registers)
+once_received sender ByCall t = record t { status = if sender.grant_reply then AwaitsReply else Inactive }
+once_received sender (ByFault fault) t = record t { status = AwaitsHandler }
+
+-- a thread that waited for what its handler replies: label 0 resumes it, another stops it
+abbrev pub once_handled : ThreadState → ThreadState → ThreadState
+once_handled handler t =
+    let message = message_of handler in
+    if message.label == 0
+    then woken t (record t.registers { pc = resumption t.registers.pc message.words })
+    else record t { status = Inactive }
+
+-- Why a step of the thread `self`, which held such capabilities, changed another thread from one state to another.
+pub data Reason (s after : State) (self : ℕ) (Held : (Cap → Type 0) → Type 0) (other : ℕ) (before changed : ThreadState) : Type 0 where
+  -- the first receiver of an endpoint got the message of this thread
+  receiver : (endpoint badge : ℕ) (caller : Option ℕ)
+      → head_of (endpoint_at s endpoint).receivers ≡ Some other → before.status ≡ Blocked endpoint → Held (SendsTo endpoint badge)
+      → MayReply after self before.caller caller
+      → changed ≡ record (woken before (advanced (delivered before.registers badge (message_of (thread_at s self))))) { caller = caller }
+      → Reason s after self Held other before changed
+  -- this thread received the message of the first sender
+  sender : (endpoint : ℕ) (first : Sender)
+      → head_of (endpoint_at s endpoint).senders ≡ Some first → first.thread ≡ other → before.status ≡ Blocked endpoint
+      → Held (ReceivesFrom endpoint) → changed ≡ once_received first first.sent before
+      → Reason s after self Held other before changed
+  -- the first waiter of a notification got the badge of a signal
+  waiter : (notification badge : ℕ)
+      → head_of (notification_at s notification).waiters ≡ Some other → before.status ≡ Blocked notification
+      → Held (Signals s notification badge) → changed ≡ woken before (advanced (write before.registers a0 badge))
+      → Reason s after self Held other before changed
+  -- this thread replied to its caller
+  caller : (thread_at s self).caller ≡ Some other → before.status ≡ AwaitsReply
+      → changed ≡ woken before (advanced (delivered before.registers 0 (message_of (thread_at s self))))
+      → Reason s after self Held other before changed
+  -- or to one whose fault it handles
+  faulted : (thread_at s self).caller ≡ Some other → before.status ≡ AwaitsHandler → changed ≡ once_handled (thread_at s self) before
+      → Reason s after self Held other before changed
+  -- what it waited on ended, and it stands at its call again
+  set_back : (queue : ℕ) → before.status ≡ Blocked queue → s.objects queue ≢ None → after.objects queue ≡ None
+      → changed ≡ woken before before.registers
+      → Reason s after self Held other before changed

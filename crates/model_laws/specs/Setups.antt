@@ -1,0 +1,41 @@
+-- The empty machine, and what is put into it.
+use Rattle.std.specs.Prelude.{ℕ, ◌==◌, nat_lt, if◌then◌else◌, Option, Some, None, Result, List, [], replicate}
+use Rattle.std.specs.Option.{option_map_or}
+use Rattle.model.specs.declared.capabilities.Cap.{Cap}
+use Rattle.model.specs.declared.capabilities.Cap.TheVariants.{CNode, Endpoint, Tcb}
+use Rattle.model.specs.declared.errors.KError.{KError}
+use Rattle.model.specs.Capabilities.Rights.{rights}
+use Rattle.model.specs.Kernel.Arguments.{Call}
+use Rattle.model.specs.Kernel.Invocations.{configure_with_guard}
+use Rattle.model.specs.Kernel.Setup.{boot_area, fill, put_untyped}
+use Rattle.model.specs.Kernel.State.{State, FrameObject}
+
+-- 2^16 bytes and 16 boot slots
+abbrev pub fresh : State
+fresh = boot_area 16 4
+
+-- half of memory is untyped memory in slot 0
+abbrev pub with_memory : State
+with_memory = option_map_or (λ s. s) (put_untyped fresh 0 0x8000 15) fresh
+
+-- a frame stands at 0x1000, all zero
+abbrev pub framed : State
+framed = record fresh {
+  objects = λ offset. if offset == 0x1000 then Some FrameObject else None;
+  bytes = λ place. if nat_lt place 0x1000 then None else if nat_lt place 0x2000 then Some 0 else None;
+}
+
+abbrev pub filled_with : List ℕ → State
+filled_with bytes = option_map_or (λ s. s) (fill framed 0x1000 bytes) framed
+
+-- Configure as the loader calls it, on a capability
+abbrev pub configured : Cap → List ℕ → Result State KError
+configured capability words =
+    let call : Call = record { root = CNode 0 4 28; caller = None; slot = 3; capability = capability } in
+    configure_with_guard fresh call words
+
+abbrev pub a_thread : Cap
+a_thread = Tcb 0x9000
+
+abbrev pub an_endpoint : Cap
+an_endpoint = Endpoint 0x9000 (rights 11) 0
