@@ -1,21 +1,18 @@
 -- Small kernels that the rows on calls start from: a boot CNode, the capabilities that are given, and the objects.
 use Rattle.std.specs.Prelude.{ℕ, ◌==◌, nat_lt, false, if◌then◌else◌, Option, Some, None, Result, Ok, Err, List, [], ◌∷◌, find, option_map, replicate, slice_set, fold}
 use Rattle.std.specs.Option.{option_map_or}
-use Rattle.model.specs.declared.capabilities.Cap.{Cap}
 use Rattle.model.specs.declared.capabilities.Cap.TheVariants.{CNode, Endpoint, Frame, InterruptControl, InterruptHandler, Notification, PageTable, RootTable, Tcb, Untyped}
 use Rattle.model.specs.declared.errors.KError.{KError}
 use Rattle.model.specs.declared.invocations.RetypeCall.{RetypeCall}
 use Rattle.model.specs.declared.invocations.SlotName.{SlotName}
-use Rattle.model.specs.declared.slot_entries.Entry.{Entry}
 use Rattle.model.specs.Capabilities.Rights.{rights}
-use Rattle.model.specs.Capabilities.Slots.{Slots, empty_entry}
+use Rattle.model.specs.Capabilities.Slots.{empty_entry}
 use Rattle.model.specs.Images.Described.{Holding, held_in, holding}
-use Rattle.model.specs.Kernel.Messages.{register}
 use Rattle.model.specs.Kernel.Removal.{delete, revoke}
 use Rattle.model.specs.Kernel.Retype.{retype}
 use Rattle.model.specs.Kernel.Scheduling.{block, full_slice, tick, wake}
 use Rattle.model.specs.Kernel.State.{State, Status, Inactive, Runnable, Blocked, Object, CNodeObject, EndpointObject, NotificationObject, ThreadObject, ThreadState, new_endpoint, new_notification, new_thread, put}
-use Rattle.model.specs.Machine.ProgramMemory.{RegisterFile, write}
+use Rattle.model.specs.Machine.ProgramMemory.{RegisterFile}
 
 -- ---- what a kernel is made of
 
@@ -115,12 +112,18 @@ make_here kind size index count = make (workshop 0x10 []) 0x10 kind size index c
 abbrev pub make_in : SlotName → Result State KError
 make_in node = retype (workshop 0x10 []) (CNode 0 5 27) 1 (record { offset = 0x10000; bits = 16; watermark = 0x10 }) (objects_call 3 0 node 8 1)
 
--- two frames stand in the memory
+-- 2^8 bytes of untyped memory, in which two endpoints stand
 abbrev pub used : State
-used = workshop 0x3000 (holding 2 (Frame 0x11000 (rights 3) None) (Some 1) ∷ holding 3 (Frame 0x12000 (rights 3) None) (Some 1) ∷ [])
+used = kernel 12 5 0x60
+    (holding 1 (Untyped 0x700 8 0x30) None ∷ holding 2 (Endpoint 0x710 (rights 11) 0) (Some 1) ∷ holding 3 (Endpoint 0x720 (rights 11) 0) (Some 1) ∷ [])
+    ((0x710, EndpointObject new_endpoint) ∷ (0x720, EndpointObject new_endpoint) ∷ [])
 
 abbrev pub freed : State
 freed = state_or used (revoke used 1)
+
+-- new endpoints in that memory
+abbrev pub make_endpoints : ℕ → Result State KError
+make_endpoints count = retype freed (CNode 0 5 27) 1 (record { offset = 0x700; bits = 8; watermark = 0 }) (objects_call 3 0 own_root 8 count)
 
 -- ---- scheduling
 

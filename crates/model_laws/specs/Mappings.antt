@@ -1,5 +1,5 @@
 -- What the rows on mappings start from.
-use Rattle.std.specs.Prelude.{ℕ, ◌==◌, if◌then◌else◌, Option, Some, None, Result, [], ◌∷◌, replicate, slice_set}
+use Rattle.std.specs.Prelude.{ℕ, ◌==◌, if◌then◌else◌, Option, Some, None, Result, replicate, slice_set}
 use Rattle.model.specs.Kernel.AddressSpaces.{place_under}
 use Rattle.model.specs.Machine.ProgramMemory.{Content, RegisterFile}
 use Rattle.model.specs.Kernel.Arguments.{Call}

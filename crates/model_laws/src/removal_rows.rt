@@ -7,7 +7,7 @@ ghost use Rattle.model.specs.Capabilities.Rights.{rights};
 ghost use Rattle.model.specs.Capabilities.Slots.{capability_at, empty_entry};
 ghost use Rattle.model.specs.Kernel.Removal.{delete, revoke};
 ghost use Rattle.model.specs.Kernel.State.{Runnable, thread_at};
-ghost use Rattle.model_laws.specs.Kernels.{emptied, filled, freed, handled_by, handler_in, make, mapped, state_or, waiting, woken};
+ghost use Rattle.model_laws.specs.Kernels.{emptied, filled, freed, handled_by, handler_in, make_endpoints, mapped, state_or, waiting, woken};
 
 /// The only capability to a CNode that holds a capability is not deleted.
 #[tactic(auto, unfolding(crate::proofs::Opened::opened))]
@@ -67,12 +67,13 @@ pub fn only_root_tables_end_mappings()
         ≡ Frame 0x11000 (rights 3) (Some (record { root = 0x9000; page = 0x401; rights = rights 3 })) }
 {}
 
-/// Two frames stand in 2^16 bytes of untyped memory. Once they are revoked all of it is free: 16 frames
-/// fit, and 17 do not.
+/// Two endpoints stand in 2^8 bytes of untyped memory. Once they are revoked all of it is free: 16
+/// endpoints fit, and 17 do not.
 #[tactic(auto, unfolding(crate::proofs::Opened::opened))]
 pub fn revoked_memory_is_free()
-    ensures watermark { capability_at freed.slots 1 ≡ Untyped 0x10000 16 0 }
-    ensures frames { capability_at freed.slots 2 ≡ Empty }
-    ensures sixteen { capability_at (state_or freed (make freed 0 6 0 8 16)).slots 1 ≡ Untyped 0x10000 16 0x10000 }
-    ensures seventeen { make freed 0 6 0 8 17 ≡ Err NotEnoughMemory }
+    ensures watermark { capability_at freed.slots 1 ≡ Untyped 0x700 8 0 }
+    ensures capability { capability_at freed.slots 2 ≡ Empty }
+    ensures object { freed.objects 0x720 ≡ None }
+    ensures sixteen { capability_at (state_or freed (make_endpoints 16)).slots 1 ≡ Untyped 0x700 8 0x100 }
+    ensures seventeen { make_endpoints 17 ≡ Err NotEnoughMemory }
 {}

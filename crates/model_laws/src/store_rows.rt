@@ -36,10 +36,11 @@ pub fn frames_stand_behind_the_watermark()
     ensures { placement 16 0x10 12 2 ≡ Some (0x1000, 0x3000) }
 {}
 
-/// From there 15 frames fit, and 16 do not.
+/// From there 15 frames fit, and 16 do not; where nothing is in use 16 fit.
 pub fn fifteen_frames_fit()
     ensures fifteen { placement 16 0x10 12 15 ≡ Some (0x1000, 0x10000) }
     ensures sixteen { placement 16 0x10 12 16 ≡ None }
+    ensures all { placement 16 0 12 16 ≡ Some (0, 0x10000) }
 {}
 
 /// Slot 1 has the child 2, which has the child 3; slot 4 stands beside slot 1.
