@@ -1,3 +1,4 @@
+pub mod Authorities
 pub mod BranchedRegisters
 pub mod BranchedSides
 pub mod Descents
@@ -6,6 +7,7 @@ pub mod Opened
 pub mod Placements
 pub mod ReadyLists
 pub mod ReadySteps
+pub mod Reasons
 pub mod Removals
 pub mod Results
 pub mod Signs

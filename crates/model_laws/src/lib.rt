@@ -2,6 +2,7 @@
 //! rows. Each stands as the contract of a function that does nothing. Nothing else uses this crate.
 #![tactic(auto)]
 
+mod authority_laws;
 mod boot_rows;
 mod branch_laws;
 mod call_rows;
@@ -35,6 +36,13 @@ mod wait_laws;
 mod walk_rows;
 mod word_rows;
 
+pub use authority_laws::a_capability_stays_what_it_is;
+pub use authority_laws::a_tick_moves_its_thread_alone;
+pub use authority_laws::an_interrupt_reaches_one_waiter;
+pub use authority_laws::another_thread_changes_for_a_reason;
+pub use authority_laws::no_capability_comes_from_nothing;
+pub use authority_laws::objects_stay_what_they_are;
+pub use authority_laws::only_woken_threads_enter_the_ready_list;
 pub use boot_rows::solo_boots;
 pub use boot_rows::solo_boots_behind_the_boot_area;
 pub use boot_rows::solo_boots_with_mappings;

@@ -1,0 +1,111 @@
+//! What authority rules out, case by case.
+
+ghost use Rattle.std.specs.Prelude.{ℕ, ◌≡◌, ◌≢◌, [], ◌∷◌, Some, None};
+ghost use Rattle.model.specs.declared.capabilities.Cap.TheVariants.{CNode, Empty, Endpoint, Frame, InterruptControl, InterruptHandler, PageTable, Tcb, Untyped};
+ghost use Rattle.model.specs.declared.rights.Rights.{Rights};
+ghost use Rattle.model.specs.Acceptance.Authority.{WithinAuthority, WithinInterrupt, WithinTick, self_of};
+ghost use Rattle.model.specs.Capabilities.Rights.{rights};
+ghost use Rattle.model.specs.Capabilities.Slots.{capability_at};
+ghost use Rattle.model.specs.Images.Image.{Image, Thread};
+ghost use Rattle.model.specs.Images.Places.{offset_of};
+ghost use Rattle.model.specs.Kernel.Deliveries.{woken};
+ghost use Rattle.model.specs.Kernel.Interrupts.{binding};
+ghost use Rattle.model.specs.Kernel.Kinds.{frame_around};
+ghost use Rattle.model.specs.Kernel.Messages.{a0};
+ghost use Rattle.model.specs.Kernel.Scheduling.{current};
+ghost use Rattle.model.specs.Kernel.State.{State, Inactive, Blocked, AwaitsReply, CNodeObject, FrameObject, NotificationObject, NotificationState, ThreadObject, ThreadState, endpoint_at, thread_at};
+ghost use Rattle.model.specs.Machine.Effects.{advanced};
+ghost use Rattle.model.specs.Machine.ProgramMemory.{write};
+ghost use Rattle.model_laws.specs.Scenarios.{HoldsOnly};
+
+/// A thread that holds one endpoint gets no other capability into an empty slot: none to the boot CNode,
+/// to all of memory, to a frame, to a line that it has no handler of, or to interrupt control.
+pub fn no_capability_comes_from_nothing()
+    ensures cnode { (image : Image) (t : Thread) (s after : State) (slot : ℕ) → HoldsOnly image t s (Endpoint 0x8000 (rights 11) 0)
+        → capability_at s.slots slot ≡ Empty → capability_at after.slots slot ≡ CNode 0 4 28 → WithinAuthority image t s after → ⊥ }
+    ensures untyped { (image : Image) (t : Thread) (s after : State) (slot : ℕ) → HoldsOnly image t s (Endpoint 0x8000 (rights 11) 0)
+        → capability_at s.slots slot ≡ Empty → capability_at after.slots slot ≡ Untyped 0 24 0 → WithinAuthority image t s after → ⊥ }
+    ensures frame { (image : Image) (t : Thread) (s after : State) (slot : ℕ) → HoldsOnly image t s (Endpoint 0x8000 (rights 11) 0)
+        → capability_at s.slots slot ≡ Empty → capability_at after.slots slot ≡ Frame 0x9000 (rights 3) None → WithinAuthority image t s after → ⊥ }
+    ensures handler { (image : Image) (t : Thread) (s after : State) (slot number : ℕ) → HoldsOnly image t s (Endpoint 0x8000 (rights 11) 0)
+        → capability_at s.slots slot ≡ Empty → capability_at after.slots slot ≡ InterruptHandler number → WithinAuthority image t s after → ⊥ }
+    ensures control { (image : Image) (t : Thread) (s after : State) (slot : ℕ) → HoldsOnly image t s (Endpoint 0x8000 (rights 11) 0)
+        → capability_at s.slots slot ≡ Empty → capability_at after.slots slot ≡ InterruptControl → WithinAuthority image t s after → ⊥ }
+{}
+
+/// Nor does a capability to a thread, or one with more rights or another badge, take the endpoint's place.
+pub fn a_capability_stays_what_it_is()
+    ensures kind { (image : Image) (t : Thread) (s after : State) (slot : ℕ) → HoldsOnly image t s (Endpoint 0x8000 (rights 1) 7)
+        → capability_at s.slots slot ≡ Endpoint 0x8000 (rights 1) 7 → capability_at after.slots slot ≡ Tcb 0x8000 → WithinAuthority image t s after → ⊥ }
+    ensures rights { (image : Image) (t : Thread) (s after : State) (slot : ℕ) → HoldsOnly image t s (Endpoint 0x8000 (rights 1) 7)
+        → capability_at s.slots slot ≡ Empty → capability_at after.slots slot ≡ Endpoint 0x8000 (rights 3) 7 → WithinAuthority image t s after → ⊥ }
+    ensures badge { (image : Image) (t : Thread) (s after : State) (slot : ℕ) → HoldsOnly image t s (Endpoint 0x8000 (rights 1) 7)
+        → capability_at s.slots slot ≡ Empty → capability_at after.slots slot ≡ Endpoint 0x8000 (rights 1) 8 → WithinAuthority image t s after → ⊥ }
+{}
+
+/// Only a thread that was woken enters the ready list: not one that is none, that stands still, or twice,
+/// and at the tail alone.
+pub fn only_woken_threads_enter_the_ready_list()
+    ensures nobody { (image : Image) (t : Thread) (s after : State) (priority other : ℕ) → other ≢ self_of image t
+        → s.ready priority ≡ [] → after.ready priority ≡ other ∷ [] → after.objects other ≡ None → WithinAuthority image t s after → ⊥ }
+    ensures still { (image : Image) (t : Thread) (s after : State) (priority other : ℕ) (changed : ThreadState) → other ≢ self_of image t
+        → s.ready priority ≡ [] → after.ready priority ≡ other ∷ [] → after.objects other ≡ Some (ThreadObject changed)
+        → changed.status ≡ Inactive → WithinAuthority image t s after → ⊥ }
+    ensures twice { (image : Image) (t : Thread) (s after : State) (priority other : ℕ) → other ≢ self_of image t
+        → s.ready priority ≡ [] → after.ready priority ≡ other ∷ other ∷ [] → WithinAuthority image t s after → ⊥ }
+    ensures front { (image : Image) (t : Thread) (s after : State) (priority first second : ℕ) → first ≢ self_of image t → second ≢ self_of image t
+        → first ≢ second → s.ready priority ≡ first ∷ [] → after.ready priority ≡ second ∷ first ∷ [] → WithinAuthority image t s after → ⊥ }
+    ensures itself { (image : Image) (t : Thread) (s after : State) (priority : ℕ)
+        → s.ready priority ≡ [] → after.ready priority ≡ self_of image t ∷ [] → WithinAuthority image t s after → ⊥ }
+{}
+
+/// A tick without a current thread changes no list, and none ends its thread.
+pub fn a_tick_moves_its_thread_alone()
+    ensures idle { (s after : State) (priority : ℕ) → current s ≡ None → s.ready priority ≢ after.ready priority → WithinTick s after → ⊥ }
+    ensures ends { (s after : State) (thread : ℕ) (old : ThreadState) → current s ≡ Some thread → s.objects thread ≡ Some (ThreadObject old)
+        → after.objects thread ≡ None → WithinTick s after → ⊥ }
+    ensures other { (s after : State) (thread other : ℕ) → current s ≡ Some thread → other ≢ thread
+        → s.objects other ≢ after.objects other → WithinTick s after → ⊥ }
+{}
+
+/// An interrupt wakes one thread, queues nobody where its line is not bound, and leaves the notification.
+pub fn an_interrupt_reaches_one_waiter()
+    ensures two { (number : ℕ) (s after : State) (first second : ℕ) (old other : ThreadState) → first ≢ second
+        → s.objects first ≡ Some (ThreadObject old) → s.objects second ≡ Some (ThreadObject other)
+        → s.objects first ≢ after.objects first → s.objects second ≢ after.objects second → WithinInterrupt number s after → ⊥ }
+    ensures unbound { (number : ℕ) (s after : State) (priority : ℕ) → binding s number ≡ None → s.ready priority ≢ after.ready priority
+        → WithinInterrupt number s after → ⊥ }
+    ensures ends { (number : ℕ) (s after : State) (offset : ℕ) (old : NotificationState) → s.objects offset ≡ Some (NotificationObject old)
+        → after.objects offset ≡ None → WithinInterrupt number s after → ⊥ }
+{}
+
+/// A receiver that waits is not stopped, one that waits for a reply gets no word, and a receiver gets no
+/// right to reply to a third thread.
+pub fn another_thread_changes_for_a_reason()
+    ensures stopped { (image : Image) (t : Thread) (s after : State) (other endpoint : ℕ) (old : ThreadState) → other ≢ self_of image t
+        → s.objects other ≡ Some (ThreadObject old) → old.status ≡ Blocked endpoint → (endpoint_at s endpoint).senders ≡ []
+        → after.objects other ≡ Some (ThreadObject (record old { status = Inactive })) → WithinAuthority image t s after → ⊥ }
+    ensures word { (image : Image) (t : Thread) (s after : State) (other : ℕ) (old new : ThreadState) → other ≢ self_of image t
+        → s.objects other ≡ Some (ThreadObject old) → old.status ≡ AwaitsReply → (thread_at s (self_of image t)).caller ≡ None
+        → after.objects other ≡ Some (ThreadObject new) → old ≢ new → WithinAuthority image t s after → ⊥ }
+    ensures third { (image : Image) (t : Thread) (s after : State) (other third endpoint : ℕ) (old new : ThreadState) → other ≢ self_of image t
+        → third ≢ self_of image t → s.objects other ≡ Some (ThreadObject old) → old.status ≡ Blocked endpoint → old.caller ≡ None
+        → after.objects other ≡ Some (ThreadObject new) → new.caller ≡ Some third → WithinAuthority image t s after → ⊥ }
+{}
+
+/// A frame does not appear where the thread holds its first bytes alone; a CNode keeps its radix, a frame
+/// that stays its bytes, another's page table its mapping, and the machine its shape.
+pub fn objects_stay_what_they_are()
+    ensures first_byte { (image : Image) (t : Thread) (s after : State) → HoldsOnly image t s (Untyped 0x8000 4 0)
+        → s.objects 0x8000 ≡ None → after.objects 0x8000 ≡ Some FrameObject → WithinAuthority image t s after → ⊥ }
+    ensures radix { (image : Image) (t : Thread) (s after : State) (offset : ℕ) → s.objects offset ≡ Some (CNodeObject 4)
+        → after.objects offset ≡ Some (CNodeObject 5) → WithinAuthority image t s after → ⊥ }
+    ensures bytes { (image : Image) (t : Thread) (s after : State) (place : ℕ) → s.objects (frame_around place) ≡ Some FrameObject
+        → after.objects (frame_around place) ≡ Some FrameObject → s.bytes place ≡ Some 7 → after.bytes place ≡ None
+        → WithinAuthority image t s after → ⊥ }
+    ensures table { (image : Image) (t : Thread) (s after : State) (slot root : ℕ) → root ≢ offset_of image t.header.root
+        → capability_at s.slots slot ≡ PageTable 0xA000 (Some (record { root = root; region = 1 }))
+        → capability_at after.slots slot ≡ PageTable 0xA000 None → WithinAuthority image t s after → ⊥ }
+    ensures memory { (image : Image) (t : Thread) (s after : State) → s.memory_bits ≢ after.memory_bits → WithinAuthority image t s after → ⊥ }
+    ensures boot_area { (image : Image) (t : Thread) (s after : State) → s.boot_radix ≢ after.boot_radix → WithinAuthority image t s after → ⊥ }
+{}
