@@ -2,6 +2,7 @@ pub mod Authorities
 pub mod BranchedRegisters
 pub mod BranchedSides
 pub mod Descents
+pub mod FreshMachines
 pub mod LookupLaws
 pub mod Opened
 pub mod Placements
