@@ -1,6 +1,7 @@
 pub mod Authorities
 pub mod BranchedRegisters
 pub mod BranchedSides
+pub mod CapabilityTests
 pub mod Descents
 pub mod FreshMachines
 pub mod LookupLaws
@@ -14,4 +15,5 @@ pub mod Results
 pub mod Signs
 pub mod Spellings
 pub mod WaitLaws
+pub mod WordLaws
 pub mod Written

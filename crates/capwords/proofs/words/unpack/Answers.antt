@@ -1,7 +1,7 @@
 -- If the words are a capability's, then the fields that were read are that capability's.
 use Rattle.std.proofs.Common.{◌≡◌, ◌∙◌, Some, get_or, ap, inl, inr, true}
 use Rattle.model.specs.Capabilities.CapabilityWords.{words_of}
-use Rattle.capwords.proofs.FieldsLemmas.{fields_of_words}
+use Rattle.model.proofs.FieldsLemmas.{fields_of_words}
 use Rattle.capwords.proofs.words.unpack.Goals as goal
 
 pub returns-then-not-is_capability-clause-only : goal.returns-then-not-is_capability-clause-only

@@ -67,7 +67,7 @@ table_mapping_back mapping valid =
     rw (positive_is_not_zero word (omega arith), place, number) refl
 
 -- the fields in a capability's words are its own
-fields-words : (capability : Cap) → IsCapability capability → fields_of (get_or (words_of capability) 0 0) (get_or (words_of capability) 1 0) ≡ capability
+pub fields-words : (capability : Cap) → IsCapability capability → fields_of (get_or (words_of capability) 0 0) (get_or (words_of capability) 1 0) ≡ capability
 unfolding fields_of_kind
 fields-words Empty valid = refl
 fields-words (Untyped offset bits watermark) valid =

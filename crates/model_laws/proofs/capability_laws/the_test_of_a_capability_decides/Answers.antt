@@ -1,0 +1,6 @@
+-- Kind by kind.
+use Rattle.model_laws.proofs.CapabilityTests.{decides-test, test-decides}
+use Rattle.model_laws.proofs.capability_laws.the_test_of_a_capability_decides.Goals as goal
+
+pub returns : goal.returns
+returns c = λ capability. (test-decides capability, decides-test capability)
