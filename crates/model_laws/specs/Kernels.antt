@@ -1,5 +1,5 @@
 -- Small kernels that the rows on calls start from: a boot CNode, the capabilities that are given, and the objects.
-use Rattle.std.specs.Prelude.{ℕ, ◌==◌, nat_lt, false, if◌then◌else◌, Option, Some, None, Result, Ok, Err, List, [], ◌∷◌, find, option_map, replicate, slice_set, fold}
+use Rattle.std.specs.Prelude.{ℕ, ◌==◌, ◌-◌, nat_lt, false, if◌then◌else◌, Option, Some, None, Result, Ok, Err, List, [], ◌∷◌, find, option_map, replicate, slice_set, fold}
 use Rattle.std.specs.Option.{option_map_or}
 use Rattle.model.specs.declared.capabilities.Cap.TheVariants.{CNode, Endpoint, Frame, InterruptControl, InterruptHandler, Notification, PageTable, RootTable, Tcb, Untyped}
 use Rattle.model.specs.declared.errors.KError.{KError}
@@ -141,3 +141,17 @@ preempted = wake (tick (tick three_threads)) 0xA00
 
 abbrev pub gone_on : State
 gone_on = block preempted 0xA00 Inactive
+
+-- ---- the greatest depth
+
+-- slots 0 to 255 hold untyped memory, each a child of the one before it; 16 more are the empty slots of the CNode at 0x1000
+abbrev pub line : State
+line = record (kernel 13 4 0 [] []) {
+  slots = λ slot.
+      if nat_lt slot 256
+      then Some (record { capability = Untyped 0x1800 8 0; parent = if slot == 0 then None else Some (slot - 1) })
+      else if nat_lt slot 272 then Some empty_entry else None;
+}
+
+abbrev pub make_below : ℕ → Result State KError
+make_below slot = retype line (CNode 0x1000 4 28) slot (record { offset = 0x1800; bits = 8; watermark = 0 }) (objects_call 3 0 own_root 0 1)

@@ -154,6 +154,7 @@ pub use result_laws::results_of_registers_lie_in_their_ranges;
 pub use result_laws::results_of_shifts_lie_in_their_ranges;
 pub use result_laws::what_an_instruction_writes_lies_in_its_range;
 pub use retype_rows::retype_fills_the_window;
+pub use retype_rows::retype_knows_the_greatest_depth;
 pub use retype_rows::retype_knows_types_and_sizes;
 pub use retype_rows::retype_wants_a_cnode;
 pub use retype_rows::retype_wants_an_empty_window;

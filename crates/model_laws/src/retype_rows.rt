@@ -1,12 +1,12 @@
 //! Worked rows on Retype: each error in its place, and the window.
 
-ghost use Rattle.std.specs.Prelude.{◌≡◌, None, Some, Err, []};
+ghost use Rattle.std.specs.Prelude.{◌≡◌, None, Some, Err, [], is_ok, true};
 ghost use Rattle.model.specs.declared.capabilities.Cap.TheVariants.{Empty, Frame, Untyped};
-ghost use Rattle.model.specs.declared.errors.KError.TheVariants.{DeleteFirst, FailedLookup, InvalidArgument, NotEnoughMemory, RangeError};
+ghost use Rattle.model.specs.declared.errors.KError.TheVariants.{DeleteFirst, FailedLookup, IllegalOperation, InvalidArgument, NotEnoughMemory, RangeError};
 ghost use Rattle.model.specs.Capabilities.Rights.{rights};
 ghost use Rattle.model.specs.Capabilities.Slots.{capability_at, parent_at};
 ghost use Rattle.model.specs.Kernel.State.{FrameObject};
-ghost use Rattle.model_laws.specs.Kernels.{make_here, make_in, state_or, workshop};
+ghost use Rattle.model_laws.specs.Kernels.{make_below, make_here, make_in, state_or, workshop};
 
 /// A type that there is not, and sizes that are too small or too great.
 #[tactic(auto, unfolding(crate::proofs::Opened::opened))]
@@ -34,6 +34,13 @@ pub fn retype_wants_an_empty_window()
     ensures many { make_here 3 0 0 257 ≡ Err RangeError }
     ensures outside { make_here 3 0 30 3 ≡ Err RangeError }
     ensures occupied { make_here 3 0 4 3 ≡ Err DeleteFirst }
+{}
+
+/// A child of a slot at depth 255 would be too deep; below depth 254 there is one.
+#[tactic(auto, unfolding(crate::proofs::Opened::opened))]
+pub fn retype_knows_the_greatest_depth()
+    ensures deep { make_below 255 ≡ Err IllegalOperation }
+    ensures last { is_ok (make_below 254) ≡ true }
 {}
 
 /// No room is told last: 15 frames fit behind 16 bytes that are used, and 16 do not.

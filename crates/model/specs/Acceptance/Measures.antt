@@ -14,7 +14,7 @@ use Rattle.model.specs.declared.instructions.Instr.{Instr}
 use Rattle.model.specs.declared.instructions.Instr.TheVariants.{Upper, Jal, Jalr, Branch, Load, Store, Immediate, Shift, Registers, Fence, Ecall, Ebreak}
 use Rattle.model.specs.Machine.ProgramMemory.{RegisterFile, read}
 use Rattle.model.specs.Acceptance.Ranges.{range_of}
-use Rattle.model.specs.Acceptance.RangeRules.{is_single, destination}
+use Rattle.model.specs.Acceptance.RangeRules.{destination, difference_fits, is_single, sum_fits}
 
 pub record Measure : Type 0 where
   pub constant : ℤ
@@ -101,8 +101,8 @@ abbrev pub form_if : Bool → Form → Option Form
 form_if holds form = if holds then Some form else None
 
 abbrev pub register_sum : RegisterOp → Register → Register → Range → Range → Option Form
-register_sum Add rs1 rs2 r s = form_if (nat_lt (r.high + s.high) (2 ^ 32)) (sum_form (before_form rs1) (before_form rs2))
-register_sum Sub rs1 rs2 r s = form_if (nat_le s.high r.low) (difference_form (before_form rs1) (before_form rs2))
+register_sum Add rs1 rs2 r s = form_if (sum_fits r s) (sum_form (before_form rs1) (before_form rs2))
+register_sum Sub rs1 rs2 r s = form_if (difference_fits r s) (difference_form (before_form rs1) (before_form rs2))
 register_sum Sll rs1 rs2 r s = None
 register_sum Slt rs1 rs2 r s = None
 register_sum Sltu rs1 rs2 r s = None

@@ -53,8 +53,9 @@ object_parent image t offset =
     option_map_or (original_slot image)
     (option_and_then (λ place. find (is_object_at image place) (object_numbers image)) offset) (thread_original image t)
 
--- The boot slot that a capability with no other parent hangs below: of untyped memory the untyped that it was made in, of a
--- handler or an object of the image the first capability to it, and else that of the thread, which is as deep.
+-- The boot slot that a noted capability hangs below which has no parent among the thread's slots. To the kernel's checks only its
+-- depth matters: 0 for the untyped memory in which a pool was made, and 1 for all others. For a handler and for an object of the
+-- image it is the first capability to it, for what was made in a pool the thread's own.
 abbrev pub boot_parent : Image → Thread → Cap → ℕ
 boot_parent image t (Untyped offset bits watermark) =
     option_map_or (λ number. (object_at image number).untyped) (find (untyped_there image offset) (object_numbers image)) 0

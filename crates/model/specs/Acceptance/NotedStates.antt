@@ -131,7 +131,7 @@ record_state image t r = record { ranges = record_ranges r; slots = record_slots
 abbrev pub record_of : Thread → ℕ → Option StateRecord
 record_of t point = find (λ r. r.header.point == point) t.records
 
--- ---- slots that no thread may have
+-- ---- slots that a thread may not have
 
 abbrev pub is_own_cnode : Image → List ℕ → ℕ → ℕ → Bool
 is_own_cnode image cnodes offset radix =
@@ -156,11 +156,11 @@ abbrev pub is_stray : Image → Thread → List ℕ → List NotedSlot → Noted
 is_stray image t cnodes slots s =
     not (is_own image cnodes s.key) || is_foreign image t cnodes s.capability || not (leads_to_boot (length slots) slots s.parent)
 
--- an empty slot may be noted only in the thread's CNodes, too
+-- whether a record notes a slot, full or empty, outside the thread's CNodes
 abbrev pub notes_outside : Image → List ℕ → StateRecord → Bool
 notes_outside image cnodes r = list_any (λ e. not (is_own image cnodes (entry_key e))) r.slots
 
--- whether the noted slots of a point are none that the thread may have
+-- whether some noted slot of a point is one that the thread may not have, or its record notes a slot outside the thread's CNodes
 unfoldable pub has_stray_slots : Image → Thread → ℕ → PointState → Bool
 has_stray_slots image t point state =
     let cnodes = reached image t in

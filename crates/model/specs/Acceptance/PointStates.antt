@@ -50,7 +50,8 @@ behind_call t m a =
     else if list_any (λ x. has_term m x.0) a.written then Unmeasured
     else with_measure a (lowered m (pos 1))
 
--- What the system call at a point leaves, or why it is refused. Of slots that no thread may have nothing is asked.
+-- What the system call at a point leaves, or why it is refused. Nothing, where a noted slot is one that the thread may not have: the
+-- point is refused for that slot, and the call is not looked at.
 unfoldable pub call_at : Image → Numbered → ℕ → PointState → Option (Result AfterCall Refusal)
 call_at image t point state =
     if has_stray_slots image t.1 point state then None else Some (after_call image t.1 (point_of t point) state)

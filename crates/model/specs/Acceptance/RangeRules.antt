@@ -39,11 +39,18 @@ ones_within (suc count) n = if nat_le (2 ^ count) n then 2 ^ suc count - 1 else 
 abbrev pub ones_above : ℕ → ℕ
 ones_above n = ones_within 32 n
 
+-- whether no sum, and no difference, of two values of these ranges wraps
+abbrev pub sum_fits : Range → Range → Bool
+sum_fits r s = nat_lt (r.high + s.high) (2 ^ 32)
+
+abbrev pub difference_fits : Range → Range → Bool
+difference_fits r s = nat_le s.high r.low
+
 abbrev pub sum_range : Range → Range → Range
-sum_range r s = if_words (r.low + s.low) (r.high + s.high)
+sum_range r s = if sum_fits r s then range (r.low + s.low) (r.high + s.high) else full
 
 abbrev pub difference_range : Range → Range → Range
-difference_range r s = if nat_le s.high r.low then range (r.low - s.high) (r.high - s.low) else full
+difference_range r s = if difference_fits r s then range (r.low - s.high) (r.high - s.low) else full
 
 abbrev pub and_range : Range → Range → Range
 and_range r s = range 0 (min r.high s.high)

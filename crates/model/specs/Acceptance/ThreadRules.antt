@@ -42,6 +42,7 @@ reached image t = reached_within (length image.capabilities) image (t.header.cno
 abbrev pub is_in_use : Image → ℕ → Thread → Bool
 is_in_use image number t = list_any (λ u. u.header.tcb == t.header.tcb) (take number image.threads)
 
+-- whether the thread's root is a CNode, and its guard word is valid for it
 abbrev pub has_guard : Image → Thread → Bool
 has_guard image t = option_map_or (λ radix. is_guard_word radix t.header.guard) (radix_of (type_at image t.header.cnode)) false
 

@@ -90,7 +90,7 @@ is_root_type _ = false
 abbrev pub source_type : Image → ℕ → Option NewObject
 source_type image source = if is_handler image source then None else type_at image source
 
--- whether a CNode has a slot of this index
+-- whether the object is a CNode that has a slot of this index
 abbrev pub has_slot : Image → ℕ → ℕ → Bool
 has_slot image cnode index = option_map_or (λ radix. nat_lt index (2 ^ radix)) (radix_of (type_at image cnode)) false
 
@@ -103,7 +103,12 @@ may_have (Some NewEndpoint) bits payload = are_among 11 bits && is_badge payload
 may_have (Some NewNotification) bits payload = are_among 11 bits && is_badge payload
 may_have (Some NewFrame) bits payload = are_among 3 bits && payload == 0
 may_have (Some (NewCNode radix)) bits payload = bits == 0 && is_guard_word radix payload
-may_have _ bits payload = bits == 0 && payload == 0
+may_have (Some (NewUntyped size)) bits payload = bits == 0 && payload == 0
+may_have (Some NewThread) bits payload = bits == 0 && payload == 0
+may_have (Some NewPageTable) bits payload = bits == 0 && payload == 0
+may_have (Some NewRootTable) bits payload = bits == 0 && payload == 0
+-- a handler
+may_have None bits payload = bits == 0 && payload == 0
 
 -- whether an earlier capability has this source
 abbrev pub is_listed_before : Image → ℕ → ℕ → Bool
