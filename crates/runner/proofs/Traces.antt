@@ -8,7 +8,7 @@ use Rattle.std.proofs.lemmas.List.{append-nil}
 use Rattle.model.specs.declared.events.Event.{Event}
 use Rattle.model.specs.declared.labels.Label.{Label}
 use Rattle.runner.specs.Machine.{Machine, machine_step, machine_trace}
-use Rattle.runner.specs.Running.{Failed, ended, lines_of}
+use Rattle.runner.specs.Running.{Failed, PutsFront, ended, lines_of}
 use Rattle.runner.specs.Sinks.{Grows, GrowsByBeginning, one_more}
 use Rattle.runner.proofs.SinkLemmas.{Grows-then}
 
@@ -52,18 +52,21 @@ lines-none : (m : Machine) → lines_of (machine_trace m []) ≡ []
 unfolding machine_trace lines_of
 lines-none m = refl
 
--- From a machine over all events: so many are behind, their lines are put, and those of the rest are left.
-pub record ArePut (start : Machine) (all : List Event) (old : Option (List ℕ)) (now : Machine) (done : ℕ) (new : Option (List ℕ)) : Type 0 where
+-- From a machine over all events: so many are behind. Their lines are put or held, in this order, and those of the rest are
+-- left.
+pub record ArePut (start : Machine) (all : List Event) (old : Option (List ℕ)) (now : Machine) (done : ℕ) (held : List ℕ) (new : Option (List ℕ)) : Type 0 where
   pub printed : List ℕ
-  pub whole : lines_of (machine_trace start all) ≡ printed ++ lines_of (machine_trace now (drop done all))
+  pub whole : lines_of (machine_trace start all) ≡ printed ++ (held ++ lines_of (machine_trace now (drop done all)))
   pub grown : Grows old new printed
 
 grows-none : (old : Option (List ℕ)) → Grows old old []
 grows-none None = tt
 grows-none (Some xs) = sym (append-nil xs)
 
-pub none_put : (start : Machine) (all : List Event) (old : Option (List ℕ)) → ArePut start all old start 0 old
-none_put start all old = record { printed = []; whole = refl; grown = grows-none old }
+pub none_put : (start : Machine) (all : List Event) (old : Option (List ℕ)) (held : List ℕ) → held ≡ [] → ArePut start all old start 0 held old
+none_put start all old held none =
+    let empty : lines_of (machine_trace start all) ≡ held ++ lines_of (machine_trace start all) = sym (ap (λ (t : List ℕ). t ++ lines_of (machine_trace start all)) none) in
+    record { printed = []; whole = empty; grown = grows-none old }
 
 -- the rest begins with the next event
 pub next_event : (all : List Event) (done : ℕ) (other : Event) → done < length all → drop done all ≡ slice_index_or all done other ∷ drop (done + 1) all
@@ -73,36 +76,47 @@ next_event (e ∷ all) (suc done) other below =
     let step : suc done + 1 ≡ suc (done + 1) = omega arith in
     next_event all done other (omega (arith, below)) ∙ ap (λ (n : ℕ). slice_index_or all done other ∷ drop n (e ∷ all)) (sym step)
 
-pub one_put : (start : Machine) (all : List Event) (old : Option (List ℕ)) (now : Machine) (done : ℕ) (mid new : Option (List ℕ)) (event : Event)
-    → ArePut start all old now done mid → drop done all ≡ event ∷ drop (done + 1) all → Grows mid new (ended (machine_step now event).1)
-    → ArePut start all old (machine_step now event).0 (done + 1) new
-one_put start all old now done mid new event put next grows =
+-- the line of the next event is held too
+one_held : (start : Machine) (all : List Event) (old : Option (List ℕ)) (now : Machine) (done : ℕ) (held : List ℕ) (new : Option (List ℕ)) (event : Event)
+    → ArePut start all old now done held new → drop done all ≡ event ∷ drop (done + 1) all
+    → ArePut start all old (machine_step now event).0 (done + 1) (held ++ ended (machine_step now event).1) new
+one_held start all old now done held new event put next =
     let line = ended (machine_step now event).1 in
     let rest = lines_of (machine_trace (machine_step now event).0 (drop (done + 1) all)) in
     record {
-      printed = put.printed ++ line;
-      whole = put.whole ∙ ap (λ (es : List Event). put.printed ++ lines_of (machine_trace now es)) next
-          ∙ ap (λ (t : List ℕ). put.printed ++ t) (lines-step now event (drop (done + 1) all)) ∙ sym (append_assoc put.printed line rest);
-      grown = Grows-then old mid new put.printed line put.grown grows;
+      printed = put.printed;
+      whole = put.whole ∙ ap (λ (es : List Event). put.printed ++ (held ++ lines_of (machine_trace now es))) next
+          ∙ ap (λ (t : List ℕ). put.printed ++ (held ++ t)) (lines-step now event (drop (done + 1) all)) ∙ sym (ap (λ (t : List ℕ). put.printed ++ t) (append_assoc held line rest));
+      grown = put.grown;
     }
 
-pub stopped_at : (start : Machine) (all : List Event) (old : Option (List ℕ)) (now : Machine) (done : ℕ) (mid new : Option (List ℕ)) (event : Event)
-    → ArePut start all old now done mid → drop done all ≡ event ∷ drop (done + 1) all → GrowsByBeginning mid new (ended (machine_step now event).1)
-    → GrowsByBeginning old new (lines_of (machine_trace start all))
-stopped_at start all old now done mid new event put next grows =
-    let line = ended (machine_step now event).1 in
-    let rest = lines_of (machine_trace (machine_step now event).0 (drop (done + 1) all)) in
-    begins_more old mid new (lines_of (machine_trace start all)) put.printed line rest
-    (put.whole ∙ ap (λ (es : List Event). put.printed ++ lines_of (machine_trace now es)) next ∙ ap (λ (t : List ℕ). put.printed ++ t) (lines-step now event (drop (done + 1) all)))
-    put.grown grows
+-- a front of what was held is put
+pub front_put : (start : Machine) (all : List Event) (old : Option (List ℕ)) (now : Machine) (done : ℕ) (held rest : List ℕ) (mid new : Option (List ℕ))
+    → ArePut start all old now done held mid → PutsFront mid new held rest → ArePut start all old now done rest new
+front_put start all old now done held rest mid new put front =
+    let left = lines_of (machine_trace now (drop done all)) in
+    record {
+      printed = put.printed ++ front.0;
+      whole = put.whole ∙ ap (λ (t : List ℕ). put.printed ++ (t ++ left)) front.2 ∙ ap (λ (t : List ℕ). put.printed ++ t) (append_assoc front.0 rest left)
+          ∙ sym (append_assoc put.printed front.0 (rest ++ left));
+      grown = Grows-then old mid new put.printed front.0 put.grown front.1;
+    }
 
-pub all_put : (start : Machine) (all : List Event) (old : Option (List ℕ)) (now : Machine) (done : ℕ) (new : Option (List ℕ))
-    → ArePut start all old now done new → length all ≤ done → Grows old new (lines_of (machine_trace start all))
-all_put start all old now done new put end =
+-- of what was held a beginning is put
+pub stopped : (start : Machine) (all : List Event) (old : Option (List ℕ)) (now : Machine) (done : ℕ) (held : List ℕ) (mid new : Option (List ℕ))
+    → ArePut start all old now done held mid → GrowsByBeginning mid new held → GrowsByBeginning old new (lines_of (machine_trace start all))
+stopped start all old now done held mid new put grows =
+    begins_more old mid new (lines_of (machine_trace start all)) put.printed held (lines_of (machine_trace now (drop done all))) put.whole put.grown grows
+
+-- what is held behind the last event is put
+pub all_put : (start : Machine) (all : List Event) (old : Option (List ℕ)) (now : Machine) (done : ℕ) (held : List ℕ) (mid new : Option (List ℕ))
+    → ArePut start all old now done held mid → length all ≤ done → Grows mid new held → Grows old new (lines_of (machine_trace start all))
+all_put start all old now done held mid new put end grows =
     let none : drop done all ≡ [] = drop_of_length-le all end in
-    let whole : lines_of (machine_trace start all) ≡ put.printed =
-    put.whole ∙ ap (λ (es : List Event). put.printed ++ lines_of (machine_trace now es)) none ∙ ap (λ (t : List ℕ). put.printed ++ t) (lines-none now) ∙ append-nil put.printed in
-    subst (λ (t : List ℕ). Grows old new t) (sym whole) put.grown
+    let whole : lines_of (machine_trace start all) ≡ put.printed ++ held =
+    put.whole ∙ ap (λ (es : List Event). put.printed ++ (held ++ lines_of (machine_trace now es))) none ∙ ap (λ (t : List ℕ). put.printed ++ (held ++ t)) (lines-none now)
+    ∙ ap (λ (t : List ℕ). put.printed ++ t) (append-nil held) in
+    subst (λ (t : List ℕ). Grows old new t) (sym whole) (Grows-then old mid new put.printed held put.grown grows)
 
 -- a count that takes one more grew, or stands at its end
 pub failed : (old new : ℕ) → new ≡ one_more old → Failed old new
@@ -121,18 +135,11 @@ on_err P (Ok x) p = tt
 on_err P (Err e) p = p
 
 -- one label more, and the state behind it
-pub stepped : (start : Machine) (all : List Event) (old : Option (List ℕ)) (now after : Machine) (label : Label) (done : ℕ) (mid new : Option (List ℕ)) (event : Event)
-    → ArePut start all old now done mid → (after, label) ≡ machine_step now event → drop done all ≡ event ∷ drop (done + 1) all → Grows mid new (ended label)
-    → ArePut start all old after (done + 1) new
-stepped start all old now after label done mid new event put is next grows =
+pub stepped : (start : Machine) (all : List Event) (old : Option (List ℕ)) (now after : Machine) (label : Label) (done : ℕ) (held more : List ℕ) (new : Option (List ℕ)) (event : Event)
+    → ArePut start all old now done held new → (after, label) ≡ machine_step now event → drop done all ≡ event ∷ drop (done + 1) all → more ≡ held ++ ended label
+    → ArePut start all old after (done + 1) more new
+stepped start all old now after label done held more new event put is next holds =
     let is_label : label ≡ (machine_step now event).1 = ap (λ (p : Machine × Label). p.1) is in
     let is_after : after ≡ (machine_step now event).0 = ap (λ (p : Machine × Label). p.0) is in
-    subst (λ (m : Machine). ArePut start all old m (done + 1) new) (sym is_after)
-    (one_put start all old now done mid new event put next (subst (λ (l : Label). Grows mid new (ended l)) is_label grows))
-
-pub refused_step : (start : Machine) (all : List Event) (old : Option (List ℕ)) (now after : Machine) (label : Label) (done : ℕ) (mid new : Option (List ℕ)) (event : Event)
-    → ArePut start all old now done mid → (after, label) ≡ machine_step now event → drop done all ≡ event ∷ drop (done + 1) all → GrowsByBeginning mid new (ended label)
-    → GrowsByBeginning old new (lines_of (machine_trace start all))
-refused_step start all old now after label done mid new event put is next grows =
-    let is_label : label ≡ (machine_step now event).1 = ap (λ (p : Machine × Label). p.1) is in
-    stopped_at start all old now done mid new event put next (subst (λ (l : Label). GrowsByBeginning mid new (ended l)) is_label grows)
+    subst (λ (t : List ℕ). ArePut start all old after (done + 1) t new) (sym (holds ∙ ap (λ (l : Label). held ++ ended l) is_label))
+    (subst (λ (m : Machine). ArePut start all old m (done + 1) (held ++ ended (machine_step now event).1) new) (sym is_after) (one_held start all old now done held new event put next))

@@ -1,13 +1,14 @@
 //! A run: an image is verified and booted, and each event puts a line.
 
-ghost use Rattle.std.specs.Prelude.{◌≡◌, ◌≢◌, Err, IfErr, OnErr, OnOk, if◌then◌else◌, is_ok};
+ghost use Rattle.std.specs.Prelude.{◌≡◌, ◌≢◌, ◌+◌, ◌≤◌, ◌++◌, Err, IfErr, OnErr, OnOk, if◌then◌else◌, is_ok};
+ghost use Rattle.arrayvec.specs.ArrayVec.{array_vec_len};
 ghost use Rattle.image.specs.Stage.{staged_reading};
 ghost use Rattle.model.specs.declared.boot_faults.BootFault.{BootFault};
 ghost use Rattle.model.specs.declared.refusals.Refusal.{Refusal};
 ghost use Rattle.verify.specs.Refusing.{IsRefused};
 ghost use Rattle.runner.specs.declared.running.RunFault.TheVariants.{Output, OutOfMemory};
 ghost use Rattle.runner.specs.Machine.{machine_of, machine_trace};
-ghost use Rattle.runner.specs.Running.{Failed, PutsAll, PutsSome, ended, fault_of, lines_of};
+ghost use Rattle.runner.specs.Running.{Failed, PutsAll, PutsFront, PutsSome, ended, fault_of, lines_of};
 ghost use Rattle.runner.specs.Sinks.{Grows, GrowsByBeginning, one_more};
 
 use crate::machine::{System, boot};
@@ -18,6 +19,12 @@ use std::alloc::{AllocError, Global};
 use thiserror::Error;
 use trace::line;
 use verify::verify;
+
+/// Lines that wait to be put.
+type Piece = ArrayVec<u8, 8192>;
+
+/// How many bytes the longest line has, with its line feed.
+const LONGEST_LINE: usize = 33;
 
 /// Why a run ended before its last event.
 #[derive(Clone, Copy, Debug, PartialEq, Eq, Error)]
@@ -83,6 +90,8 @@ pub fn run<S: Sink>(
     ensures memory { result ≡ Err RunFault.OutOfMemory → sink.new ≡ sink.old }
     // Where the sink fails, its count of failures tells, and a beginning of those lines is put.
     ensures output { result ≡ Err RunFault.Output → PutsSome bytes.now events.now (S.contents sink.old) (S.contents sink.new) × Failed (S.failures sink.old) (S.failures sink.new) }
+    // Want of memory is no refusal.
+    ensures enough { result ≢ Err (RunFault.Refused Refusal.OutOfMemory) }
     // Each image boots.
     ensures boots { (fault : BootFault) → result ≢ Err (RunFault.Boot fault) }
 {
@@ -92,36 +101,41 @@ pub fn run<S: Sink>(
     Ok(())
 }
 
-/// Puts the lines of all events.
+/// Puts the lines of all events, as many at once as a piece holds.
 fn put_trace<S: Sink>(system: &mut System, events: &[Event], sink: &mut S) -> Result<(), SinkFault>
     ensures ok { OnOk result (Grows (S.contents sink.old) (S.contents sink.new) (lines_of (machine_trace (machine_of system.old) events.now))) }
     ensures err { OnErr result (GrowsByBeginning (S.contents sink.old) (S.contents sink.new) (lines_of (machine_trace (machine_of system.old) events.now))) }
     ensures failed { OnErr result (Failed (S.failures sink.old) (S.failures sink.new)) }
 {
+    let mut piece = Piece::new();
     for event in events {
-        put_label(sink, system.step(*event))?;
+        make_room(sink, &mut piece)?;
+        push_line(&mut piece, system.step(*event));
+    }
+    put_all(sink, piece.as_slice())?;
+    Ok(())
+}
+
+/// Puts what the piece holds, if it has no room for another line.
+fn make_room<S: Sink>(sink: &mut S, piece: &mut Piece) -> Result<(), SinkFault>
+    ensures ok { OnOk result (PutsFront (S.contents sink.old) (S.contents sink.new) piece.old.items piece.new.items) }
+    ensures room { OnOk result (array_vec_len piece.new + 33 ≤ 8192) }
+    ensures err { OnErr result (GrowsByBeginning (S.contents sink.old) (S.contents sink.new) piece.old.items) }
+    ensures counted { S.failures sink.new ≡ (if is_ok result then S.failures sink.old else one_more (S.failures sink.old)) }
+{
+    if piece.remaining_capacity() < LONGEST_LINE {
+        put_all(sink, piece.as_slice())?;
+        piece.clear();
     }
     Ok(())
 }
 
-/// Puts the line of a label.
-fn put_label<S: Sink>(sink: &mut S, label: Label) -> Result<(), SinkFault>
-    ensures ok { OnOk result (Grows (S.contents sink.old) (S.contents sink.new) (ended label)) }
-    ensures err { OnErr result (GrowsByBeginning (S.contents sink.old) (S.contents sink.new) (ended label)) }
-    ensures counted { S.failures sink.new ≡ (if is_ok result then S.failures sink.old else one_more (S.failures sink.old)) }
-{
-    put_all(sink, ended_line(label).as_slice())
-}
-
-/// The line of a label with its line feed.
-fn ended_line(label: Label) -> ArrayVec<u8, 33>
-    ensures { result.items ≡ ended label }
+/// Appends the line of a label, with its line feed.
+fn push_line(piece: &mut Piece, label: Label)
+    requires { array_vec_len piece.old + 33 ≤ 8192 }
+    ensures { piece.new.items ≡ piece.old.items ++ ended label }
 {
     let text = line(label);
-    let mut ended = ArrayVec::new();
-    for byte in text.as_slice() {
-        ended.push(*byte);
-    }
-    ended.push(b'\n');
-    ended
+    let _fits = piece.try_extend_from_slice(text.as_slice());
+    piece.push(b'\n');
 }
