@@ -2,6 +2,7 @@
 
 use runner::{MemorySink, command};
 use std::alloc::Global;
+use std::process::Abort;
 use std::rt::{Env, Files};
 use std::test::Fail;
 use std::{env, fs};
@@ -60,23 +61,43 @@ pub fn bell_with(alloc: Global, at: usize, byte: u8) -> Result<Vec<u8>, Fail> {
 }
 
 /// A file's name of this test alone.
-pub fn name_of<R: Files + Env + AllocGlobal>(rt: &R, name: &str) -> Result<String, Fail> {
+fn name_of<R: Env + AllocGlobal>(rt: &R, name: &str) -> Result<String, Fail> {
     let folder = env::temp_dir(rt)?;
     Ok(format!(in rt.alloc(); "{}/microsys-{name}", folder.as_path().as_str())?)
+}
+
+/// A file that holds these bytes, until it is removed.
+pub fn file_of<R: Files + Env + AllocGlobal>(
+    rt: &R,
+    name: &str,
+    bytes: &[u8],
+) -> Result<String, Fail> {
+    let file = name_of(rt, name)?;
+    fs::write(rt, file.as_str(), bytes)?;
+    Ok(file)
 }
 
 /// What the program answered and printed.
 #[derive(Drop)]
 pub struct Answer {
-    pub status: u8,
-    pub output: MemorySink,
-    pub errors: MemorySink,
+    status: u8,
+    output: MemorySink,
+    errors: MemorySink,
 }
 
-/// Runs the program over words with plenty of room for its output.
-pub fn program<R: Files + AllocGlobal>(rt: &R, words: &[&str]) -> Answer {
-    let mut output = MemorySink::new(rt.alloc(), 100_000);
-    let mut errors = MemorySink::new(rt.alloc(), 100_000);
+impl Answer {
+    /// Asserts what was answered and printed.
+    pub fn is(&self, rt: &impl Abort, status: u8, output: &[u8], errors: &[u8]) {
+        assert_eq!(rt; self.output.bytes(), output);
+        assert_eq!(rt; self.errors.bytes(), errors);
+        assert_eq!(rt; self.status, status);
+    }
+}
+
+/// Runs the program over words, with so much room for its output.
+pub fn program<R: Files + AllocGlobal>(rt: &R, words: &[&str], room: usize) -> Answer {
+    let mut output = MemorySink::new(rt.alloc(), room);
+    let mut errors = MemorySink::new(rt.alloc(), 100);
     let status = command(rt, words, &mut output, &mut errors);
     Answer {
         status,
@@ -90,10 +111,23 @@ pub fn verify_file<R: Files + Env + AllocGlobal>(
     rt: &R,
     name: &str,
     bytes: &[u8],
+    room: usize,
 ) -> Result<Answer, Fail> {
-    let image = name_of(rt, name)?;
-    fs::write(rt, image.as_str(), bytes)?;
-    let answer = program(rt, &["verify", image.as_str()]);
+    let image = file_of(rt, name, bytes)?;
+    let answer = program(rt, &["verify", image.as_str()], room);
     fs::remove_file(rt, image.as_str())?;
+    Ok(answer)
+}
+
+/// Writes a list of events, and runs the sample image over it by the program.
+pub fn run_list<R: Files + Env + AllocGlobal>(
+    rt: &R,
+    name: &str,
+    list: &[u8],
+) -> Result<Answer, Fail> {
+    let image = file_of(rt, "run.img", bell(rt.alloc())?.as_slice())?;
+    let list = file_of(rt, name, list)?;
+    let answer = program(rt, &["run", image.as_str(), list.as_str()], 1000);
+    fs::remove_file(rt, list.as_str())?;
     Ok(answer)
 }

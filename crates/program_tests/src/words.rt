@@ -1,26 +1,32 @@
 //! The words of the command line.
 
 use command_line::{Request, WordsFault, parse};
+use std::process::Abort;
+
+/// Asserts what words are read as.
+fn reads(rt: &(impl Abort + AllocGlobal), words: &[&str], want: Result<Request, WordsFault>) {
+    assert_eq!(rt; parse(rt.alloc(), words), want, "at {words:?}");
+}
 
 #[test]
 fn takes_the_words_of_the_usage(rt: HostRuntime) {
-    let verify = ["verify", "a.img"];
-    assert_eq!(rt;
-        parse(rt.alloc(), verify.as_slice()),
-        Ok(Request::Verify { image: "a.img" })
+    reads(
+        &rt,
+        &["verify", "a.img"],
+        Ok(Request::Verify { image: "a.img" }),
     );
-    let run = ["run", "a.img", "a.events"];
-    let request = Request::Run {
-        image: "a.img",
-        events: "a.events",
-    };
-    assert_eq!(rt; parse(rt.alloc(), run.as_slice()), Ok(request));
-    let dashes = ["run", "--", "-", "--x"];
-    let request = Request::Run {
-        image: "-",
-        events: "--x",
-    };
-    assert_eq!(rt; parse(rt.alloc(), dashes.as_slice()), Ok(request));
+    let (image, events) = ("a.img", "a.events");
+    reads(
+        &rt,
+        &["run", image, events],
+        Ok(Request::Run { image, events }),
+    );
+    let (image, events) = ("-", "--x");
+    reads(
+        &rt,
+        &["run", "--", image, events],
+        Ok(Request::Run { image, events }),
+    );
 }
 
 #[test]
@@ -41,10 +47,6 @@ fn refuses_other_words(rt: HostRuntime) {
         &["Verify", "a"],
     ];
     for words in cases {
-        assert_eq!(rt;
-            parse(rt.alloc(), words),
-            Err(WordsFault::Usage),
-            "at {words:?}"
-        );
+        reads(&rt, words, Err(WordsFault::Usage));
     }
 }

@@ -11,7 +11,7 @@ use Rattle.model.specs.Kernel.AddressSpaces.{content_of, place_in, place_under}
 use Rattle.model.specs.Images.Image.{Thread}
 use Rattle.model.specs.Machine.ProgramMemory.{loaded}
 use Rattle.model.specs.Capabilities.Rights.{rights}
-use Rattle.image.specs.Certificates.{numbered_thread}
+use Rattle.programs.specs.Certificates.{numbered_thread}
 use Rattle.runner.specs.Machine.{Machine, fetched, state_of, tcb}
 use Rattle.runner.specs.Pages.{page_place}
 use Rattle.runner.proofs.Fetches.{ReadsSame, loaded_same}

@@ -16,7 +16,7 @@ use Rattle.model.specs.Capabilities.Rights.{rights}
 use Rattle.model.specs.Kernel.Scheduling.{head_of}
 use Rattle.model.specs.Capabilities.Slots.{capability_at, empty_entry}
 use Rattle.model.specs.Kernel.State.{slot_numbers, vspace_slot}
-use Rattle.image.specs.Certificates.{numbered_thread}
+use Rattle.programs.specs.Certificates.{numbered_thread}
 use Rattle.image.specs.Stage.{staged_image}
 use Rattle.runner.specs.Machine.{tcb}
 use Rattle.runner.proofs.FormStates.{form_state}

@@ -5,7 +5,7 @@ use Rattle.model.specs.Images.Described.{described, listed_thread}
 use Rattle.model.specs.Images.Image.{Thread}
 use Rattle.model.specs.Images.Places.{offset_of, used_by}
 use Rattle.model.specs.Kernel.State.{NotificationObject, State, ThreadObject, new_notification}
-use Rattle.image.specs.Certificates.{numbered_thread}
+use Rattle.programs.specs.Certificates.{numbered_thread}
 use Rattle.image.specs.Stage.{staged_image}
 use Rattle.runner.specs.Machine.{notification, tcb}
 

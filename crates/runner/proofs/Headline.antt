@@ -13,12 +13,12 @@ use Rattle.model.specs.Images.Image.{Image, Thread, image_format}
 use Rattle.model.specs.Images.Places.{offset_of, used_by}
 use Rattle.model.specs.Kernel.Steps.{trace}
 use Rattle.model.specs.Kernel.Waits.{KeepsBudget, is_error, is_fault}
-use Rattle.image.specs.Certificates.{IsOfForm, IsPlain, numbered_thread}
-use Rattle.image.specs.Programs.{IsKept}
+use Rattle.programs.specs.Certificates.{IsOfForm, IsPlain, numbered_thread}
+use Rattle.programs.specs.Programs.{IsKept}
 use Rattle.image.specs.Stage.{no_slots, staged_image, staged_reading}
-use Rattle.image.proofs.Acceptance.{accepted-no_breach}
-use Rattle.image.proofs.KeptImages.{spelled_kept}
-use Rattle.image.proofs.StagedRules.{bad_entry_first, read_thread}
+use Rattle.programs.proofs.Acceptance.{accepted-no_breach}
+use Rattle.programs.proofs.KeptImages.{spelled_kept}
+use Rattle.programs.proofs.StagedRules.{bad_entry_first, read_thread}
 use Rattle.verify.specs.Refusing.{IsPlainImage}
 use Rattle.runner.specs.Loaded.{IsLoadable}
 use Rattle.runner.specs.Machine.{IsStarted, Machine, machine_trace, tcb}

@@ -14,7 +14,7 @@ use Rattle.model.specs.Images.Image.{Thread}
 use Rattle.model.specs.Machine.ProgramMemory.{Content, loaded, named, next_address, place_at}
 use Rattle.model.specs.Acceptance.PointStates.{address_of}
 use Rattle.model.specs.Capabilities.Slots.{is_within}
-use Rattle.image.specs.Certificates.{IsOfForm}
+use Rattle.programs.specs.Certificates.{IsOfForm}
 use Rattle.image.specs.Stage.{staged_image}
 use Rattle.runner.specs.Machine.{HoldsProgram, IsStarted, Machine}
 use Rattle.runner.specs.Pages.{page_place}

@@ -23,9 +23,9 @@ use Rattle.model.specs.Kernel.Scheduling.{full_slice}
 use Rattle.model.specs.Kernel.State.{put}
 use Rattle.model.specs.Kernel.Steps.{memory_base}
 use Rattle.model.specs.Kernel.Waits.{is_error, is_fault, is_of, is_wait}
-use Rattle.image.specs.Certificates.{known_of}
-use Rattle.image.specs.Programs.{AtPoint, GoesOn, IsKept}
-use Rattle.image.proofs.KeptSteps.{IsNext, next-at, ranged-goes, start-at, wait-called, wait-wakes}
+use Rattle.programs.specs.Certificates.{known_of}
+use Rattle.programs.specs.Programs.{AtPoint, GoesOn, IsKept}
+use Rattle.programs.proofs.KeptSteps.{IsNext, next-at, ranged-goes, start-at, wait-called, wait-wakes}
 use Rattle.runner.specs.Machine.{Done, HoldsProgram, IsStarted, Machine, after_effect, calls, executes, fetched, is_ready, machine_step, ran, receives, runs, runs_decoded, runs_fetched, signalled, stops, tcb}
 use Rattle.runner.specs.Runs.{Stands, StandsBy}
 use Rattle.runner.specs.declared.machine.Status.{Status}

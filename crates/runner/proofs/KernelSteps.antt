@@ -32,7 +32,7 @@ use Rattle.model.specs.Capabilities.Slots.{capability_at}
 use Rattle.model.specs.Kernel.State.{State, cspace_slot}
 use Rattle.model.specs.Kernel.Steps as steps
 use Rattle.model.specs.Kernel.Steps.{memory_base, step, system_call}
-use Rattle.image.specs.Certificates.{is_ecall, known_of}
+use Rattle.programs.specs.Certificates.{is_ecall, known_of}
 use Rattle.model.specs.Acceptance.Ranges.{is_ranged}
 use Rattle.runner.specs.Machine.{Done, Machine, after_effect, calls, executes, is_ready, machine_step, notification, ran, receives, runs, runs_decoded, runs_fetched, tcb, ticks}
 use Rattle.runner.specs.NextSteps.{RunsNext}

@@ -10,7 +10,7 @@ use Rattle.model.specs.Images.Image.{Thread}
 use Rattle.model.specs.Machine.ProgramMemory.{Content}
 use Rattle.model.specs.Kernel.State.{State}
 use Rattle.model.specs.Kernel.Steps.{after, step, trace}
-use Rattle.image.specs.Certificates.{IsOfForm, numbered_thread}
+use Rattle.programs.specs.Certificates.{IsOfForm, numbered_thread}
 use Rattle.image.specs.Stage.{staged_image}
 use Rattle.runner.specs.Machine.{IsStarted, Machine, machine_after, machine_step, machine_trace, state_of}
 use Rattle.runner.specs.NextSteps.{RunsNext}

@@ -5,7 +5,7 @@ use Rattle.model.specs.Images.Image.{Image}
 use Rattle.model.specs.declared.refusals.Refusal.{Refusal}
 use Rattle.model.specs.declared.refusals.Refusal.TheVariants as refusals
 use Rattle.image.specs.Stage.{staged_reading}
-use Rattle.image.proofs.Calm.{staged_calm}
+use Rattle.programs.proofs.Calm.{staged_calm}
 use Rattle.runner.specs.Running.{fault_of}
 use Rattle.runner.specs.declared.running.RunFault.{RunFault}
 use Rattle.runner.specs.declared.running.RunFault.TheVariants.{Refused}

@@ -6,7 +6,7 @@ use Rattle.model.specs.declared.events.Event.{Event}
 use Rattle.model.specs.declared.labels.Label.{Label}
 use Rattle.model.specs.Images.Image.{Thread}
 use Rattle.model.specs.Kernel.Waits.{KeepsBudget, is_error, is_fault, labels_of}
-use Rattle.image.specs.Programs.{IsKept}
+use Rattle.programs.specs.Programs.{IsKept}
 use Rattle.runner.specs.Machine.{HoldsProgram, IsStarted, Machine, machine_after, machine_step, machine_trace, tcb}
 use Rattle.runner.specs.Runs.{Stands}
 use Rattle.runner.proofs.KeptRuns.{Spends, allowed, allowed-most, event-keeps, goes, others, started_stands, step_stands, waits}

@@ -5,7 +5,7 @@ use Rattle.model.specs.declared.instructions.Instr.TheVariants.{Ecall}
 use Rattle.model.specs.Machine.Decoding.{decoded}
 use Rattle.model.specs.Machine.ProgramMemory.{read}
 use Rattle.model.specs.Kernel.Messages.{a0, a7}
-use Rattle.image.specs.Certificates.{known_of}
+use Rattle.programs.specs.Certificates.{known_of}
 use Rattle.runner.specs.Machine.{Machine, fetched}
 
 -- the word at the pc is an instruction that this release knows, and a system call there is the wait

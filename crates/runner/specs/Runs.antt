@@ -3,7 +3,7 @@ use Rattle.std.specs.Prelude.{◌≡◌, ◌≤◌, ℕ, Some}
 use Rattle.model.specs.declared.instructions.Instr.TheVariants.{Ecall}
 use Rattle.model.specs.Images.Image.{Thread}
 use Rattle.model.specs.Acceptance.PointStates.{instruction_at}
-use Rattle.image.specs.Programs.{AtPoint}
+use Rattle.programs.specs.Programs.{AtPoint}
 use Rattle.runner.specs.Machine.{HoldsProgram, Machine}
 use Rattle.runner.specs.declared.machine.Status.{Status}
 use Rattle.runner.specs.declared.machine.Status.TheVariants.{Ready, Waiting, Stopped}

@@ -1,7 +1,7 @@
 //! The machine of the one form of image: one thread, and one interrupt line that signals it.
 
 ghost use Rattle.std.specs.Prelude.{◌≡◌, ◌≢◌, ◌^◌, ◌*◌, ◌≤◌, All, length, min, IfOk};
-ghost use Rattle.image.specs.Certificates.{IsOfForm};
+ghost use Rattle.programs.specs.Certificates.{IsOfForm};
 ghost use Rattle.image.specs.Stage.{staged_image};
 ghost use Rattle.model.specs.Images.Described.{listed_thread};
 ghost use Rattle.model.specs.Images.Image.{Thread};

@@ -9,7 +9,7 @@ use Rattle.model.specs.declared.instructions.Register.{Register}
 use Rattle.model.specs.Images.Described.{listed_registers}
 use Rattle.model.specs.Images.Image.{Thread}
 use Rattle.model.specs.Machine.ProgramMemory.{RegisterFile, read, write}
-use Rattle.image.specs.Programs.{AreWords}
+use Rattle.programs.specs.Programs.{AreWords}
 
 abbrev IsWord : ℕ → Type 0
 IsWord word = word < 2 ^ 32

@@ -16,7 +16,7 @@ use Rattle.model.specs.Acceptance.Measures.{Measure, has_term}
 use Rattle.model.specs.Acceptance.NotedStates.{PointState, record_of, record_state}
 use Rattle.model.specs.Acceptance.PointStates.{Noted, Known, Missing, Unmeasured, Numbered, address_of, behind_call, call_at, follows, follows_call, follows_edge, follows_instruction, instruction_at, noted, noted_or}
 use Rattle.model.specs.Acceptance.RangeRules.{destination}
-use Rattle.image.specs.Certificates.{HasConstant, IsBare}
+use Rattle.programs.specs.Certificates.{HasConstant, IsBare}
 
 pub found_in : (test : StateRecord → Bool) (rs : List StateRecord) → All IsBare rs → IfSome (find test rs) IsBare
 found_in test [] bare = tt

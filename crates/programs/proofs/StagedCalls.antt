@@ -22,9 +22,9 @@ use Rattle.model.specs.Acceptance.Ranges.{range_of, single}
 use Rattle.model.specs.Capabilities.Slots.{capability_at}
 use Rattle.model.specs.Kernel.Steps.{call_of}
 use Rattle.model.specs.Acceptance.ThreadRules.{reached, reached_within}
-use Rattle.image.specs.Certificates.{IsBare, IsOfForm, numbered_thread, waited, with_image_slots}
+use Rattle.programs.specs.Certificates.{IsBare, IsOfForm, numbered_thread, waited, with_image_slots}
 use Rattle.image.specs.Stage.{staged_image}
-use Rattle.image.proofs.NotedConstants.{found_in}
+use Rattle.programs.proofs.NotedConstants.{found_in}
 
 abbrev Behind : Type 0
 Behind = Result AfterCall Refusal

@@ -9,11 +9,11 @@ use Rattle.model.specs.declared.entries.TermEntry.{TermEntry}
 use Rattle.model.specs.declared.entries.RecordHeader.{RecordHeader}
 use Rattle.model.specs.Images.Format.{field, many_fit, signed}
 use Rattle.model.specs.Images.Image.{StateRecord, between, is_constant, Thread, ranges_format, record_format, record_header_format, records_format, registers_format, term_format, terms_format, thread_format, thread_header_format, words_format}
-use Rattle.image.specs.Certificates.{IsBare, IsOfForm, Rise}
+use Rattle.programs.specs.Certificates.{IsBare, IsOfForm, Rise}
 use Rattle.image.specs.Stage.{has_no_terms, is_empty, is_staged, no_slots, staged_image, staged_reading}
 use Rattle.image.proofs.Laws.{IsBytes}
 use Rattle.image.proofs.StageLaws.{staged_found, thread_fits}
-use Rattle.image.proofs.StagedRules.{numbers_of, read_thread}
+use Rattle.programs.proofs.StagedRules.{numbers_of, read_thread}
 
 nothing : (xs : List SlotEntry) → is_empty xs ≡ true → xs ≡ []
 nothing [] h = refl

@@ -13,11 +13,11 @@ use Rattle.model.specs.Acceptance.PointRules.{ProgramEdge, are_ranges_within, is
 use Rattle.model.specs.Acceptance.PointStates.{Known, noted}
 use Rattle.model.specs.Acceptance.Ranges.{full, range_of, single}
 use Rattle.model.specs.Acceptance.ThreadInvariants.{LieWithin}
-use Rattle.image.specs.Programs.{AreWords, AtPoint, IsKept, Moves}
+use Rattle.programs.specs.Programs.{AreWords, AtPoint, IsKept, Moves}
 use Rattle.image.specs.Stage.{staged_image}
-use Rattle.image.proofs.ConstantMeasures.{constant_falls, constant_least_value, constant_stays_below}
-use Rattle.image.proofs.KeptPrograms.{LeadsOn, measure-kept}
-use Rattle.image.proofs.PlainStates.{state-plain}
+use Rattle.programs.proofs.ConstantMeasures.{constant_falls, constant_least_value, constant_stays_below}
+use Rattle.programs.proofs.KeptPrograms.{LeadsOn, measure-kept}
+use Rattle.programs.proofs.PlainStates.{state-plain}
 
 -- ---- tests of a run of numbers
 

@@ -18,7 +18,7 @@ use Rattle.model.specs.Images.Image.{Image, Sections, SlotFormat, StateRecord, T
 use Rattle.image.specs.Stage.{any_thread, is_staged, later, no_slot_count, no_slots, staged_end, staged_front, staged_image, staged_reading, staged_sections}
 use Rattle.image.proofs.Laws.{IsBytes, bind_ok, ok_is}
 use Rattle.image.proofs.StageLaws.{begins}
-use Rattle.image.proofs.WholeImage.{reading-spelled, sections_law}
+use Rattle.programs.proofs.WholeImage.{reading-spelled, sections_law}
 
 -- the one result is the other, or the refusal of what is a later stage
 abbrev pub Follows : {A : Type 0} → Result A Refusal → Result A Refusal → Type 0

@@ -17,12 +17,12 @@ use Rattle.model.specs.Acceptance.PointRules.{program_rules}
 use Rattle.model.specs.Acceptance.Rules.{first_broken, refuse_if}
 use Rattle.model.specs.Acceptance.ThreadRules.{is_bad, is_code, reached, reached_within, shares_cspace, shares_vspace, thread_rules}
 use Rattle.model.specs.Acceptance.WellFormed.{capability_rules, does_not_fit, has_no_room, has_writable_code, mapping_rules, misplaces_frame, misplaces_table, object_rules, overlaps}
-use Rattle.image.specs.Certificates.{numbered_thread}
+use Rattle.programs.specs.Certificates.{numbered_thread}
 use Rattle.image.specs.Stage.{IsStaged, any_thread, has_no_terms, is_staged, later, no_slots, staged_end, staged_front, staged_image, staged_reading}
-use Rattle.image.proofs.Acceptance.{kept-none, none-broken}
+use Rattle.programs.proofs.Acceptance.{kept-none, none-broken}
 use Rattle.image.proofs.Laws.{IsBytes, bind_ok, guard_ok, ok_is, ok_of}
 use Rattle.image.proofs.StageLaws.{chosen_ok}
-use Rattle.image.proofs.Followed.{read_as_whole, spelled_as_whole}
+use Rattle.programs.proofs.Followed.{read_as_whole, spelled_as_whole}
 
 -- ---- the rules before those on threads do not look at the thread
 

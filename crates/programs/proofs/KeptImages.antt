@@ -4,13 +4,13 @@ use Rattle.model.specs.Acceptance.Accepted.{AreKept}
 use Rattle.model.specs.Images.Format.{Spells}
 use Rattle.model.specs.Images.Image.{Thread, image_format}
 use Rattle.model.specs.Acceptance.PointRules.{program_rules}
-use Rattle.image.specs.Certificates.{IsOfForm, IsPlain}
-use Rattle.image.specs.Programs.{IsKept}
+use Rattle.programs.specs.Certificates.{IsOfForm, IsPlain}
+use Rattle.programs.specs.Programs.{IsKept}
 use Rattle.image.specs.Stage.{is_staged, no_slots, staged_image}
-use Rattle.image.proofs.BareRecords.{thread_bare, thread_rises}
+use Rattle.programs.proofs.BareRecords.{thread_bare, thread_rises}
 use Rattle.image.proofs.StageLaws.{thread_fits}
-use Rattle.image.proofs.StagedRules.{numbers_of}
-use Rattle.image.proofs.StartValues.{fitting_values}
+use Rattle.programs.proofs.StagedRules.{numbers_of}
+use Rattle.programs.proofs.StartValues.{fitting_values}
 
 pub spelled_form : (bytes : List ℕ) (t : Thread) → is_staged t ≡ true → Spells (image_format no_slots) bytes (staged_image t) → IsOfForm t
 spelled_form bytes t staged spelled =

@@ -19,10 +19,10 @@ use Rattle.model.specs.Acceptance.NotedStates.{PointState, entry_slot, image_slo
 use Rattle.model.specs.Acceptance.PointStates.{Noted, Known, Missing, Unmeasured, address_of, call_at, follows, follows_call, follows_instruction, instruction_at, noted, noted_or}
 use Rattle.model.specs.Acceptance.RangeRules.{range, ranges_after}
 use Rattle.model.specs.Acceptance.Ranges.{with_range}
-use Rattle.image.specs.Certificates.{IsBare, IsOfForm, IsPlain, IsWait, known_of, waited, with_image_slots}
+use Rattle.programs.specs.Certificates.{IsBare, IsOfForm, IsPlain, IsWait, known_of, waited, with_image_slots}
 use Rattle.image.specs.Stage.{staged_image}
-use Rattle.image.proofs.NotedConstants.{found_in}
-use Rattle.image.proofs.StagedCalls.{waits_at}
+use Rattle.programs.proofs.NotedConstants.{found_in}
+use Rattle.programs.proofs.StagedCalls.{waits_at}
 
 pub record IsPlainState (t : Thread) (state : PointState) : Type 0 where
   pub slots : state.slots ≡ image_slots (staged_image t) t

@@ -30,16 +30,16 @@ use Rattle.model.specs.Acceptance.RangeRules.{ranges_after}
 use Rattle.model.specs.Acceptance.Ranges.{full, is_ranged, with_range}
 use Rattle.model.specs.Acceptance.Rules.{Rule}
 use Rattle.model.specs.Acceptance.ThreadInvariants.{LieWithin}
-use Rattle.image.specs.Certificates.{is_ecall, known_of, waited}
-use Rattle.image.specs.Programs.{AtPoint, GoesOn, IsKept}
+use Rattle.programs.specs.Certificates.{is_ecall, known_of, waited}
+use Rattle.programs.specs.Programs.{AtPoint, GoesOn, IsKept}
 use Rattle.image.specs.Stage.{staged_image}
-use Rattle.image.proofs.Arrivals.{holds-at, left-at, moves-on, wakes-on}
-use Rattle.image.proofs.ConstantMeasures.{constant_measured}
-use Rattle.image.proofs.DecodedFields.{HaveFields, have-fields}
-use Rattle.image.proofs.KeptPrograms.{LeadsOn, edge-leads, entry-kept, not-refused}
-use Rattle.image.proofs.PlainStates.{state-plain, wait-known}
-use Rattle.image.proofs.RangesKept.{addi-keeps, jal-keeps, kept_register, written_within, zero_kept}
-use Rattle.image.proofs.RegisterWords.{read-word, start-words, write-words}
+use Rattle.programs.proofs.Arrivals.{holds-at, left-at, moves-on, wakes-on}
+use Rattle.programs.proofs.ConstantMeasures.{constant_measured}
+use Rattle.programs.proofs.DecodedFields.{HaveFields, have-fields}
+use Rattle.programs.proofs.KeptPrograms.{LeadsOn, edge-leads, entry-kept, not-refused}
+use Rattle.programs.proofs.PlainStates.{state-plain, wait-known}
+use Rattle.programs.proofs.RangesKept.{addi-keeps, jal-keeps, kept_register, written_within, zero_kept}
+use Rattle.programs.proofs.RegisterWords.{read-word, start-words, write-words}
 
 base-of : (t : Thread) → IsKept t → t.header.base ≡ 0x1000
 base-of t kept = ap (λ (u : Thread). u.header.base) kept.form.numbers
