@@ -2,8 +2,6 @@
 #![tactic(auto)]
 
 mod fields;
-#[cfg(test)]
-mod tests;
 mod validity;
 mod words;
 

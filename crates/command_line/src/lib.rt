@@ -2,7 +2,5 @@
 #![tactic(auto)]
 
 mod requests;
-#[cfg(test)]
-mod tests;
 
 pub use requests::{Request, WordsFault, parse};

@@ -1,3 +1,1 @@
-pub mod Certificates
-pub mod Programs
 pub mod Stage

@@ -1,18 +1,7 @@
 //! `microsys`: verifies system images, and runs what it accepts.
 #![tactic(auto)]
 
-mod commands;
-mod event_lists;
-mod machine;
-mod pages;
-mod run_laws;
-mod running;
-mod sinks;
-#[cfg(test)]
-mod tests;
-
-use crate::commands::command_line;
-use crate::sinks::WriterSink;
+use runner::{WriterSink, command_line};
 use std::io::Lock;
 use std::process::ExitCode;
 

@@ -5,7 +5,7 @@ use Rattle.std.specs.Option.{option_map_or}
 use Rattle.std.specs.Int.{byte_len, from_le_bytes}
 use Rattle.std.proofs.lemmas.Bool.{ne_eqb, and_parts}
 use Rattle.std.proofs.lemmas.List.{get_or-set_same}
-use Rattle.image.proofs.RangesKept.{written_within}
+use Rattle.programs.proofs.RangesKept.{written_within}
 use Rattle.model.specs.declared.instructions.Access.TheVariants as accesses
 use Rattle.model.specs.declared.instructions.AccessSize.{AccessSize}
 use Rattle.model.specs.declared.instructions.AccessSize.TheVariants.{Byte, Halfword, Word}

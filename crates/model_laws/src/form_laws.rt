@@ -13,7 +13,7 @@ ghost use Rattle.model.specs.Acceptance.Ranges.{range_of, single};
 ghost use Rattle.model.specs.Acceptance.Rules.{first_broken};
 ghost use Rattle.model.specs.declared.ranges.Range.{Range};
 ghost use Rattle.model.specs.declared.refusals.Refusal.TheVariants.{BadThread};
-ghost use Rattle.image.specs.Certificates.{HasConstant, IsBare, IsOfForm, waited, with_image_slots};
+ghost use Rattle.programs.specs.Certificates.{HasConstant, IsBare, IsOfForm, waited, with_image_slots};
 ghost use Rattle.image.specs.Stage.{is_staged, later, staged_image, staged_reading};
 
 /// What this release reads of bytes is the image that they spell.

@@ -14,8 +14,8 @@ ghost use Rattle.model.specs.Kernel.Messages.{a0, a7};
 ghost use Rattle.model.specs.Acceptance.PointRules.{program_rules};
 ghost use Rattle.model.specs.Acceptance.PointStates.{instruction_at};
 ghost use Rattle.model.specs.Acceptance.Ranges.{is_ranged};
-ghost use Rattle.image.specs.Certificates.{IsPlain};
-ghost use Rattle.image.specs.Programs.{AtPoint, GoesOn, IsKept};
+ghost use Rattle.programs.specs.Certificates.{IsPlain};
+ghost use Rattle.programs.specs.Programs.{AtPoint, GoesOn, IsKept};
 ghost use Rattle.image.specs.Stage.{is_staged, no_slots, staged_image};
 ghost use Rattle.model_laws.specs.Waiter.{waiter};
 

@@ -3,7 +3,5 @@
 #![tactic(auto)]
 
 mod memory;
-#[cfg(test)]
-mod tests;
 
 pub use memory::Mem;

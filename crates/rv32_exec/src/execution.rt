@@ -23,6 +23,7 @@ pub fn exec<V: View>(regs: &mut Regs, instr: Instr, view: &mut V) -> Exec
     ensures outcome { result ≡ (effect regs.old (V.content view.old) instr).exec }
     ensures registers { regs.new ≡ (effect regs.old (V.content view.old) instr).registers }
     ensures content { V.content view.new ≡ (effect regs.old (V.content view.old) instr).content }
+    ensures rest { V.rest view.new ≡ V.rest view.old }
 {
     match instr {
         Instr::Upper { op, rd, immediate } => {
@@ -156,6 +157,7 @@ fn store<V: View>(regs: &mut Regs, view: &mut V, op: StoreOp, address: u32, valu
         regs.new ≡ (stores regs.old content (stored content (store_size op) address value)).registers }
     ensures content { let content = V.content view.old in
         V.content view.new ≡ (stores regs.old content (stored content (store_size op) address value)).content }
+    ensures rest { V.rest view.new ≡ V.rest view.old }
 {
     match view.store(address, store_size(op), value) {
         Ok(()) => advance(regs),

@@ -11,6 +11,3 @@ pub use execution::exec;
 pub use model::{Access, AccessSize, Cause, Exec, Instr, MemoryFault, Register};
 pub use registers::Regs;
 pub use view::View;
-
-#[cfg(test)]
-mod tests;

@@ -8,11 +8,17 @@ use model::{Access, AccessSize, MemoryFault};
 /// Memory as a program sees it. Its addresses name places, one for each byte, for the accesses that
 /// have the right there. Two addresses may name one place.
 ///
-/// `place`, `byte` and `set_byte` say what a memory is. The rest follows, and a memory that knows a
-/// faster way writes it.
+/// `place`, `byte` and `set_byte` say what a memory is. The rest follows byte by byte, and a memory that
+/// knows a faster way writes its own `fetch`, `load` or `store`. Where that way does not serve, these
+/// may call `number` and `set_number`.
 pub trait View {
     /// What the addresses name, and the bytes in the places.
     ghost content: { Self → Content };
+
+    /// What else the owner of the memory holds. No access changes it.
+    ghost Rest: { Type 0 };
+
+    ghost rest: { Self → Rest };
 
     /// The place that an address names for an access.
     fn place(&self, address: u32, access: Access) -> Result<u32, MemoryFault>
@@ -26,7 +32,8 @@ pub trait View {
     /// Puts a byte into a place that some address names, and changes no other.
     fn set_byte(&mut self, place: u32, value: u8)
         requires { IsNamed (content self.old) place }
-        ensures { content self.new ≡ put_byte (content self.old) place value };
+        ensures content { content self.new ≡ put_byte (content self.old) place value }
+        ensures rest { rest self.new ≡ rest self.old };
 
     /// The number at an address, lowest byte first.
     fn number(&self, address: u32, size: AccessSize, access: Access) -> Result<u32, MemoryFault>
@@ -77,14 +84,15 @@ pub trait View {
         self.number(address, AccessSize::Word, Access::Fetch)
     }
 
-    /// Stores the low bytes of a number at an address, lowest byte first. Where one of them has no
-    /// right, nothing changes.
-    fn store(&mut self, address: u32, size: AccessSize, value: u32) -> Result<(), MemoryFault>
-        ensures { MatchResult
+    /// Puts the low bytes of a number at an address, lowest byte first. Where one of them has no right,
+    /// nothing changes.
+    fn set_number(&mut self, address: u32, size: AccessSize, value: u32) -> Result<(), MemoryFault>
+        ensures content { MatchResult
             result
             (λ _. stored (content self.old) size address value ≡ Ok (content self.new))
             (λ fault. (stored (content self.old) size address value ≡ Err fault)
             × (content self.new ≡ content self.old)) }
+        ensures rest { rest self.new ≡ rest self.old }
     {
         match size {
             AccessSize::Byte => {
@@ -113,5 +121,18 @@ pub trait View {
             }
         }
         Ok(())
+    }
+
+    /// Stores the low bytes of a number at an address, for an instruction that stores it. Where one of
+    /// them has no right, nothing changes.
+    fn store(&mut self, address: u32, size: AccessSize, value: u32) -> Result<(), MemoryFault>
+        ensures content { MatchResult
+            result
+            (λ _. stored (content self.old) size address value ≡ Ok (content self.new))
+            (λ fault. (stored (content self.old) size address value ≡ Err fault)
+            × (content self.new ≡ content self.old)) }
+        ensures rest { rest self.new ≡ rest self.old }
+    {
+        self.set_number(address, size, value)
     }
 }

@@ -11,6 +11,3 @@ pub use encoding::{encode, has_spelling};
 pub use model::{
     BranchOp, ImmediateOp, Instr, LoadOp, Register, RegisterOp, ShiftOp, StoreOp, UpperOp,
 };
-
-#[cfg(test)]
-mod tests;

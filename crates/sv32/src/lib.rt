@@ -3,8 +3,6 @@
 #![tactic(auto)]
 
 mod entries;
-#[cfg(test)]
-mod tests;
 mod walks;
 
 pub use entries::Pte;

@@ -3,7 +3,5 @@
 
 mod digits;
 mod lines;
-#[cfg(test)]
-mod tests;
 
 pub use lines::line;

@@ -3,7 +3,5 @@
 #![tactic(auto)]
 
 mod placing;
-#[cfg(test)]
-mod tests;
 
 pub use placing::{NotEnoughMemory, place};

@@ -17,10 +17,10 @@ use Rattle.model.specs.Acceptance.RangeRules.{destination}
 use Rattle.model.specs.Acceptance.Ranges.{is_ranged, with_range}
 use Rattle.ranges.specs.declared.edges.Edge.{Edge as Way}
 use Rattle.ranges.specs.Edges.{way_of}
-use Rattle.image.specs.Certificates.{IsOfForm, IsWait, is_ecall, known_of, constant_measure, with_image_slots}
+use Rattle.programs.specs.Certificates.{IsOfForm, IsWait, is_ecall, known_of, constant_measure, with_image_slots}
 use Rattle.image.specs.Stage.{staged_image}
-use Rattle.image.proofs.NotedConstants.{no_term_of}
-use Rattle.image.proofs.StagedCalls.{waits_at}
+use Rattle.programs.proofs.NotedConstants.{no_term_of}
+use Rattle.programs.proofs.StagedCalls.{waits_at}
 use Rattle.verify.specs.Matching.{noted_at}
 
 abbrev at_constant : Thread → List Range → ℤ → PointState

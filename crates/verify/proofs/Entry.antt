@@ -19,9 +19,9 @@ use Rattle.model.specs.Acceptance.PointRules.{entry_rules, lies_in}
 use Rattle.model.specs.Acceptance.PointStates.{Noted, Known, point_of}
 use Rattle.model.specs.Acceptance.Ranges.{AreWithin, IsWithin, full, single, with_range}
 use Rattle.model.specs.Acceptance.Rules.{first_broken, refuse_if}
-use Rattle.image.specs.Certificates.{IsOfForm, constant_measure, with_image_slots}
+use Rattle.programs.specs.Certificates.{IsOfForm, constant_measure, with_image_slots}
 use Rattle.image.specs.Stage.{staged_image}
-use Rattle.image.proofs.ConstantMeasures.{constant_measured}
+use Rattle.programs.proofs.ConstantMeasures.{constant_measured}
 use Rattle.verify.specs.Checking.{initial_ranges}
 use Rattle.verify.specs.Matching.{noted_at}
 use Rattle.verify.proofs.KeptEdges.{all_from, each_of, same_slots}

@@ -8,7 +8,7 @@ use Rattle.model.specs.Images.Image.{Thread}
 use Rattle.model.specs.Acceptance.PointRules.{entry_rules, point_rules, rules_of_noted, rules_of_program, state_rules}
 use Rattle.model.specs.Acceptance.Rules.{Rule, first_broken}
 use Rattle.model.specs.Acceptance.PointStates.{Noted, Known, Missing}
-use Rattle.image.specs.Certificates.{OnlyWaits, constant_measure, with_image_slots}
+use Rattle.programs.specs.Certificates.{OnlyWaits, constant_measure, with_image_slots}
 use Rattle.verify.specs.Matching.{noted_at}
 use Rattle.image.specs.Stage.{staged_image}
 use Rattle.verify.specs.Checking.{Checks}

@@ -7,9 +7,9 @@ use Rattle.model.specs.declared.ranges.Range.{Range}
 use Rattle.model.specs.Images.Image.{StateRecord, Thread}
 use Rattle.model.specs.Acceptance.NotedStates.{record_of, record_ranges, record_state}
 use Rattle.model.specs.Acceptance.PointStates.{Noted as PointNoted, Known as IsKnown, Missing, follows, noted, noted_or}
-use Rattle.image.specs.Certificates.{IsBare, IsOfForm, Rise, constant_measure, with_image_slots}
+use Rattle.programs.specs.Certificates.{IsBare, IsOfForm, Rise, constant_measure, with_image_slots}
 use Rattle.image.specs.Stage.{staged_image}
-use Rattle.image.proofs.NotedConstants.{found_in}
+use Rattle.programs.proofs.NotedConstants.{found_in}
 use Rattle.verify.specs.Matching.{AreStates, Meets, noted_at}
 use Rattle.verify.specs.declared.states.Noted.{Noted}
 use Rattle.verify.specs.declared.states.Noted.TheVariants.{Known}

@@ -19,10 +19,10 @@ use Rattle.model.specs.Acceptance.PointStates.{address_of, call_at, instruction_
 use Rattle.model.specs.Acceptance.Ranges.{is_ranged}
 use Rattle.model.specs.Acceptance.Rules.{Rule, first_broken, refuse_if}
 use Rattle.ranges.specs.Edges.{way_of}
-use Rattle.image.specs.Certificates.{IsOfForm, IsWait, constant_measure, is_ecall, known_of, waited, with_image_slots}
+use Rattle.programs.specs.Certificates.{IsOfForm, IsWait, constant_measure, is_ecall, known_of, waited, with_image_slots}
 use Rattle.image.specs.Stage.{staged_image}
-use Rattle.image.proofs.ConstantMeasures.{constant_least_value}
-use Rattle.image.proofs.StagedCalls.{no_stray_slots, waits_at}
+use Rattle.programs.proofs.ConstantMeasures.{constant_least_value}
+use Rattle.programs.proofs.StagedCalls.{no_stray_slots, waits_at}
 use Rattle.verify.specs.Checking.{IsWay, rules_behind, rules_of_edge, rules_of_way}
 use Rattle.verify.specs.declared.checks.Limit.TheVariants.{Below}
 use Rattle.verify.proofs.RuleLists.{first_of_both, nothing_behind}

@@ -8,13 +8,13 @@ use Rattle.model.specs.Acceptance.Accepted.{AreKept, IsAccepted, first_breach}
 use Rattle.model.specs.Images.Image.{Image, Thread}
 use Rattle.model.specs.Acceptance.PointRules.{program_rules, rules_of_program}
 use Rattle.model.specs.Acceptance.Rules.{first_broken}
-use Rattle.image.specs.Certificates.{IsOfForm, IsPlain}
+use Rattle.programs.specs.Certificates.{IsOfForm, IsPlain}
 use Rattle.image.specs.Stage.{later, staged_image, staged_reading}
-use Rattle.image.proofs.Acceptance.{accepted-no_breach, none-broken}
-use Rattle.image.proofs.BareRecords.{read_of_form}
-use Rattle.image.proofs.Followed.{refused_first}
+use Rattle.programs.proofs.Acceptance.{accepted-no_breach, none-broken}
+use Rattle.programs.proofs.BareRecords.{read_of_form}
+use Rattle.programs.proofs.Followed.{refused_first}
 use Rattle.image.proofs.Laws.{IsBytes}
-use Rattle.image.proofs.StagedRules.{bad_entry_first, good_entry_first, of_its_thread, read_accepted, same_thread}
+use Rattle.programs.proofs.StagedRules.{bad_entry_first, good_entry_first, of_its_thread, read_accepted, same_thread}
 use Rattle.verify.specs.Checking.{Checks, IsLater}
 use Rattle.verify.specs.Refusing.{IsPlainImage, IsRefused}
 use Rattle.verify.proofs.RuleLists.{nothing_behind}

@@ -13,7 +13,7 @@ use Rattle.model.specs.Acceptance.PointRules.{ProgramEdge, call_rule, edge_rules
 use Rattle.model.specs.Acceptance.PointStates.{instruction_at, point_of}
 use Rattle.model.specs.Acceptance.Rules.{Rule, first_broken, refuse_if}
 use Rattle.ranges.specs.declared.edges.Edge.{Edge as Way}
-use Rattle.image.specs.Certificates.{IsOfForm, IsPlain, constant_measure, known_of}
+use Rattle.programs.specs.Certificates.{IsOfForm, IsPlain, constant_measure, known_of}
 use Rattle.image.specs.Stage.{staged_image}
 use Rattle.verify.specs.Matching.{AreStates}
 use Rattle.verify.specs.declared.states.Noted.{Noted}

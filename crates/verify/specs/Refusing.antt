@@ -5,7 +5,7 @@ use Rattle.model.specs.declared.refusals.Refusal.{Refusal}
 use Rattle.model.specs.declared.refusals.Refusal.TheVariants.{OutOfMemory, Stage}
 use Rattle.model.specs.Acceptance.Accepted.{first_breach}
 use Rattle.model.specs.Images.Image.{Image, Thread}
-use Rattle.image.specs.Certificates.{IsOfForm, IsPlain}
+use Rattle.programs.specs.Certificates.{IsOfForm, IsPlain}
 use Rattle.image.specs.Stage.{staged_image, staged_reading}
 
 -- an image of the one form whose program makes no other call than the wait

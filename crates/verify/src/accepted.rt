@@ -6,7 +6,7 @@ ghost use Rattle.model.specs.Images.Format.{Spells};
 ghost use Rattle.model.specs.Images.Image.{Image, Thread, image_format};
 ghost use Rattle.model.specs.Acceptance.PointRules.{rules_of_program};
 ghost use Rattle.model.specs.declared.refusals.Refusal.TheVariants.{BadThread, OutOfMemory};
-ghost use Rattle.image.specs.Certificates.{IsOfForm, IsPlain};
+ghost use Rattle.programs.specs.Certificates.{IsOfForm, IsPlain};
 ghost use Rattle.image.specs.Stage.{IsStaged, later, no_slots, staged_image, staged_reading};
 ghost use Rattle.verify.specs.Checking.{Checks};
 ghost use Rattle.verify.specs.Refusing.{IsPlainImage, IsRefused};

@@ -10,7 +10,7 @@ ghost use Rattle.model.specs.Acceptance.NotedStates.{record_ranges};
 ghost use Rattle.model.specs.Acceptance.Ranges.{is_ranged, with_range};
 ghost use Rattle.model.specs.declared.instructions.Instr.TheVariants.{Ecall};
 ghost use Rattle.model.specs.Acceptance.PointStates.{follows};
-ghost use Rattle.image.specs.Certificates.{IsOfForm, IsWait, known_of};
+ghost use Rattle.programs.specs.Certificates.{IsOfForm, IsWait, known_of};
 ghost use Rattle.image.specs.Stage.{staged_image};
 ghost use Rattle.verify.specs.Matching.{AreStates, IsKnownAt, Meets, noted_at};
 ghost use Rattle.verify.specs.States.{IsAtLeast};

@@ -1,5 +1,5 @@
 -- By what the formats refuse.
-use Rattle.image.proofs.Followed.{refused_first}
+use Rattle.programs.proofs.Followed.{refused_first}
 use Rattle.model_laws.proofs.form_laws.a_refusal_of_the_form_is_the_first_breach.Goals as goal
 
 pub returns : goal.returns

@@ -1,6 +1,6 @@
 -- By the laws of reading and of the form.
-use Rattle.image.proofs.StagedRules.{read_accepted}
-use Rattle.image.proofs.WholeImage.{bytes-fit}
+use Rattle.programs.proofs.StagedRules.{read_accepted}
+use Rattle.programs.proofs.WholeImage.{bytes-fit}
 use Rattle.model_laws.proofs.form_laws.images_of_the_form_are_accepted_by_their_programs.Goals as goal
 
 pub returns : goal.returns

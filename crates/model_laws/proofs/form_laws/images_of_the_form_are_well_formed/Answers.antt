@@ -1,5 +1,5 @@
 -- By the numbers of the form.
-use Rattle.image.proofs.StagedRules.{bad_entry, well_formed}
+use Rattle.programs.proofs.StagedRules.{bad_entry, well_formed}
 use Rattle.model_laws.proofs.form_laws.images_of_the_form_are_well_formed.Goals as goal
 
 pub returns-clause-formed : goal.returns-clause-formed

@@ -1,6 +1,6 @@
 -- By what fits the format of records without slots.
-use Rattle.image.proofs.BareRecords.{read_bare}
-use Rattle.image.proofs.WholeImage.{bytes-fit}
+use Rattle.programs.proofs.BareRecords.{read_bare}
+use Rattle.programs.proofs.WholeImage.{bytes-fit}
 use Rattle.model_laws.proofs.form_laws.records_of_the_form_are_bare.Goals as goal
 
 pub returns : goal.returns

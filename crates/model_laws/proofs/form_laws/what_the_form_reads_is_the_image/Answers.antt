@@ -1,6 +1,6 @@
 -- By what the formats read.
-use Rattle.image.proofs.Followed.{read_as_whole, spelled_as_whole}
-use Rattle.image.proofs.WholeImage.{bytes-fit}
+use Rattle.programs.proofs.Followed.{read_as_whole, spelled_as_whole}
+use Rattle.programs.proofs.WholeImage.{bytes-fit}
 use Rattle.model_laws.proofs.form_laws.what_the_form_reads_is_the_image.Goals as goal
 
 pub returns-clause-image : goal.returns-clause-image

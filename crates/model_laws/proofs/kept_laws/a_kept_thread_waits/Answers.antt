@@ -1,5 +1,5 @@
 -- By the rules on its edge, and since the program makes no other call.
-use Rattle.image.proofs.KeptSteps.{wait-called, wait-wakes}
+use Rattle.programs.proofs.KeptSteps.{wait-called, wait-wakes}
 use Rattle.model_laws.proofs.kept_laws.a_kept_thread_waits.Goals as goal
 
 pub returns-clause-called : goal.returns-clause-called

@@ -8,9 +8,9 @@ use Rattle.model.specs.declared.ranges.Range.{Range}
 use Rattle.model.specs.Acceptance.PointRules.{program_rules}
 use Rattle.model.specs.Acceptance.PointStates.{Noted, Known, Missing, Unmeasured, instruction_at, noted}
 use Rattle.model.specs.Acceptance.Rules.{first_broken}
-use Rattle.image.specs.Certificates.{IsBare, IsWait, OnlyWaits, Rise, known_of}
+use Rattle.programs.specs.Certificates.{IsBare, IsWait, OnlyWaits, Rise, known_of}
 use Rattle.image.specs.Stage.{staged_image}
-use Rattle.image.proofs.Acceptance.{none-broken}
+use Rattle.programs.proofs.Acceptance.{none-broken}
 use Rattle.model_laws.specs.Waiter.{waiter}
 use Rattle.model_laws.proofs.Opened.{opened}
 use Rattle.model_laws.proofs.kept_laws.a_thread_that_waits_is_kept.Goals as goal

@@ -5,8 +5,8 @@ use Rattle.model.specs.Images.Image.{Thread}
 use Rattle.model.specs.declared.refusals.Refusal.{Refusal}
 use Rattle.model.specs.declared.refusals.Refusal.TheVariants.{BadThread}
 use Rattle.image.specs.Stage.{staged_reading}
-use Rattle.image.proofs.Followed.{refused_first}
-use Rattle.image.proofs.StagedRules.{bad_entry_first, same_thread}
+use Rattle.programs.proofs.Followed.{refused_first}
+use Rattle.programs.proofs.StagedRules.{bad_entry_first, same_thread}
 use Rattle.verify.specs.Refusing.{IsRefused}
 use Rattle.verify.proofs.Verdicts.{WasRead, accepted, form_of, plain_image, refused, told_complete, told_refused, unread}
 use Rattle.verify.proofs.accepted.verify.Goals as goal

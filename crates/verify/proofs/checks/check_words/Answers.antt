@@ -3,7 +3,7 @@ use Rattle.std.proofs.Common.{◌≡◌, ◌∙◌, ℕ, ◌<◌, None, sym, ap,
 use Rattle.model.specs.declared.entries.ThreadHeader.{ThreadHeader}
 use Rattle.model.specs.Machine.Decoding.{decoded}
 use Rattle.model.specs.Acceptance.PointStates.{instruction_at}
-use Rattle.image.specs.Certificates.{known_of}
+use Rattle.programs.specs.Certificates.{known_of}
 use Rattle.verify.specs.Checking.{IsLater}
 use Rattle.verify.proofs.Behind.{none_of}
 use Rattle.verify.proofs.checks.check_words.Goals as goal

@@ -1,7 +1,7 @@
 -- The words so far are known.
 use Rattle.std.proofs.Common.{◌≢◌, ◌<◌, ℕ, None}
 use Rattle.model.specs.Acceptance.PointStates.{instruction_at}
-use Rattle.image.specs.Certificates.{known_of}
+use Rattle.programs.specs.Certificates.{known_of}
 use Rattle.verify.proofs.checks.check_words.Given as goal
 
 abbrev pub invariant-loop-point : goal.invariant-loop-point

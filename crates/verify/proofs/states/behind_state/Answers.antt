@@ -5,7 +5,7 @@ use Rattle.model.specs.declared.instructions.Instr.{Instr}
 use Rattle.model.specs.declared.instructions.Instr.TheVariants.{Ecall}
 use Rattle.model.specs.declared.ranges.Range.{Range}
 use Rattle.model.specs.Acceptance.PointStates.{Known, instruction_at}
-use Rattle.image.specs.Certificates.{constant_measure, with_image_slots}
+use Rattle.programs.specs.Certificates.{constant_measure, with_image_slots}
 use Rattle.verify.proofs.Behind.{behind_the_wait, instruction_is}
 use Rattle.verify.proofs.states.behind_state.Goals as goal
 

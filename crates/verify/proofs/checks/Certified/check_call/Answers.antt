@@ -1,7 +1,7 @@
 -- By the rules behind the wait.
 use Rattle.std.proofs.Common.{◌≡◌, ◌∙◌, ℕ, ◌+◌, inr, refl, sym, ap, true, false}
 use Rattle.model.specs.declared.entries.ThreadHeader.{ThreadHeader}
-use Rattle.image.specs.Certificates.{constant_measure, with_image_slots}
+use Rattle.programs.specs.Certificates.{constant_measure, with_image_slots}
 use Rattle.verify.specs.Checking.{IsEdge, IsLater, rules_behind, rules_of_edge}
 use Rattle.verify.specs.declared.checks.Limit.TheVariants.{Budget}
 use Rattle.verify.proofs.RuleLists.{checks_as}

@@ -7,7 +7,7 @@ use Rattle.model.specs.declared.refusals.Point.{Point}
 use Rattle.model.specs.declared.refusals.Refusal.TheVariants.{OverBudget, RangeNotKept}
 use Rattle.model.specs.Acceptance.PointStates.{Known, point_of}
 use Rattle.model.specs.Acceptance.Ranges.{AreWithin}
-use Rattle.image.specs.Certificates.{constant_measure, with_image_slots}
+use Rattle.programs.specs.Certificates.{constant_measure, with_image_slots}
 use Rattle.verify.specs.Checking.{IsLater, initial_ranges}
 use Rattle.verify.specs.Matching.{noted_at}
 use Rattle.verify.proofs.Entry.{entry_kept, entry_outside, entry_over}

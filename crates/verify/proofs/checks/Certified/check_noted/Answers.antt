@@ -1,7 +1,7 @@
 -- By what is noted of the point.
 use Rattle.std.proofs.Common.{inr}
 use Rattle.model.specs.Acceptance.PointRules.{point_rules, state_rules}
-use Rattle.image.specs.Certificates.{constant_measure, with_image_slots}
+use Rattle.programs.specs.Certificates.{constant_measure, with_image_slots}
 use Rattle.image.specs.Stage.{staged_image}
 use Rattle.verify.specs.Checking.{IsLater}
 use Rattle.verify.proofs.Points.{known_rules, missing_rules}

@@ -4,7 +4,7 @@ use Rattle.std.specs.Prelude.{int_lt}
 use Rattle.model.specs.declared.refusals.Point.{Point}
 use Rattle.model.specs.declared.refusals.Refusal.TheVariants.{MeasureNotFalling}
 use Rattle.model.specs.Acceptance.PointRules.{state_rules}
-use Rattle.image.specs.Certificates.{constant_measure, with_image_slots}
+use Rattle.programs.specs.Certificates.{constant_measure, with_image_slots}
 use Rattle.image.specs.Stage.{staged_image}
 use Rattle.verify.specs.Checking.{rules_behind}
 use Rattle.verify.proofs.RuleLists.{checks_as}

@@ -7,7 +7,7 @@ use Rattle.model.specs.Acceptance.PointStates.{address_of}
 use Rattle.model.specs.Acceptance.Rules.{Rule}
 use Rattle.ranges.specs.Edges.{ways_of}
 use Rattle.ranges.specs.declared.edges.Edges.{Edges as Ways}
-use Rattle.image.specs.Certificates.{constant_measure, with_image_slots}
+use Rattle.programs.specs.Certificates.{constant_measure, with_image_slots}
 use Rattle.verify.specs.Checking.{Checks, IsWay, rules_behind, rules_of_way}
 use Rattle.verify.specs.declared.checks.Limit.{Limit}
 use Rattle.verify.specs.declared.checks.Limit.TheVariants.{Below}

@@ -1,0 +1,24 @@
+//! Tests on the public calls of the machine's layers: memory, words of instructions and capabilities,
+//! walks, placing, and the lines of labels.
+#![tactic(auto)]
+
+mod flat;
+
+pub use flat::Flat;
+
+#[cfg(test)]
+mod capability_words;
+#[cfg(test)]
+mod instructions;
+#[cfg(test)]
+mod lines;
+#[cfg(test)]
+mod memory;
+#[cfg(test)]
+mod placing;
+#[cfg(test)]
+mod small_program;
+#[cfg(test)]
+mod table;
+#[cfg(test)]
+mod walks;

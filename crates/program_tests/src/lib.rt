@@ -1,0 +1,16 @@
+//! Tests on the public calls of the program's layers. What no clause says: the printed rows over real
+//! files, the reading of words and event lists, and the refusals at the edges of the file.
+#![tactic(auto)]
+
+#[cfg(test)]
+mod edges;
+#[cfg(test)]
+mod event_lines;
+#[cfg(test)]
+mod files;
+#[cfg(test)]
+mod rows;
+#[cfg(test)]
+mod sinks;
+#[cfg(test)]
+mod words;

@@ -1,0 +1,100 @@
+-- What the format of a thread gives to who loads and runs it.
+use Rattle.std.proofs.Common.{◌≡◌, ◌≢◌, ℕ, zero, suc, ◌+◌, ◌^◌, ◌<◌, ◌≤◌, ◌&&◌, Bool, true, false, leb, ltb, List, [], ◌∷◌, length, slice_index, refl, arith}
+use Rattle.std.specs.Prelude.{All}
+use Rattle.std.proofs.lemmas.Bool.{and_parts, leb-true, ltb-true}
+use Rattle.std.proofs.lemmas.List.Elements.{All-cons, All-nil}
+use Rattle.model.specs.declared.entries.RegisterEntry.{RegisterEntry}
+use Rattle.model.specs.declared.entries.ThreadHeader.{ThreadHeader}
+use Rattle.std.specs.Int.{w64}
+use Rattle.model.specs.Images.Format.{Spells, field, many_fit, number}
+use Rattle.model.specs.Images.Image.{Thread, anything, below, between, image_format, register_format, records_format, registers_format, thread_format, thread_header_format, words_format}
+use Rattle.image.specs.Stage.{no_slots, staged_image}
+use Rattle.image.proofs.StageLaws.{thread_fits}
+use Rattle.runner.specs.Loaded.{IsLoadable}
+
+-- ---- words
+
+word_count : (count : ℕ) (words : List ℕ) → many_fit (λ _. field anything) (λ _. 0) 0 count words ≡ true → length words ≡ count
+unfolding many_fit
+word_count zero [] fits = refl
+word_count zero (w ∷ ws) fits = absurd (let clash : false ≡ true = fits in cc)
+word_count (suc count) [] fits = absurd (let clash : false ≡ true = fits in cc)
+word_count (suc count) (w ∷ ws) fits =
+    let a = and_parts ((field anything).fits w) (many_fit (λ _. field anything) (λ _. 0) 0 count ws) fits in
+    omega (arith, word_count count ws a.1)
+
+words_below : (count : ℕ) (words : List ℕ) → many_fit (λ _. field anything) (λ _. 0) 0 count words ≡ true → (point : ℕ) → slice_index words point < 2 ^ 32
+unfolding many_fit
+words_below count [] fits point = omega arith
+words_below zero (w ∷ ws) fits point = absurd (let clash : false ≡ true = fits in cc)
+words_below (suc count) (w ∷ ws) fits zero =
+    let a = and_parts ((field anything).fits w) (many_fit (λ _. field anything) (λ _. 0) 0 count ws) fits in
+    let b = and_parts (ltb w (2 ^ 32)) true a.0 in
+    ltb-true w (2 ^ 32) b.0
+words_below (suc count) (w ∷ ws) fits (suc point) =
+    let a = and_parts ((field anything).fits w) (many_fit (λ _. field anything) (λ _. 0) 0 count ws) fits in
+    words_below count ws a.1 point
+
+-- ---- registers
+
+registers_other : (count least : ℕ) (rs : List RegisterEntry) → 1 ≤ least → many_fit register_format (λ e. e.register + 1) least count rs ≡ true → All (λ r. r.register ≢ 0) rs
+unfolding many_fit register_format
+registers_other count least [] low fits = All-nil (λ r. r.register ≢ 0)
+registers_other zero least (r ∷ rs) low fits = absurd (let clash : false ≡ true = fits in cc)
+registers_other (suc count) least (r ∷ rs) low fits =
+    let a = and_parts ((register_format least).fits r) (many_fit register_format (λ e. e.register + 1) (r.register + 1) count rs) fits in
+    let b = and_parts (ltb r.register (2 ^ 32) && (leb least r.register && leb r.register 31)) (ltb r.value (2 ^ 32) && ltb 0 r.value) a.0 in
+    let c = and_parts (ltb r.register (2 ^ 32)) (leb least r.register && leb r.register 31) b.0 in
+    let d = and_parts (leb least r.register) (leb r.register 31) c.1 in
+    let high : least ≤ r.register = leb-true least r.register d.0 in
+    All-cons (λ r. r.register ≢ 0) r rs (λ zero. omega arith) (registers_other count (r.register + 1) rs (omega arith) a.1)
+
+-- ---- threads
+
+record ThreadFits (t : Thread) : Type 0 where
+  header : (thread_header_format 7).fits t.header ≡ true
+  registers : (registers_format t.header.registers).fits t.registers ≡ true
+  words : (words_format t.header.words).fits t.words ≡ true
+
+parts_fit : (t : Thread) → (thread_format no_slots 7).fits t ≡ true → ThreadFits t
+unfolding thread_format
+parts_fit t fits =
+    let h = t.header in
+    let a = and_parts ((thread_header_format 7).fits h) ((registers_format h.registers).fits t.registers && ((words_format h.words).fits t.words && (records_format no_slots h.words h.records).fits t.records)) fits in
+    let b = and_parts ((registers_format h.registers).fits t.registers) ((words_format h.words).fits t.words && (records_format no_slots h.words h.records).fits t.records) a.1 in
+    let c = and_parts ((words_format h.words).fits t.words) ((records_format no_slots h.words h.records).fits t.records) b.1 in
+    record { header = a.0; registers = b.0; words = c.0 }
+
+pub loadable : (t : Thread) → (thread_format no_slots 7).fits t ≡ true → IsLoadable t
+unfolding words_format registers_format
+loadable t fits =
+    let p = parts_fit t fits in
+    record { words = word_count t.header.words t.words p.words; registers = registers_other t.header.registers 1 t.registers (omega arith) p.registers }
+
+pub words_fit : (t : Thread) → (thread_format no_slots 7).fits t ≡ true → (point : ℕ) → slice_index t.words point < 2 ^ 32
+unfolding words_format
+words_fit t fits = words_below t.header.words t.words (parts_fit t fits).words
+
+-- the thread of what is spelled
+pub spelled_fits : (bytes : List ℕ) (t : Thread) → Spells (image_format no_slots) bytes (staged_image t) → (thread_format no_slots 7).fits t ≡ true
+spelled_fits bytes t spelled = thread_fits t spelled.fits
+
+abbrev rest_fits : ThreadHeader → Bool
+rest_fits h = (number w64 (between 1 (2 ^ 62))).fits h.budget && ((field anything).fits h.fault && ((field anything).fits h.entry && ((field anything).fits h.base && ((field (between 0 31)).fits h.registers && ((field (between 1 65536)).fits h.words && (field (between 0 h.words)).fits h.records)))))
+
+abbrev root_fits : ThreadHeader → Bool
+root_fits h = (field (below 7)).fits h.root && ((field (between 0 255)).fits h.priority && rest_fits h)
+
+pub priority_fits : (t : Thread) → (thread_format no_slots 7).fits t ≡ true → t.header.priority < 256
+unfolding thread_header_format
+priority_fits t fits =
+    let h = t.header in
+    let a = and_parts ((field (below 7)).fits h.tcb) ((field (below 7)).fits h.cnode && ((field anything).fits h.guard && root_fits h)) (parts_fit t fits).header in
+    let b = and_parts ((field (below 7)).fits h.cnode) ((field anything).fits h.guard && root_fits h) a.1 in
+    let c = and_parts ((field anything).fits h.guard) (root_fits h) b.1 in
+    let d = and_parts ((field (below 7)).fits h.root) ((field (between 0 255)).fits h.priority && rest_fits h) c.1 in
+    let e = and_parts ((field (between 0 255)).fits h.priority) (rest_fits h) d.1 in
+    let f = and_parts (ltb h.priority (2 ^ 32)) (leb 0 h.priority && leb h.priority 255) e.0 in
+    let g = and_parts (leb 0 h.priority) (leb h.priority 255) f.1 in
+    let most : h.priority ≤ 255 = leb-true h.priority 255 g.1 in
+    omega arith

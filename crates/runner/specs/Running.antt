@@ -1,0 +1,61 @@
+-- What a run answers, and what it puts.
+use Rattle.std.specs.Prelude.{ℕ, ◌≡◌, ◌<◌, ◌⊎◌, ◌-◌, ◌^◌, ◌++◌, false, All, Contains, List, [], ◌∷◌, flat_map, Option}
+use Rattle.model.specs.declared.events.Event.{Event}
+use Rattle.model.specs.declared.labels.Label.{Label}
+use Rattle.model.specs.declared.refusals.Refusal.{Refusal}
+use Rattle.model.specs.declared.refusals.Refusal.TheVariants as refusals
+use Rattle.model.specs.Acceptance.Accepted.{IsAccepted}
+use Rattle.model.specs.Images.Described.{described}
+use Rattle.model.specs.Images.Image.{Image, Thread}
+use Rattle.model.specs.Images.Places.{offset_of}
+use Rattle.model.specs.Kernel.Steps.{trace}
+use Rattle.model.specs.Shared.Trace.{line_of}
+use Rattle.model.specs.Kernel.Waits.{KeepsBudget, is_error, is_fault}
+use Rattle.runner.specs.Sinks.{Grows, GrowsByBeginning}
+use Rattle.runner.specs.declared.running.RunFault.{RunFault}
+use Rattle.runner.specs.declared.running.RunFault.TheVariants.{Refused, OutOfMemory}
+
+-- a refusal for want of memory is told as such
+abbrev pub fault_of : Refusal → RunFault
+fault_of refusals.OutOfMemory = OutOfMemory
+fault_of other = Refused other
+
+-- ---- what is put
+
+-- the line of a label with its line feed
+abbrev pub ended : Label → List ℕ
+ended label = line_of label ++ 0x0A ∷ []
+
+-- the lines of a trace
+unfoldable pub lines_of : List Label → List ℕ
+lines_of labels = flat_map ended labels
+
+-- of what was held a front was put, and the rest is held
+abbrev pub PutsFront : Option (List ℕ) → Option (List ℕ) → List ℕ → List ℕ → Type 0
+PutsFront old new held rest = (front : List ℕ) × Grows old new front × (held ≡ front ++ rest)
+
+-- the count of failures grew, or stands at its end
+abbrev pub Failed : ℕ → ℕ → Type 0
+Failed old new = (old < new) ⊎ (new ≡ 2 ^ 64 - 1)
+
+-- ---- the promise
+
+-- what the kernel does over events, from the state that an image describes
+abbrev pub trace_of : Image → List Event → List Label
+trace_of image events = trace (described image) events
+
+-- The bytes are an accepted image; over the events no line of the kernel's trace is a fault or an error, and no stretch of
+-- a thread is longer than its budget.
+pub record IsSafeRun (bytes : List ℕ) (image : Image) (events : List Event) : Type 0 where
+  pub accepted : IsAccepted bytes image
+  pub faults : All (λ label. is_fault label ≡ false) (trace_of image events)
+  pub errors : All (λ label. is_error label ≡ false) (trace_of image events)
+  pub budgets : (t : Thread) → Contains image.threads t → KeepsBudget (offset_of image t.header.tcb) t.header.budget (trace_of image events)
+
+-- the run is safe, and put all of its lines
+abbrev pub PutsAll : List ℕ → List Event → Option (List ℕ) → Option (List ℕ) → Type 0
+PutsAll bytes events old new = (image : Image) × IsSafeRun bytes image events × Grows old new (lines_of (trace_of image events))
+
+-- the run is safe, and put a beginning of its lines
+abbrev pub PutsSome : List ℕ → List Event → Option (List ℕ) → Option (List ℕ) → Type 0
+PutsSome bytes events old new = (image : Image) × IsSafeRun bytes image events × GrowsByBeginning old new (lines_of (trace_of image events))

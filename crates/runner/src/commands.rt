@@ -1,0 +1,245 @@
+//! The program: what it answers to the words of its command line.
+
+ghost use Rattle.std.specs.Prelude.{ℕ, ◌≡◌, ◌≢◌};
+ghost use Rattle.command_line.specs.declared.requests.WordsFault.{WordsFault};
+ghost use Rattle.runner.specs.declared.commands.Failure.{Failure};
+ghost use Rattle.runner.specs.declared.event_lists.EventsFault.{EventsFault};
+ghost use Rattle.runner.specs.declared.running.RunFault.{RunFault};
+ghost use Rattle.model.specs.declared.boot_faults.BootFault.{BootFault};
+ghost use Rattle.model.specs.declared.refusals.Refusal.{Refusal};
+
+use crate::event_lists::{EventsFault, events};
+use crate::running::{RunFault, run};
+use crate::sinks::{Sink, SinkFault, put_all};
+use command_line::{Request, WordsFault, parse};
+use model::{BootFault, Refusal};
+use std::alloc::{AllocError, Global};
+use std::convert::AsStr;
+use std::rt::{Env, Files};
+use std::{env, fs, io};
+use verify::verify;
+
+/// The exit status of a request that was carried out.
+const DONE: u8 = 0;
+/// .. that was refused, with the reason on standard output.
+const REFUSED: u8 = 1;
+/// .. that the words do not make.
+const USAGE: u8 = 2;
+/// .. that failed for a file, the output or memory, with the reason on standard error.
+const FAILED: u8 = 3;
+
+/// Why a request was not carried out.
+pub enum Failure<'a> {
+    /// The words are no request.
+    Usage,
+    /// This file cannot be read.
+    File(&'a str),
+    /// Standard output takes no more.
+    Output,
+    /// Memory was refused.
+    Memory,
+    /// The image is refused.
+    Image(Refusal),
+    /// The image does not boot.
+    Boot(BootFault),
+    /// The list of events is refused at this line.
+    Events(u64),
+}
+
+impl From<SinkFault> for Failure<'_> {
+    ghost from_gives = { λ _ failure. failure ≡ Failure.Output };
+
+    fn from(_fault: SinkFault) -> Self {
+        Failure::Output
+    }
+}
+
+impl From<AllocError> for Failure<'_> {
+    ghost from_gives = { λ _ failure. failure ≡ Failure.Memory };
+
+    fn from(_fault: AllocError) -> Self {
+        Failure::Memory
+    }
+}
+
+impl From<WordsFault> for Failure<'_> {
+    ghost from_gives = { λ fault failure. (fault ≡ WordsFault.Usage → failure ≡ Failure.Usage) × (fault ≡ WordsFault.OutOfMemory → failure ≡ Failure.Memory) };
+
+    fn from(fault: WordsFault) -> Self {
+        match fault {
+            WordsFault::Usage => Failure::Usage,
+            WordsFault::OutOfMemory => Failure::Memory,
+        }
+    }
+}
+
+impl From<EventsFault> for Failure<'_> {
+    ghost from_gives = { λ fault failure. ((line : ℕ) → fault ≡ EventsFault.Line line → failure ≡ Failure.Events line) × (fault ≡ EventsFault.OutOfMemory → failure ≡ Failure.Memory) };
+
+    fn from(fault: EventsFault) -> Self {
+        match fault {
+            EventsFault::Line(line) => Failure::Events(line),
+            EventsFault::OutOfMemory => Failure::Memory,
+        }
+    }
+}
+
+impl From<Refusal> for Failure<'_> {
+    ghost from_gives = { λ refusal failure. (refusal ≡ Refusal.OutOfMemory → failure ≡ Failure.Memory) × (refusal ≢ Refusal.OutOfMemory → failure ≡ Failure.Image refusal) };
+
+    fn from(refusal: Refusal) -> Self {
+        match refusal {
+            Refusal::OutOfMemory => Failure::Memory,
+            refusal => Failure::Image(refusal),
+        }
+    }
+}
+
+impl From<RunFault> for Failure<'_> {
+    ghost from_gives = { λ fault failure. (fault ≡ RunFault.Output → failure ≡ Failure.Output) × (fault ≡ RunFault.OutOfMemory → failure ≡ Failure.Memory) × ((refusal : Refusal) → fault ≡ RunFault.Refused refusal → refusal ≢ Refusal.OutOfMemory → failure ≡ Failure.Image refusal) × ((boot : BootFault) → fault ≡ RunFault.Boot boot → failure ≡ Failure.Boot boot) };
+
+    fn from(fault: RunFault) -> Self {
+        match fault {
+            RunFault::Refused(refusal) => Failure::from(refusal),
+            RunFault::Boot(fault) => Failure::Boot(fault),
+            RunFault::Output => Failure::Output,
+            RunFault::OutOfMemory => Failure::Memory,
+        }
+    }
+}
+
+/// Carries out what the words behind the program's name ask for, and answers the exit status.
+pub fn command<R: Files + AllocGlobal, S: AsStr, W: Sink, E: Sink>(
+    rt: &R,
+    words: &[S],
+    output: &mut W,
+    errors: &mut E,
+) -> u8 {
+    match answer(rt, words, output) {
+        Ok(()) => DONE,
+        Err(failure) => report(rt.alloc(), failure, output, errors),
+    }
+}
+
+/// Gathers the words of the process's command line, and carries them out.
+pub fn command_line<R: Files + Env + AllocGlobal, W: Sink, E: Sink>(
+    rt: &R,
+    output: &mut W,
+    errors: &mut E,
+) -> u8 {
+    match words(rt) {
+        Ok(words) => command(rt, words.as_slice(), output, errors),
+        Err(failure) => report(rt.alloc(), failure, output, errors),
+    }
+}
+
+/// The words behind the program's name. Words that are no text are no request.
+fn words<R: Env + AllocGlobal>(rt: &R) -> Result<Vec<String>, Failure<'static>> {
+    let all = match env::args(rt) {
+        Ok(all) => all,
+        Err(error) if error.kind() == io::ErrorKind::OutOfMemory => return Err(Failure::Memory),
+        Err(_) => return Err(Failure::Usage),
+    };
+    Ok(all.skip(1).collect(rt.alloc())?)
+}
+
+/// Carries out a request up to its failure.
+fn answer<'a, R: Files + AllocGlobal, S: AsStr, W: Sink>(
+    rt: &R,
+    words: &'a [S],
+    output: &mut W,
+) -> Result<(), Failure<'a>> {
+    match parse(rt.alloc(), words)? {
+        Request::Verify { image } => {
+            let bytes = read_file(rt, image)?;
+            let _accepted = verify(rt.alloc(), bytes.as_slice())?;
+            put_all(output, b"accepted\n")?;
+        }
+        Request::Run {
+            image,
+            events: list,
+        } => {
+            let bytes = read_file(rt, image)?;
+            let text = read_file(rt, list)?;
+            let events = events(rt.alloc(), text.as_slice())?;
+            run(rt.alloc(), bytes.as_slice(), events.as_slice(), output)?;
+        }
+    }
+    Ok(())
+}
+
+/// All bytes of a file.
+fn read_file<'a, R: Files + AllocGlobal>(rt: &R, name: &'a str) -> Result<Vec<u8>, Failure<'a>> {
+    match fs::read(rt, name) {
+        Ok(bytes) => Ok(bytes),
+        Err(error) if error.kind() == io::ErrorKind::OutOfMemory => Err(Failure::Memory),
+        Err(_) => Err(Failure::File(name)),
+    }
+}
+
+/// Says why a request was not carried out, and answers the exit status.
+fn report<W: Sink, E: Sink>(alloc: Global, failure: Failure, output: &mut W, errors: &mut E) -> u8 {
+    match failure {
+        Failure::Usage => {
+            let _ = put_all(errors, b"usage\n");
+            USAGE
+        }
+        Failure::File(name) => failed(errors, b"file ", name.as_bytes()),
+        Failure::Output => failed(errors, b"output", b""),
+        Failure::Memory => failed(errors, b"memory", b""),
+        Failure::Image(refusal) => refused(refusal_line(alloc, refusal), output, errors),
+        Failure::Boot(fault) => refused(boot_line(alloc, fault), output, errors),
+        Failure::Events(line) => refused(format!(in alloc; "events line {line}\n"), output, errors),
+    }
+}
+
+/// Puts a line on standard error.
+fn failed<E: Sink>(errors: &mut E, text: &[u8], name: &[u8]) -> u8 {
+    for piece in [text, name, b"\n"] {
+        if put_all(errors, piece).is_err() {
+            return FAILED;
+        }
+    }
+    FAILED
+}
+
+/// Puts the line of a refusal on standard output.
+fn refused<W: Sink, E: Sink>(
+    line: Result<String, AllocError>,
+    output: &mut W,
+    errors: &mut E,
+) -> u8 {
+    match line {
+        Ok(line) => match put_all(output, line.as_bytes()) {
+            Ok(()) => REFUSED,
+            Err(_) => failed(errors, b"output", b""),
+        },
+        Err(_) => failed(errors, b"memory", b""),
+    }
+}
+
+/// The line of a refusal: its number, name and items, and a refused call's error.
+fn refusal_line(alloc: Global, refusal: Refusal) -> Result<String, AllocError> {
+    let number = refusal.number();
+    let name = refusal.name();
+    let (first, second) = refusal.items();
+    match refusal {
+        Refusal::CallRefused(_, error) => {
+            let error = error.number();
+            format!(in alloc; "refused {number} {name} {first} {second} {error}\n")
+        }
+        _ => format!(in alloc; "refused {number} {name} {first} {second}\n"),
+    }
+}
+
+/// The line of an image that does not boot.
+fn boot_line(alloc: Global, fault: BootFault) -> Result<String, AllocError> {
+    match fault {
+        BootFault::Kernel(call, error) => {
+            let error = error.number();
+            format!(in alloc; "boot error {call} {error}\n")
+        }
+        BootFault::Outside(item) => format!(in alloc; "boot outside {item}\n"),
+        BootFault::OutOfMemory => Err(AllocError),
+    }
+}
