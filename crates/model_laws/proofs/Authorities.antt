@@ -9,7 +9,8 @@ use Rattle.model.specs.Acceptance.Authority.{Covers, Granted, held, appeared, po
 use Rattle.model.specs.Capabilities.Rights.{rights}
 use Rattle.model.specs.Capabilities.Slots.{capability_at}
 use Rattle.model.specs.Images.Image.{Image, Thread}
-use Rattle.model.specs.Kernel.Kinds.{object_named, times}
+use Rattle.model.specs.Kernel.Kinds.{object_named}
+use Rattle.model.specs.Shared.Lists.{times_in}
 use Rattle.model.specs.Kernel.Retype.{NewObject, NewEndpoint, NewThread}
 use Rattle.std.specs.Option.{option_map_or}
 use Rattle.model.specs.Kernel.Scheduling.{without}
@@ -106,17 +107,17 @@ fronts s after self priority first second one two before behind change =
 pub one_there : (other : ℕ) (added : List ℕ) → added ≡ other ∷ [] → Contains added other
 one_there other added is = subst (λ (l : List ℕ). Contains l other) (sym is) (0, lit< tt, refl)
 
-pub twice_there : (other : ℕ) (added : List ℕ) → added ≡ other ∷ other ∷ [] → times other added ≤ 1 → ⊥
+pub twice_there : (other : ℕ) (added : List ℕ) → added ≡ other ∷ other ∷ [] → times_in added other ≤ 1 → ⊥
 twice_there other added is once =
-    let less : times other (other ∷ other ∷ []) ≤ 1 = subst (λ (l : List ℕ). times other l ≤ 1) is once in
+    let less : times_in (other ∷ other ∷ []) other ≤ 1 = subst (λ (l : List ℕ). times_in l other ≤ 1) is once in
     let same : (other == other) ≡ true = eq-eqb other other refl in
-    let two : times other (other ∷ other ∷ []) ≡ 2 = rw same refl in
+    let two : times_in (other ∷ other ∷ []) other ≡ 2 = rw same refl in
     omega (arith, less, two)
 
-pub itself_there : (self : ℕ) → times self (self ∷ []) ≤ times self [] → ⊥
+pub itself_there : (self : ℕ) → times_in (self ∷ []) self ≤ times_in [] self → ⊥
 itself_there self less =
     let same : (self == self) ≡ true = eq-eqb self self refl in
-    let one : times self (self ∷ []) ≡ 1 = rw same refl in
+    let one : times_in (self ∷ []) self ≡ 1 = rw same refl in
     omega (arith, less, one)
 
 -- a part of an endpoint is a capability to an endpoint

@@ -9,7 +9,8 @@ use Rattle.model.specs.Capabilities.CapabilityKinds.{frame_mapping, table_mappin
 use Rattle.model.specs.Capabilities.CapabilityWords.{IsCapability}
 use Rattle.model.specs.Capabilities.Slots.{IsDerivation, IsFull, IsOpen, capability_at, empty_entry, is_empty, is_within, parent_at}
 use Rattle.model.specs.Kernel.AddressSpaces.{maps_page, maps_region}
-use Rattle.model.specs.Kernel.Kinds.{kind_of, object_named, piece_of, times}
+use Rattle.model.specs.Kernel.Kinds.{kind_of, object_named, piece_of}
+use Rattle.model.specs.Shared.Lists.{times_in}
 use Rattle.model.specs.Kernel.Removal.{is_slot_of, slot_count}
 use Rattle.model.specs.Kernel.Scheduling.{is_runnable}
 use Rattle.model.specs.Kernel.Setup.{boot_area}
@@ -89,10 +90,10 @@ module _ (s : State) (bare : IsBare s) where
   threads-sound = record {
     threads = λ thread t is. absurd (no-object thread _ (s.objects thread) (bare.objects thread) is);
     ready = λ thread priority.
-        ap (times thread) (bare.ready priority)
+        ap (λ (l : List ℕ). times_in l thread) (bare.ready priority)
         ∙ sym (ap (λ o. if option_map_or (λ t. is_runnable t.status && t.priority == priority) (as_thread o) false then 1 else 0) (bare.objects thread));
     queued = λ thread queue.
-        ap (λ o. times thread (waiting_at o)) (bare.objects queue)
+        ap (λ o. times_in (waiting_at o) thread) (bare.objects queue)
         ∙ sym (ap (λ o. if option_map_or (λ t. is_blocked_on queue t.status) (as_thread o) false then 1 else 0) (bare.objects thread));
     one_sided = λ offset e is. absurd (no-object offset _ (s.objects offset) (bare.objects offset) is);
     callers = λ thread caller is. absurd (no-object thread caller (thread_at s thread).caller (ap (λ o. (option_map_or (λ t. t) (as_thread o) new_thread).caller) (bare.objects thread)) is);

@@ -14,6 +14,7 @@ pub mod Removals
 pub mod Results
 pub mod Signs
 pub mod Spellings
+pub mod Ticks
 pub mod WaitLaws
 pub mod WordLaws
 pub mod Written

@@ -2,7 +2,7 @@
 use Rattle.std.proofs.Common.{ℕ, ◌≡◌, ◌∙◌, ◌==◌, ◌+◌, ◌<◌, ◌≤◌, ◌++◌, inl, inr, true, false, not, if◌then◌else◌, List, [], ◌∷◌, refl, sym, subst, ap, arith}
 use Rattle.std.proofs.lemmas.Bool.{eq-eqb}
 use Rattle.std.proofs.lemmas.Bool.Decides.{eqb_tells}
-use Rattle.slots.specs.Order.{times_in}
+use Rattle.model.specs.Shared.Lists.{times_in}
 use Rattle.derivation.proofs.Behind.{times-filter}
 use Rattle.model.specs.Kernel.Scheduling.{without}
 use Rattle.model.specs.Kernel.State.{put}
@@ -60,7 +60,7 @@ abbrev pub moved : (ℕ → List ℕ) → ℕ → ℕ → ℕ → List ℕ
 moved ready thread tail = put (λ priority. without thread (ready priority)) tail (without thread (ready tail) ++ thread ∷ [])
 
 -- how often another thread stands in it, and the thread itself
-times-moved_here : (ready : ℕ → List ℕ) (thread tail : ℕ) → times_in (moved ready thread tail tail) thread ≡ 1
+pub times-moved_here : (ready : ℕ → List ℕ) (thread tail : ℕ) → times_in (moved ready thread tail tail) thread ≡ 1
 times-moved_here ready thread tail =
     let place : moved ready thread tail tail ≡ without thread (ready tail) ++ thread ∷ [] = ap (λ b. if b then without thread (ready tail) ++ thread ∷ [] else without thread (ready tail)) (eq-eqb tail tail refl) in
     let same : (thread == thread) ≡ true = eq-eqb thread thread refl in
@@ -68,7 +68,7 @@ times-moved_here ready thread tail =
     ap (λ l. times_in l thread) place ∙ times-end (without thread (ready tail)) thread thread
     ∙ (let gone = times-gone thread (ready tail) in omega (arith, gone, one))
 
-times-moved_elsewhere : (ready : ℕ → List ℕ) (thread tail priority : ℕ) → (priority == tail) ≡ false → times_in (moved ready thread tail priority) thread ≡ 0
+pub times-moved_elsewhere : (ready : ℕ → List ℕ) (thread tail priority : ℕ) → (priority == tail) ≡ false → times_in (moved ready thread tail priority) thread ≡ 0
 times-moved_elsewhere ready thread tail priority apart =
     ap (λ b. times_in (if b then without thread (ready tail) ++ thread ∷ [] else without thread (ready priority)) thread) apart
     ∙ times-gone thread (ready priority)

@@ -1,6 +1,6 @@
 -- The ready list holds no thread twice.
 use Rattle.std.specs.Prelude.{ℕ, ◌≡◌, ◌<◌, ◌≤◌, List}
-use Rattle.slots.specs.Order.{times_in}
+use Rattle.model.specs.Shared.Lists.{times_in}
 
 -- no thread stands twice in the list of one priority, or in those of two
 pub record HoldsNoneTwice (ready : ℕ → List ℕ) : Type 0 where

@@ -21,7 +21,8 @@ use Rattle.model.specs.Images.Places.{offset_of}
 use Rattle.model.specs.Kernel.AddressSpaces.{content_of}
 use Rattle.model.specs.Kernel.Deliveries.{Reason, woken}
 use Rattle.model.specs.Kernel.Interrupts.{binding}
-use Rattle.model.specs.Kernel.Kinds.{Names, frame_around, kind_at, times}
+use Rattle.model.specs.Shared.Lists.{times_in}
+use Rattle.model.specs.Kernel.Kinds.{Names, frame_around, kind_at}
 use Rattle.model.specs.Kernel.Messages.{a0}
 use Rattle.model.specs.Kernel.Retype.{NewObject, NewEndpoint, NewNotification, NewFrame, object, object_bits}
 use Rattle.model.specs.Kernel.Scheduling.{current, head_of, is_runnable, without}
@@ -140,8 +141,8 @@ pub record ReadyChange (s after : State) (self priority : ℕ) : Type 0 where
   pub added : List ℕ
   pub list : without self (after.ready priority) ≡ without self (s.ready priority) ++ added
   pub woken : (thread : ℕ) → Contains added thread → IsWoken s after priority thread
-  pub once : (thread : ℕ) → times thread added ≤ 1
-  pub own : times self (after.ready priority) ≤ times self (s.ready priority)
+  pub once : (thread : ℕ) → times_in added thread ≤ 1
+  pub own : times_in (after.ready priority) self ≤ times_in (s.ready priority) self
 
 -- ---- a step of a thread
 
@@ -197,7 +198,7 @@ pub record WithinTick (s after : State) : Type 0 where
       → (slice : ℕ) × (after.objects thread ≡ Some (ThreadObject (record old { slice = slice })))
   pub idle : current s ≡ None → (priority : ℕ) → after.ready priority ≡ s.ready priority
   pub ready : (thread priority : ℕ) → current s ≡ Some thread → without thread (after.ready priority) ≡ without thread (s.ready priority)
-  pub once : (thread priority : ℕ) → current s ≡ Some thread → times thread (after.ready priority) ≤ times thread (s.ready priority)
+  pub once : (thread priority : ℕ) → current s ≡ Some thread → times_in (after.ready priority) thread ≤ times_in (s.ready priority) thread
 
 -- ---- interrupts
 

@@ -1,6 +1,6 @@
 -- What objects and capabilities are of, and the memory that capabilities name.
 -- seL4 Reference Manual, "Kernel Services and Objects".
-use Rattle.std.specs.Prelude.{ℕ, ◌≡◌, ◌==◌, ◌+◌, ◌-◌, ◌%◌, ◌^◌, ◌≤◌, ◌⊎◌, Option, Some, None, option_map, List, count_by}
+use Rattle.std.specs.Prelude.{ℕ, ◌≡◌, ◌+◌, ◌-◌, ◌%◌, ◌^◌, ◌≤◌, ◌⊎◌, Option, Some, None, option_map}
 use Rattle.model.specs.declared.capabilities.Cap.{Cap}
 use Rattle.model.specs.declared.capabilities.Cap.TheVariants.{Empty, Untyped, Endpoint, Notification, CNode, Frame, PageTable, Tcb, RootTable, InterruptControl, InterruptHandler}
 use Rattle.model.specs.Kernel.AddressSpaces.{page_size}
@@ -66,9 +66,3 @@ used_of _ = None
 -- the offset of the frame that a place would stand in
 abbrev pub frame_around : ℕ → ℕ
 frame_around place = place - place % page_size
-
--- ---- lists of threads
-
--- how often a thread stands in a list
-abbrev pub times : ℕ → List ℕ → ℕ
-times thread threads = count_by (λ other. other == thread) threads

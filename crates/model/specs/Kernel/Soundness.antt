@@ -10,7 +10,8 @@ use Rattle.model.specs.Capabilities.CapabilityKinds.{cnode_of, frame_mapping, ro
 use Rattle.model.specs.Capabilities.Slots.{Descendant, IsDerivation, IsFull, IsOpen, Slots, capability_at}
 use Rattle.model.specs.Kernel.AddressSpaces.{is_region_taken, maps_page, maps_region, region_pages}
 use Rattle.model.specs.Kernel.Interrupts.{binding}
-use Rattle.model.specs.Kernel.Kinds.{AreApart, IsInside, Names, Piece, frame_around, kind_at, object_named, piece_of, times, used_of}
+use Rattle.model.specs.Shared.Lists.{times_in}
+use Rattle.model.specs.Kernel.Kinds.{AreApart, IsInside, Names, Piece, frame_around, kind_at, object_named, piece_of, used_of}
 use Rattle.model.specs.Kernel.Removal.{is_slot_of}
 use Rattle.model.specs.Kernel.Retype.{NewObject, NewFrame, NewRootTable}
 use Rattle.model.specs.Kernel.Scheduling.{full_slice, is_runnable}
@@ -130,9 +131,9 @@ pub record ThreadIsSound (t : ThreadState) : Type 0 where
 pub record ThreadsAreSound (s : State) : Type 0 where
   pub threads : (thread : ℕ) (t : ThreadState) → s.objects thread ≡ Some (ThreadObject t) → ThreadIsSound t
   -- a thread stands in the ready list, at its priority and once, exactly if it runs
-  pub ready : (thread priority : ℕ) → times thread (s.ready priority) ≡ (if runs_at s thread priority then 1 else 0)
+  pub ready : (thread priority : ℕ) → times_in (s.ready priority) thread ≡ (if runs_at s thread priority then 1 else 0)
   -- and in the one queue that its status names, once
-  pub queued : (thread queue : ℕ) → times thread (waiting_at (s.objects queue)) ≡ (if waits_at s thread queue then 1 else 0)
+  pub queued : (thread queue : ℕ) → times_in (waiting_at (s.objects queue)) thread ≡ (if waits_at s thread queue then 1 else 0)
   pub one_sided : (offset : ℕ) (e : EndpointState) → s.objects offset ≡ Some (EndpointObject e) → (e.senders ≡ []) ⊎ (e.receivers ≡ [])
   -- a right to reply is held for a thread that awaits an answer, by one thread
   pub callers : (thread caller : ℕ) → (thread_at s thread).caller ≡ Some caller → IsTrue (awaits_answer (thread_at s caller).status)

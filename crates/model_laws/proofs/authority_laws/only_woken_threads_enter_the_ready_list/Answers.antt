@@ -2,7 +2,7 @@
 use Rattle.std.proofs.Common.{ℕ, ◌≡◌, ◌≤◌, Some, None, List, [], ◌∷◌, Contains, subst, sym, ap, arith, ◌∙◌}
 use Rattle.std.proofs.lemmas.Bool.{ne_eqb}
 use Rattle.model.specs.Acceptance.Authority.{IsWoken, self_of}
-use Rattle.model.specs.Kernel.Kinds.{times}
+use Rattle.model.specs.Shared.Lists.{times_in}
 use Rattle.model.specs.Kernel.State.{Inactive, Runnable, ThreadObject}
 use Rattle.model_laws.proofs.Authorities.{added-one, added-two, fronts, itself_there, one_there, twice_there}
 use Rattle.model_laws.proofs.authority_laws.only_woken_threads_enter_the_ready_list.Goals as goal
@@ -27,7 +27,7 @@ pub returns-clause-twice : goal.returns-clause-twice
 returns-clause-twice c = λ image t s after priority other differ empty list within.
     let change = within.ready priority in
     let two = added-two s after (self_of image t) priority other differ empty list change in
-    let once : times other change.added ≤ 1 = change.once other in
+    let once : times_in change.added other ≤ 1 = change.once other in
     twice_there other change.added two once
 
 pub returns-clause-front : goal.returns-clause-front
@@ -37,8 +37,8 @@ returns-clause-front c = λ image t s after priority first second one two differ
 pub returns-clause-itself : goal.returns-clause-itself
 returns-clause-itself c = λ image t s after priority empty list within.
     let change = within.ready priority in
-    let own : times (self_of image t) (after.ready priority) ≤ times (self_of image t) (s.ready priority) = change.own in
-    let less : times (self_of image t) (self_of image t ∷ []) ≤ times (self_of image t) [] =
-    subst (λ (now : List ℕ). times (self_of image t) now ≤ times (self_of image t) []) list
-    (subst (λ (old : List ℕ). times (self_of image t) (after.ready priority) ≤ times (self_of image t) old) empty own) in
+    let own : times_in (after.ready priority) (self_of image t) ≤ times_in (s.ready priority) (self_of image t) = change.own in
+    let less : times_in (self_of image t ∷ []) (self_of image t) ≤ times_in [] (self_of image t) =
+    subst (λ (now : List ℕ). times_in now (self_of image t) ≤ times_in [] (self_of image t)) list
+    (subst (λ (old : List ℕ). times_in (after.ready priority) (self_of image t) ≤ times_in old (self_of image t)) empty own) in
     itself_there (self_of image t) less
