@@ -3,7 +3,7 @@
 ghost use Rattle.std.specs.Prelude.{ℕ, ◌≡◌, ◌≢◌, ◌<◌, ◌≤◌, ◌↔◌, Some, OnOk, OnErr, IsOk};
 ghost use Rattle.model.specs.Capabilities.CapabilityWords.{IsCapability};
 ghost use Rattle.model.specs.Capabilities.Slots.{Descendant, IsFull, SameOutside, depth_of, empty_entry, inserted, relocated, spliced};
-ghost use Rattle.derivation.specs.Descendants.{name_after_move};
+ghost use Rattle.derivation.specs.Moves.{name_after_move};
 ghost use Rattle.model.specs.declared.capabilities.Cap.{Cap};
 ghost use Rattle.model.specs.declared.capabilities.Cap.TheVariants.{Empty};
 

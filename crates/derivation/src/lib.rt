@@ -4,8 +4,10 @@
 
 mod changes;
 mod descent;
+mod removals;
 #[cfg(test)]
 mod tests;
 
 pub use changes::{insert_child, relocate, splice_out};
 pub use descent::{descends, next_descendant};
+pub use removals::remove_descendants;

@@ -1,1 +1,6 @@
 pub mod BytesLemmas
+pub mod Ancestors
+pub mod Depths
+pub mod Derivations
+pub mod Orders
+pub mod SlotChanges

@@ -11,7 +11,7 @@ use Rattle.model.specs.declared.capabilities.Cap.TheVariants.{PageTable}
 use Rattle.model.specs.declared.capabilities.TableMapping.{TableMapping}
 use Rattle.model.specs.declared.slot_entries.Entry.{Entry}
 use Rattle.model.proofs.BytesLemmas.{slice_index-written_before, slice_index-written_behind}
-use Rattle.slots.proofs.Changes.{capability_of}
+use Rattle.model.proofs.SlotChanges.{capability_of}
 use Rattle.vspace.specs.Answers.{KeptBytes}
 use Rattle.vspace.specs.Endings.{unmapped_entry}
 use Rattle.vspace.specs.TableAnswers.{KeptBesideTables}

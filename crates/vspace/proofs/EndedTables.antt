@@ -13,7 +13,7 @@ use Rattle.model.specs.declared.capabilities.FrameMapping.{FrameMapping}
 use Rattle.model.specs.declared.capabilities.TableMapping.{TableMapping}
 use Rattle.model.specs.declared.rights.Rights.{Rights}
 use Rattle.model.specs.declared.slot_entries.Entry.{Entry}
-use Rattle.slots.proofs.Changes.{capability_of, entry-other, entry-same, parent_of}
+use Rattle.model.proofs.SlotChanges.{capability_of, entry-other, entry-same, parent_of}
 use Rattle.vspace.specs.Endings.{Ended, GoesWith, IsMappedIn, Loses, NoneUnder, ended_at, is_ending, unmapped_entry}
 use Rattle.vspace.specs.Regions.{unmapped_at}
 use Rattle.vspace.specs.Tables.{MapsTable, TablesAgree}

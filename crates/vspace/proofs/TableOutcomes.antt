@@ -16,7 +16,7 @@ use Rattle.model.specs.declared.errors.KError.{KError}
 use Rattle.model.specs.declared.errors.KError.TheVariants.{AlignmentError, DeleteFirst, InvalidArgument}
 use Rattle.model.proofs.BytesLemmas.{slice_index-written_before, slice_index-written_behind}
 use Rattle.model.specs.Shared.Bytes.{word_bytes}
-use Rattle.slots.proofs.Changes.{capability_of}
+use Rattle.model.proofs.SlotChanges.{capability_of}
 use Rattle.vspace.specs.TableAnswers.{FreePointer, GivesTableMapped, KeptBesideRoots, RegionAnswer, TableMappingAnswer, region_named, table_call}
 use Rattle.vspace.specs.Tables.{Holds, TablesAgree, table_in}
 use Rattle.vspace.proofs.Outcomes.{region-taken}

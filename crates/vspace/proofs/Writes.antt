@@ -9,7 +9,7 @@ use Rattle.model.specs.declared.capabilities.Cap.TheVariants.{Empty, Frame}
 use Rattle.model.specs.declared.capabilities.FrameMapping.{FrameMapping}
 use Rattle.model.specs.declared.rights.Rights.{Rights}
 use Rattle.model.proofs.BytesLemmas.{slice_index-written_before, slice_index-written_behind}
-use Rattle.slots.proofs.Changes.{capability_of, entry-other, entry-same}
+use Rattle.model.proofs.SlotChanges.{capability_of, entry-other, entry-same}
 use Rattle.vspace.specs.Answers.{FreeEntry, KeptBytes, LeafAnswer}
 use Rattle.vspace.specs.Tables.{IsTable, MapsTable, TablesAgree}
 use Rattle.vspace.proofs.FrameSteps.{index_small}

@@ -2,7 +2,7 @@
 use Rattle.std.proofs.Common.{◌∙◌, Some, ap, if◌then◌else◌}
 use Rattle.model.specs.Capabilities.Slots.{empty_entry}
 use Rattle.slots.specs.Table.{table_slots}
-use Rattle.slots.proofs.Tables.{bounds-within}
+use Rattle.model.proofs.SlotChanges.{bounds-within}
 use Rattle.slots.proofs.tests.a_range_opens_and_closes.Goals as goal
 
 pub open_range-requires-clause-closed : goal.open_range-requires-clause-closed

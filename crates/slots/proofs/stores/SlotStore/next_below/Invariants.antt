@@ -1,20 +1,19 @@
 -- The first descendant behind here is the one that is looked for.
 use Rattle.std.proofs.Common.{ℕ, ◌≡◌, Some, filter, length}
 use Rattle.model.specs.Capabilities.Slots.{IsFull}
-use Rattle.slots.specs.Order.{after, first_of}
+use Rattle.model.specs.Capabilities.Orders.{after, descendants, first_of}
 use Rattle.model.specs.Capabilities.Slots.{is_descendant}
-use Rattle.derivation.specs.Descendants.{descendants}
-use Rattle.derivation.proofs.Behind.{behind}
-use Rattle.derivation.proofs.descent.next_descendant.Given as goal
+use Rattle.model.proofs.Orders.{behind}
+use Rattle.slots.proofs.stores.SlotStore.next_below.Given as goal
 
 abbrev pub invariant-slots : goal.invariant-slots
 invariant-slots g l =
-    let slots = g.S.SlotMap.slots l.store in
-    let order = g.S.SlotStore.order l.store in
+    let slots = g.Self.SlotMap.slots l.self in
+    let order = g.Self.SlotStore.order l.self in
     record {
       full : (slot : ℕ) → l.at ≡ Some slot → IsFull slots slot;
       rest : first_of (filter (is_descendant slots l.root) (behind order l.at)) ≡ after (descendants order slots l.root) l.fn.previous;
     }
 
 abbrev pub decreases-slots : goal.decreases-slots
-decreases-slots g l = length (behind (g.S.SlotStore.order l.store) l.at)
+decreases-slots g l = length (behind (g.Self.SlotStore.order l.self) l.at)

@@ -3,18 +3,18 @@ use Rattle.std.proofs.Common.{◌≡◌, ◌≢◌, ◌∙◌, ◌+◌, ◌-◌,
 use Rattle.std.proofs.lemmas.Bool.{ne_eqb}
 use Rattle.model.specs.Capabilities.Slots.{Slots, parent_at}
 use Rattle.model.specs.Capabilities.Slots.{descends_within}
-use Rattle.derivation.proofs.Ancestors.{descends-none, descends-on, descends-root, descends-zero, full-open, parent-held}
-use Rattle.derivation.proofs.descent.is_below.Goals as goal
+use Rattle.model.proofs.Ancestors.{descends-none, descends-on, descends-root, descends-zero, full-open, parent-held}
+use Rattle.slots.proofs.stores.SlotStore.descends.Goals as goal
 
 pub returns-in-None-clause-test : goal.returns-in-None-clause-test
 returns-in-None-clause-test g c =
-    let slots : Slots = g.S.SlotMap.slots c.args.store.now in
+    let slots : Slots = g.Self.SlotMap.slots c.args.self.now in
     let above : parent_at slots c.up.here ≡ None = parent-held slots c.up.here _ c.get-held.ensures.held ∙ c.in-None.is in
     sym (descends-none (c.depth-depth.result - c.up._step) (parent_at slots) c.args.root c.up.here above) ∙ c.up.invariant.rest
 
 pub returns-then-number-clause-test : goal.returns-then-number-clause-test
 returns-then-number-clause-test g c =
-    let slots : Slots = g.S.SlotMap.slots c.args.store.now in
+    let slots : Slots = g.Self.SlotMap.slots c.args.self.now in
     let left = c.depth-depth.result - (c.up._step + 1) in
     let size : c.depth-depth.result - c.up._step ≡ suc left = omega arith in
     let above : parent_at slots c.up.here ≡ Some c.in-Some.parent = parent-held slots c.up.here _ c.get-held.ensures.held ∙ c.in-Some.is in
@@ -23,7 +23,7 @@ returns-then-number-clause-test g c =
 
 pub up-preserved : goal.up-preserved
 up-preserved g c =
-    let slots : Slots = g.S.SlotMap.slots c.args.store.now in
+    let slots : Slots = g.Self.SlotMap.slots c.args.self.now in
     let left = c.depth-depth.result - (c.up._step + 1) in
     let size : c.depth-depth.result - c.up._step ≡ suc left = omega arith in
     let above : parent_at slots c.up.here ≡ Some c.in-Some.parent = parent-held slots c.up.here _ c.get-held.ensures.held ∙ c.in-Some.is in
@@ -35,6 +35,6 @@ up-preserved g c =
 
 pub returns-clause-test : goal.returns-clause-test
 returns-clause-test g c =
-    let slots : Slots = g.S.SlotMap.slots c.args.store.now in
+    let slots : Slots = g.Self.SlotMap.slots c.args.self.now in
     let none : c.depth-depth.result - c.up._step ≡ 0 = omega arith in
     sym (ap (λ n. descends_within n (parent_at slots) c.args.root c.up.here) none ∙ descends-zero (parent_at slots) c.args.root c.up.here) ∙ c.up.invariant.rest

@@ -7,8 +7,8 @@ use Rattle.model.specs.Capabilities.Slots.{Slots, IsDerivation, IsFull, capabili
 use Rattle.model.specs.declared.capabilities.Cap.{Cap}
 use Rattle.model.specs.declared.capabilities.Cap.TheVariants.{Empty}
 use Rattle.model.specs.declared.slot_entries.Entry.{Entry}
-use Rattle.slots.proofs.Changes.{capability_of, parent_of, capability-adopted, parent-adopted, capability-opened, capability-closed, entry-same, entry-other, full-capability, full-same, full-not-empty}
-use Rattle.slots.proofs.Depths.{adopted_parent, renamed, depth-none, depth-some, depth-mono, depth-own_parent, depth-same, depth-leaf, depth-spliced, depth-relocated}
+use Rattle.model.proofs.SlotChanges.{capability_of, parent_of, capability-adopted, parent-adopted, capability-opened, capability-closed, entry-same, entry-other, full-capability, full-same, full-not-empty}
+use Rattle.model.proofs.Depths.{adopted_parent, renamed, depth-none, depth-some, depth-mono, depth-own_parent, depth-same, depth-leaf, depth-spliced, depth-relocated}
 
 -- the same capabilities and parents
 pub derivation-same : (old new : Slots) → IsDerivation old → ((s : ℕ) → (capability_at new s ≡ capability_at old s) × (parent_at new s ≡ parent_at old s)) → IsDerivation new

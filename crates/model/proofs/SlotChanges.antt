@@ -1,12 +1,13 @@
 -- What a change of the slots leaves at each of them.
-use Rattle.std.proofs.Common.{ℕ, ◌≡◌, ◌≢◌, ◌∙◌, ◌==◌, true, false, not, if◌then◌else◌, Option, Some, None, refl, sym, ap}
+use Rattle.std.proofs.Common.{inl, inr, ℕ, ◌≡◌, ◌≢◌, ◌∙◌, ◌==◌, ◌+◌, ◌<◌, ◌≤◌, true, false, not, if◌then◌else◌, Option, Some, None, refl, sym, ap, arith}
 use Rattle.std.specs.Option.{option_map, option_map_or}
 use Rattle.std.proofs.lemmas.Bool.{eq-eqb, ne_eqb}
-use Rattle.model.specs.Capabilities.Slots.{Slots, IsFull, adopted, capability_at, closed, empty_entry, is_empty, is_full, is_within, opened, parent_at, with_entry}
+use Rattle.std.proofs.lemmas.Bool.Decides.{eqb_tells, nat_tests}
+use Rattle.model.specs.Capabilities.Slots.{Slots, IsFull, adopted, capability_at, closed, empty_entry, is_empty, is_full, is_within, opened, parent_at, recapped, spliced, with_entry, with_parent}
 use Rattle.model.specs.declared.capabilities.Cap.{Cap}
 use Rattle.model.specs.declared.capabilities.Cap.TheVariants.{Empty, Untyped, Endpoint, Notification, CNode, Frame, PageTable, Tcb, RootTable, InterruptControl, InterruptHandler}
 use Rattle.model.specs.declared.slot_entries.Entry.{Entry}
-use Rattle.slots.proofs.Depths.{adopted_parent}
+use Rattle.model.proofs.Depths.{adopted_parent}
 
 -- a changed entry, and the others
 pub entry-same : (slots : Slots) (slot : ℕ) (held : Option Entry) → with_entry slots slot held slot ≡ held
@@ -61,6 +62,10 @@ full-not-empty slots full empty is_full' is same =
     let held : false ≡ true = ap (λ o. not (is_empty (capability_of o))) (sym is) ∙ ap (λ s. is_full slots s) (sym same) ∙ is_full' in
     cc
 
+pub full-not-none : (slots : Slots) (slot : ℕ) → IsFull slots slot → slots slot ≢ None
+full-not-none slots slot full none =
+    absurd (let clash : false ≡ true = sym (ap (λ o. not (is_empty (capability_of o))) none) ∙ full in cc)
+
 -- opening and closing empty slots changes no capability and no parent
 pub capability-opened : (slots : Slots) (first count s : ℕ) → ((t : ℕ) → is_within first count t ≡ true → slots t ≡ None) → (capability_at (opened slots first count) s ≡ capability_at slots s) × (parent_at (opened slots first count) s ≡ parent_at slots s)
 capability-opened slots first count s was =
@@ -75,3 +80,31 @@ capability-closed slots first count s was =
       | true ↦ λ inside. (ap capability_of (sym (was s inside)), ap parent_of (sym (was s inside)))
       | false ↦ λ outside. (refl, refl)
     ] refl
+
+-- what a slot within a range is
+pub within-bounds : (first count slot : ℕ) → is_within first count slot ≡ true → (first ≤ slot) × (slot < first + count)
+within-bounds first count slot inside = grind (arith, nat_tests)
+
+pub bounds-within : (first count slot : ℕ) → first ≤ slot → slot < first + count → is_within first count slot ≡ true
+bounds-within first count slot low high = grind (arith, nat_tests)
+
+-- what is full after each change
+pub full-recapped : (slots : Slots) (slot : ℕ) (capability : Cap) → IsFull slots slot → capability ≢ Empty → (s : ℕ) → is_full (recapped slots slot capability) s ≡ is_full slots s
+full-recapped slots slot capability full some s =
+    let entry : Option Entry = Some (record { capability = capability; parent = parent_at slots slot }) in
+    elim (eqb_tells s slot) [
+      | inl here ↦
+          ap (is_full (recapped slots slot capability)) here.1 ∙ ap (λ o. not (is_empty (capability_of o))) (entry-same slots slot entry)
+          ∙ full-capability capability some ∙ sym (ap (is_full slots) here.1 ∙ full)
+      | inr other ↦ ap (λ o. not (is_empty (capability_of o))) (entry-other slots slot entry s other.1)
+    ]
+
+pub full-spliced : (slots : Slots) (gone s : ℕ) → s ≢ gone → is_full (spliced slots gone) s ≡ is_full slots s
+full-spliced slots gone s other =
+    let above : Option ℕ = parent_at slots gone in
+    ap (λ o. not (is_empty (capability_of o))) (entry-other (with_parent slots gone above) gone (Some empty_entry) s other)
+    ∙ ap (λ c. not (is_empty c)) (capability-adopted gone above (slots s))
+
+pub empty-spliced : (slots : Slots) (gone : ℕ) → is_full (spliced slots gone) gone ≡ false
+empty-spliced slots gone =
+    ap (λ o. not (is_empty (capability_of o))) (entry-same (with_parent slots gone (parent_at slots gone)) gone (Some empty_entry))
