@@ -13,6 +13,10 @@ impl SlotMap for OneNode {
 
     ghost slots = { λ _. sample };
 
+    fn capability(&self, slot: Slot) -> Cap {
+        self.get(slot).0
+    }
+
     fn get(&self, slot: Slot) -> (Cap, Option<Slot>) {
         let held = match slot.number() {
             0x1060 => Cap::Endpoint {

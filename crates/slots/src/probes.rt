@@ -1,7 +1,7 @@
 //! Tests of what the changes of a store ask for.
 
 ghost use Rattle.std.specs.Prelude.{◌≡◌, ◌↔◌, Some, IsTrue};
-ghost use Rattle.model.specs.Capabilities.Slots.{IsFull, empty_entry};
+ghost use Rattle.model.specs.Capabilities.Slots.{empty_entry, is_full};
 
 use crate::{SlotMap, SlotStore};
 use model::{Cap, Slot};
@@ -15,7 +15,7 @@ pub fn is_free<S: SlotStore>(store: &S, slot: Slot) -> bool
 
 /// Whether a slot is open and holds a capability.
 pub fn is_taken<S: SlotMap>(store: &S, slot: Slot) -> bool
-    ensures { IsTrue result ↔ IsFull (S.slots store.now) slot }
+    ensures { result ≡ is_full (S.slots store.now) slot }
 {
     !matches!(store.capability(slot), Cap::Empty)
 }
