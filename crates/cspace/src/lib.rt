@@ -4,8 +4,6 @@
 
 mod arguments;
 mod lookups;
-#[cfg(test)]
-mod tests;
 
 pub use arguments::{SlotName, argument_slot, destination_slot, source_slot};
 pub use lookups::lookup;

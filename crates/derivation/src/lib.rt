@@ -5,8 +5,6 @@
 mod changes;
 mod descent;
 mod removals;
-#[cfg(test)]
-mod tests;
 
 pub use changes::{insert_child, relocate, splice_out};
 pub use descent::{descends, next_descendant};

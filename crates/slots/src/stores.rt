@@ -1,6 +1,6 @@
 //! A store of slots beside the bytes of the machine.
 
-ghost use Rattle.std.specs.Prelude.{ℕ, ◌≡◌, ◌≢◌, ◌↔◌, ◌+◌, ◌*◌, ◌<◌, ◌≤◌, [], ◌∷◌, List, Some, None, IfSome, IsTrue, length, replicate};
+ghost use Rattle.std.specs.Prelude.{ℕ, ◌≡◌, ◌≢◌, ◌↔◌, ◌+◌, ◌*◌, ◌^◌, ◌<◌, ◌≤◌, [], ◌∷◌, List, Some, None, IfSome, IsTrue, length, replicate};
 ghost use Rattle.std.specs.Option.{ForSome};
 ghost use Rattle.model.specs.Shared.Bytes.{word_bytes, written};
 ghost use Rattle.model.specs.Capabilities.CapabilityWords.{IsCapability};
@@ -29,6 +29,7 @@ pub trait SlotStore: SlotMap {
     /// How many slots there are: one for each 16 bytes of memory. No slot behind them is open.
     fn count(&self) -> u32
         ensures value { 16 * result ≡ length (memory self.now) }
+        ensures most { result ≤ 2 ^ 20 }
         ensures near { (s : ℕ) → IsOpen (Self.slots self.now) s → s < result };
 
     /// Whether a slot is open.

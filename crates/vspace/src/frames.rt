@@ -3,16 +3,18 @@
 ghost use Rattle.std.specs.Prelude.{◌≡◌, ◌<◌, ◌≤◌, ◌/◌, ◌*◌, ◌^◌, ◌||◌, ◌⊎◌, [], ◌∷◌, ◌+◌, None, IfErr, IfOk, length};
 ghost use Rattle.model.specs.Capabilities.CapabilityWords.{AreMappingRights, IsCapability, IsPlace};
 ghost use Rattle.model.specs.Kernel.Invocations.{Call, unmap_frame, with_slots};
-ghost use Rattle.model.specs.Capabilities.Lookup.{CNodeIsOpen, CNodesAreOpen};
 ghost use Rattle.model.specs.Capabilities.Rights.{may_execute, may_read, mapping_rights};
 ghost use Rattle.model.specs.Capabilities.Slots.{capability_at, recapped};
 ghost use Rattle.model.specs.Kernel.State.{State};
 ghost use Rattle.model.specs.Machine.Sv32.{leaf_word};
-ghost use Rattle.vspace.specs.Answers.{GivesMapped, KeptBytes, LeafAnswer, MappingAnswer, PageAnswer, page_named};
+ghost use Rattle.vspace.specs.Answers.{GivesMapped, LeafAnswer, MappingAnswer, PageAnswer, page_named};
+ghost use Rattle.vspace.specs.Kept.{SameBesideTables};
 ghost use Rattle.vspace.specs.Tables.{Holds, TablesAgree};
 
-use crate::arguments::{SlotName, root_named};
+use crate::arguments::root_named;
+use crate::sizes::{ADDRESS_LIMIT, PAGE_SIZE, REGION_PAGES};
 use crate::tables::{is_taken, table_in};
+use cspace::SlotName;
 use model::{Cap, FrameMapping, KError, Rights, Slot};
 use slots::SlotStore;
 use sv32::Pte;
@@ -62,13 +64,13 @@ fn page_named(address: u32) -> Result<u32, KError>
     ensures value { result ≡ page_named address }
     ensures near { IfOk result (λ page. page < 2 ^ 19) }
 {
-    if address >= 0x8000_0000 {
+    if address >= ADDRESS_LIMIT {
         return Err(KError::InvalidArgument);
     }
-    if address % 0x1000 != 0 {
+    if address % PAGE_SIZE != 0 {
         return Err(KError::AlignmentError);
     }
-    Ok(address / 0x1000)
+    Ok(address / PAGE_SIZE)
 }
 
 /// The entry for a page in the page table of its region, which has to be there and to be free.
@@ -79,13 +81,13 @@ fn free_entry<S: SlotStore>(store: &S, root: u32, page: u32) -> Result<u32, KErr
     ensures answer { PageAnswer (S.slots store.now) root page result }
 {
     let memory = store.mem();
-    let Some(table) = table_in(memory, root, page / 0x400) else {
+    let Some(table) = table_in(memory, root, page / REGION_PAGES) else {
         return Err(KError::FailedLookup);
     };
-    if is_taken(memory, table, page % 0x400) {
+    if is_taken(memory, table, page % REGION_PAGES) {
         return Err(KError::DeleteFirst);
     }
-    Ok(table as u32 + 4 * (page % 0x400))
+    Ok(table as u32 + 4 * (page % REGION_PAGES))
 }
 
 /// The place of the leaf, and the mapping, if a frame's capability can be mapped.
@@ -98,8 +100,6 @@ fn mapping_for<S: SlotStore>(
     rights: u32,
 ) -> Result<(u32, FrameMapping), KError>
     requires valid { IsCapability cspace }
-    requires root_open { CNodeIsOpen (S.slots store.now) cspace }
-    requires all_open { CNodesAreOpen (S.slots store.now) }
     requires agree { TablesAgree (S.slots store.now) (S.memory store.now) }
     ensures answer { MappingAnswer (S.slots store.now) cspace frame.slot frame.offset frame.rights
         frame.mapping (root.address ∷ root.depth ∷ address ∷ rights ∷ []) result }
@@ -128,10 +128,10 @@ fn leaf_of<S: SlotStore>(store: &S, frame: FrameCap) -> Option<u32>
     ensures place { LeafAnswer (S.slots store.now) frame.mapping result }
 {
     let mapping = frame.mapping?;
-    let Some(table) = table_in(store.mem(), mapping.root, mapping.page / 0x400) else {
+    let Some(table) = table_in(store.mem(), mapping.root, mapping.page / REGION_PAGES) else {
         return None;
     };
-    Some(table as u32 + 4 * (mapping.page % 0x400))
+    Some(table as u32 + 4 * (mapping.page % REGION_PAGES))
 }
 
 /// The leaf of a frame, as a word.
@@ -159,8 +159,6 @@ pub fn map_frame<S: SlotStore>(
     rights: u32,
 ) -> Result<(), KError>
     requires valid { IsCapability cspace }
-    requires root_open { CNodeIsOpen (S.slots store.old) cspace }
-    requires all_open { CNodesAreOpen (S.slots store.old) }
     requires agree { TablesAgree (S.slots store.old) (S.memory store.old) }
     requires held { capability_at (S.slots store.old) frame.slot
         ≡ Cap.Frame frame.offset frame.rights frame.mapping }
@@ -169,7 +167,7 @@ pub fn map_frame<S: SlotStore>(
         frame.mapping (root.address ∷ root.depth ∷ address ∷ rights ∷ []) (S.slots store.new) result }
     ensures unchanged { IfErr result (λ _. (S.slots store.new ≡ S.slots store.old)
         × (S.memory store.new ≡ S.memory store.old)) }
-    ensures bytes { KeptBytes (S.slots store.old) (S.memory store.old) (S.memory store.new) }
+    ensures bytes { SameBesideTables (S.slots store.old) (S.memory store.old) (S.memory store.new) }
     ensures agree { TablesAgree (S.slots store.new) (S.memory store.new) }
 {
     let slot = frame.slot;
@@ -200,8 +198,7 @@ pub fn unmap_frame<S: SlotStore>(store: &mut S, frame: FrameCap)
         → unmap_frame (with_slots s (S.slots store.old)) call ≡ with_slots s (S.slots store.new) }
     ensures slots { S.slots store.new
         ≡ recapped (S.slots store.old) frame.slot (Cap.Frame frame.offset frame.rights None) }
-    ensures size { length (S.memory store.new) ≡ length (S.memory store.old) }
-    ensures bytes { KeptBytes (S.slots store.old) (S.memory store.old) (S.memory store.new) }
+    ensures bytes { SameBesideTables (S.slots store.old) (S.memory store.old) (S.memory store.new) }
     ensures agree { TablesAgree (S.slots store.new) (S.memory store.new) }
 {
     let slot = frame.slot;
