@@ -20,3 +20,4 @@ pub mod AgreementPut
 pub mod AgreementSlots
 pub mod AgreementBytes
 pub mod Names
+pub mod RightsBits

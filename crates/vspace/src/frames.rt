@@ -14,6 +14,7 @@ ghost use Rattle.vspace.specs.Tables.{Holds, TablesAgree};
 use crate::arguments::root_named;
 use crate::sizes::{ADDRESS_LIMIT, PAGE_SIZE, REGION_PAGES};
 use crate::tables::{is_taken, table_in};
+use bitflags::Flags;
 use cspace::SlotName;
 use model::{Cap, FrameMapping, KError, Rights, Slot};
 use slots::SlotStore;
@@ -28,35 +29,30 @@ pub struct FrameCap {
     pub mapping: Option<FrameMapping>,
 }
 
-/// 1 if both bits are 1.
-fn both(a: u32, b: u32) -> u32
-    requires first { a ≤ 1 }
-    requires second { b ≤ 1 }
-    ensures value { result ≡ a * b }
-    ensures range { result ≤ b }
-{
-    if a == 1 { b } else { 0 }
-}
-
-/// The rights of a mapping by the rights word of a call: those that the frame's capability allows.
-#[tactic(auto, using(std::proofs::lemmas::Nat::and_le_r))]
+/// The rights of a mapping by the rights word of a call: those that the frame's capability allows. A
+/// frame that may be read may be executed, and nothing is written where it is not read.
 fn mapping_rights(frame: Rights, word: u32) -> Rights
     ensures value { result ≡ mapping_rights frame word }
     ensures kinds { (result.0 ≡ 0) ⊎ AreMappingRights result.0 }
 {
-    let may_write = u32::from(frame.0 & 1);
-    let may_read = u32::from(frame.0 & 2) / 2;
-    let writes = both(may_write, word % 2);
-    let reads = both(may_read, word / 2 % 2);
-    let executes = both(may_read, word / 4 % 2);
-    Rights((both(writes, reads) + 2 * reads + 4 * executes) as u8)
+    let asked = Rights::OF_MAPPING.of_word(word);
+    if !frame.contains(Rights::READ) {
+        Rights::empty()
+    } else if !asked.contains(Rights::READ) {
+        asked.cut(Rights::EXECUTE)
+    } else if !frame.contains(Rights::WRITE) {
+        asked.cut(Rights::READ.union(Rights::EXECUTE))
+    } else {
+        asked
+    }
 }
 
 /// Whether rights let memory be read or executed.
+#[tactic(auto, using(crate::proofs::RightsBits::read_tested, crate::proofs::RightsBits::execute_tested))]
 fn may_be_mapped(rights: Rights) -> bool
     ensures { result ≡ (may_read rights || may_execute rights) }
 {
-    rights.0 & 2 != 0 || rights.0 & 4 != 0
+    rights.contains(Rights::READ) || rights.contains(Rights::EXECUTE)
 }
 
 /// The number of the page at an address that can be mapped: a multiple of 4096 in the lower half.
