@@ -1,8 +1,7 @@
 -- One CNode of a lookup.
-use Rattle.std.proofs.Common.{ℕ, zero, suc, ◌≡◌, ◌∙◌, ◌==◌, ◌+◌, ◌/◌, ◌<◌, ◌||◌, true, false, not, Some, Result, Ok, Err, refl, sym, ap, arith}
+use Rattle.std.proofs.Common.{ℕ, zero, suc, ◌≡◌, ◌∙◌, ◌==◌, ◌+◌, ◌/◌, ◌<◌, ◌||◌, true, false, not, Result, Ok, Err, refl, sym, ap, arith}
 use Rattle.model.specs.Capabilities.Slots.{Slots, capability_at}
 use Rattle.model.specs.Capabilities.Lookup.{resolve, is_cnode, go_on, lookup_within}
-use Rattle.model.specs.declared.slot_entries.Entry.{Entry}
 use Rattle.model.specs.declared.capabilities.Cap.{Cap}
 use Rattle.model.specs.declared.capabilities.Cap.TheVariants.{Empty, Untyped, Endpoint, Notification, CNode, Frame, PageTable, Tcb, RootTable, InterruptControl, InterruptHandler}
 use Rattle.model.specs.declared.lookup_failures.LookupFailure.{LookupFailure}
@@ -50,7 +49,3 @@ lookup-goes_on zero slots offset radix guard_word address left whole index rest 
 lookup-goes_on (suc n) slots offset radix guard_word address left whole index rest less fewer is resolved more =
     let e = lookup-behind n slots offset radix guard_word address left whole index rest is resolved in
     (n, omega arith, rw more at e)
-
--- the capability in a slot that holds an entry
-pub capability_held : (slots : Slots) (slot : ℕ) (held : Entry) → slots slot ≡ Some held → capability_at slots slot ≡ held.capability
-capability_held slots slot held is = rw is refl

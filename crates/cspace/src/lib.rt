@@ -2,9 +2,9 @@
 //! seL4 Reference Manual, "Capability Space Addressing".
 #![tactic(auto)]
 
+mod arguments;
 mod lookups;
-#[cfg(test)]
-mod tests;
 
+pub use arguments::{SlotName, argument_slot, destination_slot, source_slot};
 pub use lookups::lookup;
 pub use model::LookupFailure;

@@ -2,8 +2,7 @@
 
 ghost use Rattle.std.specs.Prelude.{ℕ, ◌≡◌, ◌+◌, ◌/◌, ◌^◌, ◌%◌, ◌<◌, ◌≤◌, ◌==◌, ◌||◌, not, IfOk};
 ghost use Rattle.model.specs.Capabilities.CapabilityWords.{IsCapability, IsGuardWord, IsPlace};
-ghost use Rattle.model.specs.Capabilities.Lookup.{CNodeIsOpen, CNodesAreOpen, is_cnode, lookup, resolve};
-ghost use Rattle.model.specs.Capabilities.Slots.{IsOpen};
+ghost use Rattle.model.specs.Capabilities.Lookup.{is_cnode, lookup, resolve};
 
 use model::{Cap, LookupFailure, Slot};
 use slots::SlotMap;
@@ -62,10 +61,7 @@ pub fn lookup<S: SlotMap>(
 ) -> Result<(Slot, u32), LookupFailure>
     requires valid { IsCapability root }
     requires bits { depth ≤ 32 }
-    requires root_open { CNodeIsOpen (S.slots slots.now) root }
-    requires all_open { CNodesAreOpen (S.slots slots.now) }
     ensures value { result ≡ lookup (S.slots slots.now) root address depth }
-    ensures slot_open { IfOk result (λ place. IsOpen (S.slots slots.now) place.0) }
 {
     let mut held = root;
     let mut left = depth;
@@ -84,7 +80,7 @@ pub fn lookup<S: SlotMap>(
             Err(failure) => return Err(failure),
         };
         let slot = Slot::new(offset / 16 + index);
-        let (next, _parent) = slots.get(slot);
+        let next = slots.capability(slot);
         if ends_at(rest, next) {
             return Ok((slot, rest));
         }

@@ -2,3 +2,4 @@ pub mod Behind
 pub mod Moves
 pub mod Splices
 pub mod Ancestors
+pub mod Removed

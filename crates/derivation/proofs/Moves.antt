@@ -3,9 +3,9 @@ use Rattle.std.proofs.Common.{ℕ, ◌≡◌, ◌≢◌, ◌∙◌, ◌==◌, in
 use Rattle.std.proofs.lemmas.Bool.Decides.{eqb_tells}
 use Rattle.std.proofs.lemmas.Bool.{eq-eqb, ne_eqb}
 use Rattle.model.specs.Capabilities.Slots.{Slots, Descendant, child, deeper, IsDerivation, IsFull, empty_entry, parent_at, relocated, with_entry, with_parent}
-use Rattle.slots.proofs.Changes.{entry-other, entry-same, full-not-empty, parent-adopted, parent_of}
-use Rattle.slots.proofs.Depths.{adopted_parent, depth-own_parent}
-use Rattle.derivation.specs.Descendants.{name_after_move}
+use Rattle.model.proofs.SlotChanges.{entry-other, entry-same, full-not-empty, parent-adopted, parent_of}
+use Rattle.model.proofs.Depths.{adopted_parent, depth-own_parent}
+use Rattle.derivation.specs.Moves.{name_after_move}
 
 -- the name that a slot had before
 abbrev old_name : ℕ → ℕ → ℕ → ℕ

@@ -3,11 +3,11 @@ use Rattle.std.proofs.Common.{ℕ, ◌≡◌, ◌≢◌, ◌∙◌, ◌==◌, in
 use Rattle.std.proofs.lemmas.Bool.Decides.{eqb_tells}
 use Rattle.std.proofs.lemmas.Bool.{ne_eqb}
 use Rattle.model.specs.Capabilities.Slots.{Slots, Descendant, child, deeper, IsDerivation, empty_entry, parent_at, spliced, with_parent}
-use Rattle.slots.proofs.Changes.{entry-other, entry-same, parent-adopted, parent_of}
-use Rattle.slots.proofs.Depths.{adopted_parent, depth-own_parent}
+use Rattle.model.proofs.SlotChanges.{entry-other, entry-same, parent-adopted, parent_of}
+use Rattle.model.proofs.Depths.{adopted_parent, depth-own_parent}
 
 -- the parents after a splice
-parent-gone : (slots : Slots) (gone : ℕ) → parent_at (spliced slots gone) gone ≡ None
+pub parent-gone : (slots : Slots) (gone : ℕ) → parent_at (spliced slots gone) gone ≡ None
 parent-gone slots gone = ap parent_of (entry-same (with_parent slots gone (parent_at slots gone)) gone (Some empty_entry))
 
 parent-spliced : (slots : Slots) (gone slot : ℕ) → slot ≢ gone → parent_at (spliced slots gone) slot ≡ adopted_parent gone (parent_at slots gone) (parent_at slots slot)

@@ -1,1 +1,2 @@
-pub mod Descendants
+pub mod Moves
+pub mod Removals

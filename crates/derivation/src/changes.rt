@@ -2,8 +2,9 @@
 
 ghost use Rattle.std.specs.Prelude.{ℕ, ◌≡◌, ◌≢◌, ◌<◌, ◌≤◌, ◌↔◌, Some, OnOk, OnErr, IsOk};
 ghost use Rattle.model.specs.Capabilities.CapabilityWords.{IsCapability};
+ghost use Rattle.model.specs.Shared.Lists.{without};
 ghost use Rattle.model.specs.Capabilities.Slots.{Descendant, IsFull, SameOutside, depth_of, empty_entry, inserted, relocated, spliced};
-ghost use Rattle.derivation.specs.Descendants.{name_after_move};
+ghost use Rattle.derivation.specs.Moves.{name_after_move};
 ghost use Rattle.model.specs.declared.capabilities.Cap.{Cap};
 ghost use Rattle.model.specs.declared.capabilities.Cap.TheVariants.{Empty};
 
@@ -42,6 +43,7 @@ pub fn splice_out<S: SlotStore>(store: &mut S, slot: Slot)
     requires { IsFull (S.slots store.old) slot }
     ensures slots { S.slots store.new ≡ spliced (S.slots store.old) slot }
     ensures bytes { SameOutside (S.slots store.old) (S.memory store.old) (S.memory store.new) }
+    ensures order { S.order store.new ≡ without slot (S.order store.old) }
     ensures descent { (root other : ℕ) → root ≢ slot → other ≢ slot
         → Descendant (S.slots store.new) root other ↔ Descendant (S.slots store.old) root other }
 {

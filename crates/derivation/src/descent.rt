@@ -3,35 +3,12 @@
 ghost use Rattle.std.specs.Prelude.{ℕ, ◌≡◌, ◌↔◌, IsTrue, IfSome, if◌then◌else◌};
 ghost use Rattle.std.specs.Option.{ForSome};
 ghost use Rattle.model.specs.Capabilities.Slots.{Descendant, IsDerivation, IsFull, IsOpen};
-ghost use Rattle.slots.specs.Order.{after, times_in};
+ghost use Rattle.model.specs.Capabilities.Orders.{after, descendants};
+ghost use Rattle.model.specs.Shared.Lists.{times_in};
 ghost use Rattle.model.specs.Capabilities.Slots.{is_descendant};
-ghost use Rattle.derivation.specs.Descendants.{descendants};
 
 use model::Slot;
 use slots::SlotStore;
-
-/// Whether a slot descends from another, by a walk up from it.
-fn is_below<S: SlotStore>(store: &S, root: Slot, slot: Slot) -> bool
-    requires { IsOpen (S.slots store.now) slot }
-    ensures test { result ≡ is_descendant (S.slots store.now) root slot }
-    ensures derivation { IsDerivation (S.slots store.now) }
-{
-    let depth = store.depth(slot);
-    let mut here = slot;
-    'up: for _step in 0..depth {
-        let (_held, above) = store.get(here);
-        match above {
-            None => return false,
-            Some(parent) => {
-                if parent.number() == root.number() {
-                    return true;
-                }
-                here = parent;
-            }
-        }
-    }
-    false
-}
 
 /// Whether a slot descends from another.
 pub fn descends<S: SlotStore>(store: &S, root: Slot, slot: Slot) -> bool
@@ -40,7 +17,7 @@ pub fn descends<S: SlotStore>(store: &S, root: Slot, slot: Slot) -> bool
     ensures value { IsTrue result ↔ Descendant (S.slots store.now) root slot }
     ensures derivation { IsDerivation (S.slots store.now) }
 {
-    is_below(store, root, slot)
+    store.descends(root, slot)
 }
 
 /// The descendant of a root behind `previous`, or the first one: each of them once, in the store's own
@@ -55,14 +32,5 @@ pub fn next_descendant<S: SlotStore>(store: &S, root: Slot, previous: Option<Slo
     ensures found_full { IfSome result (IsFull (S.slots store.now)) }
     ensures found_known { IfSome result (λ slot. IsTrue (is_descendant (S.slots store.now) root slot)) }
 {
-    let mut at = previous;
-    'slots: loop {
-        let Some(slot) = store.next_full(at) else {
-            return None;
-        };
-        if descends(store, root, slot) {
-            return Some(slot);
-        }
-        at = Some(slot);
-    }
+    store.next_below(root, previous)
 }

@@ -4,8 +4,8 @@
 
 mod changes;
 mod descent;
-#[cfg(test)]
-mod tests;
+mod removals;
 
 pub use changes::{insert_child, relocate, splice_out};
 pub use descent::{descends, next_descendant};
+pub use removals::remove_descendants;

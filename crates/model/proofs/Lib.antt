@@ -1,2 +1,7 @@
+pub mod Ancestors
 pub mod BytesLemmas
+pub mod Depths
+pub mod Derivations
 pub mod FieldsLemmas
+pub mod Orders
+pub mod SlotChanges

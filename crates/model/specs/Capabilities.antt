@@ -7,3 +7,4 @@ pub mod Slots
 pub mod Lookup
 pub mod LookupNumbers
 pub mod Placement
+pub mod Orders

@@ -10,10 +10,9 @@ use Rattle.model.specs.Capabilities.Rights.{rights}
 use Rattle.model.specs.Capabilities.Slots.{capability_at}
 use Rattle.model.specs.Images.Image.{Image, Thread}
 use Rattle.model.specs.Kernel.Kinds.{object_named}
-use Rattle.model.specs.Shared.Lists.{times_in}
+use Rattle.model.specs.Shared.Lists.{times_in, without}
 use Rattle.model.specs.Kernel.Retype.{NewObject, NewEndpoint, NewThread}
 use Rattle.std.specs.Option.{option_map_or}
-use Rattle.model.specs.Kernel.Scheduling.{without}
 use Rattle.model.specs.Kernel.State.{State}
 use Rattle.model_laws.specs.Scenarios.{HoldsOnly}
 

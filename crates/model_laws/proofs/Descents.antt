@@ -1,7 +1,7 @@
 -- Descent and depth.
 use Rattle.std.proofs.Common.{ℕ, ◌<◌, arith}
 use Rattle.model.specs.Capabilities.Slots.{Slots, Descendant, child, deeper, IsDerivation, depth_of}
-use Rattle.derivation.proofs.Ancestors.{depth-child}
+use Rattle.model.proofs.Ancestors.{depth-child}
 
 pub descends-on : (slots : Slots) (root middle slot : ℕ) → Descendant slots root middle → Descendant slots middle slot → Descendant slots root slot
 descends-on slots root middle slot above (child _ is) = deeper slot middle is above

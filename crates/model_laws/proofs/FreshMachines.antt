@@ -16,7 +16,7 @@ use Rattle.model.specs.Kernel.Scheduling.{is_runnable}
 use Rattle.model.specs.Kernel.Setup.{boot_area}
 use Rattle.model.specs.Kernel.Soundness.{HasShape, HasSlot, of_boot_area, of_object, IsSound, is_blocked_on, SlotsAreSound, MemoryIsSound, MappingsAreSound, ThreadsAreSound, runs_at, waiting_at, waits_at}
 use Rattle.model.specs.Kernel.State.{State, as_thread, boot_area_slots, new_thread, thread_at}
-use Rattle.slots.proofs.Depths.{depth-none}
+use Rattle.model.proofs.Depths.{depth-none}
 
 -- a state in which nothing stands yet
 record IsBare (s : State) : Type 0 where

@@ -2,9 +2,8 @@
 use Rattle.std.proofs.Common.{ℕ, ◌≡◌, ◌∙◌, ◌==◌, ◌+◌, ◌<◌, ◌≤◌, ◌++◌, inl, inr, true, false, not, if◌then◌else◌, List, [], ◌∷◌, refl, sym, subst, ap, arith}
 use Rattle.std.proofs.lemmas.Bool.{eq-eqb}
 use Rattle.std.proofs.lemmas.Bool.Decides.{eqb_tells}
-use Rattle.model.specs.Shared.Lists.{times_in}
+use Rattle.model.specs.Shared.Lists.{times_in, without}
 use Rattle.derivation.proofs.Behind.{times-filter}
-use Rattle.model.specs.Kernel.Scheduling.{without}
 use Rattle.model.specs.Kernel.State.{put}
 use Rattle.model_laws.specs.Ready.{HoldsNoneTwice}
 

@@ -4,10 +4,10 @@ use Rattle.std.specs.Option.{option_map_or}
 use Rattle.std.proofs.lemmas.Bool.{and_parts, eq-eqb, eqb-true, ne_eqb}
 use Rattle.std.proofs.lemmas.Bool.Decides.{eqb_tells}
 use Rattle.model.specs.Acceptance.Authority.{WithinTick}
-use Rattle.model.specs.Kernel.Scheduling.{current, first_below, full_slice, head_of, is_runnable, tick, ticked, without, yielded}
+use Rattle.model.specs.Kernel.Scheduling.{current, first_below, full_slice, head_of, is_runnable, tick, ticked, yielded}
+use Rattle.model.specs.Shared.Lists.{times_in, without}
 use Rattle.model.specs.Kernel.Soundness.{IsSound, ThreadsAreSound, runs_at}
 use Rattle.model.specs.Kernel.State.{State, Object, ThreadObject, EndpointObject, NotificationObject, CNodeObject, FrameObject, PageTableObject, RootTableObject, ThreadState, as_thread, new_thread, put, thread_at, with_thread}
-use Rattle.model.specs.Shared.Lists.{times_in}
 use Rattle.model_laws.proofs.ReadyLists.{moved, times-moved_elsewhere, times-moved_here}
 
 -- ---- the current thread

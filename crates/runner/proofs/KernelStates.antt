@@ -8,7 +8,8 @@ use Rattle.model.specs.Kernel.Faults.{fault}
 use Rattle.model.specs.Images.Image.{Thread}
 use Rattle.model.specs.Machine.ProgramMemory.{RegisterFile}
 use Rattle.model.specs.Kernel.Messages.{deliver_word, waits_for_signal, with_registers, signal}
-use Rattle.model.specs.Kernel.Scheduling.{block, full_slice, ticked, without, yielded}
+use Rattle.model.specs.Kernel.Scheduling.{block, full_slice, ticked, yielded}
+use Rattle.model.specs.Shared.Lists.{without}
 use Rattle.model.specs.Kernel.State.{FaultMessage, Inactive, Object, State, notification_at, put, thread_at, with_notification, with_thread}
 use Rattle.programs.specs.Certificates.{numbered_thread}
 use Rattle.runner.specs.Machine.{Machine, is_ready, notification, object_of, receives, signalled, state_of, tcb}

@@ -1,5 +1,5 @@
 -- The full slots of a table, in rising order.
-use Rattle.std.proofs.Common.{inl, inr, ℕ, zero, suc, ◌≡◌, ◌∙◌, ◌+◌, ◌-◌, ◌<◌, ◌≤◌, true, false, if◌then◌else◌, Option, None, List, ◌∷◌, length, not, refl, sym, ap, arith}
+use Rattle.std.proofs.Common.{inl, inr, ℕ, zero, suc, ◌≡◌, ◌≢◌, ◌∙◌, ◌+◌, ◌-◌, ◌<◌, ◌≤◌, true, false, if◌then◌else◌, Option, None, List, ◌∷◌, cond, length, not, refl, sym, ap, arith}
 use Rattle.std.proofs.lemmas.Bool.{ne_eqb}
 use Rattle.std.proofs.lemmas.Bool.Decides.{eqb_tells}
 use Rattle.std.proofs.lemmas.Bool.{cases_lt}
@@ -8,7 +8,8 @@ use Rattle.std.specs.Option.{option_map_or}
 use Rattle.model.specs.Capabilities.Slots.{Slots, is_empty, is_full}
 use Rattle.model.specs.declared.capabilities.Cap.TheVariants.{Empty}
 use Rattle.model.specs.declared.slot_entries.Entry.{Entry}
-use Rattle.slots.specs.Order.{IsOrderOf, first_of, next_after, times_in}
+use Rattle.model.specs.Capabilities.Orders.{IsOrderOf, first_of, next_after}
+use Rattle.model.specs.Shared.Lists.{times_in, without}
 use Rattle.slots.specs.Table.{full_from, table_slots}
 
 -- a slot that is not full is not listed, and one that is full comes first
@@ -104,3 +105,46 @@ order-table records = λ at. elim (cases_lt at (length records)) [
       let open_ : is_full (table_slots records) at ≡ false = ap (λ held. not (is_empty (option_map_or (λ h. h.capability) held Empty))) (get_or_past records at None outside) in
       times-behind (length records) (table_slots records) 0 at (omega arith) ∙ ap (λ b. if b then 1 else 0) (sym open_)
 ]
+
+-- tables of one length that are full at the same slots list the same
+pub full_from-same : (n : ℕ) (old new : Slots) (first : ℕ) → ((s : ℕ) → is_full new s ≡ is_full old s) → full_from new first n ≡ full_from old first n
+full_from-same zero old new first same = refl
+full_from-same (suc n) old new first same =
+    let more = full_from-same n old new (first + 1) same in
+    elim (is_full old first) as (λ b. is_full old first ≡ b → full_from new first (suc n) ≡ full_from old first (suc n)) [
+      | true ↦ λ is. full_from-take new first (suc n) n refl (same first ∙ is) ∙ ap (λ l. first ∷ l) more ∙ sym (full_from-take old first (suc n) n refl is)
+      | false ↦ λ is. full_from-skip new first (suc n) n refl (same first ∙ is) ∙ more ∙ sym (full_from-skip old first (suc n) n refl is)
+    ] refl
+
+-- and where one slot is no longer full, it is taken out
+pub full_from-without : (n : ℕ) (old new : Slots) (first gone : ℕ) → is_full new gone ≡ false → ((s : ℕ) → s ≢ gone → is_full new s ≡ is_full old s) → full_from new first n ≡ without gone (full_from old first n)
+full_from-without zero old new first gone empty same = refl
+full_from-without (suc n) old new first gone empty same =
+    let more = full_from-without n old new (first + 1) gone empty same in
+    let rest = full_from old (first + 1) n in
+    elim (eqb_tells first gone) [
+      | inl here ↦
+          let skipped = full_from-skip new first (suc n) n refl (ap (is_full new) here.1 ∙ empty) ∙ more in
+          elim (is_full old first) as (λ b. is_full old first ≡ b → full_from new first (suc n) ≡ without gone (full_from old first (suc n))) [
+            | true ↦ λ is. skipped ∙ sym (ap (λ b. cond (not b) (first ∷ without gone rest) (without gone rest)) here.0) ∙ sym (ap (without gone) (full_from-take old first (suc n) n refl is))
+            | false ↦ λ is. skipped ∙ sym (ap (without gone) (full_from-skip old first (suc n) n refl is))
+          ] refl
+      | inr other ↦
+          elim (is_full old first) as (λ b. is_full old first ≡ b → full_from new first (suc n) ≡ without gone (full_from old first (suc n))) [
+            | true ↦ λ is.
+                full_from-take new first (suc n) n refl (same first other.1 ∙ is) ∙ ap (λ l. first ∷ l) more
+                ∙ sym (ap (λ b. cond (not b) (first ∷ without gone rest) (without gone rest)) other.0) ∙ sym (ap (without gone) (full_from-take old first (suc n) n refl is))
+            | false ↦ λ is. full_from-skip new first (suc n) n refl (same first other.1 ∙ is) ∙ more ∙ sym (ap (without gone) (full_from-skip old first (suc n) n refl is))
+          ] refl
+    ]
+
+-- the order of a table that is changed: what of it is full stays as it was, or is taken out
+pub order-same : (old new : List (Option Entry)) (change : Slots) → table_slots new ≡ change → length new ≡ length old → ((s : ℕ) → is_full change s ≡ is_full (table_slots old) s) → full_from (table_slots new) 0 (length new) ≡ full_from (table_slots old) 0 (length old)
+order-same old new change is size same =
+    ap (λ n. full_from (table_slots new) 0 n) size
+    ∙ full_from-same (length old) (table_slots old) (table_slots new) 0 (λ s. ap (λ slots. is_full slots s) is ∙ same s)
+
+pub order-without : (old new : List (Option Entry)) (change : Slots) (gone : ℕ) → table_slots new ≡ change → length new ≡ length old → is_full change gone ≡ false → ((s : ℕ) → s ≢ gone → is_full change s ≡ is_full (table_slots old) s) → full_from (table_slots new) 0 (length new) ≡ without gone (full_from (table_slots old) 0 (length old))
+order-without old new change gone is size empty same =
+    ap (λ n. full_from (table_slots new) 0 n) size
+    ∙ full_from-without (length old) (table_slots old) (table_slots new) 0 gone (ap (λ slots. is_full slots gone) is ∙ empty) (λ s other. ap (λ slots. is_full slots s) is ∙ same s other)

@@ -1,15 +1,16 @@
 -- Tables of records.
-use Rattle.std.proofs.Common.{ℕ, true, ◌≡◌, ◌∙◌, ◌+◌, ◌*◌, ◌/◌, ◌-◌, ◌^◌, ◌<◌, ◌≤◌, inl, inr, Option, Some, None, List, length, replicate, take, drop, ◌++◌, refl, sym, ap, subst, arith}
+use Rattle.std.proofs.Common.{ℕ, ◌≡◌, ◌≢◌, ◌∙◌, false, ◌+◌, ◌*◌, ◌/◌, ◌-◌, ◌^◌, ◌≤◌, inl, inr, Option, Some, None, List, length, replicate, take, drop, ◌++◌, refl, sym, ap, subst, arith}
 use Rattle.std.proofs.lemmas.Bool.{cases_lt}
 use Rattle.std.proofs.lemmas.List.{get_or_past, get_or-replicate, length-replicate, take-append-le, take_all}
 use Rattle.std.proofs.lemmas.Nat.{pow-add}
-use Rattle.std.proofs.lemmas.Bool.Decides.{nat_tests}
-use Rattle.model.specs.Capabilities.Slots.{Slots, IsDerivation, is_within, parent_at}
+use Rattle.model.specs.Capabilities.Slots.{Slots, IsDerivation, is_full, parent_at}
 use Rattle.model.specs.declared.slot_entries.Entry.{Entry}
-use Rattle.slots.specs.Table.{IsTable, table_slots}
-use Rattle.slots.proofs.Changes.{capability_of, parent_of}
-use Rattle.slots.proofs.Depths.{depth-none}
-use Rattle.slots.proofs.Derivations.{derivation-same}
+use Rattle.slots.specs.Table.{IsTable, full_from, table_slots}
+use Rattle.model.proofs.SlotChanges.{capability_of, parent_of}
+use Rattle.model.proofs.Depths.{depth-none}
+use Rattle.model.proofs.Derivations.{derivation-same}
+use Rattle.model.specs.Shared.Lists.{without}
+use Rattle.slots.proofs.Listing.{order-same, order-without}
 
 -- nothing is open in a table of closed records
 closed-at : (n s : ℕ) → table_slots (replicate n None) s ≡ None
@@ -68,9 +69,11 @@ table-changed memory n old base new change table kept size same sound =
     } in
     subst (IsTable memory) (sym (refilled n old new size)) result
 
--- what a slot within a range is
-pub within-bounds : (first count slot : ℕ) → is_within first count slot ≡ true → (first ≤ slot) × (slot < first + count)
-within-bounds first count slot inside = grind (arith, nat_tests)
+-- and the order of its full slots
+pub order-changed : (n : ℕ) (old base new : List (Option Entry)) (change : Slots) → table_slots (take n (new ++ drop (length new) old)) ≡ change → length new ≡ length base → length new ≡ n → ((s : ℕ) → is_full change s ≡ is_full (table_slots base) s) → full_from (table_slots (take n (new ++ drop (length new) old))) 0 (length (take n (new ++ drop (length new) old))) ≡ full_from (table_slots base) 0 (length base)
+order-changed n old base new change is kept size same =
+    order-same base (take n (new ++ drop (length new) old)) change is (ap length (refilled n old new size) ∙ kept) same
 
-pub bounds-within : (first count slot : ℕ) → first ≤ slot → slot < first + count → is_within first count slot ≡ true
-bounds-within first count slot low high = grind (arith, nat_tests)
+pub order-taken_out : (n : ℕ) (old base new : List (Option Entry)) (change : Slots) (gone : ℕ) → table_slots (take n (new ++ drop (length new) old)) ≡ change → length new ≡ length base → length new ≡ n → is_full change gone ≡ false → ((s : ℕ) → s ≢ gone → is_full change s ≡ is_full (table_slots base) s) → full_from (table_slots (take n (new ++ drop (length new) old))) 0 (length (take n (new ++ drop (length new) old))) ≡ without gone (full_from (table_slots base) 0 (length base))
+order-taken_out n old base new change gone is kept size empty same =
+    order-without base (take n (new ++ drop (length new) old)) change gone is (ap length (refilled n old new size) ∙ kept) empty same

@@ -7,8 +7,6 @@ mod plain;
 mod probes;
 mod stores;
 mod table;
-#[cfg(test)]
-mod tests;
 
 pub use capwords::Cap;
 pub use maps::SlotMap;

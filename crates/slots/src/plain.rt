@@ -1,7 +1,6 @@
 //! Slots in a table of their own, beside the bytes of the machine.
 
-ghost use Rattle.std.specs.Prelude.{ℕ, ◌≡◌, ◌+◌, ◌*◌, ◌^◌, ◌≤◌, None, IfOk, length, replicate};
-ghost use Rattle.model.specs.Capabilities.Slots.{IsFull};
+ghost use Rattle.std.specs.Prelude.{ℕ, ◌≡◌, ◌^◌, ◌≤◌, None, IfOk, length, replicate};
 ghost use Rattle.slots.specs.Table.{full_from, table_slots};
 
 use crate::{SlotMap, SlotStore, table};
@@ -44,18 +43,14 @@ impl PlainSlots {
         let records = table::closed_records(alloc, count)?;
         Ok(PlainSlots { memory, records })
     }
-
-    /// How many slots there are: one for each 16 bytes of memory. None behind them is full.
-    pub fn count(&self) -> u32
-        ensures value { 16 * result ≡ length self.now.0 }
-        ensures near { (s : ℕ) → IsFull (table_slots self.now.1) s → 16 * s + 16 ≤ length self.now.0 }
-    {
-        self.records.len() as u32
-    }
 }
 
 impl SlotMap for PlainSlots {
     ghost slots = { λ store. table_slots store.1 };
+
+    fn capability(&self, slot: Slot) -> Cap {
+        table::capability_at(&self.records, slot.number())
+    }
 
     fn get(&self, slot: Slot) -> (Cap, Option<Slot>) {
         match table::entry_at(&self.records, slot.number()) {
@@ -72,6 +67,10 @@ impl SlotStore for PlainSlots {
 
     fn mem(&self) -> &Mem {
         &self.memory
+    }
+
+    fn count(&self) -> u32 {
+        self.records.len() as u32
     }
 
     fn is_open(&self, slot: Slot) -> bool {

@@ -1,9 +1,9 @@
 //! Tests of what the changes of a store ask for.
 
 ghost use Rattle.std.specs.Prelude.{◌≡◌, ◌↔◌, Some, IsTrue};
-ghost use Rattle.model.specs.Capabilities.Slots.{IsFull, empty_entry};
+ghost use Rattle.model.specs.Capabilities.Slots.{empty_entry, is_full};
 
-use crate::SlotStore;
+use crate::{SlotMap, SlotStore};
 use model::{Cap, Slot};
 
 /// Whether a slot is open and empty.
@@ -14,8 +14,8 @@ pub fn is_free<S: SlotStore>(store: &S, slot: Slot) -> bool
 }
 
 /// Whether a slot is open and holds a capability.
-pub fn is_taken<S: SlotStore>(store: &S, slot: Slot) -> bool
-    ensures { IsTrue result ↔ IsFull (S.slots store.now) slot }
+pub fn is_taken<S: SlotMap>(store: &S, slot: Slot) -> bool
+    ensures { result ≡ is_full (S.slots store.now) slot }
 {
-    store.is_open(slot) && !matches!(store.get(slot), (Cap::Empty, _))
+    !matches!(store.capability(slot), Cap::Empty)
 }

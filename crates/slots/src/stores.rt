@@ -1,11 +1,12 @@
 //! A store of slots beside the bytes of the machine.
 
-ghost use Rattle.std.specs.Prelude.{ℕ, ◌≡◌, ◌≢◌, ◌↔◌, ◌+◌, ◌*◌, ◌<◌, ◌≤◌, [], ◌∷◌, List, Some, None, IsTrue, length, replicate};
+ghost use Rattle.std.specs.Prelude.{ℕ, ◌≡◌, ◌≢◌, ◌↔◌, ◌+◌, ◌*◌, ◌^◌, ◌<◌, ◌≤◌, [], ◌∷◌, List, Some, None, IfSome, IsTrue, length, replicate};
 ghost use Rattle.std.specs.Option.{ForSome};
 ghost use Rattle.model.specs.Shared.Bytes.{word_bytes, written};
 ghost use Rattle.model.specs.Capabilities.CapabilityWords.{IsCapability};
-ghost use Rattle.model.specs.Capabilities.Slots.{IsDerivation, IsFull, IsOpen, OutsideSlots, SameOutside, closed, depth_of, empty_entry, inserted, opened, recapped, relocated, spliced};
-ghost use Rattle.slots.specs.Order.{IsOrderOf, after};
+ghost use Rattle.model.specs.Capabilities.Slots.{IsDerivation, IsFull, IsOpen, OutsideSlots, SameOutside, closed, depth_of, empty_entry, inserted, is_descendant, opened, recapped, relocated, spliced};
+ghost use Rattle.model.specs.Capabilities.Orders.{IsOrderOf, after, descendants};
+ghost use Rattle.model.specs.Shared.Lists.{without};
 ghost use Rattle.model.specs.declared.capabilities.Cap.{Cap};
 ghost use Rattle.model.specs.declared.capabilities.Cap.TheVariants.{Empty};
 
@@ -26,6 +27,12 @@ pub trait SlotStore: SlotMap {
     fn mem(&self) -> &Mem
         ensures { result.now ≡ memory self.now };
 
+    /// How many slots there are: one for each 16 bytes of memory. No slot behind them is open.
+    fn count(&self) -> u32
+        ensures value { 16 * result ≡ length (memory self.now) }
+        ensures most { result ≤ 2 ^ 20 }
+        ensures near { (s : ℕ) → IsOpen (Self.slots self.now) s → s < result };
+
     /// Whether a slot is open.
     fn is_open(&self, slot: Slot) -> bool
         ensures { IsTrue result ↔ IsOpen (Self.slots self.now) slot };
@@ -43,12 +50,59 @@ pub trait SlotStore: SlotMap {
         ensures lists { IsOrderOf (order self.now) (Self.slots self.now) }
         ensures derivation { IsDerivation (Self.slots self.now) };
 
+    /// Whether a slot descends from another: by a walk up from it, where the store has no shorter way.
+    fn descends(&self, root: Slot, slot: Slot) -> bool
+        requires { IsOpen (Self.slots self.now) slot }
+        ensures test { result ≡ is_descendant (Self.slots self.now) root slot }
+        ensures derivation { IsDerivation (Self.slots self.now) }
+    {
+        let depth = self.depth(slot);
+        let mut here = slot;
+        'up: for _step in 0..depth {
+            let (_held, above) = self.get(here);
+            match above {
+                None => return false,
+                Some(parent) => {
+                    if parent.number() == root.number() {
+                        return true;
+                    }
+                    here = parent;
+                }
+            }
+        }
+        false
+    }
+
+    /// The descendant of a root behind `previous` in the store's own order, or the first one: among all
+    /// full slots, where the store has no shorter way.
+    fn next_below(&self, root: Slot, previous: Option<Slot>) -> Option<Slot>
+        requires full { ForSome previous (IsFull (Self.slots self.now)) }
+        requires known { ForSome previous (λ slot. IsTrue (is_descendant (Self.slots self.now) root slot)) }
+        ensures next { result ≡ after (descendants (order self.now) (Self.slots self.now) root) previous }
+        ensures lists { IsOrderOf (order self.now) (Self.slots self.now) }
+        ensures derivation { IsDerivation (Self.slots self.now) }
+        ensures found_full { IfSome result (IsFull (Self.slots self.now)) }
+        ensures found_known { IfSome result (λ slot. IsTrue (is_descendant (Self.slots self.now) root slot)) }
+    {
+        let mut at = previous;
+        'slots: loop {
+            let Some(slot) = self.next_full(at) else {
+                return None;
+            };
+            if self.descends(root, slot) {
+                return Some(slot);
+            }
+            at = Some(slot);
+        }
+    }
+
     /// Opens `count` slots, all of them empty.
     fn open_range(&mut self, first: Slot, count: u32)
         requires within { 16 * (first + count) ≤ length (memory self.old) }
         requires closed { (s : ℕ) → first ≤ s → s < first + count → Self.slots self.old s ≡ None }
         ensures slots { Self.slots self.new ≡ opened (Self.slots self.old) first count }
-        ensures bytes { SameOutside (Self.slots self.new) (memory self.old) (memory self.new) };
+        ensures bytes { SameOutside (Self.slots self.new) (memory self.old) (memory self.new) }
+        ensures order { order self.new ≡ order self.old };
 
     /// Closes `count` slots, all of them empty.
     fn close_range(&mut self, first: Slot, count: u32)
@@ -56,7 +110,8 @@ pub trait SlotStore: SlotMap {
         requires empty { (s : ℕ) → first ≤ s → s < first + count
             → Self.slots self.old s ≡ Some empty_entry }
         ensures slots { Self.slots self.new ≡ closed (Self.slots self.old) first count }
-        ensures bytes { SameOutside (Self.slots self.old) (memory self.old) (memory self.new) };
+        ensures bytes { SameOutside (Self.slots self.old) (memory self.old) (memory self.new) }
+        ensures order { order self.new ≡ order self.old };
 
     /// Changes the capability in a full slot. Its parent and its children stay.
     fn set_cap(&mut self, slot: Slot, capability: Cap)
@@ -64,7 +119,8 @@ pub trait SlotStore: SlotMap {
         requires valid { IsCapability capability }
         requires some { capability ≢ Cap.Empty }
         ensures slots { Self.slots self.new ≡ recapped (Self.slots self.old) slot capability }
-        ensures bytes { SameOutside (Self.slots self.old) (memory self.old) (memory self.new) };
+        ensures bytes { SameOutside (Self.slots self.old) (memory self.old) (memory self.new) }
+        ensures order { order self.new ≡ order self.old };
 
     /// Puts a capability into an empty slot, derived from `parent` if there is one.
     fn insert(&mut self, slot: Slot, capability: Cap, parent: Option<Slot>)
@@ -81,7 +137,8 @@ pub trait SlotStore: SlotMap {
         requires { IsFull (Self.slots self.old) slot }
         ensures derivation { IsDerivation (Self.slots self.old) }
         ensures slots { Self.slots self.new ≡ spliced (Self.slots self.old) slot }
-        ensures bytes { SameOutside (Self.slots self.old) (memory self.old) (memory self.new) };
+        ensures bytes { SameOutside (Self.slots self.old) (memory self.old) (memory self.new) }
+        ensures order { order self.new ≡ without slot (order self.old) };
 
     /// Moves what a full slot holds to an empty one, with its parent and its children.
     fn relocate(&mut self, from: Slot, to: Slot)
@@ -96,19 +153,22 @@ pub trait SlotStore: SlotMap {
         requires within { offset < length (memory self.old) }
         requires outside { OutsideSlots (Self.slots self.old) offset 1 }
         ensures slots { Self.slots self.new ≡ Self.slots self.old }
-        ensures bytes { memory self.new ≡ written (memory self.old) offset (byte ∷ []) };
+        ensures bytes { memory self.new ≡ written (memory self.old) offset (byte ∷ []) }
+        ensures order { order self.new ≡ order self.old };
 
     /// Writes a number into four bytes, the lowest first, where no slot is open.
     fn write32(&mut self, offset: u32, word: u32)
         requires within { offset + 4 ≤ length (memory self.old) }
         requires outside { OutsideSlots (Self.slots self.old) offset 4 }
         ensures slots { Self.slots self.new ≡ Self.slots self.old }
-        ensures bytes { memory self.new ≡ written (memory self.old) offset (word_bytes word) };
+        ensures bytes { memory self.new ≡ written (memory self.old) offset (word_bytes word) }
+        ensures order { order self.new ≡ order self.old };
 
     /// Writes zero into `count` bytes, where no slot is open.
     fn zero(&mut self, offset: u32, count: u32)
         requires within { offset + count ≤ length (memory self.old) }
         requires outside { OutsideSlots (Self.slots self.old) offset count }
         ensures slots { Self.slots self.new ≡ Self.slots self.old }
-        ensures bytes { memory self.new ≡ written (memory self.old) offset (replicate count 0) };
+        ensures bytes { memory self.new ≡ written (memory self.old) offset (replicate count 0) }
+        ensures order { order self.new ≡ order self.old };
 }

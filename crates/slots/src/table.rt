@@ -2,8 +2,8 @@
 
 ghost use Rattle.std.specs.Prelude.{ℕ, ◌≡◌, ◌+◌, ◌-◌, ◌^◌, ◌<◌, ◌≤◌, None, IfOk, length, replicate, if◌then◌else◌};
 ghost use Rattle.std.specs.Option.{ForSome, option_map};
-ghost use Rattle.model.specs.Capabilities.Slots.{IsFull, adopted, depth_of, empty_entry, is_empty, is_full, is_within, parent_at, recapped, relocated, spliced, with_entry, with_parent};
-ghost use Rattle.slots.specs.Order.{after, first_of};
+ghost use Rattle.model.specs.Capabilities.Slots.{IsFull, adopted, capability_at, depth_of, empty_entry, is_empty, is_full, is_within, parent_at, recapped, relocated, spliced, with_entry, with_parent};
+ghost use Rattle.model.specs.Capabilities.Orders.{after, first_of};
 ghost use Rattle.slots.specs.Table.{full_from, table_slots};
 
 use model::{Cap, Entry, Slot};
@@ -29,6 +29,16 @@ pub(crate) fn entry_at(records: &[Option<Entry>], slot: u32) -> Option<Entry>
     }
 }
 
+/// The capability in a slot: an empty one where the slot is not open.
+pub(crate) fn capability_at(records: &[Option<Entry>], slot: u32) -> Cap
+    ensures { result ≡ capability_at (table_slots records.now) slot }
+{
+    match entry_at(records, slot) {
+        Some(entry) => entry.capability,
+        None => Cap::Empty,
+    }
+}
+
 /// Whether a capability is none.
 fn is_empty(capability: Cap) -> bool
     ensures { result ≡ is_empty capability }
@@ -40,10 +50,7 @@ fn is_empty(capability: Cap) -> bool
 pub(crate) fn is_full(records: &[Option<Entry>], slot: u32) -> bool
     ensures { result ≡ is_full (table_slots records.now) slot }
 {
-    match entry_at(records, slot) {
-        Some(entry) => !is_empty(entry.capability),
-        None => false,
-    }
+    !is_empty(capability_at(records, slot))
 }
 
 /// The parent of a slot.

@@ -3,8 +3,8 @@ use Rattle.std.proofs.Common.{◌≡◌, ◌∙◌, ℕ, inl, inr, Some, None, L
 use Rattle.model.specs.Capabilities.Slots.{SameOutside, Slots, capability_at}
 use Rattle.model.specs.declared.capabilities.Cap.{Cap}
 use Rattle.model.specs.declared.capabilities.Cap.TheVariants.{Empty, Untyped, Endpoint, Notification, CNode, Frame, PageTable, Tcb, RootTable, InterruptControl, InterruptHandler}
-use Rattle.vspace.specs.Agreement.{IsNamedTable, IsNewPageTable, IsNewRoot, MayBePut, NamesTable, SameInTables}
-use Rattle.vspace.specs.Fresh.{IsBlank}
+use Rattle.vspace.specs.Agreement.{IsBlank, IsNewPageTable, IsNewRoot, MayBePut, SameInTables}
+use Rattle.vspace.specs.Kept.{IsNamedTable, NamesTable}
 use Rattle.vspace.specs.Tables.{IsTable, TablesAgree}
 use Rattle.vspace.proofs.AgreementSlots.{agree-beside}
 use Rattle.vspace.proofs.Steps.{word-outside}

@@ -5,13 +5,13 @@ use Rattle.model.specs.Shared.Bytes.{word_at}
 use Rattle.model.specs.Capabilities.CapabilityWords.{IsCapability}
 use Rattle.model.specs.Capabilities.Slots.{IsOpen, Slots, capability_at}
 use Rattle.model.specs.Machine.Sv32.{leaf_word, table_word}
-use Rattle.model.specs.declared.capabilities.Cap.{Cap}
 use Rattle.model.specs.declared.capabilities.Cap.TheVariants.{Empty, Frame, PageTable, RootTable}
 use Rattle.model.specs.declared.capabilities.FrameMapping.{FrameMapping}
 use Rattle.model.specs.declared.capabilities.TableMapping.{TableMapping}
 use Rattle.model.specs.declared.rights.Rights.{Rights}
 use Rattle.model.specs.declared.slot_entries.Entry.{Entry}
-use Rattle.vspace.specs.Agreement.{IsNamedTable, NamesTable}
+use Rattle.vspace.specs.Kept.{IsNamedTable}
+use Rattle.vspace.proofs.Names.{names-mapped_root, names-root, names-table}
 use Rattle.vspace.specs.Tables.{Holds, IsTable, MapsFrame, MapsTable, TablesAgree}
 use Rattle.vspace.proofs.FrameSteps.{index_small, region_small}
 
@@ -35,24 +35,6 @@ pub record Stays (old new : Slots) (before after : List ℕ) : Type 0 where
   pub size : length after ≡ length before
   pub stands : (table : ℕ) → IsNamedTable old table → IsTable old before table → IsTable new after table
   pub words : (table i : ℕ) → IsNamedTable old table → IsTable old before table → i < 2 ^ 10 → word_at after (table + 4 * i) ≡ word_at before (table + 4 * i)
-
--- ---- what capabilities name
-
-pub names-root : (slots : Slots) (y root : ℕ) → capability_at slots y ≡ RootTable root → IsNamedTable slots root
-names-root slots y root held = (y, subst (λ (c : Cap). NamesTable c root) (sym held) refl)
-
-names-own : (table : ℕ) (m : Option TableMapping) → NamesTable (PageTable table m) table
-names-own table None = refl
-names-own table (Some m) = inl refl
-
-pub names-table : (slots : Slots) (y table : ℕ) (m : Option TableMapping) → capability_at slots y ≡ PageTable table m → IsNamedTable slots table
-names-table slots y table m held = (y, subst (λ (c : Cap). NamesTable c table) (sym held) (names-own table m))
-
-names-above : (table : ℕ) (m : TableMapping) → NamesTable (PageTable table (Some m)) m.root
-names-above table m = inr refl
-
-pub names-mapped_root : (slots : Slots) (y table : ℕ) (m : TableMapping) → capability_at slots y ≡ PageTable table (Some m) → IsNamedTable slots m.root
-names-mapped_root slots y table m held = (y, subst (λ (c : Cap). NamesTable c m.root) (sym held) (names-above table m))
 
 -- ---- mappings
 

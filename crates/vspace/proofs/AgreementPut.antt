@@ -11,7 +11,7 @@ use Rattle.model.specs.declared.capabilities.FrameMapping.{FrameMapping}
 use Rattle.model.specs.declared.capabilities.TableMapping.{TableMapping}
 use Rattle.model.specs.declared.rights.Rights.{Rights}
 use Rattle.model.specs.declared.slot_entries.Entry.{Entry}
-use Rattle.slots.proofs.Changes.{capability_of, entry-other, entry-same}
+use Rattle.model.proofs.SlotChanges.{capability_of, entry-other, entry-same}
 use Rattle.vspace.specs.Agreement.{IsNewPageTable, IsNewRoot, MayBePut}
 use Rattle.vspace.proofs.AgreementCarried.{open-some}
 use Rattle.vspace.specs.Tables.{Holds, IsTable, MapsFrame, MapsTable, TablesAgree}

@@ -11,9 +11,9 @@ use Rattle.model.specs.declared.capabilities.Cap.{Cap}
 use Rattle.model.specs.declared.capabilities.Cap.TheVariants.{Empty, Frame, PageTable, RootTable}
 use Rattle.model.specs.declared.slot_entries.Entry.{Entry}
 use Rattle.model.proofs.BytesLemmas.{word_at-same}
-use Rattle.slots.proofs.Changes.{capability-adopted, capability-opened, capability_of, entry-other, entry-same}
-use Rattle.slots.proofs.Tables.{within-bounds}
-use Rattle.vspace.specs.Agreement.{IsNamedTable, IsOutsideTables, IsWithoutTables, SameInTables}
+use Rattle.model.proofs.SlotChanges.{capability-adopted, capability-opened, capability_of, entry-other, entry-same, within-bounds}
+use Rattle.vspace.specs.Agreement.{IsOutsideTables, IsWithoutTables, SameInTables}
+use Rattle.vspace.specs.Kept.{IsNamedTable}
 use Rattle.vspace.specs.Tables.{Holds, TablesAgree}
 use Rattle.vspace.proofs.AgreementCarried.{Carries, Stays, agree-carried, open-some, stays-closed}
 use Rattle.vspace.proofs.Steps.{capability-recapped_other, closed-after, held-before}

@@ -13,7 +13,7 @@ use Rattle.model.specs.declared.capabilities.FrameMapping.{FrameMapping}
 use Rattle.model.specs.declared.capabilities.TableMapping.{TableMapping}
 use Rattle.model.specs.declared.rights.Rights.{Rights}
 use Rattle.model.specs.declared.slot_entries.Entry.{Entry}
-use Rattle.slots.proofs.Changes.{capability_of, entry-other, entry-same, parent_of}
+use Rattle.model.proofs.SlotChanges.{capability_of, entry-other, entry-same, parent_of}
 use Rattle.vspace.specs.Endings.{Ended, GoesWith, IsMappedIn, Loses, NoneUnder, ended_at, is_ending, unmapped_entry}
 use Rattle.vspace.specs.Regions.{unmapped_at}
 use Rattle.vspace.specs.Tables.{MapsTable, TablesAgree}
@@ -122,15 +122,6 @@ unmapped-empty (Tcb _) = refl
 unmapped-empty (RootTable _) = refl
 unmapped-empty InterruptControl = refl
 unmapped-empty (InterruptHandler _) = refl
-
--- no slot is filled
-pub full-before : (old now : Slots) (offset number : ℕ) → EndedBelow old now offset number → (y : ℕ) → IsFull now y → IsFull old y
-full-before old now offset number ended y full = elim (ended y) [
-  | inl lost ↦
-      let held : capability_at now y ≡ unmapped (capability_at old y) = ap capability_of lost.1 ∙ entry-unmapped (old y) in
-      ap not (sym (unmapped-empty (capability_at old y))) ∙ ap (λ (c : Cap). not (is_empty c)) (sym held) ∙ full
-  | inr kept ↦ ap (λ (c : Cap). not (is_empty c)) (sym (ap capability_of kept.1)) ∙ full
-]
 
 -- a page table's capability without its mapping
 table-entry : (held : Option Entry) (t : ℕ) (o : Option TableMapping) → capability_of held ≡ PageTable t o → option_map unmapped_entry held ≡ Some (record { capability = PageTable t None; parent = parent_of held })

@@ -19,3 +19,5 @@ pub mod AgreementCarried
 pub mod AgreementPut
 pub mod AgreementSlots
 pub mod AgreementBytes
+pub mod Names
+pub mod RightsBits

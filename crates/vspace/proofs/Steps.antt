@@ -6,7 +6,7 @@ use Rattle.model.proofs.BytesLemmas.{length-written, word_at-same, word_at-writt
 use Rattle.model.specs.Capabilities.Slots.{OutsideSlots, SameOutside, Slots, capability_at, parent_at, recapped}
 use Rattle.model.specs.declared.capabilities.Cap.{Cap}
 use Rattle.model.specs.declared.slot_entries.Entry.{Entry}
-use Rattle.slots.proofs.Changes.{capability_of, entry-other, entry-same}
+use Rattle.model.proofs.SlotChanges.{capability_of, entry-other, entry-same}
 use Rattle.vspace.specs.Tables.{IsTable}
 
 -- ---- slots

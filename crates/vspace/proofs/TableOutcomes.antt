@@ -1,5 +1,5 @@
 -- The definition of the call that maps a page table, by what its checks answer, and what its write leaves.
-use Rattle.std.proofs.Common.{◌≡◌, ◌≢◌, ◌∙◌, ℕ, ◌+◌, ◌*◌, ◌/◌, ◌%◌, ◌^◌, ◌<◌, ◌≤◌, ◌==◌, inl, inr, Bool, true, false, not, Option, Some, None, Result, Ok, Err, List, [], ◌∷◌, length, refl, sym, ap, subst, arith}
+use Rattle.std.proofs.Common.{◌≡◌, ◌≢◌, ◌∙◌, ℕ, ◌+◌, ◌*◌, ◌/◌, ◌%◌, ◌^◌, ◌<◌, ◌==◌, inl, inr, Bool, true, false, not, Option, Some, None, Result, Ok, Err, List, [], ◌∷◌, refl, sym, ap, subst, arith}
 use Rattle.std.specs.Prelude.{nat_lt}
 use Rattle.std.specs.Option.{is_some}
 use Rattle.model.specs.Kernel.AddressSpaces.{address_limit, is_region_taken, maps_region, page_size, region_pages}
@@ -14,15 +14,15 @@ use Rattle.model.specs.declared.capabilities.Cap.TheVariants.{Empty, PageTable, 
 use Rattle.model.specs.declared.capabilities.TableMapping.{TableMapping}
 use Rattle.model.specs.declared.errors.KError.{KError}
 use Rattle.model.specs.declared.errors.KError.TheVariants.{AlignmentError, DeleteFirst, InvalidArgument}
-use Rattle.model.proofs.BytesLemmas.{slice_index-written_before, slice_index-written_behind}
-use Rattle.model.specs.Shared.Bytes.{word_bytes}
-use Rattle.slots.proofs.Changes.{capability_of}
-use Rattle.vspace.specs.TableAnswers.{FreePointer, GivesTableMapped, KeptBesideRoots, RegionAnswer, TableMappingAnswer, region_named, table_call}
+use Rattle.model.proofs.SlotChanges.{capability_of}
+use Rattle.vspace.specs.Kept.{SameBesideTables}
+use Rattle.vspace.specs.TableAnswers.{FreePointer, GivesTableMapped, RegionAnswer, TableMappingAnswer, region_named, table_call}
 use Rattle.vspace.specs.Tables.{Holds, TablesAgree, table_in}
 use Rattle.vspace.proofs.Outcomes.{region-taken}
 use Rattle.vspace.proofs.TableSteps.{TableStep, agree-table_mapped}
 use Rattle.vspace.proofs.Taken.{holds-none, region-answer}
-use Rattle.vspace.proofs.Writes.{Written, same-outside}
+use Rattle.vspace.proofs.Writes.{Written, same-outside, word-beside}
+use Rattle.vspace.proofs.Names.{names-root}
 
 -- ---- the entry of the region
 
@@ -129,15 +129,8 @@ table-done slots0 slots1 slots2 memory0 memory1 memory2 x t place word o m agree
     let new : slots2 ≡ recapped slots0 x (PageTable t (Some m)) = done.changed ∙ ap (λ (s : Slots). recapped s x (PageTable t (Some m))) done.kept in
     subst (λ (s : Slots). TablesAgree s memory2) (sym new) (agree-table_mapped slots0 memory0 memory2 x t m step)
 
-pub kept-beside : (slots0 slots1 slots2 : Slots) (memory0 memory1 memory2 : List ℕ) (x place word : ℕ) (c : Cap) (m : TableMapping) → TablesAgree slots0 memory0 → IsTableMapping (Some m) → FreePointer slots0 m.root m.region place → Written slots0 slots1 slots2 memory0 memory1 memory2 x place word c → KeptBesideRoots slots0 memory0 memory2
-kept-beside slots0 slots1 slots2 memory0 memory1 memory2 x place word c m agree fine entry done = λ k closed apart.
-    let same = same-outside slots0 slots1 slots2 memory0 memory1 memory2 x place word c place word done refl refl in
+pub pointer-beside : (slots0 slots1 slots2 : Slots) (memory0 memory1 memory2 : List ℕ) (x place word : ℕ) (c : Cap) (m : TableMapping) → TablesAgree slots0 memory0 → IsTableMapping (Some m) → FreePointer slots0 m.root m.region place → Written slots0 slots1 slots2 memory0 memory1 memory2 x place word c → SameBesideTables slots0 memory0 memory2
+pointer-beside slots0 slots1 slots2 memory0 memory1 memory2 x place word c m agree fine entry done =
     let stands = agree.roots entry.rooted.0 m.root entry.rooted.1 in
-    let here = entry.here in
     let region = fine.1 in
-    let fits : place + 4 ≤ length memory0 = omega (arith, stands.within, region, here) in
-    same.bytes k closed
-    ∙ elim (apart m.root entry.rooted) [
-      | inl before ↦ slice_index-written_before memory0 place (word_bytes word) k fits (omega (arith, before, here))
-      | inr behind ↦ slice_index-written_behind memory0 place (word_bytes word) k fits (omega (arith, behind, here, region))
-    ]
+    word-beside slots0 slots1 slots2 memory0 memory1 memory2 x place word c m.root m.region done (names-root slots0 entry.rooted.0 m.root entry.rooted.1) stands (omega (arith, region)) entry.here

@@ -13,7 +13,7 @@ use Rattle.model.specs.declared.capabilities.FrameMapping.{FrameMapping}
 use Rattle.model.specs.declared.capabilities.TableMapping.{TableMapping}
 use Rattle.model.specs.declared.rights.Rights.{Rights}
 use Rattle.model.specs.declared.slot_entries.Entry.{Entry}
-use Rattle.slots.proofs.Changes.{capability_of, parent_of}
+use Rattle.model.proofs.SlotChanges.{capability_of, parent_of}
 use Rattle.vspace.specs.Tables.{TablesAgree}
 use Rattle.vspace.proofs.TableRemovals.{TableRemoval, agree-table_unmapped}
 use Rattle.vspace.proofs.Writes.{Written, same-outside}

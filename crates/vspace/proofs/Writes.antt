@@ -8,9 +8,10 @@ use Rattle.model.specs.declared.capabilities.Cap.{Cap}
 use Rattle.model.specs.declared.capabilities.Cap.TheVariants.{Empty, Frame}
 use Rattle.model.specs.declared.capabilities.FrameMapping.{FrameMapping}
 use Rattle.model.specs.declared.rights.Rights.{Rights}
-use Rattle.model.proofs.BytesLemmas.{slice_index-written_before, slice_index-written_behind}
-use Rattle.slots.proofs.Changes.{capability_of, entry-other, entry-same}
-use Rattle.vspace.specs.Answers.{FreeEntry, KeptBytes, LeafAnswer}
+use Rattle.model.proofs.BytesLemmas.{length-written, slice_index-written_before, slice_index-written_behind}
+use Rattle.model.proofs.SlotChanges.{capability_of, entry-other, entry-same}
+use Rattle.vspace.specs.Answers.{FreeEntry, LeafAnswer}
+use Rattle.vspace.specs.Kept.{IsNamedTable, SameBesideTables}
 use Rattle.vspace.specs.Tables.{IsTable, MapsTable, TablesAgree}
 use Rattle.vspace.proofs.FrameSteps.{index_small}
 use Rattle.vspace.proofs.Mapping.{MapStep, agree-mapped}
@@ -62,15 +63,20 @@ same-outside slots0 slots1 slots2 memory0 memory1 memory2 x place word c other v
     let wrote : memory1 ≡ written memory0 other (word_bytes value) = done.wrote ∙ ap (λ (p : ℕ). written memory0 p (word_bytes word)) here ∙ ap (λ (w : ℕ). written memory0 other (word_bytes w)) is in
     subst (λ (m : List ℕ). SameOutside slots0 m memory2) wrote first
 
-pub bytes-kept : (slots0 slots1 slots2 : Slots) (memory0 memory1 memory2 : List ℕ) (x place word : ℕ) (c : Cap) (root region table i : ℕ) → Written slots0 slots1 slots2 memory0 memory1 memory2 x place word c → MapsTable slots0 root region table → IsTable slots0 memory0 table → i < 2 ^ 10 → place ≡ table + 4 * i → KeptBytes slots0 memory0 memory2
-bytes-kept slots0 slots1 slots2 memory0 memory1 memory2 x place word c root region table i done maps stands few here = λ k closed apart.
+-- one word of a table that a capability names is written: the bytes beside it stay
+pub word-beside : (slots0 slots1 slots2 : Slots) (memory0 memory1 memory2 : List ℕ) (x place word : ℕ) (c : Cap) (table i : ℕ) → Written slots0 slots1 slots2 memory0 memory1 memory2 x place word c → IsNamedTable slots0 table → IsTable slots0 memory0 table → i < 2 ^ 10 → place ≡ table + 4 * i → SameBesideTables slots0 memory0 memory2
+word-beside slots0 slots1 slots2 memory0 memory1 memory2 x place word c table i done named stands few here =
     let same = same-outside slots0 slots1 slots2 memory0 memory1 memory2 x place word c place word done refl refl in
     let fits : place + 4 ≤ length memory0 = omega (arith, stands.within, few, here) in
-    same.bytes k closed
-    ∙ elim (apart root region table maps) [
-      | inl before ↦ slice_index-written_before memory0 place (word_bytes word) k fits (omega (arith, before, here))
-      | inr behind ↦ slice_index-written_behind memory0 place (word_bytes word) k fits (omega (arith, behind, here, few))
-    ]
+    record {
+      size = same.size ∙ length-written memory0 place (word_bytes word) fits;
+      bytes = λ k closed apart.
+          same.bytes k closed
+          ∙ elim (apart table named) [
+            | inl before ↦ slice_index-written_before memory0 place (word_bytes word) k fits (omega (arith, before, here))
+            | inr behind ↦ slice_index-written_behind memory0 place (word_bytes word) k fits (omega (arith, behind, here, few))
+          ];
+    }
 
 pub map-done : (slots0 slots1 slots2 : Slots) (memory0 memory1 memory2 : List ℕ) (x f place word : ℕ) (r : Rights) (o : Option FrameMapping) (m : FrameMapping) → TablesAgree slots0 memory0 → o ≡ None → capability_at slots0 x ≡ Frame f r o → IsFrameMapping (Some m) → f + 2 ^ 12 ≤ length memory0 → FreeEntry slots0 m.root m.page place → word ≡ leaf_word f m.rights.0 → Written slots0 slots1 slots2 memory0 memory1 memory2 x place word (Frame f r (Some m)) → TablesAgree slots2 memory2
 map-done slots0 slots1 slots2 memory0 memory1 memory2 x f place word r o m agree absent held fine fits entry is done =

@@ -1,14 +1,19 @@
 -- Which changes of slots and memory leave the page tables and the mappings in agreement.
-use Rattle.std.specs.Prelude.{ℕ, ◌≡◌, ◌≢◌, ◌+◌, ◌/◌, ◌<◌, ◌≤◌, ◌⊎◌, ⊤, Option, Some, None, List, length, slice_index}
+use Rattle.std.specs.Prelude.{ℕ, ◌≡◌, ◌≢◌, ◌+◌, ◌*◌, ◌/◌, ◌^◌, ◌<◌, ◌≤◌, ◌⊎◌, ⊤, Option, Some, None, List, length, slice_index}
 use Rattle.model.specs.Kernel.AddressSpaces.{page_size}
+use Rattle.model.specs.Shared.Bytes.{word_at}
 use Rattle.model.specs.Capabilities.CapabilityWords.{IsCapability}
 use Rattle.model.specs.Capabilities.Slots.{Slots, capability_at}
 use Rattle.model.specs.declared.capabilities.Cap.{Cap}
 use Rattle.model.specs.declared.capabilities.Cap.TheVariants.{Frame, PageTable, RootTable}
 use Rattle.model.specs.declared.capabilities.TableMapping.{TableMapping}
-use Rattle.vspace.specs.Fresh.{IsBlank}
-use Rattle.vspace.specs.TableAnswers.{IsBeside}
-use Rattle.vspace.specs.Tables.{Holds}
+use Rattle.vspace.specs.Kept.{IsBeside, IsNamedTable}
+use Rattle.vspace.specs.Tables.{Holds, IsTable}
+
+-- a table of 4096 bytes stands here, and each of its words is 0
+pub record IsBlank (slots : Slots) (memory : List ℕ) (table : ℕ) : Type 0 where
+  pub stands : IsTable slots memory table
+  pub zero : (i : ℕ) → i < 2 ^ 10 → word_at memory (table + 4 * i) ≡ 0
 
 -- a root table that no capability names yet may stand here: all its words are 0, and it is no page table
 pub record IsNewRoot (slots : Slots) (memory : List ℕ) (root : ℕ) : Type 0 where
@@ -37,17 +42,6 @@ IsWithoutTables (Frame frame r m) = ⊥
 IsWithoutTables (PageTable table m) = ⊥
 IsWithoutTables (RootTable root) = ⊥
 IsWithoutTables capability = ⊤
-
--- a capability names a table: its own, or the root table that its page table is mapped under
-abbrev pub NamesTable : Cap → ℕ → Type 0
-NamesTable (RootTable root) table = table ≡ root
-NamesTable (PageTable t None) table = table ≡ t
-NamesTable (PageTable t (Some m)) table = (table ≡ t) ⊎ (table ≡ m.root)
-NamesTable capability table = ⊥
-
--- some capability names a table
-abbrev pub IsNamedTable : Slots → ℕ → Type 0
-IsNamedTable slots table = (slot : ℕ) × NamesTable (capability_at slots slot) table
 
 -- the bytes of these slots stand in no table that a capability names
 abbrev pub IsOutsideTables : Slots → ℕ → ℕ → Type 0

@@ -1,5 +1,5 @@
 -- What the calls on mappings answer: as the definitions of the invocations say of every state with these slots.
-use Rattle.std.specs.Prelude.{ℕ, ◌≡◌, ◌==◌, ◌+◌, ◌*◌, ◌/◌, ◌%◌, ◌^◌, ◌⊎◌, ◌<◌, ◌≤◌, false, nat_lt, slice_index, List, Option, Some, None, Result, Ok, Err}
+use Rattle.std.specs.Prelude.{ℕ, ◌≡◌, ◌==◌, ◌+◌, ◌*◌, ◌/◌, ◌%◌, ◌^◌, ◌⊎◌, false, nat_lt, List, Option, Some, None, Result, Ok, Err}
 use Rattle.model.specs.Kernel.AddressSpaces.{address_limit, maps_page, maps_region, page_size}
 use Rattle.model.specs.Kernel.Arguments.{◌>>=◌, check}
 use Rattle.model.specs.Capabilities.CapabilityWords.{IsFrameMapping}
@@ -62,13 +62,6 @@ MappingAnswer slots cspace slot offset r mapping words (Ok found) =
     × GivesMapped slots cspace slot offset r mapping words (recapped slots slot (Frame offset r (Some found.1))) (Ok found)
 MappingAnswer slots cspace slot offset r mapping words (Err e) =
     let refused : Result (Unit {0}) KError = Err e in GivesMapped slots cspace slot offset r mapping words slots refused
-
--- the bytes that stand in no slot and in no page table that is mapped are the same
-abbrev pub KeptBytes : Slots → List ℕ → List ℕ → Type 0
-KeptBytes slots old new =
-    (place : ℕ) → slots (place / 16) ≡ None
-    → ((root region table : ℕ) → MapsTable slots root region table → (place < table) ⊎ (table + page_size ≤ place))
-    → slice_index new place ≡ slice_index old place
 
 -- the place of the leaf of a frame that is mapped
 abbrev pub LeafAnswer : Slots → Option FrameMapping → Option ℕ → Type 0

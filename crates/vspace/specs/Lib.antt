@@ -3,5 +3,5 @@ pub mod Tables
 pub mod TableAnswers
 pub mod Regions
 pub mod Endings
-pub mod Fresh
+pub mod Kept
 pub mod Agreement

@@ -1,5 +1,5 @@
 -- What the call that maps a page table answers: as the definition of the invocation says of every state with these slots.
-use Rattle.std.specs.Prelude.{ℕ, ◌≡◌, ◌==◌, ◌+◌, ◌*◌, ◌/◌, ◌%◌, ◌<◌, ◌≤◌, ◌⊎◌, nat_lt, slice_index, List, Option, Some, None, Result, Ok, Err}
+use Rattle.std.specs.Prelude.{ℕ, ◌≡◌, ◌==◌, ◌+◌, ◌*◌, ◌/◌, ◌%◌, nat_lt, List, Option, Some, None, Result, Ok, Err}
 use Rattle.model.specs.Kernel.AddressSpaces.{address_limit, page_size, region_pages}
 use Rattle.model.specs.Kernel.Arguments.{◌>>=◌, check}
 use Rattle.model.specs.Capabilities.CapabilityWords.{IsTableMapping}
@@ -50,21 +50,3 @@ TableMappingAnswer slots cspace slot offset mapping words (Ok found) =
     × GivesTableMapped slots cspace slot offset mapping words (recapped slots slot (PageTable offset (Some found.1))) (Ok found)
 TableMappingAnswer slots cspace slot offset mapping words (Err e) =
     let refused : Result (Unit {0}) KError = Err e in GivesTableMapped slots cspace slot offset mapping words slots refused
-
--- the bytes that stand in no slot and in no root table are the same
-abbrev pub KeptBesideRoots : Slots → List ℕ → List ℕ → Type 0
-KeptBesideRoots slots old new =
-    (place : ℕ) → slots (place / 16) ≡ None
-    → ((root : ℕ) → Holds slots (RootTable root) → (place < root) ⊎ (root + page_size ≤ place))
-    → slice_index new place ≡ slice_index old place
-
--- a byte stands before or behind a table
-abbrev pub IsBeside : ℕ → ℕ → Type 0
-IsBeside place table = (place < table) ⊎ (table + page_size ≤ place)
-
--- the bytes that stand in no slot, in no page table that is mapped and in no root table of one are the same
-abbrev pub KeptBesideTables : Slots → List ℕ → List ℕ → Type 0
-KeptBesideTables slots old new =
-    (place : ℕ) → slots (place / 16) ≡ None
-    → ((root region table : ℕ) → MapsTable slots root region table → IsBeside place root × IsBeside place table)
-    → slice_index new place ≡ slice_index old place

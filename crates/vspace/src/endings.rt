@@ -1,9 +1,8 @@
 //! Ending a table: what is mapped in it goes with it.
 
 ghost use Rattle.std.specs.Prelude.{ℕ, ◌≡◌, ◌+◌, ◌*◌, ◌≤◌, length};
-ghost use Rattle.model.specs.Capabilities.Slots.{IsFull};
 ghost use Rattle.vspace.specs.Endings.{Ended, NoneUnder, ended_at, is_ending};
-ghost use Rattle.vspace.specs.TableAnswers.{KeptBesideTables};
+ghost use Rattle.vspace.specs.Kept.{SameBesideTables};
 ghost use Rattle.vspace.specs.Tables.{TablesAgree};
 
 use crate::page_tables::{PageTableCap, unmap_table};
@@ -26,17 +25,11 @@ fn is_ending(held: Cap, offset: u32) -> bool
 /// Unmaps the page table of a slot, if it goes with the table at an offset.
 fn end_table<S: SlotStore>(store: &mut S, slot: Slot, offset: u32)
     requires agree { TablesAgree (S.slots store.old) (S.memory store.old) }
-    requires near { (slot : ℕ) → IsFull (S.slots store.old) slot
-        → 16 * slot + 16 ≤ length (S.memory store.old) }
     ensures slots { (y : ℕ) → S.slots store.new y ≡ ended_at (S.slots store.old) slot offset y }
-    ensures size { length (S.memory store.new) ≡ length (S.memory store.old) }
-    ensures bytes { KeptBesideTables (S.slots store.old) (S.memory store.old) (S.memory store.new) }
+    ensures bytes { SameBesideTables (S.slots store.old) (S.memory store.old) (S.memory store.new) }
     ensures agree { TablesAgree (S.slots store.new) (S.memory store.new) }
 {
-    if !store.is_open(slot) {
-        return;
-    }
-    let (held, _parent) = store.get(slot);
+    let held = store.capability(slot);
     if !is_ending(held, offset) {
         return;
     }
@@ -60,15 +53,12 @@ fn end_table<S: SlotStore>(store: &mut S, slot: Slot, offset: u32)
 /// that it is mapped there. To be called while the table's own capability still stands in its slot.
 pub fn end_tables<S: SlotStore>(store: &mut S, offset: u32)
     requires agree { TablesAgree (S.slots store.old) (S.memory store.old) }
-    requires near { (slot : ℕ) → IsFull (S.slots store.old) slot
-        → 16 * slot + 16 ≤ length (S.memory store.old) }
     ensures slots { (y : ℕ) → Ended (S.slots store.old) offset y (S.slots store.new y) }
     ensures gone { NoneUnder (S.slots store.new) offset }
-    ensures size { length (S.memory store.new) ≡ length (S.memory store.old) }
-    ensures bytes { KeptBesideTables (S.slots store.old) (S.memory store.old) (S.memory store.new) }
+    ensures bytes { SameBesideTables (S.slots store.old) (S.memory store.old) (S.memory store.new) }
     ensures agree { TablesAgree (S.slots store.new) (S.memory store.new) }
 {
-    let count = store.mem().len() / 16;
+    let count = store.count();
     'slots: for number in 0..count {
         end_table(store, Slot::new(number), offset);
     }

@@ -3,16 +3,19 @@
 ghost use Rattle.std.specs.Prelude.{◌≡◌, ◌<◌, ◌≤◌, ◌/◌, ◌*◌, ◌^◌, ◌||◌, ◌⊎◌, [], ◌∷◌, ◌+◌, None, IfErr, IfOk, length};
 ghost use Rattle.model.specs.Capabilities.CapabilityWords.{AreMappingRights, IsCapability, IsPlace};
 ghost use Rattle.model.specs.Kernel.Invocations.{Call, unmap_frame, with_slots};
-ghost use Rattle.model.specs.Capabilities.Lookup.{CNodeIsOpen, CNodesAreOpen};
 ghost use Rattle.model.specs.Capabilities.Rights.{may_execute, may_read, mapping_rights};
 ghost use Rattle.model.specs.Capabilities.Slots.{capability_at, recapped};
 ghost use Rattle.model.specs.Kernel.State.{State};
 ghost use Rattle.model.specs.Machine.Sv32.{leaf_word};
-ghost use Rattle.vspace.specs.Answers.{GivesMapped, KeptBytes, LeafAnswer, MappingAnswer, PageAnswer, page_named};
+ghost use Rattle.vspace.specs.Answers.{GivesMapped, LeafAnswer, MappingAnswer, PageAnswer, page_named};
+ghost use Rattle.vspace.specs.Kept.{SameBesideTables};
 ghost use Rattle.vspace.specs.Tables.{Holds, TablesAgree};
 
-use crate::arguments::{SlotName, root_named};
+use crate::arguments::root_named;
+use crate::sizes::{ADDRESS_LIMIT, PAGE_SIZE, REGION_PAGES};
 use crate::tables::{is_taken, table_in};
+use bitflags::Flags;
+use cspace::SlotName;
 use model::{Cap, FrameMapping, KError, Rights, Slot};
 use slots::SlotStore;
 use sv32::Pte;
@@ -26,35 +29,30 @@ pub struct FrameCap {
     pub mapping: Option<FrameMapping>,
 }
 
-/// 1 if both bits are 1.
-fn both(a: u32, b: u32) -> u32
-    requires first { a ≤ 1 }
-    requires second { b ≤ 1 }
-    ensures value { result ≡ a * b }
-    ensures range { result ≤ b }
-{
-    if a == 1 { b } else { 0 }
-}
-
-/// The rights of a mapping by the rights word of a call: those that the frame's capability allows.
-#[tactic(auto, using(std::proofs::lemmas::Nat::and_le_r))]
+/// The rights of a mapping by the rights word of a call: those that the frame's capability allows. A
+/// frame that may be read may be executed, and nothing is written where it is not read.
 fn mapping_rights(frame: Rights, word: u32) -> Rights
     ensures value { result ≡ mapping_rights frame word }
     ensures kinds { (result.0 ≡ 0) ⊎ AreMappingRights result.0 }
 {
-    let may_write = u32::from(frame.0 & 1);
-    let may_read = u32::from(frame.0 & 2) / 2;
-    let writes = both(may_write, word % 2);
-    let reads = both(may_read, word / 2 % 2);
-    let executes = both(may_read, word / 4 % 2);
-    Rights((both(writes, reads) + 2 * reads + 4 * executes) as u8)
+    let asked = Rights::OF_MAPPING.of_word(word);
+    if !frame.contains(Rights::READ) {
+        Rights::empty()
+    } else if !asked.contains(Rights::READ) {
+        asked.cut(Rights::EXECUTE)
+    } else if !frame.contains(Rights::WRITE) {
+        asked.cut(Rights::READ.union(Rights::EXECUTE))
+    } else {
+        asked
+    }
 }
 
 /// Whether rights let memory be read or executed.
+#[tactic(auto, using(crate::proofs::RightsBits::read_tested, crate::proofs::RightsBits::execute_tested))]
 fn may_be_mapped(rights: Rights) -> bool
     ensures { result ≡ (may_read rights || may_execute rights) }
 {
-    rights.0 & 2 != 0 || rights.0 & 4 != 0
+    rights.contains(Rights::READ) || rights.contains(Rights::EXECUTE)
 }
 
 /// The number of the page at an address that can be mapped: a multiple of 4096 in the lower half.
@@ -62,13 +60,13 @@ fn page_named(address: u32) -> Result<u32, KError>
     ensures value { result ≡ page_named address }
     ensures near { IfOk result (λ page. page < 2 ^ 19) }
 {
-    if address >= 0x8000_0000 {
+    if address >= ADDRESS_LIMIT {
         return Err(KError::InvalidArgument);
     }
-    if address % 0x1000 != 0 {
+    if address % PAGE_SIZE != 0 {
         return Err(KError::AlignmentError);
     }
-    Ok(address / 0x1000)
+    Ok(address / PAGE_SIZE)
 }
 
 /// The entry for a page in the page table of its region, which has to be there and to be free.
@@ -79,13 +77,13 @@ fn free_entry<S: SlotStore>(store: &S, root: u32, page: u32) -> Result<u32, KErr
     ensures answer { PageAnswer (S.slots store.now) root page result }
 {
     let memory = store.mem();
-    let Some(table) = table_in(memory, root, page / 0x400) else {
+    let Some(table) = table_in(memory, root, page / REGION_PAGES) else {
         return Err(KError::FailedLookup);
     };
-    if is_taken(memory, table, page % 0x400) {
+    if is_taken(memory, table, page % REGION_PAGES) {
         return Err(KError::DeleteFirst);
     }
-    Ok(table as u32 + 4 * (page % 0x400))
+    Ok(table as u32 + 4 * (page % REGION_PAGES))
 }
 
 /// The place of the leaf, and the mapping, if a frame's capability can be mapped.
@@ -98,8 +96,6 @@ fn mapping_for<S: SlotStore>(
     rights: u32,
 ) -> Result<(u32, FrameMapping), KError>
     requires valid { IsCapability cspace }
-    requires root_open { CNodeIsOpen (S.slots store.now) cspace }
-    requires all_open { CNodesAreOpen (S.slots store.now) }
     requires agree { TablesAgree (S.slots store.now) (S.memory store.now) }
     ensures answer { MappingAnswer (S.slots store.now) cspace frame.slot frame.offset frame.rights
         frame.mapping (root.address ∷ root.depth ∷ address ∷ rights ∷ []) result }
@@ -128,10 +124,10 @@ fn leaf_of<S: SlotStore>(store: &S, frame: FrameCap) -> Option<u32>
     ensures place { LeafAnswer (S.slots store.now) frame.mapping result }
 {
     let mapping = frame.mapping?;
-    let Some(table) = table_in(store.mem(), mapping.root, mapping.page / 0x400) else {
+    let Some(table) = table_in(store.mem(), mapping.root, mapping.page / REGION_PAGES) else {
         return None;
     };
-    Some(table as u32 + 4 * (mapping.page % 0x400))
+    Some(table as u32 + 4 * (mapping.page % REGION_PAGES))
 }
 
 /// The leaf of a frame, as a word.
@@ -159,8 +155,6 @@ pub fn map_frame<S: SlotStore>(
     rights: u32,
 ) -> Result<(), KError>
     requires valid { IsCapability cspace }
-    requires root_open { CNodeIsOpen (S.slots store.old) cspace }
-    requires all_open { CNodesAreOpen (S.slots store.old) }
     requires agree { TablesAgree (S.slots store.old) (S.memory store.old) }
     requires held { capability_at (S.slots store.old) frame.slot
         ≡ Cap.Frame frame.offset frame.rights frame.mapping }
@@ -169,7 +163,7 @@ pub fn map_frame<S: SlotStore>(
         frame.mapping (root.address ∷ root.depth ∷ address ∷ rights ∷ []) (S.slots store.new) result }
     ensures unchanged { IfErr result (λ _. (S.slots store.new ≡ S.slots store.old)
         × (S.memory store.new ≡ S.memory store.old)) }
-    ensures bytes { KeptBytes (S.slots store.old) (S.memory store.old) (S.memory store.new) }
+    ensures bytes { SameBesideTables (S.slots store.old) (S.memory store.old) (S.memory store.new) }
     ensures agree { TablesAgree (S.slots store.new) (S.memory store.new) }
 {
     let slot = frame.slot;
@@ -200,8 +194,7 @@ pub fn unmap_frame<S: SlotStore>(store: &mut S, frame: FrameCap)
         → unmap_frame (with_slots s (S.slots store.old)) call ≡ with_slots s (S.slots store.new) }
     ensures slots { S.slots store.new
         ≡ recapped (S.slots store.old) frame.slot (Cap.Frame frame.offset frame.rights None) }
-    ensures size { length (S.memory store.new) ≡ length (S.memory store.old) }
-    ensures bytes { KeptBytes (S.slots store.old) (S.memory store.old) (S.memory store.new) }
+    ensures bytes { SameBesideTables (S.slots store.old) (S.memory store.old) (S.memory store.new) }
     ensures agree { TablesAgree (S.slots store.new) (S.memory store.new) }
 {
     let slot = frame.slot;

@@ -7,13 +7,11 @@ mod arguments;
 mod endings;
 mod frames;
 mod page_tables;
-mod probes;
 mod regions;
 mod removals;
+mod sizes;
 mod spaces;
 mod tables;
-#[cfg(test)]
-mod tests;
 
 pub use agreement::{
     a_capability_without_tables_may_change, a_moved_capability_keeps_its_mapping,
@@ -21,10 +19,9 @@ pub use agreement::{
     bytes_beside_tables_may_change, bytes_of_slots_may_change, slots_may_be_closed,
     slots_may_be_opened, what_may_be_put_stays_so,
 };
-pub use arguments::SlotName;
+pub use cspace::SlotName;
 pub use endings::end_tables;
 pub use frames::{FrameCap, map_frame, unmap_frame};
 pub use page_tables::{PageTableCap, map_table, unmap_table};
-pub use probes::{cnode_is_open, cnodes_are_open, is_fresh};
 pub use removals::unmap_cap;
 pub use spaces::place_under;

@@ -3,17 +3,19 @@
 ghost use Rattle.std.specs.Prelude.{ℕ, ◌≡◌, ◌<◌, ◌≤◌, ◌/◌, ◌*◌, ◌^◌, [], ◌∷◌, ◌+◌, IfErr, IfOk, length};
 ghost use Rattle.model.specs.Capabilities.CapabilityWords.{IsCapability, IsPlace};
 ghost use Rattle.model.specs.Kernel.Invocations.{Call, unmap_table, with_slots};
-ghost use Rattle.model.specs.Capabilities.Lookup.{CNodeIsOpen, CNodesAreOpen};
-ghost use Rattle.model.specs.Capabilities.Slots.{IsFull, capability_at};
+ghost use Rattle.model.specs.Capabilities.Slots.{capability_at};
 ghost use Rattle.model.specs.Kernel.State.{State};
 ghost use Rattle.model.specs.Machine.Sv32.{table_word};
 ghost use Rattle.vspace.specs.Regions.{unmapped_at};
-ghost use Rattle.vspace.specs.TableAnswers.{GivesTableMapped, KeptBesideRoots, KeptBesideTables, RegionAnswer, TableMappingAnswer, region_named};
+ghost use Rattle.vspace.specs.Kept.{SameBesideTables};
+ghost use Rattle.vspace.specs.TableAnswers.{GivesTableMapped, RegionAnswer, TableMappingAnswer, region_named};
 ghost use Rattle.vspace.specs.Tables.{Holds, TablesAgree};
 
-use crate::arguments::{SlotName, root_named};
+use crate::arguments::root_named;
 use crate::regions::clear_region;
+use crate::sizes::{ADDRESS_LIMIT, REGION_SIZE};
 use crate::tables::table_in;
+use cspace::SlotName;
 use model::{Cap, KError, Slot, TableMapping};
 use slots::SlotStore;
 use sv32::Pte;
@@ -31,13 +33,13 @@ fn region_named(address: u32) -> Result<u32, KError>
     ensures value { result ≡ region_named address }
     ensures near { IfOk result (λ region. region < 2 ^ 9) }
 {
-    if address >= 0x8000_0000 {
+    if address >= ADDRESS_LIMIT {
         return Err(KError::InvalidArgument);
     }
-    if address % 0x40_0000 != 0 {
+    if address % REGION_SIZE != 0 {
         return Err(KError::AlignmentError);
     }
-    Ok(address / 0x40_0000)
+    Ok(address / REGION_SIZE)
 }
 
 /// The place of a region's entry in a root table, which has to be free.
@@ -62,8 +64,6 @@ fn mapping_for<S: SlotStore>(
     address: u32,
 ) -> Result<(u32, TableMapping), KError>
     requires valid { IsCapability cspace }
-    requires root_open { CNodeIsOpen (S.slots store.now) cspace }
-    requires all_open { CNodesAreOpen (S.slots store.now) }
     requires agree { TablesAgree (S.slots store.now) (S.memory store.now) }
     ensures answer { TableMappingAnswer (S.slots store.now) cspace table.slot table.offset table.mapping
         (root.address ∷ root.depth ∷ address ∷ []) result }
@@ -101,8 +101,6 @@ pub fn map_table<S: SlotStore>(
     address: u32,
 ) -> Result<(), KError>
     requires valid { IsCapability cspace }
-    requires root_open { CNodeIsOpen (S.slots store.old) cspace }
-    requires all_open { CNodesAreOpen (S.slots store.old) }
     requires agree { TablesAgree (S.slots store.old) (S.memory store.old) }
     requires held { capability_at (S.slots store.old) table.slot
         ≡ Cap.PageTable table.offset table.mapping }
@@ -110,7 +108,7 @@ pub fn map_table<S: SlotStore>(
         (root.address ∷ root.depth ∷ address ∷ []) (S.slots store.new) result }
     ensures unchanged { IfErr result (λ _. (S.slots store.new ≡ S.slots store.old)
         × (S.memory store.new ≡ S.memory store.old)) }
-    ensures bytes { KeptBesideRoots (S.slots store.old) (S.memory store.old) (S.memory store.new) }
+    ensures bytes { SameBesideTables (S.slots store.old) (S.memory store.old) (S.memory store.new) }
     ensures agree { TablesAgree (S.slots store.new) (S.memory store.new) }
 {
     let slot = table.slot;
@@ -134,15 +132,12 @@ pub fn unmap_table<S: SlotStore>(store: &mut S, table: PageTableCap)
     requires agree { TablesAgree (S.slots store.old) (S.memory store.old) }
     requires held { capability_at (S.slots store.old) table.slot
         ≡ Cap.PageTable table.offset table.mapping }
-    requires near { (slot : ℕ) → IsFull (S.slots store.old) slot
-        → 16 * slot + 16 ≤ length (S.memory store.old) }
     ensures outcome { (s : State) (call : Call) → call.slot ≡ table.slot
         → call.capability ≡ Cap.PageTable table.offset table.mapping
         → unmap_table (with_slots s (S.slots store.old)) call ≡ with_slots s (S.slots store.new) }
     ensures slots { (y : ℕ) → S.slots store.new y
         ≡ unmapped_at (S.slots store.old) table.slot (Cap.PageTable table.offset table.mapping) y }
-    ensures size { length (S.memory store.new) ≡ length (S.memory store.old) }
-    ensures bytes { KeptBesideTables (S.slots store.old) (S.memory store.old) (S.memory store.new) }
+    ensures bytes { SameBesideTables (S.slots store.old) (S.memory store.old) (S.memory store.new) }
     ensures agree { TablesAgree (S.slots store.new) (S.memory store.new) }
 {
     let slot = table.slot;

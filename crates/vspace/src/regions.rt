@@ -2,12 +2,12 @@
 
 ghost use Rattle.std.specs.Prelude.{ℕ, ◌≡◌, ◌≢◌, ◌+◌, ◌*◌, ◌≤◌, length};
 ghost use Rattle.model.specs.Kernel.Invocations.{stands_in, without_region};
-ghost use Rattle.model.specs.Capabilities.Slots.{IsFull};
-ghost use Rattle.vspace.specs.Answers.{KeptBytes};
+ghost use Rattle.vspace.specs.Kept.{SameBesideTables};
 ghost use Rattle.vspace.specs.Regions.{cleared_at};
 ghost use Rattle.vspace.specs.Tables.{TablesAgree};
 
 use crate::frames::{FrameCap, unmap_frame};
+use crate::sizes::REGION_PAGES;
 use model::{Cap, Slot, TableMapping};
 use slots::SlotStore;
 
@@ -19,7 +19,7 @@ fn stands_in(held: Cap, region: TableMapping) -> bool
         Cap::Frame {
             mapping: Some(place),
             ..
-        } => place.root == region.root && place.page / 0x400 == region.region,
+        } => place.root == region.root && place.page / REGION_PAGES == region.region,
         _ => false,
     }
 }
@@ -28,14 +28,10 @@ fn stands_in(held: Cap, region: TableMapping) -> bool
 fn clear_frame<S: SlotStore>(store: &mut S, slot: Slot, region: TableMapping)
     requires { TablesAgree (S.slots store.old) (S.memory store.old) }
     ensures slots { (y : ℕ) → S.slots store.new y ≡ cleared_at (S.slots store.old) slot region y }
-    ensures size { length (S.memory store.new) ≡ length (S.memory store.old) }
-    ensures bytes { KeptBytes (S.slots store.old) (S.memory store.old) (S.memory store.new) }
+    ensures bytes { SameBesideTables (S.slots store.old) (S.memory store.old) (S.memory store.new) }
     ensures agree { TablesAgree (S.slots store.new) (S.memory store.new) }
 {
-    if !store.is_open(slot) {
-        return;
-    }
-    let (held, _parent) = store.get(slot);
+    let held = store.capability(slot);
     if !stands_in(held, region) {
         return;
     }
@@ -59,14 +55,11 @@ fn clear_frame<S: SlotStore>(store: &mut S, slot: Slot, region: TableMapping)
 /// Unmaps all frames of a region. Each slot of memory is looked at.
 pub(crate) fn clear_region<S: SlotStore>(store: &mut S, region: TableMapping)
     requires agree { TablesAgree (S.slots store.old) (S.memory store.old) }
-    requires near { (slot : ℕ) → IsFull (S.slots store.old) slot
-        → 16 * slot + 16 ≤ length (S.memory store.old) }
     ensures slots { (y : ℕ) → S.slots store.new y ≡ without_region (S.slots store.old) region y }
-    ensures size { length (S.memory store.new) ≡ length (S.memory store.old) }
-    ensures bytes { KeptBytes (S.slots store.old) (S.memory store.old) (S.memory store.new) }
+    ensures bytes { SameBesideTables (S.slots store.old) (S.memory store.old) (S.memory store.new) }
     ensures agree { TablesAgree (S.slots store.new) (S.memory store.new) }
 {
-    let count = store.mem().len() / 16;
+    let count = store.count();
     'slots: for number in 0..count {
         clear_frame(store, Slot::new(number), region);
     }

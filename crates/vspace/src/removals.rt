@@ -2,10 +2,10 @@
 
 ghost use Rattle.std.specs.Prelude.{ℕ, ◌≡◌, ◌+◌, ◌*◌, ◌≤◌, length};
 ghost use Rattle.model.specs.Kernel.Invocations.{Call, with_slots};
-ghost use Rattle.model.specs.Capabilities.Slots.{IsFull, IsOpen, capability_at};
+ghost use Rattle.model.specs.Capabilities.Slots.{capability_at};
 ghost use Rattle.model.specs.Kernel.State.{State};
 ghost use Rattle.vspace.specs.Regions.{without_mapping, without_mapping_at};
-ghost use Rattle.vspace.specs.TableAnswers.{KeptBesideTables};
+ghost use Rattle.vspace.specs.Kept.{SameBesideTables};
 ghost use Rattle.vspace.specs.Tables.{TablesAgree};
 
 use crate::frames::{FrameCap, unmap_frame};
@@ -13,25 +13,20 @@ use crate::page_tables::{PageTableCap, unmap_table};
 use model::{Cap, Slot};
 use slots::SlotStore;
 
-/// Takes away the mapping that the capability in an open slot holds, if it holds one; that of a page
+/// Takes away the mapping that the capability in a slot holds, if it holds one; that of a page
 /// table with the frames in its region.
 pub fn unmap_cap<S: SlotStore>(store: &mut S, slot: Slot)
-    requires is_open { IsOpen (S.slots store.old) slot }
     requires agree { TablesAgree (S.slots store.old) (S.memory store.old) }
-    requires near { (slot : ℕ) → IsFull (S.slots store.old) slot
-        → 16 * slot + 16 ≤ length (S.memory store.old) }
     ensures outcome { (s : State) (call : Call) → call.slot ≡ slot
         → call.capability ≡ capability_at (S.slots store.old) slot
         → without_mapping (with_slots s (S.slots store.old)) call call.capability
         ≡ with_slots s (S.slots store.new) }
     ensures slots { (y : ℕ) → S.slots store.new y ≡ without_mapping_at (S.slots store.old) slot
         (capability_at (S.slots store.old) slot) y }
-    ensures size { length (S.memory store.new) ≡ length (S.memory store.old) }
-    ensures bytes { KeptBesideTables (S.slots store.old) (S.memory store.old) (S.memory store.new) }
+    ensures bytes { SameBesideTables (S.slots store.old) (S.memory store.old) (S.memory store.new) }
     ensures agree { TablesAgree (S.slots store.new) (S.memory store.new) }
 {
-    let (held, _parent) = store.get(slot);
-    match held {
+    match store.capability(slot) {
         Cap::Frame {
             offset,
             rights,

@@ -21,11 +21,11 @@ use Rattle.model.specs.Images.Places.{offset_of}
 use Rattle.model.specs.Kernel.AddressSpaces.{content_of}
 use Rattle.model.specs.Kernel.Deliveries.{Reason, woken}
 use Rattle.model.specs.Kernel.Interrupts.{binding}
-use Rattle.model.specs.Shared.Lists.{times_in}
+use Rattle.model.specs.Shared.Lists.{times_in, without}
 use Rattle.model.specs.Kernel.Kinds.{Names, frame_around, kind_at}
 use Rattle.model.specs.Kernel.Messages.{a0}
 use Rattle.model.specs.Kernel.Retype.{NewObject, NewEndpoint, NewNotification, NewFrame, object, object_bits}
-use Rattle.model.specs.Kernel.Scheduling.{current, head_of, is_runnable, without}
+use Rattle.model.specs.Kernel.Scheduling.{current, head_of, is_runnable}
 use Rattle.model.specs.Kernel.State.{State, Runnable, ThreadObject, EndpointObject, NotificationObject, EndpointState, NotificationState, ThreadState, notification_at}
 use Rattle.model.specs.Machine.Effects.{advanced}
 use Rattle.model.specs.Machine.ProgramMemory.{write}

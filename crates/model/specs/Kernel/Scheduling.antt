@@ -2,6 +2,7 @@
 -- seL4 Reference Manual, "Threads and Execution", "Scheduling"; without its domains and scheduling contexts.
 use Rattle.std.specs.Prelude.{ℕ, zero, suc, ◌==◌, ◌-◌, Bool, true, false, not, nat_le, if◌then◌else◌, Option, Some, None, option_map, List, [], ◌∷◌, ◌++◌, filter}
 use Rattle.std.specs.Option.{option_map_or}
+use Rattle.model.specs.Shared.Lists.{without}
 use Rattle.model.specs.Kernel.State.{State, Status, Inactive, Runnable, Blocked, AwaitsReply, AwaitsHandler, Object, ThreadObject, EndpointObject, NotificationObject, CNodeObject, FrameObject, PageTableObject, RootTableObject, put, thread_at, with_thread}
 
 -- how many ticks a thread gets when it is made runnable
@@ -27,10 +28,6 @@ is_runnable Runnable = true
 is_runnable (Blocked queue) = false
 is_runnable AwaitsReply = false
 is_runnable AwaitsHandler = false
-
--- a list without a thread
-abbrev pub without : ℕ → List ℕ → List ℕ
-without thread threads = filter (λ other. not (other == thread)) threads
 
 -- the ready list without a thread
 abbrev pub unready : State → ℕ → State

@@ -1,43 +1,43 @@
 -- Each CNode takes one step of the definition.
-use Rattle.std.proofs.Common.{◌≡◌, ◌∙◌, ◌+◌, ◌/◌, ◌==◌, ◌||◌, true, false, not, Ok, sym, ap, subst, arith}
-use Rattle.model.specs.Capabilities.Lookup.{CNodeIsOpen, is_cnode, lookup, lookup_within}
+use Rattle.std.proofs.Common.{◌≡◌, ◌∙◌, ◌+◌, ◌/◌, ◌==◌, ◌||◌, true, false, not, Ok, sym, ap, arith}
+use Rattle.model.specs.Capabilities.Lookup.{is_cnode, lookup, lookup_within}
 use Rattle.model.specs.Capabilities.Slots.{capability_at}
-use Rattle.model.specs.declared.capabilities.Cap.{Cap}
 use Rattle.model.specs.declared.capabilities.Cap.TheVariants.{CNode}
 use Rattle.cspace.proofs.Places.{slot_below}
-use Rattle.cspace.proofs.Steps.{capability_held, lookup-no_cnode, lookup-fails, lookup-ends, lookup-goes_on}
+use Rattle.cspace.proofs.Steps.{lookup-no_cnode, lookup-fails, lookup-ends, lookup-goes_on}
 use Rattle.cspace.proofs.lookups.lookup.Goals as goal
 
-pub returns-in_default-clause-value : goal.returns-in_default-clause-value
-returns-in_default-clause-value g c =
+pub returns-in_default : goal.returns-in_default
+returns-in_default g c =
     let rest = c.nodes.invariant.rest in
-    sym (lookup-no_cnode rest.0 _ _ _ _ _ rest.1 c.in_default.not-CNode rest.2)
+    record { value = sym (lookup-no_cnode rest.0 _ _ _ _ _ rest.1 c.in_default.not-CNode rest.2) }
 
-pub returns-in-Err-clause-value : goal.returns-in-Err-clause-value
-returns-in-Err-clause-value g c =
+pub returns-in-Err : goal.returns-in-Err
+returns-in-Err g c =
     let rest = c.nodes.invariant.rest in
     let slots = g.S.SlotMap.slots c.args.slots.now in
     let node : lookup_within rest.0 slots (CNode c.in-CNode.offset c.in-CNode.radix c.in-CNode.guard) c.args.address c.nodes.left ≡ lookup slots c.args.root c.args.address c.args.depth =
     ap (λ held. lookup_within rest.0 slots held c.args.address c.nodes.left) (sym c.in-CNode.is) ∙ rest.2 in
-    sym (lookup-fails rest.0 slots _ _ _ _ _ _ _ rest.1 node (sym c.resolve.ensures.value ∙ c.in-Err.is))
+    record { value = sym (lookup-fails rest.0 slots _ _ _ _ _ _ _ rest.1 node (sym c.resolve.ensures.value ∙ c.in-Err.is)) }
 
 pub new-slot-requires : goal.new-slot-requires
 new-slot-requires g c =
     let valid = rw c.in-CNode.is at c.nodes.invariant.valid in
     slot_below _ _ _ valid.2 valid.0.0 valid.0.1 c.in-Ok.ensures.index
 
-pub returns-then-ends_at-clause-value : goal.returns-then-ends_at-clause-value
-returns-then-ends_at-clause-value g c =
+pub returns-then-ends_at : goal.returns-then-ends_at
+returns-then-ends_at g c =
     let rest = c.nodes.invariant.rest in
     let slots = g.S.SlotMap.slots c.args.slots.now in
     let node : lookup_within rest.0 slots (CNode c.in-CNode.offset c.in-CNode.radix c.in-CNode.guard) c.args.address c.nodes.left ≡ lookup slots c.args.root c.args.address c.args.depth =
     ap (λ held. lookup_within rest.0 slots held c.args.address c.nodes.left) (sym c.in-CNode.is) ∙ rest.2 in
-    let held : capability_at slots c.new-slot.result ≡ c.get-next.result.0 = capability_held slots _ _ c.get-next.ensures.held in
-    let here : capability_at slots (c.in-CNode.offset / 16 + c.in-Ok.place.0) ≡ c.get-next.result.0 = ap (capability_at slots) (sym c.new-slot.ensures) ∙ held in
+    let here : capability_at slots (c.in-CNode.offset / 16 + c.in-Ok.place.0) ≡ c.capability-next.result = ap (capability_at slots) (sym c.new-slot.ensures) ∙ sym c.capability-next.ensures.value in
     let ends : (c.in-Ok.place.1 == 0 || not (is_cnode (capability_at slots (c.in-CNode.offset / 16 + c.in-Ok.place.0)))) ≡ true =
     ap (λ next. c.in-Ok.place.1 == 0 || not (is_cnode next)) here ∙ sym c.ends_at.ensures ∙ c.if-ends_at.true in
-    ap (λ slot. Ok (slot, c.in-Ok.place.1)) c.new-slot.ensures
-    ∙ sym (lookup-ends rest.0 slots _ _ _ _ _ _ _ _ rest.1 node (sym c.resolve.ensures.value ∙ c.in-Ok.is) ends)
+    record {
+      value = ap (λ slot. Ok (slot, c.in-Ok.place.1)) c.new-slot.ensures
+          ∙ sym (lookup-ends rest.0 slots _ _ _ _ _ _ _ _ rest.1 node (sym c.resolve.ensures.value ∙ c.in-Ok.is) ends);
+    }
 
 pub nodes-preserved : goal.nodes-preserved
 nodes-preserved g c =
@@ -45,14 +45,12 @@ nodes-preserved g c =
     let slots = g.S.SlotMap.slots c.args.slots.now in
     let node : lookup_within rest.0 slots (CNode c.in-CNode.offset c.in-CNode.radix c.in-CNode.guard) c.args.address c.nodes.left ≡ lookup slots c.args.root c.args.address c.args.depth =
     ap (λ held. lookup_within rest.0 slots held c.args.address c.nodes.left) (sym c.in-CNode.is) ∙ rest.2 in
-    let held : capability_at slots c.new-slot.result ≡ c.get-next.result.0 = capability_held slots _ _ c.get-next.ensures.held in
-    let here : capability_at slots (c.in-CNode.offset / 16 + c.in-Ok.place.0) ≡ c.get-next.result.0 = ap (capability_at slots) (sym c.new-slot.ensures) ∙ held in
+    let here : capability_at slots (c.in-CNode.offset / 16 + c.in-Ok.place.0) ≡ c.capability-next.result = ap (capability_at slots) (sym c.new-slot.ensures) ∙ sym c.capability-next.ensures.value in
     let more : (c.in-Ok.place.1 == 0 || not (is_cnode (capability_at slots (c.in-CNode.offset / 16 + c.in-Ok.place.0)))) ≡ false =
     ap (λ next. c.in-Ok.place.1 == 0 || not (is_cnode next)) here ∙ sym c.ends_at.ensures ∙ c.if-ends_at.false in
     let step = lookup-goes_on rest.0 slots _ _ _ _ _ _ _ _ rest.1 c.in-Ok.ensures.fewer node (sym c.resolve.ensures.value ∙ c.in-Ok.is) more in
     record {
       rest = (step.0, step.1, ap (λ next. lookup_within step.0 slots next c.args.address c.in-Ok.place.1) (sym here) ∙ step.2);
-      valid = c.get-next.ensures.valid;
-      node_open = subst (λ (next : Cap). CNodeIsOpen slots next) held (c.requires.all_open c.new-slot.result);
+      valid = c.capability-next.ensures.valid;
       few = omega (arith, c.in-Ok.ensures.fewer);
     }

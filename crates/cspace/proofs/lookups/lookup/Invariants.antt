@@ -1,7 +1,7 @@
 -- The rest of the lookup, through enough CNodes, is the whole lookup.
 use Rattle.std.proofs.Common.{ℕ, ◌≡◌, ◌<◌, ◌≤◌}
 use Rattle.model.specs.Capabilities.CapabilityWords.{IsCapability}
-use Rattle.model.specs.Capabilities.Lookup.{CNodeIsOpen, lookup, lookup_within}
+use Rattle.model.specs.Capabilities.Lookup.{lookup, lookup_within}
 use Rattle.cspace.proofs.lookups.lookup.Given as goal
 
 abbrev pub invariant-nodes : goal.invariant-nodes
@@ -10,7 +10,6 @@ invariant-nodes g l =
     record {
       rest : (n : ℕ) × (l.left < n) × (lookup_within n slots l.held l.address l.left ≡ lookup slots l.fn.root l.address l.fn.depth);
       valid : IsCapability l.held;
-      node_open : CNodeIsOpen slots l.held;
       few : l.left ≤ 32;
     }
 

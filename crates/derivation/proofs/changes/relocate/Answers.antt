@@ -1,7 +1,7 @@
 -- Descent is the same under the new names.
 use Rattle.std.proofs.Common.{sym, subst}
 use Rattle.model.specs.Capabilities.Slots.{Slots, Descendant}
-use Rattle.derivation.specs.Descendants.{name_after_move}
+use Rattle.derivation.specs.Moves.{name_after_move}
 use Rattle.derivation.proofs.Moves.{descendant-moved, descendant-unmoved}
 use Rattle.derivation.proofs.changes.relocate.Goals as goal
 

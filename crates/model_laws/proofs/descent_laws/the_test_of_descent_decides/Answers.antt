@@ -1,6 +1,6 @@
 -- Both ways.
 use Rattle.model.specs.Capabilities.Slots.{depth_of}
-use Rattle.derivation.proofs.Ancestors.{descendant-from_test, test-from_descendant}
+use Rattle.model.proofs.Ancestors.{descendant-from_test, test-from_descendant}
 use Rattle.model_laws.proofs.descent_laws.the_test_of_descent_decides.Goals as goal
 
 pub returns : goal.returns

@@ -2,7 +2,7 @@
 use Rattle.std.proofs.Common.{◌≡◌, ◌∙◌, ◌+◌, ◌-◌, Some, suc, sym, ap, arith}
 use Rattle.model.specs.Capabilities.Slots.{depth_of, depth_within, parent_at}
 use Rattle.slots.specs.Table.{table_slots}
-use Rattle.slots.proofs.Depths.{Parents, depth-le, depth-none, depth-some}
+use Rattle.model.proofs.Depths.{Parents, depth-le, depth-none, depth-some}
 use Rattle.slots.proofs.table.depth_at.Goals as goal
 
 pub returns-in-None : goal.returns-in-None

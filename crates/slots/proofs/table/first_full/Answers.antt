@@ -1,6 +1,6 @@
 -- One slot more that is not full.
 use Rattle.std.proofs.Common.{◌∙◌, ◌+◌, ◌-◌, length, sym, ap, arith}
-use Rattle.slots.specs.Order.{first_of}
+use Rattle.model.specs.Capabilities.Orders.{first_of}
 use Rattle.slots.specs.Table.{table_slots}
 use Rattle.slots.proofs.Listing.{full_from-skip}
 use Rattle.slots.proofs.table.first_full.Goals as goal

@@ -1,6 +1,6 @@
 -- No slot that was passed is full.
 use Rattle.std.proofs.Common.{◌≡◌, ◌-◌, length}
-use Rattle.slots.specs.Order.{first_of}
+use Rattle.model.specs.Capabilities.Orders.{first_of}
 use Rattle.slots.specs.Table.{full_from, table_slots}
 use Rattle.slots.proofs.table.first_full.Given as goal
 

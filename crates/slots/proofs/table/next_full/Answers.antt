@@ -1,7 +1,7 @@
 -- Behind a full slot come the full ones behind it.
 use Rattle.std.proofs.Common.{◌≡◌, ◌∙◌, true, length, sym, ap, arith}
 use Rattle.model.specs.Capabilities.Slots.{is_full}
-use Rattle.slots.specs.Order.{after, next_after}
+use Rattle.model.specs.Capabilities.Orders.{after, next_after}
 use Rattle.slots.specs.Table.{full_from, table_slots}
 use Rattle.slots.proofs.Listing.{full-inside, next_after-full_from}
 use Rattle.slots.proofs.table.next_full.Goals as goal

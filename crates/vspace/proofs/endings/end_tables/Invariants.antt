@@ -1,6 +1,5 @@
 -- The page tables in the slots below the number have been looked at.
-use Rattle.std.proofs.Common.{◌≡◌, length}
-use Rattle.vspace.specs.TableAnswers.{KeptBesideTables}
+use Rattle.vspace.specs.Kept.{SameBesideTables}
 use Rattle.vspace.specs.Tables.{TablesAgree}
 use Rattle.vspace.proofs.EndedTables.{EndedBelow}
 use Rattle.vspace.proofs.endings.end_tables.Given as goal
@@ -8,7 +7,6 @@ use Rattle.vspace.proofs.endings.end_tables.Given as goal
 abbrev pub invariant-slots : goal.invariant-slots
 invariant-slots g l = record {
   ended : EndedBelow (g.S.SlotMap.slots l.initial.store) (g.S.SlotMap.slots l.store) l.offset l.number;
-  size : length (g.S.SlotStore.memory l.store) ≡ length (g.S.SlotStore.memory l.initial.store);
-  bytes : KeptBesideTables (g.S.SlotMap.slots l.initial.store) (g.S.SlotStore.memory l.initial.store) (g.S.SlotStore.memory l.store);
+  bytes : SameBesideTables (g.S.SlotMap.slots l.initial.store) (g.S.SlotStore.memory l.initial.store) (g.S.SlotStore.memory l.store);
   agree : TablesAgree (g.S.SlotMap.slots l.store) (g.S.SlotStore.memory l.store);
 }

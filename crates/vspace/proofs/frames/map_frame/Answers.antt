@@ -4,7 +4,8 @@ use Rattle.model.specs.Kernel.Invocations.{with_slots}
 use Rattle.model.specs.Capabilities.Slots.{Slots, recapped}
 use Rattle.model.specs.declared.capabilities.Cap.TheVariants.{Frame}
 use Rattle.vspace.proofs.FrameSteps.{index_small}
-use Rattle.vspace.proofs.Writes.{bytes-kept, entry-outside, map-done, table-of_page}
+use Rattle.vspace.proofs.Names.{names-table}
+use Rattle.vspace.proofs.Writes.{entry-outside, map-done, table-of_page, word-beside}
 use Rattle.vspace.proofs.frames.map_frame.Goals as goal
 
 pub returns-clause-outcome : goal.returns-clause-outcome
@@ -20,12 +21,12 @@ pub returns-clause-bytes : goal.returns-clause-bytes
 returns-clause-bytes g c =
     let found = c.in-Ok.found in
     let entry = c.in-Ok.ensures.answer.1 in
-    bytes-kept (g.S.SlotMap.slots c.args.store.now) (g.S.SlotMap.slots c.write32.new.self) (g.S.SlotMap.slots c.set_cap.new.self) (g.S.SlotStore.memory c.args.store.now) (g.S.SlotStore.memory c.write32.new.self) (g.S.SlotStore.memory c.set_cap.new.self) c.args.frame.slot found.0 c.leaf_word.result (Frame c.args.frame.offset c.args.frame.rights (Some found.1)) found.1.root _ entry.table (found.1.page % 2 ^ 10) (record {
+    word-beside (g.S.SlotMap.slots c.args.store.now) (g.S.SlotMap.slots c.write32.new.self) (g.S.SlotMap.slots c.set_cap.new.self) (g.S.SlotStore.memory c.args.store.now) (g.S.SlotStore.memory c.write32.new.self) (g.S.SlotStore.memory c.set_cap.new.self) c.args.frame.slot found.0 c.leaf_word.result (Frame c.args.frame.offset c.args.frame.rights (Some found.1)) entry.table (found.1.page % 2 ^ 10) (record {
       kept = c.write32.ensures.slots;
       wrote = c.write32.ensures.bytes;
       changed = c.set_cap.ensures.slots;
       same = c.set_cap.ensures.bytes;
-    }) entry.maps (table-of_page _ (g.S.SlotStore.memory c.args.store.now) found.1.root found.1.page found.0 c.requires.agree entry) (index_small found.1.page) entry.here
+    }) (names-table (g.S.SlotMap.slots c.args.store.now) entry.maps.slot entry.table _ entry.maps.held) (table-of_page _ (g.S.SlotStore.memory c.args.store.now) found.1.root found.1.page found.0 c.requires.agree entry) (index_small found.1.page) entry.here
 
 pub returns-clause-agree : goal.returns-clause-agree
 returns-clause-agree g c =

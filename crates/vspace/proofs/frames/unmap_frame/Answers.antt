@@ -1,5 +1,5 @@
 -- The leaf is zero, and the capability says that it is not mapped.
-use Rattle.std.proofs.Common.{◌≡◌, ◌∙◌, ℕ, ◌%◌, ◌^◌, List, length, Option, None, sym, ap}
+use Rattle.std.proofs.Common.{◌≡◌, ◌∙◌, ℕ, ◌%◌, ◌^◌, Option, None, sym, ap}
 use Rattle.model.specs.Capabilities.CapabilityKinds.{unmapped}
 use Rattle.model.specs.Kernel.Invocations.{Call, unmap_frame, with_slots}
 use Rattle.model.specs.Capabilities.Slots.{Slots, recapped}
@@ -10,9 +10,8 @@ use Rattle.model.specs.declared.capabilities.FrameMapping.{FrameMapping}
 use Rattle.model.specs.declared.rights.Rights.{Rights}
 use Rattle.vspace.proofs.FrameSteps.{index_small}
 use Rattle.vspace.proofs.Places.{table-stands}
-use Rattle.model.proofs.BytesLemmas.{length-written}
-use Rattle.model.specs.Shared.Bytes.{word_bytes}
-use Rattle.vspace.proofs.Writes.{bytes-kept, entry-within, leaf-absent, leaf-present, recapped-own, unmap-done}
+use Rattle.vspace.proofs.Names.{names-table}
+use Rattle.vspace.proofs.Writes.{leaf-absent, leaf-present, recapped-own, unmap-done, word-beside}
 use Rattle.vspace.proofs.frames.unmap_frame.Goals as goal
 
 -- the definition at this capability
@@ -38,12 +37,12 @@ returns-clause-bytes g c =
     let leaf = leaf-present (g.S.SlotMap.slots c.args.store.now) c.args.frame.mapping c.in-Some.place c.in-Some.ensures.place in
     let m = leaf.0 in
     let there = leaf.2 in
-    bytes-kept (g.S.SlotMap.slots c.args.store.now) (g.S.SlotMap.slots c.write32.new.self) (g.S.SlotMap.slots c.set_cap.new.self) (g.S.SlotStore.memory c.args.store.now) (g.S.SlotStore.memory c.write32.new.self) (g.S.SlotStore.memory c.set_cap.new.self) c.args.frame.slot c.in-Some.place 0 (Frame c.args.frame.offset c.args.frame.rights None) m.root _ there.0 (m.page % 2 ^ 10) (record {
+    word-beside (g.S.SlotMap.slots c.args.store.now) (g.S.SlotMap.slots c.write32.new.self) (g.S.SlotMap.slots c.set_cap.new.self) (g.S.SlotStore.memory c.args.store.now) (g.S.SlotStore.memory c.write32.new.self) (g.S.SlotStore.memory c.set_cap.new.self) c.args.frame.slot c.in-Some.place 0 (Frame c.args.frame.offset c.args.frame.rights None) there.0 (m.page % 2 ^ 10) (record {
       kept = c.write32.ensures.slots;
       wrote = c.write32.ensures.bytes;
       changed = c.set_cap.ensures.slots;
       same = c.set_cap.ensures.bytes;
-    }) there.1 (table-stands (g.S.SlotMap.slots c.args.store.now) (g.S.SlotStore.memory c.args.store.now) m.root _ there.0 c.requires.agree there.1) (index_small m.page) there.2
+    }) (names-table (g.S.SlotMap.slots c.args.store.now) there.1.slot there.0 _ there.1.held) (table-stands (g.S.SlotMap.slots c.args.store.now) (g.S.SlotStore.memory c.args.store.now) m.root _ there.0 c.requires.agree there.1) (index_small m.page) there.2
 
 pub returns-clause-agree : goal.returns-clause-agree
 returns-clause-agree g c =
@@ -62,11 +61,3 @@ pub returns-in_default-clause-slots : goal.returns-in_default-clause-slots
 returns-in_default-clause-slots g c =
     let absent = leaf-absent (g.S.SlotMap.slots c.args.store.now) c.args.frame.mapping c.in_default.ensures.place in
     sym (recapped-own (g.S.SlotMap.slots c.args.store.now) c.args.frame.slot c.args.frame.offset c.args.frame.rights c.args.frame.mapping c.requires.held absent)
-
-pub returns-clause-size : goal.returns-clause-size
-returns-clause-size g c =
-    let leaf = leaf-present (g.S.SlotMap.slots c.args.store.now) c.args.frame.mapping c.in-Some.place c.in-Some.ensures.place in
-    let there = leaf.2 in
-    let stands = table-stands (g.S.SlotMap.slots c.args.store.now) (g.S.SlotStore.memory c.args.store.now) leaf.0.root _ there.0 c.requires.agree there.1 in
-    c.set_cap.ensures.bytes.size ∙ ap (λ (m : List ℕ). length m) c.write32.ensures.bytes
-    ∙ length-written (g.S.SlotStore.memory c.args.store.now) c.in-Some.place (word_bytes 0) (entry-within (g.S.SlotMap.slots c.args.store.now) (g.S.SlotStore.memory c.args.store.now) there.0 (leaf.0.page % 2 ^ 10) c.in-Some.place stands (index_small leaf.0.page) there.2)

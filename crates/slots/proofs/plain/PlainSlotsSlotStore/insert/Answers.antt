@@ -3,7 +3,7 @@ use Rattle.std.proofs.Common.{◌≡◌, ◌∙◌, Option, List, length, ap, su
 use Rattle.model.specs.Capabilities.Slots.{Slots, inserted}
 use Rattle.model.specs.declared.slot_entries.Entry.{Entry}
 use Rattle.slots.specs.Table.{IsTable, table_slots}
-use Rattle.slots.proofs.Derivations.{derivation-inserted}
+use Rattle.model.proofs.Derivations.{derivation-inserted}
 use Rattle.slots.proofs.Tables.{slots-changed, table-changed}
 use Rattle.slots.proofs.plain.PlainSlotsSlotStore.insert.Goals as goal
 

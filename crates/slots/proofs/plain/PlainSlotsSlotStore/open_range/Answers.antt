@@ -3,8 +3,9 @@ use Rattle.std.proofs.Common.{◌≡◌, ◌∙◌, Option, Some, List, length, 
 use Rattle.model.specs.Capabilities.Slots.{Slots, opened, is_within}
 use Rattle.model.specs.declared.slot_entries.Entry.{Entry}
 use Rattle.slots.specs.Table.{IsTable, table_slots}
-use Rattle.slots.proofs.Derivations.{derivation-opened}
-use Rattle.slots.proofs.Tables.{table-changed, within-bounds}
+use Rattle.model.proofs.Derivations.{derivation-opened}
+use Rattle.model.proofs.SlotChanges.{within-bounds}
+use Rattle.slots.proofs.Tables.{table-changed}
 use Rattle.slots.proofs.plain.PlainSlotsSlotStore.open_range.Goals as goal
 
 pub invariant_of-self : goal.invariant_of-self

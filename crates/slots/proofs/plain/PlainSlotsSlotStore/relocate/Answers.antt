@@ -3,7 +3,7 @@ use Rattle.std.proofs.Common.{◌≡◌, ◌∙◌, Option, List, length, ap, su
 use Rattle.model.specs.Capabilities.Slots.{Slots, relocated}
 use Rattle.model.specs.declared.slot_entries.Entry.{Entry}
 use Rattle.slots.specs.Table.{IsTable, table_slots}
-use Rattle.slots.proofs.Derivations.{derivation-relocated}
+use Rattle.model.proofs.Derivations.{derivation-relocated}
 use Rattle.slots.proofs.Tables.{slots-changed, table-changed}
 use Rattle.slots.proofs.plain.PlainSlotsSlotStore.relocate.Goals as goal
 

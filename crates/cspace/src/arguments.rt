@@ -1,0 +1,60 @@
+//! The slots that the words of a call name.
+//! seL4 Reference Manual, "Capability Space Addressing".
+
+ghost use Rattle.std.specs.Prelude.{◌≡◌, [], ◌∷◌};
+ghost use Rattle.model.specs.Kernel.Arguments.{argument_slot, destination_slot, source_slot};
+ghost use Rattle.model.specs.Capabilities.CapabilityWords.{IsCapability};
+
+use crate::lookup;
+use model::{Cap, KError, Slot};
+use slots::{SlotMap, is_taken};
+
+/// A slot as two words of a call name it: an address, and how many of its low bits count, 1 to 32.
+#[derive(Clone, Copy, Debug, PartialEq, Eq)]
+pub struct SlotName {
+    pub address: u32,
+    pub depth: u32,
+}
+
+/// The slot of this name in the capability space of a root. The depth is out of its range
+/// (`RangeError`), or the lookup fails or leaves bits of the name over (`FailedLookup`).
+pub fn argument_slot<S: SlotMap>(slots: &S, root: Cap, name: SlotName) -> Result<Slot, KError>
+    requires { IsCapability root }
+    ensures { result ≡ argument_slot (S.slots slots.now) root (name.address ∷ name.depth ∷ []) 0 }
+{
+    if name.depth == 0 || name.depth > 32 {
+        return Err(KError::RangeError);
+    }
+    match lookup(slots, root, name.address, name.depth) {
+        Ok((slot, 0)) => Ok(slot),
+        _ => Err(KError::FailedLookup),
+    }
+}
+
+/// The slot of this name, which has to hold a capability: errors as [`argument_slot`] has them, and then
+/// an empty slot is a `FailedLookup`.
+pub fn source_slot<S: SlotMap>(slots: &S, root: Cap, name: SlotName) -> Result<Slot, KError>
+    requires { IsCapability root }
+    ensures { result ≡ source_slot (S.slots slots.now) root (name.address ∷ name.depth ∷ []) 0 }
+{
+    let slot = argument_slot(slots, root, name)?;
+    if is_taken(slots, slot) {
+        Ok(slot)
+    } else {
+        Err(KError::FailedLookup)
+    }
+}
+
+/// The slot of this name, which has to be empty: errors as [`argument_slot`] has them, and then a slot
+/// that holds a capability is a `DeleteFirst`.
+pub fn destination_slot<S: SlotMap>(slots: &S, root: Cap, name: SlotName) -> Result<Slot, KError>
+    requires { IsCapability root }
+    ensures { result ≡ destination_slot (S.slots slots.now) root (name.address ∷ name.depth ∷ []) 0 }
+{
+    let slot = argument_slot(slots, root, name)?;
+    if is_taken(slots, slot) {
+        Err(KError::DeleteFirst)
+    } else {
+        Ok(slot)
+    }
+}
