@@ -1,26 +1,19 @@
-//! The slots that the words of a call name.
+//! The slots that a call names.
 //! seL4 Reference Manual, "Capability Space Addressing".
 
-ghost use Rattle.std.specs.Prelude.{◌≡◌, [], ◌∷◌};
+ghost use Rattle.std.specs.Prelude.{◌≡◌};
 ghost use Rattle.model.specs.Kernel.Arguments.{argument_slot, destination_slot, source_slot};
 ghost use Rattle.model.specs.Capabilities.CapabilityWords.{IsCapability};
 
 use crate::lookup;
-use model::{Cap, KError, Slot};
+use model::{Cap, KError, Slot, SlotName};
 use slots::{SlotMap, is_taken};
-
-/// A slot as two words of a call name it: an address, and how many of its low bits count, 1 to 32.
-#[derive(Clone, Copy, Debug, PartialEq, Eq)]
-pub struct SlotName {
-    pub address: u32,
-    pub depth: u32,
-}
 
 /// The slot of this name in the capability space of a root. The depth is out of its range
 /// (`RangeError`), or the lookup fails or leaves bits of the name over (`FailedLookup`).
 pub fn argument_slot<S: SlotMap>(slots: &S, root: Cap, name: SlotName) -> Result<Slot, KError>
     requires { IsCapability root }
-    ensures { result ≡ argument_slot (S.slots slots.now) root (name.address ∷ name.depth ∷ []) 0 }
+    ensures { result ≡ argument_slot (S.slots slots.now) root name }
 {
     if name.depth == 0 || name.depth > 32 {
         return Err(KError::RangeError);
@@ -35,7 +28,7 @@ pub fn argument_slot<S: SlotMap>(slots: &S, root: Cap, name: SlotName) -> Result
 /// an empty slot is a `FailedLookup`.
 pub fn source_slot<S: SlotMap>(slots: &S, root: Cap, name: SlotName) -> Result<Slot, KError>
     requires { IsCapability root }
-    ensures { result ≡ source_slot (S.slots slots.now) root (name.address ∷ name.depth ∷ []) 0 }
+    ensures { result ≡ source_slot (S.slots slots.now) root name }
 {
     let slot = argument_slot(slots, root, name)?;
     if is_taken(slots, slot) {
@@ -49,7 +42,7 @@ pub fn source_slot<S: SlotMap>(slots: &S, root: Cap, name: SlotName) -> Result<S
 /// that holds a capability is a `DeleteFirst`.
 pub fn destination_slot<S: SlotMap>(slots: &S, root: Cap, name: SlotName) -> Result<Slot, KError>
     requires { IsCapability root }
-    ensures { result ≡ destination_slot (S.slots slots.now) root (name.address ∷ name.depth ∷ []) 0 }
+    ensures { result ≡ destination_slot (S.slots slots.now) root name }
 {
     let slot = argument_slot(slots, root, name)?;
     if is_taken(slots, slot) {

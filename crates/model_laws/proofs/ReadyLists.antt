@@ -3,7 +3,7 @@ use Rattle.std.proofs.Common.{ℕ, ◌≡◌, ◌∙◌, ◌==◌, ◌+◌, ◌<
 use Rattle.std.proofs.lemmas.Bool.{eq-eqb}
 use Rattle.std.proofs.lemmas.Bool.Decides.{eqb_tells}
 use Rattle.model.specs.Shared.Lists.{times_in, without}
-use Rattle.derivation.proofs.Behind.{times-filter}
+use Rattle.model.proofs.Orders.{times-filter}
 use Rattle.model.specs.Kernel.State.{put}
 use Rattle.model_laws.specs.Ready.{HoldsNoneTwice}
 

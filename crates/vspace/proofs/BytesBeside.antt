@@ -3,7 +3,7 @@ use Rattle.std.proofs.Common.{◌≡◌, ◌∙◌, ℕ, ◌+◌, ◌/◌, ◌<�
 use Rattle.std.specs.Prelude.{if◌then◌else◌, nat_lt}
 use Rattle.std.specs.Option.{is_some, option_map}
 use Rattle.model.specs.Capabilities.CapabilityKinds.{unmapped}
-use Rattle.model.specs.Kernel.Invocations.{stands_in, without_region, without_table}
+use Rattle.model.specs.Kernel.MappingCalls.{lies_in_region, without_region, without_table}
 use Rattle.model.specs.Capabilities.Slots.{IsOpen, Slots, capability_at}
 use Rattle.model.specs.declared.capabilities.TableMapping.{TableMapping}
 use Rattle.model.specs.declared.slot_entries.Entry.{Entry}
@@ -37,7 +37,7 @@ beside-same slots memory = record { size = refl; bytes = λ place closed apart. 
 names-less : (m : TableMapping) (held : Option Entry) (table : ℕ) → NamesTable (capability_of (option_map (without_table m) held)) table → NamesTable (capability_of held) table
 names-less m None table named = named
 names-less m (Some held) table named =
-    elim (stands_in m held.capability) as (λ b. NamesTable (if b then unmapped held.capability else held.capability) table → NamesTable held.capability table) [
+    elim (lies_in_region m held.capability) as (λ b. NamesTable (if b then unmapped held.capability else held.capability) table → NamesTable held.capability table) [
       | true ↦ λ is. names-unmapped held.capability table is
       | false ↦ λ is. is
     ] named

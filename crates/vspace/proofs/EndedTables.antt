@@ -5,7 +5,7 @@ use Rattle.std.specs.Option.{option_map}
 use Rattle.std.proofs.lemmas.Bool.{eq-eqb}
 use Rattle.std.proofs.lemmas.Bool.Decides.{eqb_tells}
 use Rattle.model.specs.Capabilities.CapabilityKinds.{frame_mapping, table_mapping, unmapped}
-use Rattle.model.specs.Kernel.Invocations.{stands_in, without_region, without_table}
+use Rattle.model.specs.Kernel.MappingCalls.{lies_in_region, without_region, without_table}
 use Rattle.model.specs.Capabilities.Slots.{IsFull, Slots, capability_at, is_empty, parent_at, recapped}
 use Rattle.model.specs.declared.capabilities.Cap.{Cap}
 use Rattle.model.specs.declared.capabilities.Cap.TheVariants.{Empty, Untyped, Endpoint, Notification, CNode, Frame, PageTable, Tcb, RootTable, InterruptControl, InterruptHandler}
@@ -143,13 +143,13 @@ loses-same g h more back slots y after was = elim was [
 -- ---- one region's frames
 
 -- a mapping in a region
-stands-mapped : (goes : ℕ → ℕ → Type 0) (m : TableMapping) (c : Cap) → stands_in m c ≡ true → goes m.root m.region → IsMappedIn goes c
+stands-mapped : (goes : ℕ → ℕ → Type 0) (m : TableMapping) (c : Cap) → lies_in_region m c ≡ true → goes m.root m.region → IsMappedIn goes c
 stands-mapped goes m (Frame f r (Some k)) inside is = elim (eqb_tells k.root m.root) [
   | inl a ↦ elim (eqb_tells (k.page / 2 ^ 10) m.region) [
     | inl b ↦ subst (λ (root : ℕ). goes root (k.page / 2 ^ 10)) (sym a.1) (subst (λ (region : ℕ). goes m.root region) (sym b.1) is)
-    | inr b ↦ absurd (let outside : stands_in m (Frame f r (Some k)) ≡ false = rw (a.0, b.0) refl in cc)
+    | inr b ↦ absurd (let outside : lies_in_region m (Frame f r (Some k)) ≡ false = rw (a.0, b.0) refl in cc)
   ]
-  | inr a ↦ absurd (let outside : stands_in m (Frame f r (Some k)) ≡ false = rw a.0 refl in cc)
+  | inr a ↦ absurd (let outside : lies_in_region m (Frame f r (Some k)) ≡ false = rw a.0 refl in cc)
 ]
 stands-mapped goes m (Frame f r None) inside is = absurd (cc)
 stands-mapped goes m (PageTable _ _) inside is = absurd (cc)
@@ -163,21 +163,21 @@ stands-mapped goes m (RootTable _) inside is = absurd (cc)
 stands-mapped goes m InterruptControl inside is = absurd (cc)
 stands-mapped goes m (InterruptHandler _) inside is = absurd (cc)
 
-stands-here : (m : TableMapping) (f : ℕ) (r : Rights) (k : FrameMapping) → k.root ≡ m.root → k.page / 2 ^ 10 ≡ m.region → stands_in m (Frame f r (Some k)) ≡ true
+stands-here : (m : TableMapping) (f : ℕ) (r : Rights) (k : FrameMapping) → k.root ≡ m.root → k.page / 2 ^ 10 ≡ m.region → lies_in_region m (Frame f r (Some k)) ≡ true
 stands-here m f r k root region = rw (eq-eqb k.root m.root root, eq-eqb (k.page / 2 ^ 10) m.region region) refl
 
 -- what becomes of an entry
-without-inside : (m : TableMapping) (held : Option Entry) → stands_in m (capability_of held) ≡ true → option_map (without_table m) held ≡ option_map unmapped_entry held
+without-inside : (m : TableMapping) (held : Option Entry) → lies_in_region m (capability_of held) ≡ true → option_map (without_table m) held ≡ option_map unmapped_entry held
 without-inside m None inside = refl
 without-inside m (Some held) inside =
     ap (λ (b : Bool). Some (record { capability = if b then unmapped held.capability else held.capability; parent = held.parent })) inside
 
-without-outside : (m : TableMapping) (held : Option Entry) → stands_in m (capability_of held) ≡ false → option_map (without_table m) held ≡ held
+without-outside : (m : TableMapping) (held : Option Entry) → lies_in_region m (capability_of held) ≡ false → option_map (without_table m) held ≡ held
 without-outside m None outside = refl
 without-outside m (Some held) outside =
     ap (λ (b : Bool). Some (record { capability = if b then unmapped held.capability else held.capability; parent = held.parent })) outside
 
-stands-frame : (m : TableMapping) (c : Cap) → frame_mapping c ≡ None → stands_in m c ≡ false
+stands-frame : (m : TableMapping) (c : Cap) → frame_mapping c ≡ None → lies_in_region m c ≡ false
 stands-frame m (Frame f r None) none = refl
 stands-frame m (Frame f r (Some k)) none = absurd (cc)
 stands-frame m (PageTable _ _) none = refl
@@ -194,7 +194,7 @@ stands-frame m (InterruptHandler _) none = refl
 without-unmapped : (m : TableMapping) (held : Option Entry) → option_map (without_table m) (option_map unmapped_entry held) ≡ option_map unmapped_entry held
 without-unmapped m held =
     without-outside m (option_map unmapped_entry held)
-    (ap (stands_in m) (entry-unmapped held) ∙ stands-frame m (unmapped (capability_of held)) (no-frame (capability_of held)))
+    (ap (lies_in_region m) (entry-unmapped held) ∙ stands-frame m (unmapped (capability_of held)) (no-frame (capability_of held)))
 
 -- ---- one slot after another
 
@@ -292,7 +292,7 @@ module _ (old : Slots) (memory : List ℕ) (agree : TablesAgree old memory) (off
       )
 
       -- what does not stand in the region is lost only if it was before
-      lost-before : (y : ℕ) (c : Cap) → y ≢ n → capability_at old y ≡ c → stands_in m c ≡ false → IsMappedIn (GoesBefore old offset (n + 1)) c → IsMappedIn (GoesBefore old offset n) c
+      lost-before : (y : ℕ) (c : Cap) → y ≢ n → capability_at old y ≡ c → lies_in_region m c ≡ false → IsMappedIn (GoesBefore old offset (n + 1)) c → IsMappedIn (GoesBefore old offset n) c
       lost-before y (Frame f r (Some k)) other at outside is = elim (before-split n k.root (k.page / 2 ^ 10) is) [
         | inl earlier ↦ earlier
         | inr here ↦
@@ -316,7 +316,7 @@ module _ (old : Slots) (memory : List ℕ) (agree : TablesAgree old memory) (off
         )
         | inr kept ↦
             let after = ap (option_map (without_table m)) kept.1 in
-            elim (stands_in m (capability_at old y)) as (λ b. stands_in m (capability_at old y) ≡ b → Loses (GoesBefore old offset (n + 1)) old y (option_map (without_table m) (now y))) [
+            elim (lies_in_region m (capability_at old y)) as (λ b. lies_in_region m (capability_at old y) ≡ b → Loses (GoesBefore old offset (n + 1)) old y (option_map (without_table m) (now y))) [
               | true ↦ λ inside. inl (
                 stands-mapped (GoesBefore old offset (n + 1)) m (capability_at old y) inside goes-now,
                 after ∙ without-inside m (old y) inside,

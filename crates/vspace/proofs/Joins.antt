@@ -7,7 +7,7 @@ use Rattle.std.proofs.lemmas.List.FromFn.{get_or-range_with_len, length-range_wi
 use Rattle.model.specs.Kernel.AddressSpaces.{allows, mapped, maps_page, page_of, place_in, place_under}
 use Rattle.model.specs.Shared.Bytes.{word_at}
 use Rattle.model.specs.Capabilities.CapabilityWords.{AreMappingRights, IsCapability}
-use Rattle.model.specs.Kernel.Invocations.{with_slots}
+use Rattle.model.specs.Kernel.State.{with_slots}
 use Rattle.model.specs.Kernel.Scheduling.{head_of}
 use Rattle.model.specs.Capabilities.Slots.{IsFull, Slots, capability_at, is_empty}
 use Rattle.model.specs.Kernel.State.{State, slot_numbers}

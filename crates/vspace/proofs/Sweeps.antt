@@ -1,6 +1,6 @@
 -- What becomes of the slots when the frames of a region are unmapped one after another.
 use Rattle.std.specs.Prelude.{ℕ, ◌≡◌, if◌then◌else◌, nat_lt}
-use Rattle.model.specs.Kernel.Invocations.{without_region}
+use Rattle.model.specs.Kernel.MappingCalls.{without_region}
 use Rattle.model.specs.Capabilities.Slots.{Slots}
 use Rattle.model.specs.declared.capabilities.TableMapping.{TableMapping}
 

@@ -1,11 +1,12 @@
 -- The definition of the call that maps a page table, by what its checks answer, and what its write leaves.
-use Rattle.std.proofs.Common.{◌≡◌, ◌≢◌, ◌∙◌, ℕ, ◌+◌, ◌*◌, ◌/◌, ◌%◌, ◌^◌, ◌<◌, ◌==◌, inl, inr, Bool, true, false, not, Option, Some, None, Result, Ok, Err, List, [], ◌∷◌, refl, sym, ap, subst, arith}
+use Rattle.std.proofs.Common.{◌≡◌, ◌≢◌, ◌∙◌, ℕ, ◌+◌, ◌*◌, ◌/◌, ◌%◌, ◌^◌, ◌<◌, ◌==◌, inl, inr, Bool, true, false, not, Option, Some, None, Result, Ok, Err, List, refl, sym, ap, subst, arith}
 use Rattle.std.specs.Prelude.{nat_lt}
 use Rattle.std.specs.Option.{is_some}
 use Rattle.model.specs.Kernel.AddressSpaces.{address_limit, is_region_taken, maps_region, page_size, region_pages}
 use Rattle.model.specs.Kernel.Arguments.{◌>>=◌, check}
 use Rattle.model.specs.Capabilities.CapabilityWords.{IsCapability, IsTableMapping}
-use Rattle.model.specs.Kernel.Invocations.{map_table, root_named, with_slots}
+use Rattle.model.specs.Kernel.MappingCalls.{map_table, root_named}
+use Rattle.model.specs.Kernel.State.{with_slots}
 use Rattle.model.specs.Capabilities.Slots.{Slots, capability_at, recapped}
 use Rattle.model.specs.Kernel.State.{State}
 use Rattle.model.specs.Machine.Sv32.{table_word}
@@ -13,6 +14,7 @@ use Rattle.model.specs.declared.capabilities.Cap.{Cap}
 use Rattle.model.specs.declared.capabilities.Cap.TheVariants.{Empty, PageTable, RootTable}
 use Rattle.model.specs.declared.capabilities.TableMapping.{TableMapping}
 use Rattle.model.specs.declared.errors.KError.{KError}
+use Rattle.model.specs.declared.invocations.SlotName.{SlotName}
 use Rattle.model.specs.declared.errors.KError.TheVariants.{AlignmentError, DeleteFirst, InvalidArgument}
 use Rattle.model.proofs.SlotChanges.{capability_of}
 use Rattle.vspace.specs.Kept.{SameBesideTables}
@@ -60,12 +62,12 @@ behind_root s slots x t address root =
     (not (is_region_taken (with_slots s slots) root (address / (page_size * region_pages))))
     (Ok (with_slots s (recapped slots x (PageTable t (Some (mapping_of root (address / (page_size * region_pages))))))))
 
-defined : (s : State) (slots : Slots) (cspace : Cap) (caller : Option ℕ) (x t a d address : ℕ) → map_table (with_slots s slots) (table_call cspace caller x t None) (a ∷ d ∷ address ∷ []) ≡ (root_named slots cspace (a ∷ d ∷ []) 0 >>= behind_root s slots x t address)
-defined s slots cspace caller x t a d address = refl
+defined : (s : State) (slots : Slots) (cspace : Cap) (caller : Option ℕ) (x t : ℕ) (n : SlotName) (address : ℕ) → map_table (with_slots s slots) (table_call cspace caller x t None) n address ≡ (root_named slots cspace n >>= behind_root s slots x t address)
+defined s slots cspace caller x t n address = refl
 
-with_root : (s : State) (slots : Slots) (cspace : Cap) (caller : Option ℕ) (x t a d address root : ℕ) → root_named slots cspace (a ∷ d ∷ []) 0 ≡ Ok root → map_table (with_slots s slots) (table_call cspace caller x t None) (a ∷ d ∷ address ∷ []) ≡ behind_root s slots x t address root
-with_root s slots cspace caller x t a d address root is =
-    defined s slots cspace caller x t a d address ∙ ap (λ found. found >>= behind_root s slots x t address) is
+with_root : (s : State) (slots : Slots) (cspace : Cap) (caller : Option ℕ) (x t : ℕ) (n : SlotName) (address root : ℕ) → root_named slots cspace n ≡ Ok root → map_table (with_slots s slots) (table_call cspace caller x t None) n address ≡ behind_root s slots x t address root
+with_root s slots cspace caller x t n address root is =
+    defined s slots cspace caller x t n address ∙ ap (λ found. found >>= behind_root s slots x t address) is
 
 checks-low : (low aligned : Bool) (region found : ℕ) → (let answer : Result ℕ KError = check low InvalidArgument >>= λ _. check aligned AlignmentError >>= λ _. Ok region in answer ≡ Ok found) → (low ≡ true) × (aligned ≡ true) × (region ≡ found)
 checks-low false aligned region found is = absurd cc
@@ -81,19 +83,19 @@ checks-taken low aligned free last a b c = rw (a, b, c) refl
 checks-all : (low aligned free : Bool) (last : Result State KError) → low ≡ true → aligned ≡ true → free ≡ true → checks low aligned free last ≡ last
 checks-all low aligned free last a b c = rw (a, b, c) refl
 
-pub gives-taken : (slots : Slots) (cspace : Cap) (x t : ℕ) (o : Option TableMapping) (a d address root region : ℕ) (e : KError) → is_some o ≡ false → root_named slots cspace (a ∷ d ∷ []) 0 ≡ Ok root → region_named address ≡ Ok region → RegionAnswer slots root region (Err e) → let refused : Result (Unit {0}) KError = Err e in GivesTableMapped slots cspace x t o (a ∷ d ∷ address ∷ []) slots refused
-gives-taken slots cspace x t (Some m) a d address root region e absent is named answer = absurd cc
-gives-taken slots cspace x t None a d address root region e absent is named answer = λ s caller near.
+pub gives-taken : (slots : Slots) (cspace : Cap) (x t : ℕ) (o : Option TableMapping) (n : SlotName) (address root region : ℕ) (e : KError) → is_some o ≡ false → root_named slots cspace n ≡ Ok root → region_named address ≡ Ok region → RegionAnswer slots root region (Err e) → let refused : Result (Unit {0}) KError = Err e in GivesTableMapped slots cspace x t o n address slots refused
+gives-taken slots cspace x t (Some m) n address root region e absent is named answer = absurd cc
+gives-taken slots cspace x t None n address root region e absent is named answer = λ s caller near.
     let low = low_region address region named in
     let last : Result State KError = Ok (with_slots s (recapped slots x (PageTable t (Some (mapping_of root (address / (page_size * region_pages))))))) in
     let held : not (is_region_taken (with_slots s slots) root (address / (page_size * region_pages))) ≡ false =
     ap (λ (p : ℕ). not (is_region_taken (with_slots s slots) root p)) low.2 ∙ ap not (region-taken s slots root region answer.1.0 near answer.1.1) in
-    with_root s slots cspace caller x t a d address root is
+    with_root s slots cspace caller x t n address root is
     ∙ checks-taken _ _ _ last low.0 low.1 held ∙ ap (λ (k : KError). Err k) (sym answer.0)
 
-pub gives-table : (slots : Slots) (memory : List ℕ) (cspace : Cap) (x t : ℕ) (o : Option TableMapping) (a d address root region place : ℕ) → TablesAgree slots memory → is_some o ≡ false → root_named slots cspace (a ∷ d ∷ []) 0 ≡ Ok root → region_named address ≡ Ok region → region < 2 ^ 9 → FreePointer slots root region place → TableMappingAnswer slots cspace x t o (a ∷ d ∷ address ∷ []) (Ok (place, record { root = root; region = region }))
-gives-table slots memory cspace x t (Some m) a d address root region place agree absent is named near entry = absurd cc
-gives-table slots memory cspace x t None a d address root region place agree absent is named near entry =
+pub gives-table : (slots : Slots) (memory : List ℕ) (cspace : Cap) (x t : ℕ) (o : Option TableMapping) (n : SlotName) (address root region place : ℕ) → TablesAgree slots memory → is_some o ≡ false → root_named slots cspace n ≡ Ok root → region_named address ≡ Ok region → region < 2 ^ 9 → FreePointer slots root region place → TableMappingAnswer slots cspace x t o n address (Ok (place, record { root = root; region = region }))
+gives-table slots memory cspace x t (Some m) n address root region place agree absent is named near entry = absurd cc
+gives-table slots memory cspace x t None n address root region place agree absent is named near entry =
     let fine : IsCapability (RootTable root) = subst (λ (c : Cap). IsCapability c) entry.rooted.1 (agree.valid entry.rooted.0) in
     let low = low_region address region named in (
       refl,
@@ -103,7 +105,7 @@ gives-table slots memory cspace x t None a d address root region place agree abs
           let last : Result State KError = Ok (with_slots s (recapped slots x (PageTable t (Some (mapping_of root (address / (page_size * region_pages))))))) in
           let free : not (is_region_taken (with_slots s slots) root (address / (page_size * region_pages))) ≡ true =
           ap (λ (p : ℕ). not (is_region_taken (with_slots s slots) root p)) low.2 ∙ ap not (holds-none s slots (maps_region root region) entry.free) in
-          with_root s slots cspace caller x t a d address root is
+          with_root s slots cspace caller x t n address root is
           ∙ checks-all _ _ _ last low.0 low.1 free
           ∙ ap (λ (p : ℕ). Ok (with_slots s (recapped slots x (PageTable t (Some (mapping_of root p)))))) low.2,
     )

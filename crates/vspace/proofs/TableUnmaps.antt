@@ -5,7 +5,7 @@ use Rattle.std.specs.Option.{option_map}
 use Rattle.std.proofs.lemmas.Bool.{eq-eqb}
 use Rattle.model.specs.Capabilities.CapabilityKinds.{unmapped}
 use Rattle.model.specs.Capabilities.CapabilityWords.{IsCapability}
-use Rattle.model.specs.Kernel.Invocations.{stands_in, without_region, without_table}
+use Rattle.model.specs.Kernel.MappingCalls.{lies_in_region, without_region, without_table}
 use Rattle.model.specs.Capabilities.Slots.{Slots, capability_at, recapped}
 use Rattle.model.specs.declared.capabilities.Cap.{Cap}
 use Rattle.model.specs.declared.capabilities.Cap.TheVariants.{Empty, Untyped, Endpoint, Notification, CNode, Frame, PageTable, Tcb, RootTable, InterruptControl, InterruptHandler}
@@ -19,7 +19,7 @@ use Rattle.vspace.proofs.TableRemovals.{TableRemoval, agree-table_unmapped}
 use Rattle.vspace.proofs.Writes.{Written, same-outside}
 
 -- what is unmapped stands in no region
-unmapped-stands : (m : TableMapping) (c : Cap) → stands_in m (unmapped c) ≡ false
+unmapped-stands : (m : TableMapping) (c : Cap) → lies_in_region m (unmapped c) ≡ false
 unmapped-stands m (Frame f r o) = refl
 unmapped-stands m (PageTable _ _) = refl
 unmapped-stands m Empty = refl
@@ -32,10 +32,10 @@ unmapped-stands m (RootTable _) = refl
 unmapped-stands m InterruptControl = refl
 unmapped-stands m (InterruptHandler _) = refl
 
-cleared-stands : (m : TableMapping) (held : Option Entry) → stands_in m (capability_of (option_map (without_table m) held)) ≡ false
+cleared-stands : (m : TableMapping) (held : Option Entry) → lies_in_region m (capability_of (option_map (without_table m) held)) ≡ false
 cleared-stands m None = refl
 cleared-stands m (Some held) =
-    elim (stands_in m held.capability) as (λ b. stands_in m held.capability ≡ b → stands_in m (if b then unmapped held.capability else held.capability) ≡ false) [
+    elim (lies_in_region m held.capability) as (λ b. lies_in_region m held.capability ≡ b → lies_in_region m (if b then unmapped held.capability else held.capability) ≡ false) [
       | true ↦ λ inside. unmapped-stands m held.capability
       | false ↦ λ outside. outside
     ] refl
@@ -44,7 +44,7 @@ cleared-stands m (Some held) =
 cleared-table : (m : TableMapping) (held : Option Entry) (t : ℕ) (o : Option TableMapping) → capability_of held ≡ PageTable t o → capability_of (option_map (without_table m) held) ≡ PageTable t o
 cleared-table m None t o is = is
 cleared-table m (Some held) t o is =
-    ap (λ (c : Cap). if stands_in m c then unmapped c else c) is
+    ap (λ (c : Cap). if lies_in_region m c then unmapped c else c) is
 
 cleared-parent : (m : TableMapping) (held : Option Entry) → parent_of (option_map (without_table m) held) ≡ parent_of held
 cleared-parent m None = refl
@@ -58,9 +58,9 @@ table-held old now m x t o cleared held = ap capability_of (cleared x) ∙ clear
 
 pub region-empty : (old now : Slots) (m : TableMapping) → Cleared old now m → (y f : ℕ) (r : Rights) (n : FrameMapping) → capability_at now y ≡ Frame f r (Some n) → n.root ≡ m.root → n.page / 2 ^ 10 ≡ m.region → ⊥
 region-empty old now m cleared y f r n held root region =
-    let outside : stands_in m (capability_at now y) ≡ false = ap (λ (e : Option Entry). stands_in m (capability_of e)) (cleared y) ∙ cleared-stands m (old y) in
-    let inside : stands_in m (Frame f r (Some n)) ≡ true = rw (eq-eqb n.root m.root root, eq-eqb (n.page / 2 ^ 10) m.region region) refl in
-    let there : stands_in m (capability_at now y) ≡ true = ap (stands_in m) held ∙ inside in
+    let outside : lies_in_region m (capability_at now y) ≡ false = ap (λ (e : Option Entry). lies_in_region m (capability_of e)) (cleared y) ∙ cleared-stands m (old y) in
+    let inside : lies_in_region m (Frame f r (Some n)) ≡ true = rw (eq-eqb n.root m.root root, eq-eqb (n.page / 2 ^ 10) m.region region) refl in
+    let there : lies_in_region m (capability_at now y) ≡ true = ap (lies_in_region m) held ∙ inside in
     cc
 
 -- ---- the write

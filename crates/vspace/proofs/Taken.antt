@@ -8,7 +8,7 @@ use Rattle.model.specs.Shared.Bytes.{word_at}
 use Rattle.model.specs.Capabilities.CapabilityWords.{IsCapability}
 use Rattle.model.specs.Capabilities.Slots.{IsFull, Slots, capability_at}
 use Rattle.model.specs.Kernel.State.{State, holds_some, slot_numbers}
-use Rattle.model.specs.Kernel.Invocations.{with_slots}
+use Rattle.model.specs.Kernel.State.{with_slots}
 use Rattle.model.specs.Machine.Sv32.{entry_at, leaf_word, table_word}
 use Rattle.model.specs.declared.capabilities.Cap.{Cap}
 use Rattle.model.specs.declared.capabilities.Cap.TheVariants.{Empty, Untyped, Endpoint, Notification, CNode, Frame, PageTable, Tcb, RootTable, InterruptControl, InterruptHandler}

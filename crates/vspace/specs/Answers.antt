@@ -1,9 +1,11 @@
 -- What the calls on mappings answer: as the definitions of the invocations say of every state with these slots.
-use Rattle.std.specs.Prelude.{ℕ, ◌≡◌, ◌==◌, ◌+◌, ◌*◌, ◌/◌, ◌%◌, ◌^◌, ◌⊎◌, false, nat_lt, List, Option, Some, None, Result, Ok, Err}
+use Rattle.std.specs.Prelude.{ℕ, ◌≡◌, ◌==◌, ◌+◌, ◌*◌, ◌/◌, ◌%◌, ◌^◌, ◌⊎◌, false, nat_lt, Option, Some, None, Result, Ok, Err}
 use Rattle.model.specs.Kernel.AddressSpaces.{address_limit, maps_page, maps_region, page_size}
 use Rattle.model.specs.Kernel.Arguments.{◌>>=◌, check}
 use Rattle.model.specs.Capabilities.CapabilityWords.{IsFrameMapping}
-use Rattle.model.specs.Kernel.Invocations.{Call, map_frame, with_slots}
+use Rattle.model.specs.Kernel.Arguments.{Call}
+use Rattle.model.specs.Kernel.MappingCalls.{map_frame}
+use Rattle.model.specs.Kernel.State.{with_slots}
 use Rattle.model.specs.Capabilities.Slots.{Slots, capability_at, recapped}
 use Rattle.model.specs.Kernel.State.{State}
 use Rattle.model.specs.declared.capabilities.Cap.{Cap}
@@ -11,6 +13,7 @@ use Rattle.model.specs.declared.capabilities.Cap.TheVariants.{Frame}
 use Rattle.model.specs.declared.capabilities.FrameMapping.{FrameMapping}
 use Rattle.model.specs.declared.errors.KError.{KError}
 use Rattle.model.specs.declared.errors.KError.TheVariants.{AlignmentError, DeleteFirst, FailedLookup, InvalidArgument}
+use Rattle.model.specs.declared.invocations.SlotName.{SlotName}
 use Rattle.model.specs.declared.rights.Rights.{Rights}
 use Rattle.vspace.specs.Tables.{AreNear, MapsFrame, MapsTable}
 
@@ -50,18 +53,18 @@ frame_call cspace caller slot offset r mapping =
     record { root = cspace; caller = caller; slot = slot; capability = Frame offset r mapping }
 
 -- what a call that maps a frame gives, in every state with these slots
-abbrev pub GivesMapped : Slots → Cap → ℕ → ℕ → Rights → Option FrameMapping → List ℕ → Slots → {A : Type 0} → Result A KError → Type 0
-GivesMapped slots cspace slot offset r mapping words after result =
+abbrev pub GivesMapped : Slots → Cap → ℕ → ℕ → Rights → Option FrameMapping → SlotName → ℕ → ℕ → Slots → {A : Type 0} → Result A KError → Type 0
+GivesMapped slots cspace slot offset r mapping root_name address rights_word after result =
     (s : State) (caller : Option ℕ) → AreNear s slots
-    → Gives (map_frame (with_slots s slots) (frame_call cspace caller slot offset r mapping) r words) s after result
+    → Gives (map_frame (with_slots s slots) (frame_call cspace caller slot offset r mapping) r root_name address rights_word) s after result
 
 -- whether a frame can be mapped: the place of the leaf, and the mapping
-abbrev pub MappingAnswer : Slots → Cap → ℕ → ℕ → Rights → Option FrameMapping → List ℕ → Result (ℕ × FrameMapping) KError → Type 0
-MappingAnswer slots cspace slot offset r mapping words (Ok found) =
+abbrev pub MappingAnswer : Slots → Cap → ℕ → ℕ → Rights → Option FrameMapping → SlotName → ℕ → ℕ → Result (ℕ × FrameMapping) KError → Type 0
+MappingAnswer slots cspace slot offset r mapping root_name address rights_word (Ok found) =
     (mapping ≡ None) × FreeEntry slots found.1.root found.1.page found.0 × IsFrameMapping (Some found.1)
-    × GivesMapped slots cspace slot offset r mapping words (recapped slots slot (Frame offset r (Some found.1))) (Ok found)
-MappingAnswer slots cspace slot offset r mapping words (Err e) =
-    let refused : Result (Unit {0}) KError = Err e in GivesMapped slots cspace slot offset r mapping words slots refused
+    × GivesMapped slots cspace slot offset r mapping root_name address rights_word (recapped slots slot (Frame offset r (Some found.1))) (Ok found)
+MappingAnswer slots cspace slot offset r mapping root_name address rights_word (Err e) =
+    let refused : Result (Unit {0}) KError = Err e in GivesMapped slots cspace slot offset r mapping root_name address rights_word slots refused
 
 -- the place of the leaf of a frame that is mapped
 abbrev pub LeafAnswer : Slots → Option FrameMapping → Option ℕ → Type 0

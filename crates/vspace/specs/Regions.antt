@@ -1,6 +1,7 @@
 -- What unmapping the frames of a region leaves in the slots.
 use Rattle.std.specs.Prelude.{ℕ, ◌==◌, if◌then◌else◌, Option, None}
-use Rattle.model.specs.Kernel.Invocations.{Call, unmap_frame, unmap_table, without_region}
+use Rattle.model.specs.Kernel.Arguments.{Call}
+use Rattle.model.specs.Kernel.MappingCalls.{unmap_frame, unmap_table, without_region}
 use Rattle.model.specs.Kernel.State.{State}
 use Rattle.std.specs.Option.{option_map_or}
 use Rattle.model.specs.declared.capabilities.Cap.{Cap}

@@ -1,9 +1,11 @@
 -- What the call that maps a page table answers: as the definition of the invocation says of every state with these slots.
-use Rattle.std.specs.Prelude.{ℕ, ◌≡◌, ◌==◌, ◌+◌, ◌*◌, ◌/◌, ◌%◌, nat_lt, List, Option, Some, None, Result, Ok, Err}
+use Rattle.std.specs.Prelude.{ℕ, ◌≡◌, ◌==◌, ◌+◌, ◌*◌, ◌/◌, ◌%◌, nat_lt, Option, Some, None, Result, Ok, Err}
 use Rattle.model.specs.Kernel.AddressSpaces.{address_limit, page_size, region_pages}
 use Rattle.model.specs.Kernel.Arguments.{◌>>=◌, check}
 use Rattle.model.specs.Capabilities.CapabilityWords.{IsTableMapping}
-use Rattle.model.specs.Kernel.Invocations.{Call, map_table, with_slots}
+use Rattle.model.specs.Kernel.Arguments.{Call}
+use Rattle.model.specs.Kernel.MappingCalls.{map_table}
+use Rattle.model.specs.Kernel.State.{with_slots}
 use Rattle.model.specs.Capabilities.Slots.{Slots, recapped}
 use Rattle.model.specs.Kernel.State.{State}
 use Rattle.model.specs.declared.capabilities.Cap.{Cap}
@@ -11,6 +13,7 @@ use Rattle.model.specs.declared.capabilities.Cap.TheVariants.{PageTable, RootTab
 use Rattle.model.specs.declared.capabilities.TableMapping.{TableMapping}
 use Rattle.model.specs.declared.errors.KError.{KError}
 use Rattle.model.specs.declared.errors.KError.TheVariants.{AlignmentError, DeleteFirst, InvalidArgument}
+use Rattle.model.specs.declared.invocations.SlotName.{SlotName}
 use Rattle.vspace.specs.Answers.{Gives, IsRegionFree}
 use Rattle.vspace.specs.Tables.{AreNear, Holds, MapsTable}
 
@@ -38,15 +41,15 @@ table_call cspace caller slot offset mapping =
     record { root = cspace; caller = caller; slot = slot; capability = PageTable offset mapping }
 
 -- what a call that maps a page table gives, in every state with these slots
-abbrev pub GivesTableMapped : Slots → Cap → ℕ → ℕ → Option TableMapping → List ℕ → Slots → {A : Type 0} → Result A KError → Type 0
-GivesTableMapped slots cspace slot offset mapping words after result =
+abbrev pub GivesTableMapped : Slots → Cap → ℕ → ℕ → Option TableMapping → SlotName → ℕ → Slots → {A : Type 0} → Result A KError → Type 0
+GivesTableMapped slots cspace slot offset mapping root_name address after result =
     (s : State) (caller : Option ℕ) → AreNear s slots
-    → Gives (map_table (with_slots s slots) (table_call cspace caller slot offset mapping) words) s after result
+    → Gives (map_table (with_slots s slots) (table_call cspace caller slot offset mapping) root_name address) s after result
 
 -- whether a page table can be mapped: the place of the pointer, and the mapping
-abbrev pub TableMappingAnswer : Slots → Cap → ℕ → ℕ → Option TableMapping → List ℕ → Result (ℕ × TableMapping) KError → Type 0
-TableMappingAnswer slots cspace slot offset mapping words (Ok found) =
+abbrev pub TableMappingAnswer : Slots → Cap → ℕ → ℕ → Option TableMapping → SlotName → ℕ → Result (ℕ × TableMapping) KError → Type 0
+TableMappingAnswer slots cspace slot offset mapping root_name address (Ok found) =
     (mapping ≡ None) × FreePointer slots found.1.root found.1.region found.0 × IsTableMapping (Some found.1)
-    × GivesTableMapped slots cspace slot offset mapping words (recapped slots slot (PageTable offset (Some found.1))) (Ok found)
-TableMappingAnswer slots cspace slot offset mapping words (Err e) =
-    let refused : Result (Unit {0}) KError = Err e in GivesTableMapped slots cspace slot offset mapping words slots refused
+    × GivesTableMapped slots cspace slot offset mapping root_name address (recapped slots slot (PageTable offset (Some found.1))) (Ok found)
+TableMappingAnswer slots cspace slot offset mapping root_name address (Err e) =
+    let refused : Result (Unit {0}) KError = Err e in GivesTableMapped slots cspace slot offset mapping root_name address slots refused

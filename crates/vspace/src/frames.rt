@@ -2,7 +2,9 @@
 
 ghost use Rattle.std.specs.Prelude.{◌≡◌, ◌<◌, ◌≤◌, ◌/◌, ◌*◌, ◌^◌, ◌||◌, ◌⊎◌, [], ◌∷◌, ◌+◌, None, IfErr, IfOk, length};
 ghost use Rattle.model.specs.Capabilities.CapabilityWords.{AreMappingRights, IsCapability, IsPlace};
-ghost use Rattle.model.specs.Kernel.Invocations.{Call, unmap_frame, with_slots};
+ghost use Rattle.model.specs.Kernel.Arguments.{Call};
+ghost use Rattle.model.specs.Kernel.MappingCalls.{unmap_frame};
+ghost use Rattle.model.specs.Kernel.State.{with_slots};
 ghost use Rattle.model.specs.Capabilities.Rights.{may_execute, may_read, mapping_rights};
 ghost use Rattle.model.specs.Capabilities.Slots.{capability_at, recapped};
 ghost use Rattle.model.specs.Kernel.State.{State};
@@ -15,8 +17,7 @@ use crate::arguments::root_named;
 use crate::sizes::{ADDRESS_LIMIT, PAGE_SIZE, REGION_PAGES};
 use crate::tables::{is_taken, table_in};
 use bitflags::Flags;
-use cspace::SlotName;
-use model::{Cap, FrameMapping, KError, Rights, Slot};
+use model::{Cap, FrameMapping, KError, Rights, Slot, SlotName};
 use slots::SlotStore;
 use sv32::Pte;
 
@@ -98,7 +99,7 @@ fn mapping_for<S: SlotStore>(
     requires valid { IsCapability cspace }
     requires agree { TablesAgree (S.slots store.now) (S.memory store.now) }
     ensures answer { MappingAnswer (S.slots store.now) cspace frame.slot frame.offset frame.rights
-        frame.mapping (root.address ∷ root.depth ∷ address ∷ rights ∷ []) result }
+        frame.mapping root address rights result }
 {
     if frame.mapping.is_some() {
         return Err(KError::InvalidCapability);
@@ -160,7 +161,7 @@ pub fn map_frame<S: SlotStore>(
         ≡ Cap.Frame frame.offset frame.rights frame.mapping }
     requires within { frame.offset + 2 ^ 12 ≤ length (S.memory store.old) }
     ensures outcome { GivesMapped (S.slots store.old) cspace frame.slot frame.offset frame.rights
-        frame.mapping (root.address ∷ root.depth ∷ address ∷ rights ∷ []) (S.slots store.new) result }
+        frame.mapping root address rights (S.slots store.new) result }
     ensures unchanged { IfErr result (λ _. (S.slots store.new ≡ S.slots store.old)
         × (S.memory store.new ≡ S.memory store.old)) }
     ensures bytes { SameBesideTables (S.slots store.old) (S.memory store.old) (S.memory store.new) }

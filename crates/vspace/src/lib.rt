@@ -19,9 +19,9 @@ pub use agreement::{
     bytes_beside_tables_may_change, bytes_of_slots_may_change, slots_may_be_closed,
     slots_may_be_opened, what_may_be_put_stays_so,
 };
-pub use cspace::SlotName;
 pub use endings::end_tables;
 pub use frames::{FrameCap, map_frame, unmap_frame};
+pub use model::SlotName;
 pub use page_tables::{PageTableCap, map_table, unmap_table};
 pub use removals::unmap_cap;
 pub use spaces::place_under;

@@ -2,7 +2,9 @@
 
 ghost use Rattle.std.specs.Prelude.{ℕ, ◌≡◌, ◌<◌, ◌≤◌, ◌/◌, ◌*◌, ◌^◌, [], ◌∷◌, ◌+◌, IfErr, IfOk, length};
 ghost use Rattle.model.specs.Capabilities.CapabilityWords.{IsCapability, IsPlace};
-ghost use Rattle.model.specs.Kernel.Invocations.{Call, unmap_table, with_slots};
+ghost use Rattle.model.specs.Kernel.Arguments.{Call};
+ghost use Rattle.model.specs.Kernel.MappingCalls.{unmap_table};
+ghost use Rattle.model.specs.Kernel.State.{with_slots};
 ghost use Rattle.model.specs.Capabilities.Slots.{capability_at};
 ghost use Rattle.model.specs.Kernel.State.{State};
 ghost use Rattle.model.specs.Machine.Sv32.{table_word};
@@ -15,8 +17,7 @@ use crate::arguments::root_named;
 use crate::regions::clear_region;
 use crate::sizes::{ADDRESS_LIMIT, REGION_SIZE};
 use crate::tables::table_in;
-use cspace::SlotName;
-use model::{Cap, KError, Slot, TableMapping};
+use model::{Cap, KError, Slot, SlotName, TableMapping};
 use slots::SlotStore;
 use sv32::Pte;
 
@@ -66,7 +67,7 @@ fn mapping_for<S: SlotStore>(
     requires valid { IsCapability cspace }
     requires agree { TablesAgree (S.slots store.now) (S.memory store.now) }
     ensures answer { TableMappingAnswer (S.slots store.now) cspace table.slot table.offset table.mapping
-        (root.address ∷ root.depth ∷ address ∷ []) result }
+        root address result }
 {
     if table.mapping.is_some() {
         return Err(KError::InvalidCapability);
@@ -105,7 +106,7 @@ pub fn map_table<S: SlotStore>(
     requires held { capability_at (S.slots store.old) table.slot
         ≡ Cap.PageTable table.offset table.mapping }
     ensures outcome { GivesTableMapped (S.slots store.old) cspace table.slot table.offset table.mapping
-        (root.address ∷ root.depth ∷ address ∷ []) (S.slots store.new) result }
+        root address (S.slots store.new) result }
     ensures unchanged { IfErr result (λ _. (S.slots store.new ≡ S.slots store.old)
         × (S.memory store.new ≡ S.memory store.old)) }
     ensures bytes { SameBesideTables (S.slots store.old) (S.memory store.old) (S.memory store.new) }

@@ -1,7 +1,7 @@
 //! Unmapping the frames of a region.
 
 ghost use Rattle.std.specs.Prelude.{ℕ, ◌≡◌, ◌≢◌, ◌+◌, ◌*◌, ◌≤◌, length};
-ghost use Rattle.model.specs.Kernel.Invocations.{stands_in, without_region};
+ghost use Rattle.model.specs.Kernel.MappingCalls.{lies_in_region, without_region};
 ghost use Rattle.vspace.specs.Kept.{SameBesideTables};
 ghost use Rattle.vspace.specs.Regions.{cleared_at};
 ghost use Rattle.vspace.specs.Tables.{TablesAgree};
@@ -13,7 +13,7 @@ use slots::SlotStore;
 
 /// Whether a capability maps a frame in the region of a page table.
 fn stands_in(held: Cap, region: TableMapping) -> bool
-    ensures { result ≡ stands_in region held }
+    ensures { result ≡ lies_in_region region held }
 {
     match held {
         Cap::Frame {

@@ -1,7 +1,8 @@
 //! What a removal asks for.
 
 ghost use Rattle.std.specs.Prelude.{ℕ, ◌≡◌, ◌+◌, ◌*◌, ◌≤◌, length};
-ghost use Rattle.model.specs.Kernel.Invocations.{Call, with_slots};
+ghost use Rattle.model.specs.Kernel.Arguments.{Call};
+ghost use Rattle.model.specs.Kernel.State.{with_slots};
 ghost use Rattle.model.specs.Capabilities.Slots.{capability_at};
 ghost use Rattle.model.specs.Kernel.State.{State};
 ghost use Rattle.vspace.specs.Regions.{without_mapping, without_mapping_at};

@@ -3,7 +3,7 @@
 ghost use Rattle.std.specs.Prelude.{◌≡◌};
 ghost use Rattle.std.specs.Option.{ok_or};
 ghost use Rattle.model.specs.Kernel.AddressSpaces.{place_under};
-ghost use Rattle.model.specs.Kernel.Invocations.{with_slots};
+ghost use Rattle.model.specs.Kernel.State.{with_slots};
 ghost use Rattle.model.specs.Kernel.State.{State};
 ghost use Rattle.model.specs.Machine.Sv32.{page_fault};
 ghost use Rattle.vspace.specs.Tables.{AreNear, Holds, TablesAgree};

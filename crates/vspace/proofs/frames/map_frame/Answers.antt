@@ -1,6 +1,6 @@
 -- The leaf is written, and the capability says so.
 use Rattle.std.proofs.Common.{◌∙◌, ◌%◌, ◌^◌, Ok, Some, sym, ap}
-use Rattle.model.specs.Kernel.Invocations.{with_slots}
+use Rattle.model.specs.Kernel.State.{with_slots}
 use Rattle.model.specs.Capabilities.Slots.{Slots, recapped}
 use Rattle.model.specs.declared.capabilities.Cap.TheVariants.{Frame}
 use Rattle.vspace.proofs.FrameSteps.{index_small}

@@ -1,7 +1,9 @@
 -- The leaf is zero, and the capability says that it is not mapped.
 use Rattle.std.proofs.Common.{◌≡◌, ◌∙◌, ℕ, ◌%◌, ◌^◌, Option, None, sym, ap}
 use Rattle.model.specs.Capabilities.CapabilityKinds.{unmapped}
-use Rattle.model.specs.Kernel.Invocations.{Call, unmap_frame, with_slots}
+use Rattle.model.specs.Kernel.Arguments.{Call}
+use Rattle.model.specs.Kernel.MappingCalls.{unmap_frame}
+use Rattle.model.specs.Kernel.State.{with_slots}
 use Rattle.model.specs.Capabilities.Slots.{Slots, recapped}
 use Rattle.model.specs.Kernel.State.{State}
 use Rattle.model.specs.declared.capabilities.Cap.{Cap}
