@@ -27,6 +27,7 @@ fn end_table<S: SlotStore>(store: &mut S, slot: Slot, offset: u32)
     requires agree { TablesAgree (S.slots store.old) (S.memory store.old) }
     ensures slots { (y : ℕ) → S.slots store.new y ≡ ended_at (S.slots store.old) slot offset y }
     ensures bytes { SameBesideTables (S.slots store.old) (S.memory store.old) (S.memory store.new) }
+    ensures order { S.order store.new ≡ S.order store.old }
     ensures agree { TablesAgree (S.slots store.new) (S.memory store.new) }
 {
     let held = store.capability(slot);
@@ -56,6 +57,7 @@ pub fn end_tables<S: SlotStore>(store: &mut S, offset: u32)
     ensures slots { (y : ℕ) → Ended (S.slots store.old) offset y (S.slots store.new y) }
     ensures gone { NoneUnder (S.slots store.new) offset }
     ensures bytes { SameBesideTables (S.slots store.old) (S.memory store.old) (S.memory store.new) }
+    ensures order { S.order store.new ≡ S.order store.old }
     ensures agree { TablesAgree (S.slots store.new) (S.memory store.new) }
 {
     let count = store.count();

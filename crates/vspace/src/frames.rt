@@ -165,6 +165,7 @@ pub fn map_frame<S: SlotStore>(
     ensures unchanged { IfErr result (λ _. (S.slots store.new ≡ S.slots store.old)
         × (S.memory store.new ≡ S.memory store.old)) }
     ensures bytes { SameBesideTables (S.slots store.old) (S.memory store.old) (S.memory store.new) }
+    ensures order { S.order store.new ≡ S.order store.old }
     ensures agree { TablesAgree (S.slots store.new) (S.memory store.new) }
 {
     let slot = frame.slot;
@@ -196,6 +197,7 @@ pub fn unmap_frame<S: SlotStore>(store: &mut S, frame: FrameCap)
     ensures slots { S.slots store.new
         ≡ recapped (S.slots store.old) frame.slot (Cap.Frame frame.offset frame.rights None) }
     ensures bytes { SameBesideTables (S.slots store.old) (S.memory store.old) (S.memory store.new) }
+    ensures order { S.order store.new ≡ S.order store.old }
     ensures agree { TablesAgree (S.slots store.new) (S.memory store.new) }
 {
     let slot = frame.slot;

@@ -110,6 +110,7 @@ pub fn map_table<S: SlotStore>(
     ensures unchanged { IfErr result (λ _. (S.slots store.new ≡ S.slots store.old)
         × (S.memory store.new ≡ S.memory store.old)) }
     ensures bytes { SameBesideTables (S.slots store.old) (S.memory store.old) (S.memory store.new) }
+    ensures order { S.order store.new ≡ S.order store.old }
     ensures agree { TablesAgree (S.slots store.new) (S.memory store.new) }
 {
     let slot = table.slot;
@@ -139,6 +140,7 @@ pub fn unmap_table<S: SlotStore>(store: &mut S, table: PageTableCap)
     ensures slots { (y : ℕ) → S.slots store.new y
         ≡ unmapped_at (S.slots store.old) table.slot (Cap.PageTable table.offset table.mapping) y }
     ensures bytes { SameBesideTables (S.slots store.old) (S.memory store.old) (S.memory store.new) }
+    ensures order { S.order store.new ≡ S.order store.old }
     ensures agree { TablesAgree (S.slots store.new) (S.memory store.new) }
 {
     let slot = table.slot;

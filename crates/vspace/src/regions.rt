@@ -29,6 +29,7 @@ fn clear_frame<S: SlotStore>(store: &mut S, slot: Slot, region: TableMapping)
     requires { TablesAgree (S.slots store.old) (S.memory store.old) }
     ensures slots { (y : ℕ) → S.slots store.new y ≡ cleared_at (S.slots store.old) slot region y }
     ensures bytes { SameBesideTables (S.slots store.old) (S.memory store.old) (S.memory store.new) }
+    ensures order { S.order store.new ≡ S.order store.old }
     ensures agree { TablesAgree (S.slots store.new) (S.memory store.new) }
 {
     let held = store.capability(slot);
@@ -57,6 +58,7 @@ pub(crate) fn clear_region<S: SlotStore>(store: &mut S, region: TableMapping)
     requires agree { TablesAgree (S.slots store.old) (S.memory store.old) }
     ensures slots { (y : ℕ) → S.slots store.new y ≡ without_region (S.slots store.old) region y }
     ensures bytes { SameBesideTables (S.slots store.old) (S.memory store.old) (S.memory store.new) }
+    ensures order { S.order store.new ≡ S.order store.old }
     ensures agree { TablesAgree (S.slots store.new) (S.memory store.new) }
 {
     let count = store.count();

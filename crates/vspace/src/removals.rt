@@ -25,6 +25,7 @@ pub fn unmap_cap<S: SlotStore>(store: &mut S, slot: Slot)
     ensures slots { (y : ℕ) → S.slots store.new y ≡ without_mapping_at (S.slots store.old) slot
         (capability_at (S.slots store.old) slot) y }
     ensures bytes { SameBesideTables (S.slots store.old) (S.memory store.old) (S.memory store.new) }
+    ensures order { S.order store.new ≡ S.order store.old }
     ensures agree { TablesAgree (S.slots store.new) (S.memory store.new) }
 {
     match store.capability(slot) {

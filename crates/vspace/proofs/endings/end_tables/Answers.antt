@@ -1,5 +1,5 @@
 -- Each turn of the loop ends the page table of one slot more; all full slots stand below the end of memory.
-use Rattle.std.proofs.Common.{◌∙◌, ℕ, ap, arith}
+use Rattle.std.proofs.Common.{◌∙◌, ℕ, ap, arith, refl}
 use Rattle.model.proofs.Ancestors.{full-open}
 use Rattle.vspace.specs.Endings.{ended_at}
 use Rattle.vspace.proofs.BytesBeside.{beside-same, beside-then, fewer-ended}
@@ -10,6 +10,7 @@ pub slots-init : goal.slots-init
 slots-init g c = record {
   ended = ended-none (g.S.SlotMap.slots c.args.store.now) (g.S.SlotStore.memory c.args.store.now) c.requires.agree c.args.offset;
   bytes = beside-same (g.S.SlotMap.slots c.args.store.now) (g.S.SlotStore.memory c.args.store.now);
+  order = refl;
   agree = c.requires.agree;
 }
 
@@ -21,6 +22,7 @@ slots-preserved g c =
       ended = ended-next old (g.S.SlotStore.memory c.args.store.now) c.requires.agree c.args.offset now c.slots.number c.slots.invariant.ended (g.S.SlotMap.slots c.end_table.new.store) (λ y.
           c.end_table.ensures.slots y ∙ ap (λ (n : ℕ). ended_at now n c.args.offset y) c.new.ensures);
       bytes = beside-then old now (g.S.SlotStore.memory c.args.store.now) (g.S.SlotStore.memory c.slots.store) (g.S.SlotStore.memory c.end_table.new.store) (fewer-ended old now c.args.offset c.slots.number c.slots.invariant.ended) c.slots.invariant.bytes c.end_table.ensures.bytes;
+      order = c.end_table.ensures.order ∙ c.slots.invariant.order;
       agree = c.end_table.ensures.agree;
     }
 

@@ -1,5 +1,5 @@
 -- Each turn keeps the bytes beside slots and page tables.
-use Rattle.std.proofs.Common.{arith}
+use Rattle.std.proofs.Common.{◌∙◌, arith}
 use Rattle.vspace.proofs.BytesBeside.{beside-then, fewer-swept, swept-all, swept-next}
 use Rattle.vspace.proofs.regions.clear_region.Goals as goal
 
@@ -10,6 +10,7 @@ slots-preserved g c =
     record {
       swept = swept-next old now (g.S.SlotMap.slots c.clear_frame.new.store) c.args.region c.new.result c.slots.number c.slots.invariant.swept c.new.ensures c.clear_frame.ensures.slots;
       bytes = beside-then old now (g.S.SlotStore.memory c.args.store.now) (g.S.SlotStore.memory c.slots.store) (g.S.SlotStore.memory c.clear_frame.new.store) (fewer-swept old now c.args.region c.slots.number c.slots.invariant.swept) c.slots.invariant.bytes c.clear_frame.ensures.bytes;
+      order = c.clear_frame.ensures.order ∙ c.slots.invariant.order;
       agree = c.clear_frame.ensures.agree;
     }
 
