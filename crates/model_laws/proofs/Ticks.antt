@@ -56,7 +56,7 @@ runs-own : (o : Option ThreadState) (priority : ℕ) → 1 ≤ (if option_map_or
 runs-own None priority some = absurd (omega (arith, some))
 runs-own (Some t) priority some =
     elim (is_runnable t.status && t.priority == priority) as (λ b. (is_runnable t.status && t.priority == priority) ≡ b → 1 ≤ (if b then 1 else 0) → (u : ThreadState) × (Some t ≡ Some u) × (u.priority ≡ priority)) [
-      true ↦ λ is more. (t, (refl, eqb-true t.priority priority (and_parts (is_runnable t.status) (t.priority == priority) is).1))
+      true ↦ λ is more. (t, refl, eqb-true t.priority priority (and_parts (is_runnable t.status) (t.priority == priority) is).1)
       | false ↦ λ is more. absurd (omega (arith, more))
     ] refl some
 
@@ -66,7 +66,7 @@ runs-of s sound thread is =
     let count = head-counts (s.ready first.priority) thread first.first in
     let law = sound.ready thread first.priority in
     let own = runs-own (as_thread (s.objects thread)) first.priority (omega (arith, count, law)) in
-    record { priority = first.priority; own = own.0; first = first.first; is = thread-object (s.objects thread) own.0 own.1.0; at = own.1.1 }
+    record { priority = first.priority; own = own.0; first = first.first; is = thread-object (s.objects thread) own.0 own.1; at = own.2 }
 
 -- ---- lists without a thread
 
@@ -118,10 +118,6 @@ module _ (s : State) (sound : ThreadsAreSound s) (thread : ℕ) (is : current s 
 
   own-is : thread_at s thread ≡ Runs.own runs
   own-is = ap (λ (o : Option Object). option_map_or (λ (t : ThreadState). t) (as_thread o) new_thread) (Runs.is runs)
-
-  with_slice : ℕ → ThreadState
-  unfolding with_slice
-  with_slice slice = record (thread_at s thread) { slice = slice }
 
   within : (slice : ℕ) (ready : ℕ → List ℕ)
       → ((priority : ℕ) → without thread (ready priority) ≡ without thread (s.ready priority))
