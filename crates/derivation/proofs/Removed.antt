@@ -3,7 +3,7 @@ use Rattle.std.proofs.Common.{ℕ, ◌≡◌, ◌≢◌, ◌∙◌, ◌==◌, �
 use Rattle.std.specs.Option.{option_map, option_map_or}
 use Rattle.std.proofs.lemmas.Bool.{ne_eqb}
 use Rattle.std.proofs.lemmas.Bool.Decides.{eqb_tells}
-use Rattle.model.specs.Capabilities.Orders.{IsOrderOf, after, descendants, first_of}
+use Rattle.model.specs.Capabilities.Orders.{IsOrderOf, next_in, descendants, first_of}
 use Rattle.model.specs.Shared.Lists.{times_in, without}
 use Rattle.model.specs.Capabilities.Slots.{Slots, Descendant, child, deeper, IsDerivation, IsFull, SameOutside, adopted, depth_of, empty_entry, is_descendant, is_full, parent_at, spliced, with_parent}
 use Rattle.model.specs.declared.slot_entries.Entry.{Entry}
@@ -107,7 +107,7 @@ one-fewer before slots order root slot left =
     let head = heads before slots order root slot left in
     omega (arith, ap length head.1, ap length (descendants-left before slots order root slot head.0 left head.1))
 
-pub left-after : (before slots : Slots) (order : List ℕ) (root slot : ℕ) (next : Option ℕ) → IsLeft before slots order root (Some slot) → next ≡ after (descendants order slots root) (Some slot) → IsLeft before (spliced slots slot) (without slot order) root next
+pub left-after : (before slots : Slots) (order : List ℕ) (root slot : ℕ) (next : Option ℕ) → IsLeft before slots order root (Some slot) → next ≡ next_in (descendants order slots root) (Some slot) → IsLeft before (spliced slots slot) (without slot order) root next
 left-after before slots order root slot next left is =
     let head = heads before slots order root slot left in
     let known = next-known before slots order root slot left in
@@ -115,7 +115,7 @@ left-after before slots order root slot next left is =
     record {
       tree = derivation-spliced slots slot left.tree full;
       lists = order-spliced slots order slot left.lists;
-      first = is ∙ ap (λ l. after l (Some slot)) head.1 ∙ next-first slot head.0 ∙ sym (ap first_of (descendants-left before slots order root slot head.0 left head.1));
+      first = is ∙ ap (λ l. next_in l (Some slot)) head.1 ∙ next-first slot head.0 ∙ sym (ap first_of (descendants-left before slots order root slot head.0 left head.1));
       rest = λ s. rest-without slots root slot left.tree known s ∙ left.rest s;
       closed = λ s none.
           let was = left.closed s none in

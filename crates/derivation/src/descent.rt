@@ -3,7 +3,7 @@
 ghost use Rattle.std.specs.Prelude.{ℕ, ◌≡◌, ◌↔◌, IsTrue, IfSome, if◌then◌else◌};
 ghost use Rattle.std.specs.Option.{ForSome};
 ghost use Rattle.model.specs.Capabilities.Slots.{Descendant, IsDerivation, IsFull, IsOpen};
-ghost use Rattle.model.specs.Capabilities.Orders.{after, descendants};
+ghost use Rattle.model.specs.Capabilities.Orders.{next_in, descendants};
 ghost use Rattle.model.specs.Shared.Lists.{times_in};
 ghost use Rattle.model.specs.Capabilities.Slots.{is_descendant};
 
@@ -25,7 +25,7 @@ pub fn descends<S: SlotStore>(store: &S, root: Slot, slot: Slot) -> bool
 pub fn next_descendant<S: SlotStore>(store: &S, root: Slot, previous: Option<Slot>) -> Option<Slot>
     requires full { ForSome previous (IsFull (S.slots store.now)) }
     requires known { ForSome previous (λ slot. IsTrue (is_descendant (S.slots store.now) root slot)) }
-    ensures next { result ≡ after (descendants (S.order store.now) (S.slots store.now) root) previous }
+    ensures next { result ≡ next_in (descendants (S.order store.now) (S.slots store.now) root) previous }
     ensures once { (slot : ℕ) → times_in (descendants (S.order store.now) (S.slots store.now) root) slot
         ≡ (if is_descendant (S.slots store.now) root slot then 1 else 0) }
     ensures found { IfSome result (Descendant (S.slots store.now) root) }

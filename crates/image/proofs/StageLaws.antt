@@ -7,7 +7,7 @@ use Rattle.std.proofs.lemmas.Bool.{and_parts, and_from, eqb-true, eq-eqb, ltb-fa
 use Rattle.std.proofs.lemmas.List.{take_at, drop_at, drop_all, take-append-drop, length-append}
 use Rattle.model.specs.declared.refusals.Refusal.{Refusal}
 use Rattle.model.specs.declared.refusals.Refusal.TheVariants.{Trailing}
-use Rattle.model.specs.Images.Format.{Spells, ◌>>=◌, many_spelling, many_fit}
+use Rattle.model.specs.Images.Format.{IsSpelling, ◌>>=◌, many_spelling, many_fit}
 use Rattle.model.specs.Images.Image.{Image, Thread, header_format, untyped_format, object_format, capability_format, interrupt_format, table_format, frame_format, content_format, sections_format, image_format, image_with, thread_format}
 use Rattle.image.specs.Stage.{IsStaged, is_staged, later, no_slots, staged_end, staged_front, staged_image, staged_reading}
 use Rattle.image.proofs.Laws.{IsBytes, bind_ok, guard_ok, ok_is}
@@ -63,7 +63,7 @@ no_more : (bytes : List ℕ) (at : ℕ) → length bytes ≤ at → drop at byte
 no_more bytes at le = drop_all at bytes le
 
 pub record Found (bytes : List ℕ) (image : Image) : Type 0 where
-  pub spelled : Spells (image_format no_slots) bytes image
+  pub spelled : IsSpelling (image_format no_slots) bytes image
   pub staged : IsStaged image
 
 pub staged_found : (bytes : List ℕ) (image : Image) → IsBytes bytes → staged_reading bytes ≡ Ok image → Found bytes image
@@ -83,11 +83,11 @@ staged_found bytes image fits h =
     let text : drop 236 bytes ≡ (thread_format no_slots 7).spelling t ++ [] = taken.spelled ∙ ap (λ (r : List ℕ). (thread_format no_slots 7).spelling t ++ r) rest in
     let spelled : bytes ≡ (image_format no_slots).spelling (staged_image t) = whole ∙ ap (λ (r : List ℕ). staged_front ++ r) text ∙ sym (image_spelling t) in
     record {
-      spelled = subst (λ (i : Image). Spells (image_format no_slots) bytes i) is (record { fits = image_fits t taken.fits; spelled = spelled });
+      spelled = subst (λ (i : Image). IsSpelling (image_format no_slots) bytes i) is (record { fits = image_fits t taken.fits; spelled = spelled });
       staged = record { thread = t; form = sym is; staged = form.0 };
     }
 
-staged_read_thread : (bytes : List ℕ) (t : Thread) → is_staged t ≡ true → Spells (image_format no_slots) bytes (staged_image t) → staged_reading bytes ≡ Ok (staged_image t)
+staged_read_thread : (bytes : List ℕ) (t : Thread) → is_staged t ≡ true → IsSpelling (image_format no_slots) bytes (staged_image t) → staged_reading bytes ≡ Ok (staged_image t)
 unfolding staged_reading
 staged_read_thread bytes t staged s =
     let text : List ℕ = (thread_format no_slots 7).spelling t in
@@ -102,14 +102,14 @@ staged_read_thread bytes t staged s =
 abbrev ok_image : Image → Result Image Refusal
 ok_image x = Ok x
 
-pub staged_read : (bytes : List ℕ) (image : Image) → IsStaged image → Spells (image_format no_slots) bytes image → staged_reading bytes ≡ Ok image
+pub staged_read : (bytes : List ℕ) (image : Image) → IsStaged image → IsSpelling (image_format no_slots) bytes image → staged_reading bytes ≡ Ok image
 staged_read bytes image i s =
-    let s' = subst (λ (x : Image). Spells (image_format no_slots) bytes x) i.form s in
+    let s' = subst (λ (x : Image). IsSpelling (image_format no_slots) bytes x) i.form s in
     staged_read_thread bytes i.thread i.staged s' ∙ ap (λ (x : Image). ok_image x) (sym i.form)
 
-pub if_found : (bytes : List ℕ) (r : Result Image Refusal) → IsBytes bytes → r ≡ staged_reading bytes → IfOk r (λ image. Spells (image_format no_slots) bytes image × IsStaged image)
+pub if_found : (bytes : List ℕ) (r : Result Image Refusal) → IsBytes bytes → r ≡ staged_reading bytes → IfOk r (λ image. IsSpelling (image_format no_slots) bytes image × IsStaged image)
 if_found bytes (Ok image) fits e = let f = staged_found bytes image fits (sym e) in (f.spelled, f.staged)
 if_found bytes (Err refusal) fits e = tt
 
-pub is_found : (bytes : List ℕ) (r : Result Image Refusal) (image : Image) → r ≡ staged_reading bytes → Spells (image_format no_slots) bytes image → IsStaged image → IsOkAnd r (λ found. found ≡ image)
+pub is_found : (bytes : List ℕ) (r : Result Image Refusal) (image : Image) → r ≡ staged_reading bytes → IsSpelling (image_format no_slots) bytes image → IsStaged image → IsOkAnd r (λ found. found ≡ image)
 is_found bytes r image e s i = subst (λ (x : Result Image Refusal). IsOkAnd x (λ found. found ≡ image)) (sym (e ∙ staged_read bytes image i s)) refl

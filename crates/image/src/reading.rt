@@ -1,7 +1,7 @@
 //! Reading an image.
 
 ghost use Rattle.std.specs.Prelude.{◌≡◌, ◌<◌, IfOk, IsOkAnd, Some, nat_eq, slice_get};
-ghost use Rattle.model.specs.Images.Format.{Spells};
+ghost use Rattle.model.specs.Images.Format.{IsSpelling};
 ghost use Rattle.model.specs.Images.Image.{Image, image_format};
 ghost use Rattle.std.specs.List.{starts_with};
 ghost use Rattle.image.specs.Stage.{IsStaged, has_no_terms, is_staged, no_slots, staged_front, staged_reading};
@@ -101,9 +101,9 @@ fn has_front(bytes: &[u8]) -> bool
 /// rest.
 pub fn read(bytes: &[u8]) -> Result<ImageRef<'_>, Refusal>
     // What is read is spelled so, and is of the form.
-    ensures found { IfOk result (λ image. Spells (image_format no_slots) bytes.now image × IsStaged image) }
+    ensures found { IfOk result (λ image. IsSpelling (image_format no_slots) bytes.now image × IsStaged image) }
     // What is of the form and spelled so is read.
-    ensures only { (image : Image) → Spells (image_format no_slots) bytes.now image → IsStaged image → IsOkAnd result (λ found. found ≡ image) }
+    ensures only { (image : Image) → IsSpelling (image_format no_slots) bytes.now image → IsStaged image → IsOkAnd result (λ found. found ≡ image) }
     // Which refusal it is.
     ensures exact { result ≡ staged_reading bytes.now }
 {

@@ -2,7 +2,7 @@
 use Rattle.std.proofs.Common.{ℕ, ◌≡◌, ◌≢◌, ◌∙◌, ◌==◌, ◌+◌, ◌≤◌, inl, inr, Bool, true, false, not, if◌then◌else◌, Option, Some, None, List, [], ◌∷◌, filter, cond, refl, sym, ap, arith}
 use Rattle.std.proofs.lemmas.Bool.{eq-eqb, ne_eqb}
 use Rattle.std.proofs.lemmas.Bool.Decides.{eqb_tells}
-use Rattle.model.specs.Capabilities.Orders.{IsOrderOf, after, first_of, next_after}
+use Rattle.model.specs.Capabilities.Orders.{IsOrderOf, next_in, first_of, next_after}
 use Rattle.model.specs.Shared.Lists.{times_in, without}
 use Rattle.model.specs.Capabilities.Slots.{Slots, is_full, spliced}
 use Rattle.model.proofs.SlotChanges.{empty-spliced, full-spliced}
@@ -24,7 +24,7 @@ next_after-behind (slot ∷ rest) previous =
       | false ↦ next_after-behind rest previous
     ]
 
-pub after-behind : (order : List ℕ) (previous : Option ℕ) → after order previous ≡ first_of (behind order previous)
+pub after-behind : (order : List ℕ) (previous : Option ℕ) → next_in order previous ≡ first_of (behind order previous)
 after-behind order None = refl
 after-behind order (Some previous) = next_after-behind order previous
 
@@ -88,7 +88,7 @@ next_after-filter test (s ∷ rest) previous passes =
           ]
     ]
 
-pub after-filter : (test : ℕ → Bool) (order : List ℕ) (previous : Option ℕ) → ((p : ℕ) → previous ≡ Some p → test p ≡ true) → after (filter test order) previous ≡ first_of (filter test (behind order previous))
+pub after-filter : (test : ℕ → Bool) (order : List ℕ) (previous : Option ℕ) → ((p : ℕ) → previous ≡ Some p → test p ≡ true) → next_in (filter test order) previous ≡ first_of (filter test (behind order previous))
 after-filter test order None passes = refl
 after-filter test order (Some previous) passes = next_after-filter test order previous (passes previous refl)
 

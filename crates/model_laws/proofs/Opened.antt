@@ -31,7 +31,7 @@ use Rattle.model.specs.Kernel.CallForms.{decode as callforms_decode}
 use Rattle.model.specs.Kernel.Setup.{boot_area as setup_boot_area, put_untyped as setup_put_untyped, put_control as setup_put_control, fill as setup_fill}
 use Rattle.model.specs.Images.BootCalls.{operations as bootcalls_operations}
 use Rattle.model.specs.Images.Listing.{listing_lines as listing_listing_lines, listing as listing_listing}
-use Rattle.model.specs.Kernel.Steps.{system_call as steps_system_call, runs as steps_runs, step as steps_step, trace as steps_trace, after as steps_after}
+use Rattle.model.specs.Kernel.Steps.{system_call as steps_system_call, runs as steps_runs, step as steps_step, trace as steps_trace, state_after as steps_after}
 use Rattle.std.specs.Fmt.{digits}
 use Rattle.model_laws.specs.Solo.{booted_or, bytes_of, solo, solo_events, solo_image, two_threads, yielding}
 use Rattle.model_laws.specs.Worker.{loop_image, loop_with, reading_with}

@@ -3,7 +3,7 @@
 ghost use Rattle.std.specs.Prelude.{◌≡◌, ◌≤◌, ◌<◌, ◌⊎◌, ℕ, All, IfErr, List, Ok, Some, true};
 ghost use Rattle.model.specs.Acceptance.Accepted.{AreKept, IsAccepted, IsWellFormed, first_breach, first_in, phases};
 ghost use Rattle.model.specs.Shared.Bytes.{AreBytes};
-ghost use Rattle.model.specs.Images.Format.{Spells, reading};
+ghost use Rattle.model.specs.Images.Format.{IsSpelling, reading};
 ghost use Rattle.model.specs.Images.Image.{Image, Thread, whole_image};
 ghost use Rattle.model.specs.Acceptance.PointRules.{program_rules};
 ghost use Rattle.model.specs.Acceptance.Measures.{Measure};
@@ -19,7 +19,7 @@ ghost use Rattle.image.specs.Stage.{is_staged, later, staged_image, staged_readi
 /// What this release reads of bytes is the image that they spell.
 pub fn what_the_form_reads_is_the_image()
     ensures image { (bytes : List ℕ) (image : Image) → staged_reading bytes ≡ Ok image → reading whole_image bytes ≡ Ok image }
-    ensures spelled { (bytes : List ℕ) (image : Image) → AreBytes bytes → staged_reading bytes ≡ Ok image → Spells whole_image bytes image }
+    ensures spelled { (bytes : List ℕ) (image : Image) → AreBytes bytes → staged_reading bytes ≡ Ok image → IsSpelling whole_image bytes image }
 {}
 
 /// What this release refuses to read is a later stage, or it is refused as the first breach.

@@ -3,20 +3,20 @@
 ghost use Rattle.std.specs.Prelude.{◌≡◌, ℕ, List, None, Some, Ok};
 ghost use Rattle.model.specs.Acceptance.Accepted.{Breach, IsAccepted, first_breach};
 ghost use Rattle.model.specs.Shared.Bytes.{AreBytes};
-ghost use Rattle.model.specs.Images.Format.{Spells, reading};
+ghost use Rattle.model.specs.Images.Format.{IsSpelling, reading};
 ghost use Rattle.model.specs.Images.Image.{Image, whole_image};
 ghost use Rattle.model.specs.declared.refusals.Refusal.{Refusal};
 
 /// An image has one spelling, and bytes spell at most one image.
 pub fn an_image_has_one_spelling()
-    ensures spelling { (image : Image) (one other : List ℕ) → Spells whole_image one image → Spells whole_image other image → one ≡ other }
-    ensures image { (bytes : List ℕ) (one other : Image) → Spells whole_image bytes one → Spells whole_image bytes other → one ≡ other }
+    ensures spelling { (image : Image) (one other : List ℕ) → IsSpelling whole_image one image → IsSpelling whole_image other image → one ≡ other }
+    ensures image { (bytes : List ℕ) (one other : Image) → IsSpelling whole_image bytes one → IsSpelling whole_image bytes other → one ≡ other }
 {}
 
 /// Reading gives what the bytes spell.
 pub fn what_is_read_is_spelled()
-    ensures read { (bytes : List ℕ) (image : Image) → Spells whole_image bytes image → reading whole_image bytes ≡ Ok image }
-    ensures spelled { (bytes : List ℕ) (image : Image) → AreBytes bytes → reading whole_image bytes ≡ Ok image → Spells whole_image bytes image }
+    ensures read { (bytes : List ℕ) (image : Image) → IsSpelling whole_image bytes image → reading whole_image bytes ≡ Ok image }
+    ensures spelled { (bytes : List ℕ) (image : Image) → AreBytes bytes → reading whole_image bytes ≡ Ok image → IsSpelling whole_image bytes image }
 {}
 
 /// Bytes have one first breach or none, and what is told first is a breach.

@@ -6,7 +6,7 @@ ghost use Rattle.model.specs.declared.instructions.Instr.TheVariants.{Ecall};
 ghost use Rattle.model.specs.Acceptance.Accepted.{AreKept};
 ghost use Rattle.model.specs.Shared.Bytes.{AreBytes};
 ghost use Rattle.model.specs.Images.Described.{listed_thread};
-ghost use Rattle.model.specs.Images.Format.{Spells};
+ghost use Rattle.model.specs.Images.Format.{IsSpelling};
 ghost use Rattle.model.specs.Images.Image.{Thread, image_format};
 ghost use Rattle.model.specs.Machine.ProgramMemory.{Content, RegisterFile, read, write};
 ghost use Rattle.model.specs.Machine.Effects.{advanced};
@@ -21,7 +21,7 @@ ghost use Rattle.model_laws.specs.Waiter.{waiter};
 
 /// What bytes of the form spell is a thread that keeps the rules, where its rules are kept.
 pub fn what_is_spelled_and_keeps_the_rules_is_kept()
-    ensures { (bytes : List ℕ) (t : Thread) → is_staged t ≡ true → Spells (image_format no_slots) bytes (staged_image t) → t.header.entry < t.header.words
+    ensures { (bytes : List ℕ) (t : Thread) → is_staged t ≡ true → IsSpelling (image_format no_slots) bytes (staged_image t) → t.header.entry < t.header.words
         → IsPlain t → AreKept (program_rules (staged_image t)) → IsKept t }
 {}
 

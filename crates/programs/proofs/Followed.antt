@@ -13,7 +13,7 @@ use Rattle.model.specs.declared.entries.ThreadHeader.{ThreadHeader}
 use Rattle.model.specs.declared.refusals.Refusal.{Refusal}
 use Rattle.model.specs.declared.refusals.Refusal.TheVariants.{Limit, Trailing, Truncated}
 use Rattle.model.specs.Acceptance.Accepted.{breach_of, first_breach}
-use Rattle.model.specs.Images.Format.{Format, Spells, ◌>>=◌, both, field, many_read, many_spelling, many_fit, named, number_at, reading, signed}
+use Rattle.model.specs.Images.Format.{Format, IsSpelling, ◌>>=◌, both, field, many_read, many_spelling, many_fit, named, number_at, reading, signed}
 use Rattle.model.specs.Images.Image.{Image, Sections, SlotFormat, StateRecord, Thread, anything, between, capability_format, content_format, frame_format, header_format, image_with, interrupt_format, is_constant, object_format, record_format, record_header_format, ranges_format, records_format, registers_format, sections_format, slots_format, table_format, terms_format, thread_format, thread_header_format, untyped_format, whole_image, words_format}
 use Rattle.image.specs.Stage.{any_thread, is_staged, later, no_slot_count, no_slots, staged_end, staged_front, staged_image, staged_reading, staged_sections}
 use Rattle.image.proofs.Laws.{IsBytes, bind_ok, ok_is}
@@ -281,7 +281,7 @@ read_as_whole bytes image h =
       | inr refusal ↦ absurd (let clash : ◌≡◌ {A = Result Image Refusal} (Ok image) (Err later) = sym h ∙ refusal in cc)
     ]
 
-pub spelled_as_whole : (bytes : List ℕ) (image : Image) → IsBytes bytes → staged_reading bytes ≡ Ok image → Spells whole_image bytes image
+pub spelled_as_whole : (bytes : List ℕ) (image : Image) → IsBytes bytes → staged_reading bytes ≡ Ok image → IsSpelling whole_image bytes image
 spelled_as_whole bytes image fits h = reading-spelled bytes image fits (read_as_whole bytes image h)
 
 pub refused_first : (bytes : List ℕ) → IfErr (staged_reading bytes) (λ refusal. (refusal ≡ later) ⊎ (first_breach bytes ≡ Some refusal))

@@ -7,7 +7,7 @@ use Rattle.model.specs.declared.entries.SlotEntry.{SlotEntry}
 use Rattle.model.specs.declared.ranges.Range.{Range}
 use Rattle.model.specs.declared.refusals.Point.{Point}
 use Rattle.model.specs.declared.refusals.Refusal.{Refusal}
-use Rattle.model.specs.Acceptance.CallRules.{AfterCall, after_call, by_number, found_slot, one_value, receives}
+use Rattle.model.specs.Acceptance.CallRules.{AfterCall, after_call, by_number, found_slot, one_value, receive_rule}
 use Rattle.model.specs.Images.Described.{boot_holdings, described, holdings, is_open_slot}
 use Rattle.model.specs.Images.Format.{◌>>=◌}
 use Rattle.model.specs.Images.Image.{Image, StateRecord, Thread}
@@ -37,7 +37,7 @@ abbrev by_a0 : Thread → Point → PointState → Range → Behind
 by_a0 t at state r = do
   address ← one_value at r
   slot ← found_slot at (called_slot (noted_kernel (staged_image t) t state.slots).slots (noted_root (staged_image t) t) address)
-  receives at state true (capability_at (noted_kernel (staged_image t) t state.slots).slots slot)
+  receive_rule at state true (capability_at (noted_kernel (staged_image t) t state.slots).slots slot)
 
 known_a0 : (t : Thread) (at : Point) (ranges : List Range) (m : Measure)
     → by_a0 (numbered_thread t) at (with_image_slots (numbered_thread t) ranges m) (single 1) ≡ Ok (waited (numbered_thread t) ranges)

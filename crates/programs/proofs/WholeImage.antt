@@ -15,7 +15,7 @@ use Rattle.model.specs.declared.refusals.Refusal.{Refusal}
 use Rattle.model.specs.declared.refusals.Refusal.TheVariants.{Magic, Version, Trailing}
 use Rattle.model.specs.Shared.Bytes.{AreBytes}
 use Rattle.model.specs.Capabilities.CapabilityFields.{unpacked}
-use Rattle.model.specs.Images.Format.{Spells, reading}
+use Rattle.model.specs.Images.Format.{IsSpelling, reading}
 use Rattle.model.specs.Images.Image.{Image, Sections, anything, below, between, capability_format, content_format, frame_format, header_format, image_with, interrupt_format, magic, names_parent, no_parent, object_format, pair_key, sections_format, size_fits, slot_format, slots_format, table_format, untyped_format, whole_image, words_format}
 use Rattle.image.proofs.Laws.{IsBytes, IsLawful, bind_ok, guard_ok, ok_is, number_law, both_law, named_law, ordered_law, wide32}
 use Rattle.image.proofs.ThreadLaws.{AreLawful, field_law, thread_law, words_law}
@@ -131,7 +131,7 @@ image_law = named_law _ _ _ (λ x h. refl) (λ y. refl)
 abbrev ReadImage : Type 0
 ReadImage = Result (Image × ℕ) Refusal
 
-spelled-read : (bytes : List ℕ) (image : Image) → Spells whole_image bytes image → whole_image.reads bytes 0 ≡ Ok (image, length bytes)
+spelled-read : (bytes : List ℕ) (image : Image) → IsSpelling whole_image bytes image → whole_image.reads bytes 0 ≡ Ok (image, length bytes)
 spelled-read bytes image s =
     let all : List ℕ = whole_image.spelling image in
     let long : length bytes ≡ length all = ap (λ (t : List ℕ). length t) s.spelled in
@@ -140,20 +140,20 @@ spelled-read bytes image s =
     let end : 0 + length all ≡ length bytes = omega (arith, long) in
     read ∙ ap (λ (n : ℕ). Ok (image, n)) end
 
-pub one-image : (bytes : List ℕ) (one other : Image) → Spells whole_image bytes one → Spells whole_image bytes other → one ≡ other
+pub one-image : (bytes : List ℕ) (one other : Image) → IsSpelling whole_image bytes one → IsSpelling whole_image bytes other → one ≡ other
 one-image bytes one other s t =
     let same : ◌≡◌ {A = ReadImage} (Ok (one, length bytes)) (Ok (other, length bytes)) = sym (spelled-read bytes one s) ∙ spelled-read bytes other t in
     ap (λ (x : Image × ℕ). x.0) (ok_is (one, length bytes) (other, length bytes) same)
 
-pub one-spelling : (image : Image) (one other : List ℕ) → Spells whole_image one image → Spells whole_image other image → one ≡ other
+pub one-spelling : (image : Image) (one other : List ℕ) → IsSpelling whole_image one image → IsSpelling whole_image other image → one ≡ other
 one-spelling image one other s t = s.spelled ∙ sym t.spelled
 
-pub spelled-reading : (bytes : List ℕ) (image : Image) → Spells whole_image bytes image → reading whole_image bytes ≡ Ok image
+pub spelled-reading : (bytes : List ℕ) (image : Image) → IsSpelling whole_image bytes image → reading whole_image bytes ≡ Ok image
 spelled-reading bytes image s =
     let end : ltb (length bytes) (length bytes) ≡ false = le-ltb _ _ (omega arith) in
     rw (spelled-read bytes image s, end) refl
 
-pub reading-spelled : (bytes : List ℕ) (image : Image) → IsBytes bytes → reading whole_image bytes ≡ Ok image → Spells whole_image bytes image
+pub reading-spelled : (bytes : List ℕ) (image : Image) → IsBytes bytes → reading whole_image bytes ≡ Ok image → IsSpelling whole_image bytes image
 reading-spelled bytes image fits h =
     let b = bind_ok (whole_image.reads bytes 0) (λ x. if ltb x.1 (length bytes) then Err (Trailing x.1) else Ok x.0) image h in
     let found : Image = b.0.0 in
@@ -163,7 +163,7 @@ reading-spelled bytes image fits h =
     let taken = image_law.takes bytes 0 found at fits (omega arith) b.1 in
     let rest : drop at bytes ≡ [] = drop_all at bytes (ltb-false at (length bytes) end.0) in
     let text : bytes ≡ whole_image.spelling found = taken.spelled ∙ ap (λ (r : List ℕ). whole_image.spelling found ++ r) rest ∙ append-nil (whole_image.spelling found) in
-    subst (λ (i : Image). Spells whole_image bytes i) is (record { fits = taken.fits; spelled = text })
+    subst (λ (i : Image). IsSpelling whole_image bytes i) is (record { fits = taken.fits; spelled = text })
 
 pub bytes-fit : (bytes : List ℕ) → AreBytes bytes → IsBytes bytes
 bytes-fit bytes all i = elim (cases_lt i (length bytes)) [

@@ -6,7 +6,7 @@ use Rattle.std.proofs.lemmas.List.Elements.{All-cons, All-nil}
 use Rattle.model.specs.declared.entries.RegisterEntry.{RegisterEntry}
 use Rattle.model.specs.declared.entries.ThreadHeader.{ThreadHeader}
 use Rattle.std.specs.Int.{w64}
-use Rattle.model.specs.Images.Format.{Spells, field, many_fit, number}
+use Rattle.model.specs.Images.Format.{IsSpelling, field, many_fit, number}
 use Rattle.model.specs.Images.Image.{Thread, anything, below, between, image_format, register_format, records_format, registers_format, thread_format, thread_header_format, words_format}
 use Rattle.image.specs.Stage.{no_slots, staged_image}
 use Rattle.image.proofs.StageLaws.{thread_fits}
@@ -76,7 +76,7 @@ unfolding words_format
 words_fit t fits = words_below t.header.words t.words (parts_fit t fits).words
 
 -- the thread of what is spelled
-pub spelled_fits : (bytes : List ℕ) (t : Thread) → Spells (image_format no_slots) bytes (staged_image t) → (thread_format no_slots 7).fits t ≡ true
+pub spelled_fits : (bytes : List ℕ) (t : Thread) → IsSpelling (image_format no_slots) bytes (staged_image t) → (thread_format no_slots 7).fits t ≡ true
 spelled_fits bytes t spelled = thread_fits t spelled.fits
 
 abbrev rest_fits : ThreadHeader → Bool

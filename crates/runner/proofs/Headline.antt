@@ -8,7 +8,7 @@ use Rattle.model.specs.declared.refusals.Refusal.{Refusal}
 use Rattle.model.specs.declared.refusals.Refusal.TheVariants.{BadThread}
 use Rattle.model.specs.Acceptance.Accepted.{IsAccepted}
 use Rattle.model.specs.Images.Described.{described}
-use Rattle.model.specs.Images.Format.{Spells}
+use Rattle.model.specs.Images.Format.{IsSpelling}
 use Rattle.model.specs.Images.Image.{Image, Thread, image_format}
 use Rattle.model.specs.Images.Places.{offset_of, used_by}
 use Rattle.model.specs.Kernel.Steps.{trace}
@@ -35,7 +35,7 @@ pub record IsVerified (bytes : List ℕ) (image : Image) : Type 0 where
   pub read : staged_reading bytes ≡ Ok image
   pub accepted : IsAccepted bytes image
   pub plain : IsPlainImage image
-  pub spelled : Spells (image_format no_slots) bytes image
+  pub spelled : IsSpelling (image_format no_slots) bytes image
 
 -- the same of the image of its thread
 record IsVerifiedThread (bytes : List ℕ) (t : Thread) : Type 0 where
@@ -43,7 +43,7 @@ record IsVerifiedThread (bytes : List ℕ) (t : Thread) : Type 0 where
   accepted : IsAccepted bytes (staged_image t)
   form : IsOfForm t
   plain : IsPlain t
-  spelled : Spells (image_format no_slots) bytes (staged_image t)
+  spelled : IsSpelling (image_format no_slots) bytes (staged_image t)
 
 of_thread : (bytes : List ℕ) (image : Image) (v : IsVerified bytes image) → IsVerifiedThread bytes v.plain.thread
 of_thread bytes image v =
@@ -53,7 +53,7 @@ of_thread bytes image v =
       accepted = subst (λ (i : Image). IsAccepted bytes i) is v.accepted;
       form = v.plain.thread_form;
       plain = v.plain.plain;
-      spelled = subst (λ (i : Image). Spells (image_format no_slots) bytes i) is v.spelled;
+      spelled = subst (λ (i : Image). IsSpelling (image_format no_slots) bytes i) is v.spelled;
     }
 
 -- ---- the thread keeps the rules

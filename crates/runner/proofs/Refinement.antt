@@ -9,7 +9,7 @@ use Rattle.model.specs.Images.Described.{described}
 use Rattle.model.specs.Images.Image.{Thread}
 use Rattle.model.specs.Machine.ProgramMemory.{Content}
 use Rattle.model.specs.Kernel.State.{State}
-use Rattle.model.specs.Kernel.Steps.{after, step, trace}
+use Rattle.model.specs.Kernel.Steps.{state_after, step, trace}
 use Rattle.programs.specs.Certificates.{IsOfForm, numbered_thread}
 use Rattle.image.specs.Stage.{staged_image}
 use Rattle.runner.specs.Machine.{IsStarted, Machine, machine_after, machine_step, machine_trace, state_of}
@@ -82,12 +82,12 @@ traces_refine Holds invariant t form lt m places holds (event ∷ events) =
     (traces_refine Holds invariant t form lt (machine_step m event).0 (places_kept m event next places) (invariant.after m event holds) events)
 
 abbrev state_from : State × Label → List Event → State
-state_from next events = after next.0 events
+state_from next events = state_after next.0 events
 
 -- the states behind the events are those that the machines stand for
 pub states_refine : (Holds : Machine → Type 0) → IsInvariant Holds → (t : Thread) → IsOfForm t → t.header.priority < 256 → (m : Machine) → m.content.place ≡ page_place → Holds m
-    → (events : List Event) → after (state_of t m) events ≡ state_of t (machine_after m events)
-unfolding after machine_after
+    → (events : List Event) → state_after (state_of t m) events ≡ state_of t (machine_after m events)
+unfolding state_after machine_after
 states_refine Holds invariant t form lt m places holds [] = refl
 states_refine Holds invariant t form lt m places holds (event ∷ events) =
     let next = invariant.next m holds in
@@ -103,6 +103,6 @@ started_traces Holds invariant t form lt m started holds events =
     ap (λ (s : State). trace s events) (sym (started_is_described t m form started)) ∙ traces_refine Holds invariant t form lt m started.place holds events
 
 pub started_states : (Holds : Machine → Type 0) → IsInvariant Holds → (t : Thread) → IsOfForm t → t.header.priority < 256 → (m : Machine) → IsStarted t m → Holds m → (events : List Event)
-    → after (described (staged_image t)) events ≡ state_of t (machine_after m events)
+    → state_after (described (staged_image t)) events ≡ state_of t (machine_after m events)
 started_states Holds invariant t form lt m started holds events =
-    ap (λ (s : State). after s events) (sym (started_is_described t m form started)) ∙ states_refine Holds invariant t form lt m started.place holds events
+    ap (λ (s : State). state_after s events) (sym (started_is_described t m form started)) ∙ states_refine Holds invariant t form lt m started.place holds events

@@ -5,7 +5,7 @@ ghost use Rattle.std.specs.Option.{ForSome};
 ghost use Rattle.model.specs.Shared.Bytes.{word_bytes, written};
 ghost use Rattle.model.specs.Capabilities.CapabilityWords.{IsCapability};
 ghost use Rattle.model.specs.Capabilities.Slots.{IsDerivation, IsFull, IsOpen, OutsideSlots, SameOutside, closed, depth_of, empty_entry, inserted, is_descendant, opened, recapped, relocated, spliced};
-ghost use Rattle.model.specs.Capabilities.Orders.{IsOrderOf, after, descendants};
+ghost use Rattle.model.specs.Capabilities.Orders.{IsOrderOf, next_in, descendants};
 ghost use Rattle.model.specs.Shared.Lists.{without};
 ghost use Rattle.model.specs.declared.capabilities.Cap.{Cap};
 ghost use Rattle.model.specs.declared.capabilities.Cap.TheVariants.{Empty};
@@ -46,7 +46,7 @@ pub trait SlotStore: SlotMap {
     /// The full slot behind `previous` in the store's own order, or the first one of all.
     fn next_full(&self, previous: Option<Slot>) -> Option<Slot>
         requires { ForSome previous (IsFull (Self.slots self.now)) }
-        ensures next { result ≡ after (order self.now) previous }
+        ensures next { result ≡ next_in (order self.now) previous }
         ensures lists { IsOrderOf (order self.now) (Self.slots self.now) }
         ensures derivation { IsDerivation (Self.slots self.now) };
 
@@ -78,7 +78,7 @@ pub trait SlotStore: SlotMap {
     fn next_below(&self, root: Slot, previous: Option<Slot>) -> Option<Slot>
         requires full { ForSome previous (IsFull (Self.slots self.now)) }
         requires known { ForSome previous (λ slot. IsTrue (is_descendant (Self.slots self.now) root slot)) }
-        ensures next { result ≡ after (descendants (order self.now) (Self.slots self.now) root) previous }
+        ensures next { result ≡ next_in (descendants (order self.now) (Self.slots self.now) root) previous }
         ensures lists { IsOrderOf (order self.now) (Self.slots self.now) }
         ensures derivation { IsDerivation (Self.slots self.now) }
         ensures found_full { IfSome result (IsFull (Self.slots self.now)) }

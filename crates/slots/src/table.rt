@@ -3,7 +3,7 @@
 ghost use Rattle.std.specs.Prelude.{ℕ, ◌≡◌, ◌+◌, ◌-◌, ◌^◌, ◌<◌, ◌≤◌, None, IfOk, length, replicate, if◌then◌else◌};
 ghost use Rattle.std.specs.Option.{ForSome, option_map};
 ghost use Rattle.model.specs.Capabilities.Slots.{IsFull, adopted, capability_at, depth_of, empty_entry, is_empty, is_full, is_within, parent_at, recapped, relocated, spliced, with_entry, with_parent};
-ghost use Rattle.model.specs.Capabilities.Orders.{after, first_of};
+ghost use Rattle.model.specs.Capabilities.Orders.{next_in, first_of};
 ghost use Rattle.slots.specs.Table.{full_from, table_slots};
 
 use model::{Cap, Entry, Slot};
@@ -94,7 +94,7 @@ fn first_full(records: &[Option<Entry>], first: u32) -> Option<Slot>
 pub(crate) fn next_full(records: &[Option<Entry>], previous: Option<Slot>) -> Option<Slot>
     requires few { length records.now ≤ 2 ^ 20 }
     requires full { ForSome previous (IsFull (table_slots records.now)) }
-    ensures { result ≡ after (full_from (table_slots records.now) 0 (length records.now)) previous }
+    ensures { result ≡ next_in (full_from (table_slots records.now) 0 (length records.now)) previous }
 {
     match previous {
         Some(slot) => first_full(records, slot.number() + 1),

@@ -2,7 +2,7 @@
 
 ghost use Rattle.std.specs.Prelude.{◌≡◌, ◌<◌, ◌≤◌, ◌⊎◌, Err, IfErr, IfOk, Ok, Some};
 ghost use Rattle.model.specs.Acceptance.Accepted.{IsAccepted, first_breach};
-ghost use Rattle.model.specs.Images.Format.{Spells};
+ghost use Rattle.model.specs.Images.Format.{IsSpelling};
 ghost use Rattle.model.specs.Images.Image.{Image, Thread, image_format};
 ghost use Rattle.model.specs.Acceptance.PointRules.{rules_of_program};
 ghost use Rattle.model.specs.declared.refusals.Refusal.TheVariants.{BadThread, OutOfMemory};
@@ -55,7 +55,7 @@ pub fn verify(alloc: Global, bytes: &[u8]) -> Result<Accepted<'_>, Refusal>
     // It is of the one form, and its program makes no other call than the wait.
     ensures plain { IfOk result (λ image. IsPlainImage image) }
     // It is spelled in the form without slots in its records.
-    ensures staged { IfOk result (λ image. Spells (image_format no_slots) bytes.now image × IsStaged image) }
+    ensures staged { IfOk result (λ image. IsSpelling (image_format no_slots) bytes.now image × IsStaged image) }
     // What is refused is refused for the first breach, if it is no later stage, and memory is not refused.
     ensures refused { IfErr result (IsRefused bytes.now) }
     // What the rules accept is accepted, if it is of the one form with no other call than the wait, and memory

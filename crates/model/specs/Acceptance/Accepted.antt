@@ -2,7 +2,7 @@
 use Rattle.std.specs.Prelude.{◌≡◌, ℕ, Option, Some, None, Result, Ok, Err, List, [], ◌∷◌, ◌++◌, All, Contains}
 use Rattle.std.specs.Option.{option_or}
 use Rattle.model.specs.declared.refusals.Refusal.{Refusal}
-use Rattle.model.specs.Images.Format.{Spells, reading}
+use Rattle.model.specs.Images.Format.{IsSpelling, reading}
 use Rattle.model.specs.Images.Image.{Image, whole_image}
 use Rattle.model.specs.Acceptance.PointRules.{program_rules}
 use Rattle.model.specs.Acceptance.Rules.{Rule, first_broken}
@@ -48,6 +48,6 @@ pub record IsWellFormed (image : Image) : Type 0 where
 
 -- The bytes spell a well-formed image whose threads keep the rules at their entries and at all points with a state.
 pub record IsAccepted (bytes : List ℕ) (image : Image) : Type 0 where
-  pub spelled : Spells whole_image bytes image
+  pub spelled : IsSpelling whole_image bytes image
   pub formed : IsWellFormed image
   pub programs : AreKept (program_rules image)

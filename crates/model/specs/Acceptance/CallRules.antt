@@ -94,24 +94,24 @@ with_answer ranges = with_range (with_range ranges a0 (single 0)) a1 (single 0)
 abbrev pub message_registers : List Register
 message_registers = a0 ∷ a1 ∷ word_registers
 
-abbrev pub leaves : PointState → List Range → Bool → List Register → AfterCall
-leaves state ranges is_wait written = record { ranges = ranges; slots = state.slots; is_wait = is_wait; written = written }
+abbrev pub known_behind : PointState → List Range → Bool → List Register → AfterCall
+known_behind state ranges is_wait written = record { ranges = ranges; slots = state.slots; is_wait = is_wait; written = written }
 
 -- registers and slots stay
 abbrev pub changes_nothing : PointState → Bool → AfterCall
-changes_nothing state is_wait = leaves state state.ranges is_wait []
+changes_nothing state is_wait = known_behind state state.ranges is_wait []
 
 -- ---- receives
 
 -- Recv and ReplyRecv wait, NBRecv does not
-abbrev pub receives : Point → PointState → Bool → Cap → Result AfterCall Refusal
-receives at state is_wait (Endpoint offset r badge) = do
+abbrev pub receive_rule : Point → PointState → Bool → Cap → Result AfterCall Refusal
+receive_rule at state is_wait (Endpoint offset r badge) = do
   _ ← demand (may_read r) (CapNotThere at)
-  Ok (leaves state (with_message state.ranges badges) is_wait message_registers)
-receives at state is_wait (Notification offset r badge) = do
+  Ok (known_behind state (with_message state.ranges badges) is_wait message_registers)
+receive_rule at state is_wait (Notification offset r badge) = do
   _ ← demand (may_read r) (CapNotThere at)
-  Ok (leaves state (with_range state.ranges a0 badges) is_wait (a0 ∷ []))
-receives at state is_wait _ = Err (CapNotThere at)
+  Ok (known_behind state (with_range state.ranges a0 badges) is_wait (a0 ∷ []))
+receive_rule at state is_wait _ = Err (CapNotThere at)
 
 -- ---- invocations
 
@@ -192,7 +192,7 @@ answers Trying = false
 abbrev pub sends_message : Point → PointState → SendCall → Rights → Result AfterCall Refusal
 sends_message at state Calling r = do
   _ ← demand (may_write r && may_grant_reply r) (CapNotThere at)
-  Ok (leaves state (with_message state.ranges (single 0)) true message_registers)
+  Ok (known_behind state (with_message state.ranges (single 0)) true message_registers)
 sends_message at state Sending r = do
   _ ← demand (may_write r) (CapNotThere at)
   Ok (changes_nothing state true)
@@ -203,12 +203,12 @@ sends_message at state Trying r = do
 abbrev pub sends_signal : Point → PointState → SendCall → Rights → Result AfterCall Refusal
 sends_signal at state kind r = do
   _ ← demand (may_write r) (CapNotThere at)
-  Ok (if answers kind then leaves state (with_answer state.ranges) false (a0 ∷ a1 ∷ []) else changes_nothing state false)
+  Ok (if answers kind then known_behind state (with_answer state.ranges) false (a0 ∷ a1 ∷ []) else changes_nothing state false)
 
-abbrev pub sends : Image → Thread → Point → PointState → SendCall → ℕ → Cap → Result AfterCall Refusal
-sends image t at state kind slot (Endpoint offset r badge) = sends_message at state kind r
-sends image t at state kind slot (Notification offset r badge) = sends_signal at state kind r
-sends image t at state kind slot capability =
+abbrev pub send_rule : Image → Thread → Point → PointState → SendCall → ℕ → Cap → Result AfterCall Refusal
+send_rule image t at state kind slot (Endpoint offset r badge) = sends_message at state kind r
+send_rule image t at state kind slot (Notification offset r badge) = sends_signal at state kind r
+send_rule image t at state kind slot capability =
     let call : Call = record { root = noted_root image t; caller = Some (offset_of image t.header.tcb); slot = slot; capability = capability } in
     invocation image t at state call (answers kind)
 
@@ -225,10 +225,10 @@ by_capability image t at state rule =
 
 -- Reply, Yield and PutChar need nothing, and change neither registers nor slots.
 abbrev pub by_call : Image → Thread → Point → PointState → SystemCall → Result AfterCall Refusal
-by_call image t at state (Sends kind) = by_capability image t at state (sends image t at state kind)
-by_call image t at state (Receives Receiving) = by_capability image t at state (λ slot. receives at state true)
-by_call image t at state (Receives Polling) = by_capability image t at state (λ slot. receives at state false)
-by_call image t at state RepliesAndReceives = by_capability image t at state (λ slot. receives at state true)
+by_call image t at state (Sends kind) = by_capability image t at state (send_rule image t at state kind)
+by_call image t at state (Receives Receiving) = by_capability image t at state (λ slot. receive_rule at state true)
+by_call image t at state (Receives Polling) = by_capability image t at state (λ slot. receive_rule at state false)
+by_call image t at state RepliesAndReceives = by_capability image t at state (λ slot. receive_rule at state true)
 by_call image t at state Replies = Ok (changes_nothing state false)
 by_call image t at state Yields = Ok (changes_nothing state false)
 by_call image t at state PutsCharacter = Ok (changes_nothing state false)

@@ -13,7 +13,7 @@ use Rattle.model.specs.Kernel.AddressSpaces.{address_limit, page_size, region_si
 use Rattle.model.specs.Capabilities.CapabilityKinds.{is_guard_word}
 use Rattle.model.specs.Capabilities.CapabilityFields.{is_badge}
 use Rattle.model.specs.Images.Described.{numbered}
-use Rattle.model.specs.Images.Image.{Image, Content}
+use Rattle.model.specs.Images.Image.{Image, ImageContent}
 use Rattle.model.specs.Capabilities.Placement.{placement}
 use Rattle.model.specs.Images.Places.{bits_of, boot_slots, is_handler, object_at, type_at, untyped_at, used_before}
 use Rattle.model.specs.Kernel.Retype.{NewObject, NewUntyped, NewThread, NewEndpoint, NewNotification, NewCNode, NewFrame, NewPageTable, NewRootTable}
@@ -178,10 +178,10 @@ frame_rules image f =
     let item = image.header.tables + f.0 in
     refuse_if (misplaces_frame image f.1) (BadMapping item) ∷ refuse_if (has_writable_code image f) (WritableCode item) ∷ []
 
-abbrev pub fills_nothing : Image → Content → Bool
+abbrev pub fills_nothing : Image → ImageContent → Bool
 fills_nothing image c = not (is_frame_type (type_at image c.header.frame))
 
-abbrev pub content_rule : Image → ℕ × Content → Rule
+abbrev pub content_rule : Image → ℕ × ImageContent → Rule
 content_rule image c = refuse_if (fills_nothing image c.1) (BadMapping (image.header.tables + image.header.frames + c.0))
 
 unfoldable pub mapping_rules : Image → List Rule

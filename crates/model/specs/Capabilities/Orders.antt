@@ -18,9 +18,9 @@ next_after [] previous = None
 next_after (slot ∷ rest) previous = if slot == previous then first_of rest else next_after rest previous
 
 -- the slot behind a slot, or the first one
-abbrev pub after : List ℕ → Option ℕ → Option ℕ
-after order None = first_of order
-after order (Some previous) = next_after order previous
+abbrev pub next_in : List ℕ → Option ℕ → Option ℕ
+next_in order None = first_of order
+next_in order (Some previous) = next_after order previous
 
 -- the descendants of a root, in the order of a list
 abbrev pub descendants : List ℕ → Slots → ℕ → List ℕ

@@ -10,7 +10,7 @@ use Rattle.model.specs.declared.entries.UntypedEntry.{UntypedEntry}
 use Rattle.model.specs.Kernel.AddressSpaces.{page_size}
 use Rattle.model.specs.Images.Described.{numbered, start_of}
 use Rattle.model.specs.Images.Fills.{Fill, content_fill, frame_at, program_fills, program_pages}
-use Rattle.model.specs.Images.Image.{Image, Thread, Content}
+use Rattle.model.specs.Images.Image.{Image, Thread, ImageContent}
 use Rattle.model.specs.Kernel.CallForms.{configure_label, copy_label, get_handler_label, map_frame_label, map_table_label, mint_label, move_label, resume_label, retype_label, set_notification_label, set_priority_label, set_register_label}
 use Rattle.model.specs.Images.Places.{control_slot, frame_copy_slot, handler_slot, notification_copy_slot, object_at, original_slot, source_slot, type_at}
 use Rattle.model.specs.Acceptance.WellFormed.{is_frame_type, is_root_type, is_untyped_type, source_type}
@@ -95,7 +95,7 @@ thread_calls image t =
 
 -- ---- fills
 
-abbrev pub content_operation : Image → Content → Operation
+abbrev pub content_operation : Image → ImageContent → Operation
 content_operation image c =
     Fills c.header.frame (if is_frame_type (type_at image c.header.frame) then Some (content_fill image c ∷ []) else None)
 

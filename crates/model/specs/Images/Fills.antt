@@ -5,7 +5,7 @@ use Rattle.std.specs.Option.{option_map_or}
 use Rattle.model.specs.declared.entries.FrameEntry.{FrameEntry}
 use Rattle.model.specs.Kernel.AddressSpaces.{page_size}
 use Rattle.model.specs.Shared.Bytes.{word_bytes}
-use Rattle.model.specs.Images.Image.{Image, Thread, Content}
+use Rattle.model.specs.Images.Image.{Image, Thread, ImageContent}
 use Rattle.model.specs.Images.Places.{offset_of, type_at}
 use Rattle.model.specs.Kernel.Retype.{is_frame}
 use Rattle.model.specs.Capabilities.Slots.{is_within}
@@ -22,7 +22,7 @@ bytes_of words = flat_map word_bytes words
 abbrev pub frame_at : Image → ℕ → ℕ → Option FrameEntry
 frame_at image root address = find (λ f. f.root == root && f.address == address) image.frames
 
-abbrev pub content_fill : Image → Content → Fill
+abbrev pub content_fill : Image → ImageContent → Fill
 content_fill image c = record { offset = offset_of image c.header.frame; bytes = bytes_of c.words }
 
 -- the addresses of the pages that a program stands in, from its base on

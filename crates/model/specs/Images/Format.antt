@@ -115,6 +115,6 @@ reading format bytes = do
   if nat_lt x.1 (length bytes) then Err (Trailing x.1) else Ok x.0
 
 -- the bytes spell the value, all of them
-pub record Spells {A : Type 0} (format : Format A) (bytes : List ℕ) (value : A) : Type 0 where
+pub record IsSpelling {A : Type 0} (format : Format A) (bytes : List ℕ) (value : A) : Type 0 where
   pub fits : format.fits value ≡ true
   pub spelled : bytes ≡ format.spelling value

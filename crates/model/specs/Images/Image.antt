@@ -22,7 +22,7 @@ use Rattle.model.specs.Images.Format.{Format, number_or, number, field, signed, 
 -- ---- what an image holds
 
 -- the words that a frame begins with
-pub record Content : Type 0 where
+pub record ImageContent : Type 0 where
   pub header : ContentHeader
   pub words : List ℕ
 
@@ -47,7 +47,7 @@ pub record Image : Type 0 where
   pub interrupts : List InterruptEntry
   pub tables : List TableEntry
   pub frames : List FrameEntry
-  pub contents : List Content
+  pub contents : List ImageContent
   pub threads : List Thread
 
 -- ---- tests of a field
@@ -141,7 +141,7 @@ frame_format objects least =
     both (field (below objects)) (λ _.
     field (between 0 7)))))
 
-unfoldable pub content_format : ℕ → ℕ → Format Content
+unfoldable pub content_format : ℕ → ℕ → Format ImageContent
 content_format objects least =
     named (λ x. record { header = record { frame = x.0; words = x.1.0 }; words = x.1.1 }) (λ c. (c.header.frame, (c.header.words, c.words)))
     (both (field (λ frame. nat_le least frame && nat_lt frame objects)) (λ _.
@@ -275,7 +275,7 @@ thread_format slots objects =
 
 -- the sections before the threads, as one value
 abbrev pub Sections : Type 0
-Sections = ImageHeader × (List UntypedEntry × (List ObjectEntry × (List CapabilityEntry × (List InterruptEntry × (List TableEntry × (List FrameEntry × List Content))))))
+Sections = ImageHeader × (List UntypedEntry × (List ObjectEntry × (List CapabilityEntry × (List InterruptEntry × (List TableEntry × (List FrameEntry × List ImageContent))))))
 
 abbrev pub sections_of : Image → Sections
 sections_of i = (i.header, (i.untypeds, (i.objects, (i.capabilities, (i.interrupts, (i.tables, (i.frames, i.contents)))))))

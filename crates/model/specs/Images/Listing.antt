@@ -13,7 +13,7 @@ use Rattle.model.specs.declared.entries.RangeEntry.{RangeEntry}
 use Rattle.model.specs.declared.entries.SlotEntry.{SlotEntry}
 use Rattle.model.specs.declared.entries.TermEntry.{TermEntry}
 use Rattle.model.specs.Images.Described.{numbered}
-use Rattle.model.specs.Images.Image.{Image, Thread, Content, StateRecord, no_parent}
+use Rattle.model.specs.Images.Image.{Image, Thread, ImageContent, StateRecord, no_parent}
 use Rattle.model.specs.Acceptance.NotedStates.{record_of}
 use Rattle.model.specs.Images.Places.{interrupt_of, is_handler}
 
@@ -84,7 +84,7 @@ table_line t = line (codes "table" ∷ object_name t.root ∷ decimal t.address 
 abbrev pub frame_line : FrameEntry → Text
 frame_line f = line (codes "map" ∷ object_name f.root ∷ decimal f.address ∷ object_name f.frame ∷ decimal f.rights ∷ [])
 
-abbrev pub content_line : Content → Text
+abbrev pub content_line : ImageContent → Text
 content_line c = line (codes "data" ∷ object_name c.header.frame ∷ map decimal c.words)
 
 -- ---- the lines of a thread

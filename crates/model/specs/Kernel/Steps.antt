@@ -251,6 +251,6 @@ trace s [] = []
 trace s (event ∷ events) = let next = step s event in next.1 ∷ trace next.0 events
 
 -- the state behind them
-unfoldable pub after : State → List Event → State
-after s [] = s
-after s (event ∷ events) = after (step s event).0 events
+unfoldable pub state_after : State → List Event → State
+state_after s [] = s
+state_after s (event ∷ events) = state_after (step s event).0 events
