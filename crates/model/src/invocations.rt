@@ -102,10 +102,7 @@ pub enum FrameCall {
 /// A call on a page table.
 #[derive(Clone, Copy, Debug, PartialEq, Eq)]
 pub enum TableCall {
-    MapTable {
-        root: SlotName,
-        address: u32,
-    },
+    MapTable { root: SlotName, address: u32 },
     UnmapTable,
 }
 
@@ -114,9 +111,7 @@ pub enum TableCall {
 pub enum HandlerCall {
     Acknowledge,
     /// The line signals a notification from now on.
-    SetNotification {
-        notification: SlotName,
-    },
+    SetNotification { notification: SlotName },
     /// The line signals nothing any more.
     Clear,
 }

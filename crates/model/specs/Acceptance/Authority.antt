@@ -1,7 +1,7 @@
 -- Authority: what an event may change. A thread holds what stands in the slots of the CNodes that the image gives it, before
 -- its step.
 -- seL4 Reference Manual, "Capability-based Access Control"; the clauses are our own.
-use Rattle.std.specs.Prelude.{ℕ, ◌≡◌, ◌≢◌, ◌+◌, ◌^◌, ◌≤◌, ◌⊎◌, false, IsSome, IsTrue, bit_and, bit_or, Contains, Option, Some, None, List, [], ◌∷◌, ◌++◌}
+use Rattle.std.specs.Prelude.{ℕ, ◌≡◌, ◌≢◌, ◌+◌, ◌^◌, ◌≤◌, ◌⊎◌, false, IsSome, IsTrue, bit_and, bit_or, Contains, Some, None, List, [], ◌∷◌, ◌++◌}
 use Rattle.std.specs.List.{list_any}
 use Rattle.model.specs.declared.capabilities.Cap.{Cap}
 use Rattle.model.specs.declared.capabilities.Cap.TheVariants.{Empty, Untyped, Endpoint, Notification, Frame, InterruptControl, InterruptHandler}

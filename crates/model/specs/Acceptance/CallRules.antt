@@ -1,7 +1,6 @@
 -- The system calls that a program may make: what has to be known of each, and what is known behind it.
 -- seL4 Reference Manual, "System Calls", for the calls; which of them are accepted is this project's own.
 use Rattle.std.specs.Prelude.{ℕ, ◌==◌, ◌-◌, ◌/◌, ◌%◌, ◌^◌, Bool, true, false, not, ◌&&◌, Option, Some, None, Result, Ok, Err, List, [], ◌∷◌, fold, take, if◌then◌else◌}
-use Rattle.std.specs.Option.{option_map_or}
 use Rattle.model.specs.declared.capabilities.Cap.{Cap}
 use Rattle.model.specs.declared.capabilities.Cap.TheVariants.{Endpoint, Notification, Frame}
 use Rattle.model.specs.declared.errors.KError.{KError}
@@ -20,7 +19,7 @@ use Rattle.model.specs.declared.refusals.Refusal.{Refusal}
 use Rattle.model.specs.declared.refusals.Refusal.TheVariants.{CallNotConstant, CallRefused, CapNotThere, PoolLost}
 use Rattle.model.specs.declared.rights.Rights.{Rights}
 use Rattle.model.specs.Kernel.Arguments.{Call, argument_slot}
-use Rattle.model.specs.Kernel.CallForms.{called}
+use Rattle.model.specs.Kernel.CallForms.{form_called}
 use Rattle.model.specs.Capabilities.CapabilityKinds.{is_untyped}
 use Rattle.model.specs.Images.Format.{◌>>=◌}
 use Rattle.model.specs.Images.Image.{Image, Thread}
@@ -177,7 +176,7 @@ invoked image t at state call c answers =
 abbrev pub invocation : Image → Thread → Point → PointState → Call → Bool → Result AfterCall Refusal
 invocation image t at state call answers = do
   info ← known at state a1
-  form ← kernel_allows at (called call.capability (label_of info) (extra_capabilities_of info) (length_of info))
+  form ← kernel_allows at (form_called call.capability (label_of info) (extra_capabilities_of info) (length_of info))
   words ← all_known at state (take form.count word_registers)
   invoked image t at state call (form.call words) answers
 

@@ -19,7 +19,7 @@ use Rattle.model.specs.Images.Described.{listed_registers, numbered, start_regis
 use Rattle.model.specs.Acceptance.Edges.{Edge, Edges, after}
 use Rattle.model.specs.Images.Image.{Image, Thread}
 use Rattle.model.specs.declared.instructions.AccessSize.{AccessSize}
-use Rattle.model.specs.Machine.ProgramMemory.{RegisterFile, width_of}
+use Rattle.model.specs.Machine.ProgramMemory.{width_of}
 use Rattle.model.specs.Machine.Effects.{load_size, store_size}
 use Rattle.model.specs.Acceptance.Measures.{Form, Measure, behind_form, call_form, falls, least_value, measured, stays_below}
 use Rattle.model.specs.Acceptance.NotedStates.{NotedSlot, PointState, are_same_slots, has_stray_slots, image_slots}

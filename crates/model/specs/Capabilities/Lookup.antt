@@ -1,7 +1,7 @@
 -- Capability lookup: which slot an address names in a capability space.
 -- seL4 Reference Manual, "Capability Space Addressing".
-use Rattle.std.specs.Prelude.{ℕ, zero, suc, ◌==◌, ◌+◌, ◌-◌, ◌/◌, ◌%◌, ◌^◌, ◌||◌, ◌<◌, Bool, true, false, not, nat_lt, if◌then◌else◌, ⊤, Result, Ok, Err}
-use Rattle.model.specs.Capabilities.Slots.{Slots, IsOpen, capability_at, is_full}
+use Rattle.std.specs.Prelude.{ℕ, zero, suc, ◌==◌, ◌+◌, ◌-◌, ◌/◌, ◌%◌, ◌^◌, ◌||◌, Bool, true, false, not, nat_lt, if◌then◌else◌, Result, Ok, Err}
+use Rattle.model.specs.Capabilities.Slots.{Slots, capability_at, is_full}
 use Rattle.model.specs.declared.capabilities.Cap.{Cap}
 use Rattle.model.specs.declared.capabilities.Cap.TheVariants.{Empty, Untyped, Endpoint, Notification, CNode, Frame, PageTable, Tcb, RootTable, InterruptControl, InterruptHandler}
 use Rattle.model.specs.declared.lookup_failures.LookupFailure.{LookupFailure}
@@ -50,24 +50,6 @@ lookup_within (suc n) slots _ address left = Err InvalidRoot
 -- takes at least one bit
 abbrev pub lookup : Slots → Cap → ℕ → ℕ → Result (ℕ × ℕ) LookupFailure
 lookup slots root address depth = lookup_within (suc depth) slots root address depth
-
--- the slots of a CNode that is named are open
-abbrev pub CNodeIsOpen : Slots → Cap → Type 0
-CNodeIsOpen slots Empty = ⊤
-CNodeIsOpen slots (Untyped _ _ _) = ⊤
-CNodeIsOpen slots (Endpoint _ _ _) = ⊤
-CNodeIsOpen slots (Notification _ _ _) = ⊤
-CNodeIsOpen slots (CNode offset radix guard_word) = (i : ℕ) → i < 2 ^ radix → IsOpen slots (offset / 16 + i)
-CNodeIsOpen slots (Frame _ _ _) = ⊤
-CNodeIsOpen slots (PageTable _ _) = ⊤
-CNodeIsOpen slots (Tcb _) = ⊤
-CNodeIsOpen slots (RootTable _) = ⊤
-CNodeIsOpen slots InterruptControl = ⊤
-CNodeIsOpen slots (InterruptHandler _) = ⊤
-
--- the CNodes that some slot names have open slots
-abbrev pub CNodesAreOpen : Slots → Type 0
-CNodesAreOpen slots = (slot : ℕ) → CNodeIsOpen slots (capability_at slots slot)
 
 -- the slot that a system call names: all 32 bits of the address are there to be used, what is left over is ignored, and
 -- an empty slot is a missing capability

@@ -1,6 +1,6 @@
 -- The kernel calls that load an image, and the frames that are filled between them, in their order.
 -- seL4 Reference Manual, "System Bootstrapping"; the calls and their words are this project's own.
-use Rattle.std.specs.Prelude.{ℕ, ◌==◌, ◌+◌, ◌-◌, ◌*◌, ◌%◌, ◌^◌, Bool, ◌&&◌, is_some, Option, Some, None, List, [], ◌∷◌, ◌++◌, map, flat_map, if◌then◌else◌}
+use Rattle.std.specs.Prelude.{ℕ, ◌==◌, ◌-◌, ◌%◌, ◌^◌, Bool, ◌&&◌, is_some, Option, Some, None, List, [], ◌∷◌, ◌++◌, map, flat_map, if◌then◌else◌}
 use Rattle.std.specs.List.{list_all, range_with_len}
 use Rattle.model.specs.declared.entries.CapabilityEntry.{CapabilityEntry}
 use Rattle.model.specs.declared.entries.FrameEntry.{FrameEntry}

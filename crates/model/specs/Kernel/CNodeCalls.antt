@@ -1,6 +1,6 @@
 -- Calls on CNodes: a destination is named under the invoked CNode, a source in the caller's capability space.
 -- seL4 Reference Manual, "Capability-based Access Control", seL4_CNode; ours derives each copy from its source.
-use Rattle.std.specs.Prelude.{ℕ, not, Some, Result, Ok, Err}
+use Rattle.std.specs.Prelude.{ℕ, not, Some, Result, Ok}
 use Rattle.model.specs.declared.errors.KError.{KError}
 use Rattle.model.specs.declared.errors.KError.TheVariants.{IllegalOperation, RangeError}
 use Rattle.model.specs.declared.invocations.CNodeCall.{CNodeCall}

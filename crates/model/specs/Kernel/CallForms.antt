@@ -162,8 +162,8 @@ form_of _ label = None
 -- ---- decoding
 
 -- no capabilities come along, the capability has the call, and none of so many words is missing
-abbrev pub called : Cap → ℕ → ℕ → ℕ → Result CallForm KError
-called capability label extra count = do
+abbrev pub form_called : Cap → ℕ → ℕ → ℕ → Result CallForm KError
+form_called capability label extra count = do
   _ ← check (extra == 0) TruncatedMessage
   found ← wanted (form_of capability label) IllegalOperation
   _ ← check (nat_le found.count count) TruncatedMessage
@@ -171,5 +171,5 @@ called capability label extra count = do
 
 unfoldable pub decode : Cap → ℕ → ℕ → List ℕ → Result Invocation KError
 decode capability label extra words = do
-  found ← called capability label extra (length words)
+  found ← form_called capability label extra (length words)
   Ok (found.call words)

@@ -2,7 +2,7 @@
 -- badge and the queue of that reason.
 -- seL4 Reference Manual, "Message Passing (IPC)" and "Notifications". The threads of accepted images have no faults, so
 -- none is told to another thread here.
-use Rattle.std.specs.Prelude.{ℕ, ◌≡◌, ◌≢◌, ◌==◌, ◌⊎◌, Bool, if◌then◌else◌, IsTrue, Option, Some, None, List, ◌∷◌}
+use Rattle.std.specs.Prelude.{ℕ, ◌≡◌, ◌≢◌, ◌==◌, if◌then◌else◌, IsTrue, Option, Some, None}
 use Rattle.model.specs.declared.capabilities.Cap.{Cap}
 use Rattle.model.specs.declared.capabilities.Cap.TheVariants.{Endpoint, Notification, InterruptHandler}
 use Rattle.model.specs.declared.rights.Rights.{Rights}
@@ -10,7 +10,7 @@ use Rattle.model.specs.Capabilities.Rights.{may_read, may_write}
 use Rattle.model.specs.Kernel.Interrupts.{binding}
 use Rattle.model.specs.Kernel.Messages.{a0, delivered, message_of, resumption}
 use Rattle.model.specs.Kernel.Scheduling.{full_slice, head_of}
-use Rattle.model.specs.Kernel.State.{State, Status, Inactive, Runnable, Blocked, AwaitsReply, AwaitsHandler, Sender, Sent, BySend, ByCall, ByFault, ThreadState, endpoint_at, notification_at, thread_at}
+use Rattle.model.specs.Kernel.State.{State, Inactive, Runnable, Blocked, AwaitsReply, AwaitsHandler, Sender, Sent, BySend, ByCall, ByFault, ThreadState, endpoint_at, notification_at, thread_at}
 use Rattle.model.specs.Machine.Effects.{advanced}
 use Rattle.model.specs.Machine.ProgramMemory.{RegisterFile, write}
 

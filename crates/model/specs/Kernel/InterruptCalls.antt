@@ -1,6 +1,6 @@
 -- Calls on interrupt control and on handlers of interrupt lines.
 -- seL4 Reference Manual, "Hardware I/O", seL4_IRQControl and seL4_IRQHandler.
-use Rattle.std.specs.Prelude.{ℕ, Bool, false, not, nat_le, Some, Result, Ok, Err}
+use Rattle.std.specs.Prelude.{ℕ, Bool, false, not, nat_le, Some, Result, Ok}
 use Rattle.model.specs.declared.capabilities.Cap.{Cap}
 use Rattle.model.specs.declared.capabilities.Cap.TheVariants.{Notification, InterruptHandler}
 use Rattle.model.specs.declared.errors.KError.{KError}

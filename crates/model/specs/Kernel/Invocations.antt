@@ -1,6 +1,6 @@
 -- Invocations: what a call on a capability does.
 -- seL4 Reference Manual, "System Calls" and "seL4 API Reference".
-use Rattle.std.specs.Prelude.{ℕ, nat_le, Some, Result, Ok, Err, List, length}
+use Rattle.std.specs.Prelude.{ℕ, nat_le, Some, Result, List, length}
 use Rattle.model.specs.declared.errors.KError.{KError}
 use Rattle.model.specs.declared.errors.KError.TheVariants.{IllegalOperation, TruncatedMessage}
 use Rattle.model.specs.declared.invocations.Invocation.{Invocation}

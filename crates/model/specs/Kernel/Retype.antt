@@ -1,6 +1,6 @@
 -- Retype: new objects in untyped memory, with their first capabilities.
 -- seL4 Reference Manual, "Kernel Memory Allocation", seL4_Untyped_Retype; type numbers and sizes are our own.
-use Rattle.std.specs.Prelude.{ℕ, ◌==◌, ◌+◌, ◌-◌, ◌*◌, ◌^◌, ◌&&◌, Bool, true, false, not, nat_le, if◌then◌else◌, Option, Some, None, Result, Ok, List, map}
+use Rattle.std.specs.Prelude.{ℕ, ◌==◌, ◌+◌, ◌-◌, ◌*◌, ◌^◌, ◌&&◌, Bool, true, false, not, nat_le, if◌then◌else◌, Option, Some, None, Result, Ok, map}
 use Rattle.std.specs.Option.{option_map_or}
 use Rattle.std.specs.List.{list_any, range_with_len}
 use Rattle.model.specs.declared.capabilities.Cap.{Cap}

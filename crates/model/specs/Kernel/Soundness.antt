@@ -1,8 +1,7 @@
 -- What is true of every state that the kernel reaches: what each call may rely on, and leaves true.
 -- seL4's proofs have such a record of invariants too; the clauses are our own.
 use Rattle.std.specs.Prelude.{ℕ, ◌≡◌, ◌≢◌, ◌==◌, ◌+◌, ◌/◌, ◌^◌, ◌<◌, ◌≤◌, ◌⊎◌, ◌&&◌, ◌↔◌, Bool, true, false, if◌then◌else◌, IsSome, IsTrue, Option, Some, None, List, [], ◌++◌, All, length, map}
-use Rattle.std.specs.Option.{option_map_or, ForSome}
-use Rattle.model.specs.declared.capabilities.Cap.{Cap}
+use Rattle.std.specs.Option.{option_map_or}
 use Rattle.model.specs.declared.capabilities.Cap.TheVariants.{PageTable}
 use Rattle.model.specs.declared.capabilities.FrameMapping.{FrameMapping}
 use Rattle.model.specs.declared.capabilities.TableMapping.{TableMapping}
@@ -11,7 +10,7 @@ use Rattle.model.specs.Capabilities.Slots.{Descendant, IsDerivation, IsFull, IsO
 use Rattle.model.specs.Kernel.AddressSpaces.{is_region_taken, maps_page, maps_region, region_pages}
 use Rattle.model.specs.Kernel.Interrupts.{binding}
 use Rattle.model.specs.Shared.Lists.{times_in}
-use Rattle.model.specs.Kernel.Kinds.{AreApart, IsInside, Names, Piece, frame_around, kind_at, object_named, piece_of, used_of}
+use Rattle.model.specs.Kernel.Kinds.{AreApart, IsInside, Names, Piece, frame_around, kind_at, piece_of, used_of}
 use Rattle.model.specs.Kernel.Removal.{is_slot_of}
 use Rattle.model.specs.Kernel.Retype.{NewObject, NewFrame, NewRootTable}
 use Rattle.model.specs.Kernel.Scheduling.{full_slice, is_runnable}
