@@ -1,9 +1,10 @@
 //! The slots that a call names.
 //! seL4 Reference Manual, "Capability Space Addressing".
 
-ghost use Rattle.std.specs.Prelude.{◌≡◌};
+ghost use Rattle.std.specs.Prelude.{◌≡◌, IfOk};
 ghost use Rattle.model.specs.Kernel.Arguments.{argument_slot, destination_slot, source_slot};
 ghost use Rattle.model.specs.Capabilities.CapabilityWords.{IsCapability};
+ghost use Rattle.model.specs.Capabilities.Slots.{IsFull};
 
 use crate::lookup;
 use model::{Cap, KError, Slot, SlotName};
@@ -28,7 +29,8 @@ pub fn argument_slot<S: SlotMap>(slots: &S, root: Cap, name: SlotName) -> Result
 /// an empty slot is a `FailedLookup`.
 pub fn source_slot<S: SlotMap>(slots: &S, root: Cap, name: SlotName) -> Result<Slot, KError>
     requires { IsCapability root }
-    ensures { result ≡ source_slot (S.slots slots.now) root name }
+    ensures value { result ≡ source_slot (S.slots slots.now) root name }
+    ensures full { IfOk result (IsFull (S.slots slots.now)) }
 {
     let slot = argument_slot(slots, root, name)?;
     if is_taken(slots, slot) {

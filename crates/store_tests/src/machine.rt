@@ -8,7 +8,7 @@ ghost use Rattle.slots.specs.Table.{table_slots};
 ghost use Rattle.vspace.specs.Tables.{TablesAgree};
 
 use crate::fresh::is_fresh;
-use cspace::SlotName;
+use model::SlotName;
 use model::{Access, Cap, KError, Rights, Slot};
 use slots::{PlainSlots, SlotMap, SlotStore, is_free};
 use std::alloc::Global;
