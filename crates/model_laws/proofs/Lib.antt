@@ -6,6 +6,7 @@ pub mod Descents
 pub mod FreshMachines
 pub mod LookupLaws
 pub mod Opened
+pub mod PlainSteps
 pub mod Placements
 pub mod ReadyLists
 pub mod ReadySteps

@@ -188,6 +188,7 @@ pub use walk_rows::an_address_has_two_numbers_and_an_offset;
 pub use word_rows::words_stand_for;
 pub use word_rows::words_stand_for_nothing;
 pub use soundness_laws::a_fresh_machine_is_sound;
+pub use soundness_laws::a_plain_step_stays_within_authority;
 pub use soundness_laws::a_tick_stays_within_authority;
 pub use capability_laws::the_test_of_a_capability_decides;
 pub use capability_laws::the_test_of_a_guard_word_decides;
