@@ -110,19 +110,6 @@ not_table now old t m is held =
     let clash : None ≡ Some m = sym (no-table (capability_of old)) ∙ ap table_mapping e in
     cc
 
-unmapped-empty : (c : Cap) → is_empty (unmapped c) ≡ is_empty c
-unmapped-empty (Frame _ _ _) = refl
-unmapped-empty (PageTable _ _) = refl
-unmapped-empty Empty = refl
-unmapped-empty (Untyped _ _ _) = refl
-unmapped-empty (Endpoint _ _ _) = refl
-unmapped-empty (Notification _ _ _) = refl
-unmapped-empty (CNode _ _ _) = refl
-unmapped-empty (Tcb _) = refl
-unmapped-empty (RootTable _) = refl
-unmapped-empty InterruptControl = refl
-unmapped-empty (InterruptHandler _) = refl
-
 -- a page table's capability without its mapping
 table-entry : (held : Option Entry) (t : ℕ) (o : Option TableMapping) → capability_of held ≡ PageTable t o → option_map unmapped_entry held ≡ Some (record { capability = PageTable t None; parent = parent_of held })
 table-entry None t o is = absurd (cc)

@@ -20,10 +20,7 @@ use Rattle.std.proofs.lemmas.Bool.Decides.{eqb_tells}
 use Rattle.std.specs.Option.{option_map_or}
 use Rattle.model.specs.declared.slot_entries.Entry.{Entry}
 
--- an entry lies in memory, where no slot is
-pub entry-within : (slots : Slots) (memory : List ℕ) (table i place : ℕ) → IsTable slots memory table → i < 2 ^ 10 → place ≡ table + 4 * i → place + 4 ≤ length memory
-entry-within slots memory table i place stands few here = omega (arith, stands.within, few, here)
-
+-- an entry lies where no slot is
 pub entry-outside : (slots : Slots) (memory : List ℕ) (table i place : ℕ) → IsTable slots memory table → i < 2 ^ 10 → place ≡ table + 4 * i → OutsideSlots slots place 4
 entry-outside slots memory table i place stands few here = λ k low high. stands.outside k (omega (arith, here, low)) (omega (arith, here, few, high))
 

@@ -1,6 +1,6 @@
 //! What a removal asks for.
 
-ghost use Rattle.std.specs.Prelude.{ℕ, ◌≡◌, ◌+◌, ◌*◌, ◌≤◌, length};
+ghost use Rattle.std.specs.Prelude.{ℕ, ◌≡◌};
 ghost use Rattle.model.specs.Kernel.Arguments.{Call};
 ghost use Rattle.model.specs.Kernel.State.{with_slots};
 ghost use Rattle.model.specs.Capabilities.Slots.{capability_at};
