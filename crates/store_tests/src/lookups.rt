@@ -1,12 +1,11 @@
 //! Capability lookup, and the slots that the words of a call name.
 
-ghost use Rattle.std.specs.Prelude.{◌≢◌, ◌≤◌};
-ghost use Rattle.model.specs.Capabilities.CapabilityWords.{IsCapability};
-ghost use Rattle.model.specs.declared.capabilities.Cap.TheVariants.{Empty};
+ghost use Rattle.std.specs.Prelude.{◌≤◌};
 
+use crate::machine::put;
 use cspace::{LookupFailure, SlotName, argument_slot, destination_slot, lookup, source_slot};
 use model::{Cap, KError, Rights, Slot};
-use slots::{PlainSlots, SlotStore, is_free};
+use slots::{PlainSlots, SlotStore};
 use std::alloc::Global;
 use std::process::Abort;
 use std::test::Fail;
@@ -18,16 +17,6 @@ const NODE: Cap = Cap::CNode {
     guard: 4,
 };
 
-fn put(rt: &impl Abort, store: &mut PlainSlots, number: u32, held: Cap)
-    requires valid { IsCapability held }
-    requires some { held ≢ Cap.Empty }
-{
-    assert!(rt; number < 0x2000);
-    let at = Slot::new(number);
-    assert!(rt; is_free(store, at));
-    store.insert(at, held, None);
-}
-
 // The CNode at 0x10000 is open. Its slot 0x60 holds an endpoint, and 0x61 the CNode itself.
 fn space(rt: &impl Abort, alloc: Global) -> Result<PlainSlots, Fail> {
     let mut store = PlainSlots::new(alloc, 17)?;
@@ -37,8 +26,8 @@ fn space(rt: &impl Abort, alloc: Global) -> Result<PlainSlots, Fail> {
         rights: Rights::OF_ENDPOINT,
         badge: 0,
     };
-    put(rt, &mut store, 0x1060, endpoint);
-    put(rt, &mut store, 0x1061, NODE);
+    put(rt, &mut store, Slot::new(0x1060), endpoint);
+    put(rt, &mut store, Slot::new(0x1061), NODE);
     Ok(store)
 }
 
@@ -88,32 +77,40 @@ fn a_lookup_may_end_at_a_slot_that_is_not_open(rt: HostRuntime) -> Result<(), Fa
     Ok(())
 }
 
-fn named(address: u32, depth: u32) -> SlotName {
-    SlotName { address, depth }
+fn argument(store: &PlainSlots, address: u32, depth: u32) -> Result<u32, KError> {
+    Ok(argument_slot(store, NODE, SlotName { address, depth })?.number())
+}
+
+fn source(store: &PlainSlots, address: u32, depth: u32) -> Result<u32, KError> {
+    Ok(source_slot(store, NODE, SlotName { address, depth })?.number())
+}
+
+fn destination(store: &PlainSlots, address: u32, depth: u32) -> Result<u32, KError> {
+    Ok(destination_slot(store, NODE, SlotName { address, depth })?.number())
 }
 
 #[test]
 fn all_bits_of_a_name_are_used(rt: HostRuntime) -> Result<(), Fail> {
     let store = space(&rt, rt.alloc())?;
-    let number = |name| argument_slot(&store, NODE, name).map(|slot| slot.number());
-    assert_eq!(rt; number(named(0x060, 12)), Ok(0x1060));
-    assert_eq!(rt; number(named(0x060, 0)), Err(KError::RangeError));
-    assert_eq!(rt; number(named(0x060, 33)), Err(KError::RangeError));
-    assert_eq!(rt; number(named(0x0600_0000, 32)), Err(KError::FailedLookup));
-    assert_eq!(rt; number(named(0x160, 12)), Err(KError::FailedLookup));
+    assert_eq!(rt; argument(&store, 0x060, 12), Ok(0x1060));
+    assert_eq!(rt; argument(&store, 0x060, 0), Err(KError::RangeError));
+    assert_eq!(rt; argument(&store, 0x060, 33), Err(KError::RangeError));
+    assert_eq!(rt;
+        argument(&store, 0x0600_0000, 32),
+        Err(KError::FailedLookup)
+    );
+    assert_eq!(rt; argument(&store, 0x160, 12), Err(KError::FailedLookup));
     Ok(())
 }
 
 #[test]
 fn a_source_is_full_and_a_destination_empty(rt: HostRuntime) -> Result<(), Fail> {
     let store = space(&rt, rt.alloc())?;
-    let source = |name| source_slot(&store, NODE, name).map(|slot| slot.number());
-    let destination = |name| destination_slot(&store, NODE, name).map(|slot| slot.number());
-    assert_eq!(rt; source(named(0x060, 12)), Ok(0x1060));
-    assert_eq!(rt; source(named(0x062, 12)), Err(KError::FailedLookup));
-    assert_eq!(rt; source(named(0x060, 0)), Err(KError::RangeError));
-    assert_eq!(rt; destination(named(0x062, 12)), Ok(0x1062));
-    assert_eq!(rt; destination(named(0x060, 12)), Err(KError::DeleteFirst));
-    assert_eq!(rt; destination(named(0x160, 12)), Err(KError::FailedLookup));
+    assert_eq!(rt; source(&store, 0x060, 12), Ok(0x1060));
+    assert_eq!(rt; source(&store, 0x062, 12), Err(KError::FailedLookup));
+    assert_eq!(rt; source(&store, 0x060, 0), Err(KError::RangeError));
+    assert_eq!(rt; destination(&store, 0x062, 12), Ok(0x1062));
+    assert_eq!(rt; destination(&store, 0x060, 12), Err(KError::DeleteFirst));
+    assert_eq!(rt; destination(&store, 0x160, 12), Err(KError::FailedLookup));
     Ok(())
 }

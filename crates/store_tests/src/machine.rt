@@ -39,11 +39,11 @@ pub(crate) fn slot(rt: &impl Abort, number: u32) -> Slot {
     Slot::new(0x400 + number)
 }
 
-fn put(rt: &impl Abort, store: &mut PlainSlots, number: u32, held: Cap)
+// Puts a capability into an empty slot.
+pub(crate) fn put(rt: &impl Abort, store: &mut PlainSlots, at: Slot, held: Cap)
     requires valid { IsCapability held }
     requires some { held ≢ Cap.Empty }
 {
-    let at = slot(rt, number);
     assert!(rt; is_free(store, at));
     store.insert(at, held, None);
 }
@@ -70,19 +70,24 @@ pub(crate) fn boot(rt: &impl Abort, alloc: Global) -> Result<PlainSlots, Fail>
 {
     let mut store = PlainSlots::new(alloc, 17)?;
     store.open_range(Slot::new(0x400), 16);
-    put(rt, &mut store, 0, NODE);
-    put(rt, &mut store, 1, Cap::RootTable { offset: 0x9000 });
+    put(rt, &mut store, slot(rt, 0), NODE);
     put(
         rt,
         &mut store,
-        TABLE,
+        slot(rt, 1),
+        Cap::RootTable { offset: 0x9000 },
+    );
+    put(
+        rt,
+        &mut store,
+        slot(rt, TABLE),
         Cap::PageTable {
             offset: 0xa000,
             mapping: None,
         },
     );
-    put(rt, &mut store, FRAME, frame(0x1_1000));
-    put(rt, &mut store, OTHER_FRAME, frame(0x1_2000));
+    put(rt, &mut store, slot(rt, FRAME), frame(0x1_1000));
+    put(rt, &mut store, slot(rt, OTHER_FRAME), frame(0x1_2000));
     assert!(rt; agrees(&store));
     Ok(store)
 }
