@@ -129,10 +129,10 @@ none-left before slots order root left s =
     let none : first_of (descendants order slots root) ≡ None = sym left.first in
     elim (is_descendant slots root s) as (λ b. is_descendant slots root s ≡ b → b ≡ false) [
       | true ↦ λ is. absurd (omega (
-          arith,
-          descendants-once order slots root s left.tree left.lists ∙ ap (λ b. if b then 1 else 0) is,
-          ap (λ l. times_in l s) (first-none (descendants order slots root) none),
-        ))
+        arith,
+        descendants-once order slots root s left.tree left.lists ∙ ap (λ b. if b then 1 else 0) is,
+        ap (λ l. times_in l s) (first-none (descendants order slots root) none),
+      ))
       | false ↦ λ is. refl
     ] refl
 

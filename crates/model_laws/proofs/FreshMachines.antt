@@ -56,9 +56,10 @@ module _ (s : State) (bare : IsBare s) where
     there = λ slot. (
       (λ is. of_boot_area (ltb-true slot (boot_area_slots s.boot_radix) (sym (bare.open_slots slot) ∙ is))),
       (λ has. elim has [
-        of_boot_area less ↦ bare.open_slots slot ∙ lt-ltb slot (boot_area_slots s.boot_radix) less
+        | of_boot_area less ↦ bare.open_slots slot ∙ lt-ltb slot (boot_area_slots s.boot_radix) less
         | of_object offset is ↦ absurd (no-slot offset slot is)
-      ]));
+      ]),
+    );
     cspace = λ thread t is. absurd (no-object thread _ (s.objects thread) (bare.objects thread) is);
     vspace = λ thread t is. absurd (no-object thread _ (s.objects thread) (bare.objects thread) is);
     bindings = λ line less full. absurd (not-full _ full);
@@ -72,7 +73,8 @@ module _ (s : State) (bare : IsBare s) where
     live = λ offset kind is. absurd (no-object offset kind (option_map kind_of (s.objects offset)) (ap (option_map kind_of) (bare.objects offset)) is);
     bytes = λ place. (
       (λ is. let e : is_some (s.bytes place) ≡ false = ap is_some (bare.bytes place) in let f : false ≡ true = sym e ∙ is in cc),
-      (λ is. absurd (no-object place _ (option_map kind_of (s.objects _)) (ap (option_map kind_of) (bare.objects _)) is)));
+      (λ is. absurd (no-object place _ (option_map kind_of (s.objects _)) (ap (option_map kind_of) (bare.objects _)) is)),
+    );
     small = λ place byte is. absurd (no-object place byte (s.bytes place) (bare.bytes place) is);
   }
 

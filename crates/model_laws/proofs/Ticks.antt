@@ -56,7 +56,7 @@ runs-own : (o : Option ThreadState) (priority : ℕ) → 1 ≤ (if option_map_or
 runs-own None priority some = absurd (omega (arith, some))
 runs-own (Some t) priority some =
     elim (is_runnable t.status && t.priority == priority) as (λ b. (is_runnable t.status && t.priority == priority) ≡ b → 1 ≤ (if b then 1 else 0) → (u : ThreadState) × (Some t ≡ Some u) × (u.priority ≡ priority)) [
-      true ↦ λ is more. (t, refl, eqb-true t.priority priority (and_parts (is_runnable t.status) (t.priority == priority) is).1)
+      | true ↦ λ is more. (t, refl, eqb-true t.priority priority (and_parts (is_runnable t.status) (t.priority == priority) is).1)
       | false ↦ λ is more. absurd (omega (arith, more))
     ] refl some
 
@@ -133,11 +133,12 @@ module _ (s : State) (sound : ThreadsAreSound s) (thread : ℕ) (is : current s 
     runs = λ other old now there.
         let e : Some thread ≡ Some other = sym is ∙ now in
         let here : thread ≡ other = cc in
-        let own : thread_at s other ≡ old = ap (λ (o : Option Object). option_map_or (λ (t : ThreadState). t) (as_thread o) new_thread) there in
-        (slice,
-        ap (λ (b : Bool). if b then Some (ThreadObject (record (thread_at s thread) { slice = slice })) else s.objects other) (eq-eqb other thread (sym here))
-        ∙ ap (λ (n : ℕ). Some (ThreadObject (record (thread_at s n) { slice = slice }))) here
-        ∙ ap (λ (t : ThreadState). Some (ThreadObject (record t { slice = slice }))) own);
+        let own : thread_at s other ≡ old = ap (λ (o : Option Object). option_map_or (λ (t : ThreadState). t) (as_thread o) new_thread) there in (
+          slice,
+          ap (λ (b : Bool). if b then Some (ThreadObject (record (thread_at s thread) { slice = slice })) else s.objects other) (eq-eqb other thread (sym here))
+              ∙ ap (λ (n : ℕ). Some (ThreadObject (record (thread_at s n) { slice = slice }))) here
+              ∙ ap (λ (t : ThreadState). Some (ThreadObject (record t { slice = slice }))) own,
+        );
     idle = λ none. let e : None ≡ Some thread = sym none ∙ is in absurd cc;
     ready = λ other priority now.
         let e : Some thread ≡ Some other = sym is ∙ now in
@@ -168,7 +169,7 @@ module _ (s : State) (sound : ThreadsAreSound s) (thread : ℕ) (is : current s 
   ticked-within =
       let slice = (thread_at s thread).slice in
       elim (nat_le slice 1) as (λ b. WithinTick s (if b then yielded s thread else with_thread s thread (record (thread_at s thread) { slice = slice - 1 }))) [
-        true ↦ yielded-within
+        | true ↦ yielded-within
         | false ↦ within (slice - 1) s.ready (λ priority. refl) (λ priority. omega arith)
       ]
 

@@ -8,8 +8,7 @@ ghost use Rattle.slots.specs.Table.{table_slots};
 ghost use Rattle.vspace.specs.Tables.{TablesAgree};
 
 use crate::fresh::is_fresh;
-use model::SlotName;
-use model::{Access, Cap, KError, Rights, Slot};
+use model::{Access, Cap, KError, Rights, Slot, SlotName};
 use slots::{PlainSlots, SlotMap, SlotStore, is_free};
 use std::alloc::Global;
 use std::process::Abort;

@@ -52,7 +52,7 @@ slots-preserved g c =
     let after = left-after before slots order c.args.root c.in-Some.slot next.result left next.ensures.next in
     record {
       left = subst (λ o. IsLeft before (g.S.SlotMap.slots c.splice_out.new.self) o c.args.root next.result) (sym c.splice_out.ensures.order)
-      (subst (λ (t : Slots). IsLeft before t (without c.in-Some.slot order) c.args.root next.result) (sym c.splice_out.ensures.slots) after);
+          (subst (λ (t : Slots). IsLeft before t (without c.in-Some.slot order) c.args.root next.result) (sym c.splice_out.ensures.slots) after);
       bytes = outside-then before slots _ _ _ left.closed c.slots.invariant.bytes c.splice_out.ensures.bytes;
     }
 
