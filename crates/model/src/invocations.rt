@@ -11,7 +11,7 @@ pub struct SlotName {
 }
 
 /// Untyped memory as its capability has it: 2^`bits` bytes, of which the first `watermark` are used.
-#[derive(Clone, Copy, Debug, PartialEq, Eq)]
+#[derive(Clone, Copy)]
 pub struct UntypedMemory {
     pub offset: u32,
     pub bits: u8,
@@ -19,7 +19,7 @@ pub struct UntypedMemory {
 }
 
 /// New objects in untyped memory.
-#[derive(Clone, Copy, Debug, PartialEq, Eq)]
+#[derive(Clone, Copy)]
 pub struct RetypeCall {
     /// The number of the objects' type, 1 to 8.
     pub kind: u32,
@@ -34,7 +34,7 @@ pub struct RetypeCall {
 }
 
 /// A call on a thread.
-#[derive(Clone, Copy, Debug, PartialEq, Eq)]
+#[derive(Clone, Copy)]
 pub enum ThreadCall {
     /// Copies of a CNode's and a root table's capability go into the thread's own slots.
     Configure {
@@ -56,7 +56,7 @@ pub enum ThreadCall {
 
 /// A call on a CNode. The first slot is named under that CNode, a source in the caller's capability
 /// space.
-#[derive(Clone, Copy, Debug, PartialEq, Eq)]
+#[derive(Clone, Copy)]
 pub enum CNodeCall {
     Copy {
         destination: SlotName,
@@ -89,7 +89,7 @@ pub enum CNodeCall {
 }
 
 /// A call on a frame.
-#[derive(Clone, Copy, Debug, PartialEq, Eq)]
+#[derive(Clone, Copy)]
 pub enum FrameCall {
     MapFrame {
         root: SlotName,
@@ -100,14 +100,14 @@ pub enum FrameCall {
 }
 
 /// A call on a page table.
-#[derive(Clone, Copy, Debug, PartialEq, Eq)]
+#[derive(Clone, Copy)]
 pub enum TableCall {
     MapTable { root: SlotName, address: u32 },
     UnmapTable,
 }
 
 /// A call on the handler of an interrupt line.
-#[derive(Clone, Copy, Debug, PartialEq, Eq)]
+#[derive(Clone, Copy)]
 pub enum HandlerCall {
     Acknowledge,
     /// The line signals a notification from now on.
@@ -117,7 +117,7 @@ pub enum HandlerCall {
 }
 
 /// A call on a capability, by the capability's kind.
-#[derive(Clone, Copy, Debug, PartialEq, Eq)]
+#[derive(Clone, Copy)]
 pub enum Invocation {
     OnUntyped {
         memory: UntypedMemory,
