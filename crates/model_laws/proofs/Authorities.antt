@@ -1,12 +1,10 @@
 -- What authority rules out. A capability that is granted to a thread which holds one endpoint is one to that endpoint.
-use Rattle.std.proofs.Common.{ℕ, ◌≡◌, ◌≢◌, ◌⊎◌, ◌+◌, ◌^◌, ◌≤◌, ◌++◌, Bool, true, false, not, if◌then◌else◌, Option, Some, None, List, [], ◌∷◌, Contains, refl, sym, ◌∙◌, ap, subst, inl, inr, arith, bit_and, eq-eqb, lit<, ◌==◌}
+use Rattle.std.proofs.Common.{ℕ, ◌≡◌, ◌≢◌, ◌⊎◌, ◌≤◌, ◌++◌, Bool, true, not, if◌then◌else◌, Option, Some, None, List, [], ◌∷◌, Contains, refl, sym, ◌∙◌, ap, subst, inl, inr, arith, bit_and, eq-eqb, lit<, ◌==◌}
 use Rattle.std.proofs.lemmas.Bool.{ne_eqb}
-use Rattle.std.proofs.lemmas.Bool.Decides.{eqb_tells}
 use Rattle.model.specs.declared.capabilities.Cap.{Cap}
-use Rattle.model.specs.declared.capabilities.Cap.TheVariants.{CNode, Empty, Endpoint, Frame, InterruptControl, InterruptHandler, Notification, PageTable, RootTable, Tcb, Untyped}
+use Rattle.model.specs.declared.capabilities.Cap.TheVariants.{Empty, Endpoint, InterruptControl, InterruptHandler, Untyped}
 use Rattle.model.specs.declared.rights.Rights.{Rights}
-use Rattle.model.specs.Acceptance.Authority.{Covers, Granted, held, appeared, pool, handler, control, Holds, IsOwnSlot, IsUntypedAround, ReadyChange, WithinAuthority, rights_of, badge_of, self_of, without_use}
-use Rattle.model.specs.Capabilities.Rights.{rights}
+use Rattle.model.specs.Acceptance.Authority.{Covers, Granted, held, appeared, pool, handler, control, IsUntypedAround, ReadyChange, WithinAuthority, rights_of, badge_of, without_use}
 use Rattle.model.specs.Capabilities.Slots.{capability_at}
 use Rattle.model.specs.Images.Image.{Image, Thread}
 use Rattle.model.specs.Kernel.Kinds.{object_named}

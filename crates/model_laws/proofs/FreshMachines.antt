@@ -1,20 +1,19 @@
 -- The empty machine is sound: all of its slots are empty, and there are no objects.
-use Rattle.std.proofs.Common.{ℕ, ◌≡◌, ◌+◌, ◌/◌, ◌==◌, ◌&&◌, ◌<◌, ◌≤◌, ◌↔◌, Bool, true, false, not, is_some, if◌then◌else◌, IsSome, IsTrue, Option, Some, None, option_map, List, [], refl, sym, ◌∙◌, ap, subst, arith, nat_lt}
+use Rattle.std.proofs.Common.{ℕ, ◌≡◌, ◌+◌, ◌/◌, ◌==◌, ◌&&◌, ◌≤◌, Bool, true, false, not, is_some, if◌then◌else◌, Option, Some, None, option_map, List, [], refl, sym, ◌∙◌, ap, subst, arith, nat_lt}
 use Rattle.std.specs.Option.{option_map_or}
 use Rattle.std.proofs.lemmas.Bool.{ltb-true, lt-ltb}
 use Rattle.model.specs.declared.capabilities.Cap.{Cap}
 use Rattle.model.specs.declared.capabilities.Cap.TheVariants.{Empty, PageTable}
-use Rattle.model.specs.declared.slot_entries.Entry.{Entry}
 use Rattle.model.specs.Capabilities.CapabilityKinds.{frame_mapping, table_mapping}
 use Rattle.model.specs.Capabilities.CapabilityWords.{IsCapability}
-use Rattle.model.specs.Capabilities.Slots.{IsDerivation, IsFull, IsOpen, capability_at, empty_entry, is_empty, is_within, parent_at}
+use Rattle.model.specs.Capabilities.Slots.{IsFull, capability_at, empty_entry, is_empty, is_within, parent_at}
 use Rattle.model.specs.Kernel.AddressSpaces.{maps_page, maps_region}
 use Rattle.model.specs.Kernel.Kinds.{kind_of, object_named, piece_of}
 use Rattle.model.specs.Shared.Lists.{times_in}
 use Rattle.model.specs.Kernel.Removal.{is_slot_of, slot_count}
 use Rattle.model.specs.Kernel.Scheduling.{is_runnable}
 use Rattle.model.specs.Kernel.Setup.{boot_area}
-use Rattle.model.specs.Kernel.Soundness.{HasShape, HasSlot, of_boot_area, of_object, IsSound, is_blocked_on, SlotsAreSound, MemoryIsSound, MappingsAreSound, ThreadsAreSound, runs_at, waiting_at, waits_at}
+use Rattle.model.specs.Kernel.Soundness.{HasShape, of_boot_area, of_object, IsSound, is_blocked_on, SlotsAreSound, MemoryIsSound, MappingsAreSound, ThreadsAreSound, waiting_at}
 use Rattle.model.specs.Kernel.State.{State, as_thread, boot_area_slots, new_thread, thread_at}
 use Rattle.model.proofs.Depths.{depth-none}
 

@@ -4,6 +4,7 @@ pub mod BranchedSides
 pub mod CapabilityTests
 pub mod Descents
 pub mod FreshMachines
+pub mod Interrupted
 pub mod LookupLaws
 pub mod Opened
 pub mod PlainSteps

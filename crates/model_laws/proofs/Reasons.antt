@@ -1,10 +1,9 @@
 -- What no reason makes of another thread.
-use Rattle.std.proofs.Common.{ℕ, ◌≡◌, ◌≢◌, Bool, true, false, if◌then◌else◌, Option, Some, None, List, [], refl, sym, ap, ◌∙◌}
+use Rattle.std.proofs.Common.{ℕ, ◌≡◌, ◌≢◌, Option, Some, None, [], refl, sym, ap, ◌∙◌}
 use Rattle.model.specs.declared.capabilities.Cap.{Cap}
-use Rattle.model.specs.Kernel.Deliveries.{MayReply, as_before, to_sender, Reason, receiver, sender, waiter, caller, faulted, set_back, once_received, once_handled, woken}
-use Rattle.model.specs.Kernel.Messages.{message_of}
+use Rattle.model.specs.Kernel.Deliveries.{MayReply, as_before, to_sender, Reason, receiver, sender, waiter, caller, faulted, set_back, once_received}
 use Rattle.model.specs.Kernel.Scheduling.{head_of}
-use Rattle.model.specs.Kernel.State.{State, Status, Inactive, Runnable, Blocked, AwaitsReply, AwaitsHandler, Sender, Sent, BySend, ByCall, ByFault, ThreadState, endpoint_at, thread_at}
+use Rattle.model.specs.Kernel.State.{State, Inactive, Runnable, Blocked, AwaitsReply, AwaitsHandler, Sender, Sent, BySend, ByCall, ByFault, ThreadState, endpoint_at, thread_at}
 
 blocked_is : (a b : ℕ) (t : ThreadState) → t.status ≡ Blocked a → t.status ≡ Blocked b → a ≡ b
 blocked_is a b t one two = let e : Blocked a ≡ Blocked b = sym one ∙ two in cc

@@ -1,12 +1,12 @@
 -- A tick of a sound state stays within authority.
-use Rattle.std.proofs.Common.{ℕ, zero, suc, ◌≡◌, ◌≢◌, ◌==◌, ◌+◌, ◌-◌, ◌≤◌, ◌++◌, ◌&&◌, Bool, true, false, not, nat_le, if◌then◌else◌, Option, Some, None, List, [], ◌∷◌, refl, sym, ◌∙◌, ap, subst, inl, inr, arith}
+use Rattle.std.proofs.Common.{ℕ, zero, suc, ◌≡◌, ◌==◌, ◌+◌, ◌-◌, ◌≤◌, ◌++◌, ◌&&◌, Bool, true, false, not, nat_le, if◌then◌else◌, Option, Some, None, List, [], ◌∷◌, refl, sym, ◌∙◌, ap, subst, inl, inr, arith}
 use Rattle.std.specs.Option.{option_map_or}
 use Rattle.std.proofs.lemmas.Bool.{and_parts, eq-eqb, eqb-true, ne_eqb}
 use Rattle.std.proofs.lemmas.Bool.Decides.{eqb_tells}
 use Rattle.model.specs.Acceptance.Authority.{WithinTick}
 use Rattle.model.specs.Kernel.Scheduling.{current, first_below, full_slice, head_of, is_runnable, tick, ticked, yielded}
 use Rattle.model.specs.Shared.Lists.{times_in, without}
-use Rattle.model.specs.Kernel.Soundness.{IsSound, ThreadsAreSound, runs_at}
+use Rattle.model.specs.Kernel.Soundness.{IsSound, ThreadsAreSound}
 use Rattle.model.specs.Kernel.State.{State, Object, ThreadObject, EndpointObject, NotificationObject, CNodeObject, FrameObject, PageTableObject, RootTableObject, ThreadState, as_thread, new_thread, put, thread_at, with_thread}
 use Rattle.model_laws.proofs.ReadyLists.{moved, times-moved_elsewhere, times-moved_here}
 
@@ -41,7 +41,7 @@ head-counts (t ∷ rest) thread is =
     let more : times_in (t ∷ rest) thread ≡ times_in rest thread + 1 = ap (λ (b : Bool). if b then times_in rest thread + 1 else times_in rest thread) (eq-eqb t thread same) in
     omega (arith, more)
 
-thread-object : (o : Option Object) (t : ThreadState) → as_thread o ≡ Some t → o ≡ Some (ThreadObject t)
+pub thread-object : (o : Option Object) (t : ThreadState) → as_thread o ≡ Some t → o ≡ Some (ThreadObject t)
 thread-object None t is = let e : None ≡ Some t = is in absurd cc
 thread-object (Some (ThreadObject own)) t is = let e : own ≡ t = cc in ap (λ (u : ThreadState). Some (ThreadObject u)) e
 thread-object (Some (EndpointObject x)) t is = let e : None ≡ Some t = is in absurd cc

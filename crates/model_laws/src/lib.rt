@@ -173,6 +173,7 @@ pub use slot_rows::noted_words_stand_for_a_capability;
 pub use soundness_laws::a_fresh_machine_is_sound;
 pub use soundness_laws::a_plain_step_stays_within_authority;
 pub use soundness_laws::a_tick_stays_within_authority;
+pub use soundness_laws::an_interrupt_stays_within_authority;
 pub use spelling_laws::a_word_spells_one_instruction;
 pub use store_rows::a_call_leaves_bits_over;
 pub use store_rows::a_wrong_guard_is_a_mismatch;

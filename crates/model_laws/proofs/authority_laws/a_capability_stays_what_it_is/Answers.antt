@@ -1,6 +1,6 @@
 -- What is granted names the endpoint, with rights and badge of its own.
-use Rattle.model.specs.Kernel.Retype.{NewCNode, NewEndpoint, NewFrame, NewThread}
-use Rattle.std.proofs.Common.{ap, ◌≡◌, Some, None, ℕ, ◌⊎◌, inl, inr}
+use Rattle.model.specs.Kernel.Retype.{NewEndpoint, NewThread}
+use Rattle.std.proofs.Common.{ap, ◌≡◌, inl, inr}
 use Rattle.model.specs.declared.capabilities.Cap.TheVariants.{Empty, Endpoint, Tcb}
 use Rattle.model.specs.Capabilities.Rights.{rights}
 use Rattle.model_laws.proofs.Authorities.{kind_named, new-part}

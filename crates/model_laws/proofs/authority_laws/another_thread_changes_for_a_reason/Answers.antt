@@ -1,5 +1,4 @@
 -- By the reasons, case by case.
-use Rattle.std.proofs.Common.{ℕ, ◌≡◌}
 use Rattle.model.specs.Acceptance.Authority.{Holds, self_of}
 use Rattle.model_laws.proofs.Reasons.{never_stopped, no_third, no_word, stops_differ, third_differs}
 use Rattle.model_laws.proofs.authority_laws.another_thread_changes_for_a_reason.Goals as goal

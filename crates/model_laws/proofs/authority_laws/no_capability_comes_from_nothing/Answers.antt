@@ -1,6 +1,6 @@
 -- What is granted names the endpoint, and these name none.
-use Rattle.model.specs.Kernel.Retype.{NewCNode, NewEndpoint, NewFrame, NewThread}
-use Rattle.std.proofs.Common.{ap, ◌≡◌, Some, None, ℕ}
+use Rattle.model.specs.Kernel.Retype.{NewCNode, NewEndpoint, NewFrame}
+use Rattle.std.proofs.Common.{ap, ◌≡◌, None}
 use Rattle.model.specs.declared.capabilities.Cap.TheVariants.{CNode, Empty, Frame, InterruptControl, InterruptHandler, Untyped}
 use Rattle.model.specs.Capabilities.Rights.{rights}
 use Rattle.model_laws.proofs.Authorities.{kind_named, new-part}

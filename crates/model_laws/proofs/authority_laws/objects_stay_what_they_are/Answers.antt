@@ -1,6 +1,5 @@
 -- A page table loses its mapping only under the thread's own root table.
-use Rattle.std.proofs.Common.{ℕ, ◌≡◌, ◌≢◌, Some, None, inl, sym, ap, ◌∙◌}
-use Rattle.model.specs.declared.capabilities.Cap.TheVariants.{PageTable}
+use Rattle.std.proofs.Common.{◌≡◌, Some, None, inl, sym, ap, ◌∙◌}
 use Rattle.model.specs.declared.capabilities.TableMapping.{TableMapping}
 use Rattle.model.specs.Capabilities.CapabilityKinds.{table_mapping}
 use Rattle.model_laws.proofs.authority_laws.objects_stay_what_they_are.Goals as goal

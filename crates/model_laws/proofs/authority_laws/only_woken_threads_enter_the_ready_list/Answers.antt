@@ -1,6 +1,5 @@
 -- What is added is what the list has more, and each of those was woken, once.
-use Rattle.std.proofs.Common.{ℕ, ◌≡◌, ◌≤◌, Some, None, List, [], ◌∷◌, Contains, subst, sym, ap, arith, ◌∙◌}
-use Rattle.std.proofs.lemmas.Bool.{ne_eqb}
+use Rattle.std.proofs.Common.{ℕ, ◌≡◌, ◌≤◌, Some, None, List, [], ◌∷◌, subst, sym, ap, ◌∙◌}
 use Rattle.model.specs.Acceptance.Authority.{IsWoken, self_of}
 use Rattle.model.specs.Shared.Lists.{times_in}
 use Rattle.model.specs.Kernel.State.{Inactive, Runnable, ThreadObject}
