@@ -53,7 +53,7 @@ found-descends slots root None known = known
 found-descends slots root (Some slot) known = descendant-from_test (depth_of slots slot) slots root slot known
 
 -- a depth below its bound is the same by a greater bound
-depth-stable : (n : ℕ) (parents : Parents) (slot : ℕ) → depth_within n parents slot < n → depth_within (suc n) parents slot ≡ depth_within n parents slot
+pub depth-stable : (n : ℕ) (parents : Parents) (slot : ℕ) → depth_within n parents slot < n → depth_within (suc n) parents slot ≡ depth_within n parents slot
 depth-stable zero parents slot below = absurd (omega arith)
 depth-stable (suc n) parents slot below =
     elim (parents slot) as (λ o. parents slot ≡ o → depth_within (suc (suc n)) parents slot ≡ depth_within (suc n) parents slot) [

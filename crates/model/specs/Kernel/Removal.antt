@@ -12,9 +12,9 @@ use Rattle.model.specs.declared.errors.KError.TheVariants.{RevokeFirst}
 use Rattle.model.specs.declared.slot_entries.Entry.{Entry}
 use Rattle.model.specs.Kernel.AddressSpaces.{maps_region, page_size, region_pages}
 use Rattle.model.specs.Capabilities.CapabilityKinds.{is_handler_of, names_object, object_of}
-use Rattle.model.specs.Kernel.Scheduling.{leaves, wake}
+use Rattle.model.specs.Kernel.Scheduling.{all_leave, wake}
 use Rattle.model.specs.Capabilities.Slots.{Slots, capability_at, empty_entry, is_descendant, is_full, is_within, parent_at}
-use Rattle.model.specs.Kernel.State.{State, Status, Inactive, Runnable, Blocked, AwaitsReply, AwaitsHandler, Object, ThreadObject, EndpointObject, NotificationObject, CNodeObject, FrameObject, PageTableObject, RootTableObject, as_thread, binding_slot, slots_of}
+use Rattle.model.specs.Kernel.State.{State, Status, Inactive, Runnable, Blocked, AwaitsReply, AwaitsHandler, Object, ThreadObject, EndpointObject, NotificationObject, CNodeObject, FrameObject, PageTableObject, RootTableObject, as_thread, binding_slot, slots_of, with_slots}
 
 -- a set of slots, as a test
 abbrev pub SlotSet : Type 0
@@ -117,13 +117,31 @@ kept s set slot capability = capability
 abbrev pub kept_entry : State → SlotSet → ℕ → Entry → Entry
 kept_entry s set slot held = record { capability = kept s set slot held.capability; parent = new_parent s set slot }
 
-abbrev pub slots_without : State → SlotSet → Slots
-slots_without s set slot =
-    if closes s set slot then None
-    else if set slot then Some empty_entry
-    else option_map (kept_entry s set slot) (s.slots slot)
+abbrev pub slots_emptied : State → SlotSet → Slots
+slots_emptied s set slot = if set slot then Some empty_entry else option_map (kept_entry s set slot) (s.slots slot)
 
--- ---- threads
+-- ---- the objects that stay
+
+abbrev pub is_ending_thread : State → SlotSet → ℕ → Bool
+is_ending_thread s set offset = option_map_or (λ _. ends s set offset) (as_thread (s.objects offset)) false
+
+-- a thread that ends has left every queue
+abbrev pub objects_kept : State → SlotSet → ℕ → Option Object
+objects_kept s set offset = if ends s set offset then None else (all_leave s (is_ending_thread s set)).objects offset
+
+abbrev pub bytes_kept : State → SlotSet → ℕ → Option ℕ
+bytes_kept s set place = if ends s set (place - place % page_size) then None else s.bytes place
+
+-- The slots of a set are empty, and what lost its last capability is gone; the slots of what ended are still open, and
+-- whoever waited there still waits.
+abbrev pub emptied : State → SlotSet → State
+emptied s set = record (all_leave s (is_ending_thread s set)) {
+  slots = slots_emptied s set;
+  objects = objects_kept s set;
+  bytes = bytes_kept s set;
+}
+
+-- ---- the threads that waited at what ended
 
 abbrev pub waits_on_ended : State → SlotSet → Status → Bool
 waits_on_ended s set (Blocked queue) = ends s set queue
@@ -132,32 +150,23 @@ waits_on_ended s set Runnable = false
 waits_on_ended s set AwaitsReply = false
 waits_on_ended s set AwaitsHandler = false
 
+abbrev pub is_set_back : State → SlotSet → ℕ → Bool
+is_set_back s set offset =
+    option_map_or (λ t. waits_on_ended s set t.status && not (ends s set offset)) (as_thread (s.objects offset)) false
+
 -- where a thread may be, in rising order
 abbrev pub thread_places : State → List ℕ
 thread_places s = map (λ slot. 16 * slot) (slots_of s)
 
-abbrev pub ended_threads : State → SlotSet → List ℕ
-ended_threads s set =
-    filter (λ offset. option_map_or (λ _. ends s set offset) (as_thread (s.objects offset)) false) (thread_places s)
-
--- the threads that waited at what ends, in rising order of their addresses
-abbrev pub set_back : State → SlotSet → List ℕ
-set_back s set =
-    filter (λ offset. option_map_or (λ t. waits_on_ended s set t.status && not (ends s set offset)) (as_thread (s.objects offset)) false)
-    (thread_places s)
-
 -- ---- the whole
 
--- the state without the slots of a set, all of them gone at once
+-- the state with some of its slots closed
+abbrev pub closing : State → SlotSet → State
+closing s set = with_slots s (λ slot. if set slot then None else s.slots slot)
+
+-- The state without the slots of a set, all of them gone at once. Threads run again in rising order of their addresses.
 abbrev pub without_slots : State → SlotSet → State
-without_slots s set =
-    let left = fold leaves s (ended_threads s set) in
-    let rest = record left {
-      slots = slots_without s set;
-      objects = λ offset. if ends s set offset then None else left.objects offset;
-      bytes = λ place. if ends s set (place - place % page_size) then None else s.bytes place;
-    } in
-    fold wake rest (set_back s set)
+without_slots s set = fold wake (closing (emptied s set) (closes s set)) (filter (is_set_back s set) (thread_places s))
 
 unfoldable pub remove : State → SlotSet → Result State KError
 remove s set =

@@ -64,20 +64,31 @@ ticked s thread =
 abbrev pub tick : State → State
 tick s = option_map_or (ticked s) (current s) s
 
--- ---- a thread that leaves what it waits for
+-- ---- threads that leave what they wait for
 
--- what an object knows of threads, without this one: nobody waits as it, and nobody has the right to reply to it
+-- what an object knows of threads, without some of them: none of these waits at it, and nobody has the right to reply to one
+abbrev pub without_threads : (ℕ → Bool) → Object → Object
+without_threads gone (ThreadObject t) = ThreadObject (record t { caller = if option_map_or gone t.caller false then None else t.caller })
+without_threads gone (EndpointObject e) =
+    EndpointObject (record {
+      senders = filter (λ sender. not (gone sender.thread)) e.senders;
+      receivers = filter (λ thread. not (gone thread)) e.receivers;
+    })
+without_threads gone (NotificationObject n) = NotificationObject (record n { waiters = filter (λ thread. not (gone thread)) n.waiters })
+without_threads gone (CNodeObject radix) = CNodeObject radix
+without_threads gone FrameObject = FrameObject
+without_threads gone PageTableObject = PageTableObject
+without_threads gone RootTableObject = RootTableObject
+
+-- these threads leave every queue, and the rights to reply to them are void
+abbrev pub all_leave : State → (ℕ → Bool) → State
+all_leave s gone = record s {
+  ready = λ priority. filter (λ thread. not (gone thread)) (s.ready priority);
+  objects = λ offset. option_map (without_threads gone) (s.objects offset);
+}
+
 abbrev pub forgetting : ℕ → Object → Object
-forgetting thread (ThreadObject t) =
-    ThreadObject (record t { caller = if option_map_or (λ caller. caller == thread) t.caller false then None else t.caller })
-forgetting thread (EndpointObject e) =
-    EndpointObject (record { senders = filter (λ sender. not (sender.thread == thread)) e.senders; receivers = without thread e.receivers })
-forgetting thread (NotificationObject n) = NotificationObject (record n { waiters = without thread n.waiters })
-forgetting thread (CNodeObject radix) = CNodeObject radix
-forgetting thread FrameObject = FrameObject
-forgetting thread PageTableObject = PageTableObject
-forgetting thread RootTableObject = RootTableObject
+forgetting thread = without_threads (λ other. other == thread)
 
--- the thread leaves every queue, and a right to reply to it is void
 abbrev pub leaves : State → ℕ → State
-leaves s thread = record (unready s thread) { objects = λ offset. option_map (forgetting thread) (s.objects offset) }
+leaves s thread = all_leave s (λ other. other == thread)

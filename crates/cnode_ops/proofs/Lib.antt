@@ -1,0 +1,2 @@
+mod Emptied
+mod Watermarks

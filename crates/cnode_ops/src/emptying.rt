@@ -1,0 +1,124 @@
+//! Emptying one slot of a removal, with all that goes with its capability.
+
+ghost use Rattle.std.specs.Prelude.{ℕ, ◌≡◌, ◌+◌, ◌*◌, ◌≤◌, true, false, length};
+ghost use Rattle.model.specs.Capabilities.CapabilityKinds.{names_object, object_of};
+ghost use Rattle.model.specs.Capabilities.Slots.{IsDerivation, IsFull, capability_at, parent_at, spliced};
+ghost use Rattle.model.specs.Kernel.Removal.{emptied};
+ghost use Rattle.model.specs.Kernel.State.{with_slots};
+ghost use Rattle.model.specs.Shared.Lists.{without};
+ghost use Rattle.removals.specs.Steps.{IfUnnamed, RootsAreRoots, WithWatermark, alone, unmapped_at};
+
+use crate::Ends;
+use model::{Cap, Slot};
+use slots::SlotStore;
+
+/// The object that a capability names, by its offset: untyped memory is no object, and a line is none.
+fn object_of(capability: Cap) -> Option<u32>
+    ensures { result ≡ object_of capability }
+{
+    match capability {
+        Cap::Endpoint { offset, .. }
+        | Cap::Notification { offset, .. }
+        | Cap::CNode { offset, .. }
+        | Cap::Frame { offset, .. }
+        | Cap::PageTable { offset, .. }
+        | Cap::Tcb { offset }
+        | Cap::RootTable { offset } => Some(offset),
+        Cap::Empty | Cap::Untyped { .. } | Cap::InterruptControl | Cap::InterruptHandler { .. } => None,
+    }
+}
+
+/// Whether some slot's capability names the object at an offset.
+fn is_named<S: SlotStore>(store: &S, offset: u32) -> bool
+    ensures some { result ≡ true → (slot : ℕ) × (names_object offset (capability_at (S.slots store.now) slot) ≡ true) }
+    ensures none { result ≡ false → (slot : ℕ) → names_object offset (capability_at (S.slots store.now) slot) ≡ false }
+{
+    let count = store.count();
+    'slots: for number in 0..count {
+        if object_of(store.capability(Slot::new(number))) == Some(offset) {
+            return true;
+        }
+    }
+    false
+}
+
+/// Empties a slot, with the mapping of its capability: what that was, and the slot that it was derived
+/// from.
+fn take_out<S: SlotStore, E: Ends>(store: &mut S, ends: &mut E, slot: Slot) -> (Cap, Option<Slot>)
+    requires full { IsFull (S.slots store.old) slot }
+    requires agree { E.Agree ends.old (S.slots store.old) (S.memory store.old) }
+    ensures removed { result.0 ≡ capability_at (unmapped_at (S.slots store.old) slot) slot }
+    ensures parent { result.1 ≡ parent_at (S.slots store.old) slot }
+    ensures slots { S.slots store.new ≡ spliced (unmapped_at (S.slots store.old) slot) slot }
+    ensures state { E.state ends.new (S.slots store.new) (S.memory store.new)
+        ≡ with_slots (E.state ends.old (S.slots store.old) (S.memory store.old)) (S.slots store.new) }
+    ensures order { S.order store.new ≡ without slot (S.order store.old) }
+    ensures agree { E.Agree ends.new (S.slots store.new) (S.memory store.new) }
+{
+    ends.unmap(store, slot);
+    let held = store.get(slot);
+    store.splice_out(slot);
+    held
+}
+
+/// Ends the object that a removed capability named, if no other names it.
+fn end_unnamed<S: SlotStore, E: Ends>(store: &mut S, ends: &mut E, removed: Cap)
+    requires agree { E.Agree ends.old (S.slots store.old) (S.memory store.old) }
+    ensures state { IfUnnamed (E.state ends.old (S.slots store.old) (S.memory store.old)) removed
+        (E.state ends.new (S.slots store.new) (S.memory store.new)) }
+    ensures order { S.order store.new ≡ S.order store.old }
+    ensures agree { E.Agree ends.new (S.slots store.new) (S.memory store.new) }
+{
+    let Some(offset) = object_of(removed) else {
+        return;
+    };
+    if is_named(store, offset) {
+        return;
+    }
+    ends.end(store, removed);
+}
+
+/// Untyped memory in a slot is unused again, if nothing is derived from it any more.
+fn rewind<S: SlotStore, E: Ends>(store: &mut S, ends: &E, parent: Slot)
+    requires full { IsFull (S.slots store.old) parent }
+    requires agree { E.Agree ends.now (S.slots store.old) (S.memory store.old) }
+    ensures slots { WithWatermark (S.slots store.old) parent (S.slots store.new) }
+    ensures state { E.state ends.now (S.slots store.new) (S.memory store.new)
+        ≡ with_slots (E.state ends.now (S.slots store.old) (S.memory store.old)) (S.slots store.new) }
+    ensures order { S.order store.new ≡ S.order store.old }
+    ensures agree { E.Agree ends.now (S.slots store.new) (S.memory store.new) }
+{
+    let Cap::Untyped { offset, bits, .. } = store.capability(parent) else {
+        return;
+    };
+    if store.next_below(parent, None).is_some() {
+        return;
+    }
+    let unused = Cap::Untyped {
+        offset,
+        bits,
+        watermark: 0,
+    };
+    store.set_cap(parent, unused);
+}
+
+/// Empties a full slot, with all that goes with its capability alone: its mapping and what is mapped in
+/// it, the object of which it was the last capability, and the watermark of the untyped memory that it
+/// was the last to be derived from. Its children become children of its parent.
+pub(crate) fn empty_slot<S: SlotStore, E: Ends>(store: &mut S, ends: &mut E, slot: Slot)
+    requires full { IsFull (S.slots store.old) slot }
+    requires agree { E.Agree ends.old (S.slots store.old) (S.memory store.old) }
+    requires derivation { IsDerivation (S.slots store.old) }
+    requires near { (other : ℕ) → IsFull (S.slots store.old) other → 16 * (other + 1) ≤ length (S.memory store.old) }
+    requires kinds { RootsAreRoots (S.slots store.old) }
+    ensures state { E.state ends.new (S.slots store.new) (S.memory store.new)
+        ≡ emptied (E.state ends.old (S.slots store.old) (S.memory store.old)) (alone slot) }
+    ensures order { S.order store.new ≡ without slot (S.order store.old) }
+    ensures agree { E.Agree ends.new (S.slots store.new) (S.memory store.new) }
+{
+    let (removed, parent) = take_out(store, ends, slot);
+    end_unnamed(store, ends, removed);
+    if let Some(parent) = parent {
+        rewind(store, ends, parent);
+    }
+}

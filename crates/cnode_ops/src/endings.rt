@@ -1,0 +1,56 @@
+//! What a removal tells those that keep objects and mappings.
+
+ghost use Rattle.std.specs.Prelude.{ℕ, ◌≡◌, ◌^◌, List, None, length};
+ghost use Rattle.model.specs.Capabilities.CapabilityKinds.{unmapped};
+ghost use Rattle.model.specs.Capabilities.Slots.{IsFull, SameOutside, Slots, capability_at, recapped, spliced};
+ghost use Rattle.model.specs.Kernel.State.{State, with_slots};
+ghost use Rattle.removals.specs.Steps.{ended, unmapped_at, unused};
+
+use model::{Cap, Slot};
+use slots::SlotStore;
+
+/// Those that a removal tells of mappings and objects that go: they keep what the slots do not.
+pub trait Ends {
+    // The state that this, the slots and the bytes of memory stand for.
+    ghost state: { Self → Slots → List ℕ → State };
+
+    // How these have to agree for mappings to be taken away.
+    ghost Agree: { Self → Slots → List ℕ → Type 0 };
+
+    /// Takes away the mapping of the capability in a slot, and with that of a page table those of the
+    /// frames in its region.
+    fn unmap<S: SlotStore>(&mut self, store: &mut S, slot: Slot)
+        requires agree { Agree self.old (S.slots store.old) (S.memory store.old) }
+        ensures slots { S.slots store.new ≡ unmapped_at (S.slots store.old) slot }
+        ensures state { state self.new (S.slots store.new) (S.memory store.new)
+            ≡ with_slots (state self.old (S.slots store.old) (S.memory store.old)) (S.slots store.new) }
+        ensures order { S.order store.new ≡ S.order store.old }
+        ensures agree { Agree self.new (S.slots store.new) (S.memory store.new) };
+
+    /// Ends the object that a removed capability named, and that no other names.
+    fn end<S: SlotStore>(&mut self, store: &mut S, removed: Cap)
+        requires agree { Agree self.old (S.slots store.old) (S.memory store.old) }
+        ensures state { state self.new (S.slots store.new) (S.memory store.new)
+            ≡ ended (state self.old (S.slots store.old) (S.memory store.old)) removed }
+        ensures order { S.order store.new ≡ S.order store.old }
+        ensures agree { Agree self.new (S.slots store.new) (S.memory store.new) };
+
+    // The state has the slots, and memory of that size.
+    ghost of_slots: { (e : Self) (slots : Slots) (memory : List ℕ) → (state e slots memory).slots ≡ slots };
+
+    ghost of_memory: { (e : Self) (slots : Slots) (memory : List ℕ) → Agree e slots memory
+        → 2 ^ (state e slots memory).memory_bits ≡ length memory };
+
+    // It follows the slots where these are changed and no other bytes.
+    ghost follows: { (e : Self) (slots now : Slots) (old new : List ℕ) → Agree e slots old → SameOutside slots old new
+        → ((slot : ℕ) → slots slot ≡ None → now slot ≡ None) → state e now new ≡ with_slots (state e slots old) now };
+
+    // What has to agree still does where bytes of slots change, a capability without mapping goes, or a watermark changes.
+    ghost agree_bytes: { (e : Self) (slots : Slots) (old new : List ℕ) → Agree e slots old → SameOutside slots old new → Agree e slots new };
+
+    ghost agree_without: { (e : Self) (slots : Slots) (memory : List ℕ) (slot : ℕ) → Agree e slots memory → IsFull slots slot
+        → unmapped (capability_at slots slot) ≡ capability_at slots slot → Agree e (spliced slots slot) memory };
+
+    ghost agree_unused: { (e : Self) (slots : Slots) (memory : List ℕ) (slot : ℕ) → Agree e slots memory → IsFull slots slot
+        → Agree e (recapped slots slot (unused (capability_at slots slot))) memory };
+}

@@ -1,0 +1,11 @@
+pub mod Found
+pub mod Lasts
+pub mod Parents
+pub mod Keeping
+pub mod Splits
+pub mod Children
+pub mod OneByOne
+pub mod Unaffected
+pub mod Stepwise
+pub mod Emptyings
+pub mod InSteps
