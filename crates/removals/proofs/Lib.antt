@@ -9,3 +9,4 @@ pub mod Unaffected
 pub mod Stepwise
 pub mod Emptyings
 pub mod InSteps
+pub mod Finishing
