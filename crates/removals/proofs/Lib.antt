@@ -10,3 +10,4 @@ pub mod Stepwise
 pub mod Emptyings
 pub mod InSteps
 pub mod Finishing
+pub mod SameFull

@@ -16,7 +16,7 @@ unfolding ancestor_outside
 outside-none zero set slots = refl
 outside-none (suc n) set slots = refl
 
-outside-zero : (set : SlotSet) (slots : Slots) (p : Option ℕ) → ancestor_outside zero set slots p ≡ None
+pub outside-zero : (set : SlotSet) (slots : Slots) (p : Option ℕ) → ancestor_outside zero set slots p ≡ None
 unfolding ancestor_outside
 outside-zero set slots p = refl
 
