@@ -11,3 +11,4 @@ pub mod Emptyings
 pub mod InSteps
 pub mod Finishing
 pub mod SameFull
+pub mod Loop
