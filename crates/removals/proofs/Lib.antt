@@ -12,3 +12,4 @@ pub mod InSteps
 pub mod Finishing
 pub mod SameFull
 pub mod Loop
+pub mod Rounds

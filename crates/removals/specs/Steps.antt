@@ -1,14 +1,15 @@
 -- A slot is emptied in steps: its mapping goes, it is taken out, and what it held the last capability of ends.
 -- seL4 Reference Manual, "Deletion, Revocation, and Recycling".
-use Rattle.std.specs.Prelude.{ℕ, ◌≡◌, ◌≢◌, ◌==◌, ◌-◌, ◌%◌, ◌/◌, ◌&&◌, Bool, true, false, not, if◌then◌else◌, Option, Some, None, option_map}
+use Rattle.std.specs.Prelude.{ℕ, ◌≡◌, ◌≢◌, ◌==◌, ◌-◌, ◌%◌, ◌/◌, ◌&&◌, ◌||◌, Bool, true, false, not, nat_le, if◌then◌else◌, Option, Some, None, option_map}
 use Rattle.std.specs.Option.{option_map_or}
+use Rattle.std.specs.List.{list_any, range_with_len}
 use Rattle.model.specs.Capabilities.CapabilityKinds.{frame_mapping, names_object, object_of, root_of, table_mapping, unmapped}
 use Rattle.model.specs.Capabilities.Slots.{Slots, capability_at, parent_at, recapped}
 use Rattle.model.specs.Kernel.AddressSpaces.{page_size}
 use Rattle.model.specs.Kernel.MappingCalls.{without_region}
 use Rattle.model.specs.Kernel.Removal.{SlotSet}
 use Rattle.model.specs.Kernel.Scheduling.{all_leave}
-use Rattle.model.specs.Kernel.State.{State, Object, as_thread, with_slots}
+use Rattle.model.specs.Kernel.State.{State, Object, as_thread, binding_slot, with_slots}
 use Rattle.model.specs.declared.capabilities.Cap.{Cap}
 use Rattle.model.specs.declared.capabilities.Cap.TheVariants.{Frame, PageTable, RootTable, Untyped}
 use Rattle.model.specs.declared.slot_entries.Entry.{Entry}
@@ -102,3 +103,13 @@ pub data IfUnnamed (s : State) (removed : Cap) (now : State) : Type 0 where
   stays : ((offset : ℕ) → object_of removed ≡ Some offset → (slot : ℕ) × (names_object offset (capability_at s.slots slot) ≡ true)) → now ≡ s → IfUnnamed s removed now
   ends : (offset : ℕ) → object_of removed ≡ Some offset → ((slot : ℕ) → names_object offset (capability_at s.slots slot) ≡ false) → now ≡ ended s removed
       → IfUnnamed s removed now
+
+-- ---- the set of a removal
+
+-- a set of slots, and others beside it
+abbrev pub joined : SlotSet → SlotSet → SlotSet
+joined set more slot = set slot || more slot
+
+-- the bindings of some lines from one on
+abbrev pub bindings_from : State → (ℕ → Bool) → ℕ → SlotSet
+bindings_from s taken first slot = list_any (λ line. nat_le first line && (slot == binding_slot s line && taken line)) (range_with_len 0 64)
