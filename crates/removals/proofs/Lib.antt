@@ -13,3 +13,4 @@ pub mod Finishing
 pub mod SameFull
 pub mod Loop
 pub mod Rounds
+pub mod Readiness

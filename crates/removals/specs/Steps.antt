@@ -1,10 +1,10 @@
 -- A slot is emptied in steps: its mapping goes, it is taken out, and what it held the last capability of ends.
 -- seL4 Reference Manual, "Deletion, Revocation, and Recycling".
-use Rattle.std.specs.Prelude.{ℕ, ◌≡◌, ◌≢◌, ◌==◌, ◌-◌, ◌%◌, ◌/◌, ◌&&◌, ◌||◌, Bool, true, false, not, nat_le, if◌then◌else◌, Option, Some, None, option_map}
+use Rattle.std.specs.Prelude.{ℕ, ◌≡◌, ◌≢◌, ◌==◌, ◌-◌, ◌%◌, ◌/◌, ◌^◌, ◌<◌, ◌&&◌, ◌||◌, Bool, true, false, not, nat_le, if◌then◌else◌, Option, Some, None, option_map}
 use Rattle.std.specs.Option.{option_map_or}
 use Rattle.std.specs.List.{list_any, range_with_len}
 use Rattle.model.specs.Capabilities.CapabilityKinds.{frame_mapping, names_object, object_of, root_of, table_mapping, unmapped}
-use Rattle.model.specs.Capabilities.Slots.{Slots, capability_at, parent_at, recapped}
+use Rattle.model.specs.Capabilities.Slots.{IsDerivation, IsFull, IsOpen, Slots, capability_at, parent_at, recapped}
 use Rattle.model.specs.Kernel.AddressSpaces.{page_size}
 use Rattle.model.specs.Kernel.MappingCalls.{without_region}
 use Rattle.model.specs.Kernel.Removal.{SlotSet}
@@ -113,3 +113,10 @@ joined set more slot = set slot || more slot
 -- the bindings of some lines from one on
 abbrev pub bindings_from : State → (ℕ → Bool) → ℕ → SlotSet
 bindings_from s taken first slot = list_any (λ line. nat_le first line && (slot == binding_slot s line && taken line)) (range_with_len 0 64)
+
+-- what a removal relies on from one slot to the next
+pub record IsReady (s : State) : Type 0 where
+  pub derivation : IsDerivation s.slots
+  pub near : (slot : ℕ) → IsFull s.slots slot → slot < 2 ^ s.memory_bits / 16
+  pub roots : RootsAreRoots s.slots
+  pub lines : (line : ℕ) → line < 64 → IsOpen s.slots (binding_slot s line)
