@@ -5,7 +5,7 @@ use Rattle.model.specs.Capabilities.Slots.{IsOpen, Slots, capability_at}
 use Rattle.model.specs.declared.capabilities.Cap.{Cap}
 use Rattle.model.specs.declared.capabilities.Cap.TheVariants.{CNode}
 
--- if the capability names a CNode, that has all of its slots
+-- if the capability names a CNode, each of its slots is open
 pub record HasOpenSlots (slots : Slots) (capability : Cap) : Type 0 where
   pub each : (offset radix guard index : ℕ) → capability ≡ CNode offset radix guard → index < 2 ^ radix → IsOpen slots (offset / 16 + index)
 

@@ -13,11 +13,12 @@ abbrev pub Gives : {A : Type 0} → Result State KError → State → Slots → 
 Gives defined s after (Ok x) = defined ≡ Ok (with_slots s after)
 Gives defined s after (Err e) = defined ≡ Err e
 
--- what a definition gives in every state with these slots, whoever calls
+-- what a definition gives in every state with these slots, for every call on this CNode from this capability space
 abbrev pub GivesOn : {A : Type 0} → (State → Call → Result State KError) → NodeCall → Slots → Slots → Result A KError → Type 0
 GivesOn defined on slots after result =
     (s : State) (call : Call) → call.root ≡ on.root → call.capability ≡ on.node → Gives (defined (with_slots s slots) call) s after result
 
+-- the same of each of the four calls
 abbrev pub GivesCopy : {A : Type 0} → NodeCall → SlotName → SlotName → ℕ → Slots → Slots → Result A KError → Type 0
 GivesCopy on destination source rights_word slots after result =
     GivesOn (λ s call. copy s call destination source rights_word) on slots after result

@@ -15,11 +15,13 @@ named_slots slots root node destination_name source_name = do
   source ← source_slot slots root source_name
   Ok (destination, source)
 
+-- what Copy puts at the destination
 abbrev pub copy_of : Cap → ℕ → Result Cap KError
 copy_of held rights_word = do
   _ ← check (may_be_copied held) IllegalOperation
   Ok (copied held rights_word)
 
+-- what Mint puts there: a badge is given once
 abbrev pub minted_copy_of : Cap → ℕ → ℕ → Result Cap KError
 minted_copy_of held rights_word payload = do
   _ ← check (may_be_copied held) IllegalOperation
@@ -28,6 +30,7 @@ minted_copy_of held rights_word payload = do
   _ ← check (guard_fits held payload) IllegalOperation
   Ok (with_payload (copied held rights_word) payload)
 
+-- what Mutate leaves there
 abbrev pub mutation_of : Cap → ℕ → Result Cap KError
 mutation_of held payload = do
   _ ← check (not (carries_messages held)) IllegalOperation

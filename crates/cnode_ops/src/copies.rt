@@ -30,7 +30,8 @@ pub fn copy<S: SlotStore>(
     requires node { IsCapability call.node }
     requires there { HasOpenSlots (S.slots store.old) call.node }
     requires nodes { CNodesAreOpen (S.slots store.old) }
-    ensures outcome { GivesCopy call destination source rights (S.slots store.old) (S.slots store.new) result }
+    ensures outcome { GivesCopy call destination source rights
+        (S.slots store.old) (S.slots store.new) result }
     ensures unchanged { OnErr result (store.new ≡ store.old) }
     ensures bytes { SameOutside (S.slots store.old) (S.memory store.old) (S.memory store.new) }
     ensures nodes { CNodesAreOpen (S.slots store.new) }
@@ -57,7 +58,8 @@ pub fn mint<S: SlotStore>(
     requires node { IsCapability call.node }
     requires there { HasOpenSlots (S.slots store.old) call.node }
     requires nodes { CNodesAreOpen (S.slots store.old) }
-    ensures outcome { GivesMint call destination source rights payload (S.slots store.old) (S.slots store.new) result }
+    ensures outcome { GivesMint call destination source rights payload
+        (S.slots store.old) (S.slots store.new) result }
     ensures unchanged { OnErr result (store.new ≡ store.old) }
     ensures bytes { SameOutside (S.slots store.old) (S.memory store.old) (S.memory store.new) }
     ensures nodes { CNodesAreOpen (S.slots store.new) }

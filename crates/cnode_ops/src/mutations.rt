@@ -28,7 +28,8 @@ pub fn mutate<S: SlotStore>(
     requires node { IsCapability call.node }
     requires there { HasOpenSlots (S.slots store.old) call.node }
     requires nodes { CNodesAreOpen (S.slots store.old) }
-    ensures outcome { GivesMutate call destination source payload (S.slots store.old) (S.slots store.new) result }
+    ensures outcome { GivesMutate call destination source payload
+        (S.slots store.old) (S.slots store.new) result }
     ensures unchanged { OnErr result (store.new ≡ store.old) }
     ensures bytes { SameOutside (S.slots store.old) (S.memory store.old) (S.memory store.new) }
     ensures nodes { CNodesAreOpen (S.slots store.new) }
