@@ -455,6 +455,7 @@ fn no_copy_is_deeper_than_255(rt: HostRuntime) -> Result<(), Fail> {
     let mut store = space(&rt, rt.alloc())?;
     assert_done(&rt, &mut store, COPY, [100, ENDPOINT], [0xf, 0]);
     assert_done(&rt, &mut store, COPY, [101, 100], [0xf, 0]);
+    // From the slot of depth 2 on.
     copy_on(&rt, &mut store, 101, 253);
     assert_held(&rt, &store, 354, endpoint(11, 0), Some(0x400 + 353));
     let illegal = KError::IllegalOperation;
@@ -465,6 +466,11 @@ fn no_copy_is_deeper_than_255(rt: HostRuntime) -> Result<(), Fail> {
     assert_eq!(rt;
         invoke(&rt, &mut store, MINT, [355, 32, 354, 32, 0xf, 1]),
         Err(illegal)
+    );
+    // The badge is looked at before the depth.
+    assert_eq!(rt;
+        invoke(&rt, &mut store, MINT, [355, 32, 354, 32, 0xf, 0x1000_0000]),
+        Err(KError::RangeError)
     );
     assert_held(&rt, &store, 355, Cap::Empty, None);
     assert_done(&rt, &mut store, MOVE, [355, 354], [0, 0]);
