@@ -6,5 +6,5 @@ mod validity;
 mod words;
 
 pub use model::{Cap, FrameMapping, Rights, TableMapping};
-pub use validity::is_capability;
+pub use validity::{is_capability, is_guard_word};
 pub use words::{pack, unpack};

@@ -1,2 +1,6 @@
-mod Emptied
-mod Watermarks
+pub mod Answered
+pub mod Emptied
+pub mod Kept
+pub mod Lookups
+pub mod Values
+pub mod Watermarks

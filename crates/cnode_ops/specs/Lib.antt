@@ -1,0 +1,4 @@
+pub mod Nodes
+pub mod Outcomes
+pub mod Results
+pub mod Sets

@@ -1,8 +1,18 @@
-//! Calls on CNodes over any store of slots.
+//! Calls on CNodes over any store of slots, and what a removal empties.
 //! seL4 Reference Manual, "Capability-based Access Control".
 #![tactic(auto)]
 
-mod endings;
+mod capabilities;
+mod copies;
 mod emptying;
+mod endings;
+mod moves;
+mod mutations;
+mod named;
+mod sets;
 
+pub use copies::{copy, mint};
 pub use endings::Ends;
+pub use moves::move_cap;
+pub use mutations::mutate;
+pub use named::NodeCall;

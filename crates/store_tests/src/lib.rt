@@ -1,6 +1,11 @@
-//! Tests of the public calls on capability slots, lookup and address spaces, over a plain table of slots.
+//! Tests of the public calls on capability slots, lookup, decoding, CNodes and address spaces, over a plain
+//! table of slots.
 #![tactic(auto)]
 
+#[cfg(test)]
+mod cnode_calls;
+#[cfg(test)]
+mod decoding;
 #[cfg(test)]
 mod fresh;
 #[cfg(test)]
@@ -9,6 +14,8 @@ mod lookups;
 mod machine;
 #[cfg(test)]
 mod mappings;
+#[cfg(test)]
+mod nodes;
 #[cfg(test)]
 mod tables;
 #[cfg(test)]

@@ -1,0 +1,79 @@
+-- What Mint answers, and what a child leaves.
+use Rattle.std.proofs.Common.{ℕ, ◌≡◌, ◌∙◌, ◌<◌, ◌↔◌, Bool, true, false, not, Some, Result, Ok, Err, IsOk, OnOk, OnErr, refl, sym, ap, subst}
+use Rattle.std.specs.Prelude.{nat_lt}
+use Rattle.std.proofs.lemmas.Bool.{lt-ltb, ltb-true}
+use Rattle.model.specs.Capabilities.CapabilityKinds.{badge_fits, copied, guard_fits, is_badged, may_be_copied, with_payload}
+use Rattle.model.specs.Capabilities.Slots.{Slots, capability_at, depth_of, inserted}
+use Rattle.model.specs.Kernel.Arguments.{◌>>=◌, Call, check, destination_slot, may_have_child, source_slot}
+use Rattle.model.specs.Kernel.CNodeCalls.{mint}
+use Rattle.model.specs.Kernel.State.{State, with_slots}
+use Rattle.model.specs.declared.capabilities.Cap.{Cap}
+use Rattle.model.specs.declared.errors.KError.{KError}
+use Rattle.model.specs.declared.errors.KError.TheVariants.{IllegalOperation, RangeError}
+use Rattle.model.specs.declared.invocations.SlotName.{SlotName}
+use Rattle.cnode_ops.specs.Nodes.{CNodesAreOpen, HasOpenSlots}
+use Rattle.cnode_ops.specs.Outcomes.{Gives}
+use Rattle.cnode_ops.specs.Results.{minted_copy_of, named_slots}
+use Rattle.cnode_ops.proofs.Kept.{nodes-put}
+
+-- ---- a child
+
+-- the slots with a child, or the error of its depth
+abbrev pub child : State → Slots → ℕ → ℕ → Cap → Result State KError
+child s slots to from made = may_have_child slots from >>= λ _. Ok (with_slots s (inserted slots to made (Some from)))
+
+pub child-gives : (s : State) (slots after : Slots) (to from : ℕ) (made : Cap) (result : Result (Unit {0}) KError) → IsOk result ↔ (depth_of slots from < 255) → OnOk result (after ≡ inserted slots to made (Some from)) → OnErr result (result ≡ Err IllegalOperation) → Gives (child s slots to from made) s after result
+child-gives s slots after to from made (Ok x) when put deep =
+    let room : nat_lt (depth_of slots from) 255 ≡ true = lt-ltb _ _ (when.0 refl) in
+    ap (λ (b : Bool). check b IllegalOperation >>= λ _. Ok (with_slots s (inserted slots to made (Some from)))) room
+    ∙ ap (λ (t : Slots). Ok (with_slots s t)) (sym put)
+child-gives s slots after to from made (Err e) when put deep =
+    elim (nat_lt (depth_of slots from) 255) as (λ b. nat_lt (depth_of slots from) 255 ≡ b → (check b IllegalOperation >>= λ _. Ok (with_slots s (inserted slots to made (Some from)))) ≡ Err e) [
+      | true ↦ λ is. absurd (let clash : false ≡ true = when.1 (ltb-true _ _ is) in cc)
+      | false ↦ λ is. cc
+    ] refl
+
+pub child-nodes : {T : Type 0} (slots_of : T → Slots) (old new : T) (to from : ℕ) (made : Cap) (result : Result (Unit {0}) KError) → OnOk result (slots_of new ≡ inserted (slots_of old) to made (Some from)) → OnErr result (new ≡ old) → CNodesAreOpen (slots_of old) → HasOpenSlots (slots_of old) made → CNodesAreOpen (slots_of new)
+child-nodes slots_of old new to from made (Ok x) put same nodes here = subst CNodesAreOpen (sym put) (nodes-put (slots_of old) to made (Some from) nodes here)
+child-nodes slots_of old new to from made (Err e) put same nodes here = subst CNodesAreOpen (sym (ap slots_of same)) nodes
+
+-- ---- Mint
+
+-- the checks between the slots and the depth are those of the copy
+minted-checks : (copies unbadged fits guards : Bool) (made : Cap) (next : Cap → Result State KError) → (check copies IllegalOperation >>= λ _. check unbadged IllegalOperation >>= λ _. check fits RangeError >>= λ _. check guards IllegalOperation >>= λ _. next made) ≡ ((check copies IllegalOperation >>= λ _. check unbadged IllegalOperation >>= λ _. check fits RangeError >>= λ _. check guards IllegalOperation >>= λ _. Ok made) >>= next)
+minted-checks false unbadged fits guards made next = refl
+minted-checks true false fits guards made next = refl
+minted-checks true true false guards made next = refl
+minted-checks true true true false made next = refl
+minted-checks true true true true made next = refl
+
+-- behind the slots
+abbrev behind_slots : State → Slots → ℕ → ℕ → ℕ → ℕ → Result State KError
+behind_slots s slots word payload to from = minted_copy_of (capability_at slots from) word payload >>= child s slots to from
+
+-- two slots, if there are both
+abbrev both : Result ℕ KError → Result ℕ KError → Result (ℕ × ℕ) KError
+both destination source = do
+  d ← destination
+  f ← source
+  Ok (d, f)
+
+named-parts : (destination source : Result ℕ KError) (to from : ℕ) (next : ℕ → ℕ → Result State KError) → both destination source ≡ Ok (to, from) → (destination >>= λ d. source >>= λ f. next d f) ≡ next to from
+named-parts (Err e) source to from next is = absurd (cc)
+named-parts (Ok d) (Err e) to from next is = absurd (cc)
+named-parts (Ok d) (Ok f) to from next is =
+    let same : (d, f) ≡ (to, from) = cc in
+    ap (λ (p : ℕ × ℕ). next p.0 p.1) same
+
+mint-behind : (s : State) (slots : Slots) (call : Call) (destination source : SlotName) (word payload to from : ℕ) → mint (with_slots s slots) call destination source word payload ≡ (destination_slot slots call.capability destination >>= λ to. source_slot slots call.root source >>= λ from. behind_slots s slots word payload to from)
+mint-behind s slots call destination source word payload to from =
+    ap (λ (next : ℕ → ℕ → Result State KError). destination_slot slots call.capability destination >>= λ to. source_slot slots call.root source >>= λ from. next to from)
+    (λ i to from. minted-checks (may_be_copied (capability_at slots from)) (not (is_badged (capability_at slots from))) (badge_fits (capability_at slots from) payload) (guard_fits (capability_at slots from) payload) (with_payload (copied (capability_at slots from) word) payload) (child s slots to from) i)
+
+pub mint-gives : (s : State) (slots : Slots) (call : Call) (root node : Cap) (destination source : SlotName) (word payload to from : ℕ) (made : Cap) → call.root ≡ root → call.capability ≡ node → named_slots slots root node destination source ≡ Ok (to, from) → minted_copy_of (capability_at slots from) word payload ≡ Ok made → mint (with_slots s slots) call destination source word payload ≡ child s slots to from made
+mint-gives s slots call root node destination source word payload to from made same_root same_node named minted =
+    let here : named_slots slots call.root call.capability destination source ≡ Ok (to, from) =
+    ap (λ (r : Cap). named_slots slots r call.capability destination source) same_root ∙ ap (λ (n : Cap). named_slots slots root n destination source) same_node ∙ named in
+    mint-behind s slots call destination source word payload to from
+    ∙ named-parts (destination_slot slots call.capability destination) (source_slot slots call.root source) to from (behind_slots s slots word payload) here
+    ∙ ap (λ (r : Result Cap KError). r >>= child s slots to from) minted

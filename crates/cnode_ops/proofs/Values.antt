@@ -1,0 +1,134 @@
+-- Copies are valid, and name what their source names.
+use Rattle.std.proofs.Common.{ℕ, ◌≡◌, ◌∙◌, subst, ◌^◌, ◌<◌, Bool, true, false, not, Result, Ok, refl, sym, ap, arith}
+use Rattle.std.specs.Prelude.{bit_and, nat_lt}
+use Rattle.std.proofs.lemmas.Bool.Decides.{nat_tests}
+use Rattle.std.proofs.lemmas.Nat.{and_assoc, and_comm, and_le_l}
+use Rattle.model.specs.Capabilities.CapabilityKinds.{badge_fits, carries_messages, copied, guard_fits, is_badged, is_guard_word, may_be_copied, with_payload}
+use Rattle.model.specs.Capabilities.CapabilityWords.{AreEndpointRights, IsCapability, IsGuardWord}
+use Rattle.model.specs.Kernel.Arguments.{◌>>=◌, check}
+use Rattle.model.specs.declared.capabilities.Cap.{Cap}
+use Rattle.model.specs.declared.capabilities.Cap.TheVariants.{Empty, Untyped, Endpoint, Notification, CNode, Frame, PageTable, Tcb, RootTable, InterruptControl, InterruptHandler}
+use Rattle.model.specs.declared.errors.KError.{KError}
+use Rattle.model.specs.declared.errors.KError.TheVariants.{IllegalOperation, RangeError}
+use Rattle.cnode_ops.specs.Results.{copy_of, minted_copy_of, mutation_of}
+
+-- ---- validity
+
+-- fewer rights are rights of an endpoint too
+fewer_rights : (held word : ℕ) → AreEndpointRights held → AreEndpointRights (bit_and held word)
+fewer_rights held word are =
+    and_assoc 11 held word ∙ ap (λ (n : ℕ). bit_and held n) (and_comm word 11) ∙ sym (and_assoc word held 11) ∙ ap (λ (n : ℕ). bit_and n word) are
+
+copied-valid : (held : Cap) (word : ℕ) → IsCapability held → IsCapability (copied held word)
+copied-valid Empty word valid = valid
+copied-valid (Untyped offset bits watermark) word valid = valid
+copied-valid (Endpoint offset r badge) word valid = (valid.0, fewer_rights r.0 word valid.1, valid.2)
+copied-valid (Notification offset r badge) word valid = (valid.0, fewer_rights r.0 word valid.1, valid.2)
+copied-valid (CNode offset radix guard) word valid = valid
+copied-valid (Frame offset r mapping) word valid = (valid.0, omega (arith, and_le_l r.0 word, valid.1), tt)
+copied-valid (PageTable offset mapping) word valid = valid
+copied-valid (Tcb offset) word valid = valid
+copied-valid (RootTable offset) word valid = valid
+copied-valid InterruptControl word valid = valid
+copied-valid (InterruptHandler irq_line) word valid = valid
+
+guard_word : (radix word : ℕ) → is_guard_word radix word ≡ true → IsGuardWord radix word
+guard_word radix word fits = grind (arith, nat_tests)
+
+badge : (word : ℕ) → nat_lt word (2 ^ 28) ≡ true → word < 2 ^ 28
+badge word fits = grind (arith, nat_tests)
+
+payload-valid : (held : Cap) (word payload : ℕ) → IsCapability held → badge_fits held payload ≡ true → guard_fits held payload ≡ true → IsCapability (with_payload (copied held word) payload)
+payload-valid Empty word payload valid fits guards = valid
+payload-valid (Untyped offset bits watermark) word payload valid fits guards = valid
+payload-valid (Endpoint offset r old) word payload valid fits guards = (valid.0, fewer_rights r.0 word valid.1, badge payload fits)
+payload-valid (Notification offset r old) word payload valid fits guards = (valid.0, fewer_rights r.0 word valid.1, badge payload fits)
+payload-valid (CNode offset radix old) word payload valid fits guards = (valid.0, valid.1, valid.2, guard_word radix payload guards)
+payload-valid (Frame offset r mapping) word payload valid fits guards = copied-valid (Frame offset r mapping) word valid
+payload-valid (PageTable offset mapping) word payload valid fits guards = valid
+payload-valid (Tcb offset) word payload valid fits guards = valid
+payload-valid (RootTable offset) word payload valid fits guards = valid
+payload-valid InterruptControl word payload valid fits guards = valid
+payload-valid (InterruptHandler irq_line) word payload valid fits guards = valid
+
+-- ---- what the checks leave
+
+passed : (test : Bool) (error : KError) (rest : Result Cap KError) (made : Cap) → (check test error >>= λ _. rest) ≡ Ok made → (test ≡ true) × (rest ≡ Ok made)
+passed true error rest made is = (refl, is)
+passed false error rest made is = absurd (cc)
+
+copy-made : (held : Cap) (word : ℕ) (made : Cap) → copy_of held word ≡ Ok made → copied held word ≡ made
+copy-made held word made is = let ok = (passed (may_be_copied held) IllegalOperation (Ok (copied held word)) made is).1 in cc
+
+pub copy-valid : (held : Cap) (word : ℕ) (made : Cap) → IsCapability held → copy_of held word ≡ Ok made → IsCapability made
+copy-valid held word made valid is = subst IsCapability (copy-made held word made is) (copied-valid held word valid)
+
+-- what passes the checks of Mint
+pub record IsMinted (held : Cap) (word payload : ℕ) (made : Cap) : Type 0 where
+  pub fits : badge_fits held payload ≡ true
+  pub guards : guard_fits held payload ≡ true
+  pub is : with_payload (copied held word) payload ≡ made
+
+pub minted-made : (held : Cap) (word payload : ℕ) (made : Cap) → minted_copy_of held word payload ≡ Ok made → IsMinted held word payload made
+minted-made held word payload made is =
+    let one = passed (may_be_copied held) IllegalOperation _ made is in
+    let two = passed (not (is_badged held)) IllegalOperation _ made one.1 in
+    let three = passed (badge_fits held payload) RangeError _ made two.1 in
+    let four = passed (guard_fits held payload) IllegalOperation _ made three.1 in
+    let ok = four.1 in
+    record { fits = three.0; guards = four.0; is = cc }
+
+pub minted-valid : (held : Cap) (word payload : ℕ) (made : Cap) → IsCapability held → minted_copy_of held word payload ≡ Ok made → IsCapability made
+minted-valid held word payload made valid is =
+    let minted = minted-made held word payload made is in
+    subst IsCapability minted.is (payload-valid held word payload valid minted.fits minted.guards)
+
+-- ---- the CNodes that copies name
+
+-- a capability made of another names no CNode but the other's
+pub record NamesNodeOf (held made : Cap) : Type 0 where
+  pub each : (offset radix guard : ℕ) → made ≡ CNode offset radix guard → (old : ℕ) × (held ≡ CNode offset radix old)
+
+node-copied : (held : Cap) (word offset radix guard : ℕ) → copied held word ≡ CNode offset radix guard → held ≡ CNode offset radix guard
+node-copied Empty word offset radix guard is = is
+node-copied (Untyped _ _ _) word offset radix guard is = is
+node-copied (Endpoint _ _ _) word offset radix guard is = absurd (cc)
+node-copied (Notification _ _ _) word offset radix guard is = absurd (cc)
+node-copied (CNode _ _ _) word offset radix guard is = is
+node-copied (Frame _ _ _) word offset radix guard is = absurd (cc)
+node-copied (PageTable _ _) word offset radix guard is = is
+node-copied (Tcb _) word offset radix guard is = is
+node-copied (RootTable _) word offset radix guard is = is
+node-copied InterruptControl word offset radix guard is = is
+node-copied (InterruptHandler _) word offset radix guard is = is
+
+node-payload : (held : Cap) (payload offset radix guard : ℕ) → with_payload held payload ≡ CNode offset radix guard → (old : ℕ) × (held ≡ CNode offset radix old)
+node-payload Empty payload offset radix guard is = (guard, is)
+node-payload (Untyped _ _ _) payload offset radix guard is = (guard, is)
+node-payload (Endpoint _ _ _) payload offset radix guard is = absurd (cc)
+node-payload (Notification _ _ _) payload offset radix guard is = absurd (cc)
+node-payload (CNode o r old) payload offset radix guard is = (old, cc)
+node-payload (Frame _ _ _) payload offset radix guard is = (guard, is)
+node-payload (PageTable _ _) payload offset radix guard is = (guard, is)
+node-payload (Tcb _) payload offset radix guard is = (guard, is)
+node-payload (RootTable _) payload offset radix guard is = (guard, is)
+node-payload InterruptControl payload offset radix guard is = (guard, is)
+node-payload (InterruptHandler _) payload offset radix guard is = (guard, is)
+
+pub copy-node : (held : Cap) (word : ℕ) (made : Cap) → copy_of held word ≡ Ok made → NamesNodeOf held made
+copy-node held word made is =
+    record { each = λ offset radix guard names. (guard, node-copied held word offset radix guard (copy-made held word made is ∙ names)) }
+
+pub minted-node : (held : Cap) (word payload : ℕ) (made : Cap) → minted_copy_of held word payload ≡ Ok made → NamesNodeOf held made
+minted-node held word payload made is = record {
+  each = λ offset radix guard names.
+      let old = node-payload (copied held word) payload offset radix guard ((minted-made held word payload made is).is ∙ names) in
+      (old.0, node-copied held word offset radix old.0 old.1);
+}
+
+pub mutated-node : (held : Cap) (payload : ℕ) (made : Cap) → mutation_of held payload ≡ Ok made → NamesNodeOf held made
+mutated-node held payload made is =
+    let one = passed (not (carries_messages held)) IllegalOperation _ made is in
+    let two = (passed (guard_fits held payload) IllegalOperation _ made one.1).1 in
+    let same : with_payload held payload ≡ made = cc in
+    record { each = λ offset radix guard names. node-payload held payload offset radix guard (same ∙ names) }

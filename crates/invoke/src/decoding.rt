@@ -1,0 +1,34 @@
+//! From a message to the call that it makes.
+
+ghost use Rattle.std.specs.Prelude.{◌≡◌};
+ghost use Rattle.model.specs.Kernel.CallForms.{decode};
+
+use crate::calls::call_of;
+use model::{Cap, Invocation, KError};
+
+/// The call that a message makes on a capability: its label names the call, `extra_capabilities` are
+/// those that it carries, and `words` are those within its length. Further words are ignored.
+///
+/// The first check that fails gives the error: the message carries capabilities (`TruncatedMessage`),
+/// the capability has no call of this label (`IllegalOperation`), or fewer words than the call lists
+/// (`TruncatedMessage`).
+#[tactic(auto, using(crate::proofs::Decoded::decoded))]
+pub fn decode_call(
+    capability: Cap,
+    label: u32,
+    extra_capabilities: u32,
+    words: &[u32],
+) -> Result<Invocation, KError>
+    ensures { result ≡ decode capability label extra_capabilities words.now }
+{
+    if extra_capabilities != 0 {
+        return Err(KError::TruncatedMessage);
+    }
+    let Some(listed) = call_of(capability, label, words) else {
+        return Err(KError::IllegalOperation);
+    };
+    if words.len() < listed.count {
+        return Err(KError::TruncatedMessage);
+    }
+    Ok(listed.call)
+}
