@@ -41,7 +41,3 @@ full-unmapped (InterruptHandler line) full = full
 
 pub bare-full : (slots : Slots) (x : ℕ) → IsFull slots x → IsFull (unmapped_at slots x) x
 bare-full slots x full = ap (λ c. not (is_empty c)) (unmapped-itself slots x (capability_at slots x) refl).0 ∙ full-unmapped (capability_at slots x) full
-
--- where a full slot may be, by the size of memory
-pub near-memory : (slots : Slots) (memory : List ℕ) (s : State) → 2 ^ s.memory_bits ≡ length memory → ((y : ℕ) → IsFull slots y → 16 * (y + 1) ≤ length memory) → (y : ℕ) → IsFull slots y → y < 2 ^ s.memory_bits / 16
-near-memory slots memory s size near y full = let bound : 16 * (y + 1) ≤ 2 ^ s.memory_bits = omega (arith, near y full, size) in omega (arith, bound)

@@ -4,3 +4,4 @@ pub mod Kept
 pub mod Lookups
 pub mod Values
 pub mod Watermarks
+pub mod EmptiedSets

@@ -1,12 +1,12 @@
 //! Emptying one slot of a removal, with all that goes with its capability.
 
-ghost use Rattle.std.specs.Prelude.{ℕ, ◌≡◌, ◌+◌, ◌*◌, ◌≤◌, true, false, length};
+ghost use Rattle.std.specs.Prelude.{ℕ, ◌≡◌, true, false};
 ghost use Rattle.model.specs.Capabilities.CapabilityKinds.{names_object, object_of};
-ghost use Rattle.model.specs.Capabilities.Slots.{IsDerivation, IsFull, capability_at, parent_at, spliced};
+ghost use Rattle.model.specs.Capabilities.Slots.{IsFull, capability_at, parent_at, spliced};
 ghost use Rattle.model.specs.Kernel.Removal.{emptied};
 ghost use Rattle.model.specs.Kernel.State.{with_slots};
 ghost use Rattle.model.specs.Shared.Lists.{without};
-ghost use Rattle.removals.specs.Steps.{IfUnnamed, RootsAreRoots, WithWatermark, alone, unmapped_at};
+ghost use Rattle.removals.specs.Steps.{IfUnnamed, IsReady, WithWatermark, alone, unmapped_at};
 
 use crate::Ends;
 use model::{Cap, Slot};
@@ -108,9 +108,7 @@ fn rewind<S: SlotStore, E: Ends>(store: &mut S, ends: &E, parent: Slot)
 pub(crate) fn empty_slot<S: SlotStore, E: Ends>(store: &mut S, ends: &mut E, slot: Slot)
     requires full { IsFull (S.slots store.old) slot }
     requires agree { E.Agree ends.old (S.slots store.old) (S.memory store.old) }
-    requires derivation { IsDerivation (S.slots store.old) }
-    requires near { (other : ℕ) → IsFull (S.slots store.old) other → 16 * (other + 1) ≤ length (S.memory store.old) }
-    requires kinds { RootsAreRoots (S.slots store.old) }
+    requires ready { IsReady (E.state ends.old (S.slots store.old) (S.memory store.old)) }
     ensures state { E.state ends.new (S.slots store.new) (S.memory store.new)
         ≡ emptied (E.state ends.old (S.slots store.old) (S.memory store.old)) (alone slot) }
     ensures order { S.order store.new ≡ without slot (S.order store.old) }

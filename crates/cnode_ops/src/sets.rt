@@ -26,12 +26,12 @@ pub(crate) fn is_removed<S: SlotStore>(store: &S, set: Removed, slot: Slot) -> b
 }
 
 /// A full slot that is one of these, if there is one.
-pub(crate) fn first_removed<S: SlotStore>(store: &S, set: Removed) -> Option<Slot>
+pub(crate) fn first_removed<S: SlotStore>(store: &S, set: &Removed) -> Option<Slot>
     ensures full { IfSome result (IsFull (S.slots store.now)) }
-    ensures member { IfSome result (λ slot. set_of (S.slots store.now) set slot ≡ true) }
-    ensures none { result ≡ None → (slot : ℕ) → IsFull (S.slots store.now) slot → set_of (S.slots store.now) set slot ≡ false }
+    ensures member { IfSome result (λ slot. set_of (S.slots store.now) set.now slot ≡ true) }
+    ensures none { result ≡ None → (slot : ℕ) → IsFull (S.slots store.now) slot → set_of (S.slots store.now) set.now slot ≡ false }
 {
-    match set {
+    match *set {
         Removed::One(only) => {
             if is_taken(store, only) {
                 Some(only)

@@ -9,7 +9,7 @@ use Rattle.model.specs.Kernel.MappingCalls.{lies_in_region}
 use Rattle.model.specs.Kernel.Removal.{emptied}
 use Rattle.model.specs.Kernel.State.{State, with_slots}
 use Rattle.model.proofs.Depths.{depth-own_parent}
-use Rattle.removals.specs.Steps.{IfUnnamed, Rewinds, RootsAreRoots, alone, ended, ends, is_under, object_ended, slots_ended, stays, unmapped_at}
+use Rattle.removals.specs.Steps.{IfUnnamed, IsReady, Rewinds, RootsAreRoots, alone, ended, ends, is_under, object_ended, slots_ended, stays, unmapped_at}
 use Rattle.removals.proofs.Emptyings.{emptied-ending, emptied-staying, object-unmapped}
 use Rattle.removals.proofs.Stepwise.{ended-at, region_lost, root_lost, spliced-other, unmapped-itself, unmapped-other}
 
@@ -33,19 +33,19 @@ module _ (s : State) (x : ℕ) (tree : IsDerivation s.slots) (near : (y : ℕ) �
       ∙ emptied-ending s x tree near full o (sym same-object ∙ object) none p now is (subst (λ (u : State). Rewinds p u.slots now) same rewinds)
 
 -- the same of slots that are the state's
-pub emptied-in-steps : (s t0 t1 t2 : State) (slots taken after now : Slots) (x : ℕ) (removed : Cap) (p : Option ℕ)
-    → s.slots ≡ slots → IsDerivation slots → ((y : ℕ) → IsFull slots y → y < 2 ^ s.memory_bits / 16) → IsFull slots x → RootsAreRoots slots
-    → removed ≡ capability_at (unmapped_at slots x) x → taken ≡ spliced (unmapped_at slots x) x → t0 ≡ with_slots s taken
+pub emptied-in-steps : (s t0 t1 t2 : State) (slots gone after now : Slots) (x : ℕ) (removed : Cap) (p : Option ℕ)
+    → s.slots ≡ slots → IsReady s → IsFull slots x
+    → removed ≡ capability_at (unmapped_at slots x) x → gone ≡ spliced (unmapped_at slots x) x → t0 ≡ with_slots s gone
     → IfUnnamed t0 removed t1 → t1.slots ≡ after → parent_at slots x ≡ p → Rewinds p after now → t2 ≡ with_slots t1 now → t2 ≡ emptied s (alone x)
-emptied-in-steps s t0 t1 t2 slots taken after now x removed p has tree near full kinds removed_is taken_is first second third parent rewinds last =
+emptied-in-steps s t0 t1 t2 slots gone after now x removed p has ready full removed_is gone_is first second third parent rewinds last =
     let same : slots ≡ s.slots = sym has in
-    let start : t0 ≡ with_slots s (spliced (unmapped_at s.slots x) x) = first ∙ ap (λ (n : Slots). with_slots s n) (taken_is ∙ ap (λ (n : Slots). spliced (unmapped_at n x) x) same) in
-    let bare : removed ≡ capability_at (unmapped_at s.slots x) x = removed_is ∙ ap (λ (n : Slots). capability_at (unmapped_at n x) x) same in
+    let start : t0 ≡ with_slots s (spliced (unmapped_at s.slots x) x) = first ∙ ap (λ (n : Slots). with_slots s n) (gone_is ∙ ap (λ (n : Slots). spliced (unmapped_at n x) x) same) in
+    let bare_is : removed ≡ capability_at (unmapped_at s.slots x) x = removed_is ∙ ap (λ (n : Slots). capability_at (unmapped_at n x) x) same in
     let ending : IfUnnamed (with_slots s (spliced (unmapped_at s.slots x) x)) (capability_at (unmapped_at s.slots x) x) t1 =
-        subst (λ (c : Cap). IfUnnamed (with_slots s (spliced (unmapped_at s.slots x) x)) c t1) bare (subst (λ (u : State). IfUnnamed u removed t1) start second)
+        subst (λ (c : Cap). IfUnnamed (with_slots s (spliced (unmapped_at s.slots x) x)) c t1) bare_is (subst (λ (u : State). IfUnnamed u removed t1) start second)
     in
     last
-    ∙ together s x (subst (λ (n : Slots). IsDerivation n) same tree) (subst (λ (n : Slots). (y : ℕ) → IsFull n y → y < 2 ^ s.memory_bits / 16) same near) (subst (λ (n : Slots). IsFull n x) same full) (subst (λ (n : Slots). RootsAreRoots n) same kinds)
+    ∙ together s x ready.derivation ready.near (subst (λ (n : Slots). IsFull n x) same full) ready.roots
       t1 p now ending (ap (λ (n : Slots). parent_at n x) (sym same) ∙ parent) (subst (λ (n : Slots). Rewinds p n now) (sym third) rewinds)
 
 -- ---- the parent stays full

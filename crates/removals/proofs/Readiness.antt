@@ -7,7 +7,7 @@ use Rattle.model.specs.declared.capabilities.Cap.TheVariants.{Empty, Untyped, En
 use Rattle.model.specs.declared.slot_entries.Entry.{Entry}
 use Rattle.model.specs.Capabilities.CapabilityKinds.{names_object}
 use Rattle.model.specs.Capabilities.CapabilityWords.{IsCapability}
-use Rattle.model.specs.Capabilities.Slots.{IsDerivation, IsFull, Slots, capability_at, is_empty, parent_at}
+use Rattle.model.specs.Capabilities.Slots.{IsDerivation, IsFull, Slots, capability_at, is_empty, is_full, parent_at}
 use Rattle.model.specs.Kernel.Removal.{SlotSet, emptied, frame_loses, kept, loses_last_child, table_loses}
 use Rattle.model.specs.Kernel.State.{State}
 use Rattle.model.proofs.Depths.{adopted_parent, depth-own_parent, depth-spliced}
@@ -122,3 +122,15 @@ ready-emptied s x ready full =
         stays b b_other ∙ ap (kept s (alone x) b) root_was;
       lines = λ line few. open-kept s (alone x) _ (ready.lines line few);
     }
+
+-- what is full then was full, and the slot itself is not
+pub full-was : (s : State) (x : ℕ) → IsReady s → IsFull s.slots x → (y : ℕ) → IsFull (emptied s (alone x)).slots y → IsFull s.slots y
+full-was s x ready full y filled =
+    ap not (sym (ap is_empty (kept-now s (alone x) x ready.derivation ready.near (eq-eqb x x refl) full y (full-apart s x y filled)) ∙ kept-test is_empty (λ o b v w. refl) (λ f r m n. refl) (λ t m n. refl) s (alone x) y (capability_at s.slots y)))
+    ∙ filled
+
+pub not-full : (s : State) (x : ℕ) → is_full (emptied s (alone x)).slots x ≡ false
+not-full s x = elim (is_full (emptied s (alone x)).slots x) as (λ b. is_full (emptied s (alone x)).slots x ≡ b → b ≡ false) [
+  | true ↦ λ is. absurd (full-apart s x x is refl)
+  | false ↦ λ is. refl
+] refl

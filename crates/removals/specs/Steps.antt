@@ -120,3 +120,9 @@ pub record IsReady (s : State) : Type 0 where
   pub near : (slot : ℕ) → IsFull s.slots slot → slot < 2 ^ s.memory_bits / 16
   pub roots : RootsAreRoots s.slots
   pub lines : (line : ℕ) → line < 64 → IsOpen s.slots (binding_slot s line)
+
+-- one state has as much memory as another, the boot area where that has it, and open all that is open there
+pub record SameShape (s t : State) : Type 0 where
+  pub bits : t.memory_bits ≡ s.memory_bits
+  pub radix : t.boot_radix ≡ s.boot_radix
+  pub open_slots : (slot : ℕ) → IsOpen s.slots slot → IsOpen t.slots slot

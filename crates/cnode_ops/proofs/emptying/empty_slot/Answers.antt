@@ -1,9 +1,8 @@
 -- The steps together.
 use Rattle.std.proofs.Common.{ℕ, ◌≡◌, ◌∙◌, ◌+◌, ◌*◌, ◌/◌, ◌^◌, ◌<◌, ◌≤◌, length, None, Some, refl, sym, ap, subst, arith}
-use Rattle.model.specs.Capabilities.Slots.{IsFull, Slots, capability_at, parent_at}
+use Rattle.model.specs.Capabilities.Slots.{IsDerivation, IsFull, Slots, capability_at, parent_at}
 use Rattle.model.specs.Kernel.State.{State}
 use Rattle.removals.proofs.InSteps.{emptied-in-steps, parent-full}
-use Rattle.cnode_ops.proofs.Emptied.{near-memory}
 use Rattle.cnode_ops.proofs.emptying.empty_slot.Goals as goal
 
 pub rewind-requires-clause-full : goal.rewind-requires-clause-full
@@ -13,8 +12,10 @@ rewind-requires-clause-full g c =
     let after : Slots = g.S.SlotMap.slots c.end_unnamed.new.store in
     let one : State = g.E.Ends.state c.take_out-removed.new.ends taken (g.S.SlotStore.memory c.take_out-removed.new.store) in
     let two : State = g.E.Ends.state c.end_unnamed.new.ends after (g.S.SlotStore.memory c.end_unnamed.new.store) in
+    let has = g.met.E.Ends.of_slots c.args.ends.now before (g.S.SlotStore.memory c.args.store.now) in
+    let tree : IsDerivation before = subst (λ (n : Slots). IsDerivation n) has c.requires.ready.derivation in
     parent-full before taken after one two c.take_out-removed.result.0 c.args.slot c.in-Some.parent
-    c.requires.derivation (sym c.take_out-removed.ensures.parent ∙ c.in-Some.is) c.take_out-removed.ensures.slots (g.met.E.Ends.of_slots _ _ _) c.end_unnamed.ensures.state (g.met.E.Ends.of_slots _ _ _)
+    tree (sym c.take_out-removed.ensures.parent ∙ c.in-Some.is) c.take_out-removed.ensures.slots (g.met.E.Ends.of_slots _ _ _) c.end_unnamed.ensures.state (g.met.E.Ends.of_slots _ _ _)
 
 pub returns-in-Some-clause-state : goal.returns-in-Some-clause-state
 returns-in-Some-clause-state g c =
@@ -28,7 +29,7 @@ returns-in-Some-clause-state g c =
     let two : State = g.E.Ends.state c.end_unnamed.new.ends after (g.S.SlotStore.memory c.end_unnamed.new.store) in
     let three : State = g.E.Ends.state c.end_unnamed.new.ends now (g.S.SlotStore.memory c.rewind.new.store) in
     emptied-in-steps zero_is one two three before taken after now c.args.slot c.take_out-removed.result.0 (Some c.in-Some.parent)
-    (g.met.E.Ends.of_slots c.args.ends.now before memory) c.requires.derivation (near-memory before memory zero_is (g.met.E.Ends.of_memory c.args.ends.now before memory c.requires.agree) c.requires.near) c.requires.full c.requires.kinds
+    (g.met.E.Ends.of_slots c.args.ends.now before memory) c.requires.ready c.requires.full
     c.take_out-removed.ensures.removed c.take_out-removed.ensures.slots c.take_out-removed.ensures.state c.end_unnamed.ensures.state (g.met.E.Ends.of_slots _ _ _)
     (sym c.take_out-removed.ensures.parent ∙ c.in-Some.is) c.rewind.ensures.slots c.rewind.ensures.state
 
@@ -43,6 +44,6 @@ returns-in_default-clause-state g c =
     let two : State = g.E.Ends.state c.end_unnamed.new.ends after (g.S.SlotStore.memory c.end_unnamed.new.store) in
     let has : two.slots ≡ after = g.met.E.Ends.of_slots _ _ _ in
     emptied-in-steps zero_is one two two before taken after after c.args.slot c.take_out-removed.result.0 None
-    (g.met.E.Ends.of_slots c.args.ends.now before memory) c.requires.derivation (near-memory before memory zero_is (g.met.E.Ends.of_memory c.args.ends.now before memory c.requires.agree) c.requires.near) c.requires.full c.requires.kinds
+    (g.met.E.Ends.of_slots c.args.ends.now before memory) c.requires.ready c.requires.full
     c.take_out-removed.ensures.removed c.take_out-removed.ensures.slots c.take_out-removed.ensures.state c.end_unnamed.ensures.state has
     (sym c.take_out-removed.ensures.parent ∙ c.in_default.is) refl (λ i. record two { slots = has i })

@@ -1,0 +1,19 @@
+-- What is left of the set, and fewer full slots each time.
+use Rattle.std.proofs.Common.{ℕ}
+use Rattle.model.specs.Kernel.State.{State}
+use Rattle.cnode_ops.proofs.EmptiedSets.{IsLeftOf, full_count}
+use Rattle.cnode_ops.proofs.removal.empty_all.Given as goal
+
+abbrev pub invariant-slots : goal.invariant-slots
+invariant-slots g l =
+    let before : State = g.E.Ends.state l.fn.ends (g.S.SlotMap.slots l.fn.store) (g.S.SlotStore.memory l.fn.store) in
+    let now : State = g.E.Ends.state l.ends (g.S.SlotMap.slots l.store) (g.S.SlotStore.memory l.store) in
+    record {
+      left : IsLeftOf before now l.set;
+      agree : g.E.Ends.Agree l.ends (g.S.SlotMap.slots l.store) (g.S.SlotStore.memory l.store);
+    }
+
+abbrev pub decreases-slots : goal.decreases-slots
+decreases-slots g l =
+    let before : State = g.E.Ends.state l.fn.ends (g.S.SlotMap.slots l.fn.store) (g.S.SlotStore.memory l.fn.store) in
+    full_count before.memory_bits (g.S.SlotMap.slots l.store)
