@@ -6,14 +6,14 @@ use Rattle.std.proofs.lemmas.Bool.Decides.{eqb_tells}
 use Rattle.std.proofs.lemmas.List.FromFn.{get_or-range_with_len, length-range_with_len}
 use Rattle.model.specs.Capabilities.Slots.{Descendant, IsDerivation, IsFull, IsOpen, Slots, capability_at, child, deeper, depth_of, is_descendant, is_full}
 use Rattle.model.specs.Kernel.Removal.{SlotSet, emptied, kept_entry}
-use Rattle.model.specs.Kernel.State.{State, slot_numbers}
+use Rattle.model.specs.Kernel.State.{State, binding_slot, slot_numbers}
 use Rattle.model.proofs.Ancestors.{depth-child, descendant-from_test, descendant-full, full-open}
-use Rattle.removals.specs.Steps.{IsReady, SameShape, alone, joined}
+use Rattle.removals.specs.Steps.{BindingEmptied, IsReady, SameShape, alone, bindings_from, bound, joined, left, unbound}
 use Rattle.removals.proofs.Keeping.{there-out}
 use Rattle.removals.proofs.SameFull.{emptied-same}
 use Rattle.removals.proofs.Loop.{descends-still}
 use Rattle.removals.proofs.Readiness.{full-was, not-full, ready-emptied}
-use Rattle.removals.proofs.Rounds.{full-apart, open-kept, round}
+use Rattle.removals.proofs.Rounds.{full-apart, line-left, line-taken, lines-done, open-kept, round}
 use Rattle.cnode_ops.specs.Sets.{set_of}
 use Rattle.cnode_ops.specs.declared.sets.Removed.{Removed}
 use Rattle.cnode_ops.specs.declared.sets.Removed.TheVariants.{Below, One}
@@ -121,33 +121,76 @@ open-was s x y here opens = elim (eqb_tells y x) [
 ]
 
 pub left-next : (s w now : State) (set : Removed) (x : ℕ) → IsLeftOf s w set → IsFull w.slots x → set_of w.slots set x ≡ true → now ≡ emptied w (alone x) → IsLeftOf s now set
-left-next s w now set x left full member is =
+left-next s w now set x so_far full member is =
     let one : State = emptied w (alone x) in
-    let ready_now = ready-emptied w x left.ready full in
-    let members_now = members-open w set x left.ready full left.members in
+    let ready_now = ready-emptied w x so_far.ready full in
+    let members_now = members-open w set x so_far.ready full so_far.members in
     subst (λ (t : State). IsLeftOf s t set) (sym is) (record {
       ready = ready_now;
       shape = record {
-        bits = left.shape.bits;
-        radix = left.shape.radix;
-        open_slots = λ y opens. open-kept w (alone x) y (left.shape.open_slots y opens);
+        bits = so_far.shape.bits;
+        radix = so_far.shape.radix;
+        open_slots = λ y opens. open-kept w (alone x) y (so_far.shape.open_slots y opens);
       };
       members = members_now;
       taken = λ more opens.
-        let more_open : (y : ℕ) → more y ≡ true → IsOpen w.slots y = λ y in_more. left.shape.open_slots y (opens y in_more) in
-        left.taken more opens
-        ∙ round w x (set_of w.slots set) (set_of one.slots set) more left.ready.derivation ready_now.derivation left.ready.near full member
-          (λ y filled. set-still w set x y left.ready full member filled)
-          (joined-open w (set_of w.slots set) more left.members more_open)
+        let more_open : (y : ℕ) → more y ≡ true → IsOpen w.slots y = λ y in_more. so_far.shape.open_slots y (opens y in_more) in
+        so_far.taken more opens
+        ∙ round w x (set_of w.slots set) (set_of one.slots set) more so_far.ready.derivation ready_now.derivation so_far.ready.near full member
+          (λ y filled. set-still w set x y so_far.ready full member filled)
+          (joined-open w (set_of w.slots set) more so_far.members more_open)
           (joined-open w (set_of one.slots set) more (λ y in_set. open-was w x y (full-open w.slots x full) (members_now y in_set)) more_open);
     })
 
 pub left-done : (s w : State) (set : Removed) → IsLeftOf s w set → ((y : ℕ) → IsFull w.slots y → set_of w.slots set y ≡ false) → (more : SlotSet) → ((y : ℕ) → more y ≡ true → IsOpen s.slots y)
     → emptied s (joined (set_of s.slots set) more) ≡ emptied w more
-left-done s w set left none more opens =
-    let more_open : (y : ℕ) → more y ≡ true → IsOpen w.slots y = λ y in_more. left.shape.open_slots y (opens y in_more) in
-    left.taken more opens
-    ∙ emptied-same w left.ready.derivation (joined (set_of w.slots set) more) more
+left-done s w set so_far none more opens =
+    let more_open : (y : ℕ) → more y ≡ true → IsOpen w.slots y = λ y in_more. so_far.shape.open_slots y (opens y in_more) in
+    so_far.taken more opens
+    ∙ emptied-same w so_far.ready.derivation (joined (set_of w.slots set) more) more
       (λ y filled. ap (λ b. b || more y) (none y filled))
-      (joined-open w (set_of w.slots set) more left.members more_open)
+      (joined-open w (set_of w.slots set) more so_far.members more_open)
       more_open
+
+-- ---- what is left of some bindings
+
+pub record LinesLeft (s w : State) (taken : ℕ → Bool) (line : ℕ) : Type 0 where
+  pub ready : IsReady w
+  pub radix : w.boot_radix ≡ s.boot_radix
+  pub whole : emptied s (bindings_from s taken 0) ≡ emptied w (bindings_from w taken line)
+
+pub lines-first : (s : State) (taken : ℕ → Bool) → IsReady s → LinesLeft s s taken 0
+lines-first s taken ready = record { ready = ready; radix = refl; whole = refl }
+
+next-number : (n : ℕ) → suc n ≡ n + 1
+next-number n = omega arith
+
+pub line-emptied : (s w now : State) (taken : ℕ → Bool) (line : ℕ) → line < 64 → LinesLeft s w taken line → BindingEmptied w line (taken line) now → LinesLeft s now taken (line + 1)
+line-emptied s w now taken line few lines_left (bound is full same) =
+    let ready_now = ready-emptied w (binding_slot w line) lines_left.ready full in
+    subst (λ (t : State). LinesLeft s t taken (line + 1)) (sym same) (record {
+      ready = ready_now;
+      radix = lines_left.radix;
+      whole = lines_left.whole
+          ∙ line-taken w taken line few lines_left.ready.derivation ready_now.derivation lines_left.ready.near lines_left.ready.lines is full
+          ∙ ap (λ (n : ℕ). emptied (emptied w (alone (binding_slot w line))) (bindings_from w taken n)) (next-number line);
+    })
+line-emptied s w now taken line few lines_left (unbound is none same) =
+    subst (λ (t : State). LinesLeft s t taken (line + 1)) (sym same) (record {
+      ready = lines_left.ready;
+      radix = lines_left.radix;
+      whole = lines_left.whole
+          ∙ line-left w taken line lines_left.ready.derivation lines_left.ready.lines (λ _. none)
+          ∙ ap (λ (n : ℕ). emptied w (bindings_from w taken n)) (next-number line);
+    })
+line-emptied s w now taken line few lines_left (left is same) =
+    subst (λ (t : State). LinesLeft s t taken (line + 1)) (sym same) (record {
+      ready = lines_left.ready;
+      radix = lines_left.radix;
+      whole = lines_left.whole
+          ∙ line-left w taken line lines_left.ready.derivation lines_left.ready.lines (λ taken_is. absurd (let clash : false ≡ true = sym is ∙ taken_is in cc))
+          ∙ ap (λ (n : ℕ). emptied w (bindings_from w taken n)) (next-number line);
+    })
+
+pub lines-gone : (s w : State) (taken : ℕ → Bool) (line : ℕ) → line ≡ 64 → LinesLeft s w taken line → emptied s (bindings_from s taken 0) ≡ w
+lines-gone s w taken line is lines_left = lines_left.whole ∙ ap (λ (n : ℕ). emptied w (bindings_from w taken n)) is ∙ lines-done w taken lines_left.ready.derivation

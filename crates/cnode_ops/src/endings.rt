@@ -1,9 +1,9 @@
 //! What a removal tells those that keep objects and mappings.
 
-ghost use Rattle.std.specs.Prelude.{ℕ, ◌≡◌, ◌^◌, List, None, length};
+ghost use Rattle.std.specs.Prelude.{ℕ, ◌≡◌, ◌^◌, ◌<◌, List, None, length};
 ghost use Rattle.model.specs.Capabilities.CapabilityKinds.{unmapped};
 ghost use Rattle.model.specs.Capabilities.Slots.{IsFull, SameOutside, Slots, capability_at, recapped, spliced};
-ghost use Rattle.model.specs.Kernel.State.{State, with_slots};
+ghost use Rattle.model.specs.Kernel.State.{State, binding_slot, with_slots};
 ghost use Rattle.removals.specs.Steps.{ended, unmapped_at, unused};
 
 use model::{Cap, Slot};
@@ -34,6 +34,11 @@ pub trait Ends {
             ≡ ended (state self.old (S.slots store.old) (S.memory store.old)) removed }
         ensures order { S.order store.new ≡ S.order store.old }
         ensures agree { Agree self.new (S.slots store.new) (S.memory store.new) };
+
+    /// The slot of the interrupt table that holds what a line signals.
+    fn binding(&self, line: u8) -> Slot
+        requires { line < 64 }
+        ensures { (slots : Slots) (memory : List ℕ) → result ≡ binding_slot (state self.now slots memory) line };
 
     // The state has the slots, and memory of that size.
     ghost of_slots: { (e : Self) (slots : Slots) (memory : List ℕ) → (state e slots memory).slots ≡ slots };

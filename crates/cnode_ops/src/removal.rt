@@ -1,15 +1,15 @@
 //! Emptying a whole set of slots.
 
-ghost use Rattle.std.specs.Prelude.{ℕ, ◌≡◌, true};
+ghost use Rattle.std.specs.Prelude.{ℕ, ◌≡◌, ◌<◌, true, false, slice_index_or};
 ghost use Rattle.cnode_ops.specs.Sets.{set_of};
 ghost use Rattle.model.specs.Capabilities.Slots.{IsOpen};
 ghost use Rattle.model.specs.Kernel.Removal.{SlotSet, emptied};
-ghost use Rattle.removals.specs.Steps.{IsReady, SameShape, joined};
+ghost use Rattle.removals.specs.Steps.{BindingEmptied, IsReady, SameShape, bindings_from, joined};
 
 use crate::Ends;
 use crate::emptying::empty_slot;
 use crate::sets::{Removed, first_removed};
-use slots::SlotStore;
+use slots::{SlotStore, is_taken};
 
 /// Empties all slots of a set, one after another: what is left to empty, with others beside the set, is
 /// these others.
@@ -26,5 +26,37 @@ fn empty_all<S: SlotStore, E: Ends>(store: &mut S, ends: &mut E, set: &Removed)
 {
     'slots: while let Some(slot) = first_removed(store, set) {
         empty_slot(store, ends, slot);
+    }
+}
+
+/// Empties the binding of a line, if it is taken along and there is one.
+fn empty_binding<S: SlotStore, E: Ends>(store: &mut S, ends: &mut E, line: u8, taken: bool)
+    requires few { line < 64 }
+    requires agree { E.Agree ends.old (S.slots store.old) (S.memory store.old) }
+    requires ready { IsReady (E.state ends.old (S.slots store.old) (S.memory store.old)) }
+    ensures state { BindingEmptied (E.state ends.old (S.slots store.old) (S.memory store.old)) line taken
+        (E.state ends.new (S.slots store.new) (S.memory store.new)) }
+    ensures agree { E.Agree ends.new (S.slots store.new) (S.memory store.new) }
+{
+    if !taken {
+        return;
+    }
+    let slot = ends.binding(line);
+    if is_taken(store, slot) {
+        empty_slot(store, ends, slot);
+    }
+}
+
+/// Empties the bindings of some lines, one after another.
+fn empty_bindings<S: SlotStore, E: Ends>(store: &mut S, ends: &mut E, lines: &[bool; 64])
+    requires agree { E.Agree ends.old (S.slots store.old) (S.memory store.old) }
+    requires ready { IsReady (E.state ends.old (S.slots store.old) (S.memory store.old)) }
+    ensures state { emptied (E.state ends.old (S.slots store.old) (S.memory store.old))
+        (bindings_from (E.state ends.old (S.slots store.old) (S.memory store.old)) (λ line. slice_index_or lines.now line false) 0)
+        ≡ E.state ends.new (S.slots store.new) (S.memory store.new) }
+    ensures agree { E.Agree ends.new (S.slots store.new) (S.memory store.new) }
+{
+    'lines: for line in 0..64u8 {
+        empty_binding(store, ends, line, lines[usize::from(line)]);
     }
 }

@@ -4,10 +4,10 @@ use Rattle.std.specs.Prelude.{ℕ, ◌≡◌, ◌≢◌, ◌==◌, ◌-◌, ◌%
 use Rattle.std.specs.Option.{option_map_or}
 use Rattle.std.specs.List.{list_any, range_with_len}
 use Rattle.model.specs.Capabilities.CapabilityKinds.{frame_mapping, names_object, object_of, root_of, table_mapping, unmapped}
-use Rattle.model.specs.Capabilities.Slots.{IsDerivation, IsFull, IsOpen, Slots, capability_at, parent_at, recapped}
+use Rattle.model.specs.Capabilities.Slots.{IsDerivation, IsFull, IsOpen, Slots, capability_at, is_full, parent_at, recapped}
 use Rattle.model.specs.Kernel.AddressSpaces.{page_size}
 use Rattle.model.specs.Kernel.MappingCalls.{without_region}
-use Rattle.model.specs.Kernel.Removal.{SlotSet}
+use Rattle.model.specs.Kernel.Removal.{SlotSet, emptied}
 use Rattle.model.specs.Kernel.Scheduling.{all_leave}
 use Rattle.model.specs.Kernel.State.{State, Object, as_thread, binding_slot, with_slots}
 use Rattle.model.specs.declared.capabilities.Cap.{Cap}
@@ -126,3 +126,9 @@ pub record SameShape (s t : State) : Type 0 where
   pub bits : t.memory_bits ≡ s.memory_bits
   pub radix : t.boot_radix ≡ s.boot_radix
   pub open_slots : (slot : ℕ) → IsOpen s.slots slot → IsOpen t.slots slot
+
+-- the binding of a line is emptied where it is taken along and holds something
+pub data BindingEmptied (s : State) (line : ℕ) (taken : Bool) (t : State) : Type 0 where
+  bound : taken ≡ true → IsFull s.slots (binding_slot s line) → t ≡ emptied s (alone (binding_slot s line)) → BindingEmptied s line taken t
+  unbound : taken ≡ true → is_full s.slots (binding_slot s line) ≡ false → t ≡ s → BindingEmptied s line taken t
+  left : taken ≡ false → t ≡ s → BindingEmptied s line taken t
