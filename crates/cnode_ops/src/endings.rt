@@ -1,9 +1,11 @@
 //! What a removal tells those that keep objects and mappings.
 
-ghost use Rattle.std.specs.Prelude.{ℕ, ◌≡◌, ◌^◌, ◌<◌, List, None, length};
+ghost use Rattle.std.specs.Prelude.{ℕ, ◌≡◌, ◌^◌, ◌<◌, List, None, Some, length};
 ghost use Rattle.model.specs.Capabilities.CapabilityKinds.{unmapped};
-ghost use Rattle.model.specs.Capabilities.Slots.{IsFull, SameOutside, Slots, capability_at, recapped, spliced};
+ghost use Rattle.model.specs.Capabilities.Slots.{IsFull, SameOutside, Slots, capability_at, closed, empty_entry, recapped, spliced};
+ghost use Rattle.model.specs.Kernel.Removal.{slot_count};
 ghost use Rattle.model.specs.Kernel.State.{State, binding_slot, with_slots};
+ghost use Rattle.removals.specs.Finishing.{woken};
 ghost use Rattle.removals.specs.Steps.{ended, unmapped_at, unused};
 
 use model::{Cap, Slot};
@@ -40,6 +42,18 @@ pub trait Ends {
         requires { line < 64 }
         ensures { (slots : Slots) (memory : List ℕ) → result ≡ binding_slot (state self.now slots memory) line };
 
+    /// How many slots the object has that starts at an offset: none, where there is no object.
+    fn slots_of<S: SlotStore>(&self, store: &S, offset: u32) -> u32
+        ensures { result ≡ slot_count ((state self.now (S.slots store.now) (S.memory store.now)).objects offset) };
+
+    /// Threads that wait at objects that are gone stand at their call again and run, in rising order of
+    /// their addresses.
+    fn wake<S: SlotStore>(&mut self, store: &S)
+        requires agree { Agree self.old (S.slots store.now) (S.memory store.now) }
+        ensures state { state self.new (S.slots store.now) (S.memory store.now)
+            ≡ woken (state self.old (S.slots store.now) (S.memory store.now)) }
+        ensures agree { Agree self.new (S.slots store.now) (S.memory store.now) };
+
     // The state has the slots, and memory of that size.
     ghost of_slots: { (e : Self) (slots : Slots) (memory : List ℕ) → (state e slots memory).slots ≡ slots };
 
@@ -49,6 +63,9 @@ pub trait Ends {
     // It follows the slots where these are changed and no other bytes.
     ghost follows: { (e : Self) (slots now : Slots) (old new : List ℕ) → Agree e slots old → SameOutside slots old new
         → ((slot : ℕ) → slots slot ≡ None → now slot ≡ None) → state e now new ≡ with_slots (state e slots old) now };
+
+    ghost agree_closed: { (e : Self) (slots : Slots) (memory : List ℕ) (slot : ℕ) → Agree e slots memory → slots slot ≡ Some empty_entry
+        → Agree e (closed slots slot 1) memory };
 
     // What has to agree still does where bytes of slots change, a capability without mapping goes, or a watermark changes.
     ghost agree_bytes: { (e : Self) (slots : Slots) (old new : List ℕ) → Agree e slots old → SameOutside slots old new → Agree e slots new };

@@ -11,6 +11,7 @@ mod mutations;
 mod named;
 mod removal;
 mod sets;
+mod settling;
 
 pub use copies::{copy, mint};
 pub use endings::Ends;

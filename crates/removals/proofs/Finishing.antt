@@ -33,7 +33,7 @@ offset-of k f l o is = ap (λ (p : Option (NewObject × ℕ)). option_map_or (λ
 
 -- ---- slots of objects
 
-within-bounds : (first count slot : ℕ) → is_within first count slot ≡ true → (first ≤ slot) × (slot < first + count)
+pub within-bounds : (first count slot : ℕ) → is_within first count slot ≡ true → (first ≤ slot) × (slot < first + count)
 within-bounds first count slot is =
     let parts = both (nat_le first slot) (nat_lt slot (first + count)) is in
     (
@@ -41,7 +41,7 @@ within-bounds first count slot is =
       elim (leb_tells (slot + 1) (first + count)) [ inl low ↦ omega (arith, low.1) | inr high ↦ absurd (let clash : false ≡ true = sym high.0 ∙ ap (λ (n : ℕ). nat_le n (first + count)) (omega arith) ∙ parts.1 in cc) ],
     )
 
-bounds-within : (first count slot : ℕ) → first ≤ slot → slot < first + count → is_within first count slot ≡ true
+pub bounds-within : (first count slot : ℕ) → first ≤ slot → slot < first + count → is_within first count slot ≡ true
 bounds-within first count slot low high = join (nat_le first slot) _ (le-leb first slot low) (le-leb (suc slot) (first + count) high)
 
 -- a multiple of an object's size is one of sixteen

@@ -14,3 +14,4 @@ pub mod SameFull
 pub mod Loop
 pub mod Rounds
 pub mod Readiness
+pub mod Sweeping
