@@ -5,3 +5,4 @@ pub mod Lookups
 pub mod Values
 pub mod Watermarks
 pub mod EmptiedSets
+pub mod ClosedSlots

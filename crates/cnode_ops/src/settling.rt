@@ -18,7 +18,10 @@ fn close_stray<S: SlotStore, E: Ends>(store: &mut S, ends: &E, slot: Slot, stray
         (E.state ends.now (S.slots store.new) (S.memory store.new)) }
     ensures agree { E.Agree ends.now (S.slots store.new) (S.memory store.new) }
 {
-    if stray && store.is_open(slot) {
+    if !stray {
+        return;
+    }
+    if store.is_open(slot) {
         store.close_range(slot, 1);
     }
 }

@@ -118,14 +118,23 @@ passed-next s w now at own stray passed own_is stray_is (slot_kept is same) =
       boot = omega (arith, passed.boot);
     })
 
-pub passed-first : (s : State) (at : ℕ) → MaySettle s → at ≡ boot_area_slots s.boot_radix → ((n : ℕ) → n < at → slots_from s n ≡ 0) → ((y : ℕ) → y < at → has_slot s y ≡ true) → IsPassed s s at
-passed-first s at may is none has = record {
+pub passed-first : (s : State) (at : ℕ) → MaySettle s → at ≡ boot_area_slots s.boot_radix → IsPassed s s at
+passed-first s at may is = record {
   may = may;
   state = λ i. record s { slots = λ y. first y i };
   behind = λ n less. omega (arith, none n less, less);
   boot = omega (arith, is);
 }
   where
+    none : (n : ℕ) → n < at → slots_from s n ≡ 0
+    none n less = elim (eqb_tells (slots_from s n) 0) [
+      | inl nothing_there ↦ nothing_there.1
+      | inr something ↦ absurd (let late = may.boot n something.1 in omega (arith, late, less, is))
+    ]
+
+    has : (y : ℕ) → y < at → has_slot s y ≡ true
+    has y early = ap (λ b. b || list_any (λ n. is_slot_of s (16 * n) y) (slots_of s)) (lt-true y (boot_area_slots s.boot_radix) (omega (arith, early, is)))
+
     first : (y : ℕ) → s.slots y ≡ (if nat_lt y at && not (has_slot s y) then None else s.slots y)
     first y = elim (leb_tells (suc y) at) [
       | inl low ↦ sym (ap (λ b. if nat_lt y at && not b then None else s.slots y) (has y low.1) ∙ ap (λ b. if b then None else s.slots y) (and-false (nat_lt y at)))
@@ -147,3 +156,14 @@ passed-all s w at passed whole = passed.state ∙ (λ i. record s { slots = λ y
         | Some h ↦ λ some. absurd (omega (arith, high.1, whole, passed.may.near y (ap is_some some)))
       ] refl
     ]
+
+-- where a step may go
+pub passed-fits : (s w : State) (at own : ℕ) → IsPassed s w at → own ≡ slots_from s at → at < 2 ^ s.memory_bits / 16 → at + max own 1 ≤ 2 ^ s.memory_bits / 16
+passed-fits s w at own passed is low = elim (eqb_tells own 0) [
+  | inl none ↦ omega (arith, none.1, low)
+  | inr some ↦ let fits = passed.may.inside at (λ zero_is. some.1 (is ∙ zero_is)) in omega (arith, fits, is, some.1)
+]
+
+-- the objects are those of before
+pub passed-objects : (s w : State) (at n : ℕ) → IsPassed s w at → slots_from w n ≡ slots_from s n
+passed-objects s w at n passed = ap (λ (t : State). slots_from t n) passed.state

@@ -37,6 +37,7 @@ slots_from s n = slot_count (s.objects (16 * n))
 -- what settling relies on: objects with slots stand in memory and apart, and open slots without an object are empty
 pub record MaySettle (s : State) : Type 0 where
   pub inside : (n : ℕ) → slots_from s n ≢ 0 → n + slots_from s n ≤ 2 ^ s.memory_bits / 16
+  pub boot : (n : ℕ) → slots_from s n ≢ 0 → boot_area_slots s.boot_radix ≤ n
   pub apart : (n m : ℕ) → n < m → slots_from s n ≢ 0 → slots_from s m ≢ 0 → n + slots_from s n ≤ m
   pub near : (slot : ℕ) → IsOpen s.slots slot → slot < 2 ^ s.memory_bits / 16
   pub strays : (slot : ℕ) → IsOpen s.slots slot → has_slot s slot ≡ false → s.slots slot ≡ Some empty_entry

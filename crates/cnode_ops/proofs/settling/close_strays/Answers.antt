@@ -1,0 +1,36 @@
+-- Step by step.
+use Rattle.std.proofs.Common.{ℕ, ◌≡◌, ◌∙◌, ◌==◌, ◌+◌, max, Some, false, true, refl, sym, ap, subst, arith}
+use Rattle.std.proofs.lemmas.Bool.Decides.{eqb_tells}
+use Rattle.model.specs.Capabilities.Slots.{IsOpen, Slots, empty_entry}
+use Rattle.model.specs.Kernel.State.{State}
+use Rattle.removals.specs.Finishing.{StrayClosed, slots_from}
+use Rattle.removals.proofs.Sweeping.{IsPassed, passed-next, passed-objects, stray-empty}
+use Rattle.cnode_ops.proofs.ClosedSlots.{is-zero}
+use Rattle.cnode_ops.proofs.settling.close_strays.Goals as goal
+
+pub close_stray-requires-clause-empty : goal.close_stray-requires-clause-empty
+close_stray-requires-clause-empty g c = λ stray opens.
+    let slots : Slots = g.S.SlotMap.slots c.slots.store in
+    let before : State = g.E.Ends.state c.args.ends.now (g.S.SlotMap.slots c.args.store.now) (g.S.SlotStore.memory c.args.store.now) in
+    let now : State = g.E.Ends.state c.args.ends.now slots (g.S.SlotStore.memory c.slots.store) in
+    let passed : IsPassed before now c.slots.at = c.slots.invariant.passed in
+    let has : now.slots ≡ slots = g.met.E.Ends.of_slots _ _ _ in
+    let none : slots_from before c.slots.at ≡ 0 = sym (passed-objects before now c.slots.at c.slots.at passed) ∙ sym c.slots_of-own.ensures ∙ is-zero c.slots_of-own.result stray in
+    subst (λ (n : ℕ). slots n ≡ Some empty_entry) (sym c.new.ensures)
+    (sym (ap (λ (m : Slots). m c.slots.at) has)
+    ∙ stray-empty before now c.slots.at passed none (subst (λ (m : Slots). IsOpen m c.slots.at) (sym has) (subst (λ (n : ℕ). IsOpen slots n) c.new.ensures opens)))
+
+pub slots-preserved : goal.slots-preserved
+slots-preserved g c =
+    let slots : Slots = g.S.SlotMap.slots c.slots.store in
+    let before : State = g.E.Ends.state c.args.ends.now (g.S.SlotMap.slots c.args.store.now) (g.S.SlotStore.memory c.args.store.now) in
+    let now : State = g.E.Ends.state c.args.ends.now slots (g.S.SlotStore.memory c.slots.store) in
+    let after : State = g.E.Ends.state c.args.ends.now (g.S.SlotMap.slots c.close_stray.new.store) (g.S.SlotStore.memory c.close_stray.new.store) in
+    let passed : IsPassed before now c.slots.at = c.slots.invariant.passed in
+    let own : ℕ = c.slots_of-own.result in
+    let own_is : own ≡ slots_from before c.slots.at = c.slots_of-own.ensures ∙ passed-objects before now c.slots.at c.slots.at passed in
+    let state : StrayClosed now c.slots.at (own == 0) after = subst (λ (n : ℕ). StrayClosed now n (own == 0) after) c.new.ensures c.close_stray.ensures.state in
+    record {
+      passed = subst (λ (n : ℕ). IsPassed before after (c.slots.at + n)) (sym c.max-at.ensures) (passed-next before now after c.slots.at own (own == 0) passed own_is refl state);
+      agree = c.close_stray.ensures.agree;
+    }
