@@ -102,7 +102,7 @@ not-used (InterruptHandler line) k o used is uses = let clash : None ≡ Some us
 module _ (s : State) (sound : IsSound s) where
 
   -- an object that has a slot is there, and some capability names it
-  abbrev Holder : ℕ → ℕ → Type 0
+  abbrev pub Holder : ℕ → ℕ → Type 0
   Holder o y = (k : NewObject) × (a : ℕ) × Names k o (capability_at s.slots a) × (o / 16 ≤ y) × (16 * y + 16 ≤ 16 * (o / 16) + 2 ^ object_bits k)
 
   holder-of : (o y : ℕ) (object : Option Object) → s.objects o ≡ object → is_within (o / 16) (slot_count object) y ≡ true → Holder o y
@@ -112,14 +112,14 @@ module _ (s : State) (sound : IsSound s) where
       let live = sound.memory.live o (kind_of object) (ap (option_map kind_of) is) in
       (kind_of object, live.0, live.1, bounds.0, omega (arith, bounds.1, size-of-slots object))
 
-  holder : (o y : ℕ) → is_slot_of s o y ≡ true → Holder o y
+  pub holder : (o y : ℕ) → is_slot_of s o y ≡ true → Holder o y
   holder o y inner = holder-of o y (s.objects o) refl inner
 
-  holder-aligned : (o y : ℕ) → Holder o y → o % 16 ≡ 0
+  pub holder-aligned : (o y : ℕ) → Holder o y → o % 16 ≡ 0
   holder-aligned o y h = aligned (capability_at s.slots h.1) h.0 o (sound.slots.derivation.valid h.1) h.2
 
   -- a slot is one object's
-  one-holder : (o n y : ℕ) → Holder o y → Holder n y → o ≡ n
+  pub one-holder : (o n y : ℕ) → Holder o y → Holder n y → o ≡ n
   one-holder o n y h l = elim (eqb_tells h.1 l.1) [
     | inl here ↦ offset-of h.0 o l.0 n (sym h.2 ∙ ap (λ (a : ℕ). object_named (capability_at s.slots a)) here.1 ∙ l.2)
     | inr other ↦ elim (sound.memory.lies h.1 l.1 _ _ other.1 (piece-named _ h.0 o h.2) (piece-named _ l.0 n l.2)) [
@@ -132,11 +132,15 @@ module _ (s : State) (sound : IsSound s) where
   ]
 
   -- no object stands in the boot area
-  behind-boot : (o y : ℕ) → Holder o y → boot_area_slots s.boot_radix ≤ y
+  pub behind-boot : (o y : ℕ) → Holder o y → boot_area_slots s.boot_radix ≤ y
   behind-boot o y h = let place = sound.memory.inside h.1 _ (piece-named _ h.0 o h.2) in omega (arith, place.0, h.3)
 
   -- and none behind the end of memory
-  in-memory : (o y : ℕ) → Holder o y → o / 16 < 2 ^ s.memory_bits / 16
+  -- and all its slots are in memory
+  pub in-memory-whole : (o y : ℕ) → Holder o y → y < 2 ^ s.memory_bits / 16
+  in-memory-whole o y h = let place = sound.memory.inside h.1 _ (piece-named _ h.0 o h.2) in let low : 16 * y + 16 ≤ 2 ^ s.memory_bits = omega (arith, place.1, h.3, h.4) in omega (arith, low)
+
+  pub in-memory : (o y : ℕ) → Holder o y → o / 16 < 2 ^ s.memory_bits / 16
   in-memory o y h = let place = sound.memory.inside h.1 _ (piece-named _ h.0 o h.2) in omega (arith, place.1, h.3, h.4)
 
 -- ---- what a removal leaves of slots of objects
@@ -151,7 +155,7 @@ count-threads gone (Some FrameObject) = refl
 count-threads gone (Some PageTableObject) = refl
 count-threads gone (Some RootTableObject) = refl
 
-kept-count : (s : State) (set : SlotSet) (o : ℕ) → slot_count ((emptied s set).objects o) ≡ (if ends s set o then 0 else slot_count (s.objects o))
+pub kept-count : (s : State) (set : SlotSet) (o : ℕ) → slot_count ((emptied s set).objects o) ≡ (if ends s set o then 0 else slot_count (s.objects o))
 kept-count s set o = elim (ends s set o) as (λ b. slot_count (if b then None else option_map (without_threads (is_ending_thread s set)) (s.objects o)) ≡ (if b then 0 else slot_count (s.objects o))) [
   | true ↦ refl
   | false ↦ count-threads (is_ending_thread s set) (s.objects o)
@@ -161,7 +165,7 @@ no-slot : (first slot : ℕ) → is_within first 0 slot ≡ true → ⊥
 no-slot first slot is = let bounds = within-bounds first 0 slot is in omega (arith, bounds.0, bounds.1)
 
 -- a slot of what is left was that object's, which has not ended
-slot-left : (s : State) (set : SlotSet) (o y : ℕ) → is_slot_of (emptied s set) o y ≡ true → (ends s set o ≡ false) × (is_slot_of s o y ≡ true)
+pub slot-left : (s : State) (set : SlotSet) (o y : ℕ) → is_slot_of (emptied s set) o y ≡ true → (ends s set o ≡ false) × (is_slot_of s o y ≡ true)
 slot-left s set o y is =
     let kept : is_within (o / 16) (if ends s set o then 0 else slot_count (s.objects o)) y ≡ true = ap (λ (c : ℕ). is_within (o / 16) c y) (sym (kept-count s set o)) ∙ is in
     elim (ends s set o) as (λ b. ends s set o ≡ b → (b ≡ false) × (is_slot_of s o y ≡ true)) [
@@ -173,7 +177,7 @@ slot-stays : (s : State) (set : SlotSet) (o y : ℕ) → ends s set o ≡ false 
 slot-stays s set o y stays is = ap (λ (c : ℕ). is_within (o / 16) c y) (kept-count s set o ∙ ap (λ b. if b then 0 else slot_count (s.objects o)) stays) ∙ is
 
 -- the object of a capability that passes
-closing-object : (s : State) (set : SlotSet) (y : ℕ) (o : Option ℕ) → option_map_or (λ offset. ends s set offset && is_slot_of s offset y) o false ≡ true → (offset : ℕ) × (o ≡ Some offset) × (ends s set offset ≡ true) × (is_slot_of s offset y ≡ true)
+pub closing-object : (s : State) (set : SlotSet) (y : ℕ) (o : Option ℕ) → option_map_or (λ offset. ends s set offset && is_slot_of s offset y) o false ≡ true → (offset : ℕ) × (o ≡ Some offset) × (ends s set offset ≡ true) × (is_slot_of s offset y ≡ true)
 closing-object s set y None is = absurd (let clash : false ≡ true = is in cc)
 closing-object s set y (Some offset) is = let parts = both (ends s set offset) (is_slot_of s offset y) is in (offset, refl, parts.0, parts.1)
 
@@ -181,7 +185,7 @@ object-named : (o : ℕ) (found : Option ℕ) → option_map_or (λ named. named
 object-named o None is = absurd (let clash : false ≡ true = is in cc)
 object-named o (Some n) is = elim (eqb_tells n o) [ inl here ↦ ap (λ m. Some m) here.1 | inr other ↦ absurd (let clash : false ≡ true = sym other.0 ∙ is in cc) ]
 
-named-full : (o : ℕ) (c : Cap) → object_of c ≡ Some o → not (is_empty c) ≡ true
+pub named-full : (o : ℕ) (c : Cap) → object_of c ≡ Some o → not (is_empty c) ≡ true
 named-full o Empty is = absurd (let clash : None ≡ Some o = is in cc)
 named-full o (Untyped _ _ _) is = refl
 named-full o (Endpoint _ _ _) is = refl
@@ -193,6 +197,10 @@ named-full o (Tcb _) is = refl
 named-full o (RootTable _) is = refl
 named-full o InterruptControl is = refl
 named-full o (InterruptHandler _) is = refl
+
+pub not-false : (b : Bool) → not b ≡ false → b ≡ true
+not-false true is = refl
+not-false false is = absurd (let clash : true ≡ false = is in cc)
 
 not-twice : (b : Bool) → not (not b) ≡ b
 not-twice true = refl
@@ -252,7 +260,7 @@ module _ (s : State) (sound : IsSound s) (set : SlotSet) (near : (y : ℕ) → I
       (found-at s.memory_bits (o / 16) (λ n. is_slot_of (emptied s set) (16 * n) y) (in-memory s sound o y h) (ap (λ (n : ℕ). is_slot_of (emptied s set) n y) whole ∙ slot-stays s set o y stays inner))
       ∙ or-true (nat_lt y (boot_area_slots s.boot_radix))
 
-  closes-strays : (y : ℕ) → HasSlot s y → closes s set y ≡ not (has_slot (emptied s set) y)
+  pub closes-strays : (y : ℕ) → HasSlot s y → closes s set y ≡ not (has_slot (emptied s set) y)
   closes-strays y (of_boot_area early) =
       in-boot y early ∙ sym (ap (λ b. not (b || list_any (λ n. is_slot_of (emptied s set) (16 * n) y) (slots_of s))) (le-leb (suc y) (boot_area_slots s.boot_radix) early))
   closes-strays y (of_object o inner) = elim (ends s set o) as (λ b. ends s set o ≡ b → closes s set y ≡ not (has_slot (emptied s set) y)) [

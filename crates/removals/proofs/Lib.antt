@@ -15,3 +15,4 @@ pub mod Loop
 pub mod Rounds
 pub mod Readiness
 pub mod Sweeping
+pub mod Whole

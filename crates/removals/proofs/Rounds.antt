@@ -38,7 +38,7 @@ less-other set x y other = ap (λ b. set y && not b) (ne_eqb y x other) ∙ and-
 less-member : (set : SlotSet) (x y : ℕ) → less set x y ≡ true → set y ≡ true
 less-member set x y is = (both (set y) _ is).0
 
-or-cases : (p q : Bool) → (p || q) ≡ true → (p ≡ true) ⊎ (q ≡ true)
+pub or-cases : (p q : Bool) → (p || q) ≡ true → (p ≡ true) ⊎ (q ≡ true)
 or-cases true q is = inl refl
 or-cases false q is = inr is
 

@@ -131,7 +131,7 @@ module _ (s : State) (tree : IsDerivation s.slots) (one two : SlotSet) (same : (
     closed-out : (set : SlotSet) (y : ℕ) → ((z : ℕ) → set z ≡ true → IsOpen s.slots z) → s.slots y ≡ None → set y ≡ false
     closed-out set y opens none = elim (set y) as (λ b. set y ≡ b → b ≡ false) [ true ↦ λ member. absurd (let clash : false ≡ true = sym (ap is_some none) ∙ opens y member in cc) | false ↦ λ is. refl ] refl
 
-    emptied-blank : (set : SlotSet) (y : ℕ) (h : Entry) → s.slots y ≡ Some h → is_empty h.capability ≡ true → slots_emptied s set y ≡ Some empty_entry
+    pub emptied-blank : (set : SlotSet) (y : ℕ) (h : Entry) → s.slots y ≡ Some h → is_empty h.capability ≡ true → slots_emptied s set y ≡ Some empty_entry
     emptied-blank set y h is empty = elim (set y) as (λ b. set y ≡ b → slots_emptied s set y ≡ Some empty_entry) [
       | true ↦ λ member. there-in s set y member
       | false ↦ λ out. there-out s set y out ∙ ap (option_map (kept_entry s set y)) is ∙ blank set y (Some h) is refl empty
