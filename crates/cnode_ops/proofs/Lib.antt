@@ -2,5 +2,8 @@ pub mod Answered
 pub mod Emptied
 pub mod Kept
 pub mod Lookups
+pub mod Refused
+pub mod RefusedLaw
+pub mod SomeSlot
 pub mod Values
 pub mod Watermarks

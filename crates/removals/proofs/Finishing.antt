@@ -33,7 +33,7 @@ offset-of k f l o is = ap (λ (p : Option (NewObject × ℕ)). option_map_or (λ
 
 -- ---- slots of objects
 
-within-bounds : (first count slot : ℕ) → is_within first count slot ≡ true → (first ≤ slot) × (slot < first + count)
+pub within-bounds : (first count slot : ℕ) → is_within first count slot ≡ true → (first ≤ slot) × (slot < first + count)
 within-bounds first count slot is =
     let parts = both (nat_le first slot) (nat_lt slot (first + count)) is in
     (
@@ -41,7 +41,7 @@ within-bounds first count slot is =
       elim (leb_tells (slot + 1) (first + count)) [ inl low ↦ omega (arith, low.1) | inr high ↦ absurd (let clash : false ≡ true = sym high.0 ∙ ap (λ (n : ℕ). nat_le n (first + count)) (omega arith) ∙ parts.1 in cc) ],
     )
 
-bounds-within : (first count slot : ℕ) → first ≤ slot → slot < first + count → is_within first count slot ≡ true
+pub bounds-within : (first count slot : ℕ) → first ≤ slot → slot < first + count → is_within first count slot ≡ true
 bounds-within first count slot low high = join (nat_le first slot) _ (le-leb first slot low) (le-leb (suc slot) (first + count) high)
 
 -- a multiple of an object's size is one of sixteen
@@ -102,7 +102,7 @@ not-used (InterruptHandler line) k o used is uses = let clash : None ≡ Some us
 module _ (s : State) (sound : IsSound s) where
 
   -- an object that has a slot is there, and some capability names it
-  abbrev Holder : ℕ → ℕ → Type 0
+  abbrev pub Holder : ℕ → ℕ → Type 0
   Holder o y = (k : NewObject) × (a : ℕ) × Names k o (capability_at s.slots a) × (o / 16 ≤ y) × (16 * y + 16 ≤ 16 * (o / 16) + 2 ^ object_bits k)
 
   holder-of : (o y : ℕ) (object : Option Object) → s.objects o ≡ object → is_within (o / 16) (slot_count object) y ≡ true → Holder o y
@@ -112,7 +112,7 @@ module _ (s : State) (sound : IsSound s) where
       let live = sound.memory.live o (kind_of object) (ap (option_map kind_of) is) in
       (kind_of object, live.0, live.1, bounds.0, omega (arith, bounds.1, size-of-slots object))
 
-  holder : (o y : ℕ) → is_slot_of s o y ≡ true → Holder o y
+  pub holder : (o y : ℕ) → is_slot_of s o y ≡ true → Holder o y
   holder o y inner = holder-of o y (s.objects o) refl inner
 
   holder-aligned : (o y : ℕ) → Holder o y → o % 16 ≡ 0
@@ -132,7 +132,7 @@ module _ (s : State) (sound : IsSound s) where
   ]
 
   -- no object stands in the boot area
-  behind-boot : (o y : ℕ) → Holder o y → boot_area_slots s.boot_radix ≤ y
+  pub behind-boot : (o y : ℕ) → Holder o y → boot_area_slots s.boot_radix ≤ y
   behind-boot o y h = let place = sound.memory.inside h.1 _ (piece-named _ h.0 o h.2) in omega (arith, place.0, h.3)
 
   -- and none behind the end of memory
