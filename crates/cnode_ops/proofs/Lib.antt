@@ -2,6 +2,9 @@ pub mod Answered
 pub mod Emptied
 pub mod Kept
 pub mod Lookups
+pub mod Refused
+pub mod RefusedLaw
+pub mod SomeSlot
 pub mod Values
 pub mod Watermarks
 pub mod EmptiedSets

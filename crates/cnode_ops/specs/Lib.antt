@@ -1,4 +1,5 @@
 pub mod Nodes
 pub mod Outcomes
+pub mod Refusals
 pub mod Results
 pub mod Sets

@@ -13,7 +13,7 @@ use model::{Cap, Slot};
 use slots::SlotStore;
 
 /// The object that a capability names, by its offset: untyped memory is no object, and a line is none.
-fn object_of(capability: Cap) -> Option<u32>
+pub(crate) fn object_of(capability: Cap) -> Option<u32>
     ensures { result ≡ object_of capability }
 {
     match capability {

@@ -9,6 +9,7 @@ mod endings;
 mod moves;
 mod mutations;
 mod named;
+mod refusals;
 mod removal;
 mod sets;
 mod settling;

@@ -1,0 +1,31 @@
+-- The slot where it was found, or none of them.
+use Rattle.std.proofs.Common.{ℕ, ◌≡◌, ◌∙◌, ◌*◌, ◌/◌, ◌&&◌, Bool, length, sym, ap, arith}
+use Rattle.cnode_ops.specs.Refusals.{some_slot, stays}
+use Rattle.cnode_ops.proofs.SomeSlot.{from-zero, next-none, some-at, some-none}
+use Rattle.cnode_ops.proofs.refusals.is_named_beside.Goals as goal
+use Rattle.model.specs.Capabilities.CapabilityKinds.{names_object}
+use Rattle.model.specs.Capabilities.Slots.{Slots, capability_at}
+use Rattle.cnode_ops.specs.declared.sets.Removed.{Removed}
+
+abbrev passes : Slots → Removed → ℕ → ℕ → Bool
+passes slots set offset slot = names_object offset (capability_at slots slot) && stays slots set slot
+
+sixteenth : (count size : ℕ) → 16 * count ≡ size → count ≡ size / 16
+sixteenth count size is = omega (arith, is)
+
+pub returns-then-names_beside : goal.returns-then-names_beside
+returns-then-names_beside g c =
+    let test : ℕ → Bool = passes (g.S.SlotMap.slots c.args.store.now) c.args.set.now c.args.offset in
+    let size = sixteenth c.count-count.result (length (g.S.SlotStore.memory c.args.store.now)) c.count-count.ensures.value in
+    sym (ap (λ (n : ℕ). some_slot 0 n test) (sym size) ∙ some-at 0 c.count-count.result c.slots.number test (omega arith) (omega (arith, c.slots-test.true)) (ap test (sym c.new.ensures) ∙ sym c.names_beside.ensures ∙ c.if-names_beside.true))
+
+pub slots-preserved : goal.slots-preserved
+slots-preserved g c =
+    let test : ℕ → Bool = passes (g.S.SlotMap.slots c.args.store.now) c.args.set.now c.args.offset in
+    next-none c.slots.number test c.slots.invariant (ap test (sym c.new.ensures) ∙ sym c.names_beside.ensures ∙ c.if-names_beside.false)
+
+pub returns : goal.returns
+returns g c =
+    let test : ℕ → Bool = passes (g.S.SlotMap.slots c.args.store.now) c.args.set.now c.args.offset in
+    let size = sixteenth c.count-count.result (length (g.S.SlotStore.memory c.args.store.now)) c.count-count.ensures.value in
+    sym (ap (λ (n : ℕ). some_slot 0 n test) (sym size) ∙ some-none 0 c.count-count.result test (λ i less. ap test (from-zero i) ∙ c.slots.invariant i (omega (arith, less, c.slots-test.false))))

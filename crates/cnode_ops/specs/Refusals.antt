@@ -1,0 +1,49 @@
+-- What a removal asks of the slots before it takes any away.
+-- seL4 Reference Manual, "Deletion, Revocation, and Recycling"; the refusal is our own.
+use Rattle.std.specs.Prelude.{ℕ, ◌/◌, ◌^◌, ◌&&◌, Bool, false, not}
+use Rattle.std.specs.Option.{option_map_or}
+use Rattle.std.specs.List.{list_any, range_with_len}
+use Rattle.cnode_ops.specs.Sets.{set_of}
+use Rattle.cnode_ops.specs.declared.sets.Removed.{Removed}
+use Rattle.model.specs.declared.capabilities.Cap.{Cap}
+use Rattle.model.specs.declared.capabilities.Cap.TheVariants.{Empty, Untyped, Endpoint, Notification, CNode, Frame, PageTable, Tcb, RootTable, InterruptControl, InterruptHandler}
+use Rattle.model.specs.Capabilities.CapabilityKinds.{names_object, object_of}
+use Rattle.model.specs.Capabilities.Slots.{Slots, capability_at, is_full}
+
+-- whether one of so many slots from one on passes a test
+unfoldable pub some_slot : ℕ → ℕ → (ℕ → Bool) → Bool
+some_slot first count test = list_any test (range_with_len first count)
+
+-- whether a slot is full and goes, or is full and stays
+abbrev pub goes : Slots → Removed → ℕ → Bool
+goes slots set slot = is_full slots slot && set_of slots set slot
+
+abbrev pub stays : Slots → Removed → ℕ → Bool
+stays slots set slot = is_full slots slot && not (set_of slots set slot)
+
+-- of the first so many slots one that stays names the object at an offset
+abbrev pub is_named_beside : Slots → ℕ → Removed → ℕ → Bool
+is_named_beside slots count set offset = some_slot 0 count (λ slot. names_object offset (capability_at slots slot) && stays slots set slot)
+
+-- how many slots the object has that a capability names
+abbrev pub slots_named : Cap → ℕ
+slots_named Empty = 0
+slots_named (Untyped offset bits watermark) = 0
+slots_named (Endpoint offset r badge) = 0
+slots_named (Notification offset r badge) = 0
+slots_named (CNode offset radix guard) = 2 ^ radix
+slots_named (Frame offset r mapping) = 0
+slots_named (PageTable offset mapping) = 0
+slots_named (Tcb offset) = 2
+slots_named (RootTable offset) = 0
+slots_named InterruptControl = 0
+slots_named (InterruptHandler irq_line) = 0
+
+-- the object that a capability names has a full slot that stays, and no slot that stays names it
+abbrev pub is_left_filled : Slots → ℕ → Removed → Cap → Bool
+is_left_filled slots count set capability =
+    option_map_or (λ offset. some_slot (offset / 16) (slots_named capability) (stays slots set) && not (is_named_beside slots count set offset)) (object_of capability) false
+
+-- a slot goes, and what its capability names is left so
+abbrev pub refuses : Slots → ℕ → Removed → ℕ → Bool
+refuses slots count set slot = goes slots set slot && is_left_filled slots count set (capability_at slots slot)

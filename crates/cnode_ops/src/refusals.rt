@@ -1,0 +1,111 @@
+//! What a removal asks of the slots before it takes any away: it is refused where an object would end
+//! that still holds capabilities.
+
+ghost use Rattle.std.specs.Prelude.{ℕ, ◌≡◌, ◌+◌, ◌/◌, ◌^◌, ◌≤◌, ◌&&◌, not, length};
+ghost use Rattle.cnode_ops.specs.Refusals.{goes, is_left_filled, is_named_beside, refuses, slots_named, some_slot, stays};
+ghost use Rattle.model.specs.Capabilities.CapabilityKinds.{names_object};
+ghost use Rattle.model.specs.Capabilities.CapabilityWords.{IsCapability};
+ghost use Rattle.model.specs.Capabilities.Slots.{capability_at};
+ghost use Rattle.model.specs.Kernel.Removal.{wants_revoke_first, with_bindings};
+ghost use Rattle.model.specs.Kernel.Soundness.{IsSound};
+ghost use Rattle.model.specs.Kernel.State.{State};
+ghost use Rattle.cnode_ops.specs.Sets.{set_of};
+
+use crate::emptying::object_of;
+use crate::sets::{Removed, is_removed};
+use model::{Cap, Slot};
+use slots::{SlotStore, is_taken};
+
+/// Whether a slot is full, and one of those that go.
+fn goes<S: SlotStore>(store: &S, set: &Removed, slot: Slot) -> bool
+    ensures { result ≡ goes (S.slots store.now) set.now slot }
+{
+    is_taken(store, slot) && is_removed(store, *set, slot)
+}
+
+/// Whether a slot is full, and none of those that go.
+fn stays<S: SlotStore>(store: &S, set: &Removed, slot: Slot) -> bool
+    ensures { result ≡ stays (S.slots store.now) set.now slot }
+{
+    is_taken(store, slot) && !is_removed(store, *set, slot)
+}
+
+/// Whether a slot is full, stays, and names the object at an offset.
+fn names_beside<S: SlotStore>(store: &S, set: &Removed, offset: u32, slot: Slot) -> bool
+    ensures { result ≡ (names_object offset (capability_at (S.slots store.now) slot) && stays (S.slots store.now) set.now slot) }
+{
+    object_of(store.capability(slot)) == Some(offset) && stays(store, set, slot)
+}
+
+/// Whether some slot that stays names the object at an offset.
+fn is_named_beside<S: SlotStore>(store: &S, set: &Removed, offset: u32) -> bool
+    ensures { result ≡ is_named_beside (S.slots store.now) (length (S.memory store.now) / 16) set.now offset }
+{
+    let count = store.count();
+    'slots: for number in 0..count {
+        if names_beside(store, set, offset, Slot::new(number)) {
+            return true;
+        }
+    }
+    false
+}
+
+/// Whether one of so many slots from `first` on is full and stays.
+fn is_filled_beside<S: SlotStore>(store: &S, set: &Removed, first: u32, count: u32) -> bool
+    requires { first + count ≤ 2 ^ 20 }
+    ensures { result ≡ some_slot first count (stays (S.slots store.now) set.now) }
+{
+    'slots: for index in 0..count {
+        if stays(store, set, Slot::new(first + index)) {
+            return true;
+        }
+    }
+    false
+}
+
+/// How many slots the object has that a capability names.
+fn slots_named(capability: Cap) -> u32
+    requires { IsCapability capability }
+    ensures { result ≡ slots_named capability }
+{
+    match capability {
+        Cap::CNode { radix, .. } => 1 << radix,
+        Cap::Tcb { .. } => 2,
+        _ => 0,
+    }
+}
+
+/// Whether the object that a capability names has a full slot that stays, and no slot that stays names
+/// it.
+fn is_left_filled<S: SlotStore>(store: &S, set: &Removed, capability: Cap) -> bool
+    requires { IsCapability capability }
+    ensures { result ≡ is_left_filled (S.slots store.now) (length (S.memory store.now) / 16) set.now capability }
+{
+    let Some(offset) = object_of(capability) else {
+        return false;
+    };
+    is_filled_beside(store, set, offset / 16, slots_named(capability))
+        && !is_named_beside(store, set, offset)
+}
+
+/// Whether a slot goes, and the object that its capability names would end with a full slot that stays.
+fn refuses<S: SlotStore>(store: &S, set: &Removed, slot: Slot) -> bool
+    ensures { result ≡ refuses (S.slots store.now) (length (S.memory store.now) / 16) set.now slot }
+{
+    goes(store, set, slot) && is_left_filled(store, set, store.capability(slot))
+}
+
+/// Whether these slots may not go yet: with them would go the last capability to a CNode or a thread that
+/// still holds a capability which stays.
+pub(crate) fn wants_revoke_first<S: SlotStore>(store: &S, set: Removed) -> bool
+    ensures { (s : State) → s.slots ≡ S.slots store.now → IsSound s → 2 ^ s.memory_bits ≡ length (S.memory store.now)
+        → result ≡ wants_revoke_first s (with_bindings s (set_of s.slots set)) }
+{
+    let count = store.count();
+    'slots: for number in 0..count {
+        if refuses(store, &set, Slot::new(number)) {
+            return true;
+        }
+    }
+    false
+}
