@@ -33,3 +33,8 @@ GivesMove on destination source slots after result = GivesOn (λ s call. move s 
 abbrev pub GivesMutate : {A : Type 0} → NodeCall → SlotName → SlotName → ℕ → Slots → Slots → Result A KError → Type 0
 GivesMutate on destination source payload slots after result =
     GivesOn (λ s call. mutate s call destination source payload) on slots after result
+
+-- a call that passes leaves this state, and one that is refused the error
+abbrev pub GivesState : {A : Type 0} → Result State KError → Result A KError → State → Type 0
+GivesState defined (Ok x) after = defined ≡ Ok after
+GivesState defined (Err e) after = defined ≡ Err e

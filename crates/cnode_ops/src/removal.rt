@@ -1,14 +1,20 @@
 //! Emptying a whole set of slots.
 
-ghost use Rattle.std.specs.Prelude.{ℕ, ◌≡◌, ◌<◌, true, false, slice_index_or};
+ghost use Rattle.std.specs.Prelude.{ℕ, ◌≡◌, ◌<◌, OnErr, true, false, slice_index_or};
+ghost use Rattle.cnode_ops.specs.Outcomes.{GivesState};
 ghost use Rattle.cnode_ops.specs.Sets.{set_of};
 ghost use Rattle.model.specs.Capabilities.Slots.{IsOpen};
-ghost use Rattle.model.specs.Kernel.Removal.{SlotSet, emptied};
+ghost use Rattle.model.specs.Kernel.Removal.{SlotSet, delete, emptied, remove, revoke};
+ghost use Rattle.model.specs.Kernel.Soundness.{IsSound};
 ghost use Rattle.removals.specs.Steps.{BindingEmptied, IsReady, SameShape, bindings_from, joined};
 
 use crate::Ends;
 use crate::emptying::empty_slot;
+use crate::lines::lines_taken;
+use crate::refusals::wants_revoke_first;
 use crate::sets::{Removed, first_removed};
+use crate::settling::settle;
+use model::{KError, Slot};
 use slots::{SlotStore, is_taken};
 
 /// Empties all slots of a set, one after another: what is left to empty, with others beside the set, is
@@ -59,4 +65,62 @@ fn empty_bindings<S: SlotStore, E: Ends>(store: &mut S, ends: &mut E, lines: &[b
     'lines: for line in 0..64u8 {
         empty_binding(store, ends, line, lines[usize::from(line)]);
     }
+}
+
+/// Takes a set of slots away at once, with the bindings of the lines whose last handler goes. It is
+/// refused where an object would end that still holds a capability outside the set (`RevokeFirst`); then
+/// nothing changes.
+fn remove<S: SlotStore, E: Ends>(store: &mut S, ends: &mut E, set: Removed) -> Result<(), KError>
+    requires agree { E.Agree ends.old (S.slots store.old) (S.memory store.old) }
+    requires sound { IsSound (E.state ends.old (S.slots store.old) (S.memory store.old)) }
+    requires members { (slot : ℕ) → set_of (S.slots store.old) set slot ≡ true → IsOpen (S.slots store.old) slot }
+    ensures outcome { GivesState (remove (E.state ends.old (S.slots store.old) (S.memory store.old)) (set_of (S.slots store.old) set)) result
+        (E.state ends.new (S.slots store.new) (S.memory store.new)) }
+    ensures unchanged { OnErr result (store.new ≡ store.old) }
+    ensures same { OnErr result (ends.new ≡ ends.old) }
+    ensures agree { E.Agree ends.new (S.slots store.new) (S.memory store.new) }
+{
+    if wants_revoke_first(store, set) {
+        return Err(KError::RevokeFirst);
+    }
+    let lines = lines_taken(store, set);
+    empty_all(store, ends, &set);
+    empty_bindings(store, ends, &lines);
+    settle(store, ends);
+    Ok(())
+}
+
+/// Empties a slot alone: an empty one stays as it is. Errors are those of [`revoke`].
+///
+/// seL4 Reference Manual, "Deletion, Revocation, and Recycling".
+pub fn remove_slot<S: SlotStore, E: Ends>(store: &mut S, ends: &mut E, slot: Slot) -> Result<(), KError>
+    requires agree { E.Agree ends.old (S.slots store.old) (S.memory store.old) }
+    requires sound { IsSound (E.state ends.old (S.slots store.old) (S.memory store.old)) }
+    ensures outcome { GivesState (delete (E.state ends.old (S.slots store.old) (S.memory store.old)) slot) result
+        (E.state ends.new (S.slots store.new) (S.memory store.new)) }
+    ensures unchanged { OnErr result (store.new ≡ store.old) }
+    ensures same { OnErr result (ends.new ≡ ends.old) }
+    ensures agree { E.Agree ends.new (S.slots store.new) (S.memory store.new) }
+{
+    if !is_taken(store, slot) {
+        return Ok(());
+    }
+    remove(store, ends, Removed::One(slot))
+}
+
+/// Takes all capabilities away that are derived from the one in a slot, which stays. It is refused where
+/// a CNode or a thread would end that still holds another capability (`RevokeFirst`); then nothing
+/// changes.
+///
+/// seL4 Reference Manual, "Deletion, Revocation, and Recycling".
+pub fn remove_below<S: SlotStore, E: Ends>(store: &mut S, ends: &mut E, slot: Slot) -> Result<(), KError>
+    requires agree { E.Agree ends.old (S.slots store.old) (S.memory store.old) }
+    requires sound { IsSound (E.state ends.old (S.slots store.old) (S.memory store.old)) }
+    ensures outcome { GivesState (revoke (E.state ends.old (S.slots store.old) (S.memory store.old)) slot) result
+        (E.state ends.new (S.slots store.new) (S.memory store.new)) }
+    ensures unchanged { OnErr result (store.new ≡ store.old) }
+    ensures same { OnErr result (ends.new ≡ ends.old) }
+    ensures agree { E.Agree ends.new (S.slots store.new) (S.memory store.new) }
+{
+    remove(store, ends, Removed::Below(slot))
 }
