@@ -1,6 +1,7 @@
 pub mod Answered
 pub mod Emptied
 pub mod Kept
+pub mod LinesTaken
 pub mod Lookups
 pub mod Refused
 pub mod RefusedLaw

@@ -1,5 +1,5 @@
 -- One of some slots, or none of them.
-use Rattle.std.proofs.Common.{ℕ, zero, suc, ◌≡◌, ◌∙◌, ◌+◌, ◌-◌, ◌<◌, ◌≤◌, ◌||◌, inl, inr, Bool, true, false, get_or, length, refl, sym, ap, arith}
+use Rattle.std.proofs.Common.{ℕ, zero, suc, ◌≡◌, ◌∙◌, ◌+◌, ◌*◌, ◌/◌, ◌-◌, ◌<◌, ◌≤◌, ◌||◌, inl, inr, Bool, true, false, get_or, length, refl, sym, ap, arith}
 use Rattle.std.specs.List.{list_any, range_with_len}
 use Rattle.std.proofs.lemmas.Bool.Decides.{eqb_tells}
 use Rattle.std.proofs.lemmas.List.Folds.{Any-from_list_any, list_any_at, list_any_none}
@@ -38,3 +38,7 @@ next-none n test none next slot less = elim (eqb_tells slot n) [
 
 pub from-zero : (n : ℕ) → 0 + n ≡ n
 from-zero n = omega arith
+
+-- how many slots a memory has
+pub sixteenth : (count size : ℕ) → 16 * count ≡ size → count ≡ size / 16
+sixteenth count size is = omega (arith, is)

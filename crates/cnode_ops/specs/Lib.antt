@@ -1,3 +1,4 @@
+pub mod Lines
 pub mod Nodes
 pub mod Outcomes
 pub mod Refusals

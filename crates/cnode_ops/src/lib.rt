@@ -6,6 +6,7 @@ mod capabilities;
 mod copies;
 mod emptying;
 mod endings;
+mod lines;
 mod moves;
 mod mutations;
 mod named;

@@ -17,14 +17,14 @@ use model::{Cap, Slot};
 use slots::{SlotStore, is_taken};
 
 /// Whether a slot is full, and one of those that go.
-fn goes<S: SlotStore>(store: &S, set: &Removed, slot: Slot) -> bool
+pub(crate) fn goes<S: SlotStore>(store: &S, set: &Removed, slot: Slot) -> bool
     ensures { result ≡ goes (S.slots store.now) set.now slot }
 {
     is_taken(store, slot) && is_removed(store, *set, slot)
 }
 
 /// Whether a slot is full, and none of those that go.
-fn stays<S: SlotStore>(store: &S, set: &Removed, slot: Slot) -> bool
+pub(crate) fn stays<S: SlotStore>(store: &S, set: &Removed, slot: Slot) -> bool
     ensures { result ≡ stays (S.slots store.now) set.now slot }
 {
     is_taken(store, slot) && !is_removed(store, *set, slot)

@@ -1,7 +1,7 @@
 -- The slot where it was found, or none of them.
-use Rattle.std.proofs.Common.{ℕ, ◌≡◌, ◌∙◌, ◌*◌, ◌/◌, ◌&&◌, Bool, length, sym, ap, arith}
+use Rattle.std.proofs.Common.{ℕ, ◌∙◌, ◌&&◌, Bool, length, sym, ap, arith}
 use Rattle.cnode_ops.specs.Refusals.{some_slot, stays}
-use Rattle.cnode_ops.proofs.SomeSlot.{from-zero, next-none, some-at, some-none}
+use Rattle.cnode_ops.proofs.SomeSlot.{from-zero, next-none, sixteenth, some-at, some-none}
 use Rattle.cnode_ops.proofs.refusals.is_named_beside.Goals as goal
 use Rattle.model.specs.Capabilities.CapabilityKinds.{names_object}
 use Rattle.model.specs.Capabilities.Slots.{Slots, capability_at}
@@ -9,9 +9,6 @@ use Rattle.cnode_ops.specs.declared.sets.Removed.{Removed}
 
 abbrev passes : Slots → Removed → ℕ → ℕ → Bool
 passes slots set offset slot = names_object offset (capability_at slots slot) && stays slots set slot
-
-sixteenth : (count size : ℕ) → 16 * count ≡ size → count ≡ size / 16
-sixteenth count size is = omega (arith, is)
 
 pub returns-then-names_beside : goal.returns-then-names_beside
 returns-then-names_beside g c =

@@ -1,0 +1,115 @@
+-- The lines whose last handler goes, found slot by slot.
+use Rattle.std.proofs.Common.{ℕ, ◌≡◌, ◌≢◌, ◌∙◌, ◌==◌, ◌+◌, ◌*◌, ◌/◌, ◌^◌, ◌<◌, ◌≤◌, ◌&&◌, ◌||◌, inl, inr, Bool, true, false, not, List, [], ◌∷◌, get_or, length, set, refl, sym, ap, subst, arith}
+use Rattle.std.proofs.Math.Bool.{and-false, and-true, or-false, or-true}
+use Rattle.std.proofs.lemmas.Bool.Decides.{eqb_tells}
+use Rattle.std.proofs.lemmas.Grind.{get_or-set_at}
+use Rattle.std.proofs.lemmas.List.{get_or-set_other}
+use Rattle.model.specs.declared.capabilities.Cap.{Cap}
+use Rattle.model.specs.declared.capabilities.Cap.TheVariants.{Empty, Untyped, Endpoint, Notification, CNode, Frame, PageTable, Tcb, RootTable, InterruptControl, InterruptHandler}
+use Rattle.model.specs.Capabilities.CapabilityKinds.{is_handler_of}
+use Rattle.model.specs.Capabilities.Slots.{IsOpen, Slots, capability_at, is_empty, is_full}
+use Rattle.model.specs.Kernel.Removal.{SlotSet, some_inside, some_outside, takes_last}
+use Rattle.model.specs.Kernel.State.{State}
+use Rattle.model.proofs.Ancestors.{full-open}
+use Rattle.removals.proofs.Found.{bool-iff, both, found, found-at, found-where, join}
+use Rattle.cnode_ops.specs.Lines.{is_handled_beside, takes_line}
+use Rattle.cnode_ops.specs.Refusals.{goes, some_slot, stays}
+use Rattle.cnode_ops.specs.Sets.{set_of}
+use Rattle.cnode_ops.specs.declared.sets.Removed.{Removed}
+use Rattle.cnode_ops.proofs.RefusedLaw.{found-some}
+use Rattle.cnode_ops.proofs.SomeSlot.{some-at, some-where}
+
+-- one slot more
+some-more : (n : ℕ) (test : ℕ → Bool) → some_slot 0 (n + 1) test ≡ (some_slot 0 n test || test n)
+some-more n test = bool-iff (some_slot 0 (n + 1) test) (some_slot 0 n test || test n)
+    (λ some.
+    let at = some-where 0 (n + 1) test some in
+    elim (eqb_tells at.0 n) [
+      | inl here ↦ ap (λ b. some_slot 0 n test || b) (ap test (sym here.1) ∙ at.3) ∙ or-true (some_slot 0 n test)
+      | inr other ↦ ap (λ b. b || test n) (some-at 0 n at.0 test at.1 (omega (arith, at.2, other.1)) at.3)
+    ])
+    (elim (test n) as (λ b. test n ≡ b → (some_slot 0 n test || b) ≡ true → some_slot 0 (n + 1) test ≡ true) [
+      | true ↦ λ is either. some-at 0 (n + 1) n test (omega arith) (omega arith) is
+      | false ↦ λ is either.
+          let at = some-where 0 n test (sym (or-false (some_slot 0 n test)) ∙ either) in
+          some-at 0 (n + 1) at.0 test at.1 (omega (arith, at.2)) at.3
+    ] refl)
+
+pub some-more-none : (n : ℕ) (test : ℕ → Bool) → test n ≡ false → some_slot 0 n test ≡ some_slot 0 (n + 1) test
+some-more-none n test none = sym (some-more n test ∙ ap (λ b. some_slot 0 n test || b) none ∙ or-false (some_slot 0 n test))
+
+-- a slot takes one line
+pub line-more : (lines : List Bool) (n taken line : ℕ) (test : ℕ → Bool) → length lines ≡ 64 → taken < 64 → get_or lines line false ≡ some_slot 0 n test → test n ≡ (taken == line)
+    → get_or (set lines taken true) line false ≡ some_slot 0 (n + 1) test
+line-more lines n taken line test long few before at = elim (eqb_tells taken line) [
+  | inl here ↦
+      get_or-set_at lines taken line true false (sym here.1) (omega (arith, long, few))
+      ∙ sym (some-more n test ∙ ap (λ b. some_slot 0 n test || b) (at ∙ here.0) ∙ or-true (some_slot 0 n test))
+  | inr other ↦
+      get_or-set_other lines taken line true false (λ same. other.1 (sym same))
+      ∙ before
+      ∙ some-more-none n test (at ∙ other.0)
+]
+
+handler-full : (line : ℕ) (c : Cap) → is_handler_of line c ≡ true → is_empty c ≡ false
+handler-full line Empty is = absurd (let clash : false ≡ true = is in cc)
+handler-full line (Untyped f b w) is = refl
+handler-full line (Endpoint f r b) is = refl
+handler-full line (Notification f r b) is = refl
+handler-full line (CNode f radix g) is = refl
+handler-full line (Frame f r m) is = refl
+handler-full line (PageTable f m) is = refl
+handler-full line (Tcb f) is = refl
+handler-full line (RootTable f) is = refl
+handler-full line InterruptControl is = refl
+handler-full line (InterruptHandler other) is = refl
+
+module _ (s : State) (removed : Removed) (line : ℕ) (near : (y : ℕ) → IsOpen s.slots y → y < 2 ^ s.memory_bits / 16) where
+  abbrev own : SlotSet
+  own = set_of s.slots removed
+
+  abbrev size : ℕ
+  size = 2 ^ s.memory_bits / 16
+
+  abbrev handles : ℕ → Bool
+  handles z = is_handler_of line (capability_at s.slots z)
+
+  full-handler : (z : ℕ) → handles z ≡ true → is_full s.slots z ≡ true
+  full-handler z is = ap not (handler-full line (capability_at s.slots z) is)
+
+  beside-at : (z : ℕ) → (handles z && stays s.slots removed z) ≡ (not (own z) && handles z)
+  beside-at z = elim (handles z) as (λ b. handles z ≡ b → (b && stays s.slots removed z) ≡ (not (own z) && b)) [
+    | false ↦ λ none. sym (and-false (not (own z)))
+    | true ↦ λ some. ap (λ b. b && not (own z)) (full-handler z some) ∙ sym (and-true (not (own z)))
+  ] refl
+
+  beside : is_handled_beside s.slots size removed line ≡ some_outside s own (is_handler_of line)
+  beside = (λ i. some_slot 0 size (λ z. beside-at z i)) ∙ sym (found-some s.memory_bits (λ z. not (own z) && handles z))
+
+  lines-law : some_slot 0 size (takes_line s.slots size removed line) ≡ takes_last s own (is_handler_of line)
+  lines-law = bool-iff (some_slot 0 size (takes_line s.slots size removed line)) (takes_last s own (is_handler_of line))
+      (λ some.
+      let at = some-where 0 size (takes_line s.slots size removed line) some in
+      let parts = both (handles at.0) _ at.3 in
+      let more = both (goes s.slots removed at.0) (not (is_handled_beside s.slots size removed line)) parts.1 in
+      let member = both (is_full s.slots at.0) (own at.0) more.0 in
+      join (some_inside s own (is_handler_of line)) (not (some_outside s own (is_handler_of line)))
+      (found-at s.memory_bits at.0 (λ z. own z && handles z) (omega (arith, at.2)) (join (own at.0) (handles at.0) member.1 parts.0))
+      (ap not (sym beside) ∙ more.1))
+      (λ last.
+      let parts = both (some_inside s own (is_handler_of line)) (not (some_outside s own (is_handler_of line))) last in
+      let at = found-where s.memory_bits (λ z. own z && handles z) parts.0 in
+      let member = both (own at.0) (handles at.0) at.1 in
+      let full = full-handler at.0 member.1 in
+      some-at 0 size at.0 (takes_line s.slots size removed line) (omega arith) (omega (arith, near at.0 (full-open s.slots at.0 full)))
+      (join (handles at.0) _ member.1 (join (goes s.slots removed at.0) (not (is_handled_beside s.slots size removed line)) (join (is_full s.slots at.0) (own at.0) full member.0) (ap not beside ∙ parts.1))))
+
+-- the answer of one who asks a store
+pub lines-answer : (s : State) (removed : Removed) (slots : Slots) (count n bytes line : ℕ) (answer : Bool) → 16 * count ≡ bytes → ((y : ℕ) → IsOpen slots y → y < count) → count ≤ n → n ≤ count
+    → answer ≡ some_slot 0 n (takes_line slots (bytes / 16) removed line) → s.slots ≡ slots → 2 ^ s.memory_bits ≡ bytes → answer ≡ takes_last s (set_of s.slots removed) (is_handler_of line)
+lines-answer s removed slots count n bytes line answer many near low high is has memory =
+    let one : n ≡ 2 ^ s.memory_bits / 16 = omega (arith, low, high, many, memory) in
+    let two : bytes / 16 ≡ 2 ^ s.memory_bits / 16 = omega (arith, memory) in
+    is
+    ∙ (λ i. some_slot 0 (one i) (takes_line (sym has i) (two i) removed line))
+    ∙ lines-law s removed line (λ y opens. omega (arith, one, high, near y (subst (λ (t : Slots). IsOpen t y) has opens)))
