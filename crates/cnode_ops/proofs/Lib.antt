@@ -10,3 +10,4 @@ pub mod Values
 pub mod Watermarks
 pub mod EmptiedSets
 pub mod ClosedSlots
+pub mod RemovedSets

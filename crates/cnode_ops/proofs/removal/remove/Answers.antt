@@ -1,14 +1,11 @@
 -- The loops, and what settles them, are the removal.
-use Rattle.std.proofs.Common.{ℕ, ◌≡◌, ◌∙◌, ◌^◌, ◌<◌, length, false, true, slice_index_or, Err, refl, sym, ap, subst}
+use Rattle.std.proofs.Common.{ℕ, ◌≡◌, ◌∙◌, ◌^◌, length, sym, ap}
 use Rattle.cnode_ops.specs.Sets.{set_of}
-use Rattle.model.specs.Capabilities.CapabilityKinds.{is_handler_of}
-use Rattle.model.specs.Capabilities.Slots.{IsOpen, Slots}
-use Rattle.model.specs.Kernel.Removal.{SlotSet, emptied, takes_last, wants_revoke_first, with_bindings}
-use Rattle.model.specs.Kernel.Soundness.{IsSound}
-use Rattle.model.specs.Kernel.State.{State, binding_slot}
-use Rattle.removals.specs.Finishing.{MaySettle}
-use Rattle.removals.specs.Steps.{IsReady, joined}
-use Rattle.removals.proofs.Whole.{both-loops, may-settle, members-all, refused, removed, sound-ready}
+use Rattle.model.specs.Capabilities.Slots.{Slots}
+use Rattle.model.specs.Kernel.Removal.{remove}
+use Rattle.model.specs.Kernel.State.{State}
+use Rattle.removals.proofs.Whole.{refused, sound-ready}
+use Rattle.cnode_ops.proofs.RemovedSets.{LoopsRan, loops-may-settle, loops-remove}
 use Rattle.cnode_ops.proofs.removal.remove.Goals as goal
 
 pub returns-then-wants_revoke_first-clause-outcome : goal.returns-then-wants_revoke_first-clause-outcome
@@ -17,13 +14,47 @@ returns-then-wants_revoke_first-clause-outcome g c =
     let w : State = g.E.Ends.state c.args.ends.now slots (g.S.SlotStore.memory c.args.store.now) in
     let has : w.slots ≡ slots = g.met.E.Ends.of_slots _ _ _ in
     let wants = sym (c.wants_revoke_first.ensures w has c.requires.sound (g.met.E.Ends.of_memory _ _ _ c.requires.agree)) ∙ c.if-wants_revoke_first.true in
-    ap (λ (n : Slots). Rattle.model.specs.Kernel.Removal.remove w (set_of n c.args.set)) (sym has) ∙ refused w (set_of w.slots c.args.set) wants
+    ap (λ (n : Slots). remove w (set_of n c.args.set)) (sym has) ∙ refused w (set_of w.slots c.args.set) wants
 
 pub empty_all-requires-clause-ready : goal.empty_all-requires-clause-ready
 empty_all-requires-clause-ready g c = sound-ready _ c.requires.sound
 
 pub settle-requires-clause-may : goal.settle-requires-clause-may
-settle-requires-clause-may g c = ?
+settle-requires-clause-may g c =
+    let slots : Slots = g.S.SlotMap.slots c.args.store.now in
+    let w : State = g.E.Ends.state c.args.ends.now slots (g.S.SlotStore.memory c.args.store.now) in
+    let one : State = g.E.Ends.state c.empty_all.new.ends (g.S.SlotMap.slots c.empty_all.new.store) (g.S.SlotStore.memory c.empty_all.new.store) in
+    let two : State = g.E.Ends.state c.empty_bindings.new.ends (g.S.SlotMap.slots c.empty_bindings.new.store) (g.S.SlotStore.memory c.empty_bindings.new.store) in
+    let has : w.slots ≡ slots = g.met.E.Ends.of_slots _ _ _ in
+    let size : 2 ^ w.memory_bits ≡ length (g.S.SlotStore.memory c.args.store.now) = g.met.E.Ends.of_memory _ _ _ c.requires.agree in
+    let ran : LoopsRan w one two slots c.args.set c.lines_taken-lines.result = record {
+      has = has;
+      sound = c.requires.sound;
+      members = c.requires.members;
+      shape = c.empty_all.ensures.shape;
+      taken = c.empty_all.ensures.taken;
+      last = c.lines_taken-lines.ensures w has size;
+      bound = c.empty_bindings.ensures.state;
+      kept_first = sym (c.wants_revoke_first.ensures w has c.requires.sound size) ∙ c.if-wants_revoke_first.false;
+    } in
+    loops-may-settle w one two slots c.args.set c.lines_taken-lines.result ran
 
 pub returns-clause-outcome : goal.returns-clause-outcome
-returns-clause-outcome g c = ?
+returns-clause-outcome g c =
+    let slots : Slots = g.S.SlotMap.slots c.args.store.now in
+    let w : State = g.E.Ends.state c.args.ends.now slots (g.S.SlotStore.memory c.args.store.now) in
+    let one : State = g.E.Ends.state c.empty_all.new.ends (g.S.SlotMap.slots c.empty_all.new.store) (g.S.SlotStore.memory c.empty_all.new.store) in
+    let two : State = g.E.Ends.state c.empty_bindings.new.ends (g.S.SlotMap.slots c.empty_bindings.new.store) (g.S.SlotStore.memory c.empty_bindings.new.store) in
+    let has : w.slots ≡ slots = g.met.E.Ends.of_slots _ _ _ in
+    let size : 2 ^ w.memory_bits ≡ length (g.S.SlotStore.memory c.args.store.now) = g.met.E.Ends.of_memory _ _ _ c.requires.agree in
+    let ran : LoopsRan w one two slots c.args.set c.lines_taken-lines.result = record {
+      has = has;
+      sound = c.requires.sound;
+      members = c.requires.members;
+      shape = c.empty_all.ensures.shape;
+      taken = c.empty_all.ensures.taken;
+      last = c.lines_taken-lines.ensures w has size;
+      bound = c.empty_bindings.ensures.state;
+      kept_first = sym (c.wants_revoke_first.ensures w has c.requires.sound size) ∙ c.if-wants_revoke_first.false;
+    } in
+    loops-remove w one two slots c.args.set c.lines_taken-lines.result ran _ c.settle.ensures.state
