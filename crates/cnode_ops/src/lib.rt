@@ -1,9 +1,10 @@
-//! Calls on CNodes over any store of slots, and what a removal empties.
+//! Calls on CNodes over any store of slots.
 //! seL4 Reference Manual, "Capability-based Access Control".
 #![tactic(auto)]
 
 mod capabilities;
 mod copies;
+mod deletions;
 mod emptying;
 mod endings;
 mod lines;
@@ -16,7 +17,9 @@ mod sets;
 mod settling;
 
 pub use copies::{copy, mint};
+pub use deletions::{delete, revoke};
 pub use endings::Ends;
 pub use moves::move_cap;
 pub use mutations::mutate;
 pub use named::NodeCall;
+pub use removal::remove_slot;
