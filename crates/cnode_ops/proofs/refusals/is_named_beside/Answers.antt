@@ -1,11 +1,11 @@
 -- The slot where it was found, or none of them.
-use Rattle.std.proofs.Common.{ℕ, ◌∙◌, ◌&&◌, Bool, length, sym, ap, arith}
-use Rattle.cnode_ops.specs.Refusals.{some_slot, stays}
-use Rattle.cnode_ops.proofs.SomeSlot.{from-zero, next-none, sixteenth, some-at, some-none}
+use Rattle.std.proofs.Common.{ℕ, ◌∙◌, ◌&&◌, Bool, length, sym, ap}
+use Rattle.cnode_ops.specs.Refusals.{stays}
+use Rattle.cnode_ops.specs.declared.sets.Removed.{Removed}
+use Rattle.cnode_ops.proofs.SomeSlot.{next-none, store-none, store-some}
 use Rattle.cnode_ops.proofs.refusals.is_named_beside.Goals as goal
 use Rattle.model.specs.Capabilities.CapabilityKinds.{names_object}
 use Rattle.model.specs.Capabilities.Slots.{Slots, capability_at}
-use Rattle.cnode_ops.specs.declared.sets.Removed.{Removed}
 
 abbrev passes : Slots → Removed → ℕ → ℕ → Bool
 passes slots set offset slot = names_object offset (capability_at slots slot) && stays slots set slot
@@ -13,8 +13,8 @@ passes slots set offset slot = names_object offset (capability_at slots slot) &&
 pub returns-then-names_beside : goal.returns-then-names_beside
 returns-then-names_beside g c =
     let test : ℕ → Bool = passes (g.S.SlotMap.slots c.args.store.now) c.args.set.now c.args.offset in
-    let size = sixteenth c.count-count.result (length (g.S.SlotStore.memory c.args.store.now)) c.count-count.ensures.value in
-    sym (ap (λ (n : ℕ). some_slot 0 n test) (sym size) ∙ some-at 0 c.count-count.result c.slots.number test (omega arith) (omega (arith, c.slots-test.true)) (ap test (sym c.new.ensures) ∙ sym c.names_beside.ensures ∙ c.if-names_beside.true))
+    store-some c.count-count.result (length (g.S.SlotStore.memory c.args.store.now)) c.slots.number test c.count-count.ensures.value c.slots-test.true
+    (ap test (sym c.new.ensures) ∙ sym c.names_beside.ensures ∙ c.if-names_beside.true)
 
 pub slots-preserved : goal.slots-preserved
 slots-preserved g c =
@@ -24,5 +24,4 @@ slots-preserved g c =
 pub returns : goal.returns
 returns g c =
     let test : ℕ → Bool = passes (g.S.SlotMap.slots c.args.store.now) c.args.set.now c.args.offset in
-    let size = sixteenth c.count-count.result (length (g.S.SlotStore.memory c.args.store.now)) c.count-count.ensures.value in
-    sym (ap (λ (n : ℕ). some_slot 0 n test) (sym size) ∙ some-none 0 c.count-count.result test (λ i less. ap test (from-zero i) ∙ c.slots.invariant i (omega (arith, less, c.slots-test.false))))
+    store-none c.count-count.result (length (g.S.SlotStore.memory c.args.store.now)) c.slots.number test c.count-count.ensures.value c.slots-test.false c.slots.invariant
