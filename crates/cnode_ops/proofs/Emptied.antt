@@ -1,6 +1,5 @@
 -- What a slot holds without its mapping.
-use Rattle.std.proofs.Common.{ℕ, ◌≡◌, ◌∙◌, ◌+◌, ◌*◌, ◌/◌, ◌^◌, ◌<◌, ◌≤◌, List, length, true, not, None, Some, refl, sym, ap, arith}
-use Rattle.model.specs.Kernel.State.{State}
+use Rattle.std.proofs.Common.{ℕ, ◌≡◌, ◌∙◌, true, not, refl, sym, ap}
 use Rattle.model.specs.declared.capabilities.Cap.{Cap}
 use Rattle.model.specs.declared.capabilities.Cap.TheVariants.{Empty, Untyped, Endpoint, Notification, CNode, Frame, PageTable, Tcb, RootTable, InterruptControl, InterruptHandler}
 use Rattle.model.specs.Capabilities.CapabilityKinds.{unmapped}

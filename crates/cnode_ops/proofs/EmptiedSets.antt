@@ -1,10 +1,9 @@
 -- What emptying one slot of a set leaves of the set, and of the full slots.
-use Rattle.std.proofs.Common.{ℕ, zero, suc, ◌≡◌, ◌≢◌, ◌∙◌, ◌==◌, ◌+◌, ◌/◌, ◌^◌, ◌<◌, ◌≤◌, ◌||◌, ◌⊎◌, inl, inr, Bool, is_some, option_map, true, false, not, if◌then◌else◌, List, [], ◌∷◌, get_or, length, filter, cond, Option, Some, None, refl, sym, ap, subst, arith}
+use Rattle.std.proofs.Common.{ℕ, zero, suc, ◌≡◌, ◌≢◌, ◌∙◌, ◌+◌, ◌/◌, ◌^◌, ◌<◌, ◌≤◌, ◌||◌, ◌⊎◌, inl, inr, Bool, is_some, option_map, true, false, List, [], ◌∷◌, get_or, length, filter, cond, Some, None, refl, sym, ap, subst, arith}
 use Rattle.std.specs.List.{range_with_len}
-use Rattle.std.proofs.lemmas.Bool.{eq-eqb, ne_eqb}
 use Rattle.std.proofs.lemmas.Bool.Decides.{eqb_tells}
 use Rattle.std.proofs.lemmas.List.FromFn.{get_or-range_with_len, length-range_with_len}
-use Rattle.model.specs.Capabilities.Slots.{Descendant, IsDerivation, IsFull, IsOpen, Slots, capability_at, child, deeper, depth_of, is_descendant, is_full}
+use Rattle.model.specs.Capabilities.Slots.{Descendant, IsDerivation, IsFull, IsOpen, Slots, child, deeper, depth_of, is_descendant, is_full}
 use Rattle.model.specs.Kernel.Removal.{SlotSet, emptied, kept_entry}
 use Rattle.model.specs.Kernel.State.{State, binding_slot, slot_numbers}
 use Rattle.model.proofs.Ancestors.{depth-child, descendant-from_test, descendant-full, full-open}
@@ -134,9 +133,9 @@ left-next s w now set x so_far full member is =
       };
       members = members_now;
       taken = λ more opens.
-        let more_open : (y : ℕ) → more y ≡ true → IsOpen w.slots y = λ y in_more. so_far.shape.open_slots y (opens y in_more) in
-        so_far.taken more opens
-        ∙ round w x (set_of w.slots set) (set_of one.slots set) more so_far.ready.derivation ready_now.derivation so_far.ready.near full member
+          let more_open : (y : ℕ) → more y ≡ true → IsOpen w.slots y = λ y in_more. so_far.shape.open_slots y (opens y in_more) in
+          so_far.taken more opens
+          ∙ round w x (set_of w.slots set) (set_of one.slots set) more so_far.ready.derivation ready_now.derivation so_far.ready.near full member
           (λ y filled. set-still w set x y so_far.ready full member filled)
           (joined-open w (set_of w.slots set) more so_far.members more_open)
           (joined-open w (set_of one.slots set) more (λ y in_set. open-was w x y (full-open w.slots x full) (members_now y in_set)) more_open);
@@ -148,9 +147,9 @@ left-done s w set so_far none more opens =
     let more_open : (y : ℕ) → more y ≡ true → IsOpen w.slots y = λ y in_more. so_far.shape.open_slots y (opens y in_more) in
     so_far.taken more opens
     ∙ emptied-same w so_far.ready.derivation (joined (set_of w.slots set) more) more
-      (λ y filled. ap (λ b. b || more y) (none y filled))
-      (joined-open w (set_of w.slots set) more so_far.members more_open)
-      more_open
+    (λ y filled. ap (λ b. b || more y) (none y filled))
+    (joined-open w (set_of w.slots set) more so_far.members more_open)
+    more_open
 
 -- ---- what is left of some bindings
 

@@ -1,5 +1,5 @@
 -- The lines whose last handler goes, found slot by slot.
-use Rattle.std.proofs.Common.{ℕ, ◌≡◌, ◌≢◌, ◌∙◌, ◌==◌, ◌+◌, ◌*◌, ◌/◌, ◌^◌, ◌<◌, ◌≤◌, ◌&&◌, ◌||◌, inl, inr, Bool, true, false, not, List, [], ◌∷◌, get_or, length, set, refl, sym, ap, subst, arith}
+use Rattle.std.proofs.Common.{ℕ, ◌≡◌, ◌∙◌, ◌==◌, ◌+◌, ◌*◌, ◌/◌, ◌^◌, ◌<◌, ◌≤◌, ◌&&◌, ◌||◌, inl, inr, Bool, true, false, not, List, get_or, length, set, refl, sym, ap, subst, arith}
 use Rattle.std.proofs.Math.Bool.{and-false, and-true, or-false, or-true}
 use Rattle.std.proofs.lemmas.Bool.Decides.{eqb_tells}
 use Rattle.std.proofs.lemmas.Grind.{get_or-set_at}
@@ -11,7 +11,7 @@ use Rattle.model.specs.Capabilities.Slots.{IsOpen, Slots, capability_at, is_empt
 use Rattle.model.specs.Kernel.Removal.{SlotSet, some_inside, some_outside, takes_last}
 use Rattle.model.specs.Kernel.State.{State}
 use Rattle.model.proofs.Ancestors.{full-open}
-use Rattle.removals.proofs.Found.{bool-iff, both, found, found-at, found-where, join}
+use Rattle.removals.proofs.Found.{bool-iff, both, found-at, found-where, join}
 use Rattle.cnode_ops.specs.Lines.{is_handled_beside, takes_line}
 use Rattle.cnode_ops.specs.Refusals.{goes, some_slot, stays}
 use Rattle.cnode_ops.specs.Sets.{set_of}

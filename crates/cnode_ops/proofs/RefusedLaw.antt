@@ -1,7 +1,7 @@
 -- What is asked of the slots of a sound state is what the definition of a removal asks, whose set has bindings too.
-use Rattle.std.proofs.Common.{ℕ, zero, suc, ◌≡◌, ◌≢◌, ◌∙◌, ◌==◌, ◌+◌, ◌*◌, ◌/◌, ◌^◌, ◌<◌, ◌≤◌, ◌&&◌, ◌||◌, inl, inr, Bool, true, false, not, Option, Some, None, is_some, option_map, List, get_or, length, refl, sym, ap, subst, arith}
+use Rattle.std.proofs.Common.{ℕ, ◌≡◌, ◌≢◌, ◌∙◌, ◌==◌, ◌+◌, ◌*◌, ◌/◌, ◌^◌, ◌<◌, ◌&&◌, ◌||◌, inl, inr, Bool, true, false, not, Option, Some, None, is_some, option_map, get_or, refl, sym, ap, subst, arith}
 use Rattle.std.specs.Option.{option_map_or}
-use Rattle.std.specs.List.{list_any, range_with_len}
+use Rattle.std.specs.List.{range_with_len}
 use Rattle.std.proofs.Math.Bool.{and-false, and-true, or-false}
 use Rattle.std.proofs.lemmas.Bool.{eq-eqb, ne_eqb}
 use Rattle.std.proofs.lemmas.Bool.Decides.{eqb_tells}
@@ -10,17 +10,17 @@ use Rattle.std.proofs.lemmas.List.FromFn.{get_or-range_with_len, length-range_wi
 use Rattle.model.specs.declared.capabilities.Cap.{Cap}
 use Rattle.model.specs.declared.capabilities.Cap.TheVariants.{Empty, Untyped, Endpoint, Notification, CNode, Frame, PageTable, Tcb, RootTable, InterruptControl, InterruptHandler}
 use Rattle.model.specs.Capabilities.CapabilityKinds.{is_handler_of, names_object, object_of}
-use Rattle.model.specs.Capabilities.Slots.{IsFull, IsOpen, Slots, capability_at, is_empty, is_full, is_within}
+use Rattle.model.specs.Capabilities.Slots.{IsFull, IsOpen, Slots, capability_at, is_empty, is_full}
 use Rattle.model.specs.Kernel.Interrupts.{signal_of}
-use Rattle.model.specs.Kernel.Kinds.{Names, kind_at, kind_of, object_named}
+use Rattle.model.specs.Kernel.Kinds.{Names, kind_of, object_named}
 use Rattle.model.specs.Kernel.Removal.{SlotSet, ends_filled, is_slot_of, slot_count, some_inside, some_outside, takes_last, wants_revoke_first, with_bindings}
 use Rattle.model.specs.Kernel.Retype.{NewObject, NewUntyped, NewThread, NewEndpoint, NewNotification, NewCNode, NewFrame, NewPageTable, NewRootTable}
 use Rattle.model.specs.Kernel.Soundness.{IsSound}
-use Rattle.model.specs.Kernel.State.{State, Object, ThreadObject, EndpointObject, NotificationObject, CNodeObject, FrameObject, PageTableObject, RootTableObject, binding_slot, boot_area_slots, slot_numbers}
+use Rattle.model.specs.Kernel.State.{State, Object, ThreadObject, EndpointObject, NotificationObject, CNodeObject, FrameObject, PageTableObject, RootTableObject, binding_slot, slot_numbers}
 use Rattle.model.proofs.Ancestors.{full-open}
 use Rattle.removals.proofs.Finishing.{behind-boot, bounds-within, holder, within-bounds}
-use Rattle.removals.proofs.Found.{bool-iff, both, found, found-at, found-none, found-where, join}
-use Rattle.cnode_ops.specs.Refusals.{is_left_filled, is_named_beside, refuses, slots_named, some_slot, stays}
+use Rattle.removals.proofs.Found.{bool-iff, both, found, found-at, found-where, join}
+use Rattle.cnode_ops.specs.Refusals.{is_left_filled, is_named_beside, refuses, some_slot, stays}
 use Rattle.cnode_ops.specs.Sets.{set_of}
 use Rattle.cnode_ops.specs.declared.sets.Removed.{Removed}
 use Rattle.cnode_ops.proofs.SomeSlot.{some-at, some-none, some-where}

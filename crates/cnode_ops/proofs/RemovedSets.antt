@@ -1,5 +1,5 @@
 -- What a removal's loops leave, of a state and slots that are kept apart.
-use Rattle.std.proofs.Common.{ℕ, ◌≡◌, ◌∙◌, ◌^◌, ◌<◌, List, Bool, length, false, true, slice_index_or, Ok, refl, sym, ap, subst}
+use Rattle.std.proofs.Common.{ℕ, ◌≡◌, ◌∙◌, ◌<◌, List, Bool, false, true, slice_index_or, Ok, sym, ap, subst}
 use Rattle.model.specs.Capabilities.CapabilityKinds.{is_handler_of}
 use Rattle.model.specs.Capabilities.Slots.{IsDerivation, IsOpen, Slots, is_descendant}
 use Rattle.model.specs.Kernel.Removal.{SlotSet, emptied, remove, takes_last, wants_revoke_first, with_bindings}
@@ -24,7 +24,6 @@ pub record LoopsRan (w one two : State) (slots : Slots) (set : Removed) (lines :
   pub kept_first : wants_revoke_first w (with_bindings w (set_of w.slots set)) ≡ false
 
 module _ (w one two : State) (slots : Slots) (set : Removed) (lines : List Bool) (ran : LoopsRan w one two slots set lines) where
-
   same : slots ≡ w.slots
   same = sym ran.has
 

@@ -1,6 +1,6 @@
 -- Whether a slot is a parent still, by the descendants that a store finds.
-use Rattle.std.proofs.Common.{ℕ, ◌≡◌, ◌≢◌, ◌∙◌, true, false, List, [], ◌∷◌, IfSome, IsTrue, Option, Some, None, is_some, refl, sym, ap, arith, if◌then◌else◌}
-use Rattle.model.specs.Capabilities.Orders.{IsOrderOf, descendants, first_of, next_in}
+use Rattle.std.proofs.Common.{ℕ, ◌≡◌, ◌∙◌, true, false, List, [], IfSome, IsTrue, Option, Some, None, is_some, refl, ap, arith, if◌then◌else◌}
+use Rattle.model.specs.Capabilities.Orders.{IsOrderOf, descendants, next_in}
 use Rattle.model.specs.Capabilities.Slots.{Descendant, IsDerivation, Slots, child, deeper, is_descendant, parent_at}
 use Rattle.model.specs.Shared.Lists.{times_in}
 use Rattle.model.proofs.Ancestors.{descendants-once, found-descends, test-from_descendant}

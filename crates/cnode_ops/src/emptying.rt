@@ -24,7 +24,8 @@ pub(crate) fn object_of(capability: Cap) -> Option<u32>
         | Cap::PageTable { offset, .. }
         | Cap::Tcb { offset }
         | Cap::RootTable { offset } => Some(offset),
-        Cap::Empty | Cap::Untyped { .. } | Cap::InterruptControl | Cap::InterruptHandler { .. } => None,
+        Cap::Empty | Cap::Untyped { .. } | Cap::InterruptControl | Cap::InterruptHandler { .. } =>
+            None,
     }
 }
 

@@ -93,7 +93,11 @@ fn remove<S: SlotStore, E: Ends>(store: &mut S, ends: &mut E, set: Removed) -> R
 /// Empties a slot alone: an empty one stays as it is. Errors are those of [`revoke`].
 ///
 /// seL4 Reference Manual, "Deletion, Revocation, and Recycling".
-pub fn remove_slot<S: SlotStore, E: Ends>(store: &mut S, ends: &mut E, slot: Slot) -> Result<(), KError>
+pub fn remove_slot<S: SlotStore, E: Ends>(
+    store: &mut S,
+    ends: &mut E,
+    slot: Slot,
+) -> Result<(), KError>
     requires agree { E.Agree ends.old (S.slots store.old) (S.memory store.old) }
     requires sound { IsSound (E.state ends.old (S.slots store.old) (S.memory store.old)) }
     ensures outcome { GivesState (delete (E.state ends.old (S.slots store.old) (S.memory store.old)) slot) result
@@ -113,7 +117,11 @@ pub fn remove_slot<S: SlotStore, E: Ends>(store: &mut S, ends: &mut E, slot: Slo
 /// changes.
 ///
 /// seL4 Reference Manual, "Deletion, Revocation, and Recycling".
-pub(crate) fn remove_below<S: SlotStore, E: Ends>(store: &mut S, ends: &mut E, slot: Slot) -> Result<(), KError>
+pub(crate) fn remove_below<S: SlotStore, E: Ends>(
+    store: &mut S,
+    ends: &mut E,
+    slot: Slot,
+) -> Result<(), KError>
     requires agree { E.Agree ends.old (S.slots store.old) (S.memory store.old) }
     requires sound { IsSound (E.state ends.old (S.slots store.old) (S.memory store.old)) }
     ensures outcome { GivesState (revoke (E.state ends.old (S.slots store.old) (S.memory store.old)) slot) result

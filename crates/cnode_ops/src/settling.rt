@@ -1,7 +1,6 @@
 //! What is left to do once all slots of a removal are empty.
 
 ghost use Rattle.std.specs.Prelude.{◌≡◌, ◌+◌, ◌*◌, ◌≤◌, Some, length, true};
-
 ghost use Rattle.model.specs.Capabilities.Slots.{IsOpen, empty_entry};
 ghost use Rattle.removals.specs.Finishing.{MaySettle, StrayClosed, settled, without_strays};
 

@@ -1,14 +1,13 @@
 -- Untyped memory loses its last child with one slot of a set, or with the others once that one is empty.
-use Rattle.std.proofs.Common.{ℕ, ◌≡◌, ◌≢◌, ◌∙◌, ◌==◌, ◌+◌, ◌/◌, ◌^◌, ◌<◌, ◌≤◌, ◌&&◌, ◌||◌, ◌⊎◌, inl, inr, Bool, true, false, not, if◌then◌else◌, Option, Some, None, refl, sym, ap, arith}
-use Rattle.std.specs.Option.{option_map_or}
+use Rattle.std.proofs.Common.{ℕ, ◌≡◌, ◌≢◌, ◌∙◌, ◌==◌, ◌/◌, ◌^◌, ◌<◌, ◌&&◌, ◌||◌, ◌⊎◌, inl, inr, Bool, true, false, not, if◌then◌else◌, Option, Some, None, refl, sym, ap}
 use Rattle.std.proofs.Math.Bool.{and-false, or-true}
 use Rattle.std.proofs.lemmas.Bool.{eq-eqb, ne_eqb}
 use Rattle.std.proofs.lemmas.Bool.Decides.{eqb_tells}
-use Rattle.model.specs.Capabilities.Slots.{IsDerivation, IsFull, Slots, parent_at}
+use Rattle.model.specs.Capabilities.Slots.{IsDerivation, IsFull, parent_at}
 use Rattle.model.specs.Kernel.Removal.{SlotSet, ancestor_outside, is_some_slot, loses_last_child, new_parent}
 use Rattle.model.specs.Kernel.State.{State}
 use Rattle.model.proofs.Depths.{adopted_parent}
-use Rattle.removals.proofs.Found.{bool-iff, both, found, found-at, found-none, found-or, found-same, found-where, join}
+use Rattle.removals.proofs.Found.{bool-iff, both, found, found-at, found-or, found-same, found-where, join}
 use Rattle.removals.specs.Steps.{alone, less}
 use Rattle.removals.proofs.Lasts.{left-at, outside-at}
 use Rattle.removals.proofs.Keeping.{parent-out}
@@ -49,7 +48,6 @@ apart-at : (y x : ℕ) → (y == x) ≡ false → y ≢ x
 apart-at y x is = elim (eqb_tells y x) [ inl at ↦ absurd (let clash : true ≡ false = sym at.0 ∙ is in cc) | inr apart ↦ apart.1 ]
 
 module _ (s : State) (set : SlotSet) (x : ℕ) (tree : IsDerivation s.slots) (near : (y : ℕ) → IsFull s.slots y → y < 2 ^ s.memory_bits / 16) (member : set x ≡ true) (full : IsFull s.slots x) (u : ℕ) (stays : set u ≡ false) where
-
   abbrev one : State
   one = splits.one s set x tree near member full
 
@@ -119,13 +117,13 @@ module _ (s : State) (set : SlotSet) (x : ℕ) (tree : IsDerivation s.slots) (ne
   split-a : a ≡ (a1 || a2)
   split-a = bool-iff a (a1 || a2)
       (λ is.
-        let c = found-where s.memory_bits _ is in
-        let parts = both (set c.0) _ c.1 in
-        let below = some-slot u _ parts.1 in
-        elim (eqb_tells c.0 x) [
-          | inl at ↦ ap (λ e. e || a2) (found-at s.memory_bits c.0 (λ y. alone x y && is_some_slot u (parent_at s.slots y)) (near c.0 (tree.child_full c.0 u below)) (join (alone x c.0) _ at.0 parts.1))
-          | inr away ↦ ap (λ e. a1 || e) (at-a2 c.0 (is-rest c.0 away.1 parts.0) (kept-child c.0 away.1 below)) ∙ or-true a1
-        ])
+      let c = found-where s.memory_bits _ is in
+      let parts = both (set c.0) _ c.1 in
+      let below = some-slot u _ parts.1 in
+      elim (eqb_tells c.0 x) [
+        | inl at ↦ ap (λ e. e || a2) (found-at s.memory_bits c.0 (λ y. alone x y && is_some_slot u (parent_at s.slots y)) (near c.0 (tree.child_full c.0 u below)) (join (alone x c.0) _ at.0 parts.1))
+        | inr away ↦ ap (λ e. a1 || e) (at-a2 c.0 (is-rest c.0 away.1 parts.0) (kept-child c.0 away.1 below)) ∙ or-true a1
+      ])
       (λ is. elim (or-cases a1 a2 is) [
         | inl one_is ↦
             let c = found-where s.memory_bits _ one_is in
@@ -150,17 +148,17 @@ module _ (s : State) (set : SlotSet) (x : ℕ) (tree : IsDerivation s.slots) (ne
   split-b1 : b1 ≡ (a2 || d)
   split-b1 =
       found-same s.memory_bits _ _ (λ c.
-        outside-at (set c) (c == x) (is_some_slot u (new_parent s (alone x) c)) (is_some_slot u (parent_at one.slots c)) (λ is. ap set (here-at c x is) ∙ member)
-        (λ is. ap (is_some_slot u) (parent-out s (alone x) c is))
-        ∙ ap (λ e. (rest c && is_some_slot u (parent_at one.slots c)) || e) (out-at c (set c) refl))
+      outside-at (set c) (c == x) (is_some_slot u (new_parent s (alone x) c)) (is_some_slot u (parent_at one.slots c)) (λ is. ap set (here-at c x is) ∙ member)
+      (λ is. ap (is_some_slot u) (parent-out s (alone x) c is))
+      ∙ ap (λ e. (rest c && is_some_slot u (parent_at one.slots c)) || e) (out-at c (set c) refl))
       ∙ found-or s.memory_bits (λ c. rest c && is_some_slot u (parent_at one.slots c)) (λ c. not (set c) && is_some_slot u (parent_at one.slots c))
 
   split-b2 : b2 ≡ b
   split-b2 =
       found-same s.memory_bits _ _ (λ c.
-        left-at (set c) (c == x) (is_some_slot u (new_parent s set c)) (is_some_slot u (new_parent one rest c)) (λ is. ap set (here-at c x is) ∙ member)
-        (λ is. ap (λ p. is_some_slot u (ancestor_outside 256 rest one.slots p)) (ap (parent_at one.slots) (here-at c x is) ∙ splits.root-now s set x tree near member full) ∙ ap (is_some_slot u) (outside-none 256 rest one.slots))
-        (λ is. ap (is_some_slot u) (sym (splits.new-parent-split s set x tree near member full c (apart-at c x is)))))
+      left-at (set c) (c == x) (is_some_slot u (new_parent s set c)) (is_some_slot u (new_parent one rest c)) (λ is. ap set (here-at c x is) ∙ member)
+      (λ is. ap (λ p. is_some_slot u (ancestor_outside 256 rest one.slots p)) (ap (parent_at one.slots) (here-at c x is) ∙ splits.root-now s set x tree near member full) ∙ ap (is_some_slot u) (outside-none 256 rest one.slots))
+      (λ is. ap (is_some_slot u) (sym (splits.new-parent-split s set x tree near member full c (apart-at c x is)))))
 
   forth : d ≡ true → b ≡ true
   forth is =
@@ -170,9 +168,9 @@ module _ (s : State) (set : SlotSet) (x : ℕ) (tree : IsDerivation s.slots) (ne
       let below = some-slot u _ parts.1 in
       let away = not-x c.0 out in
       let above : new_parent s set c.0 ≡ Some u =
-          splits.new-parent-split s set x tree near member full c.0 away
-          ∙ ap (ancestor_outside 256 rest one.slots) below
-          ∙ outside-out 255 rest one.slots u (ap (λ e. e && not (u == x)) stays)
+      splits.new-parent-split s set x tree near member full c.0 away
+      ∙ ap (ancestor_outside 256 rest one.slots) below
+      ∙ outside-out 255 rest one.slots u (ap (λ e. e && not (u == x)) stays)
       in
       found-at s.memory_bits c.0 (λ y. not (set y) && is_some_slot u (new_parent s set y)) (near c.0 (was-child c.0 away below).0) (join (not (set c.0)) _ parts.0 (slot-some u _ above))
 

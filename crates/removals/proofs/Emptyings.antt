@@ -1,5 +1,5 @@
 -- A slot is emptied: the states that the steps leave.
-use Rattle.std.proofs.Common.{ℕ, ◌≡◌, ◌≢◌, ◌∙◌, ◌==◌, ◌-◌, ◌/◌, ◌%◌, ◌^◌, ◌<◌, ◌&&◌, inl, inr, Bool, true, false, not, if◌then◌else◌, Option, Some, None, refl, sym, ap, subst}
+use Rattle.std.proofs.Common.{ℕ, ◌≡◌, ◌≢◌, ◌∙◌, ◌==◌, ◌/◌, ◌^◌, ◌<◌, ◌&&◌, inl, inr, Bool, true, false, not, if◌then◌else◌, Option, Some, None, refl, sym, ap, subst}
 use Rattle.std.specs.Option.{option_map_or}
 use Rattle.std.proofs.Math.Bool.{and-false, and-true}
 use Rattle.std.proofs.lemmas.Bool.{eq-eqb, ne_eqb}
@@ -13,10 +13,10 @@ use Rattle.model.specs.Kernel.Removal.{emptied, ends, ends_root, is_root_at, som
 use Rattle.model.specs.Kernel.State.{State, with_slots}
 use Rattle.model.proofs.SlotChanges.{capability_of}
 use Rattle.removals.specs.Steps.{Rewinds, RootsAreRoots, ended, object_ended, slots_ended, slots_unmapped}
-use Rattle.removals.proofs.Found.{both, found, found-at, found-none, join}
+use Rattle.removals.proofs.Found.{found-at, found-none, join}
 use Rattle.removals.specs.Steps.{alone}
 use Rattle.removals.proofs.Stepwise.{inside-one, region_lost, root_gone, spliced-itself, spliced-other, stepped, unmapped-itself, unmapped-other}
-use Rattle.removals.proofs.Unaffected.{emptied-by, ended-same, ended_by, nothing-ends}
+use Rattle.removals.proofs.Unaffected.{ended-same, ended_by, nothing-ends}
 
 -- ---- what a capability names is the same without its mapping
 
@@ -83,7 +83,6 @@ root-named r InterruptControl is = absurd (let clash : false ≡ true = is in cc
 root-named r (InterruptHandler _) is = absurd (let clash : false ≡ true = is in cc)
 
 module _ (s : State) (x : ℕ) (tree : IsDerivation s.slots) (near : (y : ℕ) → IsFull s.slots y → y < 2 ^ s.memory_bits / 16) (full : IsFull s.slots x) where
-
   abbrev held : Cap
   held = capability_at s.slots x
 
@@ -120,7 +119,6 @@ module _ (s : State) (x : ℕ) (tree : IsDerivation s.slots) (near : (y : ℕ) �
   -- ---- the object stays, or there is none
 
   module _ (named : (o : ℕ) → object_of held ≡ Some o → (y : ℕ) × (names_object o (capability_at left y) ≡ true)) (kinds : RootsAreRoots s.slots) where
-
     stays : (n : ℕ) (o : Option ℕ) → object_of held ≡ o → ends s (alone x) n ≡ false
     stays n None is = names-inside n ∙ ap (λ p. option_map_or (λ m. m == n) p false && not (some_outside s (alone x) (names_object n))) is
     stays n (Some o) is = elim (eqb_tells o n) [
@@ -157,7 +155,6 @@ module _ (s : State) (x : ℕ) (tree : IsDerivation s.slots) (near : (y : ℕ) �
   -- ---- the object ends
 
   module _ (o : ℕ) (object : object_of held ≡ Some o) (unnamed : (y : ℕ) → names_object o (capability_at left y) ≡ false) where
-
     abbrev removed : Cap
     removed = capability_at bare x
 
@@ -216,7 +213,7 @@ module _ (s : State) (x : ℕ) (tree : IsDerivation s.slots) (near : (y : ℕ) �
     pub emptied-ending : (p : Option ℕ) (now : Slots) → parent_at s.slots x ≡ p → Rewinds p (ended (with_slots s left) removed).slots now → with_slots (ended (with_slots s left) removed) now ≡ emptied s (alone x)
     emptied-ending p now is rewinds =
         let whole : ended (with_slots s left) removed ≡ with_slots (object_ended (with_slots s left) o) (slots_ended removed left) =
-            ap (λ q. option_map_or (λ offset. with_slots (object_ended (with_slots s left) offset) (slots_ended removed left)) q (with_slots s left)) object-removed
+        ap (λ q. option_map_or (λ offset. with_slots (object_ended (with_slots s left) offset) (slots_ended removed left)) q (with_slots s left)) object-removed
         in
         let third : Rewinds p (slots_ended removed left) now = subst (λ (t : State). Rewinds p t.slots now) whole rewinds in
         let same : (y : ℕ) → now y ≡ (emptied s (alone x)).slots y = stepped s x tree near full removed root-goes p now is third in

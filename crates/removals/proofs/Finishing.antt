@@ -1,28 +1,28 @@
 -- What a removal of a sound state closes and wakes is what it leaves without an object.
-use Rattle.std.proofs.Common.{ℕ, zero, suc, ◌≡◌, ◌≢◌, ◌∙◌, ◌==◌, ◌+◌, ◌*◌, ◌-◌, ◌/◌, ◌%◌, ◌^◌, ◌<◌, ◌≤◌, ◌&&◌, ◌||◌, ◌⊎◌, inl, inr, Bool, true, false, not, nat_le, nat_lt, if◌then◌else◌, Option, Some, None, is_some, option_map, List, refl, sym, ap, subst, arith}
-use Rattle.std.specs.Prelude.{filter, fold, IsTrue}
+use Rattle.std.proofs.Common.{ℕ, suc, ◌≡◌, ◌∙◌, ◌==◌, ◌+◌, ◌*◌, ◌/◌, ◌%◌, ◌^◌, ◌<◌, ◌≤◌, ◌&&◌, ◌||◌, inl, inr, Bool, true, false, not, nat_le, nat_lt, if◌then◌else◌, Option, Some, None, is_some, option_map, refl, sym, ap, arith}
+use Rattle.std.specs.Prelude.{filter, fold}
 use Rattle.std.specs.Option.{option_map_or}
 use Rattle.std.specs.List.{list_any}
 use Rattle.std.proofs.Math.Bool.{and-false, and-true, or-true}
-use Rattle.std.proofs.lemmas.Bool.{eq-eqb, le-leb, ne_eqb}
+use Rattle.std.proofs.lemmas.Bool.{eq-eqb, le-leb}
 use Rattle.std.proofs.lemmas.Bool.Decides.{eqb_tells, leb_tells}
 use Rattle.std.proofs.lemmas.Nat.{mod-pow-add, pow-add}
 use Rattle.model.specs.Capabilities.CapabilityWords.{IsCapability}
 use Rattle.model.specs.declared.capabilities.Cap.{Cap}
 use Rattle.model.specs.declared.capabilities.Cap.TheVariants.{Empty, Untyped, Endpoint, Notification, CNode, Frame, PageTable, Tcb, RootTable, InterruptControl, InterruptHandler}
-use Rattle.model.specs.Capabilities.CapabilityKinds.{names_object, object_of}
-use Rattle.model.specs.Capabilities.Slots.{IsFull, IsOpen, Slots, capability_at, is_empty, is_within}
-use Rattle.model.specs.Kernel.Kinds.{AreApart, Names, Piece, kind_at, kind_of, object_named, piece_of, piece_of_object, used_of}
-use Rattle.model.specs.Kernel.Removal.{SlotSet, closes, closing, emptied, ends, is_ending_thread, is_set_back, is_slot_of, kept_entry, slot_count, thread_places, waits_on_ended, without_slots}
+use Rattle.model.specs.Capabilities.CapabilityKinds.{object_of}
+use Rattle.model.specs.Capabilities.Slots.{IsFull, IsOpen, capability_at, is_empty, is_within}
+use Rattle.model.specs.Kernel.Kinds.{Names, Piece, kind_of, object_named, piece_of, piece_of_object, used_of}
+use Rattle.model.specs.Kernel.Removal.{SlotSet, closes, emptied, ends, is_ending_thread, is_set_back, is_slot_of, kept_entry, slot_count, thread_places, waits_on_ended, without_slots}
 use Rattle.model.specs.Kernel.Retype.{NewObject, object_bits}
 use Rattle.model.specs.Kernel.Scheduling.{wake, without_threads}
-use Rattle.model.specs.Kernel.Soundness.{HasSlot, IsSound, Lies, apart, around, is_blocked_on, of_boot_area, of_object, same, waiting_at, waits_at, within}
+use Rattle.model.specs.Kernel.Soundness.{HasSlot, IsSound, apart, around, is_blocked_on, of_boot_area, of_object, same, waiting_at, waits_at, within}
 use Rattle.model.specs.Kernel.State.{State, Status, Inactive, Runnable, Blocked, AwaitsReply, AwaitsHandler, Object, ThreadObject, EndpointObject, NotificationObject, CNodeObject, FrameObject, PageTableObject, RootTableObject, ThreadState, as_thread, boot_area_slots, slots_of}
 use Rattle.removals.specs.Finishing.{has_slot, is_stranded, settled, waits_nowhere, without_strays}
 use Rattle.model.specs.declared.slot_entries.Entry.{Entry}
 use Rattle.model.specs.Shared.Lists.{times_in}
 use Rattle.removals.proofs.Keeping.{there-out}
-use Rattle.removals.proofs.Found.{bool-iff, both, found-at, found-none, found-where, join}
+use Rattle.removals.proofs.Found.{both, found-at, found-none, found-where, join}
 
 -- the place in what is some pair
 abbrev pair_of : NewObject → ℕ → Option (NewObject × ℕ)
@@ -35,8 +35,7 @@ offset-of k f l o is = ap (λ (p : Option (NewObject × ℕ)). option_map_or (λ
 
 pub within-bounds : (first count slot : ℕ) → is_within first count slot ≡ true → (first ≤ slot) × (slot < first + count)
 within-bounds first count slot is =
-    let parts = both (nat_le first slot) (nat_lt slot (first + count)) is in
-    (
+    let parts = both (nat_le first slot) (nat_lt slot (first + count)) is in (
       elim (leb_tells first slot) [ inl low ↦ low.1 | inr high ↦ absurd (let clash : false ≡ true = sym high.0 ∙ parts.0 in cc) ],
       elim (leb_tells (slot + 1) (first + count)) [ inl low ↦ omega (arith, low.1) | inr high ↦ absurd (let clash : false ≡ true = sym high.0 ∙ ap (λ (n : ℕ). nat_le n (first + count)) (omega arith) ∙ parts.1 in cc) ],
     )
@@ -100,7 +99,6 @@ not-used InterruptControl k o used is uses = let clash : None ≡ Some used = us
 not-used (InterruptHandler line) k o used is uses = let clash : None ≡ Some used = uses in cc
 
 module _ (s : State) (sound : IsSound s) where
-
   -- an object that has a slot is there, and some capability names it
   abbrev pub Holder : ℕ → ℕ → Type 0
   Holder o y = (k : NewObject) × (a : ℕ) × Names k o (capability_at s.slots a) × (o / 16 ≤ y) × (16 * y + 16 ≤ 16 * (o / 16) + 2 ^ object_bits k)
@@ -211,7 +209,6 @@ either-none true o none = refl
 either-none false o none = none
 
 module _ (s : State) (sound : IsSound s) (set : SlotSet) (near : (y : ℕ) → IsFull s.slots y → y < 2 ^ s.memory_bits / 16) where
-
   in-boot : (y : ℕ) → y < boot_area_slots s.boot_radix → closes s set y ≡ false
   in-boot y early = found-none s.memory_bits _ (λ z. elim (option_map_or (λ offset. ends s set offset && is_slot_of s offset y) (object_of (capability_at s.slots z)) false) as (λ b. option_map_or (λ offset. ends s set offset && is_slot_of s offset y) (object_of (capability_at s.slots z)) false ≡ b → (set z && b) ≡ false) [
     | true ↦ λ is.
@@ -279,7 +276,7 @@ module _ (s : State) (sound : IsSound s) (set : SlotSet) (near : (y : ℕ) → I
   queue-there : (t : ThreadState) (thread q : ℕ) → s.objects thread ≡ Some (ThreadObject t) → t.status ≡ Blocked q → (o : Object) × (s.objects q ≡ Some o)
   queue-there t thread q is waits =
       let stands : waits_at s thread q ≡ true =
-          ap (λ (p : Option Object). option_map_or (λ u. is_blocked_on q u.status) (as_thread p) false) is ∙ ap (is_blocked_on q) waits ∙ eq-eqb q q refl
+      ap (λ (p : Option Object). option_map_or (λ u. is_blocked_on q u.status) (as_thread p) false) is ∙ ap (is_blocked_on q) waits ∙ eq-eqb q q refl
       in
       let once : times_in (waiting_at (s.objects q)) thread ≡ 1 = sound.threads.queued thread q ∙ ap (λ b. if b then 1 else 0) stands in
       elim (s.objects q) as (λ p. s.objects q ≡ p → (o : Object) × (p ≡ Some o)) [

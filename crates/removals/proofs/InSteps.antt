@@ -1,20 +1,19 @@
 -- Emptying a slot in steps, of a state and slots that are kept apart.
-use Rattle.std.proofs.Common.{ℕ, ◌≡◌, ◌≢◌, ◌∙◌, ◌/◌, ◌^◌, ◌<◌, inl, inr, true, false, not, if◌then◌else◌, Option, Some, None, refl, sym, ap, subst, arith}
+use Rattle.std.proofs.Common.{ℕ, ◌≡◌, ◌≢◌, ◌∙◌, ◌/◌, ◌^◌, ◌<◌, true, false, not, if◌then◌else◌, Option, Some, None, refl, sym, ap, subst, arith}
 use Rattle.std.specs.Option.{option_map_or}
 use Rattle.model.specs.declared.capabilities.Cap.{Cap}
 use Rattle.model.specs.declared.capabilities.Cap.TheVariants.{Empty, Untyped, Endpoint, Notification, CNode, Frame, PageTable, Tcb, RootTable, InterruptControl, InterruptHandler}
-use Rattle.model.specs.Capabilities.CapabilityKinds.{names_object, object_of, root_of, unmapped}
+use Rattle.model.specs.Capabilities.CapabilityKinds.{object_of, root_of, unmapped}
 use Rattle.model.specs.Capabilities.Slots.{IsDerivation, IsFull, Slots, capability_at, is_empty, parent_at, spliced}
 use Rattle.model.specs.Kernel.MappingCalls.{lies_in_region}
 use Rattle.model.specs.Kernel.Removal.{emptied}
 use Rattle.model.specs.Kernel.State.{State, with_slots}
 use Rattle.model.proofs.Depths.{depth-own_parent}
-use Rattle.removals.specs.Steps.{IfUnnamed, IsReady, Rewinds, RootsAreRoots, alone, ended, ends, is_under, object_ended, slots_ended, stays, unmapped_at}
+use Rattle.removals.specs.Steps.{IfUnnamed, IsReady, Rewinds, RootsAreRoots, alone, ends, is_under, object_ended, slots_ended, stays, unmapped_at}
 use Rattle.removals.proofs.Emptyings.{emptied-ending, emptied-staying, object-unmapped}
 use Rattle.removals.proofs.Stepwise.{ended-at, region_lost, root_lost, spliced-other, unmapped-itself, unmapped-other}
 
 module _ (s : State) (x : ℕ) (tree : IsDerivation s.slots) (near : (y : ℕ) → IsFull s.slots y → y < 2 ^ s.memory_bits / 16) (full : IsFull s.slots x) (kinds : RootsAreRoots s.slots) where
-
   abbrev taken : Slots
   taken = spliced (unmapped_at s.slots x) x
 
@@ -42,11 +41,11 @@ emptied-in-steps s t0 t1 t2 slots gone after now x removed p has ready full remo
     let start : t0 ≡ with_slots s (spliced (unmapped_at s.slots x) x) = first ∙ ap (λ (n : Slots). with_slots s n) (gone_is ∙ ap (λ (n : Slots). spliced (unmapped_at n x) x) same) in
     let bare_is : removed ≡ capability_at (unmapped_at s.slots x) x = removed_is ∙ ap (λ (n : Slots). capability_at (unmapped_at n x) x) same in
     let ending : IfUnnamed (with_slots s (spliced (unmapped_at s.slots x) x)) (capability_at (unmapped_at s.slots x) x) t1 =
-        subst (λ (c : Cap). IfUnnamed (with_slots s (spliced (unmapped_at s.slots x) x)) c t1) bare_is (subst (λ (u : State). IfUnnamed u removed t1) start second)
+    subst (λ (c : Cap). IfUnnamed (with_slots s (spliced (unmapped_at s.slots x) x)) c t1) bare_is (subst (λ (u : State). IfUnnamed u removed t1) start second)
     in
     last
     ∙ together s x ready.derivation ready.near (subst (λ (n : Slots). IsFull n x) same full) ready.roots
-      t1 p now ending (ap (λ (n : Slots). parent_at n x) (sym same) ∙ parent) (subst (λ (n : Slots). Rewinds p n now) (sym third) rewinds)
+    t1 p now ending (ap (λ (n : Slots). parent_at n x) (sym same) ∙ parent) (subst (λ (n : Slots). Rewinds p n now) (sym third) rewinds)
 
 -- ---- the parent stays full
 

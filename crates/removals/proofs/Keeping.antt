@@ -1,14 +1,13 @@
 -- What a removal keeps of a capability: all but a mapping, or the watermark of untyped memory.
-use Rattle.std.proofs.Common.{ℕ, ◌≡◌, ◌≢◌, ◌∙◌, ◌==◌, ◌/◌, ◌^◌, ◌<◌, ◌&&◌, ◌||◌, inl, inr, Bool, true, false, not, if◌then◌else◌, Option, Some, None, option_map, refl, sym, ap}
-use Rattle.std.specs.Option.{option_map_or}
+use Rattle.std.proofs.Common.{ℕ, ◌≡◌, ◌∙◌, true, false, if◌then◌else◌, Option, Some, None, option_map, refl, sym, ap}
 use Rattle.model.specs.declared.capabilities.Cap.{Cap}
 use Rattle.model.specs.declared.capabilities.Cap.TheVariants.{Empty, Untyped, Endpoint, Notification, CNode, Frame, PageTable, Tcb, RootTable, InterruptControl, InterruptHandler}
 use Rattle.model.specs.declared.capabilities.FrameMapping.{FrameMapping}
 use Rattle.model.specs.declared.capabilities.TableMapping.{TableMapping}
 use Rattle.model.specs.declared.rights.Rights.{Rights}
 use Rattle.model.specs.declared.slot_entries.Entry.{Entry}
-use Rattle.model.specs.Capabilities.Slots.{Slots, capability_at, empty_entry, parent_at}
-use Rattle.model.specs.Kernel.Removal.{SlotSet, ancestor_outside, emptied, frame_loses, kept, kept_entry, loses_last_child, new_parent, table_loses}
+use Rattle.model.specs.Capabilities.Slots.{capability_at, empty_entry, parent_at}
+use Rattle.model.specs.Kernel.Removal.{SlotSet, ancestor_outside, emptied, frame_loses, kept, kept_entry, new_parent, table_loses}
 use Rattle.model.specs.Kernel.State.{State}
 use Rattle.model.proofs.SlotChanges.{capability_of, parent_of}
 use Rattle.removals.proofs.Parents.{outside-none}

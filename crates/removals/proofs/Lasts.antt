@@ -3,7 +3,6 @@ use Rattle.std.proofs.Common.{ℕ, ◌≡◌, ◌≢◌, ◌∙◌, ◌==◌, �
 use Rattle.std.proofs.lemmas.Bool.{eq-eqb}
 use Rattle.std.proofs.lemmas.Bool.Decides.{eqb_tells}
 use Rattle.model.specs.declared.capabilities.Cap.{Cap}
-use Rattle.model.specs.declared.capabilities.Cap.TheVariants.{Empty}
 use Rattle.removals.specs.Steps.{alone, less}
 use Rattle.removals.proofs.Found.{found, found-at, found-none, found-or, found-same}
 
@@ -48,7 +47,6 @@ splits false i o = refl
 
 -- one slot of a set is emptied, and what the others hold passes the test as before
 module _ (bits : ℕ) (set : ℕ → Bool) (x : ℕ) (held now : ℕ → Cap) (test : Cap → Bool) (member : set x ≡ true) (near : x < 2 ^ bits / 16) (gone : test (now x) ≡ false) (same : (y : ℕ) → y ≢ x → test (now y) ≡ test (held y)) where
-
   here : (y : ℕ) → (y == x) ≡ true → y ≡ x
   here y is = elim (eqb_tells y x) [ inl at ↦ at.1 | inr other ↦ absurd (let clash : false ≡ true = sym other.0 ∙ is in cc) ]
 

@@ -1,29 +1,24 @@
 -- A set with its bindings, slot by slot: what one slot leaves of it.
-use Rattle.std.proofs.Common.{ℕ, zero, suc, ◌≡◌, ◌≢◌, ◌∙◌, ◌==◌, ◌/◌, ◌^◌, ◌<◌, ◌&&◌, ◌||◌, ◌⊎◌, inl, inr, Bool, true, false, not, if◌then◌else◌, Option, Some, None, is_some, option_map, List, refl, sym, ap, subst, arith}
-use Rattle.std.specs.Option.{option_map_or}
-use Rattle.std.specs.List.{list_any, range_with_len}
-use Rattle.std.proofs.Math.Bool.{and-false, and-true, or-true}
+use Rattle.std.proofs.Common.{ℕ, ◌≡◌, ◌≢◌, ◌∙◌, ◌/◌, ◌^◌, ◌<◌, ◌&&◌, ◌||◌, ◌⊎◌, inl, inr, Bool, true, false, not, if◌then◌else◌, Option, Some, None, option_map, refl, sym, ap, arith}
 use Rattle.std.proofs.lemmas.Bool.{eq-eqb, ne_eqb}
 use Rattle.std.proofs.lemmas.Bool.Decides.{eqb_tells}
 use Rattle.model.specs.declared.capabilities.Cap.{Cap}
 use Rattle.model.specs.declared.capabilities.Cap.TheVariants.{Empty, Untyped, Endpoint, Notification, CNode, Frame, PageTable, Tcb, RootTable, InterruptControl, InterruptHandler}
 use Rattle.model.specs.declared.slot_entries.Entry.{Entry}
-use Rattle.model.specs.Capabilities.CapabilityKinds.{is_handler_of, names_object}
-use Rattle.model.specs.Capabilities.Slots.{Descendant, IsDerivation, IsFull, IsOpen, Slots, capability_at, child, deeper, empty_entry, is_descendant, is_empty, is_full, parent_at}
+use Rattle.model.specs.Capabilities.CapabilityKinds.{names_object}
+use Rattle.model.specs.Capabilities.Slots.{Descendant, IsDerivation, IsFull, IsOpen, child, deeper, is_descendant, parent_at}
 use Rattle.model.specs.Kernel.AddressSpaces.{maps_region, region_pages}
-use Rattle.model.specs.Kernel.Removal.{SlotSet, ancestor_outside, emptied, ends, is_root_at, is_some_slot, kept, kept_entry, loses_last_child, new_parent, slots_emptied, some_inside, some_outside, takes_last, with_bindings}
-use Rattle.model.specs.Kernel.State.{State, binding_slot}
+use Rattle.model.specs.Kernel.Removal.{SlotSet, ancestor_outside, emptied, ends, is_root_at, is_some_slot, kept, kept_entry, loses_last_child, new_parent, slots_emptied, some_inside, some_outside, takes_last}
+use Rattle.model.specs.Kernel.State.{State}
 use Rattle.model.proofs.Ancestors.{descendant-from_test, test-from_descendant}
 use Rattle.model.proofs.Depths.{adopted_parent, depth-own_parent}
-use Rattle.model.proofs.SlotChanges.{capability_of, parent_of}
-use Rattle.removals.specs.Steps.{alone, less}
-use Rattle.removals.proofs.Found.{bool-iff, both, found, found-none, found-same, join}
-use Rattle.removals.proofs.Keeping.{capability-out, kept-test, parent-out, there-in, there-out}
-use Rattle.removals.proofs.OneByOne.{one-by-one}
+use Rattle.model.proofs.SlotChanges.{parent_of}
+use Rattle.removals.specs.Steps.{alone}
+use Rattle.removals.proofs.Found.{bool-iff, found, found-none}
 use Rattle.removals.proofs.Parents.{outside-none, outside-out}
-use Rattle.removals.proofs.SameFull.{emptied-same, last-same}
-use Rattle.removals.proofs.Splits.{empty-now, handlers-split, kept-now, parent-now, root-now}
-use Rattle.removals.proofs.Unaffected.{ended_by, nothing-ends}
+use Rattle.removals.proofs.SameFull.{emptied-same}
+use Rattle.removals.proofs.Splits.{parent-now, root-now}
+use Rattle.removals.proofs.Unaffected.{nothing-ends}
 
 -- ---- nothing is taken out of nothing
 
@@ -31,7 +26,6 @@ abbrev pub nothing : SlotSet
 nothing y = false
 
 module _ (s : State) where
-
   inside-nothing : (test : Cap → Bool) → some_inside s nothing test ≡ false
   inside-nothing test = found-none s.memory_bits _ (λ y. refl)
 
@@ -80,7 +74,6 @@ emptied-none s set tree none opens = emptied-same s tree set nothing none opens 
 -- ---- descent
 
 module _ (s : State) (x : ℕ) (tree : IsDerivation s.slots) (near : (y : ℕ) → IsFull s.slots y → y < 2 ^ s.memory_bits / 16) (full : IsFull s.slots x) (root : ℕ) (apart : root ≢ x) where
-
   abbrev one : State
   one = emptied s (alone x)
 
@@ -127,8 +120,7 @@ module _ (s : State) (x : ℕ) (tree : IsDerivation s.slots) (near : (y : ℕ) �
   below-now : (z : ℕ) → Descendant s.slots root z → Stays z
   below-now z (child _ is) = (λ other. child z (parent-kept z root other apart is), λ same. (root, ap (parent_at s.slots) (sym same) ∙ is, inl refl))
   below-now z (deeper _ p is above) =
-      let more : Stays p = below-now p above in
-      (
+      let more : Stays p = below-now p above in (
         λ other. elim (eqb_tells p x) [
           | inl at ↦
               let further = more.1 at.1 in
@@ -140,9 +132,9 @@ module _ (s : State) (x : ℕ) (tree : IsDerivation s.slots) (near : (y : ℕ) �
           | inr away ↦ deeper z p (parent-kept z p other away.1 is) (more.0 away.1)
         ],
         λ same.
-          let parent_is : parent_at s.slots x ≡ Some p = ap (parent_at s.slots) (sym same) ∙ is in
-          let away : p ≢ x = λ at. no-circle (parent_is ∙ ap (λ n. Some n) at) in
-          (p, parent_is, inr (more.0 away)),
+            let parent_is : parent_at s.slots x ≡ Some p = ap (parent_at s.slots) (sym same) ∙ is in
+            let away : p ≢ x = λ at. no-circle (parent_is ∙ ap (λ n. Some n) at) in
+            (p, parent_is, inr (more.0 away)),
       )
 
   pub descends-still : IsDerivation one.slots → (y : ℕ) → y ≢ x → is_descendant one.slots root y ≡ is_descendant s.slots root y

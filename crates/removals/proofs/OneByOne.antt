@@ -1,5 +1,5 @@
 -- Emptying a set of slots at once is emptying one of them, and then the others.
-use Rattle.std.proofs.Common.{ℕ, ◌≡◌, ◌≢◌, ◌∙◌, ◌==◌, ◌-◌, ◌+◌, ◌/◌, ◌%◌, ◌^◌, ◌<◌, ◌≤◌, ◌&&◌, ◌||◌, ◌⊎◌, inl, inr, Bool, true, false, not, if◌then◌else◌, List, [], ◌∷◌, Option, Some, None, option_map, refl, sym, ap, arith}
+use Rattle.std.proofs.Common.{ℕ, ◌≡◌, ◌≢◌, ◌∙◌, ◌==◌, ◌-◌, ◌/◌, ◌%◌, ◌^◌, ◌<◌, ◌&&◌, ◌||◌, inl, inr, Bool, true, false, not, if◌then◌else◌, List, [], ◌∷◌, Option, Some, None, option_map, refl, sym, ap}
 use Rattle.std.specs.Prelude.{filter, cond}
 use Rattle.std.proofs.Math.Bool.{and-false}
 use Rattle.std.specs.Option.{option_map_or}
@@ -11,7 +11,7 @@ use Rattle.model.specs.declared.capabilities.FrameMapping.{FrameMapping}
 use Rattle.model.specs.declared.capabilities.TableMapping.{TableMapping}
 use Rattle.model.specs.declared.rights.Rights.{Rights}
 use Rattle.model.specs.declared.slot_entries.Entry.{Entry}
-use Rattle.model.specs.Capabilities.Slots.{IsDerivation, IsFull, Slots, capability_at, empty_entry, parent_at}
+use Rattle.model.specs.Capabilities.Slots.{IsDerivation, IsFull, empty_entry, parent_at}
 use Rattle.model.specs.Kernel.AddressSpaces.{page_size}
 use Rattle.model.specs.Kernel.Removal.{SlotSet, ancestor_outside, bytes_kept, emptied, ends, frame_loses, is_ending_thread, kept, kept_entry, loses_last_child, new_parent, objects_kept, slots_emptied, table_loses}
 use Rattle.model.specs.Kernel.Scheduling.{without_threads}
@@ -98,7 +98,6 @@ watermarks true false w = refl
 watermarks false b w = refl
 
 module _ (s : State) (set : SlotSet) (x : ℕ) (tree : IsDerivation s.slots) (near : (y : ℕ) → IsFull s.slots y → y < 2 ^ s.memory_bits / 16) (member : set x ≡ true) (full : IsFull s.slots x) where
-
   abbrev after : State
   after = emptied s (alone x)
 

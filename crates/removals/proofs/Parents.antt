@@ -1,11 +1,10 @@
 -- The nearest ancestor outside a set is the same once a slot of the set has been emptied.
-use Rattle.std.proofs.Common.{ℕ, zero, suc, ◌≡◌, ◌≢◌, ◌∙◌, ◌==◌, ◌+◌, ◌≤◌, ◌&&◌, ◌⊎◌, inl, inr, Bool, true, false, not, if◌then◌else◌, Option, Some, None, refl, sym, ap, arith}
-use Rattle.std.specs.Option.{option_map_or}
+use Rattle.std.proofs.Common.{ℕ, zero, suc, ◌≡◌, ◌≢◌, ◌∙◌, ◌==◌, ◌+◌, ◌≤◌, ◌&&◌, ◌⊎◌, inl, inr, true, false, not, if◌then◌else◌, Option, Some, None, refl, sym, ap, arith}
 use Rattle.std.proofs.Math.Bool.{and-true}
 use Rattle.std.proofs.lemmas.Bool.Decides.{eqb_tells}
-use Rattle.model.specs.Capabilities.Slots.{Slots, depth_of, depth_within, parent_at}
+use Rattle.model.specs.Capabilities.Slots.{Slots, depth_within, parent_at}
 use Rattle.model.specs.Kernel.Removal.{SlotSet, ancestor_outside}
-use Rattle.model.proofs.Depths.{Parents, adopted_parent, depth-none, depth-some, depth-own_parent, depth-spliced}
+use Rattle.model.proofs.Depths.{Parents, adopted_parent, depth-some, depth-own_parent, depth-spliced}
 use Rattle.model.proofs.Ancestors.{depth-stable}
 use Rattle.removals.specs.Steps.{alone, less}
 
@@ -73,7 +72,6 @@ outside-stable (suc n) set slots (Some p) shallow high = elim (set p) as (λ b. 
 -- ---- a slot of the set is emptied, and its children have its parent
 
 module _ (set : SlotSet) (x : ℕ) (slots now : Slots) (member : set x ≡ true) (shallow : IsShallow (parent_at slots)) (gone : parent_at now x ≡ None) (moved : (y : ℕ) → y ≢ x → parent_at now y ≡ adopted_parent x (parent_at slots x) (parent_at slots y)) where
-
   shallow-now : IsShallow (parent_at now)
   shallow-now y = omega (arith, depth-spliced 256 (parent_at slots) (parent_at now) x gone moved y, shallow y)
 

@@ -1,17 +1,16 @@
 -- What a removal relies on holds once a slot is emptied.
-use Rattle.std.proofs.Common.{ℕ, ◌≡◌, ◌≢◌, ◌∙◌, ◌+◌, ◌/◌, ◌^◌, ◌<◌, ◌≤◌, inl, inr, Bool, true, false, not, if◌then◌else◌, Option, Some, None, refl, sym, ap, subst, arith}
-use Rattle.std.proofs.lemmas.Bool.{eq-eqb, ne_eqb}
+use Rattle.std.proofs.Common.{ℕ, ◌≡◌, ◌≢◌, ◌∙◌, inl, inr, Bool, true, false, not, if◌then◌else◌, Some, None, refl, sym, ap, subst, arith}
+use Rattle.std.proofs.lemmas.Bool.{eq-eqb}
 use Rattle.std.proofs.lemmas.Bool.Decides.{eqb_tells}
 use Rattle.model.specs.declared.capabilities.Cap.{Cap}
 use Rattle.model.specs.declared.capabilities.Cap.TheVariants.{Empty, Untyped, Endpoint, Notification, CNode, Frame, PageTable, Tcb, RootTable, InterruptControl, InterruptHandler}
-use Rattle.model.specs.declared.slot_entries.Entry.{Entry}
 use Rattle.model.specs.Capabilities.CapabilityKinds.{names_object}
 use Rattle.model.specs.Capabilities.CapabilityWords.{IsCapability}
-use Rattle.model.specs.Capabilities.Slots.{IsDerivation, IsFull, Slots, capability_at, is_empty, is_full, parent_at}
+use Rattle.model.specs.Capabilities.Slots.{IsFull, capability_at, is_empty, is_full, parent_at}
 use Rattle.model.specs.Kernel.Removal.{SlotSet, emptied, frame_loses, kept, loses_last_child, table_loses}
 use Rattle.model.specs.Kernel.State.{State}
 use Rattle.model.proofs.Depths.{adopted_parent, depth-own_parent, depth-spliced}
-use Rattle.removals.specs.Steps.{IsReady, RootsAreRoots, alone}
+use Rattle.removals.specs.Steps.{IsReady, alone}
 use Rattle.removals.proofs.Keeping.{kept-test}
 use Rattle.removals.proofs.Rounds.{full-apart, open-kept}
 use Rattle.removals.proofs.Splits.{empty-now, kept-now, parent-now, root-now}
@@ -89,37 +88,37 @@ ready-emptied s x ready full =
           | inr other ↦ subst (λ (c : Cap). IsCapability c) (sym (stays y other.1)) (valid-kept s (alone x) y (capability_at s.slots y) (tree.valid y))
         ];
         child_full = λ y p is.
-          let other = not_gone y p is in
-          full_now y other (elim (parent_at s.slots y) as (λ o. parent_at s.slots y ≡ o → IsFull s.slots y) [
-            | None ↦ λ none. absurd (let clash : None ≡ Some p = ap (adopted_parent x (parent_at s.slots x)) (sym none) ∙ sym (moved y other) ∙ is in cc)
-            | Some q ↦ λ some. tree.child_full y q some
-          ] refl);
+            let other = not_gone y p is in
+            full_now y other (elim (parent_at s.slots y) as (λ o. parent_at s.slots y ≡ o → IsFull s.slots y) [
+              | None ↦ λ none. absurd (let clash : None ≡ Some p = ap (adopted_parent x (parent_at s.slots x)) (sym none) ∙ sym (moved y other) ∙ is in cc)
+              | Some q ↦ λ some. tree.child_full y q some
+            ] refl);
         parent_full = λ y p is.
-          let other = not_gone y p is in
-          elim (parent_at s.slots y) as (λ o. parent_at s.slots y ≡ o → IsFull one.slots p) [
-            | None ↦ λ none. absurd (let clash : None ≡ Some p = ap (adopted_parent x (parent_at s.slots x)) (sym none) ∙ sym (moved y other) ∙ is in cc)
-            | Some q ↦ λ some.
-                let now : adopted_parent x (parent_at s.slots x) (Some q) ≡ Some p = ap (adopted_parent x (parent_at s.slots x)) (sym some) ∙ sym (moved y other) ∙ is in
-                elim (eqb_tells q x) [
-                  | inl at ↦
-                      let up : parent_at s.slots x ≡ Some p = ap (λ b. if b then parent_at s.slots x else Some q) (sym at.0) ∙ now in
-                      full_now p (λ same. no_circle (up ∙ ap (λ n. Some n) same)) (tree.parent_full x p up)
-                  | inr away ↦
-                      let same : Some q ≡ Some p = ap (λ b. if b then parent_at s.slots x else Some q) (sym away.0) ∙ now in
-                      let here : q ≡ p = cc in
-                      full_now p (λ at. away.1 (here ∙ at)) (tree.parent_full y p (some ∙ same))
-                ]
-          ] refl;
+            let other = not_gone y p is in
+            elim (parent_at s.slots y) as (λ o. parent_at s.slots y ≡ o → IsFull one.slots p) [
+              | None ↦ λ none. absurd (let clash : None ≡ Some p = ap (adopted_parent x (parent_at s.slots x)) (sym none) ∙ sym (moved y other) ∙ is in cc)
+              | Some q ↦ λ some.
+                  let now : adopted_parent x (parent_at s.slots x) (Some q) ≡ Some p = ap (adopted_parent x (parent_at s.slots x)) (sym some) ∙ sym (moved y other) ∙ is in
+                  elim (eqb_tells q x) [
+                    | inl at ↦
+                        let up : parent_at s.slots x ≡ Some p = ap (λ b. if b then parent_at s.slots x else Some q) (sym at.0) ∙ now in
+                        full_now p (λ same. no_circle (up ∙ ap (λ n. Some n) same)) (tree.parent_full x p up)
+                    | inr away ↦
+                        let same : Some q ≡ Some p = ap (λ b. if b then parent_at s.slots x else Some q) (sym away.0) ∙ now in
+                        let here : q ≡ p = cc in
+                        full_now p (λ at. away.1 (here ∙ at)) (tree.parent_full y p (some ∙ same))
+                  ]
+            ] refl;
         shallow = λ y. omega (arith, depth-spliced 256 (parent_at s.slots) (parent_at one.slots) x root moved y, tree.shallow y);
       };
       near = λ y filled. ready.near y (full_was y filled);
       roots = λ a b r is named.
-        let a_other : a ≢ x = λ same. absurd (let clash : false ≡ true = sym (ap (names_object r) (ap (capability_at one.slots) same ∙ gone)) ∙ ap (names_object r) is ∙ eq-eqb r r refl in cc) in
-        let b_other : b ≢ x = λ same. absurd (let clash : false ≡ true = sym (ap (names_object r) (ap (capability_at one.slots) same ∙ gone)) ∙ named in cc) in
-        let was : capability_at s.slots a ≡ RootTable r = root-kept s (alone x) a r (capability_at s.slots a) (sym (stays a a_other) ∙ is) in
-        let named_was : names_object r (capability_at s.slots b) ≡ true = sym (kept-test (names_object r) (λ o c v w. refl) (λ f q m n. refl) (λ t m n. refl) s (alone x) b (capability_at s.slots b)) ∙ ap (names_object r) (sym (stays b b_other)) ∙ named in
-        let root_was : capability_at s.slots b ≡ RootTable r = ready.roots a b r was named_was in
-        stays b b_other ∙ ap (kept s (alone x) b) root_was;
+          let a_other : a ≢ x = λ same. absurd (let clash : false ≡ true = sym (ap (names_object r) (ap (capability_at one.slots) same ∙ gone)) ∙ ap (names_object r) is ∙ eq-eqb r r refl in cc) in
+          let b_other : b ≢ x = λ same. absurd (let clash : false ≡ true = sym (ap (names_object r) (ap (capability_at one.slots) same ∙ gone)) ∙ named in cc) in
+          let was : capability_at s.slots a ≡ RootTable r = root-kept s (alone x) a r (capability_at s.slots a) (sym (stays a a_other) ∙ is) in
+          let named_was : names_object r (capability_at s.slots b) ≡ true = sym (kept-test (names_object r) (λ o c v w. refl) (λ f q m n. refl) (λ t m n. refl) s (alone x) b (capability_at s.slots b)) ∙ ap (names_object r) (sym (stays b b_other)) ∙ named in
+          let root_was : capability_at s.slots b ≡ RootTable r = ready.roots a b r was named_was in
+          stays b b_other ∙ ap (kept s (alone x) b) root_was;
       lines = λ line few. open-kept s (alone x) _ (ready.lines line few);
     }
 

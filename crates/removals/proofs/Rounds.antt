@@ -1,19 +1,19 @@
 -- One round of a removal's loops.
-use Rattle.std.proofs.Common.{ℕ, zero, suc, ◌≡◌, ◌≢◌, ◌∙◌, ◌==◌, ◌+◌, ◌/◌, ◌^◌, ◌<◌, ◌≤◌, ◌&&◌, ◌||◌, ◌⊎◌, inl, inr, Bool, true, false, not, nat_le, if◌then◌else◌, Option, Some, None, is_some, option_map, List, get_or, length, refl, sym, ap, subst, arith}
+use Rattle.std.proofs.Common.{ℕ, suc, ◌≡◌, ◌≢◌, ◌∙◌, ◌==◌, ◌/◌, ◌^◌, ◌<◌, ◌&&◌, ◌||◌, ◌⊎◌, inl, inr, Bool, true, false, not, nat_le, Option, Some, None, is_some, option_map, get_or, refl, sym, ap, subst, arith}
 use Rattle.std.specs.List.{list_any, range_with_len}
-use Rattle.std.proofs.Math.Bool.{and-false, and-true, or-true}
+use Rattle.std.proofs.Math.Bool.{and-false, and-true}
 use Rattle.std.proofs.lemmas.Bool.{eq-eqb, le-leb, ne_eqb}
 use Rattle.std.proofs.lemmas.Bool.Decides.{eqb_tells, leb_tells}
 use Rattle.std.proofs.lemmas.List.Folds.{Any-from_list_any, list_any_at, list_any_none}
 use Rattle.std.proofs.lemmas.List.FromFn.{get_or-range_with_len, length-range_with_len}
 use Rattle.model.specs.declared.slot_entries.Entry.{Entry}
 use Rattle.model.specs.Capabilities.CapabilityKinds.{is_handler_of}
-use Rattle.model.specs.Capabilities.Slots.{IsDerivation, IsFull, IsOpen, Slots, capability_at, empty_entry, is_empty, is_full}
+use Rattle.model.specs.Capabilities.Slots.{IsDerivation, IsFull, IsOpen, is_empty, is_full}
 use Rattle.model.specs.Kernel.Removal.{SlotSet, emptied, kept_entry, takes_last, with_bindings}
 use Rattle.model.specs.Kernel.State.{State, binding_slot}
 use Rattle.model.proofs.SlotChanges.{capability_of}
 use Rattle.removals.specs.Steps.{alone, bindings_from, joined, less}
-use Rattle.removals.proofs.Found.{bool-iff, both, join}
+use Rattle.removals.proofs.Found.{both, join}
 use Rattle.removals.proofs.Keeping.{there-in, there-out}
 use Rattle.removals.proofs.Loop.{emptied-none}
 use Rattle.removals.proofs.OneByOne.{one-by-one}
@@ -49,9 +49,9 @@ pub round : (s : State) (x : ℕ) (set left more : SlotSet) → IsDerivation s.s
 round s x set left more tree tree_now near full member same opens opens_left =
     one-by-one s (joined set more) x tree near (ap (λ b. b || more x) member) full
     ∙ emptied-same (emptied s (alone x)) tree_now (less (joined set more) x) (joined left more)
-      (λ y filled. less-other (joined set more) x y (full-apart s x y filled) ∙ ap (λ b. b || more y) (sym (same y filled)))
-      (λ y is. open-kept s (alone x) y (opens y (less-member (joined set more) x y is)))
-      (λ y is. open-kept s (alone x) y (opens_left y is))
+    (λ y filled. less-other (joined set more) x y (full-apart s x y filled) ∙ ap (λ b. b || more y) (sym (same y filled)))
+    (λ y is. open-kept s (alone x) y (opens y (less-member (joined set more) x y is)))
+    (λ y is. open-kept s (alone x) y (opens_left y is))
 
 -- ---- bindings, line by line
 
@@ -105,11 +105,11 @@ line-taken s taken l few tree tree_now near opens is full =
     let b : ℕ = binding_slot s l in
     one-by-one s (bindings_from s taken l) b tree near (line-member s taken l few is) full
     ∙ emptied-same (emptied s (alone b)) tree_now (less (bindings_from s taken l) b) (bindings_from s taken (suc l))
-      (λ y filled.
-        let other = full-apart s b y filled in
-        less-other (bindings_from s taken l) b y other ∙ next-line s taken l y (ap (λ e. e && taken l) (ne_eqb y b other)))
-      (λ y member. open-kept s (alone b) y (line-open s taken l y opens (less-member (bindings_from s taken l) b y member)))
-      (λ y member. open-kept s (alone b) y (line-open s taken (suc l) y opens member))
+    (λ y filled.
+    let other = full-apart s b y filled in
+    less-other (bindings_from s taken l) b y other ∙ next-line s taken l y (ap (λ e. e && taken l) (ne_eqb y b other)))
+    (λ y member. open-kept s (alone b) y (line-open s taken l y opens (less-member (bindings_from s taken l) b y member)))
+    (λ y member. open-kept s (alone b) y (line-open s taken (suc l) y opens member))
 
 -- or there is nothing to take
 pub line-left : (s : State) (taken : ℕ → Bool) (l : ℕ) → IsDerivation s.slots → ((k : ℕ) → k < 64 → IsOpen s.slots (binding_slot s k)) → (taken l ≡ true → is_full s.slots (binding_slot s l) ≡ false)

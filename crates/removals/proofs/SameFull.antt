@@ -1,21 +1,20 @@
 -- Only the full slots of a set count.
-use Rattle.std.proofs.Common.{ℕ, zero, suc, ◌≡◌, ◌≢◌, ◌∙◌, ◌/◌, ◌^◌, ◌<◌, ◌&&◌, ◌||◌, inl, inr, Bool, true, false, not, if◌then◌else◌, Option, Some, None, is_some, option_map, refl, sym, ap}
-use Rattle.std.specs.Option.{option_map_or}
+use Rattle.std.proofs.Common.{ℕ, zero, suc, ◌≡◌, ◌≢◌, ◌∙◌, ◌/◌, ◌&&◌, ◌||◌, Bool, true, false, not, if◌then◌else◌, Option, Some, None, is_some, option_map, refl, sym, ap}
 use Rattle.std.proofs.Math.Bool.{and-false}
 use Rattle.model.specs.declared.capabilities.Cap.{Cap}
 use Rattle.model.specs.declared.capabilities.Cap.TheVariants.{Empty, Untyped, Endpoint, Notification, CNode, Frame, PageTable, Tcb, RootTable, InterruptControl, InterruptHandler}
 use Rattle.model.specs.declared.capabilities.FrameMapping.{FrameMapping}
 use Rattle.model.specs.declared.slot_entries.Entry.{Entry}
 use Rattle.model.specs.Capabilities.CapabilityKinds.{names_object}
-use Rattle.model.specs.Capabilities.Slots.{IsDerivation, IsFull, IsOpen, Slots, capability_at, empty_entry, is_empty, is_full, parent_at}
+use Rattle.model.specs.Capabilities.Slots.{IsDerivation, IsFull, IsOpen, capability_at, empty_entry, is_empty, parent_at}
 use Rattle.model.specs.Kernel.AddressSpaces.{maps_region, region_pages}
-use Rattle.model.specs.Kernel.Removal.{SlotSet, ancestor_outside, emptied, ends, ends_root, frame_loses, is_root_at, is_some_slot, kept, kept_entry, loses_last_child, new_parent, slots_emptied, some_inside, some_outside, table_loses, takes_last}
+use Rattle.model.specs.Kernel.Removal.{SlotSet, ancestor_outside, emptied, ends, ends_root, frame_loses, is_root_at, is_some_slot, kept, kept_entry, loses_last_child, new_parent, slots_emptied, some_inside, some_outside, takes_last}
 use Rattle.model.specs.Kernel.State.{State}
-use Rattle.model.proofs.SlotChanges.{capability_of, parent_of}
+use Rattle.model.proofs.SlotChanges.{capability_of}
 use Rattle.removals.proofs.Found.{found, found-same}
 use Rattle.removals.proofs.Keeping.{there-in, there-out}
 use Rattle.removals.proofs.Parents.{outside-in, outside-none, outside-out, outside-zero}
-use Rattle.removals.proofs.Unaffected.{ended_by, ended-same, nothing-ends}
+use Rattle.removals.proofs.Unaffected.{ended_by, ended-same}
 
 pub empty-is : (c : Cap) → is_empty c ≡ true → c ≡ Empty
 empty-is Empty is = refl
@@ -31,7 +30,6 @@ empty-is InterruptControl is = absurd (let clash : false ≡ true = is in cc)
 empty-is (InterruptHandler _) is = absurd (let clash : false ≡ true = is in cc)
 
 module _ (s : State) (tree : IsDerivation s.slots) (one two : SlotSet) (same : (y : ℕ) → IsFull s.slots y → one y ≡ two y) where
-
   -- what an empty slot would not pass
   tested : (test : Cap → Bool) → test Empty ≡ false → (of : Bool → Bool) → (y : ℕ) → (of (one y) && test (capability_at s.slots y)) ≡ (of (two y) && test (capability_at s.slots y))
   tested test none of y = elim (is_empty (capability_at s.slots y)) as (λ b. is_empty (capability_at s.slots y) ≡ b → (of (one y) && test (capability_at s.slots y)) ≡ (of (two y) && test (capability_at s.slots y))) [
@@ -88,8 +86,8 @@ module _ (s : State) (tree : IsDerivation s.slots) (one two : SlotSet) (same : (
       (found-same s.memory_bits _ _ (λ c. child-same (λ b. b) u c (parent_at s.slots c) (child-full c)))
       ∙ ap (λ b. found s.memory_bits (λ c. two c && is_some_slot u (parent_at s.slots c)) && not b)
       (found-same s.memory_bits _ _ (λ c.
-        child-same not u c (new_parent s one c) (λ some. child-full c (parent-none one c some))
-        ∙ ap (λ p. not (two c) && is_some_slot u p) (parent-same c)))
+      child-same not u c (new_parent s one c) (λ some. child-full c (parent-none one c some))
+      ∙ ap (λ p. not (two c) && is_some_slot u p) (parent-same c)))
 
   frame-same : (m : FrameMapping) → frame_loses s one m ≡ frame_loses s two m
   frame-same m =
@@ -127,7 +125,6 @@ module _ (s : State) (tree : IsDerivation s.slots) (one two : SlotSet) (same : (
       λ i. Some (record { capability = ap (kept s set y) nothing i; parent = root i })
 
   module _ (first_open : (y : ℕ) → one y ≡ true → IsOpen s.slots y) (second_open : (y : ℕ) → two y ≡ true → IsOpen s.slots y) where
-
     closed-out : (set : SlotSet) (y : ℕ) → ((z : ℕ) → set z ≡ true → IsOpen s.slots z) → s.slots y ≡ None → set y ≡ false
     closed-out set y opens none = elim (set y) as (λ b. set y ≡ b → b ≡ false) [ true ↦ λ member. absurd (let clash : false ≡ true = sym (ap is_some none) ∙ opens y member in cc) | false ↦ λ is. refl ] refl
 

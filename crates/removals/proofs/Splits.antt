@@ -1,6 +1,5 @@
 -- What goes with a set of slots goes with one slot of it, or with the others once that one is empty.
-use Rattle.std.proofs.Common.{ℕ, ◌≡◌, ◌≢◌, ◌∙◌, ◌==◌, ◌+◌, ◌/◌, ◌^◌, ◌<◌, ◌≤◌, ◌&&◌, ◌||◌, ◌⊎◌, inl, inr, Bool, true, false, not, if◌then◌else◌, Option, Some, None, option_map, refl, sym, ap, subst, arith}
-use Rattle.std.specs.Option.{option_map_or}
+use Rattle.std.proofs.Common.{ℕ, ◌≡◌, ◌≢◌, ◌∙◌, ◌==◌, ◌/◌, ◌^◌, ◌<◌, ◌≤◌, ◌&&◌, ◌||◌, inl, inr, Bool, true, false, if◌then◌else◌, Option, Some, None, refl, sym, ap, arith}
 use Rattle.std.proofs.lemmas.Bool.{eq-eqb, ne_eqb}
 use Rattle.std.proofs.lemmas.Bool.Decides.{eqb_tells}
 use Rattle.model.specs.declared.capabilities.Cap.{Cap}
@@ -9,21 +8,19 @@ use Rattle.model.specs.declared.capabilities.FrameMapping.{FrameMapping}
 use Rattle.model.specs.declared.capabilities.TableMapping.{TableMapping}
 use Rattle.model.specs.declared.rights.Rights.{Rights}
 use Rattle.model.specs.Capabilities.CapabilityKinds.{names_object, is_handler_of}
-use Rattle.model.specs.Capabilities.Slots.{IsDerivation, IsFull, Slots, capability_at, depth_of, is_empty, is_full, parent_at}
-use Rattle.model.specs.Kernel.AddressSpaces.{is_region, maps_region, region_pages}
-use Rattle.model.specs.Kernel.Removal.{SlotSet, ancestor_outside, emptied, ends, ends_root, frame_loses, is_root_at, is_some_slot, kept, loses_last_child, new_parent, some_inside, table_loses, takes_last}
-use Rattle.model.specs.Kernel.State.{State, slots_of}
+use Rattle.model.specs.Capabilities.Slots.{IsDerivation, IsFull, capability_at, parent_at}
+use Rattle.model.specs.Kernel.AddressSpaces.{maps_region, region_pages}
+use Rattle.model.specs.Kernel.Removal.{SlotSet, ancestor_outside, emptied, ends, ends_root, frame_loses, is_root_at, kept, new_parent, some_inside, table_loses, takes_last}
+use Rattle.model.specs.Kernel.State.{State}
 use Rattle.model.proofs.Ancestors.{depth-child}
 use Rattle.model.proofs.Depths.{adopted_parent, depth-own_parent}
 use Rattle.model.proofs.SlotChanges.{capability_of, parent_of}
-use Rattle.removals.proofs.Found.{bool-iff, both, found, found-at, found-none, found-or, found-same, found-where, join}
-use Rattle.removals.proofs.Keeping.{capability-out, kept-test, parent-out, there, there-in}
+use Rattle.removals.proofs.Keeping.{capability-out, kept-test, parent-out, there-in}
 use Rattle.removals.specs.Steps.{alone, less}
-use Rattle.removals.proofs.Lasts.{inside, inside-alone, inside-split, last, last-split, outside}
-use Rattle.removals.proofs.Parents.{height, outside-in, outside-none, outside-one, outside-out, outside-split}
+use Rattle.removals.proofs.Lasts.{inside, inside-alone, inside-split, last-split}
+use Rattle.removals.proofs.Parents.{height, outside-one, outside-split}
 
 module _ (s : State) (set : SlotSet) (x : ℕ) (tree : IsDerivation s.slots) (near : (y : ℕ) → IsFull s.slots y → y < 2 ^ s.memory_bits / 16) (member : set x ≡ true) (full : IsFull s.slots x) where
-
   abbrev pub one : State
   one = emptied s (alone x)
 

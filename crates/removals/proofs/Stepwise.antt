@@ -1,7 +1,7 @@
 -- The steps in which a slot is emptied leave what emptying it means.
-use Rattle.std.proofs.Common.{ℕ, ◌≡◌, ◌≢◌, ◌∙◌, ◌==◌, ◌-◌, ◌+◌, ◌*◌, ◌/◌, ◌%◌, ◌^◌, ◌<◌, ◌≤◌, ◌&&◌, ◌||◌, ◌⊎◌, inl, inr, Bool, true, false, not, if◌then◌else◌, Option, Some, None, is_some, option_map, refl, sym, ap, subst, arith}
+use Rattle.std.proofs.Common.{ℕ, ◌≡◌, ◌≢◌, ◌∙◌, ◌==◌, ◌/◌, ◌^◌, ◌<◌, ◌&&◌, ◌||◌, inl, inr, Bool, true, false, not, if◌then◌else◌, Option, Some, None, is_some, option_map, refl, sym, ap, subst, arith}
 use Rattle.std.specs.Option.{option_map_or}
-use Rattle.std.proofs.Math.Bool.{and-false, and-true, or-true}
+use Rattle.std.proofs.Math.Bool.{and-false, or-true}
 use Rattle.std.proofs.lemmas.Bool.{eq-eqb, ne_eqb}
 use Rattle.std.proofs.lemmas.Bool.Decides.{eqb_tells}
 use Rattle.model.specs.declared.capabilities.Cap.{Cap}
@@ -10,23 +10,22 @@ use Rattle.model.specs.declared.capabilities.FrameMapping.{FrameMapping}
 use Rattle.model.specs.declared.capabilities.TableMapping.{TableMapping}
 use Rattle.model.specs.declared.rights.Rights.{Rights}
 use Rattle.model.specs.declared.slot_entries.Entry.{Entry}
-use Rattle.model.specs.Capabilities.CapabilityKinds.{names_object, object_of, root_of, unmapped}
-use Rattle.model.specs.Capabilities.Slots.{IsDerivation, IsFull, Slots, adopted, capability_at, empty_entry, is_empty, is_full, parent_at, recapped, spliced, with_entry, with_parent}
+use Rattle.model.specs.Capabilities.CapabilityKinds.{root_of, unmapped}
+use Rattle.model.specs.Capabilities.Slots.{IsDerivation, IsFull, Slots, adopted, capability_at, empty_entry, parent_at, recapped, spliced, with_parent}
 use Rattle.model.specs.Kernel.AddressSpaces.{maps_region, region_pages}
-use Rattle.model.specs.Kernel.MappingCalls.{lies_in_region, without_region, without_table}
-use Rattle.model.specs.Kernel.Removal.{SlotSet, emptied, ends, ends_root, frame_loses, is_root_at, is_some_slot, kept, kept_entry, loses_last_child, new_parent, some_inside, table_loses}
-use Rattle.model.specs.Kernel.State.{State, with_slots}
+use Rattle.model.specs.Kernel.MappingCalls.{lies_in_region, without_table}
+use Rattle.model.specs.Kernel.Removal.{emptied, ends_root, is_some_slot, kept, kept_entry, loses_last_child, new_parent, some_inside}
+use Rattle.model.specs.Kernel.State.{State}
 use Rattle.model.proofs.Depths.{adopted_parent, depth-own_parent}
 use Rattle.model.proofs.SlotChanges.{capability_of, capability-adopted, entry-other, entry-same, parent_of, parent-adopted}
 use Rattle.model.proofs.Ancestors.{full-open}
-use Rattle.removals.specs.Steps.{IsChildless, Rewinds, WithWatermark, ended, is_under, no_untyped, reset, slots_ended, slots_unmapped, still, unused, uprooted, without_root}
-use Rattle.removals.proofs.Found.{both, found, found-at, found-none, join}
+use Rattle.removals.specs.Steps.{IsChildless, Rewinds, WithWatermark, is_under, no_untyped, reset, slots_ended, slots_unmapped, still, unused, uprooted, without_root}
+use Rattle.removals.proofs.Found.{found, found-at, found-none, join}
 use Rattle.removals.proofs.Keeping.{capability-out, parent-out, there-in, there-out}
 use Rattle.removals.specs.Steps.{alone}
-use Rattle.removals.proofs.Lasts.{inside-alone, outside}
+use Rattle.removals.proofs.Lasts.{inside-alone}
 use Rattle.removals.proofs.Children.{some-slot}
 use Rattle.removals.proofs.Parents.{outside-one}
-use Rattle.removals.proofs.Unaffected.{ended_by, emptied-by, ended-same, nothing-ends}
 
 -- ---- entries by their parts
 
@@ -61,8 +60,7 @@ unmapped-other slots x (Frame f r m) y other =
     let same = entry-other slots x (Some (record { capability = Frame f r None; parent = parent_at slots x })) y other in
     (ap is_some same, ap capability_of same, ap parent_of same)
 unmapped-other slots x (PageTable t (Some m)) y other =
-    let same = entry-other slots x (Some (record { capability = PageTable t None; parent = parent_at slots x })) y other in
-    (
+    let same = entry-other slots x (Some (record { capability = PageTable t None; parent = parent_at slots x })) y other in (
       open-mapped (without_table m) (recapped slots x (PageTable t None) y) ∙ ap is_some same,
       table-capability m (recapped slots x (PageTable t None) y) ∙ ap (λ (o : Option Entry). region_lost (PageTable 0 (Some m)) (capability_of o)) same,
       table-parent m (recapped slots x (PageTable t None) y) ∙ ap parent_of same,
@@ -84,8 +82,7 @@ unmapped-itself slots x (Frame f r m) is =
     let same = entry-same slots x (Some (record { capability = Frame f r None; parent = parent_at slots x })) in
     (ap capability_of same, ap parent_of same)
 unmapped-itself slots x (PageTable t (Some m)) is =
-    let same = entry-same slots x (Some (record { capability = PageTable t None; parent = parent_at slots x })) in
-    (
+    let same = entry-same slots x (Some (record { capability = PageTable t None; parent = parent_at slots x })) in (
       table-capability m (recapped slots x (PageTable t None) x) ∙ ap (λ (o : Option Entry). region_lost (PageTable 0 (Some m)) (capability_of o)) same,
       table-parent m (recapped slots x (PageTable t None) x) ∙ ap parent_of same,
     )
@@ -105,8 +102,7 @@ unmapped-itself slots x (InterruptHandler line) is = (is, refl)
 pub spliced-other : (slots : Slots) (x y : ℕ) → y ≢ x
     → (is_some (spliced slots x y) ≡ is_some (slots y)) × (capability_at (spliced slots x) y ≡ capability_at slots y) × (parent_at (spliced slots x) y ≡ adopted_parent x (parent_at slots x) (parent_at slots y))
 spliced-other slots x y other =
-    let same = entry-other (with_parent slots x (parent_at slots x)) x (Some empty_entry) y other in
-    (
+    let same = entry-other (with_parent slots x (parent_at slots x)) x (Some empty_entry) y other in (
       ap is_some same ∙ open-mapped (adopted x (parent_at slots x)) (slots y),
       ap capability_of same ∙ capability-adopted x (parent_at slots x) (slots y),
       ap parent_of same ∙ parent-adopted x (parent_at slots x) (slots y),
@@ -261,7 +257,6 @@ unused-table t m false = refl
 -- ---- the steps together
 
 module _ (s : State) (x : ℕ) (near : (y : ℕ) → IsFull s.slots y → y < 2 ^ s.memory_bits / 16) (full : IsFull s.slots x) where
-
   pub inside-one : (test : Cap → Bool) → test Empty ≡ false → some_inside s (alone x) test ≡ test (capability_at s.slots x)
   inside-one test none =
       let now : ℕ → Cap = λ y. if y == x then Empty else capability_at s.slots y in
@@ -270,7 +265,6 @@ module _ (s : State) (x : ℕ) (near : (y : ℕ) → IsFull s.slots y → y < 2 
       (λ y other. ap (λ b. test (if b then Empty else capability_at s.slots y)) (ne_eqb y x other))
 
 module _ (s : State) (x : ℕ) (tree : IsDerivation s.slots) (near : (y : ℕ) → IsFull s.slots y → y < 2 ^ s.memory_bits / 16) (full : IsFull s.slots x) (gone : Cap) (roots : (root : ℕ) → ends_root s (alone x) root ≡ root_gone gone root) where
-
   region-inside : (root region : ℕ) → some_inside s (alone x) (maps_region root region) ≡ maps_region root region (capability_at s.slots x)
   region-inside root region = inside-one s x near full (maps_region root region) refl
 
@@ -282,7 +276,7 @@ module _ (s : State) (x : ℕ) (tree : IsDerivation s.slots) (near : (y : ℕ) �
       let lost : Cap = root_lost gone (region_lost (capability_at s.slots x) (Frame f r (Some mp))) in
       let test : Bool = root_gone gone mp.root || maps_region mp.root (mp.page / region_pages) (capability_at s.slots x) in
       let whole : (if test then Frame f r None else Frame f r (Some mp)) ≡ lost =
-          lost-twice gone f r mp (maps_region mp.root (mp.page / region_pages) (capability_at s.slots x)) ∙ ap (root_lost gone) (sym (frame-region (capability_at s.slots x) f r mp))
+      lost-twice gone f r mp (maps_region mp.root (mp.page / region_pages) (capability_at s.slots x)) ∙ ap (root_lost gone) (sym (frame-region (capability_at s.slots x) f r mp))
       in
       ap (λ b. if b || some_inside s (alone x) (maps_region mp.root (mp.page / region_pages)) then Frame f r None else Frame f r (Some mp)) (roots mp.root)
       ∙ ap (λ b. if root_gone gone mp.root || b then Frame f r None else Frame f r (Some mp)) (region-inside mp.root (mp.page / region_pages))
@@ -292,7 +286,7 @@ module _ (s : State) (x : ℕ) (tree : IsDerivation s.slots) (near : (y : ℕ) �
       let lost : Cap = root_lost gone (region_lost (capability_at s.slots x) (PageTable t (Some m))) in
       let test : Bool = root_gone gone m.root in
       let whole : (if test then PageTable t None else PageTable t (Some m)) ≡ lost =
-          sym (root-table gone t m) ∙ ap (root_lost gone) (sym (region-table (capability_at s.slots x) t m))
+      sym (root-table gone t m) ∙ ap (root_lost gone) (sym (region-table (capability_at s.slots x) t m))
       in
       ap (λ b. if b then PageTable t None else PageTable t (Some m)) (roots m.root)
       ∙ whole
@@ -365,7 +359,7 @@ module _ (s : State) (x : ℕ) (tree : IsDerivation s.slots) (near : (y : ℕ) �
   still-child y z is =
       let other : z ≢ x = λ same. absurd (let clash : None ≡ Some y = sym (ap (λ (n : ℕ). parent_of (third n)) same ∙ ap parent_of third-itself) ∙ is in cc) in
       let passes : (not (alone x z) && is_some_slot y (new_parent s (alone x) z)) ≡ true =
-          join (not (alone x z)) _ (ap not (ne_eqb z x other)) (ap (is_some_slot y) (sym (third-parent z other) ∙ is) ∙ eq-eqb y y refl)
+      join (not (alone x z)) _ (ap not (ne_eqb z x other)) (ap (is_some_slot y) (sym (third-parent z other) ∙ is) ∙ eq-eqb y y refl)
       in
       ap (λ b. found s.memory_bits (λ c. alone x c && is_some_slot y (parent_at s.slots c)) && not b)
       (found-at s.memory_bits z (λ c. not (alone x c) && is_some_slot y (new_parent s (alone x) c)) (near z (third-full z y other is)) passes)
@@ -408,8 +402,7 @@ module _ (s : State) (x : ℕ) (tree : IsDerivation s.slots) (near : (y : ℕ) �
   unfolding SameAs
   rewound-here y other is childless =
       let here = entry-same third y (Some (record { capability = unused (capability_at third y); parent = parent_at third y })) in
-      let opens : is_some (s.slots y) ≡ true = full-open s.slots y (tree.parent_full x y is) in
-      (
+      let opens : is_some (s.slots y) ≡ true = full-open s.slots y (tree.parent_full x y is) in (
         ap is_some here ∙ sym (third-open y other ∙ opens),
         ap capability_of here ∙ sym (ap (λ b. rewound b (capability_at third y)) (lost-child y is childless) ∙ rewound-true (capability_at third y)),
         ap parent_of here,

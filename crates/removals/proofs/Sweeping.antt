@@ -1,16 +1,16 @@
 -- Closing, slot by slot, what belongs to no object.
-use Rattle.std.proofs.Common.{ℕ, zero, suc, ◌≡◌, ◌≢◌, ◌∙◌, ◌==◌, ◌+◌, ◌*◌, ◌/◌, ◌^◌, ◌<◌, ◌≤◌, ◌&&◌, ◌||◌, inl, inr, Bool, true, false, not, nat_le, nat_lt, if◌then◌else◌, Option, Some, None, is_some, max, refl, sym, ap, subst, arith}
+use Rattle.std.proofs.Common.{ℕ, suc, ◌≡◌, ◌≢◌, ◌∙◌, ◌==◌, ◌+◌, ◌*◌, ◌/◌, ◌^◌, ◌<◌, ◌≤◌, ◌&&◌, ◌||◌, inl, inr, Bool, true, false, not, nat_lt, if◌then◌else◌, Option, Some, None, is_some, max, refl, sym, ap, subst, arith}
 use Rattle.std.specs.List.{list_any}
-use Rattle.std.proofs.Math.Bool.{and-false, and-true, or-true}
-use Rattle.std.proofs.lemmas.Bool.{eq-eqb, le-leb, ne_eqb}
+use Rattle.std.proofs.Math.Bool.{and-false, or-true}
+use Rattle.std.proofs.lemmas.Bool.{eq-eqb, le-leb}
 use Rattle.std.proofs.lemmas.Bool.Decides.{eqb_tells, leb_tells}
 use Rattle.model.specs.declared.slot_entries.Entry.{Entry}
-use Rattle.model.specs.Capabilities.Slots.{IsOpen, Slots, empty_entry, is_within}
-use Rattle.model.specs.Kernel.Removal.{closing, is_slot_of, slot_count}
+use Rattle.model.specs.Capabilities.Slots.{IsOpen, empty_entry}
+use Rattle.model.specs.Kernel.Removal.{is_slot_of}
 use Rattle.model.specs.Kernel.State.{State, boot_area_slots, slots_of}
 use Rattle.removals.specs.Finishing.{MaySettle, StrayClosed, closed_below, has_slot, slot_kept, slots_from, stray_closed, without_slot, without_strays}
 use Rattle.removals.proofs.Finishing.{bounds-within, within-bounds}
-use Rattle.removals.proofs.Found.{found-at, found-none, join}
+use Rattle.removals.proofs.Found.{found-at, found-none}
 
 -- all below a number is done, and no object reaches over it
 pub record IsPassed (s w : State) (at : ℕ) : Type 0 where

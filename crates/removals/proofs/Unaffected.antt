@@ -1,5 +1,5 @@
 -- Where no object ends, objects, bytes and the ready list stay.
-use Rattle.std.proofs.Common.{ℕ, ◌≡◌, ◌∙◌, ◌-◌, ◌%◌, ◌||◌, Bool, true, false, not, if◌then◌else◌, List, [], ◌∷◌, Option, Some, None, option_map, cond, refl, sym, ap}
+use Rattle.std.proofs.Common.{ℕ, ◌≡◌, ◌∙◌, ◌-◌, ◌%◌, Bool, false, not, if◌then◌else◌, List, [], ◌∷◌, Option, Some, None, option_map, cond, refl, ap}
 use Rattle.std.specs.Prelude.{filter}
 use Rattle.std.specs.Option.{option_map_or}
 use Rattle.model.specs.Kernel.AddressSpaces.{page_size}
@@ -58,7 +58,7 @@ object-all gone none (Some o) = ap (λ n. Some n) (threads-all gone none o)
 pub nothing-ends : (gone : ℕ → Bool) → ((n : ℕ) → gone n ≡ false) → (s : State) (slots : Slots) → ended_by gone s slots ≡ record s { slots = slots }
 nothing-ends gone none s slots =
     let objects : (o : ℕ) → (if gone o then None else option_map (without_threads (ending_by gone s)) (s.objects o)) ≡ s.objects o = λ o.
-        ap (λ b. if b then None else option_map (without_threads (ending_by gone s)) (s.objects o)) (none o) ∙ object-all (ending_by gone s) (none-ending gone none s) (s.objects o)
+    ap (λ b. if b then None else option_map (without_threads (ending_by gone s)) (s.objects o)) (none o) ∙ object-all (ending_by gone s) (none-ending gone none s) (s.objects o)
     in
     λ i. record s {
       slots = slots;

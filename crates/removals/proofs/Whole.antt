@@ -1,9 +1,8 @@
 -- A removal of a sound state: what its steps rely on, and what they leave.
-use Rattle.std.proofs.Common.{ℕ, ◌≡◌, ◌≢◌, ◌∙◌, ◌==◌, ◌+◌, ◌*◌, ◌-◌, ◌/◌, ◌^◌, ◌<◌, ◌≤◌, ◌&&◌, ◌||◌, ◌⊎◌, inl, inr, Bool, true, false, not, nat_le, if◌then◌else◌, is_some, length, get_or, List, Option, Some, None, option_map, Ok, Err, refl, sym, ap, subst, arith}
+use Rattle.std.proofs.Common.{ℕ, ◌≡◌, ◌∙◌, ◌==◌, ◌+◌, ◌*◌, ◌-◌, ◌/◌, ◌^◌, ◌<◌, ◌≤◌, ◌&&◌, inl, inr, Bool, true, false, not, nat_le, if◌then◌else◌, is_some, get_or, Option, Some, None, option_map, Ok, Err, refl, sym, ap, arith}
 use Rattle.std.specs.Option.{option_map_or}
-use Rattle.std.specs.List.{list_any, range_with_len}
+use Rattle.std.specs.List.{range_with_len}
 use Rattle.std.proofs.Math.Pow.{pow_mono}
-use Rattle.std.proofs.lemmas.Bool.{eq-eqb}
 use Rattle.std.proofs.lemmas.Bool.Decides.{eqb_tells, leb_tells}
 use Rattle.std.proofs.lemmas.List.Folds.{Any-from_list_any, list_any_at}
 use Rattle.std.proofs.lemmas.List.FromFn.{get_or-range_with_len, length-range_with_len}
@@ -13,21 +12,21 @@ use Rattle.model.specs.declared.capabilities.Cap.TheVariants.{Empty, Untyped, En
 use Rattle.model.specs.declared.errors.KError.TheVariants.{RevokeFirst}
 use Rattle.model.specs.declared.slot_entries.Entry.{Entry}
 use Rattle.model.specs.Capabilities.CapabilityKinds.{is_handler_of, names_object, object_of}
-use Rattle.model.specs.Capabilities.Slots.{IsFull, IsOpen, Slots, capability_at, empty_entry, is_empty, is_full, parent_at}
-use Rattle.model.specs.Kernel.Kinds.{Names, kind_at, object_named}
-use Rattle.model.specs.Kernel.Removal.{SlotSet, closes, emptied, ends, ends_filled, is_slot_of, kept_entry, remove, slot_count, slots_emptied, takes_last, wants_revoke_first, with_bindings, without_slots}
+use Rattle.model.specs.Capabilities.Slots.{IsFull, IsOpen, capability_at, empty_entry, is_empty, is_full}
+use Rattle.model.specs.Kernel.Kinds.{kind_at, object_named}
+use Rattle.model.specs.Kernel.Removal.{SlotSet, closes, emptied, ends, ends_filled, is_slot_of, kept_entry, remove, takes_last, wants_revoke_first, with_bindings, without_slots}
 use Rattle.model.specs.Kernel.Retype.{NewObject, NewThread, NewEndpoint, NewNotification, NewCNode, NewFrame, NewPageTable, NewRootTable}
-use Rattle.model.specs.Kernel.Soundness.{HasShape, HasSlot, IsSound, of_boot_area, of_object}
-use Rattle.model.specs.Kernel.State.{State, binding_slot, boot_area_slots, slots_of}
+use Rattle.model.specs.Kernel.Soundness.{HasSlot, IsSound, of_boot_area, of_object}
+use Rattle.model.specs.Kernel.State.{State, binding_slot}
 use Rattle.model.proofs.Ancestors.{full-open}
 use Rattle.model.proofs.SlotChanges.{capability_of}
 use Rattle.removals.specs.Finishing.{MaySettle, has_slot, settled, slots_from}
-use Rattle.removals.specs.Steps.{IsReady, RootsAreRoots, SameShape, bindings_from, joined}
-use Rattle.removals.proofs.Finishing.{behind-boot, bounds-within, closes-strays, closing-object, holder, in-memory, in-memory-whole, kept-count, named-full, not-false, one-holder, settles, slot-left}
-use Rattle.removals.proofs.Found.{bool-iff, both, found-at, found-none, found-where, join}
+use Rattle.removals.specs.Steps.{IsReady, SameShape, bindings_from, joined}
+use Rattle.removals.proofs.Finishing.{behind-boot, bounds-within, closes-strays, closing-object, holder, in-memory-whole, named-full, not-false, one-holder, settles, slot-left}
+use Rattle.removals.proofs.Found.{bool-iff, both, found-at, found-where, join}
 use Rattle.removals.proofs.Keeping.{there-in, there-out}
 use Rattle.removals.proofs.Rounds.{line-open, or-cases}
-use Rattle.removals.proofs.SameFull.{emptied-blank, empty-is}
+use Rattle.removals.proofs.SameFull.{emptied-blank}
 
 -- ---- what the steps rely on
 
@@ -95,19 +94,18 @@ sound-ready s sound = record {
   derivation = sound.slots.derivation;
   near = λ y full. open-near s sound y (full-open s.slots y full);
   roots = λ a b root is named.
-    let k = object-kind (capability_at s.slots b) root named in
-    let one : kind_at s root ≡ Some NewRootTable = sound.memory.named a NewRootTable root (ap object_named is) in
-    let two : kind_at s root ≡ Some k.0 = sound.memory.named b k.0 root k.1 in
-    let same : Some NewRootTable ≡ Some k.0 = sym one ∙ two in
-    let kind : NewRootTable ≡ k.0 = cc in
-    root-kind (capability_at s.slots b) root (k.1 ∙ ap (λ (n : NewObject). named_as n root) (sym kind));
+      let k = object-kind (capability_at s.slots b) root named in
+      let one : kind_at s root ≡ Some NewRootTable = sound.memory.named a NewRootTable root (ap object_named is) in
+      let two : kind_at s root ≡ Some k.0 = sound.memory.named b k.0 root k.1 in
+      let same : Some NewRootTable ≡ Some k.0 = sym one ∙ two in
+      let kind : NewRootTable ≡ k.0 = cc in
+      root-kind (capability_at s.slots b) root (k.1 ∙ ap (λ (n : NewObject). named_as n root) (sym kind));
   lines = λ line few. (sound.slots.there (binding_slot s line)).1 (of_boot_area (omega (arith, few)));
 }
 
 -- ---- what settling relies on
 
 module _ (s : State) (sound : IsSound s) (set : SlotSet) (opens : (y : ℕ) → set y ≡ true → IsOpen s.slots y) (kept_first : wants_revoke_first s set ≡ false) where
-
   near : (y : ℕ) → IsFull s.slots y → y < 2 ^ s.memory_bits / 16
   near y full = open-near s sound y (full-open s.slots y full)
 
@@ -133,8 +131,8 @@ module _ (s : State) (sound : IsSound s) (set : SlotSet) (opens : (y : ℕ) → 
         let parts = both (set z.0) _ z.1 in
         let which = closing-object s set y (object_of (capability_at s.slots z.0)) parts.1 in
         let revoke : wants_revoke_first s set ≡ true =
-            found-at s.memory_bits z.0 (λ m. set m && option_map_or (ends_filled s set) (object_of (capability_at s.slots m)) false) (near z.0 (named-full which.0 (capability_at s.slots z.0) which.1))
-            (join (set z.0) _ parts.0 (ap (λ q. option_map_or (ends_filled s set) q false) which.1 ∙ filled which.0 y which.2 which.3 out full))
+        found-at s.memory_bits z.0 (λ m. set m && option_map_or (ends_filled s set) (object_of (capability_at s.slots m)) false) (near z.0 (named-full which.0 (capability_at s.slots z.0) which.1))
+        (join (set z.0) _ parts.0 (ap (λ q. option_map_or (ends_filled s set) q false) which.1 ∙ filled which.0 y which.2 which.3 out full))
         in
         absurd (let clash : false ≡ true = sym kept_first ∙ revoke in cc)
     | false ↦ λ is. refl
@@ -155,9 +153,9 @@ module _ (s : State) (sound : IsSound s) (set : SlotSet) (opens : (y : ℕ) → 
   pub may-settle : MaySettle (emptied s set)
   may-settle = record {
     inside = λ n some.
-      let last : is_slot_of s (16 * n) (n + slots_from (emptied s set) n - 1) ≡ true = slot-at n (n + slots_from (emptied s set) n - 1) (omega (arith, some)) (omega (arith, some)) in
-      let placed = in-memory-whole s sound (16 * n) (n + slots_from (emptied s set) n - 1) (holder s sound (16 * n) (n + slots_from (emptied s set) n - 1) last) in
-      omega (arith, placed, some);
+        let last : is_slot_of s (16 * n) (n + slots_from (emptied s set) n - 1) ≡ true = slot-at n (n + slots_from (emptied s set) n - 1) (omega (arith, some)) (omega (arith, some)) in
+        let placed = in-memory-whole s sound (16 * n) (n + slots_from (emptied s set) n - 1) (holder s sound (16 * n) (n + slots_from (emptied s set) n - 1) last) in
+        omega (arith, placed, some);
     boot = λ n some. behind-boot s sound (16 * n) n (holder s sound (16 * n) n (slot-at n n (omega arith) (omega (arith, some))));
     apart = λ n m less some_n some_m. elim (leb_tells (n + slots_from (emptied s set) n) m) [
       | inl fits ↦ fits.1
@@ -201,7 +199,7 @@ pub both-loops : (s one two : State) (set : SlotSet) (taken : ℕ → Bool) → 
 both-loops s one two set taken shape first same opens second =
     let last : ℕ → Bool = λ line. takes_last s set (is_handler_of line) in
     let here : (y : ℕ) → bindings_from one taken 0 y ≡ bindings_from s last 0 y = λ y.
-        ap (λ (r : ℕ). bindings_from (record s { boot_radix = r }) taken 0 y) shape.radix ∙ lines-same s taken last 0 y same
+    ap (λ (r : ℕ). bindings_from (record s { boot_radix = r }) taken 0 y) shape.radix ∙ lines-same s taken last 0 y same
     in
     sym second
     ∙ (λ i. emptied one (λ y. here y i))

@@ -1,7 +1,7 @@
 -- What is left to do once a removal has emptied its slots: slots of objects that are gone close, and whoever waits where nothing is any
 -- more runs again.
 -- seL4 Reference Manual, "Deletion, Revocation, and Recycling".
-use Rattle.std.specs.Prelude.{ℕ, ◌≡◌, ◌≢◌, ◌==◌, ◌+◌, ◌*◌, ◌/◌, ◌^◌, ◌<◌, ◌≤◌, ◌&&◌, ◌||◌, Bool, true, false, not, nat_lt, Option, Some, is_some, List, filter, fold}
+use Rattle.std.specs.Prelude.{ℕ, ◌≡◌, ◌≢◌, ◌==◌, ◌+◌, ◌*◌, ◌/◌, ◌^◌, ◌<◌, ◌≤◌, ◌&&◌, ◌||◌, Bool, true, false, not, nat_lt, Some, is_some, filter, fold}
 use Rattle.std.specs.Option.{option_map_or}
 use Rattle.std.specs.List.{list_any}
 use Rattle.model.specs.Kernel.Removal.{closing, is_slot_of, slot_count, thread_places}

@@ -9,7 +9,7 @@ use Rattle.model.specs.Kernel.AddressSpaces.{page_size}
 use Rattle.model.specs.Kernel.MappingCalls.{without_region}
 use Rattle.model.specs.Kernel.Removal.{SlotSet, emptied}
 use Rattle.model.specs.Kernel.Scheduling.{all_leave}
-use Rattle.model.specs.Kernel.State.{State, Object, as_thread, binding_slot, with_slots}
+use Rattle.model.specs.Kernel.State.{State, as_thread, binding_slot, with_slots}
 use Rattle.model.specs.declared.capabilities.Cap.{Cap}
 use Rattle.model.specs.declared.capabilities.Cap.TheVariants.{Frame, PageTable, RootTable, Untyped}
 use Rattle.model.specs.declared.slot_entries.Entry.{Entry}

@@ -1,6 +1,6 @@
 -- The steps together.
-use Rattle.std.proofs.Common.{ℕ, ◌≡◌, ◌∙◌, ◌+◌, ◌*◌, ◌/◌, ◌^◌, ◌<◌, ◌≤◌, length, None, Some, refl, sym, ap, subst, arith}
-use Rattle.model.specs.Capabilities.Slots.{IsDerivation, IsFull, Slots, capability_at, parent_at}
+use Rattle.std.proofs.Common.{◌≡◌, ◌∙◌, None, Some, refl, sym, subst}
+use Rattle.model.specs.Capabilities.Slots.{IsDerivation, Slots}
 use Rattle.model.specs.Kernel.State.{State}
 use Rattle.removals.proofs.InSteps.{emptied-in-steps, parent-full}
 use Rattle.cnode_ops.proofs.emptying.empty_slot.Goals as goal

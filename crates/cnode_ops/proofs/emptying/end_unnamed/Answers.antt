@@ -1,8 +1,8 @@
 -- No slot names the object.
-use Rattle.std.proofs.Common.{ℕ, ◌≡◌, ◌∙◌, false, sym, ap, subst}
+use Rattle.std.proofs.Common.{ℕ, ◌≡◌, ◌∙◌, false, sym, subst}
 use Rattle.model.specs.Capabilities.CapabilityKinds.{names_object}
 use Rattle.model.specs.Capabilities.Slots.{Slots, capability_at}
-use Rattle.removals.specs.Steps.{IfUnnamed, ends}
+use Rattle.removals.specs.Steps.{ends}
 use Rattle.cnode_ops.proofs.emptying.end_unnamed.Goals as goal
 
 pub returns-clause-state : goal.returns-clause-state

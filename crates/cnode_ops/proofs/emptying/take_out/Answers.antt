@@ -1,5 +1,5 @@
 -- What has to agree still does without the capability.
-use Rattle.std.proofs.Common.{ℕ, ◌≡◌, ◌∙◌, sym, ap, subst}
+use Rattle.std.proofs.Common.{◌≡◌, sym, subst}
 use Rattle.model.specs.Capabilities.CapabilityKinds.{unmapped}
 use Rattle.model.specs.Capabilities.Slots.{IsFull, Slots, capability_at}
 use Rattle.cnode_ops.proofs.Emptied.{bare-full, bare-unmapped}

@@ -1,8 +1,8 @@
 -- Each slot that is emptied leaves one fewer.
-use Rattle.std.proofs.Common.{ℕ, ◌≡◌, ◌∙◌, ◌<◌, false, true, refl, sym, ap, subst, arith}
+use Rattle.std.proofs.Common.{ℕ, ◌≡◌, ◌∙◌, ◌<◌, false, true, sym, ap, subst}
 use Rattle.cnode_ops.specs.Sets.{set_of}
 use Rattle.model.specs.Capabilities.Slots.{IsFull, IsOpen, Slots}
-use Rattle.model.specs.Kernel.Removal.{SlotSet, emptied}
+use Rattle.model.specs.Kernel.Removal.{emptied}
 use Rattle.model.specs.Kernel.State.{State}
 use Rattle.removals.specs.Steps.{alone, joined}
 use Rattle.cnode_ops.proofs.EmptiedSets.{IsLeftOf, fewer-full, full_count, left-done, left-next}
@@ -20,9 +20,9 @@ slots-smaller g c =
     let same : after ≡ (emptied now (alone c.in-Some.slot)).slots = sym (g.met.E.Ends.of_slots _ _ _) ∙ ap (λ (s : State). s.slots) c.empty_slot.ensures.state in
     let fewer : full_count now.memory_bits (emptied now (alone c.in-Some.slot)).slots < full_count now.memory_bits now.slots = fewer-full now c.in-Some.slot left.ready full in
     let counted : full_count before.memory_bits after < full_count before.memory_bits slots =
-        subst (λ (n : Slots). full_count before.memory_bits n < full_count before.memory_bits slots) (sym same)
-        (subst (λ (n : Slots). full_count before.memory_bits (emptied now (alone c.in-Some.slot)).slots < full_count before.memory_bits n) has
-        (subst (λ (b : ℕ). full_count b (emptied now (alone c.in-Some.slot)).slots < full_count b now.slots) left.shape.bits fewer))
+    subst (λ (n : Slots). full_count before.memory_bits n < full_count before.memory_bits slots) (sym same)
+    (subst (λ (n : Slots). full_count before.memory_bits (emptied now (alone c.in-Some.slot)).slots < full_count before.memory_bits n) has
+    (subst (λ (b : ℕ). full_count b (emptied now (alone c.in-Some.slot)).slots < full_count b now.slots) left.shape.bits fewer))
     in
     counted
 
@@ -51,7 +51,7 @@ returns-clause-taken g c = λ more opens.
     let had : before.slots ≡ first = g.met.E.Ends.of_slots c.args.ends.now first (g.S.SlotStore.memory c.args.store.now) in
     let has : now.slots ≡ slots = g.met.E.Ends.of_slots c.slots.ends slots (g.S.SlotStore.memory c.slots.store) in
     let none : (slot : ℕ) → IsFull now.slots slot → set_of now.slots c.args.set.now slot ≡ false =
-        subst (λ (n : Slots). (slot : ℕ) → IsFull n slot → set_of n c.args.set.now slot ≡ false) (sym has) (c.first_removed.ensures.none c.in_default.is)
+    subst (λ (n : Slots). (slot : ℕ) → IsFull n slot → set_of n c.args.set.now slot ≡ false) (sym has) (c.first_removed.ensures.none c.in_default.is)
     in
     ap (λ (n : Slots). emptied before (joined (set_of n c.args.set.now) more)) (sym had)
     ∙ left-done before now c.args.set.now c.slots.invariant.left none more (subst (λ (n : Slots). (slot : ℕ) → more slot ≡ true → IsOpen n slot) (sym had) opens)

@@ -1,5 +1,4 @@
 -- What is left of the set, and fewer full slots each time.
-use Rattle.std.proofs.Common.{ℕ}
 use Rattle.model.specs.Kernel.State.{State}
 use Rattle.cnode_ops.proofs.EmptiedSets.{IsLeftOf, full_count}
 use Rattle.cnode_ops.proofs.removal.empty_all.Given as goal

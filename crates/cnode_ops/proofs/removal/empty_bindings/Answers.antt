@@ -1,9 +1,8 @@
 -- One line after another.
-use Rattle.std.proofs.Common.{ℕ, ◌≡◌, ◌∙◌, ◌<◌, Bool, false, true, slice_index_or, refl, sym, ap, subst, arith}
-use Rattle.model.specs.Capabilities.Slots.{Slots}
+use Rattle.std.proofs.Common.{ℕ, Bool, false, slice_index_or, subst, arith}
 use Rattle.model.specs.Kernel.State.{State}
 use Rattle.removals.specs.Steps.{BindingEmptied}
-use Rattle.cnode_ops.proofs.EmptiedSets.{LinesLeft, line-emptied, lines-gone}
+use Rattle.cnode_ops.proofs.EmptiedSets.{line-emptied, lines-gone}
 use Rattle.cnode_ops.proofs.removal.empty_bindings.Goals as goal
 
 pub lines-preserved : goal.lines-preserved

@@ -1,5 +1,5 @@
 -- The bindings of the lines from this one on are left.
-use Rattle.std.proofs.Common.{ℕ, false, slice_index_or}
+use Rattle.std.proofs.Common.{false, slice_index_or}
 use Rattle.model.specs.Kernel.State.{State}
 use Rattle.cnode_ops.proofs.EmptiedSets.{LinesLeft}
 use Rattle.cnode_ops.proofs.removal.empty_bindings.Given as goal

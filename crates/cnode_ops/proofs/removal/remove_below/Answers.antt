@@ -1,5 +1,4 @@
 -- What descends is open.
-use Rattle.std.proofs.Common.{ℕ}
 use Rattle.cnode_ops.proofs.RemovedSets.{below-open}
 use Rattle.cnode_ops.proofs.removal.remove_below.Goals as goal
 

@@ -1,5 +1,5 @@
 -- Where no descendant is listed there is none.
-use Rattle.std.proofs.Common.{ℕ, ◌≡◌, ◌∙◌, None, sym, ap}
+use Rattle.std.proofs.Common.{◌∙◌, sym, ap}
 use Rattle.cnode_ops.specs.Sets.{set_of}
 use Rattle.cnode_ops.proofs.Watermarks.{no-descendants}
 use Rattle.cnode_ops.proofs.sets.first_removed.Goals as goal

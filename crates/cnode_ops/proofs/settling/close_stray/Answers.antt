@@ -1,8 +1,8 @@
 -- The state follows the slots.
-use Rattle.std.proofs.Common.{ℕ, ◌≡◌, ◌∙◌, None, false, true, refl, sym, ap, subst}
+use Rattle.std.proofs.Common.{◌≡◌, ◌∙◌, None, sym, ap}
 use Rattle.model.specs.Capabilities.Slots.{Slots}
 use Rattle.model.specs.Kernel.State.{State}
-use Rattle.removals.specs.Finishing.{StrayClosed, slot_kept, stray_closed}
+use Rattle.removals.specs.Finishing.{stray_closed}
 use Rattle.cnode_ops.proofs.ClosedSlots.{none-closed, not-open, one-closed, stays-closed}
 use Rattle.cnode_ops.proofs.settling.close_stray.Goals as goal
 

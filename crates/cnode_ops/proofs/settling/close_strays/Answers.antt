@@ -1,6 +1,5 @@
 -- Step by step.
-use Rattle.std.proofs.Common.{ℕ, ◌≡◌, ◌∙◌, ◌==◌, ◌+◌, max, Some, false, true, refl, sym, ap, subst, arith}
-use Rattle.std.proofs.lemmas.Bool.Decides.{eqb_tells}
+use Rattle.std.proofs.Common.{ℕ, ◌≡◌, ◌∙◌, ◌==◌, ◌+◌, Some, refl, sym, ap, subst}
 use Rattle.model.specs.Capabilities.Slots.{IsOpen, Slots, empty_entry}
 use Rattle.model.specs.Kernel.State.{State}
 use Rattle.removals.specs.Finishing.{StrayClosed, slots_from}

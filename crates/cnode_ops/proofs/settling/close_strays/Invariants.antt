@@ -1,5 +1,5 @@
 -- All below a slot is done.
-use Rattle.std.proofs.Common.{ℕ, ◌≡◌, ◌-◌, ◌≤◌, length}
+use Rattle.std.proofs.Common.{◌-◌}
 use Rattle.model.specs.Kernel.State.{State}
 use Rattle.removals.proofs.Sweeping.{IsPassed}
 use Rattle.cnode_ops.proofs.settling.close_strays.Given as goal
