@@ -1,0 +1,9 @@
+pub mod CNodeCalls
+pub mod Carried
+pub mod Copies
+pub mod Inserted
+pub mod Lookups
+pub mod Pieces
+pub mod Places
+pub mod Recapped
+pub mod Relocated
