@@ -1,9 +1,17 @@
+pub mod Bytes
 pub mod CNodeCalls
 pub mod Carried
 pub mod Copies
 pub mod Inserted
 pub mod Lookups
+pub mod Moving
 pub mod Pieces
 pub mod Places
+pub mod Queues
 pub mod Recapped
+pub mod Registers
 pub mod Relocated
+pub mod Rest
+pub mod Running
+pub mod Steps
+pub mod ThreadCalls
