@@ -2,11 +2,16 @@ pub mod Bytes
 pub mod CNodeCalls
 pub mod Carried
 pub mod Copies
+pub mod Delivered
+pub mod Events
+pub mod Grants
 pub mod Inserted
 pub mod Lookups
+pub mod Messages
 pub mod Moving
 pub mod Pieces
 pub mod Places
+pub mod QueueSteps
 pub mod Queues
 pub mod Recapped
 pub mod Registers

@@ -32,7 +32,7 @@ pub record StandsAs (o p : Option Object) : Type 0 where
   pub waits : (queue : ℕ) → waits_of o queue ≡ waits_of p queue
   pub awaits : awaits_answer (own_of o).status ≡ awaits_answer (own_of p).status
 
-stands-same : (o : Option Object) → StandsAs o o
+pub stands-same : (o : Option Object) → StandsAs o o
 stands-same o = record { runs = λ _. refl; waits = λ _. refl; awaits = refl }
 
 pub stands-thread : (t u : ThreadState) → t.status ≡ u.status → t.priority ≡ u.priority → StandsAs (Some (ThreadObject t)) (Some (ThreadObject u))
@@ -43,7 +43,7 @@ stands-thread t u status priority = record {
   awaits = ap awaits_answer status;
 }
 
-stands-none : (o p : Option Object) → as_thread o ≡ None → as_thread p ≡ None → StandsAs o p
+pub stands-none : (o p : Option Object) → as_thread o ≡ None → as_thread p ≡ None → StandsAs o p
 stands-none o p one other = record {
   runs = λ n.
       let at = λ (t : Option ThreadState). if option_map_or (λ t. is_runnable t.status && t.priority == n) t false then 1 else 0 in
@@ -196,7 +196,7 @@ module _ (kinds : ℕ → Option NewObject) (s : State) (x : ℕ) (r w : ℕ →
   value : Option Object
   value = Some (ThreadObject t)
 
-  stands-new : t.status ≡ (thread_at s y).status → t.priority ≡ (thread_at s y).priority → StandsAs (Some (ThreadObject t)) (s.objects y)
+  pub stands-new : t.status ≡ (thread_at s y).status → t.priority ≡ (thread_at s y).priority → StandsAs (Some (ThreadObject t)) (s.objects y)
   stands-new status priority =
       subst (StandsAs (Some (ThreadObject t))) (sym own.1)
       (stands-thread t own.0 (status ∙ ap (λ (u : ThreadState). u.status) own-is) (priority ∙ ap (λ (u : ThreadState). u.priority) own-is))
@@ -207,7 +207,7 @@ module _ (kinds : ℕ → Option NewObject) (s : State) (x : ℕ) (r w : ℕ →
       put-either s.objects y (Some (ThreadObject t)) (λ thread o. thread ≢ x → StandsAs o (s.objects thread))
       (λ other. stands-new (same other).0 (same other).1) (λ thread _ _. stands-same (s.objects thread))
 
-  rewritten-listed : ThreadIsSound t → (y ≢ x → (t.status ≡ (thread_at s y).status) × (t.priority ≡ (thread_at s y).priority)) → Listed kinds (with_thread s y t) x r w
+  pub rewritten-listed : ThreadIsSound t → (y ≢ x → (t.status ≡ (thread_at s y).status) × (t.priority ≡ (thread_at s y).priority)) → Listed kinds (with_thread s y t) x r w
   rewritten-listed fine same =
       let waiting : (thread queue : ℕ) → times_in (waiting_at (put s.objects y (Some (ThreadObject t)) queue)) thread ≡ times_in (waiting_at (s.objects queue)) thread = λ thread.
       put-either s.objects y (Some (ThreadObject t)) (λ queue o. times_in (waiting_at o) thread ≡ times_in (waiting_at (s.objects queue)) thread)

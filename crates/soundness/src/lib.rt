@@ -3,10 +3,18 @@
 #![tactic(auto)]
 
 mod cnode_laws;
+mod message_laws;
 mod thread_laws;
 
 pub use cnode_laws::{
     copy_keeps_soundness, mint_keeps_soundness, move_keeps_soundness, mutate_keeps_soundness,
+    slots_keep_deliveries,
+};
+pub use message_laws::{
+    an_acknowledgement_keeps_soundness, an_interrupt_keeps_soundness, fault_keeps_soundness,
+    poll_keeps_soundness, receive_keeps_soundness, reply_keeps_soundness, send_keeps_soundness,
+    signal_keeps_soundness, try_to_receive_keeps_soundness, try_to_send_keeps_soundness,
+    wait_keeps_soundness,
 };
 pub use thread_laws::{
     a_plain_step_keeps_soundness, a_tick_keeps_soundness, resume_keeps_soundness,
