@@ -1,8 +1,7 @@
 -- Copy and Mint insert below their source; Move and Mutate relocate it.
-use Rattle.std.proofs.Common.{ℕ, ◌≡◌, ◌∙◌, ◌<◌, true, false, not, nat_lt, Some, None, Ok, refl, sym, ap, subst}
+use Rattle.std.proofs.Common.{ℕ, ◌≡◌, ◌∙◌, ◌<◌, true, false, not, nat_lt, Some, None, Ok, sym, ap, subst}
 use Rattle.std.proofs.lemmas.Bool.{ltb-true, not-true}
 use Rattle.model.specs.declared.capabilities.Cap.{Cap}
-use Rattle.model.specs.declared.capabilities.Cap.TheVariants.{Empty, Untyped, Endpoint, Notification, CNode, Frame, PageTable, Tcb, RootTable, InterruptControl, InterruptHandler}
 use Rattle.model.specs.declared.errors.KError.TheVariants.{IllegalOperation, RangeError}
 use Rattle.model.specs.declared.invocations.SlotName.{SlotName}
 use Rattle.model.specs.Capabilities.CapabilityKinds.{badge_fits, carries_messages, copied, frame_mapping, guard_fits, is_badged, may_be_copied, table_mapping, with_payload}
@@ -13,7 +12,7 @@ use Rattle.model.specs.Kernel.CNodeCalls.{copy, mint, move, mutate}
 use Rattle.model.specs.Kernel.Soundness.{IsSound}
 use Rattle.model.specs.Kernel.State.{State, with_slots}
 use Rattle.soundness.specs.Calls.{IsCall, IsInvoked, IsRoot, held, boot, of_slot, of_loader}
-use Rattle.soundness.proofs.Copies.{IsAlike, alike-both, copied-alike, copied-badge_fits, copied-guard_fits, copied-unmapped, copied-valid, copies-shared, payload-alike, is_single, payload-mapping, payload-page_table, payload-valid}
+use Rattle.soundness.proofs.Copies.{no-badge, IsAlike, alike-both, copied-alike, copied-badge_fits, copied-guard_fits, copied-unmapped, copied-valid, copies-shared, payload-alike, is_single, payload-mapping, payload-page_table, payload-valid}
 use Rattle.soundness.proofs.Inserted.{empty-open, inserted-sound}
 use Rattle.soundness.proofs.Lookups.{check-passes, destination-plain, passes-both, source-plain}
 use Rattle.soundness.proofs.Places.{IsPlain, plain-may_hold, plain-open, plain-still}
@@ -116,19 +115,6 @@ move-sound s t call to from sound is_call is =
     let two = passes-both (source_slot s.slots call.root from) _ t one.rest in
     let e : with_slots s (relocated s.slots two.value one.value) ≡ t = cc two.rest in
     subst IsSound e (moved-sound s one.value two.value sound (are-named s call to from one.value two.value sound is_call one.first two.first))
-
-no-badge : (c : Cap) (payload : ℕ) → carries_messages c ≡ false → badge_fits c payload ≡ true
-no-badge Empty payload is = refl
-no-badge (Untyped a b d) payload is = refl
-no-badge (Endpoint a r b) payload is = let e : true ≡ false = is in absurd cc
-no-badge (Notification a r b) payload is = let e : true ≡ false = is in absurd cc
-no-badge (CNode a r g) payload is = refl
-no-badge (Frame a r m) payload is = refl
-no-badge (PageTable a m) payload is = refl
-no-badge (Tcb a) payload is = refl
-no-badge (RootTable a) payload is = refl
-no-badge InterruptControl payload is = refl
-no-badge (InterruptHandler a) payload is = refl
 
 -- what is in a slot with another guard
 guarded-sound : (s : State) (slot payload : ℕ) (capability : Cap) → IsSound s → IsPlain s slot → IsFull s.slots slot → capability_at s.slots slot ≡ capability

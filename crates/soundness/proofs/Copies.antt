@@ -1,14 +1,16 @@
 -- What copies of capabilities, and those with another badge or guard, have of their source.
-use Rattle.std.proofs.Common.{ℕ, ◌≡◌, ◌≢◌, ◌∙◌, ◌^◌, Bool, true, false, bit_and, Option, None, refl, sym, ap, arith}
+use Rattle.std.proofs.Common.{is_some, Some, ℕ, ◌≡◌, ◌≢◌, ◌∙◌, ◌^◌, Bool, true, false, bit_and, Option, None, refl, sym, ap, arith}
 use Rattle.std.proofs.lemmas.Bool.{ltb-true}
 use Rattle.std.proofs.lemmas.Bool.Decides.{nat_tests}
 use Rattle.std.proofs.lemmas.Nat.{and_assoc, and_comm, and_le_l}
 use Rattle.model.specs.declared.capabilities.Cap.{Cap}
 use Rattle.model.specs.declared.capabilities.Cap.TheVariants.{Empty, Untyped, Endpoint, Notification, CNode, Frame, PageTable, Tcb, RootTable, InterruptControl, InterruptHandler}
 use Rattle.model.specs.declared.capabilities.TableMapping.{TableMapping}
-use Rattle.model.specs.Capabilities.CapabilityKinds.{badge_fits, copied, frame_mapping, guard_fits, is_guard_word, may_be_copied, table_mapping, with_payload}
+use Rattle.model.specs.Capabilities.CapabilityKinds.{badge_fits, carries_messages, cnode_of, copied, frame_mapping, guard_fits, is_guard_word, may_be_copied, root_of, table_mapping, with_payload}
 use Rattle.model.specs.Capabilities.CapabilityWords.{IsCapability, IsGuardWord}
 use Rattle.model.specs.Capabilities.Slots.{is_empty}
+use Rattle.model.specs.Kernel.InterruptCalls.{may_be_bound}
+use Rattle.model.specs.Kernel.Interrupts.{signal_of}
 use Rattle.model.specs.Kernel.Kinds.{object_named, piece_of, used_of}
 
 -- untyped memory and page tables have one capability
@@ -202,3 +204,85 @@ payload-page_table (Tcb a) payload offset mapping is = is
 payload-page_table (RootTable a) payload offset mapping is = is
 payload-page_table InterruptControl payload offset mapping is = is
 payload-page_table (InterruptHandler a) payload offset mapping is = is
+
+-- ---- kinds of capabilities
+
+pub alike-same : (c : Cap) → IsAlike c c
+alike-same c = record { object = refl; single = refl; empty = refl; piece = refl; used = refl; table = refl }
+
+-- what is known of capabilities that are no frame, may be copied, and carry no messages
+pub record IsQuiet (c : Cap) : Type 0 where
+  pub single : is_single c ≡ false
+  pub unmapped : frame_mapping c ≡ None
+  pub silent : carries_messages c ≡ false
+
+pub cnode-quiet : (c : Cap) (n : ℕ × ℕ) → cnode_of c ≡ Some n → IsQuiet c
+cnode-quiet Empty n is = let e : None ≡ Some n = is in absurd cc
+cnode-quiet (Untyped a b d) n is = let e : None ≡ Some n = is in absurd cc
+cnode-quiet (Endpoint a r b) n is = let e : None ≡ Some n = is in absurd cc
+cnode-quiet (Notification a r b) n is = let e : None ≡ Some n = is in absurd cc
+cnode-quiet (CNode a r g) n is = record { single = refl; unmapped = refl; silent = refl }
+cnode-quiet (Frame a r m) n is = let e : None ≡ Some n = is in absurd cc
+cnode-quiet (PageTable a m) n is = let e : None ≡ Some n = is in absurd cc
+cnode-quiet (Tcb a) n is = let e : None ≡ Some n = is in absurd cc
+cnode-quiet (RootTable a) n is = let e : None ≡ Some n = is in absurd cc
+cnode-quiet InterruptControl n is = let e : None ≡ Some n = is in absurd cc
+cnode-quiet (InterruptHandler a) n is = let e : None ≡ Some n = is in absurd cc
+
+pub root-quiet : (c : Cap) (n : ℕ) → root_of c ≡ Some n → IsQuiet c
+root-quiet Empty n is = let e : None ≡ Some n = is in absurd cc
+root-quiet (Untyped a b d) n is = let e : None ≡ Some n = is in absurd cc
+root-quiet (Endpoint a r b) n is = let e : None ≡ Some n = is in absurd cc
+root-quiet (Notification a r b) n is = let e : None ≡ Some n = is in absurd cc
+root-quiet (CNode a r g) n is = let e : None ≡ Some n = is in absurd cc
+root-quiet (Frame a r m) n is = let e : None ≡ Some n = is in absurd cc
+root-quiet (PageTable a m) n is = let e : None ≡ Some n = is in absurd cc
+root-quiet (Tcb a) n is = let e : None ≡ Some n = is in absurd cc
+root-quiet (RootTable a) n is = record { single = refl; unmapped = refl; silent = refl }
+root-quiet InterruptControl n is = let e : None ≡ Some n = is in absurd cc
+root-quiet (InterruptHandler a) n is = let e : None ≡ Some n = is in absurd cc
+
+pub payload-cnode : (c : Cap) (payload : ℕ) → cnode_of (with_payload c payload) ≡ cnode_of c
+payload-cnode Empty payload = refl
+payload-cnode (Untyped a b d) payload = refl
+payload-cnode (Endpoint a r b) payload = refl
+payload-cnode (Notification a r b) payload = refl
+payload-cnode (CNode a r g) payload = refl
+payload-cnode (Frame a r m) payload = refl
+payload-cnode (PageTable a m) payload = refl
+payload-cnode (Tcb a) payload = refl
+payload-cnode (RootTable a) payload = refl
+payload-cnode InterruptControl payload = refl
+payload-cnode (InterruptHandler a) payload = refl
+
+pub no-badge : (c : Cap) (payload : ℕ) → carries_messages c ≡ false → badge_fits c payload ≡ true
+no-badge Empty payload is = refl
+no-badge (Untyped a b d) payload is = refl
+no-badge (Endpoint a r b) payload is = let e : true ≡ false = is in absurd cc
+no-badge (Notification a r b) payload is = let e : true ≡ false = is in absurd cc
+no-badge (CNode a r g) payload is = refl
+no-badge (Frame a r m) payload is = refl
+no-badge (PageTable a m) payload is = refl
+no-badge (Tcb a) payload is = refl
+no-badge (RootTable a) payload is = refl
+no-badge InterruptControl payload is = refl
+no-badge (InterruptHandler a) payload is = refl
+
+-- what may be bound to a line
+pub record IsBindable (c : Cap) : Type 0 where
+  pub single : is_single c ≡ false
+  pub unmapped : frame_mapping c ≡ None
+  pub signal : is_some (signal_of c) ≡ true
+
+pub bindable : (c : Cap) → may_be_bound c ≡ true → IsBindable c
+bindable Empty is = let e : false ≡ true = is in absurd cc
+bindable (Untyped a b d) is = let e : false ≡ true = is in absurd cc
+bindable (Endpoint a r b) is = let e : false ≡ true = is in absurd cc
+bindable (Notification a r b) is = record { single = refl; unmapped = refl; signal = refl }
+bindable (CNode a r g) is = let e : false ≡ true = is in absurd cc
+bindable (Frame a r m) is = let e : false ≡ true = is in absurd cc
+bindable (PageTable a m) is = let e : false ≡ true = is in absurd cc
+bindable (Tcb a) is = let e : false ≡ true = is in absurd cc
+bindable (RootTable a) is = let e : false ≡ true = is in absurd cc
+bindable InterruptControl is = let e : false ≡ true = is in absurd cc
+bindable (InterruptHandler a) is = let e : false ≡ true = is in absurd cc

@@ -2,6 +2,7 @@
 use Rattle.std.proofs.Common.{ℕ, ◌≡◌, ◌≢◌, ◌∙◌, ◌==◌, ◌<◌, inl, inr, true, false, not, is_some, IsSome, if◌then◌else◌, Option, Some, None, refl, sym, ap, subst}
 use Rattle.std.proofs.lemmas.Bool.{eq-eqb, ne_eqb, not-true}
 use Rattle.std.proofs.lemmas.Bool.Decides.{eqb_tells}
+use Rattle.model.proofs.Depths.{depth-leaf}
 use Rattle.model.proofs.Derivations.{derivation-inserted}
 use Rattle.model.proofs.SlotChanges.{capability_of, parent_of, entry-other, entry-same, full-not-empty}
 use Rattle.model.specs.declared.capabilities.Cap.{Cap}
@@ -214,3 +215,14 @@ module _ (s : State) (slot parent : ℕ) (capability : Cap) (sound : IsSound s) 
   pub inserted-sound : IsSound (with_slots s (inserted s.slots slot capability (Some parent)))
   unfolding new
   inserted-sound = sound-carried s new origin sound inserted-derivation open-still may-still carries carries-mappings
+
+  -- the other slots keep their depths
+  pub inserted-depth : (x : ℕ) → x ≢ slot → depth_of (inserted s.slots slot capability (Some parent)) x ≡ depth_of s.slots x
+  unfolding new
+  inserted-depth x other =
+      depth-leaf 256 (parent_at old) (parent_at new) slot (λ y apart. ap parent_of (held-other y apart))
+      (λ y p is. full-not-empty s.slots p slot (sound.slots.derivation.parent_full y p is) inserts.empty) x other
+
+  pub inserted-other : (x : ℕ) → x ≢ slot → inserted s.slots slot capability (Some parent) x ≡ s.slots x
+  unfolding new
+  inserted-other x other = held-other x other

@@ -2,6 +2,7 @@ pub mod Bytes
 pub mod CNodeCalls
 pub mod Carried
 pub mod Copies
+pub mod CopyingCalls
 pub mod Delivered
 pub mod Events
 pub mod Grants

@@ -128,7 +128,7 @@ pub record MayHold (s : State) (slot : ℕ) (capability : Cap) : Type 0 where
   pub vspace : (thread : ℕ) (t : ThreadState) → s.objects thread ≡ Some (ThreadObject t) → slot ≡ vspace_slot thread → IsSome (root_of capability)
   pub line : (number : ℕ) → number < 64 → slot ≡ binding_slot s number → IsSome (signal_of capability)
 
-thread-slot : (s : State) (thread slot index : ℕ) (t : ThreadState) → s.objects thread ≡ Some (ThreadObject t) → index < 2 → slot ≡ thread / 16 + index → StandsIn s thread slot
+pub thread-slot : (s : State) (thread slot index : ℕ) (t : ThreadState) → s.objects thread ≡ Some (ThreadObject t) → index < 2 → slot ≡ thread / 16 + index → StandsIn s thread slot
 thread-slot s thread slot index t is less at = record { kind = NewThread; is = ap (option_map kind_of) is; low = omega (arith, at); high = omega (arith, at, less) }
 
 plain-no_thread : (s : State) → MemoryIsSound s → (slot thread : ℕ) → IsPlain s slot → (stands : StandsIn s thread slot) → StandsIn.kind stands ≡ NewThread → ⊥
@@ -164,3 +164,50 @@ full-may_hold s slots slot full = record {
 pub plain-still : (s : State) (new : Slots) (slot : ℕ) → IsPlain s slot → IsPlain (with_slots s new) slot
 plain-still s new slot (of_boot_cnode less) = of_boot_cnode less
 plain-still s new slot (of_cnode offset radix is low high) = of_cnode offset radix is low high
+
+pub may-still : (s : State) (new : Slots) (slot : ℕ) (capability : Cap) → MayHold s slot capability → MayHold (with_slots s new) slot capability
+may-still s new slot capability may = record { cspace = may.cspace; vspace = may.vspace; line = may.line }
+
+-- ---- slots of threads and lines
+
+pub own-slot_open : (s : State) → SlotsAreSound s → (thread slot : ℕ) → StandsIn s thread slot → IsOpen s.slots slot
+own-slot_open s slots thread slot stands = (slots.there slot).1 (of_object thread (stands-slot s thread slot stands))
+
+not-two : (s : State) → MemoryIsSound s → (a b slot : ℕ) → StandsIn s a slot → StandsIn s b slot → slot ≡ a / 16 → slot ≡ b / 16 + 1 → ⊥
+not-two s memory a b slot one other first second = let e = one-object s memory a b slot one other in omega (arith, ap (λ (n : ℕ). n / 16) e, first, second)
+
+not-line : (s : State) → MemoryIsSound s → (thread slot number : ℕ) → StandsIn s thread slot → number < 64 → slot ≡ binding_slot s number → ⊥
+not-line s memory thread slot number stands less is = let behind = behind-boot_area s memory thread slot stands in omega (arith, behind, less, is)
+
+-- the first slot of a thread may hold a CNode, and the second a root table
+pub cspace-may_hold : (s : State) → MemoryIsSound s → (thread : ℕ) (t : ThreadState) (capability : Cap) → s.objects thread ≡ Some (ThreadObject t) → IsSome (cnode_of capability)
+    → MayHold s (cspace_slot thread) capability
+cspace-may_hold s memory thread t capability is some =
+    let stands = thread-slot s thread (cspace_slot thread) 0 t is (omega arith) refl in
+    record {
+      cspace = λ _ _ _ _. some;
+      vspace = λ other u there at.
+          absurd (not-two s memory thread other (cspace_slot thread) stands (thread-slot s other (cspace_slot thread) 1 u there (omega arith) at) (omega arith) (omega (arith, at)));
+      line = λ number less at. absurd (not-line s memory thread (cspace_slot thread) number stands less at);
+    }
+
+pub vspace-may_hold : (s : State) → MemoryIsSound s → (thread : ℕ) (t : ThreadState) (capability : Cap) → s.objects thread ≡ Some (ThreadObject t) → IsSome (root_of capability)
+    → MayHold s (vspace_slot thread) capability
+vspace-may_hold s memory thread t capability is some =
+    let stands = thread-slot s thread (vspace_slot thread) 1 t is (omega arith) refl in
+    record {
+      cspace = λ other u there at.
+          absurd (not-two s memory other thread (vspace_slot thread) (thread-slot s other (vspace_slot thread) 0 u there (omega arith) at) stands (omega (arith, at)) (omega arith));
+      vspace = λ _ _ _ _. some;
+      line = λ number less at. absurd (not-line s memory thread (vspace_slot thread) number stands less at);
+    }
+
+pub line-may_hold : (s : State) → MemoryIsSound s → (number : ℕ) (capability : Cap) → number < 64 → IsSome (signal_of capability) → MayHold s (binding_slot s number) capability
+line-may_hold s memory number capability less some = record {
+  cspace = λ thread t is at. absurd (not-line s memory thread (binding_slot s number) number (thread-slot s thread (binding_slot s number) 0 t is (omega arith) at) less refl);
+  vspace = λ thread t is at. absurd (not-line s memory thread (binding_slot s number) number (thread-slot s thread (binding_slot s number) 1 t is (omega arith) at) less refl);
+  line = λ _ _ _. some;
+}
+
+pub line-open : (s : State) → SlotsAreSound s → (number : ℕ) → number < 64 → IsOpen s.slots (binding_slot s number)
+line-open s slots number less = (slots.there (binding_slot s number)).1 (of_boot_area (omega (arith, less)))

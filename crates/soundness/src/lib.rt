@@ -3,12 +3,16 @@
 #![tactic(auto)]
 
 mod cnode_laws;
+mod copying_laws;
 mod message_laws;
 mod thread_laws;
 
 pub use cnode_laws::{
     copy_keeps_soundness, mint_keeps_soundness, move_keeps_soundness, mutate_keeps_soundness,
     slots_keep_deliveries,
+};
+pub use copying_laws::{
+    bind_keeps_soundness, configure_keeps_soundness, get_handler_keeps_soundness,
 };
 pub use message_laws::{
     an_acknowledgement_keeps_soundness, an_interrupt_keeps_soundness, fault_keeps_soundness,
