@@ -132,7 +132,7 @@ guarded-sound s slot payload capability sound plain full is badge guard =
       may = plain-may_hold s sound.memory slot (with_payload capability payload) plain;
     })
     (alike.table ∙ ap table_mapping (sym is))
-    (payload-mapping capability payload ∙ ap frame_mapping (sym is))
+    (λ m e. ap frame_mapping is ∙ sym (payload-mapping capability payload) ∙ e)
     (λ offset m e. is ∙ payload-page_table capability payload offset m e)
 
 pub mutate-sound : (s t : State) (call : Call) (to from : SlotName) (payload : ℕ) → IsSound s → IsCall s call → mutate s call to from payload ≡ Ok t → IsSound t

@@ -134,17 +134,23 @@ held-at s test slot less is =
 pub full-near : (s : State) → HasShape s → SlotsAreSound s → MemoryIsSound s → (slot : ℕ) → IsFull s.slots slot → slot < 2 ^ s.memory_bits / 16
 full-near s shape slots memory slot full = slot-near s shape memory slot ((slots.there slot).0 (full-open s.slots slot full))
 
+-- a region that was taken still is
+pub taken-carried : (s : State) (new : Slots) (origin : ℕ → ℕ) (root region : ℕ) → ((slot : ℕ) → IsFull new slot → slot < 2 ^ s.memory_bits / 16)
+    → ((slot : ℕ) → IsFull s.slots slot → (x : ℕ) × (origin x ≡ slot)) → ((slot : ℕ) → table_mapping (capability_at new slot) ≡ table_mapping (capability_at s.slots (origin slot)))
+    → is_region_taken s root region ≡ true → is_region_taken (with_slots s new) root region ≡ true
+taken-carried s new origin root region near kept table is =
+    let was = held-by s (maps_region root region) is in
+    let mapping = some-passes (table_mapping (capability_at s.slots was.0)) (is_region root region) was.1 in
+    let there = kept was.0 (full-unless (capability_at s.slots was.0) table_mapping mapping.0 refl mapping.1) in
+    let e : table_mapping (capability_at new there.0) ≡ Some mapping.0 = table there.0 ∙ ap (λ (x : ℕ). table_mapping (capability_at s.slots x)) there.1 ∙ mapping.1 in
+    held-at (with_slots s new) (maps_region root region) there.0
+    (near there.0 (full-unless (capability_at new there.0) table_mapping mapping.0 refl e))
+    (ap (λ (o : Option TableMapping). option_map_or (is_region root region) o false) e ∙ mapping.2)
+
 pub mappings-carried : (s : State) (new : Slots) (origin : ℕ → ℕ) → MappingsAreSound s → ((slot : ℕ) → IsFull new slot → slot < 2 ^ s.memory_bits / 16)
     → Carries s.slots new origin → CarriesMappings s.slots new origin → MappingsAreSound (with_slots s new)
 mappings-carried s new origin mappings near carries maps =
-    let taken : (root region : ℕ) → is_region_taken s root region ≡ true → is_region_taken (with_slots s new) root region ≡ true = λ root region is.
-    let was = held-by s (maps_region root region) is in
-    let mapping = some-passes (table_mapping (capability_at s.slots was.0)) (is_region root region) was.1 in
-    let there = carries.kept was.0 (full-unless (capability_at s.slots was.0) table_mapping mapping.0 refl mapping.1) in
-    let e : table_mapping (capability_at new there.0) ≡ Some mapping.0 = maps.table there.0 ∙ ap (λ (x : ℕ). table_mapping (capability_at s.slots x)) there.1 ∙ mapping.1 in
-    held-at (with_slots s new) (maps_region root region) there.0
-    (near there.0 (full-unless (capability_at new there.0) table_mapping mapping.0 refl e))
-    (ap (λ (o : Option TableMapping). option_map_or (is_region root region) o false) e ∙ mapping.2) in
+    let taken = λ (root region : ℕ). taken-carried s new origin root region near carries.kept maps.table in
     record {
       frame_root = λ slot mapping is. mappings.frame_root (origin slot) mapping (maps.frame slot mapping is);
       frame_table = λ slot mapping is. taken mapping.root (mapping.page / region_pages) (mappings.frame_table (origin slot) mapping (maps.frame slot mapping is));

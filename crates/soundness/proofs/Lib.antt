@@ -8,6 +8,7 @@ pub mod Events
 pub mod Grants
 pub mod Inserted
 pub mod Lookups
+pub mod MappingCalls
 pub mod Messages
 pub mod Moving
 pub mod Pieces
@@ -21,3 +22,4 @@ pub mod Rest
 pub mod Running
 pub mod Steps
 pub mod ThreadCalls
+pub mod UnmappedTables
