@@ -23,3 +23,7 @@ pub mod Running
 pub mod Steps
 pub mod ThreadCalls
 pub mod UnmappedTables
+pub mod NewPlaces
+pub mod NewKinds
+pub mod NewObjects
+pub mod RetypeCalls

@@ -64,7 +64,7 @@ resolve-index radix guard address left place is =
     omega (arith, index, positive)
 
 module _ (s : State) (memory : MemoryIsSound s) where
-  root-plain : (offset radix guard index : ℕ) → IsRoot s (CNode offset radix guard) → index < 2 ^ radix → IsPlain s (offset / 16 + index)
+  pub root-plain : (offset radix guard index : ℕ) → IsRoot s (CNode offset radix guard) → index < 2 ^ radix → IsPlain s (offset / 16 + index)
   root-plain offset radix guard index (of_slot slot is) less =
       of_cnode offset radix (memory.named slot (NewCNode radix) offset (ap object_named is)) (omega arith) (omega (arith, less))
   root-plain offset radix guard index (of_loader is) less =

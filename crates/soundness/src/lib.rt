@@ -6,6 +6,7 @@ mod cnode_laws;
 mod copying_laws;
 mod mapping_laws;
 mod message_laws;
+mod retype_laws;
 mod thread_laws;
 
 pub use cnode_laws::{
@@ -22,6 +23,7 @@ pub use message_laws::{
     signal_keeps_soundness, try_to_receive_keeps_soundness, try_to_send_keeps_soundness,
     wait_keeps_soundness,
 };
+pub use retype_laws::retype_keeps_soundness;
 pub use thread_laws::{
     a_plain_step_keeps_soundness, a_tick_keeps_soundness, resume_keeps_soundness,
     set_priority_keeps_soundness, set_register_keeps_soundness, suspend_keeps_soundness,
