@@ -1,4 +1,5 @@
 -- Calls that put copies into slots: Configure, Get, and SetNotification where nothing was bound.
+use Rattle.soundness.proofs.Carried.{Keeps, kept-by}
 use Rattle.std.proofs.Common.{ℕ, ◌≡◌, ◌≢◌, ◌∙◌, ◌==◌, ◌&&◌, ◌^◌, ◌<◌, Bool, true, false, not, is_some, nat_le, if◌then◌else◌, Option, Some, None, Result, Ok, refl, sym, ap, subst, arith}
 use Rattle.std.proofs.lemmas.Bool.{and_parts, leb-true, not-true}
 use Rattle.model.specs.declared.capabilities.Cap.{Cap}
@@ -36,7 +37,7 @@ control-held s call (held is full) control = is ∙ control
 control-held s call (boot is) control = let e : InterruptControl ≡ boot_root s.boot_radix = sym control ∙ is in absurd cc
 
 pub get-sound : (s t : State) (call : Call) (number : ℕ) (name : SlotName) → IsSound s → IsCall s call → call.capability ≡ InterruptControl
-    → get_handler s call number name ≡ Ok t → IsSound t
+    → get_handler s call number name ≡ Ok t → Keeps s t
 get-sound s t call number name sound is_call control is =
     let one = passes-both (check (nat_le number 63) RangeError) _ t is in
     let two = passes-both (check (not (holds_some s (is_handler_of number))) RevokeFirst) _ t one.rest in
@@ -47,7 +48,7 @@ get-sound s t call number name sound is_call control is =
     let source = control-held s call is_call.invoked control in
     let alike : IsAlike InterruptControl (InterruptHandler number) = record { object = refl; single = refl; empty = refl; piece = refl; used = refl; table = refl } in
     let e : with_slots s (inserted s.slots three.value (InterruptHandler number) (Some call.slot)) ≡ t = cc four.rest in
-    subst IsSound e (inserted-sound s three.value call.slot (InterruptHandler number) sound (record {
+    kept-by s _ t e (inserted-sound s three.value call.slot (InterruptHandler number) sound (record {
       empty = empty-open s.slots three.value sound.slots.derivation (plain-open s sound.slots three.value there.0) there.1;
       full = ap (λ (c : Cap). not (is_empty c)) source;
       room = room-below s call.slot four.value four.first;
@@ -78,7 +79,7 @@ bound-sound s number source sound less full free room may =
     })
 
 pub bind-sound : (s t : State) (call : Call) (number : ℕ) (name : SlotName) → IsSound s → IsCall s call → number < 64 → is_full s.slots (binding_slot s number) ≡ false
-    → bind s call number name ≡ Ok t → IsSound t
+    → bind s call number name ≡ Ok t → Keeps s t
 bind-sound s t call number name sound is_call less free is =
     let one = passes-both (source_slot s.slots call.root name) _ t is in
     let source = one.value in
@@ -89,9 +90,9 @@ bind-sound s t call number name sound is_call less free is =
     let kept : delete s (binding_slot s number) ≡ Ok s = ap (λ (b : Bool). if b then remove s (λ other. other == binding_slot s number) else Ok s) free in
     let same : s ≡ four.value = (let e : ◌≡◌ {A = Result State KError} (Ok s) (Ok four.value) = sym kept ∙ four.first in cc) in
     let e : with_slots four.value (inserted four.value.slots (binding_slot s number) (capability_at s.slots source) (Some source)) ≡ t = cc four.rest in
-    subst IsSound e (subst (λ (after : State). IsSound (with_slots after (inserted after.slots (binding_slot s number) (capability_at s.slots source) (Some source)))) same
-    (bound-sound s number source sound less named.1 free (room-below s source three.value three.first)
-    (check-passes (may_be_bound (capability_at s.slots source)) InvalidCapability two.value two.first)))
+    subst (Keeps s) e (subst (λ (after : State). Keeps s (with_slots after (inserted after.slots (binding_slot s number) (capability_at s.slots source) (Some source)))) same
+    (kept-by s _ _ refl (bound-sound s number source sound less named.1 free (room-below s source three.value three.first)
+    (check-passes (may_be_bound (capability_at s.slots source)) InvalidCapability two.value two.first))))
 
 -- ---- Configure
 

@@ -27,7 +27,7 @@ pub record MessageIsSound (message : Message) : Type 0 where
   pub words : All (λ word. word < 2 ^ 32) message.words
   pub count : length message.words ≤ 8
 
-read-less : (words : List ℕ) (index : ℕ) → All (λ word. word < 2 ^ 32) words → get_or words index 0 < 2 ^ 32
+pub read-less : (words : List ℕ) (index : ℕ) → All (λ word. word < 2 ^ 32) words → get_or words index 0 < 2 ^ 32
 read-less words index less = elim (cases_lt index (length words)) [
   | inl inside ↦ All-get_or (λ (n : ℕ). n < 2 ^ 32) words index 0 inside less
   | inr outside ↦ let e = get_or_past words index 0 outside in omega (arith, e)

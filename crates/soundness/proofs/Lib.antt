@@ -27,3 +27,4 @@ pub mod NewPlaces
 pub mod NewKinds
 pub mod NewObjects
 pub mod RetypeCalls
+pub mod Invoked

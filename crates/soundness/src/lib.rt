@@ -4,6 +4,7 @@
 
 mod cnode_laws;
 mod copying_laws;
+mod invocation_laws;
 mod mapping_laws;
 mod message_laws;
 mod retype_laws;
@@ -16,6 +17,7 @@ pub use cnode_laws::{
 pub use copying_laws::{
     bind_keeps_soundness, configure_keeps_soundness, get_handler_keeps_soundness,
 };
+pub use invocation_laws::invocations_keep_soundness;
 pub use mapping_laws::{frame_calls_keep_soundness, table_calls_keep_soundness};
 pub use message_laws::{
     an_acknowledgement_keeps_soundness, an_interrupt_keeps_soundness, fault_keeps_soundness,

@@ -3,4 +3,4 @@ use Rattle.soundness.proofs.CopyingCalls.{bind-sound}
 use Rattle.soundness.proofs.copying_laws.bind_keeps_soundness.Goals as goal
 
 pub returns : goal.returns
-returns c = bind-sound
+returns c s t call number name sound is_call less free is = (bind-sound s t call number name sound is_call less free is).sound
