@@ -149,9 +149,9 @@ taken-carried s new origin root region near kept table is =
     (ap (λ (o : Option TableMapping). option_map_or (is_region root region) o false) e ∙ mapping.2)
 
 pub mappings-carried : (s : State) (new : Slots) (origin : ℕ → ℕ) → MappingsAreSound s → ((slot : ℕ) → IsFull new slot → slot < 2 ^ s.memory_bits / 16)
-    → Carries s.slots new origin → CarriesMappings s.slots new origin → MappingsAreSound (with_slots s new)
-mappings-carried s new origin mappings near carries maps =
-    let taken = λ (root region : ℕ). taken-carried s new origin root region near carries.kept maps.table in
+    → ((slot : ℕ) → IsFull s.slots slot → (x : ℕ) × (origin x ≡ slot)) → CarriesMappings s.slots new origin → MappingsAreSound (with_slots s new)
+mappings-carried s new origin mappings near kept maps =
+    let taken = λ (root region : ℕ). taken-carried s new origin root region near kept maps.table in
     record {
       frame_root = λ slot mapping is. mappings.frame_root (origin slot) mapping (maps.frame slot mapping is);
       frame_table = λ slot mapping is. taken mapping.root (mapping.page / region_pages) (mappings.frame_table (origin slot) mapping (maps.frame slot mapping is));
@@ -208,7 +208,7 @@ sound-carried s new origin sound tree there_too may carries maps =
       shape = shape;
       slots = slots;
       memory = memory;
-      mappings = mappings-carried s new origin sound.mappings (λ slot full. full-near (with_slots s new) shape slots memory slot full) carries maps;
+      mappings = mappings-carried s new origin sound.mappings (λ slot full. full-near (with_slots s new) shape slots memory slot full) carries.kept maps;
       threads = threads-carried s new sound.threads;
     }
 

@@ -25,7 +25,7 @@ use Rattle.soundness.proofs.Places.{MayHold, full-may_hold}
 abbrev entry_of : Cap → Option ℕ → Option Entry
 entry_of capability parent = Some (record { capability = capability; parent = parent })
 
-empty-capability : (c : Cap) → is_empty c ≡ true → c ≡ Empty
+pub empty-capability : (c : Cap) → is_empty c ≡ true → c ≡ Empty
 empty-capability Empty is = refl
 empty-capability (Untyped a b d) is = let e : false ≡ true = is in absurd cc
 empty-capability (Endpoint a b d) is = let e : false ≡ true = is in absurd cc

@@ -28,3 +28,4 @@ pub mod NewKinds
 pub mod NewObjects
 pub mod RetypeCalls
 pub mod Invoked
+pub mod Setups

@@ -8,6 +8,7 @@ mod invocation_laws;
 mod mapping_laws;
 mod message_laws;
 mod retype_laws;
+mod setup_laws;
 mod thread_laws;
 
 pub use cnode_laws::{
@@ -26,6 +27,9 @@ pub use message_laws::{
     wait_keeps_soundness,
 };
 pub use retype_laws::retype_keeps_soundness;
+pub use setup_laws::{
+    filling_keeps_soundness, interrupt_control_keeps_soundness, untyped_memory_keeps_soundness,
+};
 pub use thread_laws::{
     a_plain_step_keeps_soundness, a_tick_keeps_soundness, resume_keeps_soundness,
     set_priority_keeps_soundness, set_register_keeps_soundness, suspend_keeps_soundness,
