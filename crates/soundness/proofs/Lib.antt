@@ -29,3 +29,4 @@ pub mod NewObjects
 pub mod RetypeCalls
 pub mod Invoked
 pub mod Setups
+pub mod SystemCalls

@@ -43,7 +43,7 @@ wanted-some {A} None error value is = let e : ◌≡◌ {A = Result A KError} (E
 abbrev Found : Type 0
 Found = Result (ℕ × ℕ) LookupFailure
 
-passed : (b : Bool) (failure : LookupFailure) (r : Found) (place : ℕ × ℕ) → (if b then Err failure else r) ≡ Ok place → r ≡ Ok place
+pub passed : (b : Bool) (failure : LookupFailure) (r : Found) (place : ℕ × ℕ) → (if b then Err failure else r) ≡ Ok place → r ≡ Ok place
 passed true failure r place h = absurd (let clash : ◌≡◌ {A = Found} (Err failure) (Ok place) = h in cc)
 passed false failure r place h = h
 

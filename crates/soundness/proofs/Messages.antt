@@ -40,16 +40,16 @@ pub object-kinds : (s : State) (q : ℕ) (o : Object) → option_map kind_of (So
 object-kinds s q o same = put-either s.objects q (Some o) (λ offset p. option_map kind_of p ≡ kind_at s offset) same (λ _ _. refl)
 
 -- what is not the thread stays what it is
-registers-other : (s : State) (x y : ℕ) (r : RegisterFile) → y ≢ x → (with_registers s x r).objects y ≡ s.objects y
+pub registers-other : (s : State) (x y : ℕ) (r : RegisterFile) → y ≢ x → (with_registers s x r).objects y ≡ s.objects y
 registers-other s x y r other = put-other s.objects x (Some (ThreadObject (record (thread_at s x) { registers = r }))) y other
 
-deliver-other : (s : State) (x badge : ℕ) (message : Message) (y : ℕ) → y ≢ x → (deliver s x badge message).objects y ≡ s.objects y
+pub deliver-other : (s : State) (x badge : ℕ) (message : Message) (y : ℕ) → y ≢ x → (deliver s x badge message).objects y ≡ s.objects y
 deliver-other s x badge message y other =
     let r = delivered (thread_at s x).registers badge message in
     let one = with_registers s x r in
     registers-other one x y (advanced (thread_at one x).registers) other ∙ registers-other s x y r other
 
-wake-other : (s : State) (x y : ℕ) → y ≢ x → (wake s x).objects y ≡ s.objects y
+pub wake-other : (s : State) (x y : ℕ) → y ≢ x → (wake s x).objects y ≡ s.objects y
 wake-other s x y other = put-other s.objects x (Some (ThreadObject (record (thread_at s x) { status = Runnable; slice = full_slice }))) y other
 
 pub deliver_word-whole : (s : State) (x word : ℕ) → IsWhole s → kind_at s x ≡ Some NewThread → word < 2 ^ 32 → IsWhole (deliver_word s x word)
@@ -60,7 +60,7 @@ deliver_word-whole s x word whole is less =
     (registers-whole s whole x is r (written-sound (thread_at s x).registers a0 word (registers-of (thread_at s x) (fine-of s whole x is)) less)) x
     (thread-kinds s x t is x ∙ is)
 
-running-object : (s t : State) (x : ℕ) → t.objects x ≡ s.objects x → IsRunning s x → IsRunning t x
+pub running-object : (s t : State) (x : ℕ) → t.objects x ≡ s.objects x → IsRunning s x → IsRunning t x
 running-object s t x same runs = record {
   kind = ap (option_map kind_of) same ∙ runs.kind;
   runs = ap (λ (o : Option Object). is_runnable (own_of o).status) same ∙ runs.runs;
@@ -151,7 +151,7 @@ module _ (s : State) (x : ℕ) (whole : IsWhole s) (is : kind_at s x ≡ Some Ne
   pub dropped-kinds : (offset : ℕ) → kind_at (with_caller s x None) offset ≡ kind_at s offset
   dropped-kinds = thread-kinds s x (record (thread_at s x) { caller = None }) is
 
-  dropped-runs : is_runnable (thread_at s x).status ≡ true → IsRunning (with_caller s x None) x
+  pub dropped-runs : is_runnable (thread_at s x).status ≡ true → IsRunning (with_caller s x None) x
   dropped-runs runs = record {
     kind = dropped-kinds x ∙ is;
     runs = subst (λ (o : Option Object). is_runnable (own_of o).status ≡ true) (sym (put-here s.objects x (Some (ThreadObject (record (thread_at s x) { caller = None }))))) runs;
