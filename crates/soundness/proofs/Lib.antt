@@ -30,3 +30,4 @@ pub mod RetypeCalls
 pub mod Invoked
 pub mod Setups
 pub mod SystemCalls
+pub mod Stepped

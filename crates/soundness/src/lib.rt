@@ -31,7 +31,7 @@ pub use retype_laws::retype_keeps_soundness;
 pub use setup_laws::{
     filling_keeps_soundness, interrupt_control_keeps_soundness, untyped_memory_keeps_soundness,
 };
-pub use step_laws::system_calls_keep_soundness;
+pub use step_laws::{events_keep_soundness, system_calls_keep_soundness};
 pub use thread_laws::{
     a_plain_step_keeps_soundness, a_tick_keeps_soundness, resume_keeps_soundness,
     set_priority_keeps_soundness, set_register_keeps_soundness, suspend_keeps_soundness,
