@@ -36,7 +36,8 @@ module _ (s : State) (bytes : ℕ → Option ℕ) where
   had-slot slot (of_object offset is) = of_object offset is
 
   -- at the same places
-  pub bytes-whole : IsWhole s → ((place : ℕ) → is_some (bytes place) ≡ is_some (s.bytes place)) → ((place byte : ℕ) → bytes place ≡ Some byte → byte < 2 ^ 8) → IsWhole filled
+  pub bytes-whole : IsWhole s → ((place : ℕ) → is_some (bytes place) ≡ is_some (s.bytes place)) → ((place byte : ℕ) → bytes place ≡ Some byte → byte < 2 ^ 8)
+      → IsWhole filled
   bytes-whole whole same small =
       let sound = whole.sound in
       record {

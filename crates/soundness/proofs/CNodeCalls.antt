@@ -79,7 +79,8 @@ copy-sound s t call to from word sound is_call is =
     (copied-unmapped capability word)
     )
 
-pub mint-sound : (s t : State) (call : Call) (to from : SlotName) (word payload : ℕ) → IsSound s → IsCall s call → mint s call to from word payload ≡ Ok t → Keeps s t
+pub mint-sound : (s t : State) (call : Call) (to from : SlotName) (word payload : ℕ) → IsSound s → IsCall s call
+    → mint s call to from word payload ≡ Ok t → Keeps s t
 mint-sound s t call to from word payload sound is_call is =
     let one = passes-both (destination_slot s.slots call.capability to) _ t is in
     let two = passes-both (source_slot s.slots call.root from) _ t one.rest in
@@ -105,7 +106,8 @@ mint-sound s t call to from word payload sound is_call is =
     (payload-mapping (copied capability word) payload ∙ copied-unmapped capability word)
     )
 
-moved-sound : (s : State) (destination source : ℕ) → IsSound s → AreNamed s destination source → IsSound (with_slots s (relocated s.slots source destination))
+moved-sound : (s : State) (destination source : ℕ) → IsSound s → AreNamed s destination source
+    → IsSound (with_slots s (relocated s.slots source destination))
 moved-sound s destination source sound named =
     relocated-sound s source destination sound named.full
     (empty-open s.slots destination sound.slots.derivation (plain-open s sound.slots destination named.there) named.empty) named.from named.there
@@ -118,7 +120,8 @@ move-sound s t call to from sound is_call is =
     kept-by s _ t e (moved-sound s one.value two.value sound (are-named s call to from one.value two.value sound is_call one.first two.first))
 
 -- what is in a slot with another guard
-guarded-sound : (s : State) (slot payload : ℕ) (capability : Cap) → IsSound s → IsPlain s slot → IsFull s.slots slot → capability_at s.slots slot ≡ capability
+guarded-sound : (s : State) (slot payload : ℕ) (capability : Cap) → IsSound s → IsPlain s slot → IsFull s.slots slot
+    → capability_at s.slots slot ≡ capability
     → badge_fits capability payload ≡ true → guard_fits capability payload ≡ true → IsSound (with_slots s (recapped s.slots slot (with_payload capability payload)))
 guarded-sound s slot payload capability sound plain full is badge guard =
     let alike = payload-alike capability payload in
@@ -136,7 +139,8 @@ guarded-sound s slot payload capability sound plain full is badge guard =
     (λ m e. ap frame_mapping is ∙ sym (payload-mapping capability payload) ∙ e)
     (λ offset m e. is ∙ payload-page_table capability payload offset m e)
 
-pub mutate-sound : (s t : State) (call : Call) (to from : SlotName) (payload : ℕ) → IsSound s → IsCall s call → mutate s call to from payload ≡ Ok t → Keeps s t
+pub mutate-sound : (s t : State) (call : Call) (to from : SlotName) (payload : ℕ) → IsSound s → IsCall s call
+    → mutate s call to from payload ≡ Ok t → Keeps s t
 mutate-sound s t call to from payload sound is_call is =
     let one = passes-both (destination_slot s.slots call.capability to) _ t is in
     let two = passes-both (source_slot s.slots call.root from) _ t one.rest in

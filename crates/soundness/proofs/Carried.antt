@@ -53,11 +53,13 @@ pub record Carries (old new : Slots) (origin : ℕ → ℕ) : Type 0 where
   pub object : (slot : ℕ) → object_named (capability_at new slot) ≡ object_named (capability_at old (origin slot))
   pub piece : (slot : ℕ) → piece_of (capability_at new slot) ≡ piece_of (capability_at old (origin slot))
   pub used : (slot : ℕ) → used_of (capability_at new slot) ≡ used_of (capability_at old (origin slot))
-  pub descends : (root slot : ℕ) (part : Piece) → used_of (capability_at new root) ≡ Some part → Descendant old (origin root) (origin slot) → Descendant new root slot
+  pub descends : (root slot : ℕ) (part : Piece) → used_of (capability_at new root) ≡ Some part → Descendant old (origin root) (origin slot)
+      → Descendant new root slot
   pub kept : (slot : ℕ) → IsFull old slot → (x : ℕ) × (origin x ≡ slot)
   pub twins : (a b : ℕ) → a ≢ b → origin a ≡ origin b → used_of (capability_at new a) ≡ None
 
-lies-carried : (old new : Slots) (origin : ℕ → ℕ) (a b : ℕ) (p q : Piece) → Carries old new origin → Lies old (origin a) (origin b) p q → Lies new a b p q
+lies-carried : (old new : Slots) (origin : ℕ → ℕ) (a b : ℕ) (p q : Piece) → Carries old new origin → Lies old (origin a) (origin b) p q
+    → Lies new a b p q
 lies-carried old new origin a b p q carries (apart is) = apart is
 lies-carried old new origin a b p q carries (same kind offset one other) = same kind offset (carries.object a ∙ one) (carries.object b ∙ other)
 lies-carried old new origin a b p q carries (within part is inside below) =
@@ -65,7 +67,8 @@ lies-carried old new origin a b p q carries (within part is inside below) =
 lies-carried old new origin a b p q carries (around part is inside below) =
     around part (carries.used a ∙ is) inside (carries.descends a b part (carries.used a ∙ is) below)
 
-pub full-unless : {A : Type 0} (c : Cap) (of : Cap → Option A) (x : A) → of Empty ≡ None → of c ≡ Some x → not (Rattle.model.specs.Capabilities.Slots.is_empty c) ≡ true
+pub full-unless : {A : Type 0} (c : Cap) (of : Cap → Option A) (x : A) → of Empty ≡ None → of c ≡ Some x
+    → not (Rattle.model.specs.Capabilities.Slots.is_empty c) ≡ true
 full-unless c of x none is = full-capability c (λ e. let clash : None ≡ Some x = sym none ∙ ap of (sym e) ∙ is in cc)
 
 pub memory-carried : (s : State) (new : Slots) (origin : ℕ → ℕ) → MemoryIsSound s → Carries s.slots new origin → MemoryIsSound (with_slots s new)
@@ -92,10 +95,13 @@ memory-carried s new origin memory carries = record {
 
 -- Mappings stay with their capabilities, or go; a copy has none.
 pub record CarriesMappings (old new : Slots) (origin : ℕ → ℕ) : Type 0 where
-  pub frame : (slot : ℕ) (mapping : FrameMapping) → frame_mapping (capability_at new slot) ≡ Some mapping → frame_mapping (capability_at old (origin slot)) ≡ Some mapping
+  pub frame : (slot : ℕ) (mapping : FrameMapping) → frame_mapping (capability_at new slot) ≡ Some mapping
+      → frame_mapping (capability_at old (origin slot)) ≡ Some mapping
   pub table : (slot : ℕ) → table_mapping (capability_at new slot) ≡ table_mapping (capability_at old (origin slot))
-  pub page_table : (slot offset : ℕ) (mapping : Option TableMapping) → capability_at new slot ≡ PageTable offset mapping → capability_at old (origin slot) ≡ PageTable offset mapping
-  pub one_frame : (a b : ℕ) (m n : FrameMapping) → origin a ≡ origin b → frame_mapping (capability_at new a) ≡ Some m → frame_mapping (capability_at new b) ≡ Some n → a ≡ b
+  pub page_table : (slot offset : ℕ) (mapping : Option TableMapping) → capability_at new slot ≡ PageTable offset mapping
+      → capability_at old (origin slot) ≡ PageTable offset mapping
+  pub one_frame : (a b : ℕ) (m n : FrameMapping) → origin a ≡ origin b → frame_mapping (capability_at new a) ≡ Some m
+      → frame_mapping (capability_at new b) ≡ Some n → a ≡ b
   pub one_table : (a b offset : ℕ) (mapping : Option TableMapping) → origin a ≡ origin b → capability_at new a ≡ PageTable offset mapping → a ≡ b
 
 pub some-passes : {A : Type 0} (o : Option A) (test : A → Bool) → option_map_or test o false ≡ true → (x : A) × (o ≡ Some x) × (test x ≡ true)
@@ -123,7 +129,8 @@ any-one test (n ∷ l) is = elim (or_cases (test n) (list_any test l) is) [ inl 
 pub held-by : (s : State) (test : Cap → Bool) → holds_some s test ≡ true → (slot : ℕ) × (test (capability_at s.slots slot) ≡ true)
 held-by s test is = any-one (λ slot. test (capability_at s.slots slot)) (slots_of s) is
 
-pub held-at : (s : State) (test : Cap → Bool) (slot : ℕ) → slot < 2 ^ s.memory_bits / 16 → test (capability_at s.slots slot) ≡ true → holds_some s test ≡ true
+pub held-at : (s : State) (test : Cap → Bool) (slot : ℕ) → slot < 2 ^ s.memory_bits / 16 → test (capability_at s.slots slot) ≡ true
+    → holds_some s test ≡ true
 unfolding slot_numbers
 held-at s test slot less is =
     let at = get_or-range_with_len 0 (2 ^ s.memory_bits / 16) slot 0 less in

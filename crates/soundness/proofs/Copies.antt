@@ -62,7 +62,8 @@ alike-both c d e one other = record {
   table = other.table ∙ one.table;
 }
 
-alike : {c d : Cap} → object_named d ≡ object_named c → is_single d ≡ is_single c → is_empty d ≡ is_empty c → piece_of d ≡ piece_of c → used_of d ≡ used_of c → table_mapping d ≡ table_mapping c → IsAlike c d
+alike : {c d : Cap} → object_named d ≡ object_named c → is_single d ≡ is_single c → is_empty d ≡ is_empty c → piece_of d ≡ piece_of c
+    → used_of d ≡ used_of c → table_mapping d ≡ table_mapping c → IsAlike c d
 alike a b c d e f = record { object = a; single = b; empty = c; piece = d; used = e; table = f }
 
 pub copied-alike : (c : Cap) (word : ℕ) → IsAlike c (copied c word)
@@ -153,7 +154,8 @@ copied-valid (InterruptHandler a) word valid = valid
 pub guard-is : (radix word : ℕ) → is_guard_word radix word ≡ true → IsGuardWord radix word
 guard-is radix word h = grind (arith, nat_tests)
 
-pub payload-valid : (c : Cap) (payload : ℕ) → IsCapability c → badge_fits c payload ≡ true → guard_fits c payload ≡ true → IsCapability (with_payload c payload)
+pub payload-valid : (c : Cap) (payload : ℕ) → IsCapability c → badge_fits c payload ≡ true → guard_fits c payload ≡ true
+    → IsCapability (with_payload c payload)
 payload-valid Empty payload valid badge guard = valid
 payload-valid (Untyped a b d) payload valid badge guard = valid
 payload-valid (Endpoint a r b) payload valid badge guard = (valid.0, valid.1, ltb-true payload (2 ^ 28) badge)
@@ -192,7 +194,8 @@ copied-guard_fits (RootTable a) word payload = refl
 copied-guard_fits InterruptControl word payload = refl
 copied-guard_fits (InterruptHandler a) word payload = refl
 
-pub payload-page_table : (c : Cap) (payload offset : ℕ) (mapping : Option TableMapping) → with_payload c payload ≡ PageTable offset mapping → c ≡ PageTable offset mapping
+pub payload-page_table : (c : Cap) (payload offset : ℕ) (mapping : Option TableMapping) → with_payload c payload ≡ PageTable offset mapping
+    → c ≡ PageTable offset mapping
 payload-page_table Empty payload offset mapping is = is
 payload-page_table (Untyped a b d) payload offset mapping is = is
 payload-page_table (Endpoint a r b) payload offset mapping is = let e : Endpoint a r payload ≡ PageTable offset mapping = is in absurd cc

@@ -78,7 +78,8 @@ bound-sound s number source sound less full free room may =
       may = line-may_hold s sound.memory number c less facts.signal;
     })
 
-pub bind-sound : (s t : State) (call : Call) (number : ℕ) (name : SlotName) → IsSound s → IsCall s call → number < 64 → is_full s.slots (binding_slot s number) ≡ false
+pub bind-sound : (s t : State) (call : Call) (number : ℕ) (name : SlotName) → IsSound s → IsCall s call → number < 64
+    → is_full s.slots (binding_slot s number) ≡ false
     → bind s call number name ≡ Ok t → Keeps s t
 bind-sound s t call number name sound is_call less free is =
     let one = passes-both (source_slot s.slots call.root name) _ t is in
@@ -205,7 +206,8 @@ address-fine t address fine less = record {
   slice = fine.slice;
 }
 
-pub configure-whole : (s t : State) (root : Cap) (thread : ℕ) (guard : Option ℕ) (address : ℕ) (cspace_name vspace_name : SlotName) → IsWhole s → IsRoot s root
+pub configure-whole : (s t : State) (root : Cap) (thread : ℕ) (guard : Option ℕ) (address : ℕ) (cspace_name vspace_name : SlotName)
+    → IsWhole s → IsRoot s root
     → kind_at s thread ≡ Some NewThread → address < 2 ^ 32 → configure s root thread guard address cspace_name vspace_name ≡ Ok t → IsWhole t
 configure-whole s t root thread guard address cspace_name vspace_name whole is_root is_thread less is =
     let sound = whole.sound in

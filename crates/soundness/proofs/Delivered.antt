@@ -68,12 +68,14 @@ fault-less UnknownCall = omega arith
 fault-less Instruction = omega arith
 fault-less Memory = omega arith
 
-pub sent-message : (s : State) (sender : Sender) (sent : Sent) → ThreadIsSound (thread_at s sender.thread) → SentIsSound sent → MessageIsSound (message_sent s sender sent)
+pub sent-message : (s : State) (sender : Sender) (sent : Sent) → ThreadIsSound (thread_at s sender.thread) → SentIsSound sent
+    → MessageIsSound (message_sent s sender sent)
 sent-message s sender BySend fine sound = own-message (thread_at s sender.thread) fine
 sent-message s sender ByCall fine sound = own-message (thread_at s sender.thread) fine
 sent-message s sender (ByFault fault) fine sound = record { label = fault-less fault.kind; words = sound.0; count = sound.1 }
 
-pub delivered-sound : (r : RegisterFile) (badge : ℕ) (message : Message) → RegistersAreSound r → badge < 2 ^ 32 → MessageIsSound message → RegistersAreSound (delivered r badge message)
+pub delivered-sound : (r : RegisterFile) (badge : ℕ) (message : Message) → RegistersAreSound r → badge < 2 ^ 32 → MessageIsSound message
+    → RegistersAreSound (delivered r badge message)
 delivered-sound r badge message sound less fine =
     let label = fine.label in
     let count = fine.count in
@@ -84,7 +86,8 @@ delivered-sound r badge message sound less fine =
 -- ---- deliveries to a thread, while another or itself is on its way
 
 module _ (kinds : ℕ → Option NewObject) (s : State) (x : ℕ) (r w : ℕ → ℕ) (awaits : Bool) (y : ℕ) (is_thread : kinds y ≡ Some NewThread) where
-  pub registers-moving : (file : RegisterFile) → Moving kinds s x r w awaits → RegistersAreSound file → Moving kinds (with_registers s y file) x r w awaits
+  pub registers-moving : (file : RegisterFile) → Moving kinds s x r w awaits → RegistersAreSound file
+      → Moving kinds (with_registers s y file) x r w awaits
   registers-moving file moving sound =
       rewritten kinds s x r w awaits y (record (thread_at s y) { registers = file }) moving is_thread
       (with-registers (thread_at s y) file (own-fine kinds s x r w y moving.listed is_thread) sound) (λ _ e. e) (λ _. (refl, refl))
@@ -92,18 +95,21 @@ module _ (kinds : ℕ → Option NewObject) (s : State) (x : ℕ) (r w : ℕ →
   pub own-registers : Moving kinds s x r w awaits → RegistersAreSound (thread_at s y).registers
   own-registers moving = registers-of (thread_at s y) (own-fine kinds s x r w y moving.listed is_thread)
 
-pub passes-moving : (kinds : ℕ → Option NewObject) (s : State) (x : ℕ) (r w : ℕ → ℕ) (awaits : Bool) (y : ℕ) → kinds y ≡ Some NewThread → Moving kinds s x r w awaits
+pub passes-moving : (kinds : ℕ → Option NewObject) (s : State) (x : ℕ) (r w : ℕ → ℕ) (awaits : Bool) (y : ℕ) → kinds y ≡ Some NewThread
+    → Moving kinds s x r w awaits
     → Moving kinds (passes s y) x r w awaits
 passes-moving kinds s x r w awaits y is_thread moving =
     registers-moving kinds s x r w awaits y is_thread (advanced (thread_at s y).registers) moving
     (advanced-sound (thread_at s y).registers (own-registers kinds s x r w awaits y is_thread moving))
 
-pub passes_with-moving : (kinds : ℕ → Option NewObject) (s : State) (x : ℕ) (r w : ℕ → ℕ) (awaits : Bool) (y : ℕ) (file : RegisterFile) → kinds y ≡ Some NewThread
+pub passes_with-moving : (kinds : ℕ → Option NewObject) (s : State) (x : ℕ) (r w : ℕ → ℕ) (awaits : Bool) (y : ℕ) (file : RegisterFile)
+    → kinds y ≡ Some NewThread
     → Moving kinds s x r w awaits → RegistersAreSound file → Moving kinds (passes_with s y file) x r w awaits
 passes_with-moving kinds s x r w awaits y file is_thread moving sound =
     passes-moving kinds (with_registers s y file) x r w awaits y is_thread (registers-moving kinds s x r w awaits y is_thread file moving sound)
 
-pub deliver-moving : (kinds : ℕ → Option NewObject) (s : State) (x : ℕ) (r w : ℕ → ℕ) (awaits : Bool) (y badge : ℕ) (message : Message) → kinds y ≡ Some NewThread
+pub deliver-moving : (kinds : ℕ → Option NewObject) (s : State) (x : ℕ) (r w : ℕ → ℕ) (awaits : Bool) (y badge : ℕ) (message : Message)
+    → kinds y ≡ Some NewThread
     → Moving kinds s x r w awaits → badge < 2 ^ 32 → MessageIsSound message → Moving kinds (deliver s y badge message) x r w awaits
 deliver-moving kinds s x r w awaits y badge message is_thread moving less fine =
     passes_with-moving kinds s x r w awaits y (delivered (thread_at s y).registers badge message) is_thread moving

@@ -11,7 +11,8 @@ use Rattle.soundness.proofs.Moving.{Moving, Rights, StandsAs, begins, ends, own_
 use Rattle.soundness.proofs.Steps.{caller-fine, own-fine, stopped-whole}
 
 -- a thread that changes is a thread, and the other objects are what they were
-pub thread-kinds : (s : State) (x : ℕ) (t : ThreadState) → kind_at s x ≡ Some NewThread → (offset : ℕ) → kind_at (with_thread s x t) offset ≡ kind_at s offset
+pub thread-kinds : (s : State) (x : ℕ) (t : ThreadState) → kind_at s x ≡ Some NewThread → (offset : ℕ)
+    → kind_at (with_thread s x t) offset ≡ kind_at s offset
 thread-kinds s x t is = put-either s.objects x (Some (ThreadObject t)) (λ offset o. option_map kind_of o ≡ kind_at s offset) (sym is) (λ _ _. refl)
 
 module _ (s : State) (whole : IsWhole s) (y c : ℕ) (is_thread : kind_at s y ≡ Some NewThread) (awaits : IsTrue (awaits_answer (thread_at s c).status))
@@ -71,7 +72,8 @@ module _ (s : State) (whole : IsWhole s) (y c : ℕ) (is_thread : kind_at s y �
       (λ p. sym (stands.runs p)) (λ q. sym (stands.waits q)) (λ a. stands.awaits ∙ a)
 
 -- A thread stops until another replies, which gets the right to.
-pub awaiting-whole : (kinds : ℕ → Option NewObject) (s : State) (x y : ℕ) (r : ℕ → ℕ) (status : Status) → Moving kinds s x r (λ _. 0) false → kinds x ≡ Some NewThread
+pub awaiting-whole : (kinds : ℕ → Option NewObject) (s : State) (x y : ℕ) (r : ℕ → ℕ) (status : Status) → Moving kinds s x r (λ _. 0) false
+    → kinds x ≡ Some NewThread
     → kinds y ≡ Some NewThread → is_runnable status ≡ false → ((queue : ℕ) → is_blocked_on queue status ≡ false) → awaits_answer status ≡ true
     → IsWhole (with_caller (block s x status) y (Some x))
 awaiting-whole kinds s x y r status moving is_thread other_thread stops free_queues awaits =

@@ -38,11 +38,13 @@ empty-capability (RootTable a) is = let e : false ≡ true = is in absurd cc
 empty-capability InterruptControl is = let e : false ≡ true = is in absurd cc
 empty-capability (InterruptHandler a) is = let e : false ≡ true = is in absurd cc
 
-no-parent : (slots : Slots) (slot : ℕ) (parent : Option ℕ) → IsDerivation slots → is_full slots slot ≡ false → parent_at slots slot ≡ parent → parent ≡ None
+no-parent : (slots : Slots) (slot : ℕ) (parent : Option ℕ) → IsDerivation slots → is_full slots slot ≡ false → parent_at slots slot ≡ parent
+    → parent ≡ None
 no-parent slots slot None tree empty is = refl
 no-parent slots slot (Some p) tree empty is = let e : true ≡ false = sym (tree.child_full slot p is) ∙ empty in absurd cc
 
-empty-held : (slots : Slots) (slot : ℕ) (held : Option Entry) → IsDerivation slots → is_full slots slot ≡ false → slots slot ≡ held → IsSome held → slots slot ≡ Some empty_entry
+empty-held : (slots : Slots) (slot : ℕ) (held : Option Entry) → IsDerivation slots → is_full slots slot ≡ false → slots slot ≡ held
+    → IsSome held → slots slot ≡ Some empty_entry
 empty-held slots slot None tree empty is there = let e : false ≡ true = there in absurd cc
 empty-held slots slot (Some held) tree empty is there =
     let bare : is_empty (capability_at slots slot) ≡ true = (let e : not (is_empty (capability_at slots slot)) ≡ false = empty in elim (is_empty (capability_at slots slot)) as (λ b. not b ≡ false → b ≡ true) [ true ↦ λ _. refl | false ↦ λ f. let x : true ≡ false = f in absurd cc ] e) in
@@ -95,7 +97,8 @@ module _ (s : State) (slot parent : ℕ) (capability : Cap) (sound : IsSound s) 
   origin-other x other = ap (λ b. if b then parent else x) (ne_eqb x slot other)
 
   -- what depends on the capability alone
-  by-origin : {A : Type 0} (of : Cap → A) → of capability ≡ of (capability_at old parent) → (x : ℕ) → of (capability_at new x) ≡ of (capability_at old (origin x))
+  by-origin : {A : Type 0} (of : Cap → A) → of capability ≡ of (capability_at old parent) → (x : ℕ)
+      → of (capability_at new x) ≡ of (capability_at old (origin x))
   by-origin of same x = elim (eqb_tells x slot) [
     | inl here ↦
         ap (λ (y : ℕ). of (capability_at new y)) here.1 ∙ ap (λ (o : Option Entry). of (capability_of o)) held-here ∙ same

@@ -123,6 +123,7 @@ module _ (removals : RemovalsKeep) (s t : State) (call : Call) (words : List ℕ
       form-does call.capability label four.value refl (wanted-some (form_of call.capability label) IllegalOperation four.value four.first)
       (ap (perform s call) made ∙ one.rest)
 
-pub invoke-whole : RemovalsKeep → (s t : State) (call : Call) (label extra : ℕ) (words : List ℕ) → IsWhole s → IsCall s call → All (λ word. word < 2 ^ 32) words
+pub invoke-whole : RemovalsKeep → (s t : State) (call : Call) (label extra : ℕ) (words : List ℕ) → IsWhole s → IsCall s call
+    → All (λ word. word < 2 ^ 32) words
     → invoke s call label extra words ≡ Ok t → IsWhole t
 invoke-whole removals s t call label extra words whole is_call small is = invoked removals s t call words whole is_call small label extra is

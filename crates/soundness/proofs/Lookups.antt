@@ -83,7 +83,8 @@ module _ (s : State) (memory : MemoryIsSound s) where
       let e : (offset / 16 + index, rest) ≡ found = cc is in subst (IsPlain s) (ap (λ (p : ℕ × ℕ). p.0) e) plain
   goes-plain offset radix index rest address n found false plain later is = later rest is
 
-  within-plain : (n : ℕ) (root : Cap) (address left : ℕ) (found : ℕ × ℕ) → IsRoot s root → lookup_within n s.slots root address left ≡ Ok found → IsPlain s found.0
+  within-plain : (n : ℕ) (root : Cap) (address left : ℕ) (found : ℕ × ℕ) → IsRoot s root
+      → lookup_within n s.slots root address left ≡ Ok found → IsPlain s found.0
   unfolding lookup_within
   within-plain zero root address left found is_root is = let e : ◌≡◌ {A = Found} (Err (DepthMismatch left)) (Ok found) = is in absurd cc
   within-plain (suc n) (CNode offset radix guard) address left found is_root is =
@@ -121,7 +122,8 @@ module _ (s : State) (memory : MemoryIsSound s) where
       whole-plain (lookup s.slots root name.address name.depth) slot (λ found so. within-plain (suc name.depth) root name.address name.depth found is_root so) parts.rest
 
   -- a slot that has to be empty, and one that has to hold something
-  pub destination-plain : (root : Cap) (name : SlotName) (slot : ℕ) → IsRoot s root → destination_slot s.slots root name ≡ Ok slot → IsPlain s slot × (is_full s.slots slot ≡ false)
+  pub destination-plain : (root : Cap) (name : SlotName) (slot : ℕ) → IsRoot s root → destination_slot s.slots root name ≡ Ok slot
+      → IsPlain s slot × (is_full s.slots slot ≡ false)
   destination-plain root name slot is_root is =
       let parts = passes-both (argument_slot s.slots root name) (λ found. check (not (is_full s.slots found)) DeleteFirst >>= λ _. Ok found) slot is in
       let tested = passes-both (check (not (is_full s.slots parts.value)) DeleteFirst) (λ _. Ok parts.value) slot parts.rest in
@@ -130,7 +132,8 @@ module _ (s : State) (memory : MemoryIsSound s) where
         subst (λ (x : ℕ). is_full s.slots x ≡ false) e (not-true (is_full s.slots parts.value) (check-passes (not (is_full s.slots parts.value)) DeleteFirst tested.value tested.first)),
       )
 
-  pub source-plain : (root : Cap) (name : SlotName) (slot : ℕ) → IsRoot s root → source_slot s.slots root name ≡ Ok slot → IsPlain s slot × IsFull s.slots slot
+  pub source-plain : (root : Cap) (name : SlotName) (slot : ℕ) → IsRoot s root → source_slot s.slots root name ≡ Ok slot
+      → IsPlain s slot × IsFull s.slots slot
   source-plain root name slot is_root is =
       let parts = passes-both (argument_slot s.slots root name) (λ found. check (is_full s.slots found) FailedLookup >>= λ _. Ok found) slot is in
       let tested = passes-both (check (is_full s.slots parts.value) FailedLookup) (λ _. Ok parts.value) slot parts.rest in

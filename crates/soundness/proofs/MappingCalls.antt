@@ -42,7 +42,8 @@ small-product (suc (suc a)) b one other = absurd (omega (arith, one))
 abbrev weighed : ℕ → ℕ → ℕ → ℕ
 weighed writes reads executes = writes * reads + 2 * reads + 4 * executes
 
-weighed-rights : (w r e : ℕ) → w ≤ 1 → r ≤ 1 → e ≤ 1 → (may_read (rights (weighed w r e)) || may_execute (rights (weighed w r e))) ≡ true → AreMappingRights (weighed w r e)
+weighed-rights : (w r e : ℕ) → w ≤ 1 → r ≤ 1 → e ≤ 1 → (may_read (rights (weighed w r e)) || may_execute (rights (weighed w r e))) ≡ true
+    → AreMappingRights (weighed w r e)
 weighed-rights zero zero zero a b c some = let clash : false ≡ true = some in absurd cc
 weighed-rights (suc zero) zero zero a b c some = let clash : false ≡ true = some in absurd cc
 weighed-rights zero zero (suc zero) a b c some = inr (inr (inl refl))
@@ -55,7 +56,8 @@ weighed-rights (suc (suc w)) r e a b c some = absurd (omega (arith, a))
 weighed-rights w (suc (suc r)) e a b c some = absurd (omega (arith, b))
 weighed-rights w r (suc (suc e)) a b c some = absurd (omega (arith, c))
 
-mapping-rights : (frame : Rights) (word : ℕ) → (may_read (mapping_rights frame word) || may_execute (mapping_rights frame word)) ≡ true → AreMappingRights (mapping_rights frame word).0
+mapping-rights : (frame : Rights) (word : ℕ) → (may_read (mapping_rights frame word) || may_execute (mapping_rights frame word)) ≡ true
+    → AreMappingRights (mapping_rights frame word).0
 mapping-rights frame word some =
     let write_bit = and_le_r frame.0 1 in
     let read_bit = and_le_r frame.0 2 in
@@ -120,7 +122,8 @@ module _ (s : State) (slot offset : ℕ) (allowed : Rights) (before : Option Fra
       recapped-sound s slot (Frame offset allowed None) sound (frame-recaps None (valid-before.0, valid-before.1, tt)) (ap table_mapping (sym is))
       (λ m e. let f : None ≡ Some m = e in absurd cc) (λ o n e. let f : Frame offset allowed None ≡ PageTable o n = e in absurd cc)
 
-  frame-mapped : (m : FrameMapping) → IsTableRoot s m.root → m.page < 2 ^ 19 → AreMappingRights m.rights.0 → is_region_taken s m.root (m.page / region_pages) ≡ true
+  frame-mapped : (m : FrameMapping) → IsTableRoot s m.root → m.page < 2 ^ 19 → AreMappingRights m.rights.0
+      → is_region_taken s m.root (m.page / region_pages) ≡ true
       → is_page_taken s m.root m.page ≡ false → IsSound (with_slots s (recapped s.slots slot (Frame offset allowed (Some m))))
   frame-mapped m root less held_rights region free =
       framed-sound s slot (Frame offset allowed (Some m)) sound (frame-recaps (Some m) (valid-before.0, valid-before.1, (IsTableRoot.place root, less, held_rights))) m refl
@@ -136,7 +139,8 @@ invoked-at s call c (held at full) is none = record { at = at ∙ is; full = ful
 invoked-at s call c (boot root) is none =
     let e : ◌≡◌ {A = Option (ℕ × ℕ)} None (Some (0, s.boot_radix)) = sym none ∙ ap cnode_of (sym is) ∙ ap cnode_of root in absurd cc
 
-pub frame-sound : (s t : State) (call : Call) (offset : ℕ) (allowed : Rights) (before : Option FrameMapping) (c : FrameCall) → IsSound s → IsCall s call
+pub frame-sound : (s t : State) (call : Call) (offset : ℕ) (allowed : Rights) (before : Option FrameMapping) (c : FrameCall) → IsSound s
+    → IsCall s call
     → call.capability ≡ Frame offset allowed before → on_frame s call allowed c ≡ Ok t → Keeps s t
 frame-sound s t call offset allowed before UnmapFrame sound is_call is done =
     let at = invoked-at s call (Frame offset allowed before) is_call.invoked is refl in
@@ -169,7 +173,8 @@ not-mapped : {A : Type 0} (o : Option A) → not (is_mapped o) ≡ true → o �
 not-mapped None is = refl
 not-mapped (Some x) is = let e : false ≡ true = is in absurd cc
 
-table-mapped : (s : State) (slot offset : ℕ) (m : TableMapping) → IsSound s → IsFull s.slots slot → capability_at s.slots slot ≡ PageTable offset None → IsTableRoot s m.root → m.region < 2 ^ 9
+table-mapped : (s : State) (slot offset : ℕ) (m : TableMapping) → IsSound s → IsFull s.slots slot
+    → capability_at s.slots slot ≡ PageTable offset None → IsTableRoot s m.root → m.region < 2 ^ 9
     → is_region_taken s m.root m.region ≡ false → IsSound (with_slots s (recapped s.slots slot (PageTable offset (Some m))))
 table-mapped s slot offset m sound full is root less free =
     let valid : IsCapability (PageTable offset None) = subst IsCapability is (sound.slots.derivation.valid slot) in

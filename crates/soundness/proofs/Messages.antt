@@ -36,7 +36,8 @@ notification-object s q is =
     own.1 ∙ ap (λ (n : NotificationState). Some (NotificationObject n)) (sym (ap (λ (o : Option Object). option_map_or (λ n. n) (as_notification o) new_notification) own.1))
 
 -- another object of the same type
-pub object-kinds : (s : State) (q : ℕ) (o : Object) → option_map kind_of (Some o) ≡ kind_at s q → (offset : ℕ) → kind_at (with_object s q o) offset ≡ kind_at s offset
+pub object-kinds : (s : State) (q : ℕ) (o : Object) → option_map kind_of (Some o) ≡ kind_at s q → (offset : ℕ)
+    → kind_at (with_object s q o) offset ≡ kind_at s offset
 object-kinds s q o same = put-either s.objects q (Some o) (λ offset p. option_map kind_of p ≡ kind_at s offset) same (λ _ _. refl)
 
 -- what is not the thread stays what it is
@@ -77,7 +78,8 @@ called-whole kinds s sender receiver r moving one other =
     ]
 
 -- one that runs
-received-whole : (s : State) (sender : Sender) (sent : Sent) (receiver : ℕ) → IsWhole s → IsRunning s sender.thread → kind_at s receiver ≡ Some NewThread
+received-whole : (s : State) (sender : Sender) (sent : Sent) (receiver : ℕ) → IsWhole s → IsRunning s sender.thread
+    → kind_at s receiver ≡ Some NewThread
     → IsWhole (received s sender sent receiver)
 received-whole s sender BySend receiver whole runs is = passes-whole s whole sender.thread runs.kind
 received-whole s sender ByCall receiver whole runs is =
@@ -86,7 +88,8 @@ received-whole s sender (ByFault fault) receiver whole runs is =
     awaiting-whole (kind_at s) s sender.thread receiver (runs_of (s.objects sender.thread)) AwaitsHandler (running s sender.thread whole runs) runs.kind is refl (λ _. refl) refl
 
 -- one that waited
-waited-whole : (kinds : ℕ → Option NewObject) (s : State) (sender : Sender) (sent : Sent) (receiver : ℕ) (r : ℕ → ℕ) → Moving kinds s sender.thread r (λ _. 0) false
+waited-whole : (kinds : ℕ → Option NewObject) (s : State) (sender : Sender) (sent : Sent) (receiver : ℕ) (r : ℕ → ℕ)
+    → Moving kinds s sender.thread r (λ _. 0) false
     → kinds sender.thread ≡ Some NewThread → kinds receiver ≡ Some NewThread → IsWhole (received_waiting s sender sent receiver)
 waited-whole kinds s sender BySend receiver r moving one other =
     woken-whole kinds (passes s sender.thread) sender.thread r (passes-moving kinds s sender.thread r (λ _. 0) false sender.thread one moving) one
@@ -158,7 +161,8 @@ module _ (s : State) (x : ℕ) (whole : IsWhole s) (is : kind_at s x ≡ Some Ne
   }
 
 module _ (s : State) (q receiver : ℕ) (whole : IsWhole s) (is : kind_at s q ≡ Some NewEndpoint) (runs : IsRunning s receiver) where
-  receives-whole : (otherwise : State) (senders : List Sender) → (endpoint_at s q).senders ≡ senders → ((endpoint_at s q).senders ≡ [] → IsWhole otherwise) → IsWhole (receives s q receiver otherwise senders)
+  receives-whole : (otherwise : State) (senders : List Sender) → (endpoint_at s q).senders ≡ senders → ((endpoint_at s q).senders ≡ [] → IsWhole otherwise)
+      → IsWhole (receives s q receiver otherwise senders)
   receives-whole otherwise [] none whole_otherwise = whole_otherwise none
   receives-whole otherwise (sender ∷ others) first whole_otherwise =
       let e = endpoint_at s q in
@@ -213,7 +217,8 @@ module _ (s : State) (q : ℕ) (whole : IsWhole s) (is : kind_at s q ≡ Some Ne
   object : s.objects q ≡ Some (NotificationObject (notification_at s q))
   object = notification-object s q is
 
-  signals-whole : (badge : ℕ) (waiters : List ℕ) → badge < 2 ^ 28 → own_notification.waiters ≡ waiters → IsWhole (signals s q badge own_notification waiters)
+  signals-whole : (badge : ℕ) (waiters : List ℕ) → badge < 2 ^ 28 → own_notification.waiters ≡ waiters
+      → IsWhole (signals s q badge own_notification waiters)
   signals-whole badge [] less none =
       with-word s whole q own_notification (bit_or own_notification.word badge) object (or_lt 28 own_notification.word badge (whole.deliveries.words q own_notification object) less)
   signals-whole badge (waiter ∷ others) less first =

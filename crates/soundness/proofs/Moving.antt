@@ -61,7 +61,8 @@ pub put-other : {A : Type 0} (map : ℕ → A) (place : ℕ) (value : A) (x : �
 put-other map place value x other = ap (λ b. if b then value else map x) (ne_eqb x place other)
 
 -- what holds of the new value there and of the old ones elsewhere
-pub put-either : {A : Type 0} (map : ℕ → A) (place : ℕ) (value : A) (P : ℕ → A → Type 0) → P place value → ((x : ℕ) → x ≢ place → P x (map x)) → (x : ℕ) → P x (put map place value x)
+pub put-either : {A : Type 0} (map : ℕ → A) (place : ℕ) (value : A) (P : ℕ → A → Type 0) → P place value → ((x : ℕ) → x ≢ place → P x (map x))
+    → (x : ℕ) → P x (put map place value x)
 put-either map place value P at other x = elim (eqb_tells x place) [
   | inl here ↦ subst (λ (y : ℕ). P y (put map place value y)) (sym here.1) (subst (P place) (sym (put-here map place value)) at)
   | inr apart ↦ subst (P x) (sym (put-other map place value x apart.1)) (other x apart.1)
@@ -136,7 +137,8 @@ pub record Moving (kinds : ℕ → Option NewObject) (s : State) (x : ℕ) (r w 
   pub listed : Listed kinds s x r w
   pub rights : Rights s x awaits
 
-pub begins : (s : State) (x : ℕ) → IsWhole s → Moving (kind_at s) s x (runs_of (s.objects x)) (waits_of (s.objects x)) (awaits_answer (thread_at s x).status)
+pub begins : (s : State) (x : ℕ) → IsWhole s
+    → Moving (kind_at s) s x (runs_of (s.objects x)) (waits_of (s.objects x)) (awaits_answer (thread_at s x).status)
 begins s x whole = record {
   listed = record {
     kind = λ _. refl;
@@ -207,7 +209,8 @@ module _ (kinds : ℕ → Option NewObject) (s : State) (x : ℕ) (r w : ℕ →
       put-either s.objects y (Some (ThreadObject t)) (λ thread o. thread ≢ x → StandsAs o (s.objects thread))
       (λ other. stands-new (same other).0 (same other).1) (λ thread _ _. stands-same (s.objects thread))
 
-  pub rewritten-listed : ThreadIsSound t → (y ≢ x → (t.status ≡ (thread_at s y).status) × (t.priority ≡ (thread_at s y).priority)) → Listed kinds (with_thread s y t) x r w
+  pub rewritten-listed : ThreadIsSound t → (y ≢ x → (t.status ≡ (thread_at s y).status) × (t.priority ≡ (thread_at s y).priority))
+      → Listed kinds (with_thread s y t) x r w
   rewritten-listed fine same =
       let waiting : (thread queue : ℕ) → times_in (waiting_at (put s.objects y (Some (ThreadObject t)) queue)) thread ≡ times_in (waiting_at (s.objects queue)) thread = λ thread.
       put-either s.objects y (Some (ThreadObject t)) (λ queue o. times_in (waiting_at o) thread ≡ times_in (waiting_at (s.objects queue)) thread)
@@ -237,7 +240,8 @@ module _ (kinds : ℕ → Option NewObject) (s : State) (x : ℕ) (r w : ℕ →
       (λ caller other. (stands-rewritten same caller other).awaits)
 
 -- The thread has another state: x may stand otherwise then, and another stands as before. A right to reply may go.
-pub rewritten : (kinds : ℕ → Option NewObject) (s : State) (x : ℕ) (r w : ℕ → ℕ) (awaits : Bool) (y : ℕ) (t : ThreadState) → Moving kinds s x r w awaits
+pub rewritten : (kinds : ℕ → Option NewObject) (s : State) (x : ℕ) (r w : ℕ → ℕ) (awaits : Bool) (y : ℕ) (t : ThreadState)
+    → Moving kinds s x r w awaits
     → kinds y ≡ Some NewThread → ThreadIsSound t → ((caller : ℕ) → t.caller ≡ Some caller → (thread_at s y).caller ≡ Some caller)
     → (y ≢ x → (t.status ≡ (thread_at s y).status) × (t.priority ≡ (thread_at s y).priority)) → Moving kinds (with_thread s y t) x r w awaits
 rewritten kinds s x r w awaits y t moving is_thread fine had same = record {
@@ -247,7 +251,8 @@ rewritten kinds s x r w awaits y t moving is_thread fine had same = record {
 
 -- ---- the ready list
 
-pub unreadied : (kinds : ℕ → Option NewObject) (s : State) (x : ℕ) (r w : ℕ → ℕ) (awaits : Bool) → Moving kinds s x r w awaits → Moving kinds (unready s x) x (λ _. 0) w awaits
+pub unreadied : (kinds : ℕ → Option NewObject) (s : State) (x : ℕ) (r w : ℕ → ℕ) (awaits : Bool) → Moving kinds s x r w awaits
+    → Moving kinds (unready s x) x (λ _. 0) w awaits
 unreadied kinds s x r w awaits moving = record {
   listed = relisted kinds s x r w s.objects (λ priority. without x (s.ready priority)) (λ _. 0) w moving.listed (record {
     kind = λ _. refl;

@@ -128,7 +128,8 @@ pub record FirstNamed (kind : NewObject) (at : ℕ) (named : NewObject × ℕ) :
   pub same : (kind, at) ≡ named
   pub there : option_map kind_of (object kind) ≡ Some kind
 
-pub first-named : (kind : NewObject) (at : ℕ) (named : NewObject × ℕ) → object_named (first_capability kind at) ≡ Some named → FirstNamed kind at named
+pub first-named : (kind : NewObject) (at : ℕ) (named : NewObject × ℕ) → object_named (first_capability kind at) ≡ Some named
+    → FirstNamed kind at named
 first-named (NewUntyped bits) at named is = let e : None ≡ Some named = is in absurd cc
 first-named NewThread at named is = record { same = cc is; there = refl }
 first-named NewEndpoint at named is = record { same = cc is; there = refl }
@@ -188,7 +189,8 @@ first-table NewFrame at offset m is = let e : Frame at frame_rights None ≡ Pag
 first-table NewPageTable at offset m is = cc is
 first-table NewRootTable at offset m is = let e : RootTable at ≡ PageTable offset m = is in absurd cc
 
-pub first-valid : (kind : NewObject) (at : ℕ) → is_large_enough kind ≡ true → is_small_enough kind ≡ true → at % 2 ^ object_bits kind ≡ 0 → at < 2 ^ 24 → IsCapability (first_capability kind at)
+pub first-valid : (kind : NewObject) (at : ℕ) → is_large_enough kind ≡ true → is_small_enough kind ≡ true → at % 2 ^ object_bits kind ≡ 0
+    → at < 2 ^ 24 → IsCapability (first_capability kind at)
 first-valid (NewUntyped bits) at large small aligned less = ((aligned, less), leb-true 4 bits large, leb-true bits 24 small, omega arith)
 first-valid NewThread at large small aligned less = (aligned, less)
 first-valid NewEndpoint at large small aligned less = ((aligned, less), refl, omega arith)

@@ -68,7 +68,8 @@ slotted-kind NewPageTable some = refl
 slotted-kind NewRootTable some = refl
 
 -- the frame of a place among frames that stand one behind another
-frame-index : (first count p : ℕ) → first % 2 ^ 12 ≡ 0 → first ≤ p → p < first + count * 2 ^ 12 → ((p - first) / 2 ^ 12 < count) × (first + (p - first) / 2 ^ 12 * 2 ^ 12 ≡ p - p % 2 ^ 12)
+frame-index : (first count p : ℕ) → first % 2 ^ 12 ≡ 0 → first ≤ p → p < first + count * 2 ^ 12
+    → ((p - first) / 2 ^ 12 < count) × (first + (p - first) / 2 ^ 12 * 2 ^ 12 ≡ p - p % 2 ^ 12)
 frame-index first count p aligned low high = (omega (arith, aligned, low, high), omega (arith, aligned, low, high))
 
 frame-within : (first count i p : ℕ) → i < count → first + i * 2 ^ 12 ≡ p - p % 2 ^ 12 → (first ≤ p) × (p < first + count * 2 ^ 12)
@@ -211,7 +212,8 @@ module _ (s : State) (sound : IsSound s) (slot offset bits watermark : ℕ) (kin
   changed-other : (x : ℕ) → x ≢ slot → changed x ≡ s.slots x
   changed-other x other = entry-other s.slots slot (Some (record { capability = Untyped offset bits mark; parent = parent_at s.slots slot })) x other
 
-  in-new : (x : ℕ) → some_new new (λ at. is_within (slot_of at 0) (slot_count (object kind)) x) ≡ true → with_new_slots new changed x ≡ Some empty_entry
+  in-new : (x : ℕ) → some_new new (λ at. is_within (slot_of at 0) (slot_count (object kind)) x) ≡ true
+      → with_new_slots new changed x ≡ Some empty_entry
   in-new x is = ap (λ (b : Bool). if b then Some empty_entry else changed x) is
 
   out-new : (x : ℕ) → some_new new (λ at. is_within (slot_of at 0) (slot_count (object kind)) x) ≡ false → with_new_slots new changed x ≡ changed x
@@ -320,7 +322,8 @@ module _ (s : State) (sound : IsSound s) (slot offset bits watermark : ℕ) (kin
       ∙ only-new (object kind)
 
   -- what holds of the new objects and of those of before
-  pub objects-by : (P : ℕ → Option Object → Type 0) → ((i : ℕ) → i < count → P (place i) (object kind)) → ((o : ℕ) → (NewAt o → ⊥) → P o (s.objects o)) → (o : ℕ) → P o (objects o)
+  pub objects-by : (P : ℕ → Option Object → Type 0) → ((i : ℕ) → i < count → P (place i) (object kind)) → ((o : ℕ) → (NewAt o → ⊥) → P o (s.objects o))
+      → (o : ℕ) → P o (objects o)
   objects-by P fresh stays o = elim (new-at o) [
     | inl found ↦ subst (λ (o : ℕ). P o (objects o)) found.2 (subst (P (place found.0)) (sym (objects-new found.0 found.1)) (fresh found.0 found.1))
     | inr old ↦ subst (P o) (sym old.1) (stays o old.0)
@@ -580,7 +583,8 @@ module _ (s : State) (sound : IsSound s) (slot offset bits watermark : ℕ) (kin
       within (record { first = offset; size = mark }) (ap (λ (o : Option Entry). used_of (capability_of o)) after-slot) (omega (arith, low), high)
       (child (window + i) (ap parent_of (window-after i less)))
 
-  lies-old : (i b : ℕ) (q : Piece) → i < count → b ≢ slot → capability_at after b ≡ capability_at s.slots b → piece_of (capability_at s.slots b) ≡ Some q
+  lies-old : (i b : ℕ) (q : Piece) → i < count → b ≢ slot → capability_at after b ≡ capability_at s.slots b
+      → piece_of (capability_at s.slots b) ≡ Some q
       → Lies after (window + i) b (new_piece kind (place i)) q
   lies-old i b q less other same_capability is =
       let inside = place-inside i less in
@@ -600,7 +604,8 @@ module _ (s : State) (sound : IsSound s) (slot offset bits watermark : ℕ) (kin
       ]
 
   -- the untyped memory against what lay against it
-  lies-slot : (b : ℕ) (q : Piece) → capability_at after b ≡ capability_at s.slots b → Lies s.slots slot b whole_piece q → Lies after slot b whole_piece q
+  lies-slot : (b : ℕ) (q : Piece) → capability_at after b ≡ capability_at s.slots b → Lies s.slots slot b whole_piece q
+      → Lies after slot b whole_piece q
   lies-slot b q same_capability (apart is) = apart is
   lies-slot b q same_capability (same k o one other) =
       let e : ◌≡◌ {A = Option (NewObject × ℕ)} None (Some (k, o)) = sym (ap object_named known.memory) ∙ one in absurd cc
@@ -614,7 +619,8 @@ module _ (s : State) (sound : IsSound s) (slot offset bits watermark : ℕ) (kin
       let ends = known.laid.ends in
       around (record { first = offset; size = mark }) (ap (λ (o : Option Entry). used_of (capability_of o)) after-slot) (low, omega (arith, high, grown, ends)) (descends-stays slot b below)
 
-  lies-both : (a b : ℕ) (p q : Piece) → capability_at after a ≡ capability_at s.slots a → capability_at after b ≡ capability_at s.slots b → Lies s.slots a b p q → Lies after a b p q
+  lies-both : (a b : ℕ) (p q : Piece) → capability_at after a ≡ capability_at s.slots a → capability_at after b ≡ capability_at s.slots b
+      → Lies s.slots a b p q → Lies after a b p q
   lies-both a b p q one other (apart is) = apart is
   lies-both a b p q one other (same k o first_named second_named) = same k o (ap object_named one ∙ first_named) (ap object_named other ∙ second_named)
   lies-both a b p q one other (within used is inside below) = within used (ap used_of other ∙ is) inside (descends-stays b a below)
@@ -623,13 +629,15 @@ module _ (s : State) (sound : IsSound s) (slot offset bits watermark : ℕ) (kin
   no-piece : (x : ℕ) (p : Piece) → capability_at after x ≡ Empty → piece_of (capability_at after x) ≡ Some p → ⊥
   no-piece x p empty is = let e : None ≡ Some p = ap piece_of (sym empty) ∙ is in cc
 
-  fresh-piece : (x j : ℕ) (p : Piece) → capability_at after x ≡ first_capability kind (place j) → piece_of (capability_at after x) ≡ Some p → new_piece kind (place j) ≡ p
+  fresh-piece : (x j : ℕ) (p : Piece) → capability_at after x ≡ first_capability kind (place j) → piece_of (capability_at after x) ≡ Some p
+      → new_piece kind (place j) ≡ p
   fresh-piece x j p is piece = let e : Some (new_piece kind (place j)) ≡ Some p = sym (first-piece kind (place j)) ∙ ap piece_of (sym is) ∙ piece in cc e
 
   slot-piece : (x : ℕ) (p : Piece) → capability_at after x ≡ Untyped offset bits mark → piece_of (capability_at after x) ≡ Some p → whole_piece ≡ p
   slot-piece x p is piece = let e : Some whole_piece ≡ Some p = ap piece_of (sym is) ∙ piece in cc e
 
-  lies-fresh : (a b j : ℕ) (p q : Piece) → a ≢ b → j < count → a ≡ window + j → new_piece kind (place j) ≡ p → piece_of (capability_at after b) ≡ Some q → Lies after a b p q
+  lies-fresh : (a b j : ℕ) (p q : Piece) → a ≢ b → j < count → a ≡ window + j → new_piece kind (place j) ≡ p
+      → piece_of (capability_at after b) ≡ Some q → Lies after a b p q
   lies-fresh a b j p q differ less at is_piece other =
       subst (λ (a : ℕ). Lies after a b p q) (sym at) (subst (λ (p : Piece). Lies after (window + j) b p q) is_piece (elim (holds b) [
         | fresh k fewer there is ↦
@@ -649,7 +657,8 @@ module _ (s : State) (sound : IsSound s) (slot offset bits watermark : ℕ) (kin
   lies-untyped b q other (old apart_slot is) piece =
       lies-slot b q is (sound.memory.lies slot b whole_piece q (λ e. other (sym e)) (ap piece_of known.memory) (ap piece_of (sym is) ∙ piece))
 
-  lies-after : (a b : ℕ) (p q : Piece) → a ≢ b → Holds a → Holds b → piece_of (capability_at after a) ≡ Some p → piece_of (capability_at after b) ≡ Some q → Lies after a b p q
+  lies-after : (a b : ℕ) (p q : Piece) → a ≢ b → Holds a → Holds b → piece_of (capability_at after a) ≡ Some p
+      → piece_of (capability_at after b) ≡ Some q → Lies after a b p q
   lies-after a b p q differ (fresh j less at is) there one other = lies-fresh a b j p q differ less at (fresh-piece a j p is one) other
   lies-after a b p q differ (memory here is) there one other =
       subst (λ (a : ℕ). Lies after a b p q) (sym here)
@@ -664,7 +673,8 @@ module _ (s : State) (sound : IsSound s) (slot offset bits watermark : ℕ) (kin
   lies-after a b p q differ (old apart_slot is) (old also too) one other =
       lies-both a b p q is too (sound.memory.lies a b p q differ (ap piece_of (sym is) ∙ one) (ap piece_of (sym too) ∙ other))
 
-  inside-after : (x : ℕ) (p : Piece) → Holds x → piece_of (capability_at after x) ≡ Some p → (boot_area_end s.boot_radix ≤ p.first) × (p.first + p.size ≤ 2 ^ s.memory_bits)
+  inside-after : (x : ℕ) (p : Piece) → Holds x → piece_of (capability_at after x) ≡ Some p
+      → (boot_area_end s.boot_radix ≤ p.first) × (p.first + p.size ≤ 2 ^ s.memory_bits)
   inside-after x p (fresh j less at is) piece =
       let inside = place-inside j less in
       let low = inside.0 in
@@ -772,7 +782,8 @@ module _ (s : State) (sound : IsSound s) (slot offset bits watermark : ℕ) (kin
   table-was x m (nothing empty) maps = let e : None ≡ Some m = ap table_mapping (sym empty) ∙ maps in absurd cc
   table-was x m (old other is) maps = ap table_mapping (sym is) ∙ maps
 
-  taken-after : (root region : ℕ) → ((x : ℕ) → IsFull after x → x < 2 ^ s.memory_bits / 16) → is_region_taken s root region ≡ true → is_region_taken state root region ≡ true
+  taken-after : (root region : ℕ) → ((x : ℕ) → IsFull after x → x < 2 ^ s.memory_bits / 16) → is_region_taken s root region ≡ true
+      → is_region_taken state root region ≡ true
   taken-after root region near is =
       let was = held-by s (maps_region root region) is in
       let mapping = some-passes (table_mapping (capability_at s.slots was.0)) (is_region root region) was.1 in

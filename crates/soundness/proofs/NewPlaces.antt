@@ -52,7 +52,8 @@ multiple a b i size positive =
 small-first : (size count end limit : ℕ) → 1 ≤ count → count * size ≤ limit → size ≤ limit
 small-first size count end limit some less = let one : 1 * size ≤ count * size = mul-le-mul_right size some in omega (arith, one, less)
 
-pub laid : (offset bits watermark object_bits count : ℕ) (place : ℕ × ℕ) → placement bits watermark object_bits count ≡ Some place → offset % 2 ^ bits ≡ 0 → 1 ≤ count
+pub laid : (offset bits watermark object_bits count : ℕ) (place : ℕ × ℕ) → placement bits watermark object_bits count ≡ Some place
+    → offset % 2 ^ bits ≡ 0 → 1 ≤ count
     → IsLaid offset bits watermark object_bits count (offset + place.0) place.1
 laid offset bits watermark object_bits count place is whole some =
     let parts = placed bits watermark object_bits count place is in

@@ -23,7 +23,8 @@ pub record StandsIn (s : State) (offset slot : ℕ) : Type 0 where
   pub low : offset / 16 ≤ slot
   pub high : slot < offset / 16 + slots_of_kind kind
 
-stands-by : (s : State) (offset slot : ℕ) (kind : Option NewObject) → kind_at s offset ≡ kind → offset / 16 ≤ slot → slot < offset / 16 + option_map_or slots_of_kind kind 0 → StandsIn s offset slot
+stands-by : (s : State) (offset slot : ℕ) (kind : Option NewObject) → kind_at s offset ≡ kind → offset / 16 ≤ slot
+    → slot < offset / 16 + option_map_or slots_of_kind kind 0 → StandsIn s offset slot
 stands-by s offset slot None is low high = absurd (omega arith)
 stands-by s offset slot (Some kind) is low high = record { kind = kind; is = is; low = low; high = high }
 
@@ -40,7 +41,8 @@ stands-slot s offset slot stands =
 
 module _ (s : State) (memory : MemoryIsSound s) where
   -- an object's memory lies behind the boot area and inside memory
-  pub object-inside : (offset : ℕ) (kind : NewObject) → kind_at s offset ≡ Some kind → (boot_area_end s.boot_radix ≤ offset) × (offset + 2 ^ object_bits kind ≤ 2 ^ s.memory_bits)
+  pub object-inside : (offset : ℕ) (kind : NewObject) → kind_at s offset ≡ Some kind
+      → (boot_area_end s.boot_radix ≤ offset) × (offset + 2 ^ object_bits kind ≤ 2 ^ s.memory_bits)
   object-inside offset kind is =
       let name = memory.live offset kind is in
       memory.inside name.0 (piece_of_object (kind, offset)) (named-piece (capability_at s.slots name.0) (kind, offset) name.1)
@@ -57,7 +59,8 @@ module _ (s : State) (memory : MemoryIsSound s) where
       let e : None ≡ Some used = sym (named-unused (capability_at s.slots x) (j, a) one) ∙ is in absurd cc
 
   -- two objects lie apart
-  pub objects-apart : (a b : ℕ) (j k : NewObject) → a ≢ b → kind_at s a ≡ Some j → kind_at s b ≡ Some k → AreApart (piece_of_object (j, a)) (piece_of_object (k, b))
+  pub objects-apart : (a b : ℕ) (j k : NewObject) → a ≢ b → kind_at s a ≡ Some j → kind_at s b ≡ Some k
+      → AreApart (piece_of_object (j, a)) (piece_of_object (k, b))
   objects-apart a b j k differ one other =
       let x = memory.live a j one in
       let y = memory.live b k other in
@@ -128,10 +131,12 @@ pub record MayHold (s : State) (slot : ℕ) (capability : Cap) : Type 0 where
   pub vspace : (thread : ℕ) (t : ThreadState) → s.objects thread ≡ Some (ThreadObject t) → slot ≡ vspace_slot thread → IsSome (root_of capability)
   pub line : (number : ℕ) → number < 64 → slot ≡ binding_slot s number → IsSome (signal_of capability)
 
-pub thread-slot : (s : State) (thread slot index : ℕ) (t : ThreadState) → s.objects thread ≡ Some (ThreadObject t) → index < 2 → slot ≡ thread / 16 + index → StandsIn s thread slot
+pub thread-slot : (s : State) (thread slot index : ℕ) (t : ThreadState) → s.objects thread ≡ Some (ThreadObject t) → index < 2
+    → slot ≡ thread / 16 + index → StandsIn s thread slot
 thread-slot s thread slot index t is less at = record { kind = NewThread; is = ap (option_map kind_of) is; low = omega (arith, at); high = omega (arith, at, less) }
 
-plain-no_thread : (s : State) → MemoryIsSound s → (slot thread : ℕ) → IsPlain s slot → (stands : StandsIn s thread slot) → StandsIn.kind stands ≡ NewThread → ⊥
+plain-no_thread : (s : State) → MemoryIsSound s → (slot thread : ℕ) → IsPlain s slot → (stands : StandsIn s thread slot)
+    → StandsIn.kind stands ≡ NewThread → ⊥
 plain-no_thread s memory slot thread (of_boot_cnode less) stands is = let behind = behind-boot_area s memory thread slot stands in omega (arith, behind, less)
 plain-no_thread s memory slot thread (of_cnode offset radix cnode low high) stands is =
     let e : thread ≡ offset = one-object s memory thread offset slot stands (record { kind = NewCNode radix; is = cnode; low = low; high = high }) in
@@ -180,7 +185,8 @@ not-line : (s : State) → MemoryIsSound s → (thread slot number : ℕ) → St
 not-line s memory thread slot number stands less is = let behind = behind-boot_area s memory thread slot stands in omega (arith, behind, less, is)
 
 -- the first slot of a thread may hold a CNode, and the second a root table
-pub cspace-may_hold : (s : State) → MemoryIsSound s → (thread : ℕ) (t : ThreadState) (capability : Cap) → s.objects thread ≡ Some (ThreadObject t) → IsSome (cnode_of capability)
+pub cspace-may_hold : (s : State) → MemoryIsSound s → (thread : ℕ) (t : ThreadState) (capability : Cap)
+    → s.objects thread ≡ Some (ThreadObject t) → IsSome (cnode_of capability)
     → MayHold s (cspace_slot thread) capability
 cspace-may_hold s memory thread t capability is some =
     let stands = thread-slot s thread (cspace_slot thread) 0 t is (omega arith) refl in
@@ -191,7 +197,8 @@ cspace-may_hold s memory thread t capability is some =
       line = λ number less at. absurd (not-line s memory thread (cspace_slot thread) number stands less at);
     }
 
-pub vspace-may_hold : (s : State) → MemoryIsSound s → (thread : ℕ) (t : ThreadState) (capability : Cap) → s.objects thread ≡ Some (ThreadObject t) → IsSome (root_of capability)
+pub vspace-may_hold : (s : State) → MemoryIsSound s → (thread : ℕ) (t : ThreadState) (capability : Cap)
+    → s.objects thread ≡ Some (ThreadObject t) → IsSome (root_of capability)
     → MayHold s (vspace_slot thread) capability
 vspace-may_hold s memory thread t capability is some =
     let stands = thread-slot s thread (vspace_slot thread) 1 t is (omega arith) refl in
@@ -202,7 +209,8 @@ vspace-may_hold s memory thread t capability is some =
       line = λ number less at. absurd (not-line s memory thread (vspace_slot thread) number stands less at);
     }
 
-pub line-may_hold : (s : State) → MemoryIsSound s → (number : ℕ) (capability : Cap) → number < 64 → IsSome (signal_of capability) → MayHold s (binding_slot s number) capability
+pub line-may_hold : (s : State) → MemoryIsSound s → (number : ℕ) (capability : Cap) → number < 64 → IsSome (signal_of capability)
+    → MayHold s (binding_slot s number) capability
 line-may_hold s memory number capability less some = record {
   cspace = λ thread t is at. absurd (not-line s memory thread (binding_slot s number) number (thread-slot s thread (binding_slot s number) 0 t is (omega arith) at) less refl);
   vspace = λ thread t is at. absurd (not-line s memory thread (binding_slot s number) number (thread-slot s thread (binding_slot s number) 1 t is (omega arith) at) less refl);

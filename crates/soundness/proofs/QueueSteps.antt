@@ -17,7 +17,8 @@ use Rattle.soundness.proofs.Moving.{Moving, Rights, StandsAs, begins, ends, own_
 use Rattle.soundness.proofs.Queues.{times-append, times-end_other, times-end_same, times-first_other, times-first_same}
 
 -- the same, known otherwise
-pub listed-as : (kinds : ℕ → Option NewObject) (s : State) (x : ℕ) (r w v : ℕ → ℕ) (a b : Bool) → Moving kinds s x r w a → ((queue : ℕ) → w queue ≡ v queue) → a ≡ b → Moving kinds s x r v b
+pub listed-as : (kinds : ℕ → Option NewObject) (s : State) (x : ℕ) (r w v : ℕ → ℕ) (a b : Bool) → Moving kinds s x r w a → ((queue : ℕ) → w queue ≡ v queue)
+    → a ≡ b → Moving kinds s x r v b
 listed-as kinds s x r w v a b moving same answer = record {
   listed = record {
     kind = moving.listed.kind;
@@ -51,7 +52,8 @@ pub record Replaces (s : State) (x q : ℕ) (w v : ℕ → ℕ) (o : Object) : T
   pub senders : (e : EndpointState) → Some o ≡ Some (EndpointObject e) → All SenderIsSound e.senders
   pub words : (n : NotificationState) → Some o ≡ Some (NotificationObject n) → n.word < 2 ^ 28
 
-pub replaced : (kinds : ℕ → Option NewObject) (s : State) (x q : ℕ) (r w v : ℕ → ℕ) (awaits : Bool) (o : Object) → Moving kinds s x r w awaits → Replaces s x q w v o
+pub replaced : (kinds : ℕ → Option NewObject) (s : State) (x q : ℕ) (r w v : ℕ → ℕ) (awaits : Bool) (o : Object)
+    → Moving kinds s x r w awaits → Replaces s x q w v o
     → Moving kinds (with_object s q o) x r v awaits
 replaced kinds s x q r w v awaits o moving replaces =
     let stands = put-either s.objects q (Some o) (λ thread p. StandsAs p (s.objects thread)) (stands-none (Some o) (s.objects q) replaces.none replaces.before) (λ thread _. stands-same (s.objects thread)) in
@@ -82,7 +84,8 @@ replaced kinds s x q r w v awaits o moving replaces =
 
 -- ---- endpoints and notifications
 
-pub endpointed : (kinds : ℕ → Option NewObject) (s : State) (x q : ℕ) (r w v : ℕ → ℕ) (awaits : Bool) (e f : EndpointState) → Moving kinds s x r w awaits
+pub endpointed : (kinds : ℕ → Option NewObject) (s : State) (x q : ℕ) (r w v : ℕ → ℕ) (awaits : Bool) (e f : EndpointState)
+    → Moving kinds s x r w awaits
     → s.objects q ≡ Some (EndpointObject e)
     → ((thread : ℕ) → thread ≢ x → times_in (waiting_at (Some (EndpointObject f))) thread ≡ times_in (waiting_at (Some (EndpointObject e))) thread)
     → times_in (waiting_at (Some (EndpointObject f))) x ≡ v q → ((queue : ℕ) → queue ≢ q → w queue ≡ v queue)
@@ -100,7 +103,8 @@ endpointed kinds s x q r w v awaits e f moving is others here elsewhere sides so
       words = λ n same. let h : Some (EndpointObject f) ≡ Some (NotificationObject n) = same in absurd cc;
     })
 
-pub notified : (kinds : ℕ → Option NewObject) (s : State) (x q : ℕ) (r w v : ℕ → ℕ) (awaits : Bool) (n m : NotificationState) → Moving kinds s x r w awaits
+pub notified : (kinds : ℕ → Option NewObject) (s : State) (x q : ℕ) (r w v : ℕ → ℕ) (awaits : Bool) (n m : NotificationState)
+    → Moving kinds s x r w awaits
     → s.objects q ≡ Some (NotificationObject n) → ((thread : ℕ) → thread ≢ x → times_in m.waiters thread ≡ times_in n.waiters thread)
     → times_in m.waiters x ≡ v q → ((queue : ℕ) → queue ≢ q → w queue ≡ v queue) → m.word < 2 ^ 28 → Moving kinds (with_notification s q m) x r v awaits
 notified kinds s x q r w v awaits n m moving is others here elsewhere less =
@@ -170,7 +174,8 @@ waits-at s whole q x stands =
 abbrev pub in_queue : Status → ℕ → ℕ
 in_queue status queue = if is_blocked_on queue status then 1 else 0
 
-pub standing : (s : State) (x : ℕ) (status : Status) → IsWhole s → (thread_at s x).status ≡ status → Moving (kind_at s) s x (runs_of (s.objects x)) (in_queue status) (awaits_answer status)
+pub standing : (s : State) (x : ℕ) (status : Status) → IsWhole s → (thread_at s x).status ≡ status
+    → Moving (kind_at s) s x (runs_of (s.objects x)) (in_queue status) (awaits_answer status)
 standing s x status whole is =
     listed-as (kind_at s) s x (runs_of (s.objects x)) (waits_of (s.objects x)) (in_queue status) (awaits_answer (thread_at s x).status) (awaits_answer status) (begins s x whole)
     (λ q. own-waits (s.objects x) q ∙ ap (λ (status : Status). in_queue status q) is) (ap awaits_answer is)
@@ -196,7 +201,8 @@ here-once q = ap (λ (b : Bool). if b then 1 else 0) (eq-eqb q q refl)
 sides-first : (e : EndpointState) (x : ℕ) (others : List ℕ) → e.receivers ≡ x ∷ others → (e.senders ≡ []) ⊎ (e.receivers ≡ []) → e.senders ≡ []
 sides-first e x others is sides = elim sides [ inl none ↦ none | inr none ↦ let clash : [] ≡ x ∷ others = sym none ∙ is in absurd cc ]
 
-sides-sender : (e : EndpointState) (x : Sender) (others : List Sender) → e.senders ≡ x ∷ others → (e.senders ≡ []) ⊎ (e.receivers ≡ []) → e.receivers ≡ []
+sides-sender : (e : EndpointState) (x : Sender) (others : List Sender) → e.senders ≡ x ∷ others → (e.senders ≡ []) ⊎ (e.receivers ≡ [])
+    → e.receivers ≡ []
 sides-sender e x others is sides = elim sides [ inl none ↦ let clash : ◌≡◌ {A = List Sender} [] (x ∷ others) = sym none ∙ is in absurd cc | inr none ↦ none ]
 
 module _ (s : State) (whole : IsWhole s) (q : ℕ) where
@@ -208,7 +214,8 @@ module _ (s : State) (whole : IsWhole s) (q : ℕ) where
       waits-at s whole q x (omega (arith, ap (λ (l : List ℕ). times_in l x) is, split, one))
 
   -- without it none of them is it
-  then-gone : (x : ℕ) (before others : List ℕ) → waiting_at (s.objects q) ≡ before ++ x ∷ others → (thread_at s x).status ≡ Blocked q → times_in (before ++ others) x ≡ 0
+  then-gone : (x : ℕ) (before others : List ℕ) → waiting_at (s.objects q) ≡ before ++ x ∷ others → (thread_at s x).status ≡ Blocked q
+      → times_in (before ++ others) x ≡ 0
   then-gone x before others is status =
       let split = times-append before (x ∷ others) x in
       let joined = times-append before others x in
@@ -216,14 +223,16 @@ module _ (s : State) (whole : IsWhole s) (q : ℕ) where
       let law = whole.sound.threads.queued x q ∙ own-waits (s.objects x) q ∙ ap (λ (status : Status). in_queue status q) status ∙ here-once q in
       omega (arith, ap (λ (l : List ℕ). times_in l x) is, split, joined, one, law)
 
-  then-others : (x : ℕ) (before others : List ℕ) (thread : ℕ) → thread ≢ x → times_in (before ++ others) thread ≡ times_in (before ++ x ∷ others) thread
+  then-others : (x : ℕ) (before others : List ℕ) (thread : ℕ) → thread ≢ x
+      → times_in (before ++ others) thread ≡ times_in (before ++ x ∷ others) thread
   then-others x before others thread other =
       let split = times-append before (x ∷ others) thread in
       let joined = times-append before others thread in
       let none = times-first_other x others thread other in
       omega (arith, split, joined, none)
 
-  pub first-receiver : (e : EndpointState) (x : ℕ) (others : List ℕ) → s.objects q ≡ Some (EndpointObject e) → e.receivers ≡ x ∷ others → WaitsAt s q x
+  pub first-receiver : (e : EndpointState) (x : ℕ) (others : List ℕ) → s.objects q ≡ Some (EndpointObject e) → e.receivers ≡ x ∷ others
+      → WaitsAt s q x
   first-receiver e x others is first = first-waits x (map (λ sender. sender.thread) e.senders) others (ap waiting_at is ∙ ap (λ (l : List ℕ). map (λ sender. sender.thread) e.senders ++ l) first)
 
   pub without-receiver : (e : EndpointState) (x : ℕ) (others : List ℕ) → s.objects q ≡ Some (EndpointObject e) → e.receivers ≡ x ∷ others
@@ -237,7 +246,8 @@ module _ (s : State) (whole : IsWhole s) (q : ℕ) where
       (then-gone x before others (ap waiting_at is ∙ ap (λ (l : List ℕ). before ++ l) first) waits.status)
       (here-only q) (inl (sides-first e x others first (whole.sound.threads.one_sided q e is))) (whole.deliveries.senders q e is)
 
-  pub first-sender : (e : EndpointState) (x : Sender) (others : List Sender) → s.objects q ≡ Some (EndpointObject e) → e.senders ≡ x ∷ others → WaitsAt s q x.thread
+  pub first-sender : (e : EndpointState) (x : Sender) (others : List Sender) → s.objects q ≡ Some (EndpointObject e)
+      → e.senders ≡ x ∷ others → WaitsAt s q x.thread
   first-sender e x others is first =
       first-waits x.thread [] (map (λ sender. sender.thread) others ++ e.receivers)
       (ap waiting_at is ∙ ap (λ (l : List Sender). map (λ sender. sender.thread) l ++ e.receivers) first)
@@ -254,7 +264,8 @@ module _ (s : State) (whole : IsWhole s) (q : ℕ) where
       (here-only q) (inr (sides-sender e x others first (whole.sound.threads.one_sided q e is)))
       (All-tail SenderIsSound x others (subst (All SenderIsSound) first (whole.deliveries.senders q e is)))
 
-  pub first-waiter : (n : NotificationState) (x : ℕ) (others : List ℕ) → s.objects q ≡ Some (NotificationObject n) → n.waiters ≡ x ∷ others → WaitsAt s q x
+  pub first-waiter : (n : NotificationState) (x : ℕ) (others : List ℕ) → s.objects q ≡ Some (NotificationObject n) → n.waiters ≡ x ∷ others
+      → WaitsAt s q x
   first-waiter n x others is first = first-waits x [] others (ap waiting_at is ∙ first)
 
   pub without-waiter : (n : NotificationState) (x : ℕ) (others : List ℕ) → s.objects q ≡ Some (NotificationObject n) → n.waiters ≡ x ∷ others
@@ -272,7 +283,8 @@ module _ (s : State) (whole : IsWhole s) (q : ℕ) where
   none-yet : (x : ℕ) → IsRunning s x → times_in (waiting_at (s.objects q)) x ≡ 0
   none-yet x runs = (running s x whole runs).listed.there q
 
-  pub with-sender : (e : EndpointState) (x : Sender) → s.objects q ≡ Some (EndpointObject e) → e.receivers ≡ [] → IsRunning s x.thread → SenderIsSound x
+  pub with-sender : (e : EndpointState) (x : Sender) → s.objects q ≡ Some (EndpointObject e) → e.receivers ≡ [] → IsRunning s x.thread
+      → SenderIsSound x
       → Moving (kind_at s) (with_endpoint s q (record e { senders = e.senders ++ x ∷ [] })) x.thread (runs_of (s.objects x.thread)) (in_queue (Blocked q)) false
   with-sender e x is none runs sound =
       let senders = map (λ (sender : Sender). sender.thread) e.senders in

@@ -146,7 +146,8 @@ module _ (s : State) (slot : ℕ) (capability : Cap) (sound : IsSound s) (recaps
     ]
 
     -- nobody else maps its page
-    not-mapped : (x : ℕ) (n k : FrameMapping) (root page : ℕ) → n ≡ m → is_page root page n ≡ true → frame_mapping (capability_at old x) ≡ Some k → is_page root page k ≡ true → ⊥
+    not-mapped : (x : ℕ) (n k : FrameMapping) (root page : ℕ) → n ≡ m → is_page root page n ≡ true
+        → frame_mapping (capability_at old x) ≡ Some k → is_page root page k ≡ true → ⊥
     not-mapped x n k root page same is other too =
         let parts = and_parts (n.root == root) (n.page == page) is in
         let a : m.root ≡ root = ap (λ (n : FrameMapping). n.root) (sym same) ∙ eqb-true n.root root parts.0 in
@@ -209,7 +210,8 @@ module _ (s : State) (slot : ℕ) (capability : Cap) (sound : IsSound s) (recaps
     frames : (x : ℕ) → frame_mapping (capability_at new x) ≡ frame_mapping (capability_at old x)
     frames = by-slot frame_mapping (ap frame_mapping is_table ∙ sym (ap frame_mapping unmapped_before))
 
-    table-at : (x : ℕ) (n : TableMapping) → table_mapping (capability_at new x) ≡ Some n → ((x ≡ slot) × (n ≡ m)) ⊎ ((x ≢ slot) × (table_mapping (capability_at old x) ≡ Some n))
+    table-at : (x : ℕ) (n : TableMapping) → table_mapping (capability_at new x) ≡ Some n
+        → ((x ≡ slot) × (n ≡ m)) ⊎ ((x ≢ slot) × (table_mapping (capability_at old x) ≡ Some n))
     table-at x n is = elim (eqb_tells x slot) [
       | inl at ↦
           let e : Some m ≡ Some n = sym (ap table_mapping is_table) ∙ ap (λ (o : Option Entry). table_mapping (capability_of o)) (sym held-here)
@@ -218,7 +220,8 @@ module _ (s : State) (slot : ℕ) (capability : Cap) (sound : IsSound s) (recaps
       | inr other ↦ inr (other.1, ap (λ (o : Option Entry). table_mapping (capability_of o)) (sym (held-other x other.1)) ∙ is)
     ]
 
-    no-region : (x : ℕ) (n k : TableMapping) (root region : ℕ) → n ≡ m → is_region root region n ≡ true → table_mapping (capability_at old x) ≡ Some k → is_region root region k ≡ true → ⊥
+    no-region : (x : ℕ) (n k : TableMapping) (root region : ℕ) → n ≡ m → is_region root region n ≡ true
+        → table_mapping (capability_at old x) ≡ Some k → is_region root region k ≡ true → ⊥
     no-region x n k root region same is other too =
         let parts = and_parts (n.root == root) (n.region == region) is in
         let a : m.root ≡ root = ap (λ (n : TableMapping). n.root) (sym same) ∙ eqb-true n.root root parts.0 in
@@ -229,7 +232,8 @@ module _ (s : State) (slot : ℕ) (capability : Cap) (sound : IsSound s) (recaps
         let clash : true ≡ false = sym taken ∙ ap (λ (r : ℕ). is_region_taken s r region) (sym a) ∙ ap (is_region_taken s m.root) (sym b) ∙ free in
         cc
 
-    taken-still : (root region : ℕ) → ((x : ℕ) → IsFull new x → x < 2 ^ s.memory_bits / 16) → is_region_taken s root region ≡ true → is_region_taken (with_slots s new) root region ≡ true
+    taken-still : (root region : ℕ) → ((x : ℕ) → IsFull new x → x < 2 ^ s.memory_bits / 16) → is_region_taken s root region ≡ true
+        → is_region_taken (with_slots s new) root region ≡ true
     taken-still root region near is =
         let was = held-by s (maps_region root region) is in
         let mapping = some-passes (table_mapping (capability_at s.slots was.0)) (is_region root region) was.1 in
@@ -240,7 +244,8 @@ module _ (s : State) (slot : ℕ) (capability : Cap) (sound : IsSound s) (recaps
         (near was.0 (full-unless (capability_at new was.0) table_mapping mapping.0 refl (ap table_mapping same ∙ mapping.1)))
         (ap (maps_region root region) same ∙ was.1)
 
-    table-was : (x o : ℕ) (n : Option TableMapping) → capability_at new x ≡ PageTable o n → (k : Option TableMapping) × (capability_at old x ≡ PageTable o k)
+    table-was : (x o : ℕ) (n : Option TableMapping) → capability_at new x ≡ PageTable o n
+        → (k : Option TableMapping) × (capability_at old x ≡ PageTable o k)
     table-was x o n is = elim (eqb_tells x slot) [
       | inl at ↦
           let e : PageTable offset (Some m) ≡ PageTable o n = sym is_table ∙ ap capability_of (sym held-here) ∙ ap (capability_at new) (sym at.1) ∙ is in

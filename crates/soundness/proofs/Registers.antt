@@ -41,7 +41,8 @@ written-sound r x value sound less =
 pub advanced-sound : (r : RegisterFile) → RegistersAreSound r → RegistersAreSound (advanced r)
 advanced-sound r sound = with-pc r (next_pc r) sound (omega arith)
 
-pub words-sound : (r : RegisterFile) (registers : List Register) (words : List ℕ) → RegistersAreSound r → All (λ word. word < 2 ^ 32) words → RegistersAreSound (write_words r registers words)
+pub words-sound : (r : RegisterFile) (registers : List Register) (words : List ℕ) → RegistersAreSound r → All (λ word. word < 2 ^ 32) words
+    → RegistersAreSound (write_words r registers words)
 words-sound r registers [] sound less = sound
 words-sound r [] (word ∷ words) sound less = sound
 words-sound r (x ∷ registers) (word ∷ words) sound less =

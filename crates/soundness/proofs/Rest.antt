@@ -31,7 +31,8 @@ endpoint-kind (Some FrameObject) is = let e : Some NewFrame ≡ Some NewEndpoint
 endpoint-kind (Some PageTableObject) is = let e : Some NewPageTable ≡ Some NewEndpoint = is in absurd cc
 endpoint-kind (Some RootTableObject) is = let e : Some NewRootTable ≡ Some NewEndpoint = is in absurd cc
 
-pub notification-kind : (o : Option Object) → option_map kind_of o ≡ Some NewNotification → (n : NotificationState) × (o ≡ Some (NotificationObject n))
+pub notification-kind : (o : Option Object) → option_map kind_of o ≡ Some NewNotification
+    → (n : NotificationState) × (o ≡ Some (NotificationObject n))
 notification-kind (Some (NotificationObject n)) is = (n, refl)
 notification-kind None is = let e : None ≡ Some NewNotification = is in absurd cc
 notification-kind (Some (ThreadObject x)) is = let e : Some NewThread ≡ Some NewNotification = is in absurd cc
@@ -71,7 +72,8 @@ module _ (s : State) (objects : ℕ → Option Object) (ready : ℕ → List ℕ
   had-slot slot (of_boot_area less) = of_boot_area less
   had-slot slot (of_object offset is) = of_object offset (subst (λ (n : ℕ). is_within (offset / 16) n slot ≡ true) (same-slots offset) is)
 
-  was-thread : (thread : ℕ) (t : ThreadState) → objects thread ≡ Some (ThreadObject t) → (u : ThreadState) × (s.objects thread ≡ Some (ThreadObject u))
+  was-thread : (thread : ℕ) (t : ThreadState) → objects thread ≡ Some (ThreadObject t)
+      → (u : ThreadState) × (s.objects thread ≡ Some (ThreadObject u))
   was-thread thread t is = thread-kind (s.objects thread) (sym (kinds thread) ∙ ap (option_map kind_of) is)
 
   pub rest-kept : RestIsSound s → RestIsSound changed

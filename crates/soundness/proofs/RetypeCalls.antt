@@ -28,7 +28,8 @@ use Rattle.soundness.proofs.Places.{IsPlain}
 
 -- ---- the CNode that gets the capabilities
 
-cnode-plain : (s : State) → IsSound s → (c : Cap) (n : ℕ × ℕ) (index : ℕ) → IsRoot s c → cnode_of c ≡ Some n → index < 2 ^ n.1 → IsPlain s (n.0 / 16 + index)
+cnode-plain : (s : State) → IsSound s → (c : Cap) (n : ℕ × ℕ) (index : ℕ) → IsRoot s c → cnode_of c ≡ Some n → index < 2 ^ n.1
+    → IsPlain s (n.0 / 16 + index)
 cnode-plain s sound Empty n index is_root is less = let e : ◌≡◌ {A = Option (ℕ × ℕ)} None (Some n) = is in absurd cc
 cnode-plain s sound (Untyped a b d) n index is_root is less = let e : ◌≡◌ {A = Option (ℕ × ℕ)} None (Some n) = is in absurd cc
 cnode-plain s sound (Endpoint a r b) n index is_root is less = let e : ◌≡◌ {A = Option (ℕ × ℕ)} None (Some n) = is in absurd cc
@@ -43,7 +44,8 @@ cnode-plain s sound (RootTable a) n index is_root is less = let e : ◌≡◌ {A
 cnode-plain s sound InterruptControl n index is_root is less = let e : ◌≡◌ {A = Option (ℕ × ℕ)} None (Some n) = is in absurd cc
 cnode-plain s sound (InterruptHandler a) n index is_root is less = let e : ◌≡◌ {A = Option (ℕ × ℕ)} None (Some n) = is in absurd cc
 
-node-plain : (s : State) → IsSound s → (root : Cap) (name : SlotName) (n : ℕ × ℕ) → IsRoot s root → node s.slots root name ≡ Ok n → (index : ℕ) → index < 2 ^ n.1 → IsPlain s (n.0 / 16 + index)
+node-plain : (s : State) → IsSound s → (root : Cap) (name : SlotName) (n : ℕ × ℕ) → IsRoot s root → node s.slots root name ≡ Ok n
+    → (index : ℕ) → index < 2 ^ n.1 → IsPlain s (n.0 / 16 + index)
 node-plain s sound root name n is_root is index less =
     elim (name.depth == 0) as (λ b. (if b then wanted (cnode_of root) FailedLookup else (argument_slot s.slots root name >>= λ slot. wanted (cnode_of (capability_at s.slots slot)) FailedLookup)) ≡ Ok n
     → IsPlain s (n.0 / 16 + index)) [

@@ -83,7 +83,8 @@ module _ (s : State) (slot : ℕ) (capability : Cap) (sound : IsSound s) (roots 
   capability-other : (x : ℕ) → x ≢ slot → capability_at new x ≡ capability_at old x
   capability-other x other = ap capability_of (held-other x other)
 
-  lies-both : (a b : ℕ) (p q : Piece) → capability_at new a ≡ capability_at old a → capability_at new b ≡ capability_at old b → Lies old a b p q → Lies new a b p q
+  lies-both : (a b : ℕ) (p q : Piece) → capability_at new a ≡ capability_at old a → capability_at new b ≡ capability_at old b
+      → Lies old a b p q → Lies new a b p q
   lies-both a b p q one other (apart is) = apart is
   lies-both a b p q one other (same k o first_named second_named) = same k o (ap object_named one ∙ first_named) (ap object_named other ∙ second_named)
   lies-both a b p q one other (within used is inside below) = within used (ap used_of other ∙ is) inside (descends-still b a below)
@@ -214,7 +215,8 @@ untyped-piece (RootTable a) q none is = let e : ◌≡◌ {A = Option (NewObject
 untyped-piece InterruptControl q none is = let e : None ≡ Some q = is in absurd cc
 untyped-piece (InterruptHandler a) q none is = let e : None ≡ Some q = is in absurd cc
 
-nothing-named : (s : State) (x : ℕ) (o : Option (NewObject × ℕ)) → IsSound s → ((offset : ℕ) → s.objects offset ≡ None) → object_named (capability_at s.slots x) ≡ o → o ≡ None
+nothing-named : (s : State) (x : ℕ) (o : Option (NewObject × ℕ)) → IsSound s → ((offset : ℕ) → s.objects offset ≡ None)
+    → object_named (capability_at s.slots x) ≡ o → o ≡ None
 nothing-named s x None sound none is = refl
 nothing-named s x (Some (kind, offset)) sound none is =
     let e : None ≡ Some kind = ap (option_map kind_of) (sym (none offset)) ∙ sound.memory.named x kind offset is in absurd cc
@@ -253,7 +255,8 @@ untyped-place s offset bits is =
     }
 
 -- no other memory reaches beyond where it begins
-ends-before : (s : State) (offset x : ℕ) (q : Piece) → IsSound s → ((o : ℕ) → s.objects o ≡ None) → holds_some s (λ capability. nat_lt offset (end_of_untyped capability)) ≡ false
+ends-before : (s : State) (offset x : ℕ) (q : Piece) → IsSound s → ((o : ℕ) → s.objects o ≡ None)
+    → holds_some s (λ capability. nat_lt offset (end_of_untyped capability)) ≡ false
     → piece_of (capability_at s.slots x) ≡ Some q → q.first + q.size ≤ offset
 ends-before s offset x q sound none last is =
     let c = capability_at s.slots x in
@@ -265,7 +268,8 @@ ends-before s offset x q sound none last is =
       | false ↦ λ less. let below = ltb-false offset (end_of_untyped c) less in omega (arith, below, end)
     ] refl
 
-untyped-whole : (s t : State) (slot offset bits : ℕ) → IsWhole s → ((o : ℕ) → s.objects o ≡ None) → may_be_untyped s offset bits ≡ true → put_in_boot_slot s slot (Untyped offset bits 0) ≡ Some t → IsWhole t
+untyped-whole : (s t : State) (slot offset bits : ℕ) → IsWhole s → ((o : ℕ) → s.objects o ≡ None) → may_be_untyped s offset bits ≡ true
+    → put_in_boot_slot s slot (Untyped offset bits 0) ≡ Some t → IsWhole t
 untyped-whole s t slot offset bits whole none fits is =
     let sound = whole.sound in
     let parts = put-parts s slot (Untyped offset bits 0) t is in
@@ -292,7 +296,8 @@ untyped-whole s t slot offset bits whole none fits is =
           subst (λ (p : Piece). AreApart p q) f (inr (ends-before s offset x q sound none (IsUntypedPlace.last place) other));
     })))
 
-pub put_untyped-whole : (s t : State) (slot offset bits : ℕ) → IsWhole s → ((o : ℕ) → s.objects o ≡ None) → put_untyped s slot offset bits ≡ Some t → IsWhole t
+pub put_untyped-whole : (s t : State) (slot offset bits : ℕ) → IsWhole s → ((o : ℕ) → s.objects o ≡ None)
+    → put_untyped s slot offset bits ≡ Some t → IsWhole t
 unfolding put_untyped
 put_untyped-whole s t slot offset bits whole none is =
     elim (may_be_untyped s offset bits) as (λ b. may_be_untyped s offset bits ≡ b → (if b then put_in_boot_slot s slot (Untyped offset bits 0) else None) ≡ Some t → IsWhole t) [
@@ -307,7 +312,8 @@ byte-there true byte None = refl
 byte-there true byte (Some _) = refl
 byte-there false byte o = refl
 
-byte-small : (b : Bool) (put byte : ℕ) (o : Option ℕ) → put < 2 ^ 8 → ((n : ℕ) → o ≡ Some n → n < 2 ^ 8) → (if b then option_map (λ _. put) o else o) ≡ Some byte → byte < 2 ^ 8
+byte-small : (b : Bool) (put byte : ℕ) (o : Option ℕ) → put < 2 ^ 8 → ((n : ℕ) → o ≡ Some n → n < 2 ^ 8)
+    → (if b then option_map (λ _. put) o else o) ≡ Some byte → byte < 2 ^ 8
 byte-small true put byte None less was is = let e : None ≡ Some byte = is in absurd cc
 byte-small true put byte (Some n) less was is = let e : put ≡ byte = cc is in subst (λ (n : ℕ). n < 2 ^ 8) e less
 byte-small false put byte o less was is = was byte is

@@ -27,7 +27,7 @@ use Rattle.model.specs.Machine.Decoding.{decoded}
 use Rattle.model.specs.Machine.Effects.{access_number, cause_number, effect}
 use Rattle.model.specs.Machine.ProgramMemory.{Content, ◌>>=◌, loaded, named, next_address, place_at, places_from, width_of}
 use Rattle.soundness.specs.Deliveries.{IsWhole}
-use Rattle.soundness.specs.Instructions.{InstructionsKeep}
+use Rattle.soundness.proofs.Instructions.{InstructionsKeep}
 use Rattle.soundness.specs.Removals.{RemovalsKeep}
 use Rattle.soundness.specs.Running.{IsRunning, RegistersAreSound}
 use Rattle.soundness.proofs.Bytes.{content-whole}
@@ -47,19 +47,21 @@ cause-less Illegal = omega arith
 cause-less Misaligned = omega arith
 
 -- the address of a fault is a word
-named-less : (o : Option ℕ) (access : Access) (address : ℕ) (failed : MemoryFault) → address < 2 ^ 32 → named o access address ≡ Err failed → failed.address < 2 ^ 32
+named-less : (o : Option ℕ) (access : Access) (address : ℕ) (failed : MemoryFault) → address < 2 ^ 32 → named o access address ≡ Err failed
+    → failed.address < 2 ^ 32
 named-less (Some place) access address failed less is = let e : ◌≡◌ {A = Result ℕ MemoryFault} (Ok place) (Err failed) = is in absurd cc
 named-less None access address failed less is =
     let at : MemoryFault = record { address = address; access = access } in
     let e : at ≡ failed = cc is in
     subst (λ (f : MemoryFault). f.address < 2 ^ 32) e less
 
-then-less : {A B : Type 0} (r : Result A MemoryFault) (f : A → Result B MemoryFault) (failed : MemoryFault) → (r ≡ Err failed → failed.address < 2 ^ 32)
+pub then-less : {A B : Type 0} (r : Result A MemoryFault) (f : A → Result B MemoryFault) (failed : MemoryFault) → (r ≡ Err failed → failed.address < 2 ^ 32)
     → ((a : A) → f a ≡ Err failed → failed.address < 2 ^ 32) → (r >>= f) ≡ Err failed → failed.address < 2 ^ 32
 then-less (Ok x) f failed one other is = other x is
 then-less {A} {B} (Err e) f failed one other is = one (let g : e ≡ failed = (let h : ◌≡◌ {A = Result B MemoryFault} (Err e) (Err failed) = is in cc) in ap (λ (m : MemoryFault). Err m) g)
 
-places-less : (content : Content) (access : Access) (count address : ℕ) (failed : MemoryFault) → address < 2 ^ 32 → places_from content access address count ≡ Err failed → failed.address < 2 ^ 32
+pub places-less : (content : Content) (access : Access) (count address : ℕ) (failed : MemoryFault) → address < 2 ^ 32
+    → places_from content access address count ≡ Err failed → failed.address < 2 ^ 32
 places-less content access zero address failed less is = let e : ◌≡◌ {A = Result (List ℕ) MemoryFault} (Ok []) (Err failed) = is in absurd cc
 places-less content access (suc count) address failed less is =
     then-less (place_at content access address) _ failed (λ so. named-less (content.place access address) access address failed less so)
@@ -107,7 +109,8 @@ module _ (removals : RemovalsKeep) (instructions : InstructionsKeep) (s : State)
       effect-whole e.exec (with_content (with_registers s thread e.registers) e.content, Plain) sound.addresses
       (content-whole (with_registers s thread e.registers) e.content (registers-whole s whole thread running.kind e.registers sound.registers) sound.bytes)
 
-  fetched-whole : (fetched : Result ℕ MemoryFault) → ((failed : MemoryFault) → fetched ≡ Err failed → failed.address < 2 ^ 32) → IsWhole (runs_fetched s thread fetched).0
+  fetched-whole : (fetched : Result ℕ MemoryFault) → ((failed : MemoryFault) → fetched ≡ Err failed → failed.address < 2 ^ 32)
+      → IsWhole (runs_fetched s thread fetched).0
   fetched-whole (Ok word) less = decoded-whole word (decoded word) refl
   fetched-whole (Err failed) less = memory-whole failed (less failed refl)
 
@@ -120,7 +123,8 @@ module _ (removals : RemovalsKeep) (instructions : InstructionsKeep) (s : State)
       then-less (places_from content Fetch pc 4) _ failed (λ so. places-less content Fetch 4 pc failed registers.pc so)
       (λ places so. let e : ◌≡◌ {A = Result ℕ MemoryFault} (Ok (from_le_bytes (width_of Word) (map content.byte places))) (Err failed) = so in absurd cc) is)
 
-stepped-whole : RemovalsKeep → InstructionsKeep → (s : State) → IsWhole s → (o : Option ℕ) → current s ≡ o → IsWhole (option_map_or (ran s) o (s, Idle)).0
+stepped-whole : RemovalsKeep → InstructionsKeep → (s : State) → IsWhole s → (o : Option ℕ) → current s ≡ o
+    → IsWhole (option_map_or (ran s) o (s, Idle)).0
 stepped-whole removals instructions s whole None is = whole
 stepped-whole removals instructions s whole (Some thread) is = runs-whole removals instructions s thread whole (current-runs s whole.sound.threads thread is)
 

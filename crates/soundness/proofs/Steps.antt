@@ -49,7 +49,8 @@ caller-fine t caller fine = record {
   slice = fine.slice;
 }
 
-pub own-fine : (kinds : ℕ → Option NewObject) (s : State) (x : ℕ) (r w : ℕ → ℕ) (y : ℕ) → Listed kinds s x r w → kinds y ≡ Some NewThread → ThreadIsSound (thread_at s y)
+pub own-fine : (kinds : ℕ → Option NewObject) (s : State) (x : ℕ) (r w : ℕ → ℕ) (y : ℕ) → Listed kinds s x r w → kinds y ≡ Some NewThread
+    → ThreadIsSound (thread_at s y)
 own-fine kinds s x r w y listed is_thread =
     let own = thread-kind (s.objects y) (listed.kind y ∙ is_thread) in
     subst ThreadIsSound (sym (ap own_of own.1)) (listed.threads y own.0 own.1)
@@ -101,7 +102,8 @@ module _ (kinds : ℕ → Option NewObject) (s : State) (x : ℕ) (r w : ℕ →
       (λ a. subst (λ (o : Option Object). IsTrue (awaits_answer (own_of o).status)) here (answers a))
 
 -- a thread that stands in no queue wakes, if nobody holds a right for it
-pub woken-whole : (kinds : ℕ → Option NewObject) (s : State) (x : ℕ) (r : ℕ → ℕ) → Moving kinds s x r (λ _. 0) false → kinds x ≡ Some NewThread → IsWhole (wake s x)
+pub woken-whole : (kinds : ℕ → Option NewObject) (s : State) (x : ℕ) (r : ℕ → ℕ) → Moving kinds s x r (λ _. 0) false
+    → kinds x ≡ Some NewThread → IsWhole (wake s x)
 woken-whole kinds s x r moving is_thread =
     tail-whole kinds s x r (λ _. 0) false moving is_thread (record (thread_at s x) { status = Runnable; slice = full_slice })
     (woken-fine (thread_at s x) Runnable (own-fine kinds s x r (λ _. 0) x moving.listed is_thread)) refl refl (λ _. refl) (λ e. let f : false ≡ true = e in absurd cc)
@@ -129,7 +131,8 @@ forgotten-stands x (Some PageTableObject) = record { runs = λ _. refl; waits = 
 forgotten-stands x (Some RootTableObject) = record { runs = λ _. refl; waits = λ _. refl; awaits = refl }
 
 -- the threads of senders, without one
-senders-without : (x : ℕ) (senders : List Sender) → map (λ sender. sender.thread) (filter (λ sender. not (sender.thread == x)) senders) ≡ without x (map (λ sender. sender.thread) senders)
+senders-without : (x : ℕ) (senders : List Sender)
+    → map (λ sender. sender.thread) (filter (λ sender. not (sender.thread == x)) senders) ≡ without x (map (λ sender. sender.thread) senders)
 senders-without x [] = refl
 senders-without x (sender ∷ senders) =
     let kept = filter (λ sender. not (sender.thread == x)) senders in
@@ -140,7 +143,8 @@ senders-without x (sender ∷ senders) =
       | false ↦ more
     ]
 
-endpoint-others : (x thread : ℕ) (e : EndpointState) → thread ≢ x → times_in (waiting_at (Some (forgetting x (EndpointObject e)))) thread ≡ times_in (waiting_at (Some (EndpointObject e))) thread
+endpoint-others : (x thread : ℕ) (e : EndpointState) → thread ≢ x
+    → times_in (waiting_at (Some (forgetting x (EndpointObject e)))) thread ≡ times_in (waiting_at (Some (EndpointObject e))) thread
 endpoint-others x thread e other =
     let senders = map (λ sender. sender.thread) e.senders in
     ap (λ (l : List ℕ). times_in (l ++ without x e.receivers) thread) (senders-without x e.senders)
@@ -157,7 +161,8 @@ endpoint-gone x e =
     ∙ ap (λ (n : ℕ). n + times_in (without x e.receivers) x) (times-gone x senders)
     ∙ ap (λ (n : ℕ). 0 + n) (times-gone x e.receivers)
 
-forgotten-others : (x thread : ℕ) (o : Option Object) → thread ≢ x → times_in (waiting_at (option_map (forgetting x) o)) thread ≡ times_in (waiting_at o) thread
+forgotten-others : (x thread : ℕ) (o : Option Object) → thread ≢ x
+    → times_in (waiting_at (option_map (forgetting x) o)) thread ≡ times_in (waiting_at o) thread
 forgotten-others x thread None other = refl
 forgotten-others x thread (Some (ThreadObject t)) other = refl
 forgotten-others x thread (Some (EndpointObject e)) other = endpoint-others x thread e other
@@ -197,7 +202,8 @@ was-endpoint x (Some FrameObject) e is = let f : Some FrameObject ≡ Some (Endp
 was-endpoint x (Some PageTableObject) e is = let f : Some PageTableObject ≡ Some (EndpointObject e) = is in absurd cc
 was-endpoint x (Some RootTableObject) e is = let f : Some RootTableObject ≡ Some (EndpointObject e) = is in absurd cc
 
-was-notification : (x : ℕ) (o : Option Object) (n : NotificationState) → option_map (forgetting x) o ≡ Some (NotificationObject n) → (m : NotificationState) × (o ≡ Some (NotificationObject m)) × (n.word ≡ m.word)
+was-notification : (x : ℕ) (o : Option Object) (n : NotificationState) → option_map (forgetting x) o ≡ Some (NotificationObject n)
+    → (m : NotificationState) × (o ≡ Some (NotificationObject m)) × (n.word ≡ m.word)
 was-notification x (Some (NotificationObject m)) n is =
     let left : NotificationState = record m { waiters = without x m.waiters } in
     let same : left ≡ n = cc is in (m, refl, sym (ap (λ (n : NotificationState). n.word) same))
@@ -232,7 +238,8 @@ caller-left x caller (Some c) is =
       | false ↦ λ test e. (e, λ same. let g : c ≡ caller = cc e in eqb-false c x test (g ∙ same))
     ] refl is
 
-caller-forgotten : (x caller : ℕ) (o : Option Object) → (own_of (option_map (forgetting x) o)).caller ≡ Some caller → ((own_of o).caller ≡ Some caller) × (caller ≢ x)
+caller-forgotten : (x caller : ℕ) (o : Option Object) → (own_of (option_map (forgetting x) o)).caller ≡ Some caller
+    → ((own_of o).caller ≡ Some caller) × (caller ≢ x)
 caller-forgotten x caller (Some (ThreadObject t)) is = caller-left x caller t.caller is
 caller-forgotten x caller None is = let f : None ≡ Some caller = is in absurd cc
 caller-forgotten x caller (Some (EndpointObject e)) is = let f : None ≡ Some caller = is in absurd cc
@@ -242,7 +249,8 @@ caller-forgotten x caller (Some FrameObject) is = let f : None ≡ Some caller =
 caller-forgotten x caller (Some PageTableObject) is = let f : None ≡ Some caller = is in absurd cc
 caller-forgotten x caller (Some RootTableObject) is = let f : None ≡ Some caller = is in absurd cc
 
-one-side : (x : ℕ) (before e : EndpointState) → e.senders ≡ filter (λ sender. not (sender.thread == x)) before.senders → e.receivers ≡ without x before.receivers
+one-side : (x : ℕ) (before e : EndpointState) → e.senders ≡ filter (λ sender. not (sender.thread == x)) before.senders
+    → e.receivers ≡ without x before.receivers
     → (before.senders ≡ []) ⊎ (before.receivers ≡ []) → (e.senders ≡ []) ⊎ (e.receivers ≡ [])
 one-side x before e senders receivers sides = elim sides [
   | inl none ↦ inl (senders ∙ ap (filter (λ sender. not (sender.thread == x))) none)
@@ -250,7 +258,8 @@ one-side x before e senders receivers sides = elim sides [
 ]
 
 -- the thread stands nowhere, and nobody holds a right for it
-pub left-moving : (kinds : ℕ → Option NewObject) (s : State) (x : ℕ) (r w : ℕ → ℕ) (awaits : Bool) → Moving kinds s x r w awaits → Moving kinds (leaves s x) x (λ _. 0) (λ _. 0) false
+pub left-moving : (kinds : ℕ → Option NewObject) (s : State) (x : ℕ) (r w : ℕ → ℕ) (awaits : Bool) → Moving kinds s x r w awaits
+    → Moving kinds (leaves s x) x (λ _. 0) (λ _. 0) false
 left-moving kinds s x r w awaits moving = record {
   listed = relisted kinds s x r w (λ offset. option_map (forgetting x) (s.objects offset)) (λ priority. without x (s.ready priority)) (λ _. 0) (λ _. 0) moving.listed (record {
     kind = λ offset. forgotten-kind x (s.objects offset);

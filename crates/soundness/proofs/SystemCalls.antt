@@ -89,7 +89,8 @@ goes-left slots slot rest address n failure false later is = later is
 bad-root : (failure : LookupFailure) → ◌≡◌ {A = Found} (Err InvalidRoot) (Err failure) → bits_left_of failure ≤ 32
 bad-root failure is = let e : InvalidRoot ≡ failure = cc is in subst (λ (f : LookupFailure). bits_left_of f ≤ 32) e (omega arith)
 
-within-left : (n : ℕ) (slots : Slots) (root : Cap) (address left : ℕ) (failure : LookupFailure) → left ≤ 32 → lookup_within n slots root address left ≡ Err failure → bits_left_of failure ≤ 32
+within-left : (n : ℕ) (slots : Slots) (root : Cap) (address left : ℕ) (failure : LookupFailure) → left ≤ 32
+    → lookup_within n slots root address left ≡ Err failure → bits_left_of failure ≤ 32
 unfolding lookup_within
 within-left zero slots root address left failure few is =
     let e : DepthMismatch left ≡ failure = (let f : ◌≡◌ {A = Found} (Err (DepthMismatch left)) (Err failure) = is in cc) in subst (λ (f : LookupFailure). bits_left_of f ≤ 32) e few
@@ -115,7 +116,8 @@ within-left (suc n) slots (RootTable a) address left failure few is = bad-root f
 within-left (suc n) slots InterruptControl address left failure few is = bad-root failure is
 within-left (suc n) slots (InterruptHandler a) address left failure few is = bad-root failure is
 
-called-left : (slots : Slots) (found : Found) (failure : LookupFailure) → ((f : LookupFailure) → found ≡ Err f → bits_left_of f ≤ 32) → called slots found ≡ Err failure → bits_left_of failure ≤ 32
+called-left : (slots : Slots) (found : Found) (failure : LookupFailure) → ((f : LookupFailure) → found ≡ Err f → bits_left_of f ≤ 32)
+    → called slots found ≡ Err failure → bits_left_of failure ≤ 32
 called-left slots (Ok found) failure few is =
     elim (is_full slots found.0) as (λ b. ◌≡◌ {A = Result ℕ LookupFailure} (if b then Ok found.0 else Err MissingCapability) (Err failure) → bits_left_of failure ≤ 32) [
       | true ↦ λ so. let e : ◌≡◌ {A = Result ℕ LookupFailure} (Ok found.0) (Err failure) = so in absurd cc
@@ -170,7 +172,8 @@ module _ (removals : RemovalsKeep) (s : State) (thread : ℕ) (whole : IsWhole s
   registers : RegistersAreSound (registers_of s thread)
   registers = registers-of (thread_at s thread) (fine-of s whole thread runs.kind)
 
-  lacks-whole : (in_receive : ℕ) (failure : LookupFailure) → in_receive < 2 ^ 32 → bits_left_of failure ≤ 32 → IsWhole (lacks_capability s thread in_receive failure).0
+  lacks-whole : (in_receive : ℕ) (failure : LookupFailure) → in_receive < 2 ^ 32 → bits_left_of failure ≤ 32
+      → IsWhole (lacks_capability s thread in_receive failure).0
   lacks-whole in_receive failure less few =
       let r = registers_of s thread in
       let four : List ℕ = bits_left_of failure ∷ [] in
@@ -189,11 +192,13 @@ module _ (removals : RemovalsKeep) (s : State) (thread : ℕ) (whole : IsWhole s
       let one : List ℕ = number ∷ [] in
       fault-whole s whole thread (unknown_call r.pc number) runs (small-one r.pc one registers.pc (small-one number [] less (All-nil (λ (n : ℕ). n < 2 ^ 32))), omega arith)
 
-passes_with-whole : (s : State) (x : ℕ) (file : RegisterFile) → IsWhole s → kind_at s x ≡ Some NewThread → RegistersAreSound file → IsWhole (passes_with s x file)
+passes_with-whole : (s : State) (x : ℕ) (file : RegisterFile) → IsWhole s → kind_at s x ≡ Some NewThread → RegistersAreSound file
+    → IsWhole (passes_with s x file)
 passes_with-whole s x file whole is sound =
     passes-whole (with_registers s x file) (registers-whole s whole x is file sound) x (thread-kinds s x (record (thread_at s x) { registers = file }) is x ∙ is)
 
-answered-whole : (s : State) (x : ℕ) (kind : SendCall) (number : ℕ) → IsWhole s → kind_at s x ≡ Some NewThread → number < 2 ^ 16 → IsWhole (answered s x kind number)
+answered-whole : (s : State) (x : ℕ) (kind : SendCall) (number : ℕ) → IsWhole s → kind_at s x ≡ Some NewThread → number < 2 ^ 16
+    → IsWhole (answered s x kind number)
 answered-whole s x Calling number whole is less =
     let r = registers_of s x in
     let sound = registers-of (thread_at s x) (fine-of s whole x is) in
@@ -214,11 +219,13 @@ some-thread (Some FrameObject) is = let e : false ≡ true = is in absurd cc
 some-thread (Some PageTableObject) is = let e : false ≡ true = is in absurd cc
 some-thread (Some RootTableObject) is = let e : false ≡ true = is in absurd cc
 
-not-runnable : (s : State) (x y : ℕ) (status : Status) → is_runnable (thread_at s x).status ≡ true → (thread_at s y).status ≡ status → is_runnable status ≡ false → x ≢ y
+not-runnable : (s : State) (x y : ℕ) (status : Status) → is_runnable (thread_at s x).status ≡ true → (thread_at s y).status ≡ status
+    → is_runnable status ≡ false → x ≢ y
 not-runnable s x y status runs is stops same =
     let clash : true ≡ false = sym runs ∙ ap (λ (z : ℕ). is_runnable (thread_at s z).status) same ∙ ap is_runnable is ∙ stops in cc
 
-signaled-object : (s : State) (q badge thread : ℕ) (waiters : List ℕ) → IsWhole s → kind_at s q ≡ Some NewNotification → IsRunning s thread → (notification_at s q).waiters ≡ waiters
+signaled-object : (s : State) (q badge thread : ℕ) (waiters : List ℕ) → IsWhole s → kind_at s q ≡ Some NewNotification → IsRunning s thread
+    → (notification_at s q).waiters ≡ waiters
     → (signals s q badge (notification_at s q) waiters).objects thread ≡ s.objects thread
 signaled-object s q badge thread [] whole is runs none =
     let n = notification_at s q in
@@ -236,7 +243,8 @@ signaled-object s q badge thread (waiter ∷ others) whole is runs first =
     ∙ put-other s.objects q (Some (NotificationObject (record n { waiters = others }))) thread
     (λ e. let clash : Some NewThread ≡ Some NewNotification = sym runs.kind ∙ ap (kind_at s) e ∙ is in cc)
 
-replied-object : (s : State) (caller thread : ℕ) (status : Status) (message : Message) → thread ≢ caller → (replied s caller status message).objects thread ≡ s.objects thread
+replied-object : (s : State) (caller thread : ℕ) (status : Status) (message : Message) → thread ≢ caller
+    → (replied s caller status message).objects thread ≡ s.objects thread
 replied-object s caller thread AwaitsReply message other = wake-other (deliver s caller 0 message) caller thread other ∙ deliver-other s caller 0 message thread other
 replied-object s caller thread AwaitsHandler message other =
     let r = (thread_at s caller).registers in
@@ -287,11 +295,13 @@ module _ (removals : RemovalsKeep) (s : State) (thread : ℕ) (whole : IsWhole s
   refused-whole : (kind : SendCall) (error : KError) → IsWhole (refused s thread kind error).0
   refused-whole kind error = answered-whole s thread kind (error_number error) whole runs.kind (error-less error)
 
-  after-whole : (kind : SendCall) (result : Result State KError) → ((after : State) → result ≡ Ok after → IsWhole after) → IsWhole (after_invocation s thread kind result).0
+  after-whole : (kind : SendCall) (result : Result State KError) → ((after : State) → result ≡ Ok after → IsWhole after)
+      → IsWhole (after_invocation s thread kind result).0
   after-whole kind (Ok after) kept = completed-whole after thread kind (kept after refl)
   after-whole kind (Err error) kept = refused-whole kind error
 
-  invokes-whole : (kind : SendCall) (slot : ℕ) (capability : Cap) → IsFull s.slots slot → capability_at s.slots slot ≡ capability → IsWhole (invokes s thread kind slot capability).0
+  invokes-whole : (kind : SendCall) (slot : ℕ) (capability : Cap) → IsFull s.slots slot → capability_at s.slots slot ≡ capability
+      → IsWhole (invokes s thread kind slot capability).0
   invokes-whole kind slot capability full is =
       let message = message_of (thread_at s thread) in
       let extra = extra_capabilities_of (read (registers_of s thread) a1) in
@@ -300,17 +310,20 @@ module _ (removals : RemovalsKeep) (s : State) (thread : ℕ) (whole : IsWhole s
       after-whole kind (invoke s call message.label extra message.words)
       (λ after so. invoke-whole removals s after call message.label extra message.words whole (record { root = of_slot (cspace_slot thread) refl; invoked = held is full }) fine.words so)
 
-  sent_on-whole : (kind : SendCall) (endpoint badge : ℕ) (grant_reply : Bool) → kind_at s endpoint ≡ Some NewEndpoint → badge < 2 ^ 28 → IsWhole (send_on s thread kind endpoint badge grant_reply).0
+  sent_on-whole : (kind : SendCall) (endpoint badge : ℕ) (grant_reply : Bool) → kind_at s endpoint ≡ Some NewEndpoint → badge < 2 ^ 28
+      → IsWhole (send_on s thread kind endpoint badge grant_reply).0
   sent_on-whole Calling endpoint badge grant_reply is less = send-whole s endpoint (sender thread ByCall badge grant_reply) whole is runs (record { badge = less; sent = tt })
   sent_on-whole Sending endpoint badge grant_reply is less = send-whole s endpoint (sender thread BySend badge grant_reply) whole is runs (record { badge = less; sent = tt })
   sent_on-whole Trying endpoint badge grant_reply is less = try_to_send-whole s endpoint (sender thread BySend badge grant_reply) whole is runs (record { badge = less; sent = tt })
 
-  signal_on-whole : (kind : SendCall) (q badge : ℕ) → kind_at s q ≡ Some NewNotification → badge < 2 ^ 28 → IsWhole (signal_on s thread kind q badge).0
+  signal_on-whole : (kind : SendCall) (q badge : ℕ) → kind_at s q ≡ Some NewNotification → badge < 2 ^ 28
+      → IsWhole (signal_on s thread kind q badge).0
   signal_on-whole kind q badge is less =
       let object = signaled-object s q badge thread (notification_at s q).waiters whole is runs refl in
       answered-whole (signal s q badge) thread kind 0 (signal-whole s q whole is badge less) (running-object s (signal s q badge) thread object runs).kind (omega arith)
 
-  sent_by-whole : (kind : SendCall) (slot : ℕ) (capability : Cap) → IsFull s.slots slot → capability_at s.slots slot ≡ capability → IsWhole (send_by s thread kind slot capability).0
+  sent_by-whole : (kind : SendCall) (slot : ℕ) (capability : Cap) → IsFull s.slots slot → capability_at s.slots slot ≡ capability
+      → IsWhole (send_by s thread kind slot capability).0
   sent_by-whole kind slot (Endpoint offset r badge) full is =
       let valid : IsCapability (Endpoint offset r badge) = subst IsCapability is (whole.sound.slots.derivation.valid slot) in
       elim (may_write r) as (λ b. IsWhole (if b then send_on s thread kind offset badge (may_grant_reply r) else refused s thread kind InvalidCapability).0) [
@@ -347,7 +360,8 @@ module _ (removals : RemovalsKeep) (s : State) (thread : ℕ) (whole : IsWhole s
   missing-whole : IsWhole (lacks_capability s thread 1 MissingCapability).0
   missing-whole = lacks-whole removals s thread whole runs 1 MissingCapability (omega arith) (omega arith)
 
-  from_endpoint-whole : (kind : ReceiveCall) (endpoint : ℕ) → kind_at s endpoint ≡ Some NewEndpoint → IsWhole (receive_on_endpoint s thread kind endpoint).0
+  from_endpoint-whole : (kind : ReceiveCall) (endpoint : ℕ) → kind_at s endpoint ≡ Some NewEndpoint
+      → IsWhole (receive_on_endpoint s thread kind endpoint).0
   from_endpoint-whole Receiving endpoint is = receive-whole s endpoint thread whole is runs
   from_endpoint-whole Polling endpoint is = try_to_receive-whole s endpoint thread whole is runs
 
@@ -355,7 +369,8 @@ module _ (removals : RemovalsKeep) (s : State) (thread : ℕ) (whole : IsWhole s
   from_notification-whole Receiving q is = wait-whole s q whole is thread runs
   from_notification-whole Polling q is = poll-whole s q whole is thread runs
 
-  received_by-whole : (kind : ReceiveCall) (slot : ℕ) (capability : Cap) → capability_at s.slots slot ≡ capability → IsWhole (receive_by s thread kind capability).0
+  received_by-whole : (kind : ReceiveCall) (slot : ℕ) (capability : Cap) → capability_at s.slots slot ≡ capability
+      → IsWhole (receive_by s thread kind capability).0
   received_by-whole kind slot (Endpoint offset r badge) is =
       elim (may_read r) as (λ b. IsWhole (if b then receive_on_endpoint s thread kind offset else lacks_capability s thread 1 MissingCapability).0) [
         | true ↦ from_endpoint-whole kind offset (whole.sound.memory.named slot NewEndpoint offset (ap object_named is))
@@ -376,13 +391,15 @@ module _ (removals : RemovalsKeep) (s : State) (thread : ℕ) (whole : IsWhole s
   received_by-whole kind slot InterruptControl is = missing-whole
   received_by-whole kind slot (InterruptHandler a) is = missing-whole
 
-  received_named-whole : (kind : ReceiveCall) (named : Result ℕ LookupFailure) → named_slot s thread ≡ named → IsWhole (receive_named s thread kind named).0
+  received_named-whole : (kind : ReceiveCall) (named : Result ℕ LookupFailure) → named_slot s thread ≡ named
+      → IsWhole (receive_named s thread kind named).0
   received_named-whole kind (Ok slot) is = received_by-whole kind slot (capability_at s.slots slot) refl
   received_named-whole kind (Err failure) is = lacks-whole removals s thread whole runs 1 failure (omega arith) (named-left s thread failure is)
 
 -- ---- all of them
 
-called-whole : (removals : RemovalsKeep) (s : State) (thread : ℕ) (call : SystemCall) → IsWhole s → IsRunning s thread → IsWhole (calls s thread call).0
+called-whole : (removals : RemovalsKeep) (s : State) (thread : ℕ) (call : SystemCall) → IsWhole s → IsRunning s thread
+    → IsWhole (calls s thread call).0
 called-whole removals s thread (Sends kind) whole runs = sent_named-whole removals s thread whole runs kind (named_slot s thread) refl
 called-whole removals s thread (Receives kind) whole runs = received_named-whole removals s thread whole runs kind (named_slot s thread) refl
 called-whole removals s thread RepliesAndReceives whole runs =
@@ -398,7 +415,8 @@ called-whole removals s thread Yields whole runs =
     (ap (λ (o : Option Object). is_runnable (own_of o).status) (put-here s.objects thread (Some (ThreadObject (record (thread_at s thread) { registers = r })))) ∙ runs.runs)
 called-whole removals s thread PutsCharacter whole runs = passes-whole s whole thread runs.kind
 
-known-whole : (removals : RemovalsKeep) (s : State) (thread number : ℕ) (call : Option SystemCall) → IsWhole s → IsRunning s thread → number < 2 ^ 32 → IsWhole (calls_known s thread number call).0
+known-whole : (removals : RemovalsKeep) (s : State) (thread number : ℕ) (call : Option SystemCall) → IsWhole s → IsRunning s thread
+    → number < 2 ^ 32 → IsWhole (calls_known s thread number call).0
 known-whole removals s thread number (Some call) whole runs less = called-whole removals s thread call whole runs
 known-whole removals s thread number None whole runs less = unknown-whole removals s thread whole runs number less
 

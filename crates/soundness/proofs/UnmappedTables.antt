@@ -58,7 +58,8 @@ left-same table c none = record {
   signal = refl;
 }
 
-left-frame : (table : TableMapping) (a : ℕ) (r : Rights) (m : FrameMapping) (b : Bool) → is_in_region table m ≡ b → IsLeft table (Frame a r (Some m)) (if b then Frame a r None else Frame a r (Some m))
+left-frame : (table : TableMapping) (a : ℕ) (r : Rights) (m : FrameMapping) (b : Bool) → is_in_region table m ≡ b
+    → IsLeft table (Frame a r (Some m)) (if b then Frame a r None else Frame a r (Some m))
 left-frame table a r m true is = record {
   object = refl;
   piece = refl;
@@ -158,7 +159,8 @@ module _ (s : State) (slot offset : ℕ) (table : TableMapping) (sound : IsSound
   either P at other x = elim (eqb_tells x slot) [ inl here ↦ subst P (sym here.1) at | inr apart_x ↦ other x apart_x.1 ]
 
   -- what depends on the capability in the same way, whatever a page table maps
-  by-slot : {A : Type 0} (of : Cap → A) → of (PageTable offset None) ≡ of (PageTable offset (Some table)) → (x : ℕ) → of (capability_at middle x) ≡ of (capability_at old x)
+  by-slot : {A : Type 0} (of : Cap → A) → of (PageTable offset None) ≡ of (PageTable offset (Some table)) → (x : ℕ)
+      → of (capability_at middle x) ≡ of (capability_at old x)
   by-slot of same =
       either (λ x. of (capability_at middle x) ≡ of (capability_at old x))
       (ap (λ (o : Option Entry). of (capability_of o)) middle-here ∙ same ∙ ap of (sym is))
@@ -219,7 +221,8 @@ module _ (s : State) (slot offset : ℕ) (table : TableMapping) (sound : IsSound
 
   -- ---- mappings
 
-  frame-was : (x : ℕ) (n : FrameMapping) → frame_mapping (capability_at new x) ≡ Some n → (frame_mapping (capability_at old x) ≡ Some n) × (is_in_region table n ≡ false)
+  frame-was : (x : ℕ) (n : FrameMapping) → frame_mapping (capability_at new x) ≡ Some n
+      → (frame_mapping (capability_at old x) ≡ Some n) × (is_in_region table n ≡ false)
   frame-was x n so = let was = IsLeft.frame (facts x) n so in (sym (by-slot frame_mapping refl x) ∙ was.0, was.1)
 
   table-here : table_mapping (capability_at new slot) ≡ None
@@ -234,7 +237,8 @@ module _ (s : State) (slot offset : ℕ) (table : TableMapping) (sound : IsSound
     | inr other ↦ sym (table-other x other.1) ∙ so
   ]
 
-  page_table-was : (x o : ℕ) (n : Option TableMapping) → capability_at new x ≡ PageTable o n → (k : Option TableMapping) × (capability_at old x ≡ PageTable o k)
+  page_table-was : (x o : ℕ) (n : Option TableMapping) → capability_at new x ≡ PageTable o n
+      → (k : Option TableMapping) × (capability_at old x ≡ PageTable o k)
   page_table-was x o n so =
       let was = IsLeft.page_table (facts x) o n so in
       elim (eqb_tells x slot) [
@@ -246,7 +250,8 @@ module _ (s : State) (slot offset : ℕ) (table : TableMapping) (sound : IsSound
       ]
 
   -- a region of a frame that stays mapped is another one
-  taken-still : (n : FrameMapping) → ((x : ℕ) → IsFull new x → x < 2 ^ s.memory_bits / 16) → is_in_region table n ≡ false → is_region_taken s n.root (n.page / region_pages) ≡ true
+  taken-still : (n : FrameMapping) → ((x : ℕ) → IsFull new x → x < 2 ^ s.memory_bits / 16) → is_in_region table n ≡ false
+      → is_region_taken s n.root (n.page / region_pages) ≡ true
       → is_region_taken (with_slots s new) n.root (n.page / region_pages) ≡ true
   taken-still n near outside taken =
       let root = n.root in

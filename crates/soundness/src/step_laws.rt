@@ -1,11 +1,10 @@
-//! System calls and events keep soundness, if removals and instructions do.
+//! System calls and events keep soundness, if removals do.
 
 ghost use Rattle.std.specs.Prelude.{ℕ, List};
 ghost use Rattle.model.specs.Kernel.State.{State};
 ghost use Rattle.model.specs.Kernel.Steps.{state_after, system_call};
 ghost use Rattle.model.specs.declared.events.Event.{Event};
 ghost use Rattle.soundness.specs.Deliveries.{IsWhole};
-ghost use Rattle.soundness.specs.Instructions.{InstructionsKeep};
 ghost use Rattle.soundness.specs.Removals.{RemovalsKeep};
 ghost use Rattle.soundness.specs.Running.{IsRunning};
 
@@ -16,5 +15,5 @@ pub fn system_calls_keep_soundness()
 
 /// Events, one after another.
 pub fn events_keep_soundness()
-    ensures { RemovalsKeep → InstructionsKeep → (s : State) (events : List Event) → IsWhole s → IsWhole (state_after s events) }
+    ensures { RemovalsKeep → (s : State) (events : List Event) → IsWhole s → IsWhole (state_after s events) }
 {}

@@ -1,5 +1,5 @@
--- What is still to be shown of instructions, as a premise: registers, bytes and addresses keep in their sizes.
-use Rattle.std.specs.Prelude.{ℕ, ◌≡◌, ◌^◌, ◌<◌, Some}
+-- What instructions keep: registers, bytes and addresses stay in their sizes.
+use Rattle.std.proofs.Common.{ℕ, ◌≡◌, ◌^◌, ◌<◌, Some}
 use Rattle.model.specs.declared.instructions.Access.{Access}
 use Rattle.model.specs.declared.instructions.Exec.TheVariants.{Memory}
 use Rattle.model.specs.declared.instructions.Instr.{Instr}
