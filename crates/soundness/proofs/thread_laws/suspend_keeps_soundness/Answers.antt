@@ -1,0 +1,6 @@
+-- The thread leaves what it waits for, and stands nowhere.
+use Rattle.soundness.proofs.ThreadCalls.{suspend-whole}
+use Rattle.soundness.proofs.thread_laws.suspend_keeps_soundness.Goals as goal
+
+pub returns : goal.returns
+returns c s thread whole is_thread = suspend-whole s whole thread is_thread

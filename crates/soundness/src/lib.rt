@@ -1,0 +1,39 @@
+//! Calls and events keep what is true of every state that the kernel reaches. Each law stands as the
+//! contract of a function that does nothing. Nothing else uses this crate.
+#![tactic(auto)]
+
+mod cnode_laws;
+mod copying_laws;
+mod invocation_laws;
+mod mapping_laws;
+mod message_laws;
+mod retype_laws;
+mod setup_laws;
+mod step_laws;
+mod thread_laws;
+
+pub use cnode_laws::{
+    copy_keeps_soundness, mint_keeps_soundness, move_keeps_soundness, mutate_keeps_soundness,
+    slots_keep_deliveries,
+};
+pub use copying_laws::{
+    bind_keeps_soundness, configure_keeps_soundness, get_handler_keeps_soundness,
+};
+pub use invocation_laws::invocations_keep_soundness;
+pub use mapping_laws::{frame_calls_keep_soundness, table_calls_keep_soundness};
+pub use message_laws::{
+    an_acknowledgement_keeps_soundness, an_interrupt_keeps_soundness, fault_keeps_soundness,
+    poll_keeps_soundness, receive_keeps_soundness, reply_keeps_soundness, send_keeps_soundness,
+    signal_keeps_soundness, try_to_receive_keeps_soundness, try_to_send_keeps_soundness,
+    wait_keeps_soundness,
+};
+pub use retype_laws::retype_keeps_soundness;
+pub use setup_laws::{
+    filling_keeps_soundness, interrupt_control_keeps_soundness, untyped_memory_keeps_soundness,
+};
+pub use step_laws::{events_keep_soundness, system_calls_keep_soundness};
+pub use thread_laws::{
+    a_plain_step_keeps_soundness, a_tick_keeps_soundness, resume_keeps_soundness,
+    set_priority_keeps_soundness, set_register_keeps_soundness, suspend_keeps_soundness,
+    yield_keeps_soundness,
+};
