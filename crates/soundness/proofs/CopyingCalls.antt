@@ -59,9 +59,9 @@ get-sound s t call number name sound is_call control is =
       may = plain-may_hold s sound.memory three.value (InterruptHandler number) there.0;
     }))
 
--- ---- SetNotification
+-- ---- SetNotification, once nothing is bound to the line (any more)
 
-bound-sound : (s : State) (number source : ℕ) → IsSound s → number < 64 → IsFull s.slots source → is_full s.slots (binding_slot s number) ≡ false
+pub bound-sound : (s : State) (number source : ℕ) → IsSound s → number < 64 → IsFull s.slots source → is_full s.slots (binding_slot s number) ≡ false
     → depth_of s.slots source < 255 → may_be_bound (capability_at s.slots source) ≡ true
     → IsSound (with_slots s (inserted s.slots (binding_slot s number) (capability_at s.slots source) (Some source)))
 bound-sound s number source sound less full free room may =

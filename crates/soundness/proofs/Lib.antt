@@ -9,6 +9,7 @@ pub mod Grants
 pub mod Inserted
 pub mod Instructions
 pub mod Invoked
+pub mod Loading
 pub mod Lookups
 pub mod MappingCalls
 pub mod Messages

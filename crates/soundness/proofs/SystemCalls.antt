@@ -133,7 +133,7 @@ named-left s thread failure is =
     (λ f so. within-left (suc 32) s.slots (cspace_of s thread) address 32 f (omega arith) so) is
 
 -- the slot that is named is full
-called-full : (slots : Slots) (found : Found) (slot : ℕ) → called slots found ≡ Ok slot → IsFull slots slot
+pub called-full : (slots : Slots) (found : Found) (slot : ℕ) → called slots found ≡ Ok slot → IsFull slots slot
 called-full slots (Ok found) slot is =
     elim (is_full slots found.0) as (λ b. is_full slots found.0 ≡ b → ◌≡◌ {A = Result ℕ LookupFailure} (if b then Ok found.0 else Err MissingCapability) (Ok slot) → IsFull slots slot) [
       | true ↦ λ full so. let e : found.0 ≡ slot = cc so in subst (IsFull slots) e full

@@ -29,7 +29,8 @@ pub use message_laws::{
 };
 pub use retype_laws::retype_keeps_soundness;
 pub use setup_laws::{
-    filling_keeps_soundness, interrupt_control_keeps_soundness, untyped_memory_keeps_soundness,
+    calls_of_the_loader_keep_soundness, filling_keeps_soundness, interrupt_control_keeps_soundness,
+    untyped_memory_keeps_soundness,
 };
 pub use step_laws::{events_keep_soundness, system_calls_keep_soundness};
 pub use thread_laws::{
