@@ -1,5 +1,5 @@
 -- What a change of the ready list keeps: no thread stands there twice.
-use Rattle.std.proofs.Common.{ℕ, ◌≡◌, ◌∙◌, ◌==◌, ◌+◌, ◌<◌, ◌≤◌, ◌++◌, inl, inr, true, false, not, if◌then◌else◌, List, [], ◌∷◌, refl, sym, subst, ap, arith}
+use Rattle.std.proofs.Common.{ℕ, ◌≡◌, ◌∙◌, ◌==◌, ◌+◌, ◌<◌, ◌≤◌, ◌++◌, inl, inr, Bool, true, false, not, if◌then◌else◌, List, [], ◌∷◌, filter, refl, sym, subst, ap, arith}
 use Rattle.std.proofs.lemmas.Bool.{eq-eqb}
 use Rattle.std.proofs.lemmas.Bool.Decides.{eqb_tells}
 use Rattle.model.specs.Shared.Lists.{times_in, without}
@@ -32,6 +32,24 @@ unready-none_twice ready thread before = record {
   one_priority = λ other first second here there.
       let less = times-less thread (ready first) other in
       let fewer = times-less thread (ready second) other in
+      before.one_priority other first second (omega (arith, less, here)) (omega (arith, fewer, there));
+}
+
+-- the list without some threads
+filtered-less : (keeps : ℕ → Bool) (threads : List ℕ) (other : ℕ) → times_in (filter keeps threads) other ≤ times_in threads other
+filtered-less keeps threads other =
+    let count = times-filter keeps threads other in
+    elim (keeps other) as (λ b. times_in (filter keeps threads) other ≡ (if b then times_in threads other else 0) → times_in (filter keeps threads) other ≤ times_in threads other) [
+      | true ↦ λ is. omega (arith, is)
+      | false ↦ λ is. omega (arith, is)
+    ] count
+
+pub filtered-none_twice : (ready : ℕ → List ℕ) (keeps : ℕ → Bool) → HoldsNoneTwice ready → HoldsNoneTwice (λ priority. filter keeps (ready priority))
+filtered-none_twice ready keeps before = record {
+  once = λ other priority. let less = filtered-less keeps (ready priority) other in let most = before.once other priority in omega (arith, less, most);
+  one_priority = λ other first second here there.
+      let less = filtered-less keeps (ready first) other in
+      let fewer = filtered-less keeps (ready second) other in
       before.one_priority other first second (omega (arith, less, here)) (omega (arith, fewer, there));
 }
 

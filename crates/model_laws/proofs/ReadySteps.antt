@@ -1,6 +1,6 @@
 -- Each event keeps the ready list free of doubles.
 use Rattle.std.proofs.Common.{ℕ, ◌≡◌, ◌==◌, ◌&&◌, ◌||◌, Bool, true, false, not, if◌then◌else◌, List, [], ◌∷◌, Option, Some, None, Result, Ok, Err, refl, subst}
-use Rattle.std.specs.Prelude.{◌+◌, ◌-◌, ◌/◌, ◌%◌, ◌^◌, ◌++◌, fold, is_some, nat_le, nat_lt}
+use Rattle.std.specs.Prelude.{◌+◌, ◌-◌, ◌/◌, ◌%◌, ◌^◌, ◌++◌, filter, fold, is_some, nat_le, nat_lt}
 use Rattle.std.specs.Option.{option_map_or}
 use Rattle.model.specs.declared.capabilities.Cap.{Cap}
 use Rattle.model.specs.declared.capabilities.Cap.TheVariants.{Empty, Untyped, Endpoint, Notification, CNode, Frame, PageTable, Tcb, RootTable, InterruptControl, InterruptHandler}
@@ -53,13 +53,13 @@ use Rattle.model.specs.declared.invocations.ThreadCall.{ThreadCall}
 use Rattle.model.specs.declared.invocations.ThreadCall.TheVariants.{Configure, SetPriority, SetRegister, Resume, Suspend}
 use Rattle.model.specs.declared.invocations.UntypedMemory.{UntypedMemory}
 use Rattle.model.specs.Kernel.Messages.{Message, a7, waits_for_signal, deliver, deliver_word, message_of, message_sent, passes, resumption, waits_to_receive, with_caller, with_registers, receive, receives, received, received_waiting, replied, reply, reply_to_fault, sends, signal, signals, takes_word, tries_to_send, try_to_receive}
-use Rattle.model.specs.Kernel.Removal.{SlotSet, ended_threads, ends, set_back, slots_without, delete, remove, without_slots}
+use Rattle.model.specs.Kernel.Removal.{SlotSet, closes, closing, delete, emptied, is_ending_thread, is_set_back, remove, thread_places, without_slots}
 use Rattle.model.specs.Kernel.Retype.{any_full, is_large_enough, is_small_enough, node, object_bits, retype, type_of}
 use Rattle.model.specs.Kernel.Scheduling.{at_tail, block, current, full_slice, is_runnable, leaves, tick, ticked, to_tail, unready, wake, yielded}
 use Rattle.model.specs.Kernel.State.{FaultMessage, NotificationState, Sender, Sent, BySend, ByCall, ByFault, State, Status, Inactive, Runnable, Blocked, AwaitsReply, AwaitsHandler, as_thread, binding_slot, cspace_slot, endpoint_at, holds_some, slot_of, vspace_slot, notification_at, put, thread_at, with_endpoint, with_notification, with_slots, with_thread}
 use Rattle.model.specs.Kernel.Steps.{Done, SystemCall, Sends, Receives, RepliesAndReceives, Replies, Yields, PutsCharacter, call_of, calls, calls_known, registers_of, lacks_capability, named_slot, signal_on, SendCall, Calling, Sending, Trying, ReceiveCall, Receiving, Polling, after_effect, after_invocation, answered, completed, invokes, ran, receive_by, receive_named, receive_on_endpoint, receive_on_notification, refused, runs, runs_decoded, runs_fetched, send_by, send_named, send_on, sender, sends_nothing, step, system_call}
 use Rattle.model_laws.specs.Ready.{HoldsNoneTwice}
-use Rattle.model_laws.proofs.ReadyLists.{moved-none_twice, unready-none_twice}
+use Rattle.model_laws.proofs.ReadyLists.{filtered-none_twice, moved-none_twice, unready-none_twice}
 
 record Sound (s : State) : Type 0 where
   holds : HoldsNoneTwice s.ready
@@ -237,13 +237,8 @@ fold-sound f each s (n ∷ ns) before = fold-sound f each (f s n) ns (each s n b
 
 without_slots-sound : (s : State) (set : SlotSet) → Sound s → Sound (without_slots s set)
 without_slots-sound s set before =
-    let left : State = fold leaves s (ended_threads s set) in
-    let rest : State = record left {
-      slots = slots_without s set;
-      objects = λ offset. if ends s set offset then None else left.objects offset;
-      bytes = λ place. if ends s set (place - place % page_size) then None else s.bytes place;
-    } in
-    fold-sound wake wake-sound rest (set_back s set) (same refl (fold-sound leaves leaves-sound s (ended_threads s set) before))
+    fold-sound wake wake-sound (closing (emptied s set) (closes s set)) (filter (is_set_back s set) (thread_places s))
+    (record { holds = filtered-none_twice s.ready (λ thread. not (is_ending_thread s set thread)) before.holds })
 
 remove-sound : (s : State) (set : SlotSet) → Sound s → SoundResult (remove s set)
 unfolding remove

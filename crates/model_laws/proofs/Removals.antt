@@ -1,6 +1,6 @@
 -- What a removal leaves of the slots outside its set.
-use Rattle.std.proofs.Common.{ℕ, ◌≡◌, ◌∙◌, ◌-◌, ◌/◌, ◌%◌, ◌^◌, ◌<◌, ◌&&◌, ◌||◌, Bool, true, false, not, if◌then◌else◌, List, [], ◌∷◌, get_or, length, Option, Some, None, Ok, Err, refl, sym, ap, arith}
-use Rattle.std.specs.Prelude.{fold, option_map}
+use Rattle.std.proofs.Common.{ℕ, ◌≡◌, ◌∙◌, ◌/◌, ◌^◌, ◌<◌, ◌&&◌, ◌||◌, Bool, true, false, not, if◌then◌else◌, List, [], ◌∷◌, get_or, length, Option, Some, None, Ok, Err, refl, sym, ap, arith}
+use Rattle.std.specs.Prelude.{filter, fold, option_map}
 use Rattle.std.specs.List.{list_any, range_with_len}
 use Rattle.std.specs.Option.{option_map_or}
 use Rattle.std.proofs.lemmas.List.Folds.{list_any_at}
@@ -10,10 +10,9 @@ use Rattle.model.specs.declared.capabilities.Cap.TheVariants.{Empty, Untyped, En
 use Rattle.model.specs.declared.errors.KError.TheVariants.{RevokeFirst}
 use Rattle.model.specs.declared.slot_entries.Entry.{Entry}
 use Rattle.model.specs.Capabilities.CapabilityKinds.{object_of}
-use Rattle.model.specs.Kernel.Removal.{SlotSet, closes, ended_threads, ends, ends_filled, frame_loses, is_slot_of, kept, kept_entry, new_parent, remove, set_back, slots_without, table_loses, wants_revoke_first, with_bindings, without_slots}
-use Rattle.model.specs.Kernel.AddressSpaces.{page_size}
-use Rattle.model.specs.Kernel.Scheduling.{leaves, wake}
-use Rattle.model.specs.Capabilities.Slots.{capability_at, empty_entry, is_empty, is_full, parent_at}
+use Rattle.model.specs.Kernel.Removal.{SlotSet, closes, closing, emptied, ends, ends_filled, frame_loses, is_set_back, is_slot_of, kept, kept_entry, new_parent, remove, table_loses, thread_places, wants_revoke_first, with_bindings, without_slots}
+use Rattle.model.specs.Kernel.Scheduling.{wake}
+use Rattle.model.specs.Capabilities.Slots.{Slots, capability_at, empty_entry, is_empty, is_full, parent_at}
 use Rattle.model.specs.Kernel.State.{State, slot_numbers, slots_of}
 use Rattle.model_laws.specs.Capabilities.{apart_from_mapping}
 
@@ -75,15 +74,12 @@ fold-wake_slots : (s : State) (threads : List ℕ) → (fold wake s threads).slo
 fold-wake_slots s [] = refl
 fold-wake_slots s (t ∷ threads) = fold-wake_slots (wake s t) threads
 
+-- the slots of the state without a set
+abbrev slots_without : State → SlotSet → Slots
+slots_without s all = (closing (emptied s all) (closes s all)).slots
+
 without-slots : (s : State) (all : SlotSet) → (without_slots s all).slots ≡ slots_without s all
-without-slots s all =
-    let left : State = fold leaves s (ended_threads s all) in
-    let rest : State = record left {
-      slots = slots_without s all;
-      objects = λ offset. if ends s all offset then None else left.objects offset;
-      bytes = λ place. if ends s all (place - place % page_size) then None else s.bytes place;
-    } in
-    fold-wake_slots rest (set_back s all)
+without-slots s all = fold-wake_slots (closing (emptied s all) (closes s all)) (filter (is_set_back s all) (thread_places s))
 
 slots-removed : (s t : State) (set : SlotSet) → remove s set ≡ Ok t
     → (wants_revoke_first s (with_bindings s set) ≡ false) × (t.slots ≡ slots_without s (with_bindings s set))
