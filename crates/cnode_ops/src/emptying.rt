@@ -6,7 +6,7 @@ ghost use Rattle.model.specs.Capabilities.Slots.{IsFull, capability_at, parent_a
 ghost use Rattle.model.specs.Kernel.Removal.{emptied};
 ghost use Rattle.model.specs.Kernel.State.{with_slots};
 ghost use Rattle.model.specs.Shared.Lists.{without};
-ghost use Rattle.removals.specs.Steps.{IfUnnamed, IsReady, WithWatermark, alone, unmapped_at};
+ghost use Rattle.removals.specs.Steps.{IfUnnamed, IsReady, IsThere, WithWatermark, alone, unmapped_at};
 
 use crate::Ends;
 use model::{Cap, Slot};
@@ -65,6 +65,7 @@ fn take_out<S: SlotStore, E: Ends>(store: &mut S, ends: &mut E, slot: Slot) -> (
 /// Ends the object that a removed capability named, if no other names it.
 fn end_unnamed<S: SlotStore, E: Ends>(store: &mut S, ends: &mut E, removed: Cap)
     requires agree { E.Agree ends.old (S.slots store.old) (S.memory store.old) }
+    requires there { IsThere (E.state ends.old (S.slots store.old) (S.memory store.old)) removed }
     ensures state { IfUnnamed (E.state ends.old (S.slots store.old) (S.memory store.old)) removed
         (E.state ends.new (S.slots store.new) (S.memory store.new)) }
     ensures order { S.order store.new ≡ S.order store.old }

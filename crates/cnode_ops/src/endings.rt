@@ -6,7 +6,7 @@ ghost use Rattle.model.specs.Capabilities.Slots.{IsFull, SameOutside, Slots, cap
 ghost use Rattle.model.specs.Kernel.Removal.{slot_count};
 ghost use Rattle.model.specs.Kernel.State.{State, binding_slot, with_slots};
 ghost use Rattle.removals.specs.Finishing.{woken};
-ghost use Rattle.removals.specs.Steps.{ended, unmapped_at, unused};
+ghost use Rattle.removals.specs.Steps.{IsThere, ended, unmapped_at, unused};
 
 use model::{Cap, Slot};
 use slots::SlotStore;
@@ -29,9 +29,11 @@ pub trait Ends {
         ensures order { S.order store.new ≡ S.order store.old }
         ensures agree { Agree self.new (S.slots store.new) (S.memory store.new) };
 
-    /// Ends the object that a removed capability named, and that no other names.
+    /// Ends the object that a removed capability named, and that no other names. It has not ended yet: nobody is told
+    /// of an end twice.
     fn end<S: SlotStore>(&mut self, store: &mut S, removed: Cap)
         requires agree { Agree self.old (S.slots store.old) (S.memory store.old) }
+        requires there { IsThere (state self.old (S.slots store.old) (S.memory store.old)) removed }
         ensures state { state self.new (S.slots store.new) (S.memory store.new)
             ≡ ended (state self.old (S.slots store.old) (S.memory store.old)) removed }
         ensures order { S.order store.new ≡ S.order store.old }

@@ -52,7 +52,7 @@ object-region InterruptControl other = refl
 object-region (InterruptHandler line) other = refl
 
 -- what names an object is a capability
-named-full : (o : ℕ) (c : Cap) → names_object o c ≡ true → not (is_empty c) ≡ true
+pub named-full : (o : ℕ) (c : Cap) → names_object o c ≡ true → not (is_empty c) ≡ true
 named-full o Empty is = absurd (let clash : false ≡ true = is in cc)
 named-full o (Untyped _ _ _) is = refl
 named-full o (Endpoint _ _ _) is = refl

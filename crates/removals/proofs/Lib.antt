@@ -16,3 +16,4 @@ pub mod Rounds
 pub mod Readiness
 pub mod Sweeping
 pub mod Whole
+pub mod Named

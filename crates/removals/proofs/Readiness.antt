@@ -1,16 +1,22 @@
 -- What a removal relies on holds once a slot is emptied.
-use Rattle.std.proofs.Common.{ℕ, ◌≡◌, ◌≢◌, ◌∙◌, inl, inr, Bool, true, false, not, if◌then◌else◌, Some, None, refl, sym, ap, subst, arith}
-use Rattle.std.proofs.lemmas.Bool.{eq-eqb}
+use Rattle.std.proofs.Common.{ℕ, ◌≡◌, ◌≢◌, ◌∙◌, inl, inr, Bool, true, false, not, if◌then◌else◌, ◌&&◌, Some, None, option_map, refl, sym, ap, subst, arith}
+use Rattle.std.proofs.lemmas.Bool.{eq-eqb, ne_eqb}
 use Rattle.std.proofs.lemmas.Bool.Decides.{eqb_tells}
 use Rattle.model.specs.declared.capabilities.Cap.{Cap}
 use Rattle.model.specs.declared.capabilities.Cap.TheVariants.{Empty, Untyped, Endpoint, Notification, CNode, Frame, PageTable, Tcb, RootTable, InterruptControl, InterruptHandler}
 use Rattle.model.specs.Capabilities.CapabilityKinds.{names_object}
 use Rattle.model.specs.Capabilities.CapabilityWords.{IsCapability}
 use Rattle.model.specs.Capabilities.Slots.{IsFull, capability_at, is_empty, is_full, parent_at}
-use Rattle.model.specs.Kernel.Removal.{SlotSet, emptied, frame_loses, kept, loses_last_child, table_loses}
+use Rattle.model.specs.Kernel.Removal.{SlotSet, emptied, ends, frame_loses, is_ending_thread, kept, loses_last_child, some_inside, some_outside, table_loses}
 use Rattle.model.specs.Kernel.State.{State}
 use Rattle.model.proofs.Depths.{adopted_parent, depth-own_parent, depth-spliced}
 use Rattle.removals.specs.Steps.{IsReady, alone}
+use Rattle.model.specs.Kernel.Kinds.{kind_of, object_named}
+use Rattle.model.specs.Kernel.Scheduling.{without_threads}
+use Rattle.std.proofs.Math.Bool.{and-false}
+use Rattle.removals.proofs.Emptyings.{named-full}
+use Rattle.removals.proofs.Found.{found-at, join}
+use Rattle.removals.proofs.Named.{kind-names, kind-threads, named_as}
 use Rattle.removals.proofs.Keeping.{kept-test}
 use Rattle.removals.proofs.Rounds.{full-apart, open-kept}
 use Rattle.removals.proofs.Splits.{empty-now, kept-now, parent-now, root-now}
@@ -119,6 +125,15 @@ ready-emptied s x ready full =
           let named_was : names_object r (capability_at s.slots b) ≡ true = sym (kept-test (names_object r) (λ o c v w. refl) (λ f q m n. refl) (λ t m n. refl) s (alone x) b (capability_at s.slots b)) ∙ ap (names_object r) (sym (stays b b_other)) ∙ named in
           let root_was : capability_at s.slots b ≡ RootTable r = ready.roots a b r was named_was in
           stays b b_other ∙ ap (kept s (alone x) b) root_was;
+      named = λ y k o is.
+          let other : y ≢ x = λ same. absurd (let clash : None ≡ named_as k o = sym (ap object_named (ap (capability_at one.slots) same ∙ gone)) ∙ is in cc) in
+          let was : object_named (capability_at s.slots y) ≡ named_as k o = sym (kept-test object_named (λ p b v w. refl) (λ f q m n. refl) (λ t m n. refl) s (alone x) y (capability_at s.slots y)) ∙ ap object_named (sym (stays y other)) ∙ is in
+          let names : names_object o (capability_at s.slots y) ≡ true = kind-names (capability_at s.slots y) k o was in
+          let beside : some_outside s (alone x) (names_object o) ≡ true = found-at s.memory_bits y _ (ready.near y (named-full o (capability_at s.slots y) names)) (join (not (alone x y)) _ (ap not (ne_eqb y x other)) names) in
+          let stays_there : ends s (alone x) o ≡ false = ap (λ b. some_inside s (alone x) (names_object o) && not b) beside ∙ and-false (some_inside s (alone x) (names_object o)) in
+          ap (λ b. option_map kind_of (if b then None else option_map (without_threads (is_ending_thread s (alone x))) (s.objects o))) stays_there
+          ∙ kind-threads (is_ending_thread s (alone x)) (s.objects o)
+          ∙ ready.named y k o was;
       lines = λ line few. open-kept s (alone x) _ (ready.lines line few);
     }
 

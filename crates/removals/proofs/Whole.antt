@@ -3,7 +3,7 @@ use Rattle.std.proofs.Common.{ℕ, ◌≡◌, ◌∙◌, ◌==◌, ◌+◌, ◌*
 use Rattle.std.specs.Option.{option_map_or}
 use Rattle.std.specs.List.{range_with_len}
 use Rattle.std.proofs.Math.Pow.{pow_mono}
-use Rattle.std.proofs.lemmas.Bool.Decides.{eqb_tells, leb_tells}
+use Rattle.std.proofs.lemmas.Bool.Decides.{leb_tells}
 use Rattle.std.proofs.lemmas.List.Folds.{Any-from_list_any, list_any_at}
 use Rattle.std.proofs.lemmas.List.FromFn.{get_or-range_with_len, length-range_with_len}
 use Rattle.std.proofs.lemmas.Nat.{pow-add}
@@ -11,11 +11,11 @@ use Rattle.model.specs.declared.capabilities.Cap.{Cap}
 use Rattle.model.specs.declared.capabilities.Cap.TheVariants.{Empty, Untyped, Endpoint, Notification, CNode, Frame, PageTable, Tcb, RootTable, InterruptControl, InterruptHandler}
 use Rattle.model.specs.declared.errors.KError.TheVariants.{RevokeFirst}
 use Rattle.model.specs.declared.slot_entries.Entry.{Entry}
-use Rattle.model.specs.Capabilities.CapabilityKinds.{is_handler_of, names_object, object_of}
+use Rattle.model.specs.Capabilities.CapabilityKinds.{is_handler_of, object_of}
 use Rattle.model.specs.Capabilities.Slots.{IsFull, IsOpen, capability_at, empty_entry, is_empty, is_full}
 use Rattle.model.specs.Kernel.Kinds.{kind_at, object_named}
 use Rattle.model.specs.Kernel.Removal.{SlotSet, closes, emptied, ends, ends_filled, is_slot_of, kept_entry, remove, takes_last, wants_revoke_first, with_bindings, without_slots}
-use Rattle.model.specs.Kernel.Retype.{NewObject, NewThread, NewEndpoint, NewNotification, NewCNode, NewFrame, NewPageTable, NewRootTable}
+use Rattle.model.specs.Kernel.Retype.{NewObject, NewRootTable}
 use Rattle.model.specs.Kernel.Soundness.{HasSlot, IsSound, of_boot_area, of_object}
 use Rattle.model.specs.Kernel.State.{State, binding_slot}
 use Rattle.model.proofs.Ancestors.{full-open}
@@ -25,6 +25,7 @@ use Rattle.removals.specs.Steps.{IsReady, SameShape, bindings_from, joined}
 use Rattle.removals.proofs.Finishing.{behind-boot, bounds-within, closes-strays, closing-object, holder, in-memory-whole, named-full, not-false, one-holder, settles, slot-left}
 use Rattle.removals.proofs.Found.{bool-iff, both, found-at, found-where, join}
 use Rattle.removals.proofs.Keeping.{there-in, there-out}
+use Rattle.removals.proofs.Named.{named_as, object-kind}
 use Rattle.removals.proofs.Rounds.{line-open, or-cases}
 use Rattle.removals.proofs.SameFull.{emptied-blank}
 
@@ -46,28 +47,6 @@ pub open-near : (s : State) → IsSound s → (y : ℕ) → IsOpen s.slots y →
 open-near s sound y opens = slot-near s sound y ((sound.slots.there y).0 opens)
 
 -- ---- what a capability names, with its kind
-
-number-same : (f o : ℕ) → (f == o) ≡ true → f ≡ o
-number-same f o is = elim (eqb_tells f o) [ inl here ↦ here.1 | inr other ↦ absurd (let clash : false ≡ true = sym other.0 ∙ is in cc) ]
-
-abbrev named_as : NewObject → ℕ → Option (NewObject × ℕ)
-named_as k o = Some (k, o)
-
-abbrev Named : Cap → ℕ → Type 0
-Named c o = (k : NewObject) × (object_named c ≡ named_as k o)
-
-object-kind : (c : Cap) (o : ℕ) → names_object o c ≡ true → Named c o
-object-kind Empty o is = absurd (let clash : false ≡ true = is in cc)
-object-kind (Untyped f b w) o is = absurd (let clash : false ≡ true = is in cc)
-object-kind (Endpoint f r b) o is = (NewEndpoint, ap (named_as NewEndpoint) (number-same f o is))
-object-kind (Notification f r b) o is = (NewNotification, ap (named_as NewNotification) (number-same f o is))
-object-kind (CNode f radix g) o is = (NewCNode radix, ap (named_as (NewCNode radix)) (number-same f o is))
-object-kind (Frame f r m) o is = (NewFrame, ap (named_as NewFrame) (number-same f o is))
-object-kind (PageTable f m) o is = (NewPageTable, ap (named_as NewPageTable) (number-same f o is))
-object-kind (Tcb f) o is = (NewThread, ap (named_as NewThread) (number-same f o is))
-object-kind (RootTable f) o is = (NewRootTable, ap (named_as NewRootTable) (number-same f o is))
-object-kind InterruptControl o is = absurd (let clash : false ≡ true = is in cc)
-object-kind (InterruptHandler line) o is = absurd (let clash : false ≡ true = is in cc)
 
 abbrev is_root_kind : NewObject → Bool
 is_root_kind NewRootTable = true
@@ -100,6 +79,7 @@ sound-ready s sound = record {
       let same : Some NewRootTable ≡ Some k.0 = sym one ∙ two in
       let kind : NewRootTable ≡ k.0 = cc in
       root-kind (capability_at s.slots b) root (k.1 ∙ ap (λ (n : NewObject). named_as n root) (sym kind));
+  named = sound.memory.named;
   lines = λ line few. (sound.slots.there (binding_slot s line)).1 (of_boot_area (omega (arith, few)));
 }
 

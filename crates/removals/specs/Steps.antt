@@ -1,13 +1,15 @@
 -- A slot is emptied in steps: its mapping goes, it is taken out, and what it held the last capability of ends.
 -- seL4 Reference Manual, "Deletion, Revocation, and Recycling".
-use Rattle.std.specs.Prelude.{ℕ, ◌≡◌, ◌≢◌, ◌==◌, ◌-◌, ◌%◌, ◌/◌, ◌^◌, ◌<◌, ◌&&◌, ◌||◌, Bool, true, false, not, nat_le, if◌then◌else◌, Option, Some, None, option_map}
+use Rattle.std.specs.Prelude.{ℕ, ◌≡◌, ◌≢◌, ◌==◌, ◌-◌, ◌%◌, ◌/◌, ◌^◌, ◌<◌, ◌&&◌, ◌||◌, Bool, true, false, not, nat_le, if◌then◌else◌, IsSome, Option, Some, None, option_map}
 use Rattle.std.specs.Option.{option_map_or}
 use Rattle.std.specs.List.{list_any, range_with_len}
 use Rattle.model.specs.Capabilities.CapabilityKinds.{frame_mapping, names_object, object_of, root_of, table_mapping, unmapped}
 use Rattle.model.specs.Capabilities.Slots.{IsDerivation, IsFull, IsOpen, Slots, capability_at, is_full, parent_at, recapped}
 use Rattle.model.specs.Kernel.AddressSpaces.{page_size}
+use Rattle.model.specs.Kernel.Kinds.{Names, kind_at}
 use Rattle.model.specs.Kernel.MappingCalls.{without_region}
 use Rattle.model.specs.Kernel.Removal.{SlotSet, emptied}
+use Rattle.model.specs.Kernel.Retype.{NewObject}
 use Rattle.model.specs.Kernel.Scheduling.{all_leave}
 use Rattle.model.specs.Kernel.State.{State, as_thread, binding_slot, with_slots}
 use Rattle.model.specs.declared.capabilities.Cap.{Cap}
@@ -119,6 +121,7 @@ pub record IsReady (s : State) : Type 0 where
   pub derivation : IsDerivation s.slots
   pub near : (slot : ℕ) → IsFull s.slots slot → slot < 2 ^ s.memory_bits / 16
   pub roots : RootsAreRoots s.slots
+  pub named : (slot : ℕ) (kind : NewObject) (offset : ℕ) → Names kind offset (capability_at s.slots slot) → kind_at s offset ≡ Some kind
   pub lines : (line : ℕ) → line < 64 → IsOpen s.slots (binding_slot s line)
 
 -- one state has as much memory as another, the boot area where that has it, and open all that is open there
@@ -132,3 +135,7 @@ pub data BindingEmptied (s : State) (line : ℕ) (taken : Bool) (t : State) : Ty
   bound : taken ≡ true → IsFull s.slots (binding_slot s line) → t ≡ emptied s (alone (binding_slot s line)) → BindingEmptied s line taken t
   unbound : taken ≡ true → is_full s.slots (binding_slot s line) ≡ false → t ≡ s → BindingEmptied s line taken t
   left : taken ≡ false → t ≡ s → BindingEmptied s line taken t
+
+-- the object that a capability names is there
+abbrev pub IsThere : State → Cap → Type 0
+IsThere s capability = (offset : ℕ) → object_of capability ≡ Some offset → IsSome (s.objects offset)

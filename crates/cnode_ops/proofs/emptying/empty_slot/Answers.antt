@@ -3,6 +3,7 @@ use Rattle.std.proofs.Common.{◌≡◌, ◌∙◌, None, Some, refl, sym, subst
 use Rattle.model.specs.Capabilities.Slots.{IsDerivation, Slots}
 use Rattle.model.specs.Kernel.State.{State}
 use Rattle.removals.proofs.InSteps.{emptied-in-steps, parent-full}
+use Rattle.removals.proofs.Named.{there-taken}
 use Rattle.cnode_ops.proofs.emptying.empty_slot.Goals as goal
 
 pub rewind-requires-clause-full : goal.rewind-requires-clause-full
@@ -47,3 +48,9 @@ returns-in_default-clause-state g c =
     (g.met.E.Ends.of_slots c.args.ends.now before memory) c.requires.ready c.requires.full
     c.take_out-removed.ensures.removed c.take_out-removed.ensures.slots c.take_out-removed.ensures.state c.end_unnamed.ensures.state has
     (sym c.take_out-removed.ensures.parent ∙ c.in_default.is) refl (λ i. record two { slots = has i })
+
+pub end_unnamed-requires-clause-there : goal.end_unnamed-requires-clause-there
+end_unnamed-requires-clause-there g c =
+    let before : Slots = g.S.SlotMap.slots c.args.store.now in
+    there-taken (g.E.Ends.state c.args.ends.now before (g.S.SlotStore.memory c.args.store.now)) _ before (g.S.SlotMap.slots c.take_out-removed.new.store) c.args.slot c.take_out-removed.result.0
+    (g.met.E.Ends.of_slots _ _ _) c.requires.ready c.take_out-removed.ensures.removed c.take_out-removed.ensures.state
