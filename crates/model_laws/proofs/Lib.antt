@@ -6,6 +6,7 @@ pub mod Descents
 pub mod FreshMachines
 pub mod Interrupted
 pub mod LookupLaws
+pub mod MappedPages
 pub mod Opened
 pub mod PlainSteps
 pub mod Placements
