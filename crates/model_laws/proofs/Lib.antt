@@ -7,6 +7,7 @@ pub mod FreshMachines
 pub mod Interrupted
 pub mod LookupLaws
 pub mod MappedPages
+pub mod MovedRanges
 pub mod Opened
 pub mod PlainSteps
 pub mod Placements

@@ -1,5 +1,5 @@
 -- The page that a list of slots gives is the one that is mapped.
-use Rattle.std.proofs.Common.{ℕ, zero, suc, ◌≡◌, ◌≢◌, ◌∙◌, ◌==◌, ◌+◌, ◌/◌, ◌^◌, ◌<◌, ◌&&◌, inl, inr, Bool, true, false, not, if◌then◌else◌, List, [], ◌∷◌, get_or, length, Option, Some, None, refl, sym, ap, subst, arith}
+use Rattle.std.proofs.Common.{ℕ, zero, suc, ◌≡◌, ◌∙◌, ◌==◌, ◌/◌, ◌^◌, ◌<◌, ◌&&◌, inl, inr, Bool, true, false, not, if◌then◌else◌, List, [], ◌∷◌, get_or, length, Option, Some, None, refl, sym, ap, arith}
 use Rattle.std.specs.Prelude.{filter_map}
 use Rattle.std.specs.Option.{option_map_or}
 use Rattle.std.specs.List.{cons_option, range_with_len}
@@ -10,7 +10,7 @@ use Rattle.model.specs.declared.capabilities.Cap.{Cap}
 use Rattle.model.specs.declared.capabilities.Cap.TheVariants.{Empty, Untyped, Endpoint, Notification, CNode, Frame, PageTable, Tcb, RootTable, InterruptControl, InterruptHandler}
 use Rattle.model.specs.declared.capabilities.FrameMapping.{FrameMapping}
 use Rattle.model.specs.declared.rights.Rights.{Rights}
-use Rattle.model.specs.Capabilities.Slots.{IsFull, Slots, capability_at, is_empty}
+use Rattle.model.specs.Capabilities.Slots.{capability_at, is_empty}
 use Rattle.model.specs.Kernel.AddressSpaces.{Maps, is_page, mapped, maps_page, page_of}
 use Rattle.model.specs.Kernel.Scheduling.{head_of}
 use Rattle.model.specs.Kernel.Soundness.{IsSound}
@@ -80,8 +80,7 @@ page-held root page (InterruptHandler line) frame allowed is = absurd (let clash
 page-there : (root page frame : ℕ) (r allowed : Rights) (c : Cap) → c ≡ Frame frame r (Some (record { root = root; page = page; rights = allowed }))
     → (page_of root page c ≡ found frame allowed) × (maps_page root page c ≡ true) × (not (is_empty c) ≡ true)
 page-there root page frame r allowed c is =
-    let tests : ((root == root) && (page == page)) ≡ true = ap (λ b. b && (page == page)) (eq-eqb root root refl) ∙ eq-eqb page page refl in
-    (
+    let tests : ((root == root) && (page == page)) ≡ true = ap (λ b. b && (page == page)) (eq-eqb root root refl) ∙ eq-eqb page page refl in (
       ap (page_of root page) is ∙ ap (λ b. if b then found frame allowed else None) tests,
       ap (maps_page root page) is ∙ tests,
       ap (λ k. not (is_empty k)) is,
@@ -100,11 +99,11 @@ page-mapped s root page frame allowed sound maps =
     (rw (length-range_with_len 0 count) near)
     (ap (λ (n : ℕ). page_of root page (capability_at s.slots n)) here ∙ there.0)
     (λ n w is.
-      let held = page-held root page (capability_at s.slots n) w.0 w.1 is in
-      let other = page-there root page w.0 held.0 w.1 (capability_at s.slots n) held.1 in
-      let one : n ≡ maps.slot = sound.mappings.one_page n maps.slot root page other.1 there.1 in
-      let both_are : Some w ≡ found frame allowed = sym is ∙ ap (λ (m : ℕ). page_of root page (capability_at s.slots m)) one ∙ there.0 in
-      cc)
+    let held = page-held root page (capability_at s.slots n) w.0 w.1 is in
+    let other = page-there root page w.0 held.0 w.1 (capability_at s.slots n) held.1 in
+    let one : n ≡ maps.slot = sound.mappings.one_page n maps.slot root page other.1 there.1 in
+    let both_are : Some w ≡ found frame allowed = sym is ∙ ap (λ (m : ℕ). page_of root page (capability_at s.slots m)) one ∙ there.0 in
+    cc)
 
 pub page-maps : (s : State) (root page frame : ℕ) (allowed : Rights) → mapped s root page ≡ Some (frame, allowed) → Maps s.slots root page frame allowed
 page-maps s root page frame allowed is =

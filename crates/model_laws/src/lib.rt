@@ -137,6 +137,7 @@ pub use program_rows::edges_have_targets;
 pub use program_rows::measures_are_noted_anew;
 pub use program_rows::slots_are_the_threads;
 pub use program_rows::waits_keep_the_budget;
+pub use range_laws::a_range_moves_where_its_ends_stay_words;
 pub use range_laws::addi_keeps_ranges;
 pub use range_laws::jal_keeps_ranges;
 pub use range_rows::bits_lie_in;
