@@ -1,5 +1,5 @@
 -- What emptying one slot of a set leaves of the set, and of the full slots.
-use Rattle.std.proofs.Common.{ℕ, zero, suc, ◌≡◌, ◌≢◌, ◌∙◌, ◌+◌, ◌/◌, ◌^◌, ◌<◌, ◌≤◌, ◌||◌, ◌⊎◌, inl, inr, Bool, is_some, option_map, true, false, List, [], ◌∷◌, get_or, length, filter, cond, Some, None, refl, sym, ap, subst, arith}
+use Rattle.std.proofs.Common.{ℕ, zero, suc, ◌≡◌, ◌≢◌, ◌∙◌, ◌+◌, ◌/◌, ◌^◌, ◌<◌, ◌≤◌, ◌||◌, inl, inr, Bool, is_some, option_map, true, false, List, [], ◌∷◌, get_or, length, filter, cond, Some, None, refl, sym, ap, subst, arith}
 use Rattle.std.specs.List.{range_with_len}
 use Rattle.std.proofs.lemmas.Bool.Decides.{eqb_tells}
 use Rattle.std.proofs.lemmas.List.FromFn.{get_or-range_with_len, length-range_with_len}
@@ -8,6 +8,7 @@ use Rattle.model.specs.Kernel.Removal.{SlotSet, emptied, kept_entry}
 use Rattle.model.specs.Kernel.State.{State, binding_slot, slot_numbers}
 use Rattle.model.proofs.Ancestors.{depth-child, descendant-from_test, descendant-full, full-open}
 use Rattle.removals.specs.Steps.{BindingEmptied, IsReady, SameShape, alone, bindings_from, bound, joined, left, unbound}
+use Rattle.removals.proofs.Found.{or-cases}
 use Rattle.removals.proofs.Keeping.{there-out}
 use Rattle.removals.proofs.SameFull.{emptied-same}
 use Rattle.removals.proofs.Loop.{descends-still}
@@ -101,10 +102,6 @@ left-first s set ready members = record {
   members = members;
   taken = λ more opens. refl;
 }
-
-or-cases : (p q : Bool) → (p || q) ≡ true → (p ≡ true) ⊎ (q ≡ true)
-or-cases true q is = inl refl
-or-cases false q is = inr is
 
 joined-open : (s : State) (set more : SlotSet) → ((y : ℕ) → set y ≡ true → IsOpen s.slots y) → ((y : ℕ) → more y ≡ true → IsOpen s.slots y) → (y : ℕ) → joined set more y ≡ true → IsOpen s.slots y
 joined-open s set more first second y member = elim (or-cases (set y) (more y) member) [ inl is ↦ first y is | inr is ↦ second y is ]

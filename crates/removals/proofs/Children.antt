@@ -7,7 +7,7 @@ use Rattle.model.specs.Capabilities.Slots.{IsDerivation, IsFull, parent_at}
 use Rattle.model.specs.Kernel.Removal.{SlotSet, ancestor_outside, is_some_slot, loses_last_child, new_parent}
 use Rattle.model.specs.Kernel.State.{State}
 use Rattle.model.proofs.Depths.{adopted_parent}
-use Rattle.removals.proofs.Found.{bool-iff, both, found, found-at, found-or, found-same, found-where, join}
+use Rattle.removals.proofs.Found.{bool-iff, both, found, found-at, found-or, found-same, found-where, join, or-cases}
 use Rattle.removals.specs.Steps.{alone, less}
 use Rattle.removals.proofs.Lasts.{left-at, outside-at}
 use Rattle.removals.proofs.Keeping.{parent-out}
@@ -32,10 +32,6 @@ table true false false true forth back = absurd (let clash : false ≡ true = ba
 table true false false false forth back = refl
 table false true d b forth back = refl
 table false false d b forth back = refl
-
-or-cases : (p q : Bool) → (p || q) ≡ true → (p ≡ true) ⊎ (q ≡ true)
-or-cases true q is = inl refl
-or-cases false q is = inr is
 
 not-not : (p : Bool) → not p ≡ true → p ≡ false
 not-not true is = absurd (let clash : false ≡ true = is in cc)

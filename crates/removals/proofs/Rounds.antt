@@ -1,5 +1,5 @@
 -- One round of a removal's loops.
-use Rattle.std.proofs.Common.{ℕ, suc, ◌≡◌, ◌≢◌, ◌∙◌, ◌==◌, ◌/◌, ◌^◌, ◌<◌, ◌&&◌, ◌||◌, ◌⊎◌, inl, inr, Bool, true, false, not, nat_le, Option, Some, None, is_some, option_map, get_or, refl, sym, ap, subst, arith}
+use Rattle.std.proofs.Common.{ℕ, suc, ◌≡◌, ◌≢◌, ◌∙◌, ◌==◌, ◌/◌, ◌^◌, ◌<◌, ◌&&◌, ◌||◌, inl, inr, Bool, true, false, not, nat_le, Option, Some, None, is_some, option_map, get_or, refl, sym, ap, subst, arith}
 use Rattle.std.specs.List.{list_any, range_with_len}
 use Rattle.std.proofs.Math.Bool.{and-false, and-true}
 use Rattle.std.proofs.lemmas.Bool.{eq-eqb, le-leb, ne_eqb}
@@ -13,7 +13,7 @@ use Rattle.model.specs.Kernel.Removal.{SlotSet, emptied, kept_entry, takes_last,
 use Rattle.model.specs.Kernel.State.{State, binding_slot}
 use Rattle.model.proofs.SlotChanges.{capability_of}
 use Rattle.removals.specs.Steps.{alone, bindings_from, joined, less}
-use Rattle.removals.proofs.Found.{both, join}
+use Rattle.removals.proofs.Found.{both, join, or-cases}
 use Rattle.removals.proofs.Keeping.{there-in, there-out}
 use Rattle.removals.proofs.Loop.{emptied-none}
 use Rattle.removals.proofs.OneByOne.{one-by-one}
@@ -37,10 +37,6 @@ less-other set x y other = ap (λ b. set y && not b) (ne_eqb y x other) ∙ and-
 
 less-member : (set : SlotSet) (x y : ℕ) → less set x y ≡ true → set y ≡ true
 less-member set x y is = (both (set y) _ is).0
-
-pub or-cases : (p q : Bool) → (p || q) ≡ true → (p ≡ true) ⊎ (q ≡ true)
-or-cases true q is = inl refl
-or-cases false q is = inr is
 
 -- a slot of a set is emptied, and what is left of the set is the same on full slots
 pub round : (s : State) (x : ℕ) (set left more : SlotSet) → IsDerivation s.slots → IsDerivation (emptied s (alone x)).slots → ((y : ℕ) → IsFull s.slots y → y < 2 ^ s.memory_bits / 16) → IsFull s.slots x → set x ≡ true

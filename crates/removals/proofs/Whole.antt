@@ -23,10 +23,10 @@ use Rattle.model.proofs.SlotChanges.{capability_of}
 use Rattle.removals.specs.Finishing.{MaySettle, has_slot, settled, slots_from}
 use Rattle.removals.specs.Steps.{IsReady, SameShape, bindings_from, joined}
 use Rattle.removals.proofs.Finishing.{behind-boot, bounds-within, closes-strays, closing-object, holder, in-memory-whole, named-full, not-false, one-holder, settles, slot-left}
-use Rattle.removals.proofs.Found.{bool-iff, both, found-at, found-where, join}
+use Rattle.removals.proofs.Found.{bool-iff, both, found-at, found-where, join, or-cases}
 use Rattle.removals.proofs.Keeping.{there-in, there-out}
 use Rattle.removals.proofs.Named.{named_as, object-kind}
-use Rattle.removals.proofs.Rounds.{line-open, or-cases}
+use Rattle.removals.proofs.Rounds.{line-open}
 use Rattle.removals.proofs.SameFull.{emptied-blank}
 
 -- ---- what the steps rely on
