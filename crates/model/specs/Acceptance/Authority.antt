@@ -79,7 +79,7 @@ pub record HandlesBinding (s : State) (notification : ℕ) (capability : Cap) : 
   pub number : ℕ
   pub badge : ℕ
   pub is : capability ≡ InterruptHandler number
-  pub bound : binding s number ≡ Some (notification, badge)
+  pub bound : binding s number ≡ Some (record { notification = notification; badge = badge })
 
 -- ---- new capabilities
 
@@ -204,7 +204,7 @@ pub record WithinTick (s after : State) : Type 0 where
 
 -- the interrupt of a line is delivered: the line is bound, and not masked
 pub record IsDelivered (number : ℕ) (s : State) (notification badge : ℕ) : Type 0 where
-  pub bound : binding s number ≡ Some (notification, badge)
+  pub bound : binding s number ≡ Some (record { notification = notification; badge = badge })
   pub unmasked : s.masked number ≡ false
 
 -- what becomes of the notification that a line is bound to, and of the first thread that waits there

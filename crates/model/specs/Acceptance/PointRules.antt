@@ -15,7 +15,7 @@ use Rattle.model.specs.declared.refusals.Refusal.{Refusal}
 use Rattle.model.specs.declared.refusals.Refusal.TheVariants.{BadTarget, CapNotThere, ComputedJump, IllegalInstruction, MeasureNotFalling, NotMapped, OverBudget, RangeNotKept}
 use Rattle.model.specs.Kernel.AddressSpaces.{allows, page_of, page_size}
 use Rattle.model.specs.Acceptance.CallRules.{AfterCall}
-use Rattle.model.specs.Images.Described.{listed_registers, numbered, start_registers}
+use Rattle.model.specs.Images.Described.{Numbered, listed_registers, numbered_threads, start_registers}
 use Rattle.model.specs.Acceptance.Edges.{Edge, Edges, after}
 use Rattle.model.specs.Images.Image.{Image, Thread}
 use Rattle.model.specs.declared.instructions.AccessSize.{AccessSize}
@@ -24,7 +24,7 @@ use Rattle.model.specs.Machine.Effects.{load_size, store_size}
 use Rattle.model.specs.Acceptance.Measures.{Form, Measure, behind_form, call_form, falls, least_value, measured, stays_below}
 use Rattle.model.specs.Acceptance.NotedStates.{NotedSlot, PointState, are_same_slots, has_stray_slots, image_slots}
 use Rattle.model.specs.Images.Places.{offset_of}
-use Rattle.model.specs.Acceptance.PointStates.{Noted, Known, Missing, Unmeasured, Numbered, address_of, call_at, instruction_at, noted, point_of}
+use Rattle.model.specs.Acceptance.PointStates.{Noted, Known, Missing, Unmeasured, address_of, call_at, instruction_at, noted, point_of}
 use Rattle.model.specs.Acceptance.Ranges.{full, range_of}
 use Rattle.model.specs.Capabilities.Rights.{rights}
 use Rattle.model.specs.Acceptance.Rules.{Rule, refuse_if}
@@ -50,7 +50,7 @@ point_at t address =
 
 -- what is known of an edge's target
 abbrev pub noted_at : Image → Numbered → ℕ → Noted
-noted_at image t address = option_map_or (noted image t) (point_at t.1 address) Missing
+noted_at image t address = option_map_or (noted image t) (point_at t.thread address) Missing
 
 abbrev pub is_range_within : Range → Range → Bool
 is_range_within r s = nat_le s.low r.low && nat_le r.high s.high
@@ -106,14 +106,14 @@ call_edges pc before (Some (Err refusal)) = []
 call_edges pc before None = []
 
 unfoldable pub edges_at : Image → Numbered → ℕ → PointState → Option Instr → List ProgramEdge
-edges_at image t point state (Some Ecall) = call_edges (address_of t.1 point) state.ranges (call_at image t point state)
-edges_at image t point state (Some instr) = edges_of instr state.slots (after (address_of t.1 point) instr state.ranges)
+edges_at image t point state (Some Ecall) = call_edges (address_of t.thread point) state.ranges (call_at image t point state)
+edges_at image t point state (Some instr) = edges_of instr state.slots (after (address_of t.thread point) instr state.ranges)
 edges_at image t point state None = []
 
 abbrev pub rules_on_edges : Image → Numbered → ℕ → PointState → List Rule
 rules_on_edges image t point state =
-    flat_map (λ edge. edge_rules t.1 (point_of t point) state.measure edge (noted_at image t edge.target))
-    (edges_at image t point state (instruction_at t.1 point))
+    flat_map (λ edge. edge_rules t.thread (point_of t point) state.measure edge (noted_at image t edge.target))
+    (edges_at image t point state (instruction_at t.thread point))
 
 -- ---- memory
 
@@ -123,7 +123,7 @@ maps_for access t page f = f.root == t.header.root && (f.address == page * page_
 
 -- whether a noted frame capability does
 abbrev pub holds_for : Access → ℕ → ℕ → NotedSlot → Bool
-holds_for access root page s = option_map_or (λ m. allows access m.1) (page_of root page s.capability) false
+holds_for access root page s = option_map_or (λ m. allows access m.allowed) (page_of root page s.capability) false
 
 abbrev pub is_mapped_for : Image → Thread → List NotedSlot → Access → ℕ → Bool
 is_mapped_for image t slots access page =
@@ -175,12 +175,12 @@ call_rule image t point state _ = None
 unfoldable pub state_rules : Image → Numbered → ℕ → PointState → List Rule
 state_rules image t point state =
     let at = point_of t point in
-    let instr = instruction_at t.1 point in
+    let instr = instruction_at t.thread point in
     refuse_if (is_illegal instr) (IllegalInstruction at)
     ∷ refuse_if (is_computed_jump instr) (ComputedJump at)
-    ∷ refuse_if (has_stray_slots image t.1 point state) (CapNotThere at)
+    ∷ refuse_if (has_stray_slots image t.thread point state) (CapNotThere at)
     ∷ refuse_if (int_lt (least_value state.measure state.ranges) (pos 1)) (MeasureNotFalling at)
-    ∷ refuse_if (is_unmapped image t.1 state instr) (NotMapped at)
+    ∷ refuse_if (is_unmapped image t.thread state instr) (NotMapped at)
     ∷ call_rule image t point state instr
     ∷ rules_on_edges image t point state
 
@@ -205,19 +205,19 @@ starts_within t state =
 -- the thread starts with what is known of its entry, and within its budget
 abbrev pub entry_rules : Image → Numbered → Noted → List Rule
 entry_rules image t (Known state) =
-    let at = point_of t (t.1).header.entry in
-    refuse_if (not (starts_within t.1 state)) (RangeNotKept at)
-    ∷ refuse_if (not (are_same_slots state.slots (image_slots image t.1))) (CapNotThere at)
-    ∷ refuse_if (int_lt (pos (t.1).header.budget) (measured state.measure (start_registers t.1))) (OverBudget at) ∷ []
-entry_rules image t Missing = Some (RangeNotKept (point_of t (t.1).header.entry)) ∷ []
-entry_rules image t Unmeasured = Some (RangeNotKept (point_of t (t.1).header.entry)) ∷ []
+    let at = point_of t t.thread.header.entry in
+    refuse_if (not (starts_within t.thread state)) (RangeNotKept at)
+    ∷ refuse_if (not (are_same_slots state.slots (image_slots image t.thread))) (CapNotThere at)
+    ∷ refuse_if (int_lt (pos t.thread.header.budget) (measured state.measure (start_registers t.thread))) (OverBudget at) ∷ []
+entry_rules image t Missing = Some (RangeNotKept (point_of t t.thread.header.entry)) ∷ []
+entry_rules image t Unmeasured = Some (RangeNotKept (point_of t t.thread.header.entry)) ∷ []
 
 -- ---- a program
 
 unfoldable pub rules_of_program : Image → Numbered → List Rule
 rules_of_program image t =
-    entry_rules image t (noted image t (t.1).header.entry)
-    ++ flat_map (point_rules image t) (range_with_len 0 (t.1).header.words)
+    entry_rules image t (noted image t t.thread.header.entry)
+    ++ flat_map (point_rules image t) (range_with_len 0 t.thread.header.words)
 
 unfoldable pub program_rules : Image → List Rule
-program_rules image = flat_map (rules_of_program image) (numbered image.threads)
+program_rules image = flat_map (rules_of_program image) (numbered_threads image)

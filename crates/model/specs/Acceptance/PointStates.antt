@@ -8,6 +8,7 @@ use Rattle.model.specs.declared.refusals.Point.{Point}
 use Rattle.model.specs.declared.refusals.Refusal.{Refusal}
 use Rattle.model.specs.Acceptance.CallRules.{AfterCall, after_call}
 use Rattle.model.specs.Acceptance.Edges.{Edge, after}
+use Rattle.model.specs.Images.Described.{Numbered}
 use Rattle.model.specs.Images.Image.{Image, Thread, StateRecord}
 use Rattle.model.specs.Machine.Decoding.{decoded}
 use Rattle.model.specs.Acceptance.Measures.{Measure, has_term, lowered}
@@ -22,12 +23,8 @@ pub data Noted : Type 0 where
   -- it has none only because the instruction before writes a register of the measure
   Unmeasured : Noted
 
--- a thread with its number in the image
-abbrev pub Numbered : Type 0
-Numbered = ℕ × Thread
-
 abbrev pub point_of : Numbered → ℕ → Point
-point_of t point = record { thread = t.0; point = point }
+point_of t point = record { thread = t.number; point = point }
 
 abbrev pub address_of : Thread → ℕ → ℕ
 address_of t point = t.header.base + 4 * point
@@ -54,7 +51,7 @@ behind_call t m a =
 -- point is refused for that slot, and the call is not looked at.
 unfoldable pub call_at : Image → Numbered → ℕ → PointState → Option (Result AfterCall Refusal)
 call_at image t point state =
-    if has_stray_slots image t.1 point state then None else Some (after_call image t.1 (point_of t point) state)
+    if has_stray_slots image t.thread point state then None else Some (after_call image t.thread (point_of t point) state)
 
 abbrev pub follows_call : Thread → Measure → Option (Result AfterCall Refusal) → Noted
 follows_call t m None = Missing
@@ -69,13 +66,13 @@ follows_edge instr state (Some edge) =
 
 abbrev pub follows_instruction : Image → Numbered → ℕ → PointState → Option Instr → Noted
 follows_instruction image t point state None = Missing
-follows_instruction image t point state (Some Ecall) = follows_call t.1 state.measure (call_at image t point state)
+follows_instruction image t point state (Some Ecall) = follows_call t.thread state.measure (call_at image t point state)
 follows_instruction image t point state (Some instr) =
-    follows_edge instr state (after (address_of t.1 point) instr state.ranges).fall_through
+    follows_edge instr state (after (address_of t.thread point) instr state.ranges).fall_through
 
 -- what the fall-through of a point leaves; nothing where the point has no state
 abbrev pub follows : Image → Numbered → ℕ → Noted → Noted
-follows image t point (Known state) = follows_instruction image t point state (instruction_at t.1 point)
+follows image t point (Known state) = follows_instruction image t point state (instruction_at t.thread point)
 follows image t point Missing = Missing
 follows image t point Unmeasured = Missing
 
@@ -85,5 +82,5 @@ noted_or image t (Some r) otherwise = Known (record_state image t r)
 noted_or image t None otherwise = otherwise
 
 unfoldable pub noted : Image → Numbered → ℕ → Noted
-noted image t zero = noted_or image t.1 (record_of t.1 0) Missing
-noted image t (suc point) = noted_or image t.1 (record_of t.1 (suc point)) (follows image t point (noted image t point))
+noted image t zero = noted_or image t.thread (record_of t.thread 0) Missing
+noted image t (suc point) = noted_or image t.thread (record_of t.thread (suc point)) (follows image t point (noted image t point))

@@ -1,7 +1,6 @@
 -- What an instruction makes of the ranges of registers: the range of its result, and the ranges on each way on.
 -- RISC-V Unprivileged ISA, 2.4 to 2.6, for the results that have to lie in them.
 use Rattle.std.specs.Prelude.{ℕ, zero, suc, ◌==◌, ◌+◌, ◌-◌, ◌*◌, ◌/◌, ◌%◌, ◌^◌, min, max, Bool, ◌&&◌, nat_le, nat_lt, ℤ, List, Option, Some, None, if◌then◌else◌}
-use Rattle.std.specs.Option.{option_map_or}
 use Rattle.model.specs.declared.ranges.Range.{Range}
 use Rattle.model.specs.declared.instructions.Register.{Register}
 use Rattle.model.specs.declared.instructions.LoadOp.{LoadOp}
@@ -130,30 +129,21 @@ destination Fence = None
 destination Ecall = None
 destination Ebreak = None
 
--- The range of what the instruction at a pc writes to its destination. An instruction that is no load has its value where
--- each source is a single value.
-unfoldable pub result_range : ℕ → Instr → List Range → Range
-result_range pc (Upper op rd immediate) ranges = single (upper_result op pc immediate)
-result_range pc (Jal rd offset) ranges = single ((pc + 4) % 2 ^ 32)
-result_range pc (Jalr rd rs1 offset) ranges = single ((pc + 4) % 2 ^ 32)
-result_range pc (Branch op rs1 rs2 offset) ranges = full
-result_range pc (Load op rd rs1 offset) ranges = load_range op
-result_range pc (Store op rs1 rs2 offset) ranges = full
-result_range pc (Immediate op rd rs1 immediate) ranges =
+-- What the instruction at a pc, which is no branch, makes of the ranges: the register that it writes, if it writes one, gets the
+-- range of its result. An instruction that is no load has its value where each source is a single value.
+unfoldable pub ranges_after : ℕ → Instr → List Range → List Range
+ranges_after pc (Upper op rd immediate) ranges = with_range ranges rd (single (upper_result op pc immediate))
+ranges_after pc (Jal rd offset) ranges = with_range ranges rd (single ((pc + 4) % 2 ^ 32))
+ranges_after pc (Jalr rd rs1 offset) ranges = with_range ranges rd (single ((pc + 4) % 2 ^ 32))
+ranges_after pc (Load op rd rs1 offset) ranges = with_range ranges rd (load_range op)
+ranges_after pc (Immediate op rd rs1 immediate) ranges =
     let r = range_of ranges rs1 in
-    value_or (is_single r) (immediate_result op r.low immediate) (immediate_range op r immediate)
-result_range pc (Shift op rd rs1 amount) ranges =
+    with_range ranges rd (value_or (is_single r) (immediate_result op r.low immediate) (immediate_range op r immediate))
+ranges_after pc (Shift op rd rs1 amount) ranges =
     let r = range_of ranges rs1 in
-    value_or (is_single r) (shift_result op r.low amount) (shift_range op r amount)
-result_range pc (Registers op rd rs1 rs2) ranges =
+    with_range ranges rd (value_or (is_single r) (shift_result op r.low amount) (shift_range op r amount))
+ranges_after pc (Registers op rd rs1 rs2) ranges =
     let r = range_of ranges rs1 in
     let s = range_of ranges rs2 in
-    value_or (is_single r && is_single s) (register_result op r.low s.low) (register_range op r s)
-result_range pc Fence ranges = full
-result_range pc Ecall ranges = full
-result_range pc Ebreak ranges = full
-
--- the ranges behind an instruction that is no branch
-abbrev pub ranges_after : ℕ → Instr → List Range → List Range
-ranges_after pc instr ranges =
-    option_map_or (λ rd. with_range ranges rd (result_range pc instr ranges)) (destination instr) ranges
+    with_range ranges rd (value_or (is_single r && is_single s) (register_result op r.low s.low) (register_range op r s))
+ranges_after pc _ ranges = ranges

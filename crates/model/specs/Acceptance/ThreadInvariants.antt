@@ -11,14 +11,14 @@ use Rattle.model.specs.declared.ranges.Range.{Range}
 use Rattle.model.specs.declared.rights.Rights.{Rights}
 use Rattle.model.specs.Kernel.AddressSpaces.{Maps, content_of, page_size}
 use Rattle.model.specs.Acceptance.CallRules.{AfterCall}
-use Rattle.model.specs.Images.Described.{original}
+use Rattle.model.specs.Images.Described.{Numbered, original}
 use Rattle.model.specs.Images.Image.{Image}
 use Rattle.model.specs.Machine.ProgramMemory.{RegisterFile, loaded, read}
 use Rattle.model.specs.Acceptance.Measures.{measured, register_numbered}
 use Rattle.model.specs.Acceptance.NotedKernel.{noted_after, noted_root, slot_of_key}
 use Rattle.model.specs.Acceptance.NotedStates.{NotedSlot, PointState}
 use Rattle.model.specs.Images.Places.{offset_of}
-use Rattle.model.specs.Acceptance.PointStates.{Known, Numbered, address_of, call_at, instruction_at, noted}
+use Rattle.model.specs.Acceptance.PointStates.{Known, address_of, call_at, instruction_at, noted}
 use Rattle.model.specs.Acceptance.Ranges.{range_of}
 use Rattle.model.specs.Capabilities.Rights.{mapping_rights, frame_rights}
 use Rattle.model.specs.Capabilities.Slots.{capability_at, parent_at}
@@ -26,10 +26,10 @@ use Rattle.model.specs.Kernel.State.{State, Status, Inactive, Runnable, Blocked,
 use Rattle.model.specs.Kernel.Waits.{open_count}
 
 abbrev pub tcb_of : Image → Numbered → ℕ
-tcb_of image t = offset_of image (t.1).header.tcb
+tcb_of image t = offset_of image t.thread.header.tcb
 
 abbrev pub root_table_of : Image → Numbered → ℕ
-root_table_of image t = offset_of image (t.1).header.root
+root_table_of image t = offset_of image t.thread.header.root
 
 -- ---- registers, program and mappings
 
@@ -42,14 +42,14 @@ LieWithin r ranges =
 -- each word of the program stands at its address, in a page that the thread executes
 abbrev pub ProgramStands : Image → Numbered → State → Type 0
 ProgramStands image t s =
-    (point : ℕ) → point < (t.1).header.words
-    → loaded (content_of s (tcb_of image t)) Fetch Word (address_of t.1 point) ≡ Ok (slice_index (t.1).words point)
+    (point : ℕ) → point < t.thread.header.words
+    → loaded (content_of s (tcb_of image t)) Fetch Word (address_of t.thread point) ≡ Ok (slice_index t.thread.words point)
 
 -- the image maps a frame at a page under the thread's root table
 pub record ImageMaps (image : Image) (t : Numbered) (page frame : ℕ) (allowed : Rights) : Type 0 where
   pub entry : FrameEntry
   pub listed : Contains image.frames entry
-  pub root : entry.root ≡ (t.1).header.root
+  pub root : entry.root ≡ t.thread.header.root
   pub address : entry.address ≡ page * page_size
   pub object : frame ≡ offset_of image entry.frame
   pub rights : allowed ≡ mapping_rights frame_rights entry.rights
@@ -79,29 +79,29 @@ pub record HasBootParent (s : State) (slot : ℕ) : Type 0 where
 
 -- the thread stands at a point with a state, and all but its measure is as noted there
 pub record StandsAt (image : Image) (t : Numbered) (s : State) (own : ThreadState) (point : ℕ) (state : PointState) : Type 0 where
-  pub inside : point < (t.1).header.words
+  pub inside : point < t.thread.header.words
   pub known : noted image t point ≡ Known state
-  pub pc : own.registers.pc ≡ address_of t.1 point
+  pub pc : own.registers.pc ≡ address_of t.thread point
   pub registers : LieWithin own.registers state.ranges
-  pub slots : noted_after image t.1 s.slots ≡ state.slots
+  pub slots : noted_after image t.thread s.slots ≡ state.slots
   -- what the slots do not say: one without noted parent has its parent in the boot CNode
   pub parents : (slot : NotedSlot) → Contains state.slots slot → slot.parent ≡ None
       → HasBootParent s (slot_of_key image slot.key)
   pub program : ProgramStands image t s
   pub maps : MapsAreNoted image t s state.slots
   -- the thread's own two slots hold what the image gives it
-  pub cspace : capability_at s.slots (cspace_slot (tcb_of image t)) ≡ noted_root image t.1
-  pub vspace : capability_at s.slots (vspace_slot (tcb_of image t)) ≡ original image (t.1).header.root
+  pub cspace : capability_at s.slots (cspace_slot (tcb_of image t)) ≡ noted_root image t.thread
+  pub vspace : capability_at s.slots (vspace_slot (tcb_of image t)) ≡ original image t.thread.header.root
 
 -- the instructions since the last wait and the measure together are within the budget
 abbrev pub IsWithinBudget : Image → Numbered → List Label → ThreadState → PointState → Type 0
 IsWithinBudget image t labels own state =
-    (pos (open_count (tcb_of image t) labels) +ℤ measured state.measure own.registers) ≤ℤ pos (t.1).header.budget
+    (pos (open_count (tcb_of image t) labels) +ℤ measured state.measure own.registers) ≤ℤ pos t.thread.header.budget
 
 -- the system call at the point is a wait
 abbrev pub WaitsThere : Image → Numbered → ℕ → PointState → Type 0
 WaitsThere image t point state =
-    (instruction_at t.1 point ≡ Some Ecall)
+    (instruction_at t.thread point ≡ Some Ecall)
     × ((left : AfterCall) × (call_at image t point state ≡ Some (Ok left)) × (left.is_wait ≡ true))
 
 abbrev pub IsWaiting : Status → Type 0

@@ -6,7 +6,7 @@ use Rattle.model.specs.declared.entries.CapabilityEntry.{CapabilityEntry}
 use Rattle.model.specs.declared.refusals.Refusal.TheVariants.{SharedCSpace, SharedVSpace, BadThread}
 use Rattle.model.specs.Kernel.AddressSpaces.{address_limit, page_size}
 use Rattle.model.specs.Capabilities.CapabilityKinds.{is_guard_word}
-use Rattle.model.specs.Images.Described.{numbered}
+use Rattle.model.specs.Images.Described.{Numbered, numbered_threads}
 use Rattle.model.specs.Images.Fills.{frame_at, program_pages}
 use Rattle.model.specs.Images.Image.{Image, Thread}
 use Rattle.model.specs.Images.Places.{type_at}
@@ -54,18 +54,19 @@ abbrev pub is_code : Image → Thread → ℕ → Bool
 is_code image t address = option_map_or executes (frame_at image t.header.root address) false
 
 -- whether a thread's objects, program or entry do not fit; a thread's CNode has a radix
-unfoldable pub is_bad : Image → ℕ × Thread → Bool
-is_bad image (number, t) =
-    not (is_thread_type (type_at image t.header.tcb)) || not (is_root_type (type_at image t.header.root))
-    || is_in_use image number t || not (has_guard image t) || not (t.header.base % page_size == 0)
-    || nat_lt address_limit (program_end t) || not (list_all (is_code image t) (program_pages t))
-    || nat_le t.header.words t.header.entry
+unfoldable pub is_bad : Image → Numbered → Bool
+is_bad image t =
+    let header = t.thread.header in
+    not (is_thread_type (type_at image header.tcb)) || not (is_root_type (type_at image header.root))
+    || is_in_use image t.number t.thread || not (has_guard image t.thread) || not (header.base % page_size == 0)
+    || nat_lt address_limit (program_end t.thread) || not (list_all (is_code image t.thread) (program_pages t.thread))
+    || nat_le header.words header.entry
 
 -- an earlier thread reaches a CNode that this one reaches
-unfoldable pub shares_cspace : Image → ℕ × Thread → Bool
-shares_cspace image (number, t) =
-    let earlier = flat_map (reached image) (take number image.threads) in
-    list_any (λ cnode. is_member cnode earlier) (reached image t)
+unfoldable pub shares_cspace : Image → Numbered → Bool
+shares_cspace image t =
+    let earlier = flat_map (reached image) (take t.number image.threads) in
+    list_any (λ cnode. is_member cnode earlier) (reached image t.thread)
 
 -- a reached CNode holds a root table that is not the thread's
 abbrev pub holds_other_root : Image → Thread → Bool
@@ -73,14 +74,14 @@ holds_other_root image t =
     let cnodes = reached image t in
     list_any (λ c. is_member c.cnode cnodes && is_root_type (source_type image c.source) && not (c.source == t.header.root)) image.capabilities
 
-unfoldable pub shares_vspace : Image → ℕ × Thread → Bool
-shares_vspace image (number, t) =
-    list_any (λ u. u.header.root == t.header.root) (take number image.threads) || holds_other_root image t
+unfoldable pub shares_vspace : Image → Numbered → Bool
+shares_vspace image t =
+    list_any (λ u. u.header.root == t.thread.header.root) (take t.number image.threads) || holds_other_root image t.thread
 
-abbrev pub rules_of_thread : Image → ℕ × Thread → List Rule
+abbrev pub rules_of_thread : Image → Numbered → List Rule
 rules_of_thread image t =
-    refuse_if (is_bad image t) (BadThread t.0) ∷ refuse_if (shares_cspace image t) (SharedCSpace t.0)
-    ∷ refuse_if (shares_vspace image t) (SharedVSpace t.0) ∷ []
+    refuse_if (is_bad image t) (BadThread t.number) ∷ refuse_if (shares_cspace image t) (SharedCSpace t.number)
+    ∷ refuse_if (shares_vspace image t) (SharedVSpace t.number) ∷ []
 
 unfoldable pub thread_rules : Image → List Rule
-thread_rules image = flat_map (rules_of_thread image) (numbered image.threads)
+thread_rules image = flat_map (rules_of_thread image) (numbered_threads image)

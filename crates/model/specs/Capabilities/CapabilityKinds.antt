@@ -29,9 +29,13 @@ abbrev pub is_untyped : Cap → Bool
 is_untyped (Untyped offset bits watermark) = true
 is_untyped _ = false
 
--- the offset and the radix of a CNode
-abbrev pub cnode_of : Cap → Option (ℕ × ℕ)
-cnode_of (CNode offset radix guard) = Some (offset, radix)
+-- a CNode: where it stands, and that it has 2 ^ radix slots
+pub record Node : Type 0 where
+  pub offset : ℕ
+  pub radix : ℕ
+
+abbrev pub cnode_of : Cap → Option Node
+cnode_of (CNode offset radix guard) = Some (record { offset = offset; radix = radix })
 cnode_of _ = None
 
 abbrev pub root_of : Cap → Option ℕ

@@ -8,7 +8,7 @@ use Rattle.model.specs.declared.entries.InterruptEntry.{InterruptEntry}
 use Rattle.model.specs.declared.entries.TableEntry.{TableEntry}
 use Rattle.model.specs.declared.entries.UntypedEntry.{UntypedEntry}
 use Rattle.model.specs.Kernel.AddressSpaces.{page_size}
-use Rattle.model.specs.Images.Described.{numbered, start_of}
+use Rattle.model.specs.Images.Described.{Numbered, numbered, numbered_threads, start_of}
 use Rattle.model.specs.Images.Fills.{Fill, content_fill, frame_at, program_fills, program_pages}
 use Rattle.model.specs.Images.Image.{Image, Thread, ImageContent}
 use Rattle.model.specs.Kernel.CallForms.{configure_label, copy_label, get_handler_label, map_frame_label, map_table_label, mint_label, move_label, resume_label, retype_label, set_notification_label, set_priority_label, set_register_label}
@@ -105,8 +105,8 @@ has_place image t =
     (t.header.base % page_size == 0) && is_root_type (type_at image t.header.root)
     && list_all (λ address. is_some (frame_at image t.header.root address)) (program_pages t)
 
-abbrev pub program_operation : Image → ℕ × Thread → Operation
-program_operation image t = Fills t.0 (if has_place image t.1 then Some (program_fills image t.1) else None)
+abbrev pub program_operation : Image → Numbered → Operation
+program_operation image t = Fills t.number (if has_place image t.thread then Some (program_fills image t.thread) else None)
 
 -- ---- the whole
 
@@ -123,7 +123,7 @@ last_calls image = flat_map (signal_calls image) (numbered image.interrupts) ++ 
 unfoldable pub operations : Image → List Operation
 operations image =
     map (λ u. PutsUntyped u.0 u.1) (numbered image.untypeds) ++ PutsControl (control_slot image) ∷ map Calls (first_calls image) ++ map (content_operation image) image.contents
-    ++ map (program_operation image) (numbered image.threads) ++ map Calls (last_calls image)
+    ++ map (program_operation image) (numbered_threads image) ++ map Calls (last_calls image)
 
 -- all calls, numbered from 0 in this order
 abbrev pub all_calls : Image → List LoaderCall

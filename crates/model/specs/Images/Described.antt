@@ -35,6 +35,14 @@ holding slot capability parent = (slot, record { capability = capability; parent
 abbrev pub numbered : {A : Type 0} → List A → List (ℕ × A)
 numbered xs = enumerate_from 0 xs
 
+-- a thread with its number in the image
+pub record Numbered : Type 0 where
+  pub number : ℕ
+  pub thread : Thread
+
+abbrev pub numbered_threads : Image → List Numbered
+numbered_threads image = map (λ t. record { number = t.0; thread = t.1 }) (numbered image.threads)
+
 -- ---- boot slots
 
 -- untypeds are used up to behind their last object

@@ -63,13 +63,19 @@ pub record Maps (slots : Slots) (root page frame : ℕ) (allowed : Rights) : Typ
 
 -- ---- the address space as a program sees it
 
--- the frame and the rights at a page, if the capability maps it there
-abbrev pub page_of : ℕ → ℕ → Cap → Option (ℕ × Rights)
-page_of root page (Frame offset r (Some mapping)) = if is_page root page mapping then Some (offset, mapping.rights) else None
+-- what stands at a page: a frame, and what may be done with it there
+pub record MappedFrame : Type 0 where
+  pub frame : ℕ
+  pub allowed : Rights
+
+-- what a capability maps at a page
+abbrev pub page_of : ℕ → ℕ → Cap → Option MappedFrame
+page_of root page (Frame offset r (Some mapping)) =
+    if is_page root page mapping then Some (record { frame = offset; allowed = mapping.rights }) else None
 page_of root page _ = None
 
--- the frame and the rights at a page under a root table; a page is mapped once
-abbrev pub mapped : State → ℕ → ℕ → Option (ℕ × Rights)
+-- what stands at a page under a root table; a page is mapped once
+abbrev pub mapped : State → ℕ → ℕ → Option MappedFrame
 mapped s root page = head_of (filter_map (λ slot. page_of root page (capability_at s.slots slot)) (slots_of s))
 
 abbrev pub allows : Access → Rights → Bool
@@ -78,8 +84,8 @@ allows accesses.Store r = may_write r
 allows accesses.Fetch r = may_execute r
 
 -- the place of an address in a page, if the access has the right there
-abbrev pub place_in : Access → ℕ → ℕ × Rights → Option ℕ
-place_in access address (frame, r) = if allows access r then Some (frame + address % page_size) else None
+abbrev pub place_in : Access → ℕ → MappedFrame → Option ℕ
+place_in access address at = if allows access at.allowed then Some (at.frame + address % page_size) else None
 
 abbrev pub place_under : State → ℕ → Access → ℕ → Option ℕ
 place_under s root access address = option_and_then (place_in access address) (mapped s root (address / page_size))

@@ -38,7 +38,7 @@ pub data Signals (s : State) (notification badge : ℕ) (capability : Cap) : Typ
   by_right : (allowed : Rights) → capability ≡ Notification notification allowed badge → IsTrue (may_write allowed)
       → Signals s notification badge capability
   -- the acknowledgement of a line that is bound to it
-  by_line : (number : ℕ) → capability ≡ InterruptHandler number → binding s number ≡ Some (notification, badge)
+  by_line : (number : ℕ) → capability ≡ InterruptHandler number → binding s number ≡ Some (record { notification = notification; badge = badge })
       → Signals s notification badge capability
 
 -- ---- what becomes of the other thread

@@ -37,11 +37,16 @@ memory_fault pc fault = record { kind = Memory; words = pc ∷ fault.address ∷
 
 -- ---- the handler
 
--- the endpoint and the badge of a capability that may take faults: it writes, and lets the handler reply
-abbrev pub handler_of : Cap → Option (ℕ × ℕ)
+-- who takes faults: an endpoint, and with which badge they come
+pub record Handler : Type 0 where
+  pub endpoint : ℕ
+  pub badge : ℕ
+
+-- the handler of a capability that may take faults: it writes, and lets the handler reply
+abbrev pub handler_of : Cap → Option Handler
 handler_of Empty = None
 handler_of (Untyped offset bits watermark) = None
-handler_of (Endpoint offset rights badge) = if may_write rights && may_grant_reply rights then Some (offset, badge) else None
+handler_of (Endpoint offset rights badge) = if may_write rights && may_grant_reply rights then Some (record { endpoint = offset; badge = badge }) else None
 handler_of (Notification offset rights badge) = None
 handler_of (CNode offset radix guard) = None
 handler_of (Frame offset rights mapping) = None
@@ -51,20 +56,20 @@ handler_of (RootTable offset) = None
 handler_of InterruptControl = None
 handler_of (InterruptHandler irq_line) = None
 
-abbrev pub handler_in : State → Result ℕ LookupFailure → Option (ℕ × ℕ)
+abbrev pub handler_in : State → Result ℕ LookupFailure → Option Handler
 handler_in s (Ok slot) = handler_of (capability_at s.slots slot)
 handler_in s (Err failure) = None
 
 -- the handler that a thread's fault address names; address 0 names none
-abbrev pub handler : State → ℕ → Option (ℕ × ℕ)
+abbrev pub handler : State → ℕ → Option Handler
 handler s thread =
     let address = (thread_at s thread).fault_address in
     if address == 0 then None
     else handler_in s (called_slot s.slots (capability_at s.slots (cspace_slot thread)) address)
 
-abbrev pub tell : State → ℕ → FaultMessage → ℕ × ℕ → State
-tell s thread message (endpoint, badge) =
-    send s endpoint (record { thread = thread; sent = ByFault message; badge = badge; grant_reply = true })
+abbrev pub tell : State → ℕ → FaultMessage → Handler → State
+tell s thread message to =
+    send s to.endpoint (record { thread = thread; sent = ByFault message; badge = to.badge; grant_reply = true })
 
 -- A fault is sent to the handler as a call; without a handler the thread stops.
 abbrev pub fault : State → ℕ → FaultMessage → State

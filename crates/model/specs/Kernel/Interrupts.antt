@@ -8,12 +8,17 @@ use Rattle.model.specs.Capabilities.Slots.{capability_at}
 use Rattle.model.specs.Kernel.State.{State, put, binding_slot}
 use Rattle.model.specs.Kernel.Messages.{signal}
 
--- the notification and the badge that a binding names
-abbrev pub signal_of : Cap → Option (ℕ × ℕ)
+-- what a line signals: a notification, and with which badge
+pub record Signal : Type 0 where
+  pub notification : ℕ
+  pub badge : ℕ
+
+-- what a capability in a line's slot makes it signal
+abbrev pub signal_of : Cap → Option Signal
 signal_of Empty = None
 signal_of (Untyped offset bits watermark) = None
 signal_of (Endpoint offset rights badge) = None
-signal_of (Notification offset rights badge) = Some (offset, badge)
+signal_of (Notification offset rights badge) = Some (record { notification = offset; badge = badge })
 signal_of (CNode offset radix guard) = None
 signal_of (Frame offset rights mapping) = None
 signal_of (PageTable offset mapping) = None
@@ -22,13 +27,13 @@ signal_of (RootTable offset) = None
 signal_of InterruptControl = None
 signal_of (InterruptHandler irq_line) = None
 
--- the notification and the badge that a line is bound to, if it is bound
-abbrev pub binding : State → ℕ → Option (ℕ × ℕ)
+-- what a line is bound to, if it is bound
+abbrev pub binding : State → ℕ → Option Signal
 binding s line = signal_of (capability_at s.slots (binding_slot s line))
 
 -- the line's interrupt is delivered, and the line is masked
-abbrev pub interrupt : State → ℕ → ℕ × ℕ → State
-interrupt s line (notification, badge) = record (signal s notification badge) { masked = put s.masked line true }
+abbrev pub interrupt : State → ℕ → Signal → State
+interrupt s line bound = record (signal s bound.notification bound.badge) { masked = put s.masked line true }
 
 abbrev pub with_pending : State → ℕ → Bool → State
 with_pending s line bit = record s { pending = put s.pending line bit }

@@ -11,7 +11,7 @@ use Rattle.model.specs.declared.invocations.RetypeCall.{RetypeCall}
 use Rattle.model.specs.declared.invocations.SlotName.{SlotName}
 use Rattle.model.specs.declared.invocations.UntypedMemory.{UntypedMemory}
 use Rattle.model.specs.Kernel.Arguments.{◌>>=◌, argument_slot, check, may_have_child, wanted}
-use Rattle.model.specs.Capabilities.CapabilityKinds.{cnode_of}
+use Rattle.model.specs.Capabilities.CapabilityKinds.{Node, cnode_of}
 use Rattle.model.specs.Capabilities.Placement.{placement}
 use Rattle.model.specs.Kernel.Removal.{slot_count}
 use Rattle.model.specs.Capabilities.Rights.{endpoint_rights, frame_rights}
@@ -144,7 +144,7 @@ with_new s new window parent = record s {
 -- ---- the call
 
 -- the CNode of this name; depth 0 names the root itself
-abbrev pub node : Slots → Cap → SlotName → Result (ℕ × ℕ) KError
+abbrev pub node : Slots → Cap → SlotName → Result Node KError
 node slots root name =
     if name.depth == 0
     then wanted (cnode_of root) FailedLookup
@@ -160,10 +160,10 @@ retype s root slot memory call = do
   _ ← check (is_large_enough kind) InvalidArgument
   _ ← check (is_small_enough kind) RangeError
   cnode ← node s.slots root call.node
-  _ ← check (nat_le 1 call.count && nat_le call.count 256 && nat_le (call.index + call.count) (2 ^ cnode.1)) RangeError
-  _ ← check (not (any_full s.slots (slot_of cnode.0 call.index) call.count)) DeleteFirst
+  _ ← check (nat_le 1 call.count && nat_le call.count 256 && nat_le (call.index + call.count) (2 ^ cnode.radix)) RangeError
+  _ ← check (not (any_full s.slots (slot_of cnode.offset call.index) call.count)) DeleteFirst
   _ ← may_have_child s.slots slot
   place ← wanted (placement memory.bits memory.watermark (object_bits kind) call.count) NotEnoughMemory
   let new : NewObjects = record { kind = kind; first = memory.offset + place.0; count = call.count } in
       let used = recapped s.slots slot (Untyped memory.offset memory.bits place.1) in
-      Ok (with_new (with_slots s used) new (slot_of cnode.0 call.index) slot)
+      Ok (with_new (with_slots s used) new (slot_of cnode.offset call.index) slot)

@@ -1,6 +1,6 @@
 -- What is true of every state that the kernel reaches: what each call may rely on, and leaves true.
 -- seL4's proofs have such a record of invariants too; the clauses are our own.
-use Rattle.std.specs.Prelude.{ℕ, ◌≡◌, ◌≢◌, ◌==◌, ◌+◌, ◌/◌, ◌^◌, ◌<◌, ◌≤◌, ◌⊎◌, ◌&&◌, ◌↔◌, Bool, true, false, if◌then◌else◌, IsSome, IsTrue, Option, Some, None, List, [], ◌++◌, All, length, map}
+use Rattle.std.specs.Prelude.{ℕ, ◌≡◌, ◌≢◌, ◌==◌, ◌+◌, ◌/◌, ◌^◌, ◌<◌, ◌≤◌, ◌⊎◌, ◌&&◌, ◌↔◌, ⊤, Bool, true, false, if◌then◌else◌, IsSome, IsTrue, Option, Some, None, List, [], ◌++◌, All, length, map}
 use Rattle.std.specs.Option.{option_map_or}
 use Rattle.model.specs.declared.capabilities.Cap.TheVariants.{PageTable}
 use Rattle.model.specs.declared.capabilities.FrameMapping.{FrameMapping}
@@ -14,7 +14,7 @@ use Rattle.model.specs.Kernel.Kinds.{AreApart, IsInside, Names, Piece, frame_aro
 use Rattle.model.specs.Kernel.Removal.{is_slot_of}
 use Rattle.model.specs.Kernel.Retype.{NewObject, NewFrame, NewRootTable}
 use Rattle.model.specs.Kernel.Scheduling.{full_slice, is_runnable}
-use Rattle.model.specs.Kernel.State.{State, Status, Inactive, Runnable, Blocked, AwaitsReply, AwaitsHandler, Object, ThreadObject, EndpointObject, NotificationObject, CNodeObject, FrameObject, PageTableObject, RootTableObject, EndpointState, ThreadState, as_thread, binding_slot, boot_area_end, boot_area_slots, cspace_slot, thread_at, vspace_slot}
+use Rattle.model.specs.Kernel.State.{State, Status, Inactive, Runnable, Blocked, AwaitsReply, AwaitsHandler, Object, ThreadObject, EndpointObject, NotificationObject, CNodeObject, FrameObject, PageTableObject, RootTableObject, EndpointState, NotificationState, Sender, Sent, BySend, ByCall, ByFault, ThreadState, as_thread, binding_slot, boot_area_end, boot_area_slots, cspace_slot, thread_at, vspace_slot}
 
 -- ---- the machine
 
@@ -127,6 +127,16 @@ pub record ThreadIsSound (t : ThreadState) : Type 0 where
   pub fault_address : t.fault_address < 2 ^ 32
   pub slice : IsTrue (is_runnable t.status) → (1 ≤ t.slice) × (t.slice ≤ full_slice)
 
+-- what waits to be delivered is made of words, since a receiver's registers hold it later: a fault is told in at most eight
+abbrev pub SentIsSound : Sent → Type 0
+SentIsSound BySend = ⊤
+SentIsSound ByCall = ⊤
+SentIsSound (ByFault fault) = All (λ word. word < 2 ^ 32) fault.words × (length fault.words ≤ 8)
+
+pub record SenderIsSound (sender : Sender) : Type 0 where
+  pub badge : sender.badge < 2 ^ 28
+  pub sent : SentIsSound sender.sent
+
 pub record ThreadsAreSound (s : State) : Type 0 where
   pub threads : (thread : ℕ) (t : ThreadState) → s.objects thread ≡ Some (ThreadObject t) → ThreadIsSound t
   -- a thread stands in the ready list, at its priority and once, exactly if it runs
@@ -134,6 +144,8 @@ pub record ThreadsAreSound (s : State) : Type 0 where
   -- and in the one queue that its status names, once
   pub queued : (thread queue : ℕ) → times_in (waiting_at (s.objects queue)) thread ≡ (if waits_at s thread queue then 1 else 0)
   pub one_sided : (offset : ℕ) (e : EndpointState) → s.objects offset ≡ Some (EndpointObject e) → (e.senders ≡ []) ⊎ (e.receivers ≡ [])
+  pub senders : (offset : ℕ) (e : EndpointState) → s.objects offset ≡ Some (EndpointObject e) → All SenderIsSound e.senders
+  pub words : (offset : ℕ) (n : NotificationState) → s.objects offset ≡ Some (NotificationObject n) → n.word < 2 ^ 28
   -- a right to reply is held for a thread that awaits an answer, by one thread
   pub callers : (thread caller : ℕ) → (thread_at s thread).caller ≡ Some caller → IsTrue (awaits_answer (thread_at s caller).status)
   pub one_right : (a b caller : ℕ) → (thread_at s a).caller ≡ Some caller → (thread_at s b).caller ≡ Some caller → a ≡ b
