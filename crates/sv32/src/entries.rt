@@ -4,6 +4,7 @@ ghost use Rattle.std.specs.Prelude.{⊤, ◌≡◌, ◌+◌, ◌*◌, ◌/◌, �
 ghost use Rattle.model.specs.Capabilities.CapabilityWords.{IsPlace};
 ghost use Rattle.model.specs.Machine.Sv32.{has_bit, is_leaf, is_valid, leaf_word, page_address, permits, table_word};
 
+use crate::sizes::{FIRST_PAGE, PAGE_NUMBER, PAGE_SIZE};
 use bitflags::{Flag, Flags, bitflag_items};
 use model::{Access, Rights};
 
@@ -54,7 +55,7 @@ impl Pte {
         requires { IsPlace offset 12 }
         ensures { result.0 ≡ table_word offset }
     {
-        Pte((0x8_0000 + offset / 0x1000) * 0x400 + Pte::V.0)
+        Pte((FIRST_PAGE + offset / PAGE_SIZE) * PAGE_NUMBER + Pte::V.0)
     }
 
     /// The leaf that the kernel writes of the page at an offset in memory, with the mapping's rights:
@@ -66,7 +67,7 @@ impl Pte {
         let rights = u32::from(rights.0);
         let allowed = rights / 4 % 2 * Pte::X.0 + rights % 2 * Pte::W.0 + rights / 2 % 2 * Pte::R.0;
         let flags = Pte::D.0 + Pte::A.0 + Pte::U.0 + allowed + Pte::V.0;
-        Pte((0x8_0000 + offset / 0x1000) * 0x400 + flags)
+        Pte((FIRST_PAGE + offset / PAGE_SIZE) * PAGE_NUMBER + flags)
     }
 
     #[tactic(auto, using(crate::proofs::Bits::v_bit))]
@@ -149,6 +150,6 @@ impl Pte {
         ensures value { result ≡ page_address self.0 }
         ensures range { result < 2 ^ 34 }
     {
-        u64::from(self.0 / 0x400) * 0x1000
+        u64::from(self.0 / PAGE_NUMBER) * u64::from(PAGE_SIZE)
     }
 }

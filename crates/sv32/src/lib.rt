@@ -3,6 +3,7 @@
 #![tactic(auto)]
 
 mod entries;
+mod sizes;
 mod walks;
 
 pub use entries::Pte;

@@ -5,11 +5,9 @@ ghost use Rattle.std.specs.Option.{ok_or};
 ghost use Rattle.model.specs.Machine.Sv32.{entry_at, leaf_place, page_fault, place_of, walk};
 
 use crate::Pte;
+use crate::sizes::{GREAT_PAGE_BITS, MEMORY_BASE, PAGE_BITS, TABLE_ENTRIES};
 use model::{Access, PageFault};
 use pmem::Mem;
-
-/// Where physical memory starts.
-const MEMORY_BASE: u64 = 0x8000_0000;
 
 /// The place of a physical address in memory, if it does not stand before memory.
 pub fn place_of(physical: u64) -> Option<u64>
@@ -59,14 +57,14 @@ fn leaf_place(memory: &Mem, leaf: Pte, bits: u32, address: u32, access: Access) 
 fn translate(memory: &Mem, root: u32, address: u32, access: Access) -> Option<u32>
     ensures { result ≡ walk memory.now root address access }
 {
-    let top = entry_at(memory, u64::from(root), address >> 22)?;
+    let top = entry_at(memory, u64::from(root), address >> GREAT_PAGE_BITS)?;
     if top.is_leaf() {
-        return leaf_place(memory, top, 22, address, access);
+        return leaf_place(memory, top, GREAT_PAGE_BITS, address, access);
     }
     let table = place_of(top.page_address())?;
-    let last = entry_at(memory, table, (address >> 12) % 0x400)?;
+    let last = entry_at(memory, table, (address >> PAGE_BITS) % TABLE_ENTRIES)?;
     if last.is_leaf() {
-        leaf_place(memory, last, 12, address, access)
+        leaf_place(memory, last, PAGE_BITS, address, access)
     } else {
         None
     }
