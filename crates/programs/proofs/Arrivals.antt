@@ -18,6 +18,7 @@ use Rattle.image.specs.Stage.{staged_image}
 use Rattle.programs.proofs.ConstantMeasures.{constant_falls, constant_least_value, constant_stays_below}
 use Rattle.programs.proofs.KeptPrograms.{LeadsOn, measure-kept}
 use Rattle.programs.proofs.PlainStates.{state-plain}
+use Rattle.programs.specs.Certificates.{sole}
 
 -- ---- tests of a run of numbers
 
@@ -72,7 +73,7 @@ fewer m n h = grind (arith, ints, h)
 no-more : (m n : ℕ) → int_le (pos m) (pos n) ≡ true → m ≤ n
 no-more m n h = grind (arith, ints, h)
 
-pub left-at : (t : Thread) (point : ℕ) (state : PointState) → IsKept t → point < t.header.words → noted (staged_image t) (0, t) point ≡ Known state → IsCount state.measure.constant
+pub left-at : (t : Thread) (point : ℕ) (state : PointState) → IsKept t → point < t.header.words → noted (staged_image t) (sole t) point ≡ Known state → IsCount state.measure.constant
 left-at t point state kept inside known =
     let plain = state-plain t point state kept.form kept.plain inside known in
     count-of state.measure.constant (sym (ap (λ (z : ℤ). int_lt z (pos 1)) (constant_least_value state.measure state.ranges plain.terms)) ∙ measure-kept t point state kept.rules inside known)

@@ -17,6 +17,7 @@ use Rattle.model.specs.Acceptance.PointRules.{ProgramEdge, are_ranges_within, ed
 use Rattle.model.specs.Acceptance.PointStates.{Noted, Known, Missing, Unmeasured, address_of, instruction_at, noted, point_of}
 use Rattle.model.specs.Acceptance.Rules.{Rule, refuse_if}
 use Rattle.image.specs.Stage.{staged_image}
+use Rattle.programs.specs.Certificates.{sole}
 
 -- ---- lists of rules
 
@@ -45,36 +46,36 @@ not-refused true refusal h = absurd (let clash : ◌≡◌ {A = Rule} (Some refu
 
 -- ---- programs
 
-program-kept : (t : Thread) → AreKept (program_rules (staged_image t)) → AreKept (rules_of_program (staged_image t) (0, t))
+program-kept : (t : Thread) → AreKept (program_rules (staged_image t)) → AreKept (rules_of_program (staged_image t) (sole t))
 unfolding program_rules
-program-kept t h = kept-left (rules_of_program (staged_image t) (0, t)) [] h
+program-kept t h = kept-left (rules_of_program (staged_image t) (sole t)) [] h
 
-pub entry-kept : (t : Thread) → AreKept (program_rules (staged_image t)) → AreKept (entry_rules (staged_image t) (0, t) (noted (staged_image t) (0, t) t.header.entry))
+pub entry-kept : (t : Thread) → AreKept (program_rules (staged_image t)) → AreKept (entry_rules (staged_image t) (sole t) (noted (staged_image t) (sole t) t.header.entry))
 unfolding rules_of_program
 entry-kept t h =
-    kept-left (entry_rules (staged_image t) (0, t) (noted (staged_image t) (0, t) t.header.entry)) (flat_map (point_rules (staged_image t) (0, t)) (range_with_len 0 t.header.words)) (program-kept t h)
+    kept-left (entry_rules (staged_image t) (sole t) (noted (staged_image t) (sole t) t.header.entry)) (flat_map (point_rules (staged_image t) (sole t)) (range_with_len 0 t.header.words)) (program-kept t h)
 
-point-kept : (t : Thread) (point : ℕ) → AreKept (program_rules (staged_image t)) → point < t.header.words → AreKept (point_rules (staged_image t) (0, t) point)
+point-kept : (t : Thread) (point : ℕ) → AreKept (program_rules (staged_image t)) → point < t.header.words → AreKept (point_rules (staged_image t) (sole t) point)
 unfolding rules_of_program
 point-kept t point h inside =
-    let each = kept-right (entry_rules (staged_image t) (0, t) (noted (staged_image t) (0, t) t.header.entry)) (flat_map (point_rules (staged_image t) (0, t)) (range_with_len 0 t.header.words)) (program-kept t h) in
-    kept-of (point_rules (staged_image t) (0, t)) 0 t.header.words point each (omega arith) (omega (arith, inside))
+    let each = kept-right (entry_rules (staged_image t) (sole t) (noted (staged_image t) (sole t) t.header.entry)) (flat_map (point_rules (staged_image t) (sole t)) (range_with_len 0 t.header.words)) (program-kept t h) in
+    kept-of (point_rules (staged_image t) (sole t)) 0 t.header.words point each (omega arith) (omega (arith, inside))
 
 state-kept : (t : Thread) (point : ℕ) (state : PointState) → AreKept (program_rules (staged_image t)) → point < t.header.words
-    → noted (staged_image t) (0, t) point ≡ Known state → AreKept (state_rules (staged_image t) (0, t) point state)
+    → noted (staged_image t) (sole t) point ≡ Known state → AreKept (state_rules (staged_image t) (sole t) point state)
 unfolding point_rules
 state-kept t point state h inside known =
-    subst (λ (n : Noted). AreKept (rules_of_noted (staged_image t) (0, t) point n)) known (point-kept t point h inside)
+    subst (λ (n : Noted). AreKept (rules_of_noted (staged_image t) (sole t) point n)) known (point-kept t point h inside)
 
 -- the constant or sum at a point is at least 1
 pub measure-kept : (t : Thread) (point : ℕ) (state : PointState) → AreKept (program_rules (staged_image t)) → point < t.header.words
-    → noted (staged_image t) (0, t) point ≡ Known state → int_lt (least_value state.measure state.ranges) (pos 1) ≡ false
+    → noted (staged_image t) (sole t) point ≡ Known state → int_lt (least_value state.measure state.ranges) (pos 1) ≡ false
 unfolding state_rules
 measure-kept t point state h inside known =
-    not-refused (int_lt (least_value state.measure state.ranges) (pos 1)) (MeasureNotFalling (point_of (0, t) point)) (state-kept t point state h inside known 3 None (omega arith))
+    not-refused (int_lt (least_value state.measure state.ranges) (pos 1)) (MeasureNotFalling (point_of (sole t) point)) (state-kept t point state h inside known 3 None (omega arith))
 
 edges-kept : (t : Thread) (point : ℕ) (state : PointState) → AreKept (program_rules (staged_image t)) → point < t.header.words
-    → noted (staged_image t) (0, t) point ≡ Known state → AreKept (rules_on_edges (staged_image t) (0, t) point state)
+    → noted (staged_image t) (sole t) point ≡ Known state → AreKept (rules_on_edges (staged_image t) (sole t) point state)
 unfolding state_rules
 edges-kept t point state h inside known k rule less =
     state-kept t point state h inside known (suc (suc (suc (suc (suc (suc k)))))) rule (omega (arith, less))
@@ -111,7 +112,7 @@ pub record LeadsOn (t : Thread) (from : Measure) (edge : ProgramEdge) : Type 0 w
   pub state : PointState
   pub at : IsPointAt t edge.target point
   pub aligned : edge.target % 4 ≡ 0
-  pub known : noted (staged_image t) (0, t) point ≡ Known state
+  pub known : noted (staged_image t) (sole t) point ≡ Known state
   pub within : are_ranges_within edge.ranges state.ranges ≡ true
   pub falling : edge.is_wait ≡ false → falls from state.measure edge.value_of edge.before edge.ranges ≡ true
   pub below : edge.is_wait ≡ true → stays_below t.header.budget state.measure edge.value_of edge.before edge.ranges ≡ true
@@ -126,7 +127,7 @@ opposite : (b : Bool) → b ≡ false → not b ≡ true
 opposite b h = ap (λ (c : Bool). not c) h
 
 leads-known : (t : Thread) (at : Point) (from : Measure) (edge : ProgramEdge) (point : ℕ) (state : PointState) → t.header.base ≡ 0x1000
-    → point_at t edge.target ≡ Some point → noted (staged_image t) (0, t) point ≡ Known state
+    → point_at t edge.target ≡ Some point → noted (staged_image t) (sole t) point ≡ Known state
     → AreKept (kept_at t at from edge state) → LeadsOn t from edge
 leads-known t at from edge point state base found known kept =
     let place = point-found t edge.target point base found in
@@ -142,7 +143,7 @@ leads-known t at from edge point state base found known kept =
     }
 
 leads-noted : (t : Thread) (at : Point) (from : Measure) (edge : ProgramEdge) (point : ℕ) (n : Noted) → t.header.base ≡ 0x1000
-    → point_at t edge.target ≡ Some point → noted (staged_image t) (0, t) point ≡ n
+    → point_at t edge.target ≡ Some point → noted (staged_image t) (sole t) point ≡ n
     → AreKept (edge_rules t at from edge n) → LeadsOn t from edge
 leads-noted t at from edge point (Known state) base found known kept = leads-known t at from edge point state base found known kept
 leads-noted t at from edge point Missing base found known kept =
@@ -151,16 +152,16 @@ leads-noted t at from edge point Unmeasured base found known kept =
     absurd (let clash : ◌≡◌ {A = Rule} (Some (MeasureNotFalling at)) None = All-head IsKeptRule (Some (MeasureNotFalling at)) [] kept in cc)
 
 leads-at : (t : Thread) (at : Point) (from : Measure) (edge : ProgramEdge) (o : Option ℕ) → t.header.base ≡ 0x1000 → point_at t edge.target ≡ o
-    → AreKept (edge_rules t at from edge (option_map_or (noted (staged_image t) (0, t)) o Missing)) → LeadsOn t from edge
-leads-at t at from edge (Some point) base found kept = leads-noted t at from edge point (noted (staged_image t) (0, t) point) base found refl kept
+    → AreKept (edge_rules t at from edge (option_map_or (noted (staged_image t) (sole t)) o Missing)) → LeadsOn t from edge
+leads-at t at from edge (Some point) base found kept = leads-noted t at from edge point (noted (staged_image t) (sole t) point) base found refl kept
 leads-at t at from edge None base found kept =
     absurd (let clash : ◌≡◌ {A = Rule} (Some (BadTarget at)) None = All-head IsKeptRule (Some (BadTarget at)) [] kept in cc)
 
 -- the only edge of a point
 pub edge-leads : (t : Thread) (point : ℕ) (state : PointState) (edge : ProgramEdge) → AreKept (program_rules (staged_image t)) → t.header.base ≡ 0x1000 → point < t.header.words
-    → noted (staged_image t) (0, t) point ≡ Known state → edges_at (staged_image t) (0, t) point state (instruction_at t point) ≡ edge ∷ []
+    → noted (staged_image t) (sole t) point ≡ Known state → edges_at (staged_image t) (sole t) point state (instruction_at t point) ≡ edge ∷ []
     → LeadsOn t state.measure edge
 edge-leads t point state edge h base inside known one =
-    let rules : List ProgramEdge → List Rule = λ edges. flat_map (λ e. edge_rules t (point_of (0, t) point) state.measure e (noted_at (staged_image t) (0, t) e.target)) edges in
+    let rules : List ProgramEdge → List Rule = λ edges. flat_map (λ e. edge_rules t (point_of (sole t) point) state.measure e (noted_at (staged_image t) (sole t) e.target)) edges in
     let kept : AreKept (rules (edge ∷ [])) = subst (λ (edges : List ProgramEdge). AreKept (rules edges)) one (edges-kept t point state h inside known) in
-    leads-at t (point_of (0, t) point) state.measure edge (point_at t edge.target) base refl (kept-left (edge_rules t (point_of (0, t) point) state.measure edge (noted_at (staged_image t) (0, t) edge.target)) [] kept)
+    leads-at t (point_of (sole t) point) state.measure edge (point_at t edge.target) base refl (kept-left (edge_rules t (point_of (sole t) point) state.measure edge (noted_at (staged_image t) (sole t) edge.target)) [] kept)

@@ -30,7 +30,7 @@ use Rattle.model.specs.Acceptance.RangeRules.{ranges_after}
 use Rattle.model.specs.Acceptance.Ranges.{full, is_ranged, with_range}
 use Rattle.model.specs.Acceptance.Rules.{Rule}
 use Rattle.model.specs.Acceptance.ThreadInvariants.{LieWithin}
-use Rattle.programs.specs.Certificates.{is_ecall, known_of, waited}
+use Rattle.programs.specs.Certificates.{is_ecall, known_of, sole, waited}
 use Rattle.programs.specs.Programs.{AtPoint, GoesOn, IsKept}
 use Rattle.image.specs.Stage.{staged_image}
 use Rattle.programs.proofs.Arrivals.{holds-at, left-at, moves-on, wakes-on}
@@ -62,9 +62,9 @@ start-within t state starts k less = elim (eqb_tells k 0) [
       (leb-true (get_or state.ranges (k - 1) full).low (get_or (listed_registers t) k 0) ends.0, leb-true (get_or (listed_registers t) k 0) (get_or state.ranges (k - 1) full).high ends.1)
 ]
 
-start-known : (t : Thread) (n : Noted) → IsKept t → noted (staged_image t) (0, t) t.header.entry ≡ n → AreKept (entry_rules (staged_image t) (0, t) n) → AtPoint t (listed_thread t).registers
+start-known : (t : Thread) (n : Noted) → IsKept t → noted (staged_image t) (sole t) t.header.entry ≡ n → AreKept (entry_rules (staged_image t) (sole t) n) → AtPoint t (listed_thread t).registers
 start-known t (Known state) kept known rules =
-    let at = point_of (0, t) t.header.entry in
+    let at = point_of (sole t) t.header.entry in
     let plain = state-plain t t.header.entry state kept.form kept.plain kept.entry known in
     let n = left-at t t.header.entry state kept kept.entry known in
     let starts : starts_within t state ≡ true = not-false (starts_within t state) (not-refused _ (RangeNotKept at) (rules 0 None (omega arith))) in
@@ -84,13 +84,13 @@ start-known t (Known state) kept known rules =
       most = budgeted n.count t.header.budget (sym (ap (λ (z : ℤ). int_lt (pos t.header.budget) z) value) ∙ below);
     }
 start-known t Missing kept known rules =
-    absurd (let clash : ◌≡◌ {A = Rule} (Some (RangeNotKept (point_of (0, t) t.header.entry))) None = rules 0 None (omega arith) in cc)
+    absurd (let clash : ◌≡◌ {A = Rule} (Some (RangeNotKept (point_of (sole t) t.header.entry))) None = rules 0 None (omega arith) in cc)
 start-known t Unmeasured kept known rules =
-    absurd (let clash : ◌≡◌ {A = Rule} (Some (RangeNotKept (point_of (0, t) t.header.entry))) None = rules 0 None (omega arith) in cc)
+    absurd (let clash : ◌≡◌ {A = Rule} (Some (RangeNotKept (point_of (sole t) t.header.entry))) None = rules 0 None (omega arith) in cc)
 
 -- a thread starts at a point
 pub start-at : (t : Thread) → IsKept t → AtPoint t (listed_thread t).registers
-start-at t kept = start-known t (noted (staged_image t) (0, t) t.header.entry) kept refl (entry-kept t kept.rules)
+start-at t kept = start-known t (noted (staged_image t) (sole t) t.header.entry) kept refl (entry-kept t kept.rules)
 
 -- ---- ADDI and JAL
 
@@ -99,9 +99,9 @@ addi-edge t point state rd rs1 immediate =
     program_edge (Immediate Addi rd rs1 immediate) state.slots (edge_to (behind (address_of t point)) (address_of t point) (Immediate Addi rd rs1 immediate) state.ranges)
 
 one-addi : (t : Thread) (point : ℕ) (state : PointState) (rd rs1 : Register) (immediate : ℤ) → instruction_at t point ≡ Some (Immediate Addi rd rs1 immediate)
-    → edges_at (staged_image t) (0, t) point state (instruction_at t point) ≡ addi-edge t point state rd rs1 immediate ∷ []
+    → edges_at (staged_image t) (sole t) point state (instruction_at t point) ≡ addi-edge t point state rd rs1 immediate ∷ []
 unfolding edges_at after addi-edge
-one-addi t point state rd rs1 immediate is = ap (λ (o : Option Instr). edges_at (staged_image t) (0, t) point state o) is
+one-addi t point state rd rs1 immediate is = ap (λ (o : Option Instr). edges_at (staged_image t) (sole t) point state o) is
 
 addi-fields : (t : Thread) (point : ℕ) (rd rs1 : Register) (immediate : ℤ) → instruction_at t point ≡ Some (Immediate Addi rd rs1 immediate)
     → IsRegister rd × IsRegister rs1 × IsImmediate immediate
@@ -143,9 +143,9 @@ jal-edge t point state rd offset =
     program_edge (Jal rd offset) state.slots (edge_to (plus (address_of t point) offset) (address_of t point) (Jal rd offset) state.ranges)
 
 one-jal : (t : Thread) (point : ℕ) (state : PointState) (rd : Register) (offset : ℤ) → instruction_at t point ≡ Some (Jal rd offset)
-    → edges_at (staged_image t) (0, t) point state (instruction_at t point) ≡ jal-edge t point state rd offset ∷ []
+    → edges_at (staged_image t) (sole t) point state (instruction_at t point) ≡ jal-edge t point state rd offset ∷ []
 unfolding edges_at after jal-edge
-one-jal t point state rd offset is = ap (λ (o : Option Instr). edges_at (staged_image t) (0, t) point state o) is
+one-jal t point state rd offset is = ap (λ (o : Option Instr). edges_at (staged_image t) (sole t) point state o) is
 
 jal-field : (t : Thread) (point : ℕ) (rd : Register) (offset : ℤ) → instruction_at t point ≡ Some (Jal rd offset) → IsRegister rd
 jal-field t point rd offset is = subst (λ (o : Option Instr). HaveFields o) is (have-fields _)
@@ -190,11 +190,11 @@ wait-called t r kept a is =
     let address = subst (λ (x : Range). (x.low ≤ read r a0) × (read r a0 ≤ x.high)) wait.1 (a.within 10 (omega arith)) in
     (omega (arith, call.0, call.1), omega (arith, address.0, address.1))
 
-one-wait : (t : Thread) (point : ℕ) (state : PointState) → instruction_at t point ≡ Some Ecall → call_at (staged_image t) (0, t) point state ≡ Some (Ok (waited t state.ranges))
-    → edges_at (staged_image t) (0, t) point state (instruction_at t point) ≡ call_edge (address_of t point) state.ranges (waited t state.ranges) ∷ []
+one-wait : (t : Thread) (point : ℕ) (state : PointState) → instruction_at t point ≡ Some Ecall → call_at (staged_image t) (sole t) point state ≡ Some (Ok (waited t state.ranges))
+    → edges_at (staged_image t) (sole t) point state (instruction_at t point) ≡ call_edge (address_of t point) state.ranges (waited t state.ranges) ∷ []
 unfolding edges_at
 one-wait t point state is call =
-    ap (λ (o : Option Instr). edges_at (staged_image t) (0, t) point state o) is
+    ap (λ (o : Option Instr). edges_at (staged_image t) (sole t) point state o) is
     ∙ ap (λ (o : Option (Result AfterCall Refusal)). call_edges (address_of t point) state.ranges o) call
 
 -- behind the wait, with a word of the notification

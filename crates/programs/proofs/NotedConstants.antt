@@ -14,7 +14,8 @@ use Rattle.model.specs.Acceptance.Edges.{Edge, after}
 use Rattle.model.specs.Images.Image.{Image, StateRecord, Thread}
 use Rattle.model.specs.Acceptance.Measures.{Measure, has_term}
 use Rattle.model.specs.Acceptance.NotedStates.{PointState, record_of, record_state}
-use Rattle.model.specs.Acceptance.PointStates.{Noted, Known, Missing, Unmeasured, Numbered, address_of, behind_call, call_at, follows, follows_call, follows_edge, follows_instruction, instruction_at, noted, noted_or}
+use Rattle.model.specs.Images.Described.{Numbered}
+use Rattle.model.specs.Acceptance.PointStates.{Noted, Known, Missing, Unmeasured, address_of, behind_call, call_at, follows, follows_call, follows_edge, follows_instruction, instruction_at, noted, noted_or}
 use Rattle.model.specs.Acceptance.RangeRules.{destination}
 use Rattle.programs.specs.Certificates.{HasConstant, IsBare}
 
@@ -52,21 +53,21 @@ after_call_constant t m (Some (Ok a)) none = behind_call_constant t m a a.is_wai
 
 behind_instruction : (image : Image) (t : Numbered) (point : ℕ) (state : PointState) (o : Option Instr) → state.measure.terms ≡ [] → HasConstant (follows_instruction image t point state o)
 behind_instruction image t point state None none = tt
-behind_instruction image t point state (Some Ecall) none = after_call_constant t.1 state.measure (call_at image t point state) none
-behind_instruction image t point state (Some Fence) none = behind_edge Fence state (after (address_of t.1 point) Fence state.ranges).fall_through none
-behind_instruction image t point state (Some Ebreak) none = behind_edge Ebreak state (after (address_of t.1 point) Ebreak state.ranges).fall_through none
-behind_instruction image t point state (Some (Upper a b c)) none = behind_edge (Upper a b c) state (after (address_of t.1 point) (Upper a b c) state.ranges).fall_through none
-behind_instruction image t point state (Some (Jal a b)) none = behind_edge (Jal a b) state (after (address_of t.1 point) (Jal a b) state.ranges).fall_through none
-behind_instruction image t point state (Some (Jalr a b c)) none = behind_edge (Jalr a b c) state (after (address_of t.1 point) (Jalr a b c) state.ranges).fall_through none
-behind_instruction image t point state (Some (Branch a b c d)) none = behind_edge (Branch a b c d) state (after (address_of t.1 point) (Branch a b c d) state.ranges).fall_through none
-behind_instruction image t point state (Some (Load a b c d)) none = behind_edge (Load a b c d) state (after (address_of t.1 point) (Load a b c d) state.ranges).fall_through none
-behind_instruction image t point state (Some (Store a b c d)) none = behind_edge (Store a b c d) state (after (address_of t.1 point) (Store a b c d) state.ranges).fall_through none
-behind_instruction image t point state (Some (Immediate a b c d)) none = behind_edge (Immediate a b c d) state (after (address_of t.1 point) (Immediate a b c d) state.ranges).fall_through none
-behind_instruction image t point state (Some (Shift a b c d)) none = behind_edge (Shift a b c d) state (after (address_of t.1 point) (Shift a b c d) state.ranges).fall_through none
-behind_instruction image t point state (Some (Registers a b c d)) none = behind_edge (Registers a b c d) state (after (address_of t.1 point) (Registers a b c d) state.ranges).fall_through none
+behind_instruction image t point state (Some Ecall) none = after_call_constant t.thread state.measure (call_at image t point state) none
+behind_instruction image t point state (Some Fence) none = behind_edge Fence state (after (address_of t.thread point) Fence state.ranges).fall_through none
+behind_instruction image t point state (Some Ebreak) none = behind_edge Ebreak state (after (address_of t.thread point) Ebreak state.ranges).fall_through none
+behind_instruction image t point state (Some (Upper a b c)) none = behind_edge (Upper a b c) state (after (address_of t.thread point) (Upper a b c) state.ranges).fall_through none
+behind_instruction image t point state (Some (Jal a b)) none = behind_edge (Jal a b) state (after (address_of t.thread point) (Jal a b) state.ranges).fall_through none
+behind_instruction image t point state (Some (Jalr a b c)) none = behind_edge (Jalr a b c) state (after (address_of t.thread point) (Jalr a b c) state.ranges).fall_through none
+behind_instruction image t point state (Some (Branch a b c d)) none = behind_edge (Branch a b c d) state (after (address_of t.thread point) (Branch a b c d) state.ranges).fall_through none
+behind_instruction image t point state (Some (Load a b c d)) none = behind_edge (Load a b c d) state (after (address_of t.thread point) (Load a b c d) state.ranges).fall_through none
+behind_instruction image t point state (Some (Store a b c d)) none = behind_edge (Store a b c d) state (after (address_of t.thread point) (Store a b c d) state.ranges).fall_through none
+behind_instruction image t point state (Some (Immediate a b c d)) none = behind_edge (Immediate a b c d) state (after (address_of t.thread point) (Immediate a b c d) state.ranges).fall_through none
+behind_instruction image t point state (Some (Shift a b c d)) none = behind_edge (Shift a b c d) state (after (address_of t.thread point) (Shift a b c d) state.ranges).fall_through none
+behind_instruction image t point state (Some (Registers a b c d)) none = behind_edge (Registers a b c d) state (after (address_of t.thread point) (Registers a b c d) state.ranges).fall_through none
 
 behind_noted : (image : Image) (t : Numbered) (point : ℕ) (n : Noted) → HasConstant n → HasConstant (follows image t point n)
-behind_noted image t point (Known state) none = behind_instruction image t point state (instruction_at t.1 point) none
+behind_noted image t point (Known state) none = behind_instruction image t point state (instruction_at t.thread point) none
 behind_noted image t point Missing none = tt
 behind_noted image t point Unmeasured none = absurd none
 
@@ -75,9 +76,9 @@ unfolding record_state
 recorded_or image t (Some r) otherwise bare rest = bare.1
 recorded_or image t None otherwise bare rest = rest
 
-pub noted_constant : (image : Image) (t : Numbered) → All IsBare (t.1).records → (point : ℕ) → HasConstant (noted image t point)
+pub noted_constant : (image : Image) (t : Numbered) → All IsBare t.thread.records → (point : ℕ) → HasConstant (noted image t point)
 unfolding noted
-noted_constant image t bare zero = recorded_or image t.1 (record_of t.1 0) Missing (found_in (λ r. r.header.point == 0) (t.1).records bare) tt
+noted_constant image t bare zero = recorded_or image t.thread (record_of t.thread 0) Missing (found_in (λ r. r.header.point == 0) t.thread.records bare) tt
 noted_constant image t bare (suc point) =
-    recorded_or image t.1 (record_of t.1 (suc point)) (follows image t point (noted image t point)) (found_in (λ r. r.header.point == suc point) (t.1).records bare)
+    recorded_or image t.thread (record_of t.thread (suc point)) (follows image t point (noted image t point)) (found_in (λ r. r.header.point == suc point) t.thread.records bare)
     (behind_noted image t point (noted image t point) (noted_constant image t bare point))

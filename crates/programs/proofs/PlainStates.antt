@@ -19,7 +19,7 @@ use Rattle.model.specs.Acceptance.NotedStates.{PointState, entry_slot, image_slo
 use Rattle.model.specs.Acceptance.PointStates.{Noted, Known, Missing, Unmeasured, address_of, call_at, follows, follows_call, follows_instruction, instruction_at, noted, noted_or}
 use Rattle.model.specs.Acceptance.RangeRules.{range, ranges_after}
 use Rattle.model.specs.Acceptance.Ranges.{with_range}
-use Rattle.programs.specs.Certificates.{IsBare, IsOfForm, IsPlain, IsWait, known_of, waited, with_image_slots}
+use Rattle.programs.specs.Certificates.{IsBare, IsOfForm, IsPlain, IsWait, known_of, sole, waited, with_image_slots}
 use Rattle.image.specs.Stage.{staged_image}
 use Rattle.programs.proofs.NotedConstants.{found_in}
 use Rattle.programs.proofs.StagedCalls.{waits_at}
@@ -41,9 +41,9 @@ with_its_slots t state plain = ap (λ (s : List _). let x : PointState = record 
 
 -- the wait in such a state
 pub wait-known : (t : Thread) (point : ℕ) (state : PointState) → IsOfForm t → IsPlainState t state → IsWait state.ranges
-    → call_at (staged_image t) (0, t) point state ≡ Some (Ok (waited t state.ranges))
+    → call_at (staged_image t) (sole t) point state ≡ Some (Ok (waited t state.ranges))
 wait-known t point state form plain wait =
-    ap (λ (s : PointState). call_at (staged_image t) (0, t) point s) (with_its_slots t state plain)
+    ap (λ (s : PointState). call_at (staged_image t) (sole t) point s) (with_its_slots t state plain)
     ∙ waits_at t point state.ranges state.measure form wait.0 wait.1
 
 -- ---- ranges
@@ -88,11 +88,11 @@ after-sum t state ranges false plain long = record { slots = plain.slots; terms 
 
 -- of an instruction that is known
 after-known : (t : Thread) (point : ℕ) (state : PointState) (o : Option Instr) → IsOfForm t → IsPlainState t state → known_of o ≢ None
-    → (o ≡ Some Ecall → IsWait state.ranges) → IsPlainNoted t (follows_instruction (staged_image t) (0, t) point state o)
-unfolding after
+    → (o ≡ Some Ecall → IsWait state.ranges) → IsPlainNoted t (follows_instruction (staged_image t) (sole t) point state o)
+unfolding after ranges_after
 after-known t point state None form plain known waits = tt
 after-known t point state (Some Ecall) form plain known waits =
-    after-wait t state.measure state.ranges (call_at (staged_image t) (0, t) point state) plain.long (wait-known t point state form plain (waits refl))
+    after-wait t state.measure state.ranges (call_at (staged_image t) (sole t) point state) plain.long (wait-known t point state form plain (waits refl))
 after-known t point state (Some (Immediate Addi rd rs1 immediate)) form plain known waits =
     after-sum t state (ranges_after (address_of t point) (Immediate Addi rd rs1 immediate) state.ranges) (has_term state.measure rd.0) plain (with-long state.ranges rd _ plain.long)
 after-known t point state (Some (Jal rd offset)) form plain known waits = tt
@@ -111,8 +111,8 @@ after-known t point state (Some (Store a b c d)) form plain known waits = absurd
 after-known t point state (Some (Shift a b c d)) form plain known waits = absurd (known refl)
 after-known t point state (Some (Registers a b c d)) form plain known waits = absurd (known refl)
 
-after-noted : (t : Thread) (point : ℕ) (n : Noted) → IsOfForm t → IsPlain t → point < t.header.words → noted (staged_image t) (0, t) point ≡ n
-    → IsPlainNoted t n → IsPlainNoted t (follows (staged_image t) (0, t) point n)
+after-noted : (t : Thread) (point : ℕ) (n : Noted) → IsOfForm t → IsPlain t → point < t.header.words → noted (staged_image t) (sole t) point ≡ n
+    → IsPlainNoted t n → IsPlainNoted t (follows (staged_image t) (sole t) point n)
 after-noted t point (Known state) form program inside is plain =
     after-known t point state (instruction_at t point) form plain (program.words point inside) (λ ecall. program.waits point inside state is ecall)
 after-noted t point Missing form program inside is plain = tt
@@ -120,15 +120,15 @@ after-noted t point Unmeasured form program inside is plain = tt
 
 -- ---- all points
 
-pub noted-plain : (t : Thread) (point : ℕ) → IsOfForm t → IsPlain t → point < t.header.words → IsPlainNoted t (noted (staged_image t) (0, t) point)
+pub noted-plain : (t : Thread) (point : ℕ) → IsOfForm t → IsPlain t → point < t.header.words → IsPlainNoted t (noted (staged_image t) (sole t) point)
 unfolding noted
 noted-plain t zero form program inside =
     recorded-or t (record_of t 0) Missing (found_in (λ r. r.header.point == 0) t.records form.bare) tt
 noted-plain t (suc point) form program inside =
-    recorded-or t (record_of t (suc point)) (follows (staged_image t) (0, t) point (noted (staged_image t) (0, t) point)) (found_in (λ r. r.header.point == suc point) t.records form.bare)
-    (after-noted t point (noted (staged_image t) (0, t) point) form program (omega (arith, inside)) refl (noted-plain t point form program (omega (arith, inside))))
+    recorded-or t (record_of t (suc point)) (follows (staged_image t) (sole t) point (noted (staged_image t) (sole t) point)) (found_in (λ r. r.header.point == suc point) t.records form.bare)
+    (after-noted t point (noted (staged_image t) (sole t) point) form program (omega (arith, inside)) refl (noted-plain t point form program (omega (arith, inside))))
 
 -- a state of such a thread
 pub state-plain : (t : Thread) (point : ℕ) (state : PointState) → IsOfForm t → IsPlain t → point < t.header.words
-    → noted (staged_image t) (0, t) point ≡ Known state → IsPlainState t state
+    → noted (staged_image t) (sole t) point ≡ Known state → IsPlainState t state
 state-plain t point state form program inside known = subst (λ (n : Noted). IsPlainNoted t n) known (noted-plain t point form program inside)

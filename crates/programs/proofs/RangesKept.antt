@@ -15,7 +15,7 @@ use Rattle.model.specs.Machine.Instructions.{IsImmediate, IsRegister}
 use Rattle.model.specs.Machine.ProgramMemory.{Content, RegisterFile, read, write}
 use Rattle.model.specs.Machine.Effects.{effect, goes_on, jumps, next_pc, plus, stays}
 use Rattle.model.specs.Acceptance.Measures.{register_numbered}
-use Rattle.model.specs.Acceptance.RangeRules.{is_single, ranges_after, result_range, value_or}
+use Rattle.model.specs.Acceptance.RangeRules.{is_single, ranges_after, value_or}
 use Rattle.model.specs.Acceptance.Ranges.{full, moved, range_of, single, with_range}
 use Rattle.model.specs.Acceptance.ThreadInvariants.{LieWithin}
 
@@ -133,7 +133,7 @@ written_within r ranges rd v out words long fits before value =
 pub addi-keeps : (r : RegisterFile) (content : Content) (ranges : List Range) (rd rs1 : Register) (immediate : ℤ)
     → length r.words ≡ 32 → length ranges ≡ 31 → ((x : Register) → read r x < 2 ^ 32) → IsRegister rd → IsRegister rs1 → IsImmediate immediate → LieWithin r ranges
     → LieWithin (effect r content (Immediate Addi rd rs1 immediate)).registers (ranges_after r.pc (Immediate Addi rd rs1 immediate) ranges)
-unfolding effect result_range
+unfolding effect ranges_after
 addi-keeps r content ranges rd rs1 immediate words long small target source fits before =
     written_within r ranges rd (plus (read r rs1) immediate) (value_or (is_single (range_of ranges rs1)) (plus (range_of ranges rs1).low immediate) (moved (range_of ranges rs1) immediate))
     words long target before (addi_in (range_of ranges rs1) (read r rs1) immediate (before rs1.0 source) (small rs1) fits)
@@ -151,7 +151,7 @@ pub jal-keeps : (r : RegisterFile) (content : Content) (ranges : List Range) (rd
     → length r.words ≡ 32 → length ranges ≡ 31 → IsRegister rd → LieWithin r ranges
     → (effect r content (Jal rd offset)).exec ≡ Next
     → LieWithin (effect r content (Jal rd offset)).registers (ranges_after r.pc (Jal rd offset) ranges)
-unfolding effect result_range
+unfolding effect ranges_after
 jal-keeps r content ranges rd offset words long target before goes =
     jumped r content (write r rd (next_pc r)) (plus r.pc offset) (with_range ranges rd (single (next_pc r)))
     (written_within r ranges rd (next_pc r) (single (next_pc r)) words long target before (omega arith, omega arith)) goes

@@ -22,7 +22,7 @@ use Rattle.model.specs.Acceptance.Ranges.{range_of, single}
 use Rattle.model.specs.Capabilities.Slots.{capability_at}
 use Rattle.model.specs.Kernel.Steps.{call_of}
 use Rattle.model.specs.Acceptance.ThreadRules.{reached, reached_within}
-use Rattle.programs.specs.Certificates.{IsBare, IsOfForm, numbered_thread, waited, with_image_slots}
+use Rattle.programs.specs.Certificates.{IsBare, IsOfForm, numbered_thread, sole, waited, with_image_slots}
 use Rattle.image.specs.Stage.{staged_image}
 use Rattle.programs.proofs.NotedConstants.{found_in}
 
@@ -79,19 +79,19 @@ no_stray_slots t point ranges m form =
 -- the wait of a thread of the form
 pub waits_numbered_at : (t : Thread) (point : ℕ) (ranges : List Range) (m : Measure) → All IsBare t.records
     → range_of ranges a7 ≡ single 5 → range_of ranges a0 ≡ single 1
-    → call_at (staged_image (numbered_thread t)) (0, numbered_thread t) point (with_image_slots (numbered_thread t) ranges m) ≡ Some (Ok (waited (numbered_thread t) ranges))
+    → call_at (staged_image (numbered_thread t)) (sole (numbered_thread t)) point (with_image_slots (numbered_thread t) ranges m) ≡ Some (Ok (waited (numbered_thread t) ranges))
 unfolding call_at
 waits_numbered_at t point ranges m bare number address =
     let image : Image = staged_image (numbered_thread t) in
     let state : PointState = with_image_slots (numbered_thread t) ranges m in
-    let at : Point = point_of (0, numbered_thread t) point in
+    let at : Point = point_of (sole (numbered_thread t)) point in
     ap (λ (b : Bool). if b then None else Some (after_call image (numbered_thread t) at state)) (none_stray t point ranges m bare)
     ∙ ap (λ (r : Behind). Some r) (waits_numbered t at ranges m number address)
 
 -- the same of a thread of the form
 pub waits_at : (t : Thread) (point : ℕ) (ranges : List Range) (m : Measure) → IsOfForm t
     → range_of ranges a7 ≡ single 5 → range_of ranges a0 ≡ single 1
-    → call_at (staged_image t) (0, t) point (with_image_slots t ranges m) ≡ Some (Ok (waited t ranges))
+    → call_at (staged_image t) (sole t) point (with_image_slots t ranges m) ≡ Some (Ok (waited t ranges))
 waits_at t point ranges m form number address =
-    subst (λ (u : Thread). call_at (staged_image u) (0, u) point (with_image_slots u ranges m) ≡ Some (Ok (waited u ranges))) (sym form.numbers)
+    subst (λ (u : Thread). call_at (staged_image u) (sole u) point (with_image_slots u ranges m) ≡ Some (Ok (waited u ranges))) (sym form.numbers)
     (waits_numbered_at t point ranges m form.bare number address)

@@ -17,7 +17,7 @@ use Rattle.model.specs.Acceptance.PointRules.{program_rules}
 use Rattle.model.specs.Acceptance.Rules.{first_broken, refuse_if}
 use Rattle.model.specs.Acceptance.ThreadRules.{is_bad, is_code, reached, reached_within, shares_cspace, shares_vspace, thread_rules}
 use Rattle.model.specs.Acceptance.WellFormed.{capability_rules, does_not_fit, has_no_room, has_writable_code, mapping_rules, misplaces_frame, misplaces_table, object_rules, overlaps}
-use Rattle.programs.specs.Certificates.{numbered_thread}
+use Rattle.programs.specs.Certificates.{numbered_thread, sole}
 use Rattle.image.specs.Stage.{IsStaged, any_thread, has_no_terms, is_staged, later, no_slots, staged_end, staged_front, staged_image, staged_reading}
 use Rattle.programs.proofs.Acceptance.{kept-none, none-broken}
 use Rattle.image.proofs.Laws.{IsBytes, bind_ok, guard_ok, ok_is, ok_of}
@@ -117,17 +117,17 @@ pages_are_code t le = elim (page_count t.header.words le) [
   | inr one ↦ ap (λ (count : ℕ). pages_kept t count) one ∙ one_page t
 ]
 
-entry_decides : (t : Thread) → t.header.words ≤ 1024 → is_bad (staged_image (numbered_thread t)) (0, numbered_thread t) ≡ leb t.header.words t.header.entry
+entry_decides : (t : Thread) → t.header.words ≤ 1024 → is_bad (staged_image (numbered_thread t)) (sole (numbered_thread t)) ≡ leb t.header.words t.header.entry
 unfolding is_bad
 entry_decides t le =
     let below : ltb address_limit (0x1000 + 4 * t.header.words) ≡ false = le-ltb address_limit (0x1000 + 4 * t.header.words) (omega arith) in
     rw (below, pages_are_code t le) refl
 
-cspace_kept : (t : Thread) → shares_cspace (staged_image (numbered_thread t)) (0, numbered_thread t) ≡ false
+cspace_kept : (t : Thread) → shares_cspace (staged_image (numbered_thread t)) (sole (numbered_thread t)) ≡ false
 unfolding shares_cspace reached reached_within
 cspace_kept t = refl
 
-vspace_kept : (t : Thread) → shares_vspace (staged_image (numbered_thread t)) (0, numbered_thread t) ≡ false
+vspace_kept : (t : Thread) → shares_vspace (staged_image (numbered_thread t)) (sole (numbered_thread t)) ≡ false
 unfolding shares_vspace reached reached_within
 vspace_kept t = refl
 

@@ -1,5 +1,6 @@
 -- What the certificate of an image of the one form says: ranges and constants, and no more.
 use Rattle.std.specs.Prelude.{◌≡◌, ◌≢◌, ◌<◌, ◌≤◌, ◌+◌, ◌||◌, ℕ, ℤ, All, Bool, true, false, List, [], ◌∷◌, Option, Some, None, if◌then◌else◌}
+use Rattle.model.specs.Images.Described.{Numbered}
 use Rattle.model.specs.Images.Image.{StateRecord}
 use Rattle.model.specs.declared.instructions.Instr.{Instr}
 use Rattle.model.specs.declared.instructions.Instr.TheVariants.{Ecall}
@@ -44,6 +45,10 @@ numbered_thread t = record {
   records = t.records;
 }
 
+-- the one thread of an image of the form, with its number
+abbrev pub sole : Thread → Numbered
+sole t = record { number = 0; thread = t }
+
 -- the points of records rise strictly, from a least one on
 unfoldable pub Rise : ℕ → List StateRecord → Type 0
 Rise least [] = Unit {0}
@@ -74,7 +79,7 @@ IsWait ranges = (range_of ranges a7 ≡ single 5) × (range_of ranges a0 ≡ sin
 -- where a point has a state and its instruction is a system call, it is the wait
 abbrev pub OnlyWaits : Thread → ℕ → Type 0
 OnlyWaits t point =
-    (state : PointState) → noted (staged_image t) (0, t) point ≡ Known state → instruction_at t point ≡ Some Ecall → IsWait state.ranges
+    (state : PointState) → noted (staged_image t) (sole t) point ≡ Known state → instruction_at t point ≡ Some Ecall → IsWait state.ranges
 
 -- a program of the instructions that this release knows, with no other system call than the wait
 pub record IsPlain (t : Thread) : Type 0 where

@@ -9,7 +9,7 @@ use Rattle.model.specs.Acceptance.NotedStates.{PointState}
 use Rattle.model.specs.Acceptance.PointRules.{program_rules}
 use Rattle.model.specs.Acceptance.PointStates.{Known, address_of, noted}
 use Rattle.model.specs.Acceptance.ThreadInvariants.{LieWithin}
-use Rattle.programs.specs.Certificates.{IsOfForm, IsPlain}
+use Rattle.programs.specs.Certificates.{IsOfForm, IsPlain, sole}
 use Rattle.image.specs.Stage.{staged_image}
 
 -- A thread of the form that starts at a point of its program, with words in its registers, and whose program keeps the
@@ -34,7 +34,7 @@ pub record AtPoint (t : Thread) (r : RegisterFile) : Type 0 where
   pub left : ℕ
   pub inside : point < t.header.words
   pub pc : r.pc ≡ address_of t point
-  pub known : noted (staged_image t) (0, t) point ≡ Known state
+  pub known : noted (staged_image t) (sole t) point ≡ Known state
   pub words : AreWords r.words
   pub within : LieWithin r state.ranges
   pub constant : state.measure.constant ≡ pos left

@@ -41,7 +41,7 @@ pub fn is_ranged(instr: &Instr) -> bool
 }
 
 /// What the instruction at `pc` makes of the ranges, on each way on.
-#[tactic(auto, unfolding(model::specs::Acceptance::Edges::after, model::specs::Acceptance::RangeRules::result_range))]
+#[tactic(auto, unfolding(model::specs::Acceptance::Edges::after, model::specs::Acceptance::RangeRules::ranges_after))]
 pub fn after(pc: u32, instr: Instr, bounds: &Bounds) -> Edges
     requires instr { IsInstr instr }
     requires ranged { is_ranged instr ≡ true }

@@ -249,7 +249,7 @@ module _ (s : State) (sound : IsSound s) (set : SlotSet) (near : (y : ℕ) → I
         | false ↦ λ is. refl
       ] refl)
 
-  has-one : (o y : ℕ) → is_slot_of s o y ≡ true → ends s set o ≡ false → has_slot (emptied s set) y ≡ true
+  pub has-one : (o y : ℕ) → is_slot_of s o y ≡ true → ends s set o ≡ false → has_slot (emptied s set) y ≡ true
   has-one o y inner stays =
       let h = holder s sound o y inner in
       let whole : 16 * (o / 16) ≡ o = omega (arith, holder-aligned s sound o y h) in
@@ -314,7 +314,7 @@ module _ (s : State) (sound : IsSound s) (set : SlotSet) (near : (y : ℕ) → I
 
   -- ---- the whole
 
-  slots-settled : ((y : ℕ) → set y ≡ true → IsOpen s.slots y) → (y : ℕ) → (if closes s set y then None else (emptied s set).slots y) ≡ (if not (has_slot (emptied s set) y) then None else (emptied s set).slots y)
+  pub slots-settled : ((y : ℕ) → set y ≡ true → IsOpen s.slots y) → (y : ℕ) → (if closes s set y then None else (emptied s set).slots y) ≡ (if not (has_slot (emptied s set) y) then None else (emptied s set).slots y)
   slots-settled opens y = elim (s.slots y) as (λ o. s.slots y ≡ o → (if closes s set y then None else (emptied s set).slots y) ≡ (if not (has_slot (emptied s set) y) then None else (emptied s set).slots y)) [
     | None ↦ λ none.
         let out : set y ≡ false = elim (set y) as (λ b. set y ≡ b → b ≡ false) [ true ↦ λ member. absurd (let clash : true ≡ false = sym (opens y member) ∙ ap is_some none in cc) | false ↦ λ is. refl ] refl in

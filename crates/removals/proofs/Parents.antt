@@ -49,7 +49,7 @@ height parents (Some p) = depth_within 256 parents p + 1
 abbrev pub IsShallow : Parents → Type 0
 IsShallow parents = (slot : ℕ) → depth_within 256 parents slot ≤ 255
 
-height-up : (parents : Parents) (p : ℕ) → IsShallow parents → height parents (parents p) ≤ depth_within 256 parents p
+pub height-up : (parents : Parents) (p : ℕ) → IsShallow parents → height parents (parents p) ≤ depth_within 256 parents p
 height-up parents p shallow = elim (parents p) as (λ o. parents p ≡ o → height parents o ≤ depth_within 256 parents p) [
   | None ↦ λ is. omega arith
   | Some q ↦ λ is.
@@ -58,7 +58,7 @@ height-up parents p shallow = elim (parents p) as (λ o. parents p ≡ o → hei
 ] refl
 
 -- more steps than that change nothing
-outside-stable : (n : ℕ) (set : SlotSet) (slots : Slots) (p : Option ℕ) → IsShallow (parent_at slots) → height (parent_at slots) p ≤ n → ancestor_outside (suc n) set slots p ≡ ancestor_outside n set slots p
+pub outside-stable : (n : ℕ) (set : SlotSet) (slots : Slots) (p : Option ℕ) → IsShallow (parent_at slots) → height (parent_at slots) p ≤ n → ancestor_outside (suc n) set slots p ≡ ancestor_outside n set slots p
 outside-stable n set slots None shallow high = outside-none (suc n) set slots ∙ sym (outside-none n set slots)
 outside-stable zero set slots (Some p) shallow high = absurd (omega (arith, high))
 outside-stable (suc n) set slots (Some p) shallow high = elim (set p) as (λ b. set p ≡ b → ancestor_outside (suc (suc n)) set slots (Some p) ≡ ancestor_outside (suc n) set slots (Some p)) [

@@ -21,7 +21,7 @@ use Rattle.removals.proofs.Keeping.{kept-test}
 use Rattle.removals.proofs.Rounds.{full-apart, open-kept}
 use Rattle.removals.proofs.Splits.{empty-now, kept-now, parent-now, root-now}
 
-valid-kept : (s : State) (set : SlotSet) (y : ℕ) (c : Cap) → IsCapability c → IsCapability (kept s set y c)
+pub valid-kept : (s : State) (set : SlotSet) (y : ℕ) (c : Cap) → IsCapability c → IsCapability (kept s set y c)
 valid-kept s set y (Untyped o b w) valid = elim (loses_last_child s set y) as (λ l. IsCapability (Untyped o b (if l then 0 else w))) [
   | true ↦ (valid.0, valid.1, valid.2, omega arith)
   | false ↦ valid

@@ -81,17 +81,23 @@ no-lines s taken y = list_any_none (λ k. nat_le 64 k && (y == binding_slot s k 
     let early : nat_le 64 i ≡ false = elim (leb_tells 64 i) [ inl low ↦ absurd (omega (arith, low.1, few)) | inr high ↦ high.0 ] in
     ap (λ (k : ℕ). nat_le 64 k && (y == binding_slot s k && taken k)) here ∙ ap (λ b. b && (y == binding_slot s i && taken i)) early)
 
-pub line-open : (s : State) (taken : ℕ → Bool) (first y : ℕ) → ((l : ℕ) → l < 64 → IsOpen s.slots (binding_slot s l)) → bindings_from s taken first y ≡ true → IsOpen s.slots y
-line-open s taken first y opens is =
+-- a binding of some lines is that of a line
+pub line-of : (s : State) (taken : ℕ → Bool) (first y : ℕ) → bindings_from s taken first y ≡ true → (l : ℕ) × (l < 64) × (y ≡ binding_slot s l)
+line-of s taken first y is =
     let some = Any-from_list_any (λ k. nat_le first k && (y == binding_slot s k && taken k)) (range_with_len 0 64) is in
     let few : some.0 < 64 = omega (arith, some.2, length-range_with_len 0 64) in
     let line : some.1 ≡ some.0 = sym some.3 ∙ get_or-range_with_len 0 64 some.0 some.1 few ∙ omega arith in
     let parts = both (nat_le first some.1) _ some.4 in
     let there = both (y == binding_slot s some.1) _ parts.1 in
     elim (eqb_tells y (binding_slot s some.1)) [
-      | inl at ↦ subst (λ (n : ℕ). IsOpen s.slots n) (sym (at.1 ∙ ap (binding_slot s) line)) (opens some.0 few)
+      | inl at ↦ (some.0, few, at.1 ∙ ap (binding_slot s) line)
       | inr away ↦ absurd (let clash : false ≡ true = sym away.0 ∙ there.0 in cc)
     ]
+
+pub line-open : (s : State) (taken : ℕ → Bool) (first y : ℕ) → ((l : ℕ) → l < 64 → IsOpen s.slots (binding_slot s l)) → bindings_from s taken first y ≡ true → IsOpen s.slots y
+line-open s taken first y opens is =
+    let line = line-of s taken first y is in
+    subst (λ (n : ℕ). IsOpen s.slots n) (sym line.2) (opens line.0 line.1)
 
 -- the binding of a line is taken along
 pub line-taken : (s : State) (taken : ℕ → Bool) (l : ℕ) → l < 64 → IsDerivation s.slots → IsDerivation (emptied s (alone (binding_slot s l))).slots → ((y : ℕ) → IsFull s.slots y → y < 2 ^ s.memory_bits / 16)

@@ -55,7 +55,7 @@ is_root_kind _ = false
 abbrev names_root : Option (NewObject × ℕ) → Bool
 names_root o = option_map_or (λ p. is_root_kind p.0) o false
 
-root-kind : (c : Cap) (o : ℕ) → object_named c ≡ named_as NewRootTable o → c ≡ RootTable o
+pub root-kind : (c : Cap) (o : ℕ) → object_named c ≡ named_as NewRootTable o → c ≡ RootTable o
 root-kind (RootTable f) o is = ap (λ n. RootTable n) (ap (λ (p : Option (NewObject × ℕ)). option_map_or (λ q. q.1) p 0) is)
 root-kind Empty o is = absurd (let clash : false ≡ true = ap names_root is in cc)
 root-kind (Untyped f b w) o is = absurd (let clash : false ≡ true = ap names_root is in cc)

@@ -7,7 +7,7 @@ use Rattle.model.specs.declared.instructions.Access.{Access}
 use Rattle.model.specs.declared.instructions.Access.TheVariants.{Load, Store, Fetch}
 use Rattle.model.specs.declared.instructions.AccessSize.TheVariants.{Word}
 use Rattle.model.specs.declared.rights.Rights.{Rights}
-use Rattle.model.specs.Kernel.AddressSpaces.{content_of, place_in, place_under}
+use Rattle.model.specs.Kernel.AddressSpaces.{MappedFrame, content_of, place_in, place_under}
 use Rattle.model.specs.Images.Image.{Thread}
 use Rattle.model.specs.Machine.ProgramMemory.{loaded}
 use Rattle.model.specs.Capabilities.Rights.{rights}
@@ -16,19 +16,16 @@ use Rattle.runner.specs.Machine.{Machine, fetched, state_of, tcb}
 use Rattle.runner.specs.Pages.{page_place}
 use Rattle.runner.proofs.Fetches.{ReadsSame, loaded_same}
 use Rattle.runner.proofs.FormBytes.{framed_described, is_framed}
-use Rattle.runner.proofs.FormSpaces.{mapped_there, vspace_there}
+use Rattle.runner.proofs.FormSpaces.{code_frame, data_frame, mapped_there, vspace_there}
 use Rattle.runner.proofs.HeldPrograms.{framed_code}
 
-abbrev Page : Type 0
-Page = ℕ × Rights
-
-abbrev page_at : ℕ → Option Page
-page_at page = if 1 == page then Some (0x8000, rights 4) else if 2 == page then Some (0xB000, rights 3) else None
+abbrev page_at : ℕ → Option MappedFrame
+page_at page = if 1 == page then Some code_frame else if 2 == page then Some data_frame else None
 
 no_page_at : (page : ℕ) → (page ≡ 1 → ⊥) → (page ≡ 2 → ⊥) → page_at page ≡ None
 no_page_at page first second = rw (ne_eqb 1 page (λ e. first (sym e)), ne_eqb 2 page (λ e. second (sym e))) refl
 
-abbrev place_by : Access → ℕ → Option Page → Option ℕ
+abbrev place_by : Access → ℕ → Option MappedFrame → Option ℕ
 place_by access address page = option_and_then (place_in access address) page
 
 by_number : (access : Access) (address : ℕ) → place_by access address (page_at (address / 4096)) ≡ page_place access address

@@ -7,7 +7,7 @@ use Rattle.std.proofs.lemmas.Bool.{and_parts, cases_eq, eq-eqb, ne_eqb}
 use Rattle.model.specs.declared.capabilities.Cap.{Cap}
 use Rattle.model.specs.declared.capabilities.Cap.TheVariants.{Empty, Untyped, Endpoint, Notification, CNode, Frame, PageTable, Tcb, RootTable, InterruptControl, InterruptHandler}
 use Rattle.model.specs.declared.rights.Rights.{Rights}
-use Rattle.model.specs.Kernel.AddressSpaces.{page_of}
+use Rattle.model.specs.Kernel.AddressSpaces.{MappedFrame, page_of}
 use Rattle.model.specs.Capabilities.CapabilityKinds.{root_of}
 use Rattle.model.specs.Images.Described.{Holding, boot_holdings, described, held_in, holdings, is_open_slot}
 use Rattle.model.specs.Images.Image.{Thread}
@@ -30,8 +30,12 @@ pub vspace_there : (t : Thread) → root_of (capability_at (form_state t).slots 
 unfolding described holdings boot_holdings is_open_slot offset_of used_by
 vspace_there t = refl
 
-abbrev Page : Type 0
-Page = ℕ × Rights
+-- the frame of code and the frame of data, with what may be done there
+abbrev pub code_frame : MappedFrame
+code_frame = record { frame = 0x8000; allowed = rights 4 }
+
+abbrev pub data_frame : MappedFrame
+data_frame = record { frame = 0xB000; allowed = rights 3 }
 
 code_slot : (t : Thread) → capability_at (form_state t).slots 10 ≡ Frame 0x8000 (rights 3) (Some (record { root = root; page = 1; rights = rights 4 }))
 unfolding described holdings boot_holdings is_open_slot offset_of used_by
@@ -103,10 +107,10 @@ no_page_of page InterruptControl h = refl
 no_page_of page (InterruptHandler _) h = refl
 
 -- what a slot maps at a page
-abbrev slot_page : ℕ → ℕ → Option Page
+abbrev slot_page : ℕ → ℕ → Option MappedFrame
 slot_page page slot =
-    if slot == 10 then (if 1 == page then Some (0x8000, rights 4) else None)
-    else if slot == 11 then (if 2 == page then Some (0xB000, rights 3) else None) else None
+    if slot == 10 then (if 1 == page then Some code_frame else None)
+    else if slot == 11 then (if 2 == page then Some data_frame else None) else None
 
 slot_page_is : (t : Thread) (page slot : ℕ) → page_of root page (capability_at (form_state t).slots slot) ≡ slot_page page slot
 slot_page_is t page slot = elim (cases_eq slot 10) [
@@ -119,27 +123,27 @@ slot_page_is t page slot = elim (cases_eq slot 10) [
 
 -- ---- the pages
 
-filter_same : (f g : ℕ → Option Page) (xs : List ℕ) → ((x : ℕ) → f x ≡ g x) → filter_map f xs ≡ filter_map g xs
+filter_same : (f g : ℕ → Option MappedFrame) (xs : List ℕ) → ((x : ℕ) → f x ≡ g x) → filter_map f xs ≡ filter_map g xs
 filter_same f g [] same = refl
 filter_same f g (x ∷ xs) same = rw (same x, filter_same f g xs same) refl
 
-abbrev pages_with : Bool → Bool → ℕ → Option Page
+abbrev pages_with : Bool → Bool → ℕ → Option MappedFrame
 pages_with code plain slot =
-    if slot == 10 then (if code then Some (0x8000, rights 4) else None)
-    else if slot == 11 then (if plain then Some (0xB000, rights 3) else None) else None
+    if slot == 10 then (if code then Some code_frame else None)
+    else if slot == 11 then (if plain then Some data_frame else None) else None
 
-abbrev first_page : Bool → Bool → Option Page
+abbrev first_page : Bool → Bool → Option MappedFrame
 first_page code plain = head_of (filter_map (pages_with code plain) (slot_numbers 16))
 
-both_pages : first_page true true ≡ Some (0x8000, rights 4)
+both_pages : first_page true true ≡ Some code_frame
 unfolding slot_numbers
 both_pages = refl
 
-code_page : first_page true false ≡ Some (0x8000, rights 4)
+code_page : first_page true false ≡ Some code_frame
 unfolding slot_numbers
 code_page = refl
 
-data_page : first_page false true ≡ Some (0xB000, rights 3)
+data_page : first_page false true ≡ Some data_frame
 unfolding slot_numbers
 data_page = refl
 
@@ -147,7 +151,7 @@ no_pages : first_page false false ≡ None
 unfolding slot_numbers
 no_pages = refl
 
-first_page_is : (code plain : Bool) → first_page code plain ≡ (if code then Some (0x8000, rights 4) else if plain then Some (0xB000, rights 3) else None)
+first_page_is : (code plain : Bool) → first_page code plain ≡ (if code then Some code_frame else if plain then Some data_frame else None)
 first_page_is true true = both_pages
 first_page_is true false = code_page
 first_page_is false true = data_page
@@ -159,9 +163,9 @@ bits_there t = refl
 
 -- the page that the thread's root table has under a number
 pub mapped_there : (t : Thread) (page : ℕ) → head_of (filter_map (λ slot. page_of root page (capability_at (form_state t).slots slot)) (slot_numbers (form_state t).memory_bits))
-    ≡ (if 1 == page then Some (0x8000, rights 4) else if 2 == page then Some (0xB000, rights 3) else None)
+    ≡ (if 1 == page then Some code_frame else if 2 == page then Some data_frame else None)
 mapped_there t page =
-    let f : ℕ → Option Page = λ slot. page_of root page (capability_at (form_state t).slots slot) in
+    let f : ℕ → Option MappedFrame = λ slot. page_of root page (capability_at (form_state t).slots slot) in
     ap (λ (slots : List ℕ). head_of (filter_map f slots)) (bits_there t)
-    ∙ ap (λ (pages : List Page). head_of pages) (filter_same f (slot_page page) (slot_numbers 16) (slot_page_is t page))
+    ∙ ap (λ (pages : List MappedFrame). head_of pages) (filter_same f (slot_page page) (slot_numbers 16) (slot_page_is t page))
     ∙ first_page_is (1 == page) (2 == page)

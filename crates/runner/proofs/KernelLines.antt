@@ -9,7 +9,7 @@ use Rattle.model.specs.declared.capabilities.Cap.TheVariants.{Empty}
 use Rattle.model.specs.declared.slot_entries.Entry.{Entry}
 use Rattle.model.specs.Images.Described.{Holding, boot_holdings, described, held_in, holdings, is_open_slot}
 use Rattle.model.specs.Images.Image.{Thread}
-use Rattle.model.specs.Kernel.Interrupts.{binding, interrupt, raise, signal_of, with_pending}
+use Rattle.model.specs.Kernel.Interrupts.{Signal, binding, interrupt, raise, signal_of, with_pending}
 use Rattle.model.specs.Images.Places.{offset_of, used_by}
 use Rattle.model.specs.Capabilities.Slots.{capability_at, empty_entry}
 use Rattle.model.specs.Kernel.State.{State, put}
@@ -29,7 +29,7 @@ line_slot_is : (t : Thread) (line : ℕ) → line_slot t line ≡ 16 + line
 unfolding described
 line_slot_is t line = refl
 
-bound_line : (t : Thread) → signal_of (capability_at (form_state t).slots 19) ≡ Some (notification, 1)
+bound_line : (t : Thread) → signal_of (capability_at (form_state t).slots 19) ≡ Some (record { notification = notification; badge = 1 })
 unfolding described holdings boot_holdings is_open_slot offset_of used_by
 bound_line t = refl
 
@@ -75,7 +75,7 @@ free_line t line lt free =
 
 -- ---- raising
 
-abbrev raised_by : State → ℕ → Option (ℕ × ℕ) → State
+abbrev raised_by : State → ℕ → Option Signal → State
 raised_by s line bound = option_map_or (interrupt s line) bound (with_pending s line true)
 
 pending_for : (t : Thread) (m : Machine) (line : ℕ) → line < 64 → (line ≡ 3 → ⊥) → raise (kernel t m) line ≡ kernel t (record m { pending = put m.pending line true })

@@ -17,7 +17,7 @@ use Rattle.model.specs.Acceptance.RangeRules.{destination}
 use Rattle.model.specs.Acceptance.Ranges.{is_ranged, with_range}
 use Rattle.ranges.specs.declared.edges.Edge.{Edge as Way}
 use Rattle.ranges.specs.Edges.{way_of}
-use Rattle.programs.specs.Certificates.{IsOfForm, IsWait, is_ecall, known_of, constant_measure, with_image_slots}
+use Rattle.programs.specs.Certificates.{IsOfForm, IsWait, is_ecall, known_of, constant_measure, sole, with_image_slots}
 use Rattle.image.specs.Stage.{staged_image}
 use Rattle.programs.proofs.NotedConstants.{no_term_of}
 use Rattle.programs.proofs.StagedCalls.{waits_at}
@@ -50,17 +50,17 @@ instruction_is t point word i known at told is = ap (λ (w : ℕ). decoded w) (s
 
 pub behind_the_wait : (t : Thread) (point : ℕ) (ranges : List Range) (m : ℤ) → IsOfForm t → noted_at t point ≡ Known (at_constant t ranges m)
     → instruction_at t point ≡ Some Ecall → IsWait ranges
-    → follows (staged_image t) (0, t) point (noted_at t point) ≡ Known (at_constant t (with_range ranges a0 badges) (pos t.header.budget))
+    → follows (staged_image t) (sole t) point (noted_at t point) ≡ Known (at_constant t (with_range ranges a0 badges) (pos t.header.budget))
 behind_the_wait t point ranges m form known ecall wait =
-    ap (λ (n : Noted). follows (staged_image t) (0, t) point n) known
-    ∙ ap (λ (o : Option Instr). follows_instruction (staged_image t) (0, t) point (at_constant t ranges m) o) ecall
+    ap (λ (n : Noted). follows (staged_image t) (sole t) point n) known
+    ∙ ap (λ (o : Option Instr). follows_instruction (staged_image t) (sole t) point (at_constant t ranges m) o) ecall
     ∙ ap (λ (o : Option (Result AfterCall Refusal)). follows_call t (constant_measure m) o) (waits_at t point ranges (constant_measure m) form wait.0 wait.1)
 
 -- ---- behind an instruction
 
 -- an instruction of this release that is no system call leaves what its fall-through says
 ranged_edge : (t : Thread) (point : ℕ) (state : PointState) (i : Instr) → is_ranged i ≡ true
-    → follows_instruction (staged_image t) (0, t) point state (Some i) ≡ follows_edge i state (after (address_of t point) i state.ranges).fall_through
+    → follows_instruction (staged_image t) (sole t) point state (Some i) ≡ follows_edge i state (after (address_of t point) i state.ranges).fall_through
 ranged_edge t point state (Immediate op rd rs1 immediate) h = refl
 ranged_edge t point state (Jal rd offset) h = refl
 ranged_edge t point state (Upper op rd immediate) h = refl
@@ -89,32 +89,32 @@ no_edge i t ranges m (Some edge) h = absurd (let clash : ◌≡◌ {A = Option W
 
 at_instruction : (t : Thread) (point : ℕ) (ranges : List Range) (m : ℤ) (i : Instr) → noted_at t point ≡ Known (at_constant t ranges m)
     → instruction_at t point ≡ Some i → is_ranged i ≡ true
-    → follows (staged_image t) (0, t) point (noted_at t point) ≡ follows_edge i (at_constant t ranges m) (after (address_of t point) i ranges).fall_through
+    → follows (staged_image t) (sole t) point (noted_at t point) ≡ follows_edge i (at_constant t ranges m) (after (address_of t point) i ranges).fall_through
 at_instruction t point ranges m i known is ranged =
-    ap (λ (n : Noted). follows (staged_image t) (0, t) point n) known
-    ∙ ap (λ (o : Option Instr). follows_instruction (staged_image t) (0, t) point (at_constant t ranges m) o) is
+    ap (λ (n : Noted). follows (staged_image t) (sole t) point n) known
+    ∙ ap (λ (o : Option Instr). follows_instruction (staged_image t) (sole t) point (at_constant t ranges m) o) is
     ∙ ranged_edge t point (at_constant t ranges m) i ranged
 
 pub behind_the_edge : (t : Thread) (point : ℕ) (ranges : List Range) (m : ℤ) (i : Instr) (way : Way) → noted_at t point ≡ Known (at_constant t ranges m)
     → instruction_at t point ≡ Some i → is_ranged i ≡ true → option_map way_of (after (address_of t point) i ranges).fall_through ≡ Some way
-    → follows (staged_image t) (0, t) point (noted_at t point) ≡ Known (at_constant t way.bounds (m -ℤ pos 1))
+    → follows (staged_image t) (sole t) point (noted_at t point) ≡ Known (at_constant t way.bounds (m -ℤ pos 1))
 behind_the_edge t point ranges m i way known is ranged falls =
     at_instruction t point ranges m i known is ranged ∙ some_edge i t ranges m (after (address_of t point) i ranges).fall_through way falls
 
 pub behind_no_edge : (t : Thread) (point : ℕ) (ranges : List Range) (m : ℤ) (i : Instr) → noted_at t point ≡ Known (at_constant t ranges m)
     → instruction_at t point ≡ Some i → is_ranged i ≡ true → option_map way_of (after (address_of t point) i ranges).fall_through ≡ None
-    → follows (staged_image t) (0, t) point (noted_at t point) ≡ Missing
+    → follows (staged_image t) (sole t) point (noted_at t point) ≡ Missing
 behind_no_edge t point ranges m i known is ranged none =
     at_instruction t point ranges m i known is ranged ∙ no_edge i t ranges m (after (address_of t point) i ranges).fall_through none
 
 -- a jump leaves nothing behind it, whatever is noted of its point
 jump_leaves_nothing : (t : Thread) (point : ℕ) (rd : Register) (offset : ℤ) (n : Noted) → instruction_at t point ≡ Some (Jal rd offset)
-    → follows (staged_image t) (0, t) point n ≡ Missing
+    → follows (staged_image t) (sole t) point n ≡ Missing
 unfolding after
-jump_leaves_nothing t point rd offset (Known state) is = ap (λ (o : Option Instr). follows_instruction (staged_image t) (0, t) point state o) is
+jump_leaves_nothing t point rd offset (Known state) is = ap (λ (o : Option Instr). follows_instruction (staged_image t) (sole t) point state o) is
 jump_leaves_nothing t point rd offset Missing is = refl
 jump_leaves_nothing t point rd offset Unmeasured is = refl
 
 pub behind_a_jump : (t : Thread) (point : ℕ) (rd : Register) (offset : ℤ) → instruction_at t point ≡ Some (Jal rd offset)
-    → follows (staged_image t) (0, t) point (noted_at t point) ≡ Missing
+    → follows (staged_image t) (sole t) point (noted_at t point) ≡ Missing
 behind_a_jump t point rd offset is = jump_leaves_nothing t point rd offset (noted_at t point) is

@@ -19,7 +19,7 @@ use Rattle.model.specs.Acceptance.PointRules.{entry_rules, lies_in}
 use Rattle.model.specs.Acceptance.PointStates.{Noted, Known, point_of}
 use Rattle.model.specs.Acceptance.Ranges.{AreWithin, IsWithin, full, single, with_range}
 use Rattle.model.specs.Acceptance.Rules.{first_broken, refuse_if}
-use Rattle.programs.specs.Certificates.{IsOfForm, constant_measure, with_image_slots}
+use Rattle.programs.specs.Certificates.{IsOfForm, constant_measure, sole, with_image_slots}
 use Rattle.image.specs.Stage.{staged_image}
 use Rattle.programs.proofs.ConstantMeasures.{constant_measured}
 use Rattle.verify.specs.Checking.{initial_ranges}
@@ -132,27 +132,27 @@ by_tests at within same over = first_broken (
 
 entry_first : (t : Thread) (ranges : List Range) (n : ℤ) (within over : Bool) → IsOfForm t → noted_at t t.header.entry ≡ Known (with_image_slots t ranges (constant_measure n))
     → list_all (starts_at t ranges) (range_with_len 0 31) ≡ within → int_lt (pos t.header.budget) n ≡ over
-    → first_broken (entry_rules (staged_image t) (0, t) (noted_at t t.header.entry)) ≡ by_tests (point_of (0, t) t.header.entry) within true over
+    → first_broken (entry_rules (staged_image t) (sole t) (noted_at t t.header.entry)) ≡ by_tests (point_of (sole t) t.header.entry) within true over
 entry_first t ranges n within over form is inside above =
-    let at : Point = point_of (0, t) t.header.entry in
+    let at : Point = point_of (sole t) t.header.entry in
     let same : Bool = are_same_slots (image_slots (staged_image t) t) (image_slots (staged_image t) t) in
     let value : Bool = int_lt (pos t.header.budget) (measured (constant_measure n) (start_registers t)) in
-    ap (λ (x : Noted). first_broken (entry_rules (staged_image t) (0, t) x)) is
+    ap (λ (x : Noted). first_broken (entry_rules (staged_image t) (sole t) x)) is
     ∙ ap (λ (b : Bool). by_tests at b same value) inside
     ∙ ap (λ (b : Bool). by_tests at within b value) (same_slots t form)
     ∙ ap (λ (z : ℤ). by_tests at within true (int_lt (pos t.header.budget) z)) (constant_measured (constant_measure n) (start_registers t) refl)
     ∙ ap (λ (b : Bool). by_tests at within true b) above
 
 pub entry_outside : (t : Thread) (ranges : List Range) (n : ℤ) → IsOfForm t → noted_at t t.header.entry ≡ Known (with_image_slots t ranges (constant_measure n))
-    → (AreWithin (initial_ranges t) ranges → ⊥) → first_broken (entry_rules (staged_image t) (0, t) (noted_at t t.header.entry)) ≡ Some (RangeNotKept (point_of (0, t) t.header.entry))
+    → (AreWithin (initial_ranges t) ranges → ⊥) → first_broken (entry_rules (staged_image t) (sole t) (noted_at t t.header.entry)) ≡ Some (RangeNotKept (point_of (sole t) t.header.entry))
 entry_outside t ranges n form is outside = entry_first t ranges n false (int_lt (pos t.header.budget) n) form is (starts_outside t ranges outside) refl
 
 pub entry_over : (t : Thread) (ranges : List Range) (n : ℤ) → IsOfForm t → noted_at t t.header.entry ≡ Known (with_image_slots t ranges (constant_measure n))
     → AreWithin (initial_ranges t) ranges → int_lt (pos t.header.budget) n ≡ true
-    → first_broken (entry_rules (staged_image t) (0, t) (noted_at t t.header.entry)) ≡ Some (OverBudget (point_of (0, t) t.header.entry))
+    → first_broken (entry_rules (staged_image t) (sole t) (noted_at t t.header.entry)) ≡ Some (OverBudget (point_of (sole t) t.header.entry))
 entry_over t ranges n form is within over = entry_first t ranges n true true form is (starts t ranges within) over
 
 pub entry_kept : (t : Thread) (ranges : List Range) (n : ℤ) → IsOfForm t → noted_at t t.header.entry ≡ Known (with_image_slots t ranges (constant_measure n))
     → AreWithin (initial_ranges t) ranges → int_lt (pos t.header.budget) n ≡ false
-    → first_broken (entry_rules (staged_image t) (0, t) (noted_at t t.header.entry)) ≡ None
+    → first_broken (entry_rules (staged_image t) (sole t) (noted_at t t.header.entry)) ≡ None
 entry_kept t ranges n form is within over = entry_first t ranges n true false form is (starts t ranges within) over

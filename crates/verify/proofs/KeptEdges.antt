@@ -17,7 +17,7 @@ use Rattle.model.specs.Acceptance.PointStates.{Noted, Known, Missing, noted, poi
 use Rattle.model.specs.Acceptance.Ranges.{AreWithin, IsWithin, full}
 use Rattle.model.specs.Acceptance.Rules.{Rule, first_broken, refuse_if}
 use Rattle.model.specs.Acceptance.ThreadRules.{reached, reached_within}
-use Rattle.programs.specs.Certificates.{IsOfForm, constant_measure, numbered_thread, with_image_slots}
+use Rattle.programs.specs.Certificates.{IsOfForm, constant_measure, numbered_thread, sole, with_image_slots}
 use Rattle.image.specs.Stage.{staged_image}
 use Rattle.programs.proofs.ConstantMeasures.{constant_falls, constant_stays_below}
 use Rattle.verify.specs.Checking.{IsLimit, limited, rules_of_edge}
@@ -125,25 +125,25 @@ ranges_not_kept t at e m target outside =
 
 -- what is noted of the target decides which rules there are
 target_noted : (t : Thread) (from target address : ℕ) (e : ProgramEdge) (m : Measure) (n : Noted) → e.target ≡ address → Some target ≡ point_at t address → noted_at t target ≡ n
-    → rules_of_edge t from m e ≡ edge_rules t (point_of (0, t) from) m e n
+    → rules_of_edge t from m e ≡ edge_rules t (point_of (sole t) from) m e n
 target_noted t from target address e m n leads found is =
-    ap (λ (a : ℕ). edge_rules t (point_of (0, t) from) m e (option_map_or (noted (staged_image t) (0, t)) (point_at t a) Missing)) leads
-    ∙ ap (λ (o : Option ℕ). edge_rules t (point_of (0, t) from) m e (option_map_or (noted (staged_image t) (0, t)) o Missing)) (sym found)
-    ∙ ap (λ (n : Noted). edge_rules t (point_of (0, t) from) m e n) is
+    ap (λ (a : ℕ). edge_rules t (point_of (sole t) from) m e (option_map_or (noted (staged_image t) (sole t)) (point_at t a) Missing)) leads
+    ∙ ap (λ (o : Option ℕ). edge_rules t (point_of (sole t) from) m e (option_map_or (noted (staged_image t) (sole t)) o Missing)) (sym found)
+    ∙ ap (λ (n : Noted). edge_rules t (point_of (sole t) from) m e n) is
 
 pub edge_outside : (t : Thread) (from target address : ℕ) (e : ProgramEdge) (m : Measure) (ranges : List Range) (n : ℤ) (at : Point)
     → e.target ≡ address → Some target ≡ point_at t address → noted_at t target ≡ Known (with_image_slots t ranges (constant_measure n))
-    → (AreWithin e.ranges ranges → ⊥) → at ≡ point_of (0, t) from → first_broken (rules_of_edge t from m e) ≡ Some (RangeNotKept at)
+    → (AreWithin e.ranges ranges → ⊥) → at ≡ point_of (sole t) from → first_broken (rules_of_edge t from m e) ≡ Some (RangeNotKept at)
 edge_outside t from target address e m ranges n at leads found is outside here =
     ap first_broken (target_noted t from target address e m (Known (with_image_slots t ranges (constant_measure n))) leads found is)
-    ∙ ranges_not_kept t (point_of (0, t) from) e m (with_image_slots t ranges (constant_measure n)) (are_not_within e.ranges ranges outside)
+    ∙ ranges_not_kept t (point_of (sole t) from) e m (with_image_slots t ranges (constant_measure n)) (are_not_within e.ranges ranges outside)
     ∙ ap (λ (p : Point). Some (RangeNotKept p)) (sym here)
 
 pub edge_limited : (t : Thread) (from target address : ℕ) (e : ProgramEdge) (m : Measure) (limit : Limit) (ranges : List Range) (n : ℤ) (at : Point)
     → e.target ≡ address → Some target ≡ point_at t address → noted_at t target ≡ Known (with_image_slots t ranges (constant_measure n))
-    → AreWithin e.ranges ranges → e.slots ≡ image_slots (staged_image t) t → IsOfForm t → IsLimit t e m limit → at ≡ point_of (0, t) from
+    → AreWithin e.ranges ranges → e.slots ≡ image_slots (staged_image t) t → IsOfForm t → IsLimit t e m limit → at ≡ point_of (sole t) from
     → first_broken (rules_of_edge t from m e) ≡ limited limit at n
 edge_limited t from target address e m limit ranges n at leads found is within slots form bound here =
     ap first_broken (target_noted t from target address e m (Known (with_image_slots t ranges (constant_measure n))) leads found is)
-    ∙ falling_kept t (point_of (0, t) from) e limit m ranges n slots form bound (are_within e.ranges ranges within)
+    ∙ falling_kept t (point_of (sole t) from) e limit m ranges n slots form bound (are_within e.ranges ranges within)
     ∙ ap (λ (p : Point). limited limit p n) (sym here)

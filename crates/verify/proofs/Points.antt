@@ -8,7 +8,7 @@ use Rattle.model.specs.Images.Image.{Thread}
 use Rattle.model.specs.Acceptance.PointRules.{entry_rules, point_rules, rules_of_noted, rules_of_program, state_rules}
 use Rattle.model.specs.Acceptance.Rules.{Rule, first_broken}
 use Rattle.model.specs.Acceptance.PointStates.{Noted, Known, Missing}
-use Rattle.programs.specs.Certificates.{OnlyWaits, constant_measure, with_image_slots}
+use Rattle.programs.specs.Certificates.{OnlyWaits, constant_measure, sole, with_image_slots}
 use Rattle.verify.specs.Matching.{noted_at}
 use Rattle.image.specs.Stage.{staged_image}
 use Rattle.verify.specs.Checking.{Checks}
@@ -16,26 +16,26 @@ use Rattle.verify.proofs.RuleLists.{checks_as, first_kept, refused_before}
 
 -- the rules on so many points, from one on
 abbrev pub rules_from : Thread → ℕ → ℕ → List Rule
-rules_from t first count = flat_map (point_rules (staged_image t) (0, t)) (range_with_len first count)
+rules_from t first count = flat_map (point_rules (staged_image t) (sole t)) (range_with_len first count)
 
 -- the rules on the first of them, and then the rest
-pub from_point : (t : Thread) (first count left : ℕ) → left ≡ suc count → rules_from t first left ≡ point_rules (staged_image t) (0, t) first ++ rules_from t (first + 1) count
+pub from_point : (t : Thread) (first count left : ℕ) → left ≡ suc count → rules_from t first left ≡ point_rules (staged_image t) (sole t) first ++ rules_from t (first + 1) count
 from_point t first count left is = ap (λ (n : ℕ). rules_from t first n) is
 
 -- a point that keeps its rules leaves the rest
-pub one_point : (t : Thread) (first words : ℕ) → first < words → first_broken (point_rules (staged_image t) (0, t) first) ≡ None
+pub one_point : (t : Thread) (first words : ℕ) → first < words → first_broken (point_rules (staged_image t) (sole t) first) ≡ None
     → first_broken (rules_from t first (words - first)) ≡ first_broken (rules_from t (first + 1) (words - (first + 1)))
 one_point t first words below kept =
     ap first_broken (from_point t first (words - (first + 1)) (words - first) (omega (arith, below)))
-    ∙ first_kept (point_rules (staged_image t) (0, t) first) (rules_from t (first + 1) (words - (first + 1))) kept
+    ∙ first_kept (point_rules (staged_image t) (sole t) first) (rules_from t (first + 1) (words - (first + 1))) kept
 
 -- a point that does not keep its rules is what counts, if all before it do
 pub refused_at : (t : Thread) (first words : ℕ) (refusal : Refusal) → first < words
     → first_broken (rules_from t 0 words) ≡ first_broken (rules_from t first (words - first))
-    → Checks t (point_rules (staged_image t) (0, t) first) (Err refusal) → Checks t (rules_from t 0 words) (Err refusal)
+    → Checks t (point_rules (staged_image t) (sole t) first) (Err refusal) → Checks t (rules_from t 0 words) (Err refusal)
 refused_at t first words refusal below left checks =
     let rest = rules_from t (first + 1) (words - (first + 1)) in
-    let here = point_rules (staged_image t) (0, t) first in
+    let here = point_rules (staged_image t) (sole t) first in
     checks_as t (here ++ rest) (rules_from t 0 words) (Err refusal)
     (left ∙ ap first_broken (from_point t first (words - (first + 1)) (words - first) (omega (arith, below))))
     (refused_before t here rest refusal checks)
@@ -51,7 +51,7 @@ none_checked t = record {
   waits = λ before below. absurd (omega (arith, below));
 }
 
-pub next_checked : (t : Thread) (point : ℕ) → point < t.header.words → AreChecked t point → first_broken (point_rules (staged_image t) (0, t) point) ≡ None → OnlyWaits t point
+pub next_checked : (t : Thread) (point : ℕ) → point < t.header.words → AreChecked t point → first_broken (point_rules (staged_image t) (sole t) point) ≡ None → OnlyWaits t point
     → AreChecked t (point + 1)
 next_checked t point below checked kept wait = record {
   left = checked.left ∙ one_point t point t.header.words below kept;
@@ -68,18 +68,18 @@ all_checked t point end checked =
 
 -- ---- by what is noted
 
-pub missing_rules : (t : Thread) (point : ℕ) → noted_at t point ≡ Missing → first_broken (point_rules (staged_image t) (0, t) point) ≡ None
+pub missing_rules : (t : Thread) (point : ℕ) → noted_at t point ≡ Missing → first_broken (point_rules (staged_image t) (sole t) point) ≡ None
 unfolding point_rules
-missing_rules t point is = ap (λ (n : Noted). first_broken (rules_of_noted (staged_image t) (0, t) point n)) is
+missing_rules t point is = ap (λ (n : Noted). first_broken (rules_of_noted (staged_image t) (sole t) point n)) is
 
 pub known_rules : (t : Thread) (point : ℕ) (ranges : List Range) (n : ℤ) → noted_at t point ≡ Known (with_image_slots t ranges (constant_measure n))
-    → first_broken (point_rules (staged_image t) (0, t) point) ≡ first_broken (state_rules (staged_image t) (0, t) point (with_image_slots t ranges (constant_measure n)))
+    → first_broken (point_rules (staged_image t) (sole t) point) ≡ first_broken (state_rules (staged_image t) (sole t) point (with_image_slots t ranges (constant_measure n)))
 unfolding point_rules
-known_rules t point ranges n is = ap (λ (n : Noted). first_broken (rules_of_noted (staged_image t) (0, t) point n)) is
+known_rules t point ranges n is = ap (λ (n : Noted). first_broken (rules_of_noted (staged_image t) (sole t) point n)) is
 
 -- ---- a program
 
 -- the rules on a program are those on its entry, and then those on its points
-pub program_parts : (t : Thread) → rules_of_program (staged_image t) (0, t) ≡ entry_rules (staged_image t) (0, t) (noted_at t t.header.entry) ++ rules_from t 0 t.header.words
+pub program_parts : (t : Thread) → rules_of_program (staged_image t) (sole t) ≡ entry_rules (staged_image t) (sole t) (noted_at t t.header.entry) ++ rules_from t 0 t.header.words
 unfolding rules_of_program
 program_parts t = refl

@@ -7,7 +7,7 @@ use Rattle.model.specs.declared.ranges.Range.{Range}
 use Rattle.model.specs.Images.Image.{StateRecord, Thread}
 use Rattle.model.specs.Acceptance.NotedStates.{record_of, record_ranges, record_state}
 use Rattle.model.specs.Acceptance.PointStates.{Noted as PointNoted, Known as IsKnown, Missing, follows, noted, noted_or}
-use Rattle.programs.specs.Certificates.{IsBare, IsOfForm, Rise, constant_measure, with_image_slots}
+use Rattle.programs.specs.Certificates.{IsBare, IsOfForm, Rise, constant_measure, sole, with_image_slots}
 use Rattle.image.specs.Stage.{staged_image}
 use Rattle.programs.proofs.NotedConstants.{found_in}
 use Rattle.verify.specs.Matching.{AreStates, Meets, noted_at}
@@ -75,7 +75,7 @@ is_last t point left = (left.same point (omega arith), record { rising = tt; sam
 -- what the point before leaves
 abbrev pub before : Thread → ℕ → PointNoted
 before t zero = Missing
-before t (suc point) = follows (staged_image t) (0, t) point (noted_at t point)
+before t (suc point) = follows (staged_image t) (sole t) point (noted_at t point)
 
 noted_is : (t : Thread) (point : ℕ) → noted_at t point ≡ noted_or (staged_image t) t (record_of t point) (before t point)
 unfolding noted
@@ -173,7 +173,7 @@ pub length_pushed : (states : List Noted) (state : Noted) → length (states ++ 
 length_pushed [] state = refl
 length_pushed (x ∷ states) state = omega (arith, length_pushed states state)
 
-pub next_before : (t : Thread) (point : ℕ) (state : Noted) → Meets t (follows (staged_image t) (0, t) point (noted_at t point)) state → Meets t (before t (point + 1)) state
+pub next_before : (t : Thread) (point : ℕ) (state : Noted) → Meets t (follows (staged_image t) (sole t) point (noted_at t point)) state → Meets t (before t (point + 1)) state
 next_before t point state meets =
     let next : suc point ≡ point + 1 = omega arith in
     subst (λ (n : ℕ). Meets t (before t n) state) next meets

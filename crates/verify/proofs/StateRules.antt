@@ -19,7 +19,7 @@ use Rattle.model.specs.Acceptance.PointStates.{address_of, call_at, instruction_
 use Rattle.model.specs.Acceptance.Ranges.{is_ranged}
 use Rattle.model.specs.Acceptance.Rules.{Rule, first_broken, refuse_if}
 use Rattle.ranges.specs.Edges.{way_of}
-use Rattle.programs.specs.Certificates.{IsOfForm, IsWait, constant_measure, is_ecall, known_of, waited, with_image_slots}
+use Rattle.programs.specs.Certificates.{IsOfForm, IsWait, constant_measure, is_ecall, known_of, sole, waited, with_image_slots}
 use Rattle.image.specs.Stage.{staged_image}
 use Rattle.programs.proofs.ConstantMeasures.{constant_least_value}
 use Rattle.programs.proofs.StagedCalls.{no_stray_slots, waits_at}
@@ -68,12 +68,12 @@ by_tests at illegal computed stray low unmapped rest = first_broken (
     ∷ refuse_if low (MeasureNotFalling at) ∷ refuse_if unmapped (NotMapped at) ∷ rest)
 
 tests_are : (t : Thread) (point : ℕ) (ranges : List Range) (n : ℤ) (low : Bool) → IsOfForm t → known_of (instruction_at t point) ≢ None → int_lt n (pos 1) ≡ low
-    → first_broken (state_rules (staged_image t) (0, t) point (at_constant t ranges n))
-    ≡ by_tests (point_of (0, t) point) false false false low false (rules_behind t point (at_constant t ranges n))
+    → first_broken (state_rules (staged_image t) (sole t) point (at_constant t ranges n))
+    ≡ by_tests (point_of (sole t) point) false false false low false (rules_behind t point (at_constant t ranges n))
 unfolding state_rules
 tests_are t point ranges n low form known is =
     let state : PointState = at_constant t ranges n in
-    let at : Point = point_of (0, t) point in
+    let at : Point = point_of (sole t) point in
     let o : Option Instr = instruction_at t point in
     let legal : IsLegal t state o = legal_known t state o known in
     let rest : List Rule = rules_behind t point state in
@@ -89,12 +89,12 @@ tests_are t point ranges n low form known is =
 
 -- a measure below 1
 pub low_measure : (t : Thread) (point : ℕ) (ranges : List Range) (n : ℤ) → IsOfForm t → known_of (instruction_at t point) ≢ None → int_lt n (pos 1) ≡ true
-    → first_broken (state_rules (staged_image t) (0, t) point (at_constant t ranges n)) ≡ Some (MeasureNotFalling (point_of (0, t) point))
+    → first_broken (state_rules (staged_image t) (sole t) point (at_constant t ranges n)) ≡ Some (MeasureNotFalling (point_of (sole t) point))
 low_measure t point ranges n form known is = tests_are t point ranges n true form known is
 
 -- else what is behind the point decides
 pub then_behind : (t : Thread) (point : ℕ) (ranges : List Range) (n : ℤ) → IsOfForm t → known_of (instruction_at t point) ≢ None → int_lt n (pos 1) ≡ false
-    → first_broken (state_rules (staged_image t) (0, t) point (at_constant t ranges n)) ≡ first_broken (rules_behind t point (at_constant t ranges n))
+    → first_broken (state_rules (staged_image t) (sole t) point (at_constant t ranges n)) ≡ first_broken (rules_behind t point (at_constant t ranges n))
 then_behind t point ranges n form known is = tests_are t point ranges n false form known is
 
 -- ---- behind the wait
@@ -104,10 +104,10 @@ behind_call t point state o =
     refused_call o ∷ flat_map (rules_of_edge t point state.measure) (call_edges (address_of t point) state.ranges o)
 
 call_behind : (t : Thread) (point : ℕ) (state : PointState) → instruction_at t point ≡ Some Ecall
-    → rules_behind t point state ≡ behind_call t point state (call_at (staged_image t) (0, t) point state)
+    → rules_behind t point state ≡ behind_call t point state (call_at (staged_image t) (sole t) point state)
 unfolding edges_at
 call_behind t point state is =
-    ap (λ (o : Option Instr). call_rule (staged_image t) (0, t) point state o ∷ flat_map (rules_of_edge t point state.measure) (edges_at (staged_image t) (0, t) point state o)) is
+    ap (λ (o : Option Instr). call_rule (staged_image t) (sole t) point state o ∷ flat_map (rules_of_edge t point state.measure) (edges_at (staged_image t) (sole t) point state o)) is
 
 -- the edge behind the wait
 abbrev pub wait_edge : Thread → ℕ → List Range → ProgramEdge
@@ -141,7 +141,7 @@ instr_edges t point state i =
     flat_map (rules_of_edge t point state.measure) (edges_of i state.slots (after (address_of t point) i state.ranges))
 
 ranged_behind : (t : Thread) (point : ℕ) (state : PointState) (i : Instr) → is_ranged i ≡ true
-    → call_rule (staged_image t) (0, t) point state (Some i) ∷ flat_map (rules_of_edge t point state.measure) (edges_at (staged_image t) (0, t) point state (Some i))
+    → call_rule (staged_image t) (sole t) point state (Some i) ∷ flat_map (rules_of_edge t point state.measure) (edges_at (staged_image t) (sole t) point state (Some i))
     ≡ None ∷ instr_edges t point state i
 unfolding edges_at
 ranged_behind t point state (Immediate op rd rs1 immediate) h = refl
@@ -168,7 +168,7 @@ pub ways_behind : (t : Thread) (point : ℕ) (ranges : List Range) (n : ℤ) (i 
 ways_behind t point ranges n i is ranged =
     let state : PointState = at_constant t ranges n in
     let e = after (address_of t point) i ranges in
-    ap (λ (o : Option Instr). first_broken (call_rule (staged_image t) (0, t) point state o ∷ flat_map (rules_of_edge t point state.measure) (edges_at (staged_image t) (0, t) point state o))) is
+    ap (λ (o : Option Instr). first_broken (call_rule (staged_image t) (sole t) point state o ∷ flat_map (rules_of_edge t point state.measure) (edges_at (staged_image t) (sole t) point state o))) is
     ∙ ap first_broken (ranged_behind t point state i ranged)
     ∙ in_order (rules_of_edge t point (constant_measure n)) (program_edge i (image_slots (staged_image t) t)) e.taken e.fall_through
 

@@ -8,7 +8,7 @@ use Rattle.model.specs.Acceptance.Accepted.{AreKept, IsAccepted, first_breach}
 use Rattle.model.specs.Images.Image.{Image, Thread}
 use Rattle.model.specs.Acceptance.PointRules.{program_rules, rules_of_program}
 use Rattle.model.specs.Acceptance.Rules.{first_broken}
-use Rattle.programs.specs.Certificates.{IsOfForm, IsPlain}
+use Rattle.programs.specs.Certificates.{IsOfForm, IsPlain, sole}
 use Rattle.image.specs.Stage.{later, staged_image, staged_reading}
 use Rattle.programs.proofs.Acceptance.{accepted-no_breach, none-broken}
 use Rattle.programs.proofs.BareRecords.{read_of_form}
@@ -54,12 +54,12 @@ pub form_of : (bytes : List ℕ) (image : Image) (t : Thread) → WasRead bytes 
 form_of bytes image t was = read_of_form bytes t was.fits (read_form bytes image t was)
 
 -- the rules on programs are those on the one program
-one_program : (t : Thread) → first_broken (program_rules (staged_image t)) ≡ first_broken (rules_of_program (staged_image t) (0, t))
+one_program : (t : Thread) → first_broken (program_rules (staged_image t)) ≡ first_broken (rules_of_program (staged_image t) (sole t))
 unfolding program_rules
-one_program t = nothing_behind (rules_of_program (staged_image t) (0, t))
+one_program t = nothing_behind (rules_of_program (staged_image t) (sole t))
 
 first_of_program : (bytes : List ℕ) (image : Image) (t : Thread) → WasRead bytes image t → t.header.entry < t.header.words
-    → first_breach bytes ≡ first_broken (rules_of_program (staged_image t) (0, t))
+    → first_breach bytes ≡ first_broken (rules_of_program (staged_image t) (sole t))
 first_of_program bytes image t was inside = good_entry_first bytes t (read_form bytes image t was) inside ∙ one_program t
 
 -- ---- refusals
@@ -73,7 +73,7 @@ stage_by bytes image t _ was (IsLater.later at not_plain) =
     not_plain (subst IsPlain same plain.plain))
 
 refused_checks : (bytes : List ℕ) (image : Image) (t : Thread) (refusal : Refusal) → WasRead bytes image t → t.header.entry < t.header.words
-    → (◌≡◌ {A = Result (Unit {0}) Refusal} (Err refusal) (Err OutOfMemory)) ⊎ Checks t (rules_of_program (staged_image t) (0, t)) (Err refusal) → IsRefused bytes refusal
+    → (◌≡◌ {A = Result (Unit {0}) Refusal} (Err refusal) (Err OutOfMemory)) ⊎ Checks t (rules_of_program (staged_image t) (sole t)) (Err refusal) → IsRefused bytes refusal
 refused_checks bytes image t refusal was inside (inl is) =
     let memory : refusal ≡ OutOfMemory = cc is in subst (λ (r : Refusal). IsRefused bytes r) (sym memory) IsRefused.memory
 refused_checks bytes image t refusal was inside (inr (inl broken)) = IsRefused.breach refusal (first_of_program bytes image t was inside ∙ broken)
@@ -81,7 +81,7 @@ refused_checks bytes image t refusal was inside (inr (inr stage)) = stage_by byt
 
 pub refused : (bytes : List ℕ) (image : Image) (t : Thread) (refusal : Refusal) → WasRead bytes image t
     → (t.header.words ≤ t.header.entry → ◌≡◌ {A = Result (Unit {0}) Refusal} (Err refusal) (Err (BadThread 0)))
-    → (t.header.entry < t.header.words → (◌≡◌ {A = Result (Unit {0}) Refusal} (Err refusal) (Err OutOfMemory)) ⊎ Checks t (rules_of_program (staged_image t) (0, t)) (Err refusal))
+    → (t.header.entry < t.header.words → (◌≡◌ {A = Result (Unit {0}) Refusal} (Err refusal) (Err OutOfMemory)) ⊎ Checks t (rules_of_program (staged_image t) (sole t)) (Err refusal))
     → IsRefused bytes refusal
 refused bytes image t refusal was past checks = elim (cases_lt t.header.entry t.header.words) [
   | inl inside ↦ refused_checks bytes image t refusal was inside (checks inside)
@@ -93,14 +93,14 @@ refused bytes image t refusal was past checks = elim (cases_lt t.header.entry t.
 
 -- ---- acceptance
 
-kept_by : (t : Thread) → (◌≡◌ {A = Result (Unit {0}) Refusal} (Ok tt) (Err OutOfMemory)) ⊎ Checks t (rules_of_program (staged_image t) (0, t)) (Ok tt)
-    → first_broken (rules_of_program (staged_image t) (0, t)) ≡ None
+kept_by : (t : Thread) → (◌≡◌ {A = Result (Unit {0}) Refusal} (Ok tt) (Err OutOfMemory)) ⊎ Checks t (rules_of_program (staged_image t) (sole t)) (Ok tt)
+    → first_broken (rules_of_program (staged_image t) (sole t)) ≡ None
 kept_by t (inl is) = absurd (let clash : ◌≡◌ {A = Result (Unit {0}) Refusal} (Ok tt) (Err OutOfMemory) = is in cc)
 kept_by t (inr kept) = kept
 
 pub accepted : (bytes : List ℕ) (image : Image) (t : Thread) → WasRead bytes image t
     → (t.header.words ≤ t.header.entry → ◌≡◌ {A = Result (Unit {0}) Refusal} (Ok tt) (Err (BadThread 0)))
-    → (t.header.entry < t.header.words → (◌≡◌ {A = Result (Unit {0}) Refusal} (Ok tt) (Err OutOfMemory)) ⊎ Checks t (rules_of_program (staged_image t) (0, t)) (Ok tt))
+    → (t.header.entry < t.header.words → (◌≡◌ {A = Result (Unit {0}) Refusal} (Ok tt) (Err OutOfMemory)) ⊎ Checks t (rules_of_program (staged_image t) (sole t)) (Ok tt))
     → IsAccepted bytes image
 accepted bytes image t was past checks = elim (cases_lt t.header.entry t.header.words) [
   | inl inside ↦

@@ -13,7 +13,7 @@ use Rattle.model.specs.Acceptance.PointRules.{ProgramEdge, call_rule, edge_rules
 use Rattle.model.specs.Acceptance.PointStates.{instruction_at, point_of}
 use Rattle.model.specs.Acceptance.Rules.{Rule, first_broken, refuse_if}
 use Rattle.ranges.specs.declared.edges.Edge.{Edge as Way}
-use Rattle.programs.specs.Certificates.{IsOfForm, IsPlain, constant_measure, known_of}
+use Rattle.programs.specs.Certificates.{IsOfForm, IsPlain, constant_measure, known_of, sole}
 use Rattle.image.specs.Stage.{staged_image}
 use Rattle.verify.specs.Matching.{AreStates}
 use Rattle.verify.specs.declared.states.Noted.{Noted}
@@ -71,7 +71,7 @@ pub record IsEdge (t : Thread) (e : ProgramEdge) (m : Measure) (way : Way) (limi
 
 -- the rules on an edge from a point
 abbrev pub rules_of_edge : Thread → ℕ → Measure → ProgramEdge → List Rule
-rules_of_edge t point m e = edge_rules t (point_of (0, t) point) m e (noted_at (staged_image t) (0, t) e.target)
+rules_of_edge t point m e = edge_rules t (point_of (sole t) point) m e (noted_at (staged_image t) (sole t) e.target)
 
 -- the rules on a way on, where there is one
 abbrev pub rules_of_way : Thread → ℕ → Measure → Option ProgramEdge → List Rule
@@ -87,4 +87,4 @@ IsWay t (Some e) m (Some way) limit = IsEdge t e m way limit
 -- the last rules on a point in a state: those on its system call and on its edges
 abbrev pub rules_behind : Thread → ℕ → PointState → List Rule
 rules_behind t point state =
-    call_rule (staged_image t) (0, t) point state (instruction_at t point) ∷ rules_on_edges (staged_image t) (0, t) point state
+    call_rule (staged_image t) (sole t) point state (instruction_at t point) ∷ rules_on_edges (staged_image t) (sole t) point state

@@ -2,7 +2,7 @@
 use Rattle.std.specs.Prelude.{ℕ, ◌≡◌, List, length, slice_get, Some}
 use Rattle.model.specs.Images.Image.{Thread}
 use Rattle.model.specs.Acceptance.PointStates.{Noted as PointNoted, Known as IsKnown, Missing, noted}
-use Rattle.programs.specs.Certificates.{IsPlain, constant_measure, with_image_slots}
+use Rattle.programs.specs.Certificates.{IsPlain, constant_measure, sole, with_image_slots}
 use Rattle.image.specs.Stage.{staged_image}
 use Rattle.verify.specs.declared.states.Noted.{Noted}
 use Rattle.verify.specs.declared.states.Noted.TheVariants.{Absent, Later, Known}
@@ -16,7 +16,7 @@ Meets t n (Known state) = n ≡ IsKnown (with_image_slots t state.bounds (consta
 
 -- what the certificate notes of a point
 abbrev pub noted_at : Thread → ℕ → PointNoted
-noted_at t point = noted (staged_image t) (0, t) point
+noted_at t point = noted (staged_image t) (sole t) point
 
 abbrev pub IsKnownAt : Thread → ℕ → State → Type 0
 IsKnownAt t point state = Meets t (noted_at t point) (Known state)

@@ -6,7 +6,7 @@ ghost use Rattle.model.specs.Images.Format.{IsSpelling};
 ghost use Rattle.model.specs.Images.Image.{Image, Thread, image_format};
 ghost use Rattle.model.specs.Acceptance.PointRules.{rules_of_program};
 ghost use Rattle.model.specs.declared.refusals.Refusal.TheVariants.{BadThread, OutOfMemory};
-ghost use Rattle.programs.specs.Certificates.{IsOfForm, IsPlain};
+ghost use Rattle.programs.specs.Certificates.{IsOfForm, IsPlain, sole};
 ghost use Rattle.image.specs.Stage.{IsStaged, later, no_slots, staged_image, staged_reading};
 ghost use Rattle.verify.specs.Checking.{Checks};
 ghost use Rattle.verify.specs.Refusing.{IsPlainImage, IsRefused};
@@ -79,7 +79,7 @@ fn check_thread(alloc: Global, thread: &ThreadRef) -> Result<(), Refusal>
     // An entry that is no point of the program is refused.
     ensures entry { thread.now.header.words ≤ thread.now.header.entry → result ≡ Err (BadThread 0) }
     // The first rule on programs that is broken is told, if memory is not refused.
-    ensures checks { thread.now.header.entry < thread.now.header.words → (result ≡ Err OutOfMemory) ⊎ Checks thread.now (rules_of_program (staged_image thread.now) (0, thread.now)) result }
+    ensures checks { thread.now.header.entry < thread.now.header.words → (result ≡ Err OutOfMemory) ⊎ Checks thread.now (rules_of_program (staged_image thread.now) (sole thread.now)) result }
     ensures plain { IfOk result (λ _. IsPlain thread.now) }
 {
     let header = thread.header();

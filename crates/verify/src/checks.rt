@@ -9,7 +9,7 @@ ghost use Rattle.model.specs.Machine.Instructions.{IsInstr};
 ghost use Rattle.model.specs.Acceptance.PointStates.{address_of, instruction_at};
 ghost use Rattle.model.specs.Acceptance.Ranges.{is_ranged};
 ghost use Rattle.model.specs.declared.instructions.Instr.TheVariants.{Ecall};
-ghost use Rattle.programs.specs.Certificates.{IsWait, OnlyWaits, constant_measure, with_image_slots};
+ghost use Rattle.programs.specs.Certificates.{IsWait, OnlyWaits, constant_measure, sole, with_image_slots};
 ghost use Rattle.image.specs.Stage.{staged_image};
 ghost use Rattle.verify.specs.Checking.{AreKnown, Checks, IsCertified, initial_ranges, IsEdge, IsLater, IsWay, limited, rules_behind, rules_of_edge, rules_of_way, told};
 ghost use Rattle.verify.specs.declared.checks.Limit.TheVariants.{Below};
@@ -77,7 +77,7 @@ impl Certified<'_, '_> {
     pub(crate) fn check_entry(&self) -> Result<(), Refusal>
         requires certified { IsCertified self.now.thread.now self.now.states.now }
         requires entry { self.now.thread.now.header.entry < self.now.thread.now.header.words }
-        ensures { Checks self.now.thread.now (entry_rules (staged_image self.now.thread.now) (0, self.now.thread.now) (noted_at self.now.thread.now self.now.thread.now.header.entry)) result }
+        ensures { Checks self.now.thread.now (entry_rules (staged_image self.now.thread.now) (sole self.now.thread.now) (noted_at self.now.thread.now self.now.thread.now.header.entry)) result }
     {
         let header = self.thread.header();
         let at = at(header.entry);
@@ -108,7 +108,7 @@ impl Certified<'_, '_> {
     /// The points in order, each where it has a state.
     pub(crate) fn check_points(&self) -> Result<(), Refusal>
         requires certified { IsCertified self.now.thread.now self.now.states.now }
-        ensures checks { Checks self.now.thread.now (flat_map (point_rules (staged_image self.now.thread.now) (0, self.now.thread.now)) (range_with_len 0 self.now.thread.now.header.words)) result }
+        ensures checks { Checks self.now.thread.now (flat_map (point_rules (staged_image self.now.thread.now) (sole self.now.thread.now)) (range_with_len 0 self.now.thread.now.header.words)) result }
         ensures waits { IfOk result (λ _. (point : ℕ) → point < self.now.thread.now.header.words → OnlyWaits self.now.thread.now point) }
     {
         for point in 0..self.thread.header().words {
@@ -121,7 +121,7 @@ impl Certified<'_, '_> {
     fn check_noted(&self, point: u32) -> Result<(), Refusal>
         requires certified { IsCertified self.now.thread.now self.now.states.now }
         requires within { point < self.now.thread.now.header.words }
-        ensures checks { Checks self.now.thread.now (point_rules (staged_image self.now.thread.now) (0, self.now.thread.now) point) result }
+        ensures checks { Checks self.now.thread.now (point_rules (staged_image self.now.thread.now) (sole self.now.thread.now) point) result }
         ensures waits { IfOk result (λ _. OnlyWaits self.now.thread.now point) }
     {
         match self.state(point) {
@@ -136,7 +136,7 @@ impl Certified<'_, '_> {
         requires certified { IsCertified self.now.thread.now self.now.states.now }
         requires within { point < self.now.thread.now.header.words }
         requires state { IsKnownAt self.now.thread.now point state.now }
-        ensures checks { Checks self.now.thread.now (state_rules (staged_image self.now.thread.now) (0, self.now.thread.now) point (with_image_slots self.now.thread.now state.now.bounds (constant_measure state.now.measure))) result }
+        ensures checks { Checks self.now.thread.now (state_rules (staged_image self.now.thread.now) (sole self.now.thread.now) point (with_image_slots self.now.thread.now state.now.bounds (constant_measure state.now.measure))) result }
         ensures waits { IfOk result (λ _. OnlyWaits self.now.thread.now point) }
     {
         if state.is_spent() {

@@ -10,7 +10,7 @@ ghost use Rattle.model.specs.Acceptance.NotedStates.{record_ranges};
 ghost use Rattle.model.specs.Acceptance.Ranges.{is_ranged, with_range};
 ghost use Rattle.model.specs.declared.instructions.Instr.TheVariants.{Ecall};
 ghost use Rattle.model.specs.Acceptance.PointStates.{follows};
-ghost use Rattle.programs.specs.Certificates.{IsOfForm, IsWait, known_of};
+ghost use Rattle.programs.specs.Certificates.{IsOfForm, IsWait, known_of, sole};
 ghost use Rattle.image.specs.Stage.{staged_image};
 ghost use Rattle.verify.specs.Matching.{AreStates, IsKnownAt, Meets, noted_at};
 ghost use Rattle.verify.specs.States.{IsAtLeast};
@@ -151,7 +151,7 @@ fn behind(thread: &ThreadRef, point: u32, noted: &Noted) -> Noted
     requires measured { IsAtLeast point noted.now }
     requires meets { Meets thread.now (noted_at thread.now point) noted.now }
     ensures measured { IsAtLeast (point + 1) result }
-    ensures follows { Meets thread.now (follows (staged_image thread.now) (0, thread.now) point (noted_at thread.now point)) result }
+    ensures follows { Meets thread.now (follows (staged_image thread.now) (sole thread.now) point (noted_at thread.now point)) result }
 {
     match noted {
         Noted::Absent => Noted::Absent,
@@ -170,7 +170,7 @@ fn behind_state(thread: &ThreadRef, point: u32, state: &State) -> Noted
     requires measured { negsuc (2 ^ 63 + point) ≤ℤ state.now.measure }
     requires meets { IsKnownAt thread.now point state.now }
     ensures measured { IsAtLeast (point + 1) result }
-    ensures follows { Meets thread.now (follows (staged_image thread.now) (0, thread.now) point (noted_at thread.now point)) result }
+    ensures follows { Meets thread.now (follows (staged_image thread.now) (sole thread.now) point (noted_at thread.now point)) result }
 {
     let header = thread.header();
     match known(thread.word(point)) {

@@ -10,13 +10,14 @@ use Rattle.verify.specs.Matching.{noted_at}
 use Rattle.verify.proofs.Points.{program_parts, rules_from}
 use Rattle.verify.proofs.RuleLists.{checks_as, checks_rest, refused_before}
 use Rattle.verify.proofs.accepted.check_thread.Goals as goal
+use Rattle.programs.specs.Certificates.{sole}
 
 pub returns-in_err-check_entry-clause-checks : goal.returns-in_err-check_entry-clause-checks
 returns-in_err-check_entry-clause-checks c = λ inside.
     let t = c.args.thread.now in
-    let a : List Rule = entry_rules (staged_image t) (0, t) (noted_at t t.header.entry) in
+    let a : List Rule = entry_rules (staged_image t) (sole t) (noted_at t t.header.entry) in
     let b : List Rule = rules_from t 0 t.header.words in
-    let rules : List Rule = rules_of_program (staged_image t) (0, t) in
+    let rules : List Rule = rules_of_program (staged_image t) (sole t) in
     let p = err_from_is_err_and c.from_residual-in_err-check_entry.result c.from_residual-in_err-check_entry.ensures.1 in
     let told : c.from_residual-in_err-check_entry.result ≡ Err c.in_err-check_entry.field-0.0 = p.1 ∙ ap (λ (r : Refusal). Err r) p.2 in
     inr (subst (λ (r : Result (Unit {0}) Refusal). Checks t rules r) (sym told)
@@ -25,7 +26,7 @@ returns-in_err-check_entry-clause-checks c = λ inside.
 pub returns-clause-checks : goal.returns-clause-checks
 returns-clause-checks c = λ inside.
     let t = c.args.thread.now in
-    let a : List Rule = entry_rules (staged_image t) (0, t) (noted_at t t.header.entry) in
+    let a : List Rule = entry_rules (staged_image t) (sole t) (noted_at t t.header.entry) in
     let b : List Rule = rules_from t 0 t.header.words in
-    let rules : List Rule = rules_of_program (staged_image t) (0, t) in
+    let rules : List Rule = rules_of_program (staged_image t) (sole t) in
     inr (checks_as t (a ++ b) rules c.check_points.result (ap first_broken (program_parts t)) (checks_rest t a b c.check_points.result c.in_ok-check_entry.ensures c.check_points.ensures.checks))

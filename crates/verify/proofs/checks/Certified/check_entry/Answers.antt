@@ -7,7 +7,7 @@ use Rattle.model.specs.declared.refusals.Point.{Point}
 use Rattle.model.specs.declared.refusals.Refusal.TheVariants.{OverBudget, RangeNotKept}
 use Rattle.model.specs.Acceptance.PointStates.{Known, point_of}
 use Rattle.model.specs.Acceptance.Ranges.{AreWithin}
-use Rattle.programs.specs.Certificates.{constant_measure, with_image_slots}
+use Rattle.programs.specs.Certificates.{constant_measure, sole, with_image_slots}
 use Rattle.verify.specs.Checking.{IsLater, initial_ranges}
 use Rattle.verify.specs.Matching.{noted_at}
 use Rattle.verify.proofs.Entry.{entry_kept, entry_outside, entry_over}
@@ -25,7 +25,7 @@ returns-in-Known c =
     let outside : AreWithin (initial_ranges t) bounds → ⊥ = λ within.
     let inside : AreWithin c.initial.result bounds = subst (λ (ranges : List Range). AreWithin ranges bounds) (sym c.initial.ensures) within in
     absurd (let clash : false ≡ true = sym c.if-not-is_within.true ∙ c.is_within.ensures.1 inside in cc) in
-    let at : c.at-at.result ≡ point_of (0, t) t.header.entry = c.at-at.ensures ∙ ap (λ (n : ℕ). point_of (0, t) n) entry in
+    let at : c.at-at.result ≡ point_of (sole t) t.header.entry = c.at-at.ensures ∙ ap (λ (n : ℕ). point_of (sole t) n) entry in
     inl (entry_outside t bounds c.in-Known.state.measure c.requires.certified.form is outside ∙ ap (λ (p : Point). Some (RangeNotKept p)) (sym at))
 
 pub returns-in-Known-2 : goal.returns-in-Known-2
@@ -37,7 +37,7 @@ returns-in-Known-2 c =
     let is : noted_at t t.header.entry ≡ Known (with_image_slots t bounds (constant_measure c.in-Known.state.measure)) = ap (λ (n : ℕ). noted_at t n) (sym entry) ∙ c.in-Known.ensures in
     let inside : AreWithin c.initial.result bounds = c.is_within.ensures.0 c.if-not-is_within.false in
     let within : AreWithin (initial_ranges t) bounds = subst (λ (ranges : List Range). AreWithin ranges bounds) c.initial.ensures inside in
-    let at : c.at-at.result ≡ point_of (0, t) t.header.entry = c.at-at.ensures ∙ ap (λ (n : ℕ). point_of (0, t) n) entry in
+    let at : c.at-at.result ≡ point_of (sole t) t.header.entry = c.at-at.ensures ∙ ap (λ (n : ℕ). point_of (sole t) n) entry in
     let over : int_lt (pos t.header.budget) c.in-Known.state.measure ≡ true = ap (λ (n : ℕ). int_lt (pos n) c.in-Known.state.measure) (sym budget) ∙ sym c.exceeds.ensures ∙ c.if-exceeds.true in
     inl (entry_over t bounds c.in-Known.state.measure c.requires.certified.form is within over ∙ ap (λ (p : Point). Some (OverBudget p)) (sym at))
 

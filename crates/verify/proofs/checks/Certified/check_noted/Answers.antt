@@ -1,7 +1,7 @@
 -- By what is noted of the point.
 use Rattle.std.proofs.Common.{inr}
 use Rattle.model.specs.Acceptance.PointRules.{point_rules, state_rules}
-use Rattle.programs.specs.Certificates.{constant_measure, with_image_slots}
+use Rattle.programs.specs.Certificates.{constant_measure, sole, with_image_slots}
 use Rattle.image.specs.Stage.{staged_image}
 use Rattle.verify.specs.Checking.{IsLater}
 use Rattle.verify.proofs.Points.{known_rules, missing_rules}
@@ -19,4 +19,4 @@ returns-in-Known-clause-checks c =
     let t = c.args.self.now.thread.now in
     let state = with_image_slots t c.in-Known.state.bounds (constant_measure c.in-Known.state.measure) in
     let same = known_rules t c.args.point c.in-Known.state.bounds c.in-Known.state.measure c.in-Known.ensures in
-    checks_as t (state_rules (staged_image t) (0, t) c.args.point state) (point_rules (staged_image t) (0, t) c.args.point) c.check_point.result same c.check_point.ensures.checks
+    checks_as t (state_rules (staged_image t) (sole t) c.args.point state) (point_rules (staged_image t) (sole t) c.args.point) c.check_point.result same c.check_point.ensures.checks
