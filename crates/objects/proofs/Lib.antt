@@ -1,0 +1,15 @@
+pub mod Beginning
+pub mod Endpoints
+pub mod Ends
+pub mod Following
+pub mod Frames
+pub mod Fresh
+pub mod Joining
+pub mod Kept
+pub mod Leaving
+pub mod Lists
+pub mod Replacing
+pub mod Serving
+pub mod Stranded
+pub mod Vacating
+pub mod Waking

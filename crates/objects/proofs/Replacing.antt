@@ -1,0 +1,122 @@
+-- A thread is replaced by one that sends the same.
+use Rattle.std.proofs.Common.{ℕ, ◌≡◌, ◌∙◌, ◌==◌, ◌/◌, ◌%◌, ◌<◌, inl, inr, Bool, true, false, if◌then◌else◌, Option, Some, None, is_some, option_map, List, length, refl, sym, ap}
+use Rattle.std.specs.Prelude.{option_and_then, slice_index_or}
+use Rattle.std.specs.Option.{option_map_or}
+use Rattle.std.proofs.lemmas.Bool.{cases_lt}
+use Rattle.std.proofs.lemmas.Bool.Decides.{eqb_tells}
+use Rattle.std.proofs.lemmas.List.{get_or_past}
+use Rattle.model.specs.Capabilities.Slots.{Slots}
+use Rattle.model.specs.Kernel.Kinds.{kind_of}
+use Rattle.model.specs.Kernel.Retype.{NewThread}
+use Rattle.model.specs.Kernel.Scheduling.{unready}
+use Rattle.model.specs.Kernel.State.{EndpointObject, Object, ThreadObject, new_thread, put, thread_at, with_thread}
+use Rattle.objects.proofs.Ends.{as-thread}
+use Rattle.objects.proofs.Kept.{put-there}
+use Rattle.objects.proofs.Lists.{receivers-by, senders-by}
+use Rattle.objects.specs.Tables.{Tables, kind_in, object_from, object_in, object_of, placed, record_in, sending_in, state_of, thread_in}
+use Rattle.objects.specs.Threads.{thread_state}
+use Rattle.objects.specs.declared.records.Record.{Record}
+use Rattle.objects.specs.declared.records.Record.TheVariants.{Endpoint, Notification, CNode, Frame, PageTable, RootTable}
+use Rattle.objects.specs.declared.records.Thread.{Thread}
+use Rattle.queues.proofs.Parts.{queue-part}
+use Rattle.queues.specs.Queues.{QueuedThreads, queue_at, without_thread}
+
+-- ---- threads that are there
+
+-- the state's thread at an offset
+pub thread-state : (o : Tables) (offset : ℕ) (slots : Slots) (memory : List ℕ)
+    → thread_at (state_of o slots memory) offset ≡ option_map_or (λ t. t) (option_map thread_state (thread_in o.threads offset)) new_thread
+unfolding state_of
+thread-state o offset slots memory = ap (λ t. option_map_or (λ t. t) t new_thread) (as-thread o offset)
+
+no-thread-kind : (threads : List (Option Thread)) (waiting : List ℕ) (r : Option Record) → option_map kind_of (option_map (object_of threads waiting) r) ≡ Some NewThread → false ≡ true
+no-thread-kind threads waiting None is = cc
+no-thread-kind threads waiting (Some Endpoint) is = cc
+no-thread-kind threads waiting (Some (Notification word)) is = cc
+no-thread-kind threads waiting (Some (CNode radix)) is = cc
+no-thread-kind threads waiting (Some Frame) is = cc
+no-thread-kind threads waiting (Some PageTable) is = cc
+no-thread-kind threads waiting (Some RootTable) is = cc
+
+pub thread-there : (o : Tables) (offset : ℕ) → kind_in o offset ≡ Some NewThread → is_some (thread_in o.threads offset) ≡ true
+thread-there o offset =
+    elim (thread_in o.threads offset) as (λ t. option_map kind_of (object_from t (option_map (object_of o.threads (queue_at o.waiting.entries offset)) (record_in o.records offset))) ≡ Some NewThread
+    → is_some t ≡ true) [
+      | Some t ↦ λ is. refl
+      | None ↦ λ is. no-thread-kind o.threads (queue_at o.waiting.entries offset) (record_in o.records offset) is
+    ]
+
+-- what stands somewhere has an entry
+pub aligned : {A : Type 0} (size : ℕ) (entries : List (Option A)) (offset : ℕ) → is_some (placed size entries offset) ≡ true → offset % size ≡ 0
+aligned {A} size entries offset some = elim (eqb_tells (offset % size) 0) [
+  | inl here ↦ here.1
+  | inr apart ↦ absurd (let clash : false ≡ true = sym (ap (λ b. is_some (if b then slice_index_or entries (offset / size) None else None)) apart.0) ∙ some in cc)
+]
+
+nothing : {A : Type 0} (b : Bool) (x : Option A) → x ≡ None → (if b then x else None) ≡ None
+nothing true x is = is
+nothing false x is = refl
+
+pub within : {A : Type 0} (size : ℕ) (entries : List (Option A)) (offset : ℕ) → is_some (placed size entries offset) ≡ true → offset / size < length entries
+within {A} size entries offset some = elim (cases_lt (offset / size) (length entries)) [
+  | inl inside ↦ inside
+  | inr outside ↦
+      let none : placed size entries offset ≡ None = nothing (offset % size == 0) _ (get_or_past entries (offset / size) None outside) in
+      absurd (let clash : false ≡ true = sym (ap is_some none) ∙ some in cc)
+]
+
+-- ---- the state with another thread
+
+module _ (o : Tables) (threads : List (Option Thread)) (thread : ℕ) (after : Thread)
+    (replaced : (other : ℕ) → thread_in threads other ≡ put (thread_in o.threads) thread (Some after) other)
+    (alike : sending_in o.threads thread ≡ after.sending) where
+  abbrev now : Tables
+  now = record o { threads = threads }
+
+  sends : (other : ℕ) → sending_in threads other ≡ sending_in o.threads other
+  sends other = elim (eqb_tells other thread) [
+    | inl here ↦
+        ap (option_and_then (λ t. t.sending)) (replaced other ∙ ap (λ b. if b then Some after else thread_in o.threads other) here.0)
+        ∙ sym alike ∙ ap (sending_in o.threads) (sym here.1)
+    | inr apart ↦ ap (option_and_then (λ t. t.sending)) (replaced other ∙ put-there (thread_in o.threads) thread (Some after) other apart.1)
+  ]
+
+  record-still : (waiting : List ℕ) (r : Record) → object_of threads waiting r ≡ object_of o.threads waiting r
+  record-still waiting Endpoint = λ i. EndpointObject (record {
+    senders = senders-by (λ other. sends other i) waiting;
+    receivers = receivers-by (λ other. sends other i) waiting;
+  })
+  record-still waiting (Notification word) = refl
+  record-still waiting (CNode radix) = refl
+  record-still waiting Frame = refl
+  record-still waiting PageTable = refl
+  record-still waiting RootTable = refl
+
+  other-still : (waiting : List ℕ) (r : Option Record) → option_map (object_of threads waiting) r ≡ option_map (object_of o.threads waiting) r
+  other-still waiting (Some r) = ap Some (record-still waiting r)
+  other-still waiting None = refl
+
+  from-put : (b : Bool) (t : Option Thread) (p : Option Object)
+      → object_from (if b then Some after else t) p ≡ (if b then Some (ThreadObject (thread_state after)) else object_from t p)
+  from-put true t p = refl
+  from-put false t p = refl
+
+  object-replaced : (other : ℕ) → object_in now other ≡ put (object_in o) thread (Some (ThreadObject (thread_state after))) other
+  object-replaced other =
+      ap (λ t. object_from t (option_map (object_of threads (queue_at o.waiting.entries other)) (record_in o.records other))) (replaced other)
+      ∙ from-put (other == thread) (thread_in o.threads other) _
+      ∙ ap (λ p. if other == thread then Some (ThreadObject (thread_state after)) else object_from (thread_in o.threads other) p)
+      (other-still (queue_at o.waiting.entries other) (record_in o.records other))
+
+  pub replaced-state : (slots : Slots) (memory : List ℕ) → state_of now slots memory ≡ with_thread (state_of o slots memory) thread (thread_state after)
+  unfolding state_of
+  replaced-state slots memory = λ i. record (state_of o slots memory) { objects = λ other. object-replaced other i }
+
+-- ---- the ready list
+
+pub unready-state : (o : Tables) (ready : QueuedThreads) (thread : ℕ) → ready.entries ≡ without_thread o.ready.entries thread → (slots : Slots) (memory : List ℕ)
+    → state_of (record o { ready = ready }) slots memory ≡ unready (state_of o slots memory) thread
+unfolding state_of
+unready-state o ready thread left slots memory = λ i. record (state_of o slots memory) {
+  ready = λ priority. (ap (λ entries. queue_at entries priority) left ∙ queue-part o.ready.entries (λ other. other == thread) priority) i;
+}

@@ -1,0 +1,101 @@
+-- Threads that wait at objects that are gone run again, one place after another.
+use Rattle.std.proofs.Common.{ℕ, zero, suc, ◌≡◌, ◌≢◌, ◌∙◌, ◌+◌, ◌*◌, ◌-◌, ◌/◌, ◌^◌, ◌<◌, inl, inr, Bool, true, false, not, if◌then◌else◌, Option, Some, None, is_some, option_map, List, ◌∷◌, filter, fold, map, refl, sym, ap, arith}
+use Rattle.std.specs.Option.{option_map_or}
+use Rattle.std.specs.List.{range_with_len}
+use Rattle.std.proofs.lemmas.Bool.Decides.{eqb_tells}
+use Rattle.model.specs.Capabilities.Slots.{Slots}
+use Rattle.model.specs.Kernel.Scheduling.{full_slice, wake}
+use Rattle.model.specs.Kernel.State.{Object, State, Status, Inactive, Runnable, Blocked, AwaitsReply, AwaitsHandler, ThreadObject, ThreadState, as_thread, put, slot_numbers, thread_at}
+use Rattle.objects.proofs.Ends.{as-thread}
+use Rattle.objects.proofs.Kept.{put-there}
+use Rattle.objects.specs.Tables.{Tables, state_of, thread_in}
+use Rattle.objects.specs.Threads.{status_of, thread_state}
+use Rattle.objects.specs.declared.records.Thread.{Thread}
+use Rattle.removals.specs.Finishing.{is_stranded, waits_nowhere, woken}
+
+-- ---- who is stranded
+
+pub stranded-at : (o : Tables) (offset : ℕ) (t : Thread) (slots : Slots) (memory : List ℕ) → thread_in o.threads offset ≡ Some t
+    → is_stranded (state_of o slots memory) offset ≡ waits_nowhere (state_of o slots memory) (status_of t.status)
+unfolding state_of
+stranded-at o offset t slots memory there =
+    ap (λ p. option_map_or (λ x. waits_nowhere (state_of o slots memory) x.status) p false) (as-thread o offset ∙ ap (option_map thread_state) there)
+
+pub stranded-nobody : (o : Tables) (offset : ℕ) (slots : Slots) (memory : List ℕ) → thread_in o.threads offset ≡ None
+    → is_stranded (state_of o slots memory) offset ≡ false
+unfolding state_of
+stranded-nobody o offset slots memory none =
+    ap (λ p. option_map_or (λ x. waits_nowhere (state_of o slots memory) x.status) p false) (as-thread o offset ∙ ap (option_map thread_state) none)
+
+-- ---- one that is woken leaves the others so
+
+some-object : (o : Option Object) (test : ThreadState → Bool) → option_map_or test (as_thread o) false ≡ true → is_some o ≡ true
+some-object None test is = absurd (let clash : false ≡ true = is in cc)
+some-object (Some o) test is = refl
+
+some-put : (objects : ℕ → Option Object) (place : ℕ) (value : Object) (other : ℕ) → is_some (objects place) ≡ true
+    → is_some (put objects place (Some value) other) ≡ is_some (objects other)
+some-put objects place value other there = elim (eqb_tells other place) [
+  | inl here ↦ ap (λ b. is_some (if b then Some value else objects other)) here.0 ∙ sym (ap (λ (n : ℕ). is_some (objects n)) here.1 ∙ there)
+  | inr apart ↦ ap is_some (put-there objects place (Some value) other apart.1)
+]
+
+module _ (s : State) (runs : ℕ) (stranded : is_stranded s runs ≡ true) where
+  still-there : (queue : ℕ) → is_some ((wake s runs).objects queue) ≡ is_some (s.objects queue)
+  still-there queue =
+      some-put s.objects runs (ThreadObject (record (thread_at s runs) { status = Runnable; slice = full_slice })) queue
+      (some-object (s.objects runs) (λ t. waits_nowhere s t.status) stranded)
+
+  still-nowhere : (status : Status) → waits_nowhere (wake s runs) status ≡ waits_nowhere s status
+  still-nowhere (Blocked queue) = ap not (still-there queue)
+  still-nowhere Inactive = refl
+  still-nowhere Runnable = refl
+  still-nowhere AwaitsReply = refl
+  still-nowhere AwaitsHandler = refl
+
+  pub still-stranded : (other : ℕ) → other ≢ runs → is_stranded (wake s runs) other ≡ is_stranded s other
+  still-stranded other apart =
+      ap (λ o. option_map_or (λ t. waits_nowhere (wake s runs) t.status) (as_thread o) false) (put-there s.objects runs _ other apart)
+      ∙ (λ i. option_map_or (λ (t : ThreadState). still-nowhere t.status i) (as_thread (s.objects other)) false)
+
+-- ---- place after place
+
+-- so many places, from one on
+abbrev pub places : ℕ → ℕ → List ℕ
+places first count = map (λ (n : ℕ). 16 * n) (range_with_len first count)
+
+abbrev pub swept : State → ℕ → ℕ → State
+swept s first count = fold wake s (filter (is_stranded s) (places first count))
+
+same-stranded : (s t : State) (below : ℕ) → ((x : ℕ) → below < x → is_stranded t x ≡ is_stranded s x) → (first count : ℕ) → below < 16 * first
+    → filter (is_stranded s) (places first count) ≡ filter (is_stranded t) (places first count)
+same-stranded s t below same first zero less = refl
+same-stranded s t below same first (suc count) less =
+    ap (λ b. if b then 16 * first ∷ filter (is_stranded s) (places (first + 1) count) else filter (is_stranded s) (places (first + 1) count)) (sym (same (16 * first) less))
+    ∙ ap (λ l. if is_stranded t (16 * first) then 16 * first ∷ l else l) (same-stranded s t below same (first + 1) count (omega (arith, less)))
+
+abbrev pub woken-if : State → ℕ → State
+woken-if s place = if is_stranded s place then wake s place else s
+
+pub sweep-step : (s : State) (first count : ℕ) → swept s first (suc count) ≡ swept (woken-if s (16 * first)) (first + 1) count
+sweep-step s first count =
+    elim (is_stranded s (16 * first)) as (λ b. is_stranded s (16 * first) ≡ b
+    → fold wake s (if b then 16 * first ∷ filter (is_stranded s) (places (first + 1) count) else filter (is_stranded s) (places (first + 1) count))
+    ≡ swept (if b then wake s (16 * first) else s) (first + 1) count) [
+      | true ↦ λ is.
+          ap (fold wake (wake s (16 * first))) (same-stranded s (wake s (16 * first)) (16 * first)
+          (λ x more. still-stranded s (16 * first) is x (λ same. absurd (omega (arith, same, more)))) (first + 1) count (omega arith))
+      | false ↦ λ is. refl
+    ] refl
+
+-- all places are those of all threads
+pub swept-all : (o : Tables) (slots : Slots) (memory : List ℕ) (count : ℕ) → count ≡ 2 ^ o.bits / 16
+    → swept (state_of o slots memory) 0 (count - 0) ≡ woken (state_of o slots memory)
+unfolding state_of slot_numbers
+swept-all o slots memory count is =
+    let all : count - 0 ≡ 2 ^ o.bits / 16 = omega (arith, is) in ap (λ (n : ℕ). swept (state_of o slots memory) 0 n) all
+
+pub sweep-on : (s t : State) (first count : ℕ) → first < count → t ≡ woken-if s (16 * first) → swept t (first + 1) (count - (first + 1)) ≡ swept s first (count - first)
+sweep-on s t first count less is =
+    let left : suc (count - (first + 1)) ≡ count - first = omega (arith, less) in
+    ap (λ (x : State). swept x (first + 1) (count - (first + 1))) is ∙ sym (sweep-step s first (count - (first + 1))) ∙ ap (λ (n : ℕ). swept s first n) left

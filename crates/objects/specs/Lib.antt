@@ -1,0 +1,5 @@
+pub mod Changes
+pub mod Frames
+pub mod Tables
+pub mod Threads
+pub mod Waiting

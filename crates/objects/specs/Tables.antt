@@ -1,0 +1,139 @@
+-- The tables, and the state that they stand for together with the slots and the bytes of memory.
+-- seL4 Reference Manual, "Kernel Services and Objects".
+use Rattle.std.specs.Prelude.{ℕ, ◌≡◌, ◌==◌, ◌*◌, ◌/◌, ◌%◌, ◌^◌, ◌≤◌, Bool, true, false, not, if◌then◌else◌, Option, Some, None, is_some, option_map, option_and_then, List, All, filter, filter_map, length, slice_index, slice_index_or}
+use Rattle.std.specs.Option.{option_map_or}
+use Rattle.model.specs.Capabilities.Slots.{Slots}
+use Rattle.model.specs.Kernel.Kinds.{frame_around, kind_of}
+use Rattle.model.specs.Kernel.Retype.{NewObject}
+use Rattle.model.specs.Kernel.State.{State, Object, Sender, ThreadObject, EndpointObject, NotificationObject, CNodeObject, FrameObject, PageTableObject, RootTableObject}
+use Rattle.objects.specs.Threads.{sender_of, thread_state}
+use Rattle.objects.specs.declared.records.Kind.{Kind}
+use Rattle.objects.specs.declared.records.Kind.TheVariants as kinds
+use Rattle.objects.specs.declared.records.Record.{Record}
+use Rattle.objects.specs.declared.records.Record.TheVariants as records
+use Rattle.objects.specs.declared.records.Sending.{Sending}
+use Rattle.objects.specs.declared.records.Thread.{Thread}
+use Rattle.queues.specs.Queues.{QueuedThreads, queue_at}
+use Rattle.queues.specs.declared.lists.Queued.{Queued}
+
+-- ---- tables
+
+-- what stands at an offset in memory, in a table with an entry for each `size` bytes
+abbrev pub placed : {A : Type 0} → ℕ → List (Option A) → ℕ → Option A
+placed size entries offset = if offset % size == 0 then slice_index_or entries (offset / size) None else None
+
+-- objects with and without records of their own stand in two tables; threads have 512 bytes
+abbrev pub record_in : List (Option Record) → ℕ → Option Record
+record_in records offset = placed 16 records offset
+
+abbrev pub thread_in : List (Option Thread) → ℕ → Option Thread
+thread_in threads offset = placed 512 threads offset
+
+pub record Tables : Type 0 where
+  -- memory has 2 ^ bits bytes, and the boot CNode 2 ^ radix slots
+  pub bits : ℕ
+  pub radix : ℕ
+  pub records : List (Option Record)
+  pub threads : List (Option Thread)
+  -- who waits at an object, and who is ready at a priority
+  pub waiting : QueuedThreads
+  pub ready : QueuedThreads
+  pub masked : List Bool
+  pub pending : List Bool
+
+-- ---- objects
+
+abbrev pub sending_in : List (Option Thread) → ℕ → Option Sending
+sending_in threads thread = option_and_then (λ t. t.sending) (thread_in threads thread)
+
+-- of those that wait at an endpoint: who sends, and who receives
+abbrev pub senders_in : List (Option Thread) → List ℕ → List Sender
+senders_in threads waiting = filter_map (λ thread. option_map (sender_of thread) (sending_in threads thread)) waiting
+
+abbrev pub receivers_in : List (Option Thread) → List ℕ → List ℕ
+receivers_in threads waiting = filter (λ thread. not (is_some (sending_in threads thread))) waiting
+
+-- an object that is no thread, with those that wait at it
+abbrev pub object_of : List (Option Thread) → List ℕ → Record → Object
+object_of threads waiting records.Endpoint = EndpointObject (record { senders = senders_in threads waiting; receivers = receivers_in threads waiting })
+object_of threads waiting (records.Notification word) = NotificationObject (record { word = word; waiters = waiting })
+object_of threads waiting (records.CNode radix) = CNodeObject radix
+object_of threads waiting records.Frame = FrameObject
+object_of threads waiting records.PageTable = PageTableObject
+object_of threads waiting records.RootTable = RootTableObject
+
+abbrev pub object_from : Option Thread → Option Object → Option Object
+object_from (Some t) other = Some (ThreadObject (thread_state t))
+object_from None other = other
+
+abbrev pub object_in : Tables → ℕ → Option Object
+object_in o offset =
+    object_from (thread_in o.threads offset) (option_map (object_of o.threads (queue_at o.waiting.entries offset)) (record_in o.records offset))
+
+-- the type of the object at an offset
+abbrev pub kind_in : Tables → ℕ → Option NewObject
+kind_in o offset = option_map kind_of (object_in o offset)
+
+-- ---- the state
+
+abbrev pub is_frame : Record → Bool
+is_frame records.Frame = true
+is_frame records.Endpoint = false
+is_frame (records.Notification word) = false
+is_frame (records.CNode radix) = false
+is_frame records.PageTable = false
+is_frame records.RootTable = false
+
+-- the bytes of frames are those of memory
+abbrev pub byte_in : List (Option Record) → List ℕ → ℕ → Option ℕ
+byte_in records memory place =
+    if option_map_or is_frame (record_in records (frame_around place)) false then Some (slice_index memory place) else None
+
+unfoldable pub state_of : Tables → Slots → List ℕ → State
+state_of o slots memory = record {
+  memory_bits = o.bits;
+  boot_radix = o.radix;
+  slots = slots;
+  objects = object_in o;
+  bytes = byte_in o.records memory;
+  ready = queue_at o.ready.entries;
+  masked = λ line. slice_index_or o.masked line false;
+  pending = λ line. slice_index_or o.pending line false;
+}
+
+-- ---- what is always true of the tables
+
+abbrev pub has_queue : Record → Bool
+has_queue records.Endpoint = true
+has_queue (records.Notification word) = true
+has_queue (records.CNode radix) = false
+has_queue records.Frame = false
+has_queue records.PageTable = false
+has_queue records.RootTable = false
+
+-- a thread that waits is there, and so is what it waits at
+pub record WaitsThere (records : List (Option Record)) (threads : List (Option Thread)) (entry : Queued) : Type 0 where
+  pub queue : option_map_or has_queue (record_in records entry.queue) false ≡ true
+  pub thread : is_some (thread_in threads entry.thread) ≡ true
+
+pub record AreTables (o : Tables) : Type 0 where
+  pub least_bits : 16 ≤ o.bits
+  pub most_bits : o.bits ≤ 24
+  pub most_radix : o.radix ≤ 14
+  -- there is an entry for each place, and room for each thread in the queues
+  pub record_places : 16 * length o.records ≡ 2 ^ o.bits
+  pub thread_places : 512 * length o.threads ≡ 2 ^ o.bits
+  pub waiting_room : o.waiting.limit ≡ length o.threads
+  pub ready_room : o.ready.limit ≡ length o.threads
+  pub waits_there : All (WaitsThere o.records o.threads) o.waiting.entries
+  pub nodes : (offset radix : ℕ) → record_in o.records offset ≡ Some (records.CNode radix) → radix ≤ 14
+
+-- what the table holds of a new object that is no thread
+abbrev pub record_of : Kind → Option Record
+record_of kinds.Thread = None
+record_of kinds.Endpoint = Some records.Endpoint
+record_of kinds.Notification = Some (records.Notification 0)
+record_of (kinds.CNode radix) = Some (records.CNode radix)
+record_of kinds.Frame = Some records.Frame
+record_of kinds.PageTable = Some records.PageTable
+record_of kinds.RootTable = Some records.RootTable

@@ -1,0 +1,80 @@
+//! The calls on objects, which are lent the store beside which these stand: a form that keeps its records in
+//! the machine's bytes has the same.
+
+ghost use Rattle.std.specs.Prelude.{ℕ, ◌≡◌, ◌<◌, ◌≤◌, List, None};
+ghost use Rattle.model.specs.Capabilities.Slots.{Slots};
+ghost use Rattle.model.specs.Kernel.Removal.{slot_count};
+ghost use Rattle.model.specs.Kernel.State.{binding_slot};
+ghost use Rattle.objects.specs.Changes.{MayStand, begun};
+ghost use Rattle.objects.specs.Frames.{SameBesideObjects};
+ghost use Rattle.objects.specs.Tables.{state_of};
+ghost use Rattle.removals.specs.Finishing.{woken};
+ghost use Rattle.removals.specs.Steps.{object_ended};
+
+use crate::{Kind, Objects};
+use model::Slot;
+use slots::SlotStore;
+
+impl Objects {
+    /// The slot of the interrupt table that holds what a line signals.
+    pub fn binding(&self, line: u8) -> Slot
+        requires { line < 64 }
+        ensures { (slots : Slots) (memory : List ℕ) → result ≡ binding_slot (state_of self.now slots memory) line }
+    {
+        self.binding_of(line)
+    }
+
+    /// The boot CNode has 2^`radix` slots.
+    #[tactic(auto, unfolding(crate::specs::Tables::state_of))]
+    pub fn boot_radix(&self) -> u32
+        ensures value { (slots : Slots) (memory : List ℕ) → result ≡ (state_of self.now slots memory).boot_radix }
+        ensures most { result ≤ 14 }
+    {
+        self.own_radix()
+    }
+
+    /// How many slots the object has that starts at an offset: none, where there is no object.
+    #[tactic(auto, unfolding(crate::specs::Tables::state_of))]
+    pub fn slots_of<S: SlotStore>(&self, store: &S, offset: u32) -> u32
+        ensures { result ≡ slot_count ((state_of self.now (S.slots store.now) (S.memory store.now)).objects offset) }
+    {
+        self.count_slots(offset)
+    }
+
+    /// The object at an offset ends, if there is one: a thread leaves every queue, and the rights to reply
+    /// to it are void.
+    pub fn end<S: SlotStore>(&mut self, store: &mut S, offset: u32)
+        ensures state { state_of self.new (S.slots store.new) (S.memory store.new)
+            ≡ object_ended (state_of self.old (S.slots store.old) (S.memory store.old)) offset }
+        ensures slots { S.slots store.new ≡ S.slots store.old }
+        ensures bytes { SameBesideObjects (state_of self.old (S.slots store.old) (S.memory store.old)) (S.memory store.old) (S.memory store.new) }
+        ensures order { S.order store.new ≡ S.order store.old }
+    {
+        self.end_at(offset);
+    }
+
+    /// A new object stands at an offset where none is. What memory holds there are the bytes of a frame.
+    #[tactic(auto, unfolding(crate::specs::Tables::state_of))]
+    pub fn begin<S: SlotStore>(&mut self, store: &mut S, offset: u32, kind: Kind)
+        requires free { (state_of self.old (S.slots store.old) (S.memory store.old)).objects offset ≡ None }
+        requires fits { MayStand (state_of self.old (S.slots store.old) (S.memory store.old)).memory_bits kind offset }
+        ensures state { state_of self.new (S.slots store.new) (S.memory store.new)
+            ≡ begun (state_of self.old (S.slots store.old) (S.memory store.old)) (S.memory store.old) kind offset }
+        ensures slots { S.slots store.new ≡ S.slots store.old }
+        ensures bytes { SameBesideObjects (state_of self.new (S.slots store.new) (S.memory store.new)) (S.memory store.old) (S.memory store.new) }
+        ensures order { S.order store.new ≡ S.order store.old }
+    {
+        self.begin_at(offset, kind);
+    }
+
+    /// Threads that wait at objects that are gone run again, in rising order of their offsets.
+    pub fn wake_stranded<S: SlotStore>(&mut self, store: &mut S)
+        ensures state { state_of self.new (S.slots store.new) (S.memory store.new)
+            ≡ woken (state_of self.old (S.slots store.old) (S.memory store.old)) }
+        ensures slots { S.slots store.new ≡ S.slots store.old }
+        ensures bytes { SameBesideObjects (state_of self.old (S.slots store.old) (S.memory store.old)) (S.memory store.old) (S.memory store.new) }
+        ensures order { S.order store.new ≡ S.order store.old }
+    {
+        self.wake_all_stranded();
+    }
+}

@@ -1,0 +1,21 @@
+//! The objects of the kernel but for slots and the bytes of frames: threads, endpoints, notifications,
+//! and what else stands where; with the queues, the ready list and the interrupt lines.
+//! seL4 Reference Manual, "Kernel Services and Objects".
+#![tactic(auto)]
+
+mod calls;
+mod laws;
+mod places;
+mod queue_calls;
+mod records;
+mod tables;
+mod thread_calls;
+mod threads;
+mod waiting;
+
+pub use laws::{
+    a_state_follows_its_slots, a_state_follows_other_bytes, a_state_has_its_slots,
+    what_fits_still_does,
+};
+pub use records::{Fault, Kind, Sending, Sent, Status, Thread, WaitingSender};
+pub use tables::Objects;

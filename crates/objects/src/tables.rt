@@ -1,0 +1,290 @@
+//! The tables that the kernel keeps beside slots and memory.
+
+ghost use Rattle.std.specs.Prelude.{ℕ, ◌≡◌, ◌+◌, ◌*◌, ◌/◌, ◌^◌, ◌<◌, ◌≤◌, None, Some, IfOk, List, true, false, if◌then◌else◌, is_some, length, option_map, replicate};
+ghost use Rattle.model.specs.Capabilities.Slots.{Slots};
+ghost use Rattle.model.specs.Kernel.Removal.{slot_count};
+ghost use Rattle.model.specs.Kernel.Scheduling.{all_leave, leaves, wake};
+ghost use Rattle.model.specs.Kernel.Setup.{boot_area};
+ghost use Rattle.model.specs.Kernel.State.{binding_slot, with_slots};
+ghost use Rattle.objects.specs.Changes.{MayStand, begun, vacated, voided};
+ghost use Rattle.objects.specs.Tables.{object_in, record_of, state_of, thread_in};
+ghost use Rattle.objects.specs.Threads.{status_of};
+ghost use Rattle.queues.specs.Queues.{times_queued};
+ghost use Rattle.removals.specs.Finishing.{is_stranded, waits_nowhere, woken};
+ghost use Rattle.removals.specs.Steps.{ends_thread, object_ended};
+
+use crate::places::Places;
+use crate::records::{Kind, Record, Status, Thread};
+use model::Slot;
+use queues::Queues;
+use std::alloc::{AllocError, Global};
+use std::marker::Model;
+
+/// How many ticks a thread gets when it is made runnable.
+const FULL_SLICE: u8 = 5;
+
+/// How many bytes of memory a thread has; other objects have 16 or more.
+pub(crate) const THREAD_SIZE: u32 = 512;
+
+pub(crate) const LEAST_SIZE: u32 = 16;
+
+/// The objects by their offsets in memory, the queues, the ready list and the interrupt lines. Only
+/// [`Objects::new`] takes memory. Slots, and the bytes of frames, are the store's.
+#[derive(Drop)]
+pub struct Objects {
+    pub(crate) bits: u32,
+    pub(crate) radix: u32,
+    pub(crate) records: Places<Record>,
+    pub(crate) threads: Places<Thread>,
+    pub(crate) waiting: Queues,
+    pub(crate) ready: Queues,
+    pub(crate) masked: [bool; 64],
+    pub(crate) pending: [bool; 64],
+}
+
+impl Model for Objects {
+    ghost use Rattle.objects.specs.Tables.{AreTables, Tables};
+
+    ghost Value = { Tables };
+
+    ghost view = { λ o. record {
+      bits = o.bits;
+      radix = o.radix;
+      records = o.records;
+      threads = o.threads;
+      waiting = o.waiting;
+      ready = o.ready;
+      masked = o.masked;
+      pending = o.pending;
+    } };
+
+    ghost invariant = { λ o. AreTables (record {
+      bits = o.bits;
+      radix = o.radix;
+      records = o.records;
+      threads = o.threads;
+      waiting = o.waiting;
+      ready = o.ready;
+      masked = o.masked;
+      pending = o.pending;
+    }) };
+}
+
+impl Objects {
+    /// No objects yet in memory of 2^`bits` bytes, with room for all that may come; the boot CNode has
+    /// 2^`radix` slots.
+    #[tactic(auto, unfolding(crate::specs::Tables::state_of, model::specs::Kernel::Setup::boot_area))]
+    pub fn new(alloc: Global, bits: u32, radix: u32) -> Result<Self, AllocError>
+        requires least { 16 ≤ bits }
+        requires most { bits ≤ 24 }
+        requires radix { radix ≤ 14 }
+        ensures { IfOk result (λ o. (slots : Slots) (memory : List ℕ) → state_of o slots memory ≡ with_slots (boot_area bits radix) slots) }
+    {
+        let size = power(bits);
+        let places = size / THREAD_SIZE;
+        Ok(Objects {
+            bits,
+            radix,
+            records: Places::new(alloc, size / LEAST_SIZE)?,
+            threads: Places::new(alloc, places)?,
+            waiting: Queues::new(alloc, places)?,
+            ready: Queues::new(alloc, places)?,
+            masked: quiet(),
+            pending: quiet(),
+        })
+    }
+
+    /// The slot of the interrupt table that holds what a line signals.
+    #[tactic(auto, unfolding(crate::specs::Tables::state_of))]
+    pub(crate) fn binding_of(&self, line: u8) -> Slot
+        requires { line < 64 }
+        ensures { (slots : Slots) (memory : List ℕ) → result ≡ binding_slot (state_of self.now slots memory) line }
+    {
+        Slot::new((1 << self.radix) + u32::from(line))
+    }
+
+    /// The boot CNode has 2^`radix` slots.
+    pub(crate) fn own_radix(&self) -> u32
+        ensures value { result ≡ self.now.radix }
+        ensures most { result ≤ 14 }
+    {
+        self.radix
+    }
+
+    /// The thread at an offset.
+    pub(crate) fn thread_at(&self, offset: u32) -> Option<Thread>
+        ensures { result ≡ thread_in self.now.threads offset }
+    {
+        self.threads.get(THREAD_SIZE, offset)
+    }
+
+    /// How many slots the object has that starts at an offset.
+    pub(crate) fn count_slots(&self, offset: u32) -> u32
+        ensures { result ≡ slot_count (object_in self.now offset) }
+    {
+        if self.thread_at(offset).is_some() {
+            return 2;
+        }
+        match self.records.get(LEAST_SIZE, offset) {
+            Some(Record::CNode { radix }) => 1 << radix,
+            _ => 0,
+        }
+    }
+
+    /// Whether an object starts at an offset.
+    fn is_there(&self, offset: u32) -> bool
+        ensures { result ≡ is_some (object_in self.now offset) }
+    {
+        self.thread_at(offset).is_some() || self.records.get(LEAST_SIZE, offset).is_some()
+    }
+
+    /// A thread leaves every queue and the ready list, and nobody has the right to reply to it any more.
+    fn forget(&mut self, thread: u32)
+        ensures state { (slots : Slots) (memory : List ℕ)
+            → state_of self.new slots memory ≡ leaves (state_of self.old slots memory) thread }
+        ensures gone { times_queued self.new.waiting.entries thread ≡ 0 }
+    {
+        self.waiting.leave(thread);
+        self.ready.leave(thread);
+        self.threads.void_rights(thread);
+    }
+
+    /// If the object at an offset is a thread, it leaves what it waits for.
+    fn forget_at(&mut self, offset: u32)
+        ensures state { (slots : Slots) (memory : List ℕ) → state_of self.new slots memory
+            ≡ all_leave (state_of self.old slots memory) (ends_thread (state_of self.old slots memory) offset) }
+        ensures gone { times_queued self.new.waiting.entries offset ≡ 0 }
+    {
+        if self.threads.get(THREAD_SIZE, offset).is_none() {
+            return;
+        }
+        self.forget(offset);
+    }
+
+    /// Nothing stands at an offset any more. No thread that stands there waits.
+    fn vacate(&mut self, offset: u32)
+        requires { times_queued self.old.waiting.entries offset ≡ 0 }
+        ensures { (slots : Slots) (memory : List ℕ)
+            → state_of self.new slots memory ≡ vacated (state_of self.old slots memory) offset }
+    {
+        self.waiting.end(offset);
+        self.records.clear(LEAST_SIZE, offset);
+        self.threads.clear(THREAD_SIZE, offset);
+    }
+
+    /// The object at an offset ends: a thread leaves every queue.
+    pub(crate) fn end_at(&mut self, offset: u32)
+        ensures { (slots : Slots) (memory : List ℕ)
+            → state_of self.new slots memory ≡ object_ended (state_of self.old slots memory) offset }
+    {
+        self.forget_at(offset);
+        self.vacate(offset);
+    }
+
+    /// Makes a thread runnable that does not run: it goes to the tail of its priority, with a full slice.
+    pub(crate) fn wake_at(&mut self, offset: u32, thread: Thread)
+        requires { thread_in self.old.threads offset ≡ Some thread }
+        ensures { (slots : Slots) (memory : List ℕ)
+            → state_of self.new slots memory ≡ wake (state_of self.old slots memory) offset }
+    {
+        let woken = Thread {
+            status: Status::Runnable,
+            slice: FULL_SLICE,
+            ..thread
+        };
+        self.threads.put(THREAD_SIZE, offset, woken);
+        self.ready.leave(offset);
+        self.ready.push(u32::from(thread.priority), offset);
+    }
+
+    /// Whether a thread waits at an object that is gone.
+    #[tactic(auto, unfolding(crate::specs::Tables::state_of))]
+    fn waits_nowhere(&self, thread: &Thread) -> bool
+        ensures { (slots : Slots) (memory : List ℕ)
+            → result ≡ waits_nowhere (state_of self.now slots memory) (status_of thread.now.status) }
+    {
+        match thread.status {
+            Status::Blocked { queue } => !self.is_there(queue),
+            Status::Inactive | Status::Runnable | Status::AwaitsReply | Status::AwaitsHandler => {
+                false
+            }
+        }
+    }
+
+    /// Wakes the thread at an offset, if one is there that waits at an object that is gone.
+    #[tactic(auto, unfolding(crate::specs::Tables::state_of))]
+    fn wake_if_stranded(&mut self, offset: u32)
+        ensures { (slots : Slots) (memory : List ℕ) → state_of self.new slots memory
+            ≡ (if is_stranded (state_of self.old slots memory) offset
+            then wake (state_of self.old slots memory) offset else state_of self.old slots memory) }
+    {
+        if let Some(thread) = self.thread_at(offset) {
+            if self.waits_nowhere(&thread) {
+                self.wake_at(offset, thread);
+            }
+        }
+    }
+
+    /// How many places there are where an object may start.
+    fn count_places(&self) -> u32
+        ensures value { result ≡ 2 ^ self.now.bits / 16 }
+        ensures most { result ≤ 2 ^ 20 }
+    {
+        power(self.bits) / LEAST_SIZE
+    }
+
+    /// Threads that wait at objects that are gone run again, in rising order of their offsets.
+    pub(crate) fn wake_all_stranded(&mut self)
+        ensures { (slots : Slots) (memory : List ℕ)
+            → state_of self.new slots memory ≡ woken (state_of self.old slots memory) }
+    {
+        let count = self.count_places();
+        'places: for number in 0..count {
+            self.wake_if_stranded(LEAST_SIZE * number);
+        }
+    }
+
+    /// A new object stands at an offset. What memory holds there are the bytes of a new frame.
+    pub(crate) fn begin_at(&mut self, offset: u32, kind: Kind)
+        requires free { object_in self.old offset ≡ None }
+        requires fits { MayStand self.old.bits kind offset }
+        ensures { (slots : Slots) (memory : List ℕ)
+            → state_of self.new slots memory ≡ begun (state_of self.old slots memory) memory kind offset }
+    {
+        match record_of(kind) {
+            None => self.threads.put(THREAD_SIZE, offset, Thread::new()),
+            Some(record) => self.records.put(LEAST_SIZE, offset, record),
+        }
+    }
+}
+
+/// 2^`bits`, in bytes.
+fn power(bits: u32) -> u32
+    requires { bits ≤ 24 }
+    ensures value { result ≡ 2 ^ bits }
+    ensures most { result ≤ 2 ^ 24 }
+{
+    1 << bits
+}
+
+/// No line is masked or pending.
+fn quiet() -> [bool; 64]
+    ensures { result ≡ replicate 64 false }
+{
+    [false; 64]
+}
+
+/// What the table holds of a new object that is no thread.
+fn record_of(kind: Kind) -> Option<Record>
+    ensures { result ≡ record_of kind }
+{
+    match kind {
+        Kind::Thread => None,
+        Kind::Endpoint => Some(Record::Endpoint),
+        Kind::Notification => Some(Record::Notification { word: 0 }),
+        Kind::CNode { radix } => Some(Record::CNode { radix }),
+        Kind::Frame => Some(Record::Frame),
+        Kind::PageTable => Some(Record::PageTable),
+        Kind::RootTable => Some(Record::RootTable),
+    }
+}

@@ -1,0 +1,98 @@
+//! The calls on threads, which are lent the store beside which the objects stand.
+
+ghost use Rattle.std.specs.Prelude.{ℕ, ◌≡◌, Some};
+ghost use Rattle.model.specs.Kernel.Kinds.{kind_at};
+ghost use Rattle.model.specs.Kernel.Messages.{with_caller, with_registers};
+ghost use Rattle.model.specs.Kernel.Retype.{NewThread};
+ghost use Rattle.model.specs.Kernel.Scheduling.{block, wake};
+ghost use Rattle.model.specs.Kernel.State.{thread_at};
+ghost use Rattle.objects.specs.Frames.{SameObjects};
+ghost use Rattle.objects.specs.Tables.{state_of};
+ghost use Rattle.objects.specs.Threads.{status_of};
+
+use crate::records::Status;
+use crate::tables::Objects;
+use rv32_exec::Regs;
+use slots::SlotStore;
+
+impl Objects {
+    /// The registers of a thread: those of a new one, where none is.
+    pub fn registers<S: SlotStore>(&self, store: &S, thread: u32) -> Regs
+        ensures { result ≡ (thread_at (state_of self.now (S.slots store.now) (S.memory store.now)) thread).registers }
+    {
+        self.thread_or_new(thread).registers
+    }
+
+    /// Whether a thread runs, and else what it waits for.
+    pub fn status<S: SlotStore>(&self, store: &S, thread: u32) -> Status
+        ensures { status_of result ≡ (thread_at (state_of self.now (S.slots store.now) (S.memory store.now)) thread).status }
+    {
+        self.thread_or_new(thread).status
+    }
+
+    /// The thread that a thread has the right to reply to.
+    pub fn caller<S: SlotStore>(&self, store: &S, thread: u32) -> Option<u32>
+        ensures { result ≡ (thread_at (state_of self.now (S.slots store.now) (S.memory store.now)) thread).caller }
+    {
+        self.thread_or_new(thread).caller
+    }
+
+    /// The priority of a thread.
+    pub fn priority<S: SlotStore>(&self, store: &S, thread: u32) -> u8
+        ensures { result ≡ (thread_at (state_of self.now (S.slots store.now) (S.memory store.now)) thread).priority }
+    {
+        self.thread_or_new(thread).priority
+    }
+
+    /// Sets the registers of a thread.
+    #[tactic(auto, unfolding(crate::specs::Tables::state_of))]
+    pub fn set_registers<S: SlotStore>(&mut self, store: &mut S, thread: u32, registers: Regs)
+        requires { kind_at (state_of self.old (S.slots store.old) (S.memory store.old)) thread ≡ Some NewThread }
+        ensures state { state_of self.new (S.slots store.new) (S.memory store.new)
+            ≡ with_registers (state_of self.old (S.slots store.old) (S.memory store.old)) thread registers }
+        ensures slots { S.slots store.new ≡ S.slots store.old }
+        ensures bytes { SameObjects (state_of self.old (S.slots store.old) (S.memory store.old)) (state_of self.new (S.slots store.new) (S.memory store.new)) (S.memory store.old) (S.memory store.new) }
+        ensures order { S.order store.new ≡ S.order store.old }
+    {
+        self.set_registers_at(thread, registers);
+    }
+
+    /// A thread has the right to reply to this one, or no such right.
+    #[tactic(auto, unfolding(crate::specs::Tables::state_of))]
+    pub fn set_caller<S: SlotStore>(&mut self, store: &mut S, thread: u32, caller: Option<u32>)
+        requires { kind_at (state_of self.old (S.slots store.old) (S.memory store.old)) thread ≡ Some NewThread }
+        ensures state { state_of self.new (S.slots store.new) (S.memory store.new)
+            ≡ with_caller (state_of self.old (S.slots store.old) (S.memory store.old)) thread caller }
+        ensures slots { S.slots store.new ≡ S.slots store.old }
+        ensures bytes { SameObjects (state_of self.old (S.slots store.old) (S.memory store.old)) (state_of self.new (S.slots store.new) (S.memory store.new)) (S.memory store.old) (S.memory store.new) }
+        ensures order { S.order store.new ≡ S.order store.old }
+    {
+        self.set_caller_at(thread, caller);
+    }
+
+    /// A thread stops running, for this reason.
+    #[tactic(auto, unfolding(crate::specs::Tables::state_of))]
+    pub fn block<S: SlotStore>(&mut self, store: &mut S, thread: u32, status: Status)
+        requires { kind_at (state_of self.old (S.slots store.old) (S.memory store.old)) thread ≡ Some NewThread }
+        ensures state { state_of self.new (S.slots store.new) (S.memory store.new)
+            ≡ block (state_of self.old (S.slots store.old) (S.memory store.old)) thread (status_of status) }
+        ensures slots { S.slots store.new ≡ S.slots store.old }
+        ensures bytes { SameObjects (state_of self.old (S.slots store.old) (S.memory store.old)) (state_of self.new (S.slots store.new) (S.memory store.new)) (S.memory store.old) (S.memory store.new) }
+        ensures order { S.order store.new ≡ S.order store.old }
+    {
+        self.block_at(thread, status);
+    }
+
+    /// Makes a thread runnable that does not run: it goes to the tail of its priority, with a full slice.
+    #[tactic(auto, unfolding(crate::specs::Tables::state_of))]
+    pub fn wake<S: SlotStore>(&mut self, store: &mut S, thread: u32)
+        requires { kind_at (state_of self.old (S.slots store.old) (S.memory store.old)) thread ≡ Some NewThread }
+        ensures state { state_of self.new (S.slots store.new) (S.memory store.new)
+            ≡ wake (state_of self.old (S.slots store.old) (S.memory store.old)) thread }
+        ensures slots { S.slots store.new ≡ S.slots store.old }
+        ensures bytes { SameObjects (state_of self.old (S.slots store.old) (S.memory store.old)) (state_of self.new (S.slots store.new) (S.memory store.new)) (S.memory store.old) (S.memory store.new) }
+        ensures order { S.order store.new ≡ S.order store.old }
+    {
+        self.wake_thread_at(thread);
+    }
+}

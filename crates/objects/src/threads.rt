@@ -1,0 +1,94 @@
+//! What the tables hold of one thread, and how it changes while the thread stands where it stands.
+
+ghost use Rattle.std.specs.Prelude.{ℕ, ◌≡◌, List, Some, true, is_some};
+ghost use Rattle.model.specs.Capabilities.Slots.{Slots};
+ghost use Rattle.model.specs.Kernel.Messages.{with_caller, with_registers};
+ghost use Rattle.model.specs.Kernel.Retype.{NewThread};
+ghost use Rattle.model.specs.Kernel.Scheduling.{block, unready, wake};
+ghost use Rattle.model.specs.Kernel.State.{thread_at, with_thread};
+ghost use Rattle.objects.specs.Tables.{kind_in, sending_in, state_of, thread_in};
+ghost use Rattle.objects.specs.Threads.{status_of, thread_state};
+
+use crate::records::{Status, Thread};
+use crate::tables::{Objects, THREAD_SIZE};
+use rv32_exec::Regs;
+
+impl Objects {
+    /// The thread at an offset, or a new one where none is.
+    pub(crate) fn thread_or_new(&self, offset: u32) -> Thread
+        ensures state { (slots : Slots) (memory : List ℕ)
+            → thread_state result ≡ thread_at (state_of self.now slots memory) offset }
+        ensures there { kind_in self.now offset ≡ Some NewThread
+            → thread_in self.now.threads offset ≡ Some result }
+    {
+        match self.thread_at(offset) {
+            Some(thread) => thread,
+            None => Thread::new(),
+        }
+    }
+
+    /// Puts a thread in the place of one that sends the same.
+    fn replace(&mut self, offset: u32, thread: Thread)
+        requires there { is_some (thread_in self.old.threads offset) ≡ true }
+        requires alike { sending_in self.old.threads offset ≡ thread.sending }
+        ensures { (slots : Slots) (memory : List ℕ) → state_of self.new slots memory
+            ≡ with_thread (state_of self.old slots memory) offset (thread_state thread) }
+    {
+        self.threads.put(THREAD_SIZE, offset, thread);
+    }
+
+    /// Sets the registers of a thread.
+    pub(crate) fn set_registers_at(&mut self, offset: u32, registers: Regs)
+        requires { kind_in self.old offset ≡ Some NewThread }
+        ensures { (slots : Slots) (memory : List ℕ) → state_of self.new slots memory
+            ≡ with_registers (state_of self.old slots memory) offset registers }
+    {
+        let thread = self.thread_or_new(offset);
+        self.replace(
+            offset,
+            Thread {
+                registers,
+                ..thread
+            },
+        );
+    }
+
+    /// A thread has the right to reply to this one, or no such right.
+    pub(crate) fn set_caller_at(&mut self, offset: u32, caller: Option<u32>)
+        requires { kind_in self.old offset ≡ Some NewThread }
+        ensures { (slots : Slots) (memory : List ℕ) → state_of self.new slots memory
+            ≡ with_caller (state_of self.old slots memory) offset caller }
+    {
+        let thread = self.thread_or_new(offset);
+        self.replace(offset, Thread { caller, ..thread });
+    }
+
+    /// A thread leaves the ready list.
+    fn unready(&mut self, offset: u32)
+        ensures { (slots : Slots) (memory : List ℕ)
+            → state_of self.new slots memory ≡ unready (state_of self.old slots memory) offset }
+    {
+        self.ready.leave(offset);
+    }
+
+    /// A thread stops running, for this reason.
+    pub(crate) fn block_at(&mut self, offset: u32, status: Status)
+        requires { kind_in self.old offset ≡ Some NewThread }
+        ensures { (slots : Slots) (memory : List ℕ) → state_of self.new slots memory
+            ≡ block (state_of self.old slots memory) offset (status_of status) }
+    {
+        let thread = self.thread_or_new(offset);
+        self.replace(offset, Thread { status, ..thread });
+        self.unready(offset);
+    }
+
+    /// Makes a thread runnable that does not run.
+    pub(crate) fn wake_thread_at(&mut self, offset: u32)
+        requires { kind_in self.old offset ≡ Some NewThread }
+        ensures { (slots : Slots) (memory : List ℕ) → state_of self.new slots memory
+            ≡ wake (state_of self.old slots memory) offset }
+    {
+        let thread = self.thread_or_new(offset);
+        self.wake_at(offset, thread);
+    }
+}
