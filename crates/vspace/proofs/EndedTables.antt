@@ -15,7 +15,7 @@ use Rattle.model.specs.declared.rights.Rights.{Rights}
 use Rattle.model.specs.declared.slot_entries.Entry.{Entry}
 use Rattle.model.proofs.SlotChanges.{capability_of, entry-other, entry-same, parent_of}
 use Rattle.vspace.specs.Endings.{Ended, GoesWith, IsMappedIn, Loses, NoneUnder, ended_at, is_ending, unmapped_entry}
-use Rattle.vspace.specs.Regions.{unmapped_at}
+use Rattle.removals.specs.Steps.{slots_unmapped}
 use Rattle.vspace.specs.Tables.{MapsTable, TablesAgree}
 use Rattle.vspace.proofs.FrameSteps.{region_or_zero, root_or_zero}
 use Rattle.vspace.proofs.Unmapping.{table-one}
@@ -330,11 +330,11 @@ module _ (old : Slots) (memory : List ℕ) (agree : TablesAgree old memory) (off
           let t = going.1.0 in
           let m = going.1.1 in
           let held = table-before t m going.1.2 in
-          let opened : next y ≡ unmapped_at now n (capability_at now n) y = step y ∙ ap (λ (b : Bool). if b then unmapped_at now n (capability_at now n) y else now y) going.0 in
-          let is : next y ≡ without_region (recapped now n (PageTable t None)) m y = opened ∙ ap (λ (c : Cap). unmapped_at now n c y) going.1.2 in
+          let opened : next y ≡ slots_unmapped now n (capability_at now n) y = step y ∙ ap (λ (b : Bool). (if b then slots_unmapped now n (capability_at now n) else now) y) going.0 in
+          let is : next y ≡ without_region (recapped now n (PageTable t None)) m y = opened ∙ ap (λ (c : Cap). slots_unmapped now n c y) going.1.2 in
           subst (λ (e : Option Entry). Loses (GoesBefore old offset (n + 1)) old y e) (sym is) (taken t m held going.1.3 y)
       | inr none ↦
-          let is : next y ≡ now y = step y ∙ ap (λ (b : Bool). if b then unmapped_at now n (capability_at now n) y else now y) none.0 in
+          let is : next y ≡ now y = step y ∙ ap (λ (b : Bool). (if b then slots_unmapped now n (capability_at now n) else now) y) none.0 in
           subst (λ (e : Option Entry). Loses (GoesBefore old offset (n + 1)) old y e) (sym is) (skipped none.1 y)
     ]
 

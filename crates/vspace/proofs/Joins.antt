@@ -4,7 +4,7 @@ use Rattle.std.specs.Prelude.{filter_map, nat_le, nat_lt, if◌then◌else◌, o
 use Rattle.std.proofs.lemmas.Bool.{eq-eqb}
 use Rattle.std.proofs.lemmas.Bool.Decides.{nat_tests}
 use Rattle.std.proofs.lemmas.List.FromFn.{get_or-range_with_len, length-range_with_len}
-use Rattle.model.specs.Kernel.AddressSpaces.{allows, mapped, maps_page, page_of, place_in, place_under}
+use Rattle.model.specs.Kernel.AddressSpaces.{MappedFrame, allows, mapped, maps_page, page_of, place_in, place_under}
 use Rattle.model.specs.Shared.Bytes.{word_at}
 use Rattle.model.specs.Capabilities.CapabilityWords.{AreMappingRights, IsCapability}
 use Rattle.model.specs.Kernel.State.{with_slots}
@@ -117,8 +117,12 @@ leaf-address f a aligned few = omega (arith, aligned, few)
 few_rights : (a : ℕ) → AreMappingRights a → a < 8
 few_rights a known = grind arith
 
+-- a frame with what may be done with it
+abbrev standing : ℕ → Rights → MappedFrame
+standing f allowed = record { frame = f; allowed = allowed }
+
 -- the byte in the page of a leaf
-leaf-byte : (memory : List ℕ) (f : ℕ) (r : Rights) (address : ℕ) (access : Access) → f % 2 ^ 12 ≡ 0 → f + 2 ^ 12 ≤ length memory → AreMappingRights r.0 → leaf_place memory (leaf_word f r.0) 12 address access ≡ place_in access address (f, r)
+leaf-byte : (memory : List ℕ) (f : ℕ) (r : Rights) (address : ℕ) (access : Access) → f % 2 ^ 12 ≡ 0 → f + 2 ^ 12 ≤ length memory → AreMappingRights r.0 → leaf_place memory (leaf_word f r.0) 12 address access ≡ place_in access address (standing f r)
 unfolding leaf_place
 leaf-byte memory f r address access aligned within known =
     let at = leaf-address f r.0 aligned (few_rights r.0 known) in
@@ -165,7 +169,7 @@ unmapped-region slots memory root address agree zero_there y f r a held =
 -- what the walk finds: the byte in the one frame that is mapped at the page, or nothing where none is
 pub record Finds (slots : Slots) (memory : List ℕ) (root address : ℕ) (access : Access) : Type 0 where
   pub maps : MapsFrame slots root (address / 2 ^ 12)
-  pub finds : walk memory root address access ≡ place_in access address (maps.frame, maps.allowed)
+  pub finds : walk memory root address access ≡ place_in access address (standing maps.frame maps.allowed)
 
 pub record FindsNone (slots : Slots) (memory : List ℕ) (root address : ℕ) (access : Access) : Type 0 where
   pub none : (y : ℕ) → maps_page root (address / 2 ^ 12) (capability_at slots y) ≡ false
@@ -182,7 +186,7 @@ walk-page slots memory root table address access agree maps step =
           let word = page-leaf slots memory root (address / 2 ^ 12) table agree maps frame.slot frame.frame frame.frame_rights frame.allowed frame.held in
           let entry = entry_at-valid memory table (address / 2 ^ 12 % 2 ^ 10) (leaf_word frame.frame frame.allowed.0) (omega (arith, stands.within)) word (leaf_word-valid frame.frame frame.allowed.0 fine.2.2) in
           let byte = leaf-byte memory frame.frame frame.allowed address access fine.0.0 (agree.frames frame.slot frame.frame frame.frame_rights _ frame.held) fine.2.2 in
-          let chosen : last_step memory address access (leaf_word frame.frame frame.allowed.0) ≡ place_in access address (frame.frame, frame.allowed) =
+          let chosen : last_step memory address access (leaf_word frame.frame frame.allowed.0) ≡ place_in access address (standing frame.frame frame.allowed) =
           ap (λ (b : Bool). if b then leaf_place memory (leaf_word frame.frame frame.allowed.0) 12 address access else None) (leaf-is frame.frame frame.allowed.0 fine.2.2) ∙ byte in
           inl (record { maps = frame; finds = step ∙ ap (option_and_then (last_step memory address access)) entry ∙ chosen })
     ]
@@ -208,14 +212,14 @@ walk-answer slots memory root address access agree rooted near =
 
 -- ---- the one mapping of a page, among the slots of a state
 
-head-none : (f : ℕ → Option (ℕ × Rights)) (xs : List ℕ) → ((y : ℕ) → f y ≡ None) → head_of (filter_map f xs) ≡ None
+head-none : (f : ℕ → Option MappedFrame) (xs : List ℕ) → ((y : ℕ) → f y ≡ None) → head_of (filter_map f xs) ≡ None
 head-none f [] none = refl
 head-none f (x ∷ xs) none = rw (none x) (head-none f xs none)
 
-abbrev OneValue : (ℕ → Option (ℕ × Rights)) → ℕ × Rights → Type 0
+abbrev OneValue : (ℕ → Option MappedFrame) → MappedFrame → Type 0
 OneValue f v = (y : ℕ) → (f y ≡ None) ⊎ (f y ≡ Some v)
 
-pub head-one : (f : ℕ → Option (ℕ × Rights)) (v : ℕ × Rights) (xs : List ℕ) (k : ℕ) → OneValue f v → k < length xs → f (get_or xs k 0) ≡ Some v → head_of (filter_map f xs) ≡ Some v
+pub head-one : (f : ℕ → Option MappedFrame) (v : MappedFrame) (xs : List ℕ) (k : ℕ) → OneValue f v → k < length xs → f (get_or xs k 0) ≡ Some v → head_of (filter_map f xs) ≡ Some v
 head-one f v [] k one less there = absurd (omega arith)
 head-one f v (x ∷ xs) zero one less there = rw there refl
 head-one f v (x ∷ xs) (suc k) one less there = elim (one x) [
@@ -224,7 +228,7 @@ head-one f v (x ∷ xs) (suc k) one less there = elim (one x) [
 ]
 
 page_of-none : (root page : ℕ) (c : Cap) → maps_page root page c ≡ false → page_of root page c ≡ None
-page_of-none root page (Frame f r (Some m)) free = ap (λ (b : Bool). if b then Some (f, m.rights) else None) free
+page_of-none root page (Frame f r (Some m)) free = ap (λ (b : Bool). if b then Some (standing f m.rights) else None) free
 page_of-none root page (Frame f r None) free = refl
 page_of-none root page (PageTable _ _) free = refl
 page_of-none root page Empty free = refl
@@ -237,16 +241,16 @@ page_of-none root page (RootTable _) free = refl
 page_of-none root page InterruptControl free = refl
 page_of-none root page (InterruptHandler _) free = refl
 
-page_of-own : (root page f : ℕ) (r a : Rights) → page_of root page (Frame f r (Some (record { root = root; page = page; rights = a }))) ≡ Some (f, a)
+page_of-own : (root page f : ℕ) (r a : Rights) → page_of root page (Frame f r (Some (record { root = root; page = page; rights = a }))) ≡ Some (standing f a)
 page_of-own root page f r a = rw (eq-eqb root root refl, eq-eqb page page refl) refl
 
-abbrev found_at : Slots → ℕ → ℕ → ℕ → Option (ℕ × Rights)
+abbrev found_at : Slots → ℕ → ℕ → ℕ → Option MappedFrame
 found_at slots root page y = page_of root page (capability_at slots y)
 
-own-value : (slots : Slots) (root page : ℕ) (maps : MapsFrame slots root page) → found_at slots root page maps.slot ≡ Some (maps.frame, maps.allowed)
+own-value : (slots : Slots) (root page : ℕ) (maps : MapsFrame slots root page) → found_at slots root page maps.slot ≡ Some (standing maps.frame maps.allowed)
 own-value slots root page maps = ap (page_of root page) maps.held ∙ page_of-own root page maps.frame maps.frame_rights maps.allowed
 
-one-value : (slots : Slots) (memory : List ℕ) (root page : ℕ) → TablesAgree slots memory → (maps : MapsFrame slots root page) → OneValue (found_at slots root page) (maps.frame, maps.allowed)
+one-value : (slots : Slots) (memory : List ℕ) (root page : ℕ) → TablesAgree slots memory → (maps : MapsFrame slots root page) → OneValue (found_at slots root page) (standing maps.frame maps.allowed)
 one-value slots memory root page agree maps y = elim (maps_page-cases root page (capability_at slots y)) [
   | inl none ↦ inl (page_of-none root page (capability_at slots y) none)
   | inr there ↦
@@ -254,14 +258,14 @@ one-value slots memory root page agree maps y = elim (maps_page-cases root page 
       inr (ap (found_at slots root page) same ∙ own-value slots root page maps)
 ]
 
-pub mapped-found : (s : State) (slots : Slots) (memory : List ℕ) (root page : ℕ) → AreNear s slots → TablesAgree slots memory → (maps : MapsFrame slots root page) → mapped (with_slots s slots) root page ≡ Some (maps.frame, maps.allowed)
+pub mapped-found : (s : State) (slots : Slots) (memory : List ℕ) (root page : ℕ) → AreNear s slots → TablesAgree slots memory → (maps : MapsFrame slots root page) → mapped (with_slots s slots) root page ≡ Some (standing maps.frame maps.allowed)
 unfolding slot_numbers
 mapped-found s slots memory root page near agree maps =
     let full : IsFull slots maps.slot = ap (λ (c : Cap). not (is_empty c)) maps.held in
     let less : maps.slot < 2 ^ s.memory_bits / 16 = near maps.slot full in
     let at = get_or-range_with_len 0 (2 ^ s.memory_bits / 16) maps.slot 0 less in
     let size = length-range_with_len 0 (2 ^ s.memory_bits / 16) in
-    head-one (found_at slots root page) (maps.frame, maps.allowed) _ maps.slot (one-value slots memory root page agree maps) (omega (arith, size, less))
+    head-one (found_at slots root page) (standing maps.frame maps.allowed) _ maps.slot (one-value slots memory root page agree maps) (omega (arith, size, less))
     (ap (found_at slots root page) (at ∙ omega arith) ∙ own-value slots root page maps)
 
 pub mapped-none : (s : State) (slots : Slots) (root page : ℕ) → ((y : ℕ) → maps_page root page (capability_at slots y) ≡ false) → mapped (with_slots s slots) root page ≡ None

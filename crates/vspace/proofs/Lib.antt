@@ -14,10 +14,12 @@ pub mod TableRemovals
 pub mod Sweeps
 pub mod TableUnmaps
 pub mod EndedTables
+pub mod EndedRoots
 pub mod BytesBeside
 pub mod AgreementCarried
 pub mod AgreementPut
 pub mod AgreementSlots
+pub mod AgreementRemoved
 pub mod AgreementBytes
 pub mod Names
 pub mod RightsBits

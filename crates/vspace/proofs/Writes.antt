@@ -125,10 +125,12 @@ own_at slots x c some is y = elim (eqb_tells y x) [
   | inr other ↦ entry-other slots x _ y other.1
 ]
 
+pub recapped-same : (slots : Slots) (x : ℕ) (c : Cap) → slots x ≢ None → capability_at slots x ≡ c → recapped slots x c ≡ slots
+recapped-same slots x c some is = λ i y. own_at slots x c some is y i
+
 pub recapped-own : (slots : Slots) (x f : ℕ) (r : Rights) (o : Option FrameMapping) → capability_at slots x ≡ Frame f r o → o ≡ None → recapped slots x (Frame f r None) ≡ slots
 recapped-own slots x f r o held absent =
-    let same = own_at slots x (Frame f r None) (frame-open slots x f r o held) (held ∙ ap (λ (k : Option FrameMapping). Frame f r k) absent) in
-    λ i y. same y i
+    recapped-same slots x (Frame f r None) (frame-open slots x f r o held) (held ∙ ap (λ (k : Option FrameMapping). Frame f r k) absent)
 
 -- what the place of a leaf says of the frame's mapping
 pub leaf-absent : (slots : Slots) (o : Option FrameMapping) → LeafAnswer slots o None → o ≡ None

@@ -5,7 +5,7 @@ use Rattle.model.specs.Capabilities.Slots.{Slots, capability_at}
 use Rattle.model.specs.declared.capabilities.Cap.{Cap}
 use Rattle.model.specs.declared.capabilities.Cap.TheVariants.{Frame, PageTable}
 use Rattle.model.specs.declared.slot_entries.Entry.{Entry}
-use Rattle.vspace.specs.Regions.{unmapped_at}
+use Rattle.removals.specs.Steps.{slots_unmapped}
 use Rattle.vspace.specs.Tables.{MapsFrame, MapsTable}
 
 -- a mapping in a region goes with the table at an offset: that is its root table, or the page table of its region
@@ -43,7 +43,7 @@ abbrev pub is_ending : ℕ → Cap → Bool
 is_ending offset (PageTable table (Some m)) = m.root == offset || table == offset
 is_ending offset _ = false
 
--- what a slot holds once the page table in another has been unmapped, if that goes
-abbrev pub ended_at : Slots → ℕ → ℕ → ℕ → Option Entry
-ended_at slots slot offset y =
-    if is_ending offset (capability_at slots slot) then unmapped_at slots slot (capability_at slots slot) y else slots y
+-- the slots once the page table in one of them has been unmapped, if that goes
+abbrev pub ended_at : Slots → ℕ → ℕ → Slots
+ended_at slots slot offset =
+    if is_ending offset (capability_at slots slot) then slots_unmapped slots slot (capability_at slots slot) else slots

@@ -1,12 +1,13 @@
 //! What keeps page tables and mappings in agreement, besides the calls on mappings: changes of slots
 //! and of memory. Each law is the contract of a function that does nothing.
 
-ghost use Rattle.std.specs.Prelude.{◌≡◌, ◌≢◌, ◌+◌, ◌<◌, ◌≤◌, ℕ, List, None, Option};
+ghost use Rattle.std.specs.Prelude.{◌≡◌, ◌≢◌, ◌+◌, ◌<◌, ◌≤◌, ℕ, List, None, Option, Some};
 ghost use Rattle.model.specs.Capabilities.CapabilityKinds.{unmapped};
 ghost use Rattle.model.specs.Capabilities.CapabilityWords.{IsCapability};
-ghost use Rattle.model.specs.Capabilities.Slots.{IsOpen, SameOutside, Slots, capability_at, closed, inserted, opened, recapped, relocated, spliced};
+ghost use Rattle.model.specs.Capabilities.Slots.{IsFull, IsOpen, SameOutside, Slots, capability_at, closed, empty_entry, inserted, opened, recapped, relocated, spliced};
 ghost use Rattle.model.specs.declared.capabilities.Cap.{Cap};
 ghost use Rattle.model.specs.declared.capabilities.Cap.TheVariants.{Empty};
+ghost use Rattle.removals.specs.Steps.{unused};
 ghost use Rattle.vspace.specs.Agreement.{IsOutsideTables, IsWithoutTables, MayBePut, SameInTables};
 ghost use Rattle.vspace.specs.Tables.{TablesAgree};
 
@@ -70,4 +71,22 @@ pub fn bytes_of_slots_may_change()
 pub fn what_may_be_put_stays_so()
     ensures { (slots : Slots) (old new : List ℕ) (capability : Cap)
         → MayBePut slots old capability → SameOutside slots old new → MayBePut slots new capability }
+{}
+
+/// A full slot may be emptied whose capability has no mapping, as a removal does with each slot.
+pub fn a_full_slot_may_be_emptied()
+    ensures { (slots : Slots) (memory : List ℕ) (slot : ℕ) → TablesAgree slots memory → IsFull slots slot
+        → unmapped (capability_at slots slot) ≡ capability_at slots slot → TablesAgree (spliced slots slot) memory }
+{}
+
+/// Untyped memory may be unused again: its watermark becomes 0.
+pub fn a_watermark_may_be_set_back()
+    ensures { (slots : Slots) (memory : List ℕ) (slot : ℕ) → TablesAgree slots memory → IsFull slots slot
+        → TablesAgree (recapped slots slot (unused (capability_at slots slot))) memory }
+{}
+
+/// One slot may be closed that is open and empty.
+pub fn an_empty_slot_may_be_closed()
+    ensures { (slots : Slots) (memory : List ℕ) (slot : ℕ) → TablesAgree slots memory → slots slot ≡ Some empty_entry
+        → TablesAgree (closed slots slot 1) memory }
 {}

@@ -1,6 +1,9 @@
 //! Ending a table: what is mapped in it goes with it.
 
-ghost use Rattle.std.specs.Prelude.{ℕ, ◌≡◌};
+ghost use Rattle.std.specs.Prelude.{ℕ, ◌≡◌, false};
+ghost use Rattle.model.specs.Capabilities.CapabilityKinds.{names_object};
+ghost use Rattle.model.specs.Capabilities.Slots.{capability_at};
+ghost use Rattle.removals.specs.Steps.{without_root};
 ghost use Rattle.vspace.specs.Endings.{Ended, NoneUnder, ended_at, is_ending};
 ghost use Rattle.vspace.specs.Kept.{SameBesideTables};
 ghost use Rattle.vspace.specs.Tables.{TablesAgree};
@@ -25,7 +28,7 @@ fn is_ending(held: Cap, offset: u32) -> bool
 /// Unmaps the page table of a slot, if it goes with the table at an offset.
 fn end_table<S: SlotStore>(store: &mut S, slot: Slot, offset: u32)
     requires agree { TablesAgree (S.slots store.old) (S.memory store.old) }
-    ensures slots { (y : ℕ) → S.slots store.new y ≡ ended_at (S.slots store.old) slot offset y }
+    ensures slots { S.slots store.new ≡ ended_at (S.slots store.old) slot offset }
     ensures bytes { SameBesideTables (S.slots store.old) (S.memory store.old) (S.memory store.new) }
     ensures order { S.order store.new ≡ S.order store.old }
     ensures agree { TablesAgree (S.slots store.new) (S.memory store.new) }
@@ -49,13 +52,16 @@ fn end_table<S: SlotStore>(store: &mut S, slot: Slot, offset: u32)
     unmap_table(store, ending);
 }
 
-/// Unmaps all that is mapped in the page table or under the root table at an offset, which is about to
-/// end, and the page table itself: their entries in memory are cleared, and no capability says any more
-/// that it is mapped there. To be called while the table's own capability still stands in its slot.
+/// Unmaps all that is mapped in the page table or under the root table at an offset, which ends, and the
+/// page table itself: their entries in memory are cleared, and no capability says any more that it is
+/// mapped there. The table's own capability may stand in its slot still, or have gone before: where none
+/// names the table any more, exactly the mappings under a root table go.
 pub fn end_tables<S: SlotStore>(store: &mut S, offset: u32)
     requires agree { TablesAgree (S.slots store.old) (S.memory store.old) }
     ensures slots { (y : ℕ) → Ended (S.slots store.old) offset y (S.slots store.new y) }
     ensures gone { NoneUnder (S.slots store.new) offset }
+    ensures roots { ((slot : ℕ) → names_object offset (capability_at (S.slots store.old) slot) ≡ false)
+        → S.slots store.new ≡ without_root offset (S.slots store.old) }
     ensures bytes { SameBesideTables (S.slots store.old) (S.memory store.old) (S.memory store.new) }
     ensures order { S.order store.new ≡ S.order store.old }
     ensures agree { TablesAgree (S.slots store.new) (S.memory store.new) }

@@ -8,13 +8,14 @@ mod endings;
 mod frames;
 mod page_tables;
 mod regions;
-mod removals;
 mod sizes;
+mod slot_mappings;
 mod spaces;
 mod tables;
 
 pub use agreement::{
-    a_capability_without_tables_may_change, a_moved_capability_keeps_its_mapping,
+    a_capability_without_tables_may_change, a_full_slot_may_be_emptied,
+    a_moved_capability_keeps_its_mapping, a_watermark_may_be_set_back, an_empty_slot_may_be_closed,
     an_unmapped_capability_may_be_put, an_unmapped_capability_may_be_removed,
     bytes_beside_tables_may_change, bytes_of_slots_may_change, slots_may_be_closed,
     slots_may_be_opened, what_may_be_put_stays_so,
@@ -23,5 +24,5 @@ pub use endings::end_tables;
 pub use frames::{FrameCap, map_frame, unmap_frame};
 pub use model::SlotName;
 pub use page_tables::{PageTableCap, map_table, unmap_table};
-pub use removals::unmap_cap;
+pub use slot_mappings::unmap_cap;
 pub use spaces::place_under;

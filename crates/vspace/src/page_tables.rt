@@ -1,6 +1,6 @@
 //! Mapping page tables.
 
-ghost use Rattle.std.specs.Prelude.{ℕ, ◌≡◌, ◌<◌, ◌/◌, ◌^◌, [], ◌∷◌, IfErr, IfOk};
+ghost use Rattle.std.specs.Prelude.{◌≡◌, ◌<◌, ◌/◌, ◌^◌, [], ◌∷◌, IfErr, IfOk};
 ghost use Rattle.model.specs.Capabilities.CapabilityWords.{IsCapability, IsPlace};
 ghost use Rattle.model.specs.Kernel.Arguments.{Call};
 ghost use Rattle.model.specs.Kernel.MappingCalls.{unmap_table};
@@ -8,7 +8,7 @@ ghost use Rattle.model.specs.Kernel.State.{with_slots};
 ghost use Rattle.model.specs.Capabilities.Slots.{capability_at};
 ghost use Rattle.model.specs.Kernel.State.{State};
 ghost use Rattle.model.specs.Machine.Sv32.{table_word};
-ghost use Rattle.vspace.specs.Regions.{unmapped_at};
+ghost use Rattle.removals.specs.Steps.{slots_unmapped};
 ghost use Rattle.vspace.specs.Kept.{SameBesideTables};
 ghost use Rattle.vspace.specs.TableAnswers.{GivesTableMapped, RegionAnswer, TableMappingAnswer, region_named};
 ghost use Rattle.vspace.specs.Tables.{Holds, TablesAgree};
@@ -137,8 +137,8 @@ pub fn unmap_table<S: SlotStore>(store: &mut S, table: PageTableCap)
     ensures outcome { (s : State) (call : Call) → call.slot ≡ table.slot
         → call.capability ≡ Cap.PageTable table.offset table.mapping
         → unmap_table (with_slots s (S.slots store.old)) call ≡ with_slots s (S.slots store.new) }
-    ensures slots { (y : ℕ) → S.slots store.new y
-        ≡ unmapped_at (S.slots store.old) table.slot (Cap.PageTable table.offset table.mapping) y }
+    ensures slots { S.slots store.new
+        ≡ slots_unmapped (S.slots store.old) table.slot (Cap.PageTable table.offset table.mapping) }
     ensures bytes { SameBesideTables (S.slots store.old) (S.memory store.old) (S.memory store.new) }
     ensures order { S.order store.new ≡ S.order store.old }
     ensures agree { TablesAgree (S.slots store.new) (S.memory store.new) }

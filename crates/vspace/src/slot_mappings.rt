@@ -1,11 +1,12 @@
-//! What a removal asks for.
+//! The mapping of whatever capability a slot holds goes, as a removal asks.
 
-ghost use Rattle.std.specs.Prelude.{ℕ, ◌≡◌};
+ghost use Rattle.std.specs.Prelude.{◌≡◌};
 ghost use Rattle.model.specs.Kernel.Arguments.{Call};
 ghost use Rattle.model.specs.Kernel.State.{with_slots};
 ghost use Rattle.model.specs.Capabilities.Slots.{capability_at};
 ghost use Rattle.model.specs.Kernel.State.{State};
-ghost use Rattle.vspace.specs.Regions.{without_mapping, without_mapping_at};
+ghost use Rattle.removals.specs.Steps.{unmapped_at};
+ghost use Rattle.vspace.specs.Regions.{without_mapping};
 ghost use Rattle.vspace.specs.Kept.{SameBesideTables};
 ghost use Rattle.vspace.specs.Tables.{TablesAgree};
 
@@ -22,8 +23,7 @@ pub fn unmap_cap<S: SlotStore>(store: &mut S, slot: Slot)
         → call.capability ≡ capability_at (S.slots store.old) slot
         → without_mapping (with_slots s (S.slots store.old)) call call.capability
         ≡ with_slots s (S.slots store.new) }
-    ensures slots { (y : ℕ) → S.slots store.new y ≡ without_mapping_at (S.slots store.old) slot
-        (capability_at (S.slots store.old) slot) y }
+    ensures removed { S.slots store.new ≡ unmapped_at (S.slots store.old) slot }
     ensures bytes { SameBesideTables (S.slots store.old) (S.memory store.old) (S.memory store.new) }
     ensures order { S.order store.new ≡ S.order store.old }
     ensures agree { TablesAgree (S.slots store.new) (S.memory store.new) }
