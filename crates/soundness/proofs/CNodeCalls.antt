@@ -1,5 +1,4 @@
 -- Copy and Mint insert below their source; Move and Mutate relocate it.
-use Rattle.soundness.proofs.Carried.{Keeps, kept-by}
 use Rattle.std.proofs.Common.{ℕ, ◌≡◌, ◌∙◌, ◌<◌, true, false, not, nat_lt, Some, None, Ok, sym, ap, subst}
 use Rattle.std.proofs.lemmas.Bool.{ltb-true, not-true}
 use Rattle.model.specs.declared.capabilities.Cap.{Cap}
@@ -60,7 +59,7 @@ made-sound s destination source capability sound named room valid alike shared u
       may = plain-may_hold s sound.memory destination capability named.there;
     })
 
-pub copy-sound : (s t : State) (call : Call) (to from : SlotName) (word : ℕ) → IsSound s → IsCall s call → copy s call to from word ≡ Ok t → Keeps s t
+pub copy-sound : (s t : State) (call : Call) (to from : SlotName) (word : ℕ) → IsSound s → IsCall s call → copy s call to from word ≡ Ok t → IsSound t
 copy-sound s t call to from word sound is_call is =
     let one = passes-both (destination_slot s.slots call.capability to) _ t is in
     let two = passes-both (source_slot s.slots call.root from) _ t one.rest in
@@ -69,7 +68,7 @@ copy-sound s t call to from word sound is_call is =
     let four = passes-both (may_have_child s.slots two.value) _ t three.rest in
     let may = check-passes (may_be_copied capability) IllegalOperation three.value three.first in
     let e : with_slots s (inserted s.slots one.value (copied capability word) (Some two.value)) ≡ t = cc four.rest in
-    kept-by s _ t e (
+    subst IsSound e (
     made-sound s one.value two.value (copied capability word) sound
     (are-named s call to from one.value two.value sound is_call one.first two.first)
     (room-below s two.value four.value four.first)
@@ -80,7 +79,7 @@ copy-sound s t call to from word sound is_call is =
     )
 
 pub mint-sound : (s t : State) (call : Call) (to from : SlotName) (word payload : ℕ) → IsSound s → IsCall s call
-    → mint s call to from word payload ≡ Ok t → Keeps s t
+    → mint s call to from word payload ≡ Ok t → IsSound t
 mint-sound s t call to from word payload sound is_call is =
     let one = passes-both (destination_slot s.slots call.capability to) _ t is in
     let two = passes-both (source_slot s.slots call.root from) _ t one.rest in
@@ -95,7 +94,7 @@ mint-sound s t call to from word payload sound is_call is =
     let guard = check-passes (guard_fits capability payload) IllegalOperation six.value six.first in
     let made : Cap = with_payload (copied capability word) payload in
     let e : with_slots s (inserted s.slots one.value made (Some two.value)) ≡ t = cc seven.rest in
-    kept-by s _ t e (
+    subst IsSound e (
     made-sound s one.value two.value made sound
     (are-named s call to from one.value two.value sound is_call one.first two.first)
     (room-below s two.value seven.value seven.first)
@@ -112,12 +111,12 @@ moved-sound s destination source sound named =
     relocated-sound s source destination sound named.full
     (empty-open s.slots destination sound.slots.derivation (plain-open s sound.slots destination named.there) named.empty) named.from named.there
 
-pub move-sound : (s t : State) (call : Call) (to from : SlotName) → IsSound s → IsCall s call → move s call to from ≡ Ok t → Keeps s t
+pub move-sound : (s t : State) (call : Call) (to from : SlotName) → IsSound s → IsCall s call → move s call to from ≡ Ok t → IsSound t
 move-sound s t call to from sound is_call is =
     let one = passes-both (destination_slot s.slots call.capability to) _ t is in
     let two = passes-both (source_slot s.slots call.root from) _ t one.rest in
     let e : with_slots s (relocated s.slots two.value one.value) ≡ t = cc two.rest in
-    kept-by s _ t e (moved-sound s one.value two.value sound (are-named s call to from one.value two.value sound is_call one.first two.first))
+    subst IsSound e (moved-sound s one.value two.value sound (are-named s call to from one.value two.value sound is_call one.first two.first))
 
 -- what is in a slot with another guard
 guarded-sound : (s : State) (slot payload : ℕ) (capability : Cap) → IsSound s → IsPlain s slot → IsFull s.slots slot
@@ -140,7 +139,7 @@ guarded-sound s slot payload capability sound plain full is badge guard =
     (λ offset m e. is ∙ payload-page_table capability payload offset m e)
 
 pub mutate-sound : (s t : State) (call : Call) (to from : SlotName) (payload : ℕ) → IsSound s → IsCall s call
-    → mutate s call to from payload ≡ Ok t → Keeps s t
+    → mutate s call to from payload ≡ Ok t → IsSound t
 mutate-sound s t call to from payload sound is_call is =
     let one = passes-both (destination_slot s.slots call.capability to) _ t is in
     let two = passes-both (source_slot s.slots call.root from) _ t one.rest in
@@ -152,7 +151,7 @@ mutate-sound s t call to from payload sound is_call is =
     let empty = empty-open s.slots one.value sound.slots.derivation (plain-open s sound.slots one.value named.there) named.empty in
     let same : capability_at moved one.value ≡ capability = relocated-capability s two.value one.value sound named.full empty named.from named.there in
     let e : with_slots s (recapped moved one.value (with_payload capability payload)) ≡ t = cc four.rest in
-    kept-by s _ t e (
+    subst IsSound e (
     guarded-sound (with_slots s moved) one.value payload capability (moved-sound s one.value two.value sound named)
     (plain-still s moved one.value named.there)
     (subst (λ (c : Cap). not (is_empty c) ≡ true) (sym same) named.full)

@@ -1,5 +1,5 @@
 -- A change of the slots after which each holds what a slot held before, or a copy of it, keeps soundness.
-use Rattle.std.proofs.Common.{subst, ℕ, ◌≡◌, ◌≢◌, ◌∙◌, ◌/◌, ◌^◌, ◌<◌, inl, inr, Bool, true, false, not, is_some, List, [], ◌∷◌, Option, Some, None, refl, sym, ap, arith}
+use Rattle.std.proofs.Common.{ℕ, ◌≡◌, ◌≢◌, ◌∙◌, ◌/◌, ◌^◌, ◌<◌, inl, inr, Bool, true, false, not, is_some, List, [], ◌∷◌, Option, Some, None, refl, sym, ap, arith}
 use Rattle.std.specs.List.{list_any}
 use Rattle.std.specs.Option.{option_map_or}
 use Rattle.std.proofs.lemmas.Bool.{or_cases}
@@ -17,8 +17,7 @@ use Rattle.model.specs.Capabilities.Slots.{Descendant, IsDerivation, IsFull, IsO
 use Rattle.model.specs.Kernel.AddressSpaces.{is_page, is_region, is_region_taken, maps_region, region_pages}
 use Rattle.model.specs.Kernel.Kinds.{Piece, object_named, piece_of, used_of}
 use Rattle.model.specs.Kernel.Soundness.{HasShape, HasSlot, of_boot_area, of_object, IsSound, MappingsAreSound, MemoryIsSound, SlotsAreSound, ThreadsAreSound, Lies, apart, same, within, around}
-use Rattle.soundness.specs.Deliveries.{IsWhole}
-use Rattle.model.specs.Kernel.State.{State, Object, holds_some, slot_numbers, slots_of, with_slots}
+use Rattle.model.specs.Kernel.State.{State, holds_some, slot_numbers, slots_of, with_slots}
 use Rattle.soundness.proofs.Pieces.{piece-named}
 use Rattle.soundness.proofs.Places.{MayHold, slot-near}
 
@@ -200,6 +199,8 @@ threads-carried s new threads = record {
   ready = threads.ready;
   queued = threads.queued;
   one_sided = threads.one_sided;
+  senders = threads.senders;
+  words = threads.words;
   callers = threads.callers;
   one_right = threads.one_right;
 }
@@ -218,21 +219,3 @@ sound-carried s new origin sound tree there_too may carries maps =
       mappings = mappings-carried s new origin sound.mappings (λ slot full. full-near (with_slots s new) shape slots memory slot full) carries.kept maps;
       threads = threads-carried s new sound.threads;
     }
-
--- ---- states that differ in their slots
-
-pub record Keeps (s t : State) : Type 0 where
-  pub sound : IsSound t
-  pub objects : t.objects ≡ s.objects
-
-pub kept-by : (s : State) (new : Slots) (t : State) → with_slots s new ≡ t → IsSound (with_slots s new) → Keeps s t
-kept-by s new t e sound = subst (Keeps s) e (record { sound = sound; objects = refl })
-
-pub whole-kept : (s t : State) → IsWhole s → Keeps s t → IsWhole t
-whole-kept s t whole keeps = record {
-  sound = keeps.sound;
-  deliveries = record {
-    senders = λ o e is. whole.deliveries.senders o e (ap (λ (f : ℕ → Option Object). f o) (sym keeps.objects) ∙ is);
-    words = λ o n is. whole.deliveries.words o n (ap (λ (f : ℕ → Option Object). f o) (sym keeps.objects) ∙ is);
-  };
-}

@@ -6,7 +6,7 @@ use Rattle.std.proofs.lemmas.Nat.{and_assoc, and_comm, and_le_l}
 use Rattle.model.specs.declared.capabilities.Cap.{Cap}
 use Rattle.model.specs.declared.capabilities.Cap.TheVariants.{Empty, Untyped, Endpoint, Notification, CNode, Frame, PageTable, Tcb, RootTable, InterruptControl, InterruptHandler}
 use Rattle.model.specs.declared.capabilities.TableMapping.{TableMapping}
-use Rattle.model.specs.Capabilities.CapabilityKinds.{badge_fits, carries_messages, cnode_of, copied, frame_mapping, guard_fits, is_guard_word, may_be_copied, root_of, table_mapping, with_payload}
+use Rattle.model.specs.Capabilities.CapabilityKinds.{badge_fits, carries_messages, cnode_of, copied, frame_mapping, guard_fits, is_guard_word, may_be_copied, root_of, table_mapping, with_payload, Node}
 use Rattle.model.specs.Capabilities.CapabilityWords.{IsCapability, IsGuardWord}
 use Rattle.model.specs.Capabilities.Slots.{is_empty}
 use Rattle.model.specs.Kernel.InterruptCalls.{may_be_bound}
@@ -219,7 +219,7 @@ pub record IsQuiet (c : Cap) : Type 0 where
   pub unmapped : frame_mapping c ≡ None
   pub silent : carries_messages c ≡ false
 
-pub cnode-quiet : (c : Cap) (n : ℕ × ℕ) → cnode_of c ≡ Some n → IsQuiet c
+pub cnode-quiet : (c : Cap) (n : Node) → cnode_of c ≡ Some n → IsQuiet c
 cnode-quiet Empty n is = let e : None ≡ Some n = is in absurd cc
 cnode-quiet (Untyped a b d) n is = let e : None ≡ Some n = is in absurd cc
 cnode-quiet (Endpoint a r b) n is = let e : None ≡ Some n = is in absurd cc

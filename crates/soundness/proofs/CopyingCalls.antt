@@ -1,27 +1,23 @@
 -- Calls that put copies into slots: Configure, Get, and SetNotification where nothing was bound.
-use Rattle.soundness.proofs.Carried.{Keeps, kept-by}
-use Rattle.std.proofs.Common.{ℕ, ◌≡◌, ◌≢◌, ◌∙◌, ◌==◌, ◌&&◌, ◌^◌, ◌<◌, Bool, true, false, not, is_some, nat_le, if◌then◌else◌, Option, Some, None, Result, Ok, refl, sym, ap, subst, arith}
+use Rattle.std.proofs.Common.{ℕ, ◌≡◌, ◌≢◌, ◌∙◌, ◌&&◌, ◌^◌, ◌<◌, true, false, not, is_some, nat_le, Option, Some, None, Ok, refl, sym, ap, subst, arith}
 use Rattle.std.proofs.lemmas.Bool.{and_parts, leb-true, not-true}
 use Rattle.model.specs.declared.capabilities.Cap.{Cap}
 use Rattle.model.specs.declared.capabilities.Cap.TheVariants.{InterruptControl, InterruptHandler}
-use Rattle.model.specs.declared.errors.KError.{KError}
 use Rattle.model.specs.declared.errors.KError.TheVariants.{DeleteFirst, IllegalOperation, InvalidCapability, RangeError, RevokeFirst}
 use Rattle.model.specs.declared.invocations.SlotName.{SlotName}
 use Rattle.model.proofs.SlotChanges.{capability_of}
-use Rattle.model.specs.Capabilities.CapabilityKinds.{cnode_of, frame_mapping, is_handler_of, root_of}
+use Rattle.model.specs.Capabilities.CapabilityKinds.{cnode_of, frame_mapping, is_handler_of, root_of, Node}
 use Rattle.model.specs.Capabilities.CapabilityWords.{IsCapability}
 use Rattle.model.specs.Capabilities.Slots.{IsFull, Slots, capability_at, depth_of, inserted, is_empty, is_full}
 use Rattle.model.specs.Images.Boot.{boot_root}
 use Rattle.model.specs.Kernel.Arguments.{Call, check, destination_slot, may_have_child, source_slot, wanted}
-use Rattle.model.specs.Kernel.InterruptCalls.{bind, get_handler, may_be_bound}
+use Rattle.model.specs.Kernel.InterruptCalls.{get_handler, may_be_bound}
 use Rattle.model.specs.Kernel.Kinds.{kind_at}
-use Rattle.model.specs.Kernel.Removal.{delete, remove}
 use Rattle.model.specs.Kernel.Retype.{NewThread}
 use Rattle.model.specs.Kernel.Soundness.{IsSound, ThreadIsSound}
 use Rattle.model.specs.Kernel.State.{State, ThreadObject, ThreadState, binding_slot, cspace_slot, holds_some, thread_at, vspace_slot, with_slots, with_thread}
 use Rattle.model.specs.Kernel.ThreadCalls.{configure, given_guard_fits, with_guard}
 use Rattle.soundness.specs.Calls.{IsCall, IsInvoked, IsRoot, held, boot}
-use Rattle.soundness.specs.Deliveries.{IsWhole}
 use Rattle.soundness.proofs.CNodeCalls.{room-below}
 use Rattle.soundness.proofs.Copies.{IsAlike, IsQuiet, alike-same, bindable, cnode-quiet, no-badge, payload-alike, payload-cnode, payload-mapping, payload-valid, root-quiet}
 use Rattle.soundness.proofs.Inserted.{Inserts, empty-open, inserted-depth, inserted-other, inserted-sound}
@@ -37,7 +33,7 @@ control-held s call (held is full) control = is ∙ control
 control-held s call (boot is) control = let e : InterruptControl ≡ boot_root s.boot_radix = sym control ∙ is in absurd cc
 
 pub get-sound : (s t : State) (call : Call) (number : ℕ) (name : SlotName) → IsSound s → IsCall s call → call.capability ≡ InterruptControl
-    → get_handler s call number name ≡ Ok t → Keeps s t
+    → get_handler s call number name ≡ Ok t → IsSound t
 get-sound s t call number name sound is_call control is =
     let one = passes-both (check (nat_le number 63) RangeError) _ t is in
     let two = passes-both (check (not (holds_some s (is_handler_of number))) RevokeFirst) _ t one.rest in
@@ -48,7 +44,7 @@ get-sound s t call number name sound is_call control is =
     let source = control-held s call is_call.invoked control in
     let alike : IsAlike InterruptControl (InterruptHandler number) = record { object = refl; single = refl; empty = refl; piece = refl; used = refl; table = refl } in
     let e : with_slots s (inserted s.slots three.value (InterruptHandler number) (Some call.slot)) ≡ t = cc four.rest in
-    kept-by s _ t e (inserted-sound s three.value call.slot (InterruptHandler number) sound (record {
+    subst IsSound e (inserted-sound s three.value call.slot (InterruptHandler number) sound (record {
       empty = empty-open s.slots three.value sound.slots.derivation (plain-open s sound.slots three.value there.0) there.1;
       full = ap (λ (c : Cap). not (is_empty c)) source;
       room = room-below s call.slot four.value four.first;
@@ -78,23 +74,6 @@ bound-sound s number source sound less full free room may =
       may = line-may_hold s sound.memory number c less facts.signal;
     })
 
-pub bind-sound : (s t : State) (call : Call) (number : ℕ) (name : SlotName) → IsSound s → IsCall s call → number < 64
-    → is_full s.slots (binding_slot s number) ≡ false
-    → bind s call number name ≡ Ok t → Keeps s t
-bind-sound s t call number name sound is_call less free is =
-    let one = passes-both (source_slot s.slots call.root name) _ t is in
-    let source = one.value in
-    let two = passes-both (check (may_be_bound (capability_at s.slots source)) InvalidCapability) _ t one.rest in
-    let three = passes-both (may_have_child s.slots source) _ t two.rest in
-    let four = passes-both (delete s (binding_slot s number)) _ t three.rest in
-    let named = source-plain s sound.memory call.root name source is_call.root one.first in
-    let kept : delete s (binding_slot s number) ≡ Ok s = ap (λ (b : Bool). if b then remove s (λ other. other == binding_slot s number) else Ok s) free in
-    let same : s ≡ four.value = (let e : ◌≡◌ {A = Result State KError} (Ok s) (Ok four.value) = sym kept ∙ four.first in cc) in
-    let e : with_slots four.value (inserted four.value.slots (binding_slot s number) (capability_at s.slots source) (Some source)) ≡ t = cc four.rest in
-    subst (Keeps s) e (subst (λ (after : State). Keeps s (with_slots after (inserted after.slots (binding_slot s number) (capability_at s.slots source) (Some source)))) same
-    (kept-by s _ _ refl (bound-sound s number source sound less named.1 free (room-below s source three.value three.first)
-    (check-passes (may_be_bound (capability_at s.slots source)) InvalidCapability two.value two.first))))
-
 -- ---- Configure
 
 guarded-alike : (c : Cap) (guard : Option ℕ) → IsAlike c (with_guard c guard)
@@ -117,7 +96,7 @@ guarded-valid c (Some payload) valid quiet fits = payload-valid c payload valid 
 record Configures (s : State) (thread cspace vspace : ℕ) (guard : Option ℕ) : Type 0 where
   own : ThreadState
   is : s.objects thread ≡ Some (ThreadObject own)
-  cnode : ℕ × ℕ
+  cnode : Node
   is_cnode : cnode_of (capability_at s.slots cspace) ≡ Some cnode
   root : ℕ
   is_root : root_of (capability_at s.slots vspace) ≡ Some root
@@ -207,10 +186,9 @@ address-fine t address fine less = record {
 }
 
 pub configure-whole : (s t : State) (root : Cap) (thread : ℕ) (guard : Option ℕ) (address : ℕ) (cspace_name vspace_name : SlotName)
-    → IsWhole s → IsRoot s root
-    → kind_at s thread ≡ Some NewThread → address < 2 ^ 32 → configure s root thread guard address cspace_name vspace_name ≡ Ok t → IsWhole t
+    → IsSound s → IsRoot s root
+    → kind_at s thread ≡ Some NewThread → address < 2 ^ 32 → configure s root thread guard address cspace_name vspace_name ≡ Ok t → IsSound t
 configure-whole s t root thread guard address cspace_name vspace_name whole is_root is_thread less is =
-    let sound = whole.sound in
     let one = passes-both (source_slot s.slots root cspace_name) _ t is in
     let cspace = one.value in
     let two = passes-both (wanted (cnode_of (capability_at s.slots cspace)) InvalidCapability) _ t one.rest in
@@ -231,8 +209,8 @@ configure-whole s t root thread guard address cspace_name vspace_name whole is_r
       is_cnode = wanted-some (cnode_of (capability_at s.slots cspace)) InvalidCapability two.value two.first;
       root = four.value;
       is_root = wanted-some (root_of (capability_at s.slots vspace)) InvalidCapability four.value four.first;
-      first_full = (source-plain s sound.memory root cspace_name cspace is_root one.first).1;
-      second_full = (source-plain s sound.memory root vspace_name vspace is_root three.first).1;
+      first_full = (source-plain s whole.memory root cspace_name cspace is_root one.first).1;
+      second_full = (source-plain s whole.memory root vspace_name vspace is_root three.first).1;
       first_free = not-true (is_full s.slots (cspace_slot thread)) free.0;
       second_free = not-true (is_full s.slots (vspace_slot thread)) free.1;
       fits = check-passes (given_guard_fits (capability_at s.slots cspace) guard) IllegalOperation six.value six.first;
@@ -241,10 +219,7 @@ configure-whole s t root thread guard address cspace_name vspace_name whole is_r
     } in
     let slots = inserted (inserted s.slots (cspace_slot thread) (with_guard (capability_at s.slots cspace) guard) (Some cspace)) (vspace_slot thread) (capability_at s.slots vspace) (Some vspace) in
     let s2 = with_slots s slots in
-    let whole2 : IsWhole s2 = record {
-      sound = both-sound s thread cspace vspace guard sound known;
-      deliveries = record { senders = whole.deliveries.senders; words = whole.deliveries.words };
-    } in
+    let whole2 : IsSound s2 = both-sound s thread cspace vspace guard whole known in
     let e : with_thread s2 thread (record (thread_at s thread) { fault_address = address }) ≡ t = cc eight.rest in
-    subst IsWhole e (same-whole s2 whole2 thread is_thread (record (thread_at s thread) { fault_address = address })
+    subst IsSound e (same-whole s2 whole2 thread is_thread (record (thread_at s thread) { fault_address = address })
     (address-fine (thread_at s thread) address (fine-of s whole thread is_thread) less) (λ _ f. f) refl refl)

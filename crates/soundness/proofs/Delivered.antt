@@ -9,12 +9,11 @@ use Rattle.model.specs.declared.faults.FaultKind.TheVariants.{Capability, Unknow
 use Rattle.model.specs.declared.instructions.Register.{Register}
 use Rattle.model.specs.Kernel.Messages.{Message, a0, a1, deliver, deliver_word, delivered, info_word, length_of, message_of, message_sent, passes, passes_with, with_registers, word_registers}
 use Rattle.model.specs.Kernel.Retype.{NewObject, NewThread}
-use Rattle.model.specs.Kernel.Soundness.{ThreadIsSound}
+use Rattle.model.specs.Kernel.Soundness.{ThreadIsSound, SentIsSound}
 use Rattle.model.specs.Kernel.State.{Sender, Sent, BySend, ByCall, ByFault, State, ThreadState, thread_at}
 use Rattle.model.specs.Machine.Effects.{advanced}
 use Rattle.model.specs.Machine.ProgramMemory.{RegisterFile, read, write}
 use Rattle.model.specs.Shared.Labels.{fault_number}
-use Rattle.soundness.specs.Deliveries.{SentIsSound}
 use Rattle.soundness.specs.Running.{RegistersAreSound}
 use Rattle.soundness.proofs.Moving.{Moving, rewritten}
 use Rattle.soundness.proofs.Registers.{advanced-sound, registers-of, with-registers, words-sound, written-sound}

@@ -4,9 +4,8 @@ use Rattle.model.specs.Kernel.Kinds.{kind_at, kind_of}
 use Rattle.model.specs.Kernel.Messages.{with_caller}
 use Rattle.model.specs.Kernel.Retype.{NewObject, NewThread}
 use Rattle.model.specs.Kernel.Scheduling.{block, is_runnable}
-use Rattle.model.specs.Kernel.Soundness.{awaits_answer, is_blocked_on}
+use Rattle.model.specs.Kernel.Soundness.{awaits_answer, is_blocked_on, IsSound}
 use Rattle.model.specs.Kernel.State.{State, Status, Object, ThreadObject, ThreadState, put, thread_at, with_thread}
-use Rattle.soundness.specs.Deliveries.{IsWhole}
 use Rattle.soundness.proofs.Moving.{Moving, Rights, StandsAs, begins, ends, own_of, put-either, put-here, rewritten-listed, runs_of, stands-new, waits_of}
 use Rattle.soundness.proofs.Steps.{caller-fine, own-fine, stopped-whole}
 
@@ -15,7 +14,7 @@ pub thread-kinds : (s : State) (x : ℕ) (t : ThreadState) → kind_at s x ≡ S
     → kind_at (with_thread s x t) offset ≡ kind_at s offset
 thread-kinds s x t is = put-either s.objects x (Some (ThreadObject t)) (λ offset o. option_map kind_of o ≡ kind_at s offset) (sym is) (λ _ _. refl)
 
-module _ (s : State) (whole : IsWhole s) (y c : ℕ) (is_thread : kind_at s y ≡ Some NewThread) (awaits : IsTrue (awaits_answer (thread_at s c).status))
+module _ (s : State) (whole : IsSound s) (y c : ℕ) (is_thread : kind_at s y ≡ Some NewThread) (awaits : IsTrue (awaits_answer (thread_at s c).status))
     (free : (thread : ℕ) → (thread_at s thread).caller ≢ Some c) where
   given : ThreadState
   given = record (thread_at s y) { caller = Some c }
@@ -38,7 +37,7 @@ module _ (s : State) (whole : IsWhole s) (y c : ℕ) (is_thread : kind_at s y �
   awaits-of : (thread caller : ℕ) → (thread_at after thread).caller ≡ Some caller → IsTrue (awaits_answer (thread_at s caller).status)
   awaits-of thread caller is = elim (held thread caller is) [
     | inl new ↦ subst (λ (z : ℕ). IsTrue (awaits_answer (thread_at s z).status)) (sym new.1) awaits
-    | inr old ↦ whole.sound.threads.callers thread caller old.1
+    | inr old ↦ whole.threads.callers thread caller old.1
   ]
 
   rights : Rights after y (awaits_answer (thread_at s y).status)
@@ -52,12 +51,12 @@ module _ (s : State) (whole : IsWhole s) (y c : ℕ) (is_thread : kind_at s y �
       ]
       | inr old ↦ elim (held b caller other) [
         | inl new ↦ absurd (free a (old.1 ∙ ap (λ (z : ℕ). Some z) new.1))
-        | inr too ↦ whole.sound.threads.one_right a b caller old.1 too.1
+        | inr too ↦ whole.threads.one_right a b caller old.1 too.1
       ]
     ];
   }
 
-  pub granted-whole : IsWhole (with_caller s y (Some c))
+  pub granted-whole : IsSound (with_caller s y (Some c))
   unfolding after given
   granted-whole =
       let t : ThreadState = record (thread_at s y) { caller = Some c } in
@@ -75,7 +74,7 @@ module _ (s : State) (whole : IsWhole s) (y c : ℕ) (is_thread : kind_at s y �
 pub awaiting-whole : (kinds : ℕ → Option NewObject) (s : State) (x y : ℕ) (r : ℕ → ℕ) (status : Status) → Moving kinds s x r (λ _. 0) false
     → kinds x ≡ Some NewThread
     → kinds y ≡ Some NewThread → is_runnable status ≡ false → ((queue : ℕ) → is_blocked_on queue status ≡ false) → awaits_answer status ≡ true
-    → IsWhole (with_caller (block s x status) y (Some x))
+    → IsSound (with_caller (block s x status) y (Some x))
 awaiting-whole kinds s x y r status moving is_thread other_thread stops free_queues awaits =
     let t : ThreadState = record (thread_at s x) { status = status } in
     let whole = stopped-whole kinds s x r (λ _. 0) false moving is_thread status stops (λ q. sym (ap (λ (b : Bool). if b then 1 else 0) (free_queues q)))

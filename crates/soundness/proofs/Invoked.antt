@@ -1,4 +1,4 @@
--- Every call on a capability keeps soundness, if removals do.
+-- Every call on a capability keeps soundness.
 use Rattle.std.proofs.Common.{ℕ, ◌≡◌, ◌∙◌, ◌==◌, ◌^◌, ◌<◌, Bool, true, false, nat_le, if◌then◌else◌, List, length, Option, Some, None, Result, Ok, refl, ap, subst}
 use Rattle.std.specs.Prelude.{All}
 use Rattle.model.specs.declared.capabilities.Cap.{Cap}
@@ -18,15 +18,15 @@ use Rattle.model.specs.Kernel.Retype.{NewThread}
 use Rattle.model.specs.Kernel.State.{State, binding_slot}
 use Rattle.model.specs.Kernel.ThreadCalls.{resume, suspend}
 use Rattle.soundness.specs.Calls.{IsCall}
-use Rattle.soundness.specs.Deliveries.{IsWhole}
-use Rattle.soundness.specs.Removals.{RemovalsKeep}
-use Rattle.soundness.proofs.Carried.{whole-kept}
+use Rattle.model.specs.Kernel.Soundness.{IsSound}
 use Rattle.soundness.proofs.CNodeCalls.{copy-sound, mint-sound, move-sound, mutate-sound}
 use Rattle.soundness.proofs.CopyingCalls.{configure-whole, get-sound}
 use Rattle.soundness.proofs.Delivered.{read-less}
 use Rattle.soundness.proofs.Events.{acknowledge-whole}
 use Rattle.soundness.proofs.Lookups.{passes-both, wanted-some}
 use Rattle.soundness.proofs.MappingCalls.{IsAt, frame-sound, invoked-at, table-sound}
+use Rattle.soundness.proofs.Rebound.{bind-sound}
+use Rattle.soundness.proofs.Removed.{deleted-sound, revoked-sound}
 use Rattle.soundness.proofs.RetypeCalls.{retype-whole}
 use Rattle.soundness.proofs.ThreadCalls.{resume-whole, set_priority-whole, set_register-whole, suspend-whole}
 
@@ -36,10 +36,10 @@ chosen : (P : CallForm → Type 0) (b : Bool) (one : CallForm) (rest : Option Ca
 chosen P true one rest form here later is = let e : one ≡ form = cc is in subst P e here
 chosen P false one rest form here later is = later is
 
-module _ (removals : RemovalsKeep) (s t : State) (call : Call) (words : List ℕ) (whole : IsWhole s) (is_call : IsCall s call) (small : All (λ word. word < 2 ^ 32) words) where
+module _ (s t : State) (call : Call) (words : List ℕ) (whole : IsSound s) (is_call : IsCall s call) (small : All (λ word. word < 2 ^ 32) words) where
   -- what a form does
   abbrev Does : CallForm → Type 0
-  Does form = perform s call (form.call words) ≡ Ok t → IsWhole t
+  Does form = perform s call (form.call words) ≡ Ok t → IsSound t
 
   none-left : (form : CallForm) → None ≡ Some form → Does form
   none-left form is = let e : ◌≡◌ {A = Option CallForm} None (Some form) = is in absurd cc
@@ -47,8 +47,8 @@ module _ (removals : RemovalsKeep) (s t : State) (call : Call) (words : List ℕ
   word-less : (i : ℕ) → word words i < 2 ^ 32
   word-less i = read-less words i small
 
-  done : (after : State) → ◌≡◌ {A = Result State KError} (Ok after) (Ok t) → IsWhole after → IsWhole t
-  done after is kept = let e : after ≡ t = cc is in subst IsWhole e kept
+  done : (after : State) → ◌≡◌ {A = Result State KError} (Ok after) (Ok t) → IsSound after → IsSound t
+  done after is kept = let e : after ≡ t = cc is in subst IsSound e kept
 
   untyped-does : (offset bits watermark label : ℕ) (form : CallForm) → call.capability ≡ Untyped offset bits watermark
       → untyped_form (record { offset = offset; bits = bits; watermark = watermark }) label ≡ Some form → Does form
@@ -60,7 +60,7 @@ module _ (removals : RemovalsKeep) (s t : State) (call : Call) (words : List ℕ
   thread-does : (thread label : ℕ) (form : CallForm) → call.capability ≡ Tcb thread → thread_form thread label ≡ Some form → Does form
   thread-does thread label form is =
       let at = invoked-at s call (Tcb thread) is_call.invoked is refl in
-      let is_thread : kind_at s thread ≡ Some NewThread = whole.sound.memory.named call.slot NewThread thread (ap object_named (IsAt.at at)) in
+      let is_thread : kind_at s thread ≡ Some NewThread = whole.memory.named call.slot NewThread thread (ap object_named (IsAt.at at)) in
       chosen Does (label == configure_label) _ _ form
       (λ so. configure-whole s t call.root thread None (word words 0) (slot_name words 1) (slot_name words 3) whole is_call.root is_thread (word-less 0) so)
       (chosen Does (label == set_priority_label) _ _ form (λ so. set_priority-whole s whole thread is_thread t (word words 0) so)
@@ -70,47 +70,46 @@ module _ (removals : RemovalsKeep) (s t : State) (call : Call) (words : List ℕ
 
   cnode-does : (label : ℕ) (form : CallForm) → cnode_form label ≡ Some form → Does form
   cnode-does label form =
-      let sound = whole.sound in
       chosen Does (label == copy_label) _ _ form
-      (λ so. whole-kept s t whole (copy-sound s t call (slot_name words 0) (slot_name words 2) (word words 4) sound is_call so))
+      (λ so. copy-sound s t call (slot_name words 0) (slot_name words 2) (word words 4) whole is_call so)
       (chosen Does (label == mint_label) _ _ form
-      (λ so. whole-kept s t whole (mint-sound s t call (slot_name words 0) (slot_name words 2) (word words 4) (word words 5) sound is_call so))
-      (chosen Does (label == move_label) _ _ form (λ so. whole-kept s t whole (move-sound s t call (slot_name words 0) (slot_name words 2) sound is_call so))
+      (λ so. mint-sound s t call (slot_name words 0) (slot_name words 2) (word words 4) (word words 5) whole is_call so)
+      (chosen Does (label == move_label) _ _ form (λ so. move-sound s t call (slot_name words 0) (slot_name words 2) whole is_call so)
       (chosen Does (label == mutate_label) _ _ form
-      (λ so. whole-kept s t whole (mutate-sound s t call (slot_name words 0) (slot_name words 2) (word words 4) sound is_call so))
+      (λ so. mutate-sound s t call (slot_name words 0) (slot_name words 2) (word words 4) whole is_call so)
       (chosen Does (label == delete_label) _ _ form
-      (λ so. let one = passes-both (argument_slot s.slots call.capability (slot_name words 0)) _ t so in removals.deletes s t one.value whole one.rest)
+      (λ so. let one = passes-both (argument_slot s.slots call.capability (slot_name words 0)) _ t so in deleted-sound s t one.value whole one.rest)
       (chosen Does (label == revoke_label) _ _ form
-      (λ so. let one = passes-both (argument_slot s.slots call.capability (slot_name words 0)) _ t so in removals.revokes s t one.value whole one.rest)
+      (λ so. let one = passes-both (argument_slot s.slots call.capability (slot_name words 0)) _ t so in revoked-sound s t one.value whole one.rest)
       (none-left form))))))
 
   handler-does : (number label : ℕ) (form : CallForm) → call.capability ≡ InterruptHandler number → handler_form number label ≡ Some form → Does form
   handler-does number label form is =
       let at = invoked-at s call (InterruptHandler number) is_call.invoked is refl in
-      let less : number < 64 = (let valid : IsCapability (InterruptHandler number) = subst IsCapability (IsAt.at at) (whole.sound.slots.derivation.valid call.slot) in valid) in
+      let less : number < 64 = (let valid : IsCapability (InterruptHandler number) = subst IsCapability (IsAt.at at) (whole.slots.derivation.valid call.slot) in valid) in
       chosen Does (label == acknowledge_label) _ _ form (λ so. done (acknowledge s number) so (acknowledge-whole s number whole))
-      (chosen Does (label == set_notification_label) _ _ form (λ so. removals.rebinds s t call number (slot_name words 0) whole is_call less so)
-      (chosen Does (label == clear_label) _ _ form (λ so. removals.deletes s t (binding_slot s number) whole so) (none-left form)))
+      (chosen Does (label == set_notification_label) _ _ form (λ so. bind-sound s t call number (slot_name words 0) whole is_call less so)
+      (chosen Does (label == clear_label) _ _ form (λ so. deleted-sound s t (binding_slot s number) whole so) (none-left form)))
 
   form-does : (c : Cap) (label : ℕ) (form : CallForm) → call.capability ≡ c → form_of c label ≡ Some form → Does form
   form-does (Untyped offset bits watermark) label form is found = untyped-does offset bits watermark label form is found
   form-does (Tcb thread) label form is found = thread-does thread label form is found
   form-does (CNode offset radix guard) label form is found = cnode-does label form found
   form-does (Frame offset allowed mapping) label form is found =
-      chosen Does (label == map_frame_label) _ _ form (λ so. whole-kept s t whole (frame-sound s t call offset allowed mapping (MapFrame (slot_name words 0) (word words 2) (word words 3)) whole.sound is_call is so))
-      (chosen Does (label == unmap_frame_label) _ _ form (λ so. whole-kept s t whole (frame-sound s t call offset allowed mapping UnmapFrame whole.sound is_call is so)) (none-left form)) found
+      chosen Does (label == map_frame_label) _ _ form (λ so. frame-sound s t call offset allowed mapping (MapFrame (slot_name words 0) (word words 2) (word words 3)) whole is_call is so)
+      (chosen Does (label == unmap_frame_label) _ _ form (λ so. frame-sound s t call offset allowed mapping UnmapFrame whole is_call is so) (none-left form)) found
   form-does (PageTable offset mapping) label form is found =
-      chosen Does (label == map_table_label) _ _ form (λ so. whole-kept s t whole (table-sound s t call offset mapping (MapTable (slot_name words 0) (word words 2)) whole.sound is_call is so))
-      (chosen Does (label == unmap_table_label) _ _ form (λ so. whole-kept s t whole (table-sound s t call offset mapping UnmapTable whole.sound is_call is so)) (none-left form)) found
+      chosen Does (label == map_table_label) _ _ form (λ so. table-sound s t call offset mapping (MapTable (slot_name words 0) (word words 2)) whole is_call is so)
+      (chosen Does (label == unmap_table_label) _ _ form (λ so. table-sound s t call offset mapping UnmapTable whole is_call is so) (none-left form)) found
   form-does InterruptControl label form is found =
-      chosen Does (label == get_handler_label) _ _ form (λ so. whole-kept s t whole (get-sound s t call (word words 0) (slot_name words 1) whole.sound is_call is so)) (none-left form) found
+      chosen Does (label == get_handler_label) _ _ form (λ so. get-sound s t call (word words 0) (slot_name words 1) whole is_call is so) (none-left form) found
   form-does (InterruptHandler number) label form is found = handler-does number label form is found
   form-does Empty label form is found = none-left form found
   form-does (Endpoint offset r badge) label form is found = none-left form found
   form-does (Notification offset r badge) label form is found = none-left form found
   form-does (RootTable offset) label form is found = none-left form found
 
-  invoked : (label extra : ℕ) → invoke s call label extra words ≡ Ok t → IsWhole t
+  invoked : (label extra : ℕ) → invoke s call label extra words ≡ Ok t → IsSound t
   unfolding invoke decode
   invoked label extra is =
       let one = passes-both (decode call.capability label extra words) _ t is in
@@ -123,7 +122,7 @@ module _ (removals : RemovalsKeep) (s t : State) (call : Call) (words : List ℕ
       form-does call.capability label four.value refl (wanted-some (form_of call.capability label) IllegalOperation four.value four.first)
       (ap (perform s call) made ∙ one.rest)
 
-pub invoke-whole : RemovalsKeep → (s t : State) (call : Call) (label extra : ℕ) (words : List ℕ) → IsWhole s → IsCall s call
+pub invoke-whole : (s t : State) (call : Call) (label extra : ℕ) (words : List ℕ) → IsSound s → IsCall s call
     → All (λ word. word < 2 ^ 32) words
-    → invoke s call label extra words ≡ Ok t → IsWhole t
-invoke-whole removals s t call label extra words whole is_call small is = invoked removals s t call words whole is_call small label extra is
+    → invoke s call label extra words ≡ Ok t → IsSound t
+invoke-whole s t call label extra words whole is_call small is = invoked s t call words whole is_call small label extra is

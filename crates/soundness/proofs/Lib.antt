@@ -5,10 +5,15 @@ pub mod Copies
 pub mod CopyingCalls
 pub mod Delivered
 pub mod Events
+pub mod FreshMachines
 pub mod Grants
 pub mod Inserted
 pub mod Instructions
 pub mod Invoked
+pub mod Jumps
+pub mod LeftMemory
+pub mod LeftSlots
+pub mod LeftThreads
 pub mod Loading
 pub mod Lookups
 pub mod MappingCalls
@@ -21,9 +26,11 @@ pub mod Pieces
 pub mod Places
 pub mod QueueSteps
 pub mod Queues
+pub mod Rebound
 pub mod Recapped
 pub mod Registers
 pub mod Relocated
+pub mod Removed
 pub mod Rest
 pub mod RetypeCalls
 pub mod Running
@@ -34,3 +41,5 @@ pub mod Steps
 pub mod SystemCalls
 pub mod ThreadCalls
 pub mod UnmappedTables
+pub mod UnusedMemory
+pub mod Waking

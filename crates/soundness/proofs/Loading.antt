@@ -1,4 +1,4 @@
--- The calls of the loader keep soundness, if removals do.
+-- The calls of the loader keep soundness.
 use Rattle.std.proofs.Common.{ℕ, ◌≡◌, ◌==◌, ◌^◌, ◌<◌, true, false, nat_le, if◌then◌else◌, length, List, Option, Some, None, Result, Ok, Err, refl, ap, subst}
 use Rattle.std.specs.Prelude.{All}
 use Rattle.model.specs.declared.capabilities.Cap.{Cap}
@@ -18,8 +18,7 @@ use Rattle.model.specs.Kernel.Kinds.{kind_at, object_named}
 use Rattle.model.specs.Kernel.Retype.{NewThread}
 use Rattle.model.specs.Kernel.State.{State}
 use Rattle.soundness.specs.Calls.{IsCall, held, boot, of_loader}
-use Rattle.soundness.specs.Deliveries.{IsWhole}
-use Rattle.soundness.specs.Removals.{RemovalsKeep}
+use Rattle.model.specs.Kernel.Soundness.{IsSound}
 use Rattle.soundness.proofs.CopyingCalls.{configure-whole}
 use Rattle.soundness.proofs.Delivered.{read-less}
 use Rattle.soundness.proofs.Invoked.{invoke-whole}
@@ -60,7 +59,7 @@ tcb-of (RootTable a) thread is = let e : ◌≡◌ {A = Option ℕ} None (Some t
 tcb-of InterruptControl thread is = let e : ◌≡◌ {A = Option ℕ} None (Some thread) = is in absurd cc
 tcb-of (InterruptHandler a) thread is = let e : ◌≡◌ {A = Option ℕ} None (Some thread) = is in absurd cc
 
-guarded-whole : (s t : State) (call : Call) (words : List ℕ) → IsWhole s → IsCall s call → All (λ word. word < 2 ^ 32) words → configure_with_guard s call words ≡ Ok t → IsWhole t
+guarded-whole : (s t : State) (call : Call) (words : List ℕ) → IsSound s → IsCall s call → All (λ word. word < 2 ^ 32) words → configure_with_guard s call words ≡ Ok t → IsSound t
 unfolding configure_with_guard
 guarded-whole s t call words whole is_call small is =
     let one = passes-both (wanted (thread_of call.capability) IllegalOperation) _ t is in
@@ -68,16 +67,16 @@ guarded-whole s t call words whole is_call small is =
     let thread = one.value in
     let tcb = tcb-of call.capability thread (wanted-some (thread_of call.capability) IllegalOperation thread one.first) in
     let at = invoked-at s call (Tcb thread) is_call.invoked tcb refl in
-    let is_thread : kind_at s thread ≡ Some NewThread = whole.sound.memory.named call.slot NewThread thread (ap object_named (IsAt.at at)) in
+    let is_thread : kind_at s thread ≡ Some NewThread = whole.memory.named call.slot NewThread thread (ap object_named (IsAt.at at)) in
     configure-whole s t call.root thread (Some (word words 5)) (word words 0) (slot_name words 1) (slot_name words 3) whole is_call.root is_thread (read-less words 0 small) two.rest
 
-pub made-whole : RemovalsKeep → (s t : State) (c : LoaderCall) → IsWhole s → All (λ word. word < 2 ^ 32) c.words → made s c ≡ Ok t → IsWhole t
+pub made-whole : (s t : State) (c : LoaderCall) → IsSound s → All (λ word. word < 2 ^ 32) c.words → made s c ≡ Ok t → IsSound t
 unfolding made
-made-whole removals s t c whole small is =
+made-whole s t c whole small is =
     let one = passes-both (boot_call s c.address) _ t is in
     let call = one.value in
     let is_call = boot-call s c.address call one.first in
-    elim (c.label == configure_label) as (λ b. (if b then configure_with_guard s call c.words else invoke s call c.label 0 c.words) ≡ Ok t → IsWhole t) [
+    elim (c.label == configure_label) as (λ b. (if b then configure_with_guard s call c.words else invoke s call c.label 0 c.words) ≡ Ok t → IsSound t) [
       | true ↦ λ so. guarded-whole s t call c.words whole is_call small so
-      | false ↦ λ so. invoke-whole removals s t call c.label 0 c.words whole is_call small so
+      | false ↦ λ so. invoke-whole s t call c.label 0 c.words whole is_call small so
     ] one.rest

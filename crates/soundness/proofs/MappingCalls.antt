@@ -1,5 +1,4 @@
 -- Calls on frames and page tables.
-use Rattle.soundness.proofs.Carried.{Keeps, kept-by}
 use Rattle.std.proofs.Common.{ℕ, zero, suc, ◌≡◌, ◌∙◌, ◌==◌, ◌||◌, ◌+◌, ◌*◌, ◌/◌, ◌%◌, ◌^◌, ◌<◌, ◌≤◌, inl, inr, true, false, not, nat_lt, Option, Some, None, Ok, bit_and, refl, sym, ap, subst, arith}
 use Rattle.std.specs.Option.{option_map_or}
 use Rattle.std.proofs.lemmas.Bool.{ltb-true, not-true}
@@ -15,7 +14,7 @@ use Rattle.model.specs.declared.invocations.SlotName.{SlotName}
 use Rattle.model.specs.declared.invocations.TableCall.{TableCall}
 use Rattle.model.specs.declared.invocations.TableCall.TheVariants.{MapTable, UnmapTable}
 use Rattle.model.specs.declared.rights.Rights.{Rights}
-use Rattle.model.specs.Capabilities.CapabilityKinds.{cnode_of, frame_mapping, root_of, table_mapping, unmapped, with_frame_mapping, with_table_mapping}
+use Rattle.model.specs.Capabilities.CapabilityKinds.{cnode_of, frame_mapping, root_of, table_mapping, unmapped, with_frame_mapping, with_table_mapping, Node}
 use Rattle.model.specs.Capabilities.CapabilityWords.{AreMappingRights, IsCapability, IsPlace}
 use Rattle.model.specs.Capabilities.Rights.{mapping_rights, may_execute, may_read, rights}
 use Rattle.model.specs.Capabilities.Slots.{IsFull, capability_at, recapped}
@@ -137,15 +136,15 @@ pub record IsAt (s : State) (call : Call) (c : Cap) : Type 0 where
 pub invoked-at : (s : State) (call : Call) (c : Cap) → IsInvoked s call → call.capability ≡ c → cnode_of c ≡ None → IsAt s call c
 invoked-at s call c (held at full) is none = record { at = at ∙ is; full = full }
 invoked-at s call c (boot root) is none =
-    let e : ◌≡◌ {A = Option (ℕ × ℕ)} None (Some (0, s.boot_radix)) = sym none ∙ ap cnode_of (sym is) ∙ ap cnode_of root in absurd cc
+    let e : ◌≡◌ {A = Option Node} None (Some (record { offset = 0; radix = s.boot_radix })) = sym none ∙ ap cnode_of (sym is) ∙ ap cnode_of root in absurd cc
 
 pub frame-sound : (s t : State) (call : Call) (offset : ℕ) (allowed : Rights) (before : Option FrameMapping) (c : FrameCall) → IsSound s
     → IsCall s call
-    → call.capability ≡ Frame offset allowed before → on_frame s call allowed c ≡ Ok t → Keeps s t
+    → call.capability ≡ Frame offset allowed before → on_frame s call allowed c ≡ Ok t → IsSound t
 frame-sound s t call offset allowed before UnmapFrame sound is_call is done =
     let at = invoked-at s call (Frame offset allowed before) is_call.invoked is refl in
     let e : unmap_frame s call ≡ t = cc done in
-    kept-by s _ t e (subst (λ (c : Cap). IsSound (with_slots s (recapped s.slots call.slot (unmapped c)))) (sym is)
+    subst IsSound e (subst (λ (c : Cap). IsSound (with_slots s (recapped s.slots call.slot (unmapped c)))) (sym is)
     (frame-unmapped s call.slot offset allowed before sound (IsAt.full at) (IsAt.at at)))
 frame-sound s t call offset allowed before (MapFrame name address word) sound is_call is done =
     let at = invoked-at s call (Frame offset allowed before) is_call.invoked is refl in
@@ -161,7 +160,7 @@ frame-sound s t call offset allowed before (MapFrame name address word) sound is
     let less = ltb-true address address_limit (check-passes (nat_lt address address_limit) InvalidArgument three.value three.first) in
     let m : FrameMapping = record { root = root; page = address / page_size; rights = held_rights } in
     let e : with_slots s (recapped s.slots call.slot (with_frame_mapping call.capability (Some m))) ≡ t = cc seven.rest in
-    kept-by s _ t e (subst (λ (c : Cap). IsSound (with_slots s (recapped s.slots call.slot (with_frame_mapping c (Some m))))) (sym is)
+    subst IsSound e (subst (λ (c : Cap). IsSound (with_slots s (recapped s.slots call.slot (with_frame_mapping c (Some m))))) (sym is)
     (frame-mapped s call.slot offset allowed before sound (IsAt.full at) (IsAt.at at) m (root-known s call.root name root sound two.first) (omega (arith, less))
     (mapping-rights allowed word (check-passes (may_read held_rights || may_execute held_rights) InvalidArgument seven.value seven.first))
     (check-passes (is_region_taken s root (address / page_size / region_pages)) FailedLookup five.value five.first)
@@ -190,17 +189,17 @@ table-mapped s slot offset m sound full is root less free =
     }) m offset refl is (IsTableRoot.there root) free
 
 table-unmapped : (s : State) (call : Call) (offset : ℕ) (before : Option TableMapping) → IsSound s → IsAt s call (PageTable offset before)
-    → Keeps s (option_map_or (λ mapping. with_slots s (without_region (recapped s.slots call.slot (PageTable offset None)) mapping)) before s)
-table-unmapped s call offset None sound at = record { sound = sound; objects = refl }
-table-unmapped s call offset (Some m) sound at = record { sound = unmapped-sound s call.slot offset m sound (IsAt.full at) (IsAt.at at); objects = refl }
+    → IsSound (option_map_or (λ mapping. with_slots s (without_region (recapped s.slots call.slot (PageTable offset None)) mapping)) before s)
+table-unmapped s call offset None sound at = sound
+table-unmapped s call offset (Some m) sound at = unmapped-sound s call.slot offset m sound (IsAt.full at) (IsAt.at at)
 
 pub table-sound : (s t : State) (call : Call) (offset : ℕ) (before : Option TableMapping) (c : TableCall) → IsSound s → IsCall s call
-    → call.capability ≡ PageTable offset before → on_table s call c ≡ Ok t → Keeps s t
+    → call.capability ≡ PageTable offset before → on_table s call c ≡ Ok t → IsSound t
 table-sound s t call offset before UnmapTable sound is_call is done =
     let at = invoked-at s call (PageTable offset before) is_call.invoked is refl in
     let e : unmap_table s call ≡ t = cc done in
-    subst (Keeps s) e (
-    subst (λ (c : Cap). Keeps s (option_map_or (λ mapping. with_slots s (without_region (recapped s.slots call.slot (unmapped c)) mapping)) (table_mapping c) s)) (sym is)
+    subst IsSound e (
+    subst (λ (c : Cap). IsSound (option_map_or (λ mapping. with_slots s (without_region (recapped s.slots call.slot (unmapped c)) mapping)) (table_mapping c) s)) (sym is)
     (table-unmapped s call offset before sound at)
     )
 table-sound s t call offset before (MapTable name address) sound is_call is done =
@@ -216,6 +215,6 @@ table-sound s t call offset before (MapTable name address) sound is_call is done
     let less = ltb-true address address_limit (check-passes (nat_lt address address_limit) InvalidArgument three.value three.first) in
     let m : TableMapping = record { root = root; region = address / region_size } in
     let e : with_slots s (recapped s.slots call.slot (with_table_mapping call.capability (Some m))) ≡ t = cc five.rest in
-    kept-by s _ t e (subst (λ (c : Cap). IsSound (with_slots s (recapped s.slots call.slot (with_table_mapping c (Some m))))) (sym bare)
+    subst IsSound e (subst (λ (c : Cap). IsSound (with_slots s (recapped s.slots call.slot (with_table_mapping c (Some m))))) (sym bare)
     (table-mapped s call.slot offset m sound (IsAt.full at) (IsAt.at at) (root-known s call.root name root sound two.first) (omega (arith, less))
     (not-true (is_region_taken s root (address / region_size)) (check-passes (not (is_region_taken s root (address / region_size))) DeleteFirst five.value five.first))))

@@ -8,11 +8,10 @@ use Rattle.model.specs.Kernel.Kinds.{kind_at, kind_of}
 use Rattle.model.specs.Kernel.Messages.{Message, a0, deliver, deliver_word, delivered, message_of, message_sent, passes, poll, receive, received, received_waiting, receives, replied, reply, reply_to_call, reply_to_fault, resumption, send, send_to, sends, signal, signals, takes_word, tries_to_send, try_to_receive, try_to_send, wait, waits_for_signal, waits_to_receive, with_caller, with_registers}
 use Rattle.model.specs.Kernel.Retype.{NewObject, NewThread, NewEndpoint, NewNotification}
 use Rattle.model.specs.Kernel.Scheduling.{block, full_slice, is_runnable, wake}
-use Rattle.model.specs.Kernel.Soundness.{awaits_answer}
+use Rattle.model.specs.Kernel.Soundness.{awaits_answer, IsSound, SenderIsSound}
 use Rattle.model.specs.Kernel.State.{State, Status, Inactive, Runnable, Blocked, AwaitsReply, AwaitsHandler, Object, ThreadObject, EndpointObject, NotificationObject, CNodeObject, FrameObject, PageTableObject, RootTableObject, EndpointState, NotificationState, Sender, Sent, BySend, ByCall, ByFault, ThreadState, endpoint_at, new_endpoint, new_notification, notification_at, thread_at, with_endpoint, with_notification, with_object, as_endpoint, as_notification}
 use Rattle.model.specs.Machine.Effects.{advanced}
 use Rattle.model.specs.Machine.ProgramMemory.{RegisterFile, write}
-use Rattle.soundness.specs.Deliveries.{IsWhole, SenderIsSound}
 use Rattle.soundness.specs.Running.{IsRunning}
 use Rattle.soundness.proofs.Delivered.{MessageIsSound, deliver-moving, deliver_word-moving, own-message, passes-moving, registers-moving, sent-message}
 use Rattle.soundness.proofs.Grants.{awaiting-whole, thread-kinds}
@@ -53,7 +52,7 @@ deliver-other s x badge message y other =
 pub wake-other : (s : State) (x y : ℕ) → y ≢ x → (wake s x).objects y ≡ s.objects y
 wake-other s x y other = put-other s.objects x (Some (ThreadObject (record (thread_at s x) { status = Runnable; slice = full_slice }))) y other
 
-pub deliver_word-whole : (s : State) (x word : ℕ) → IsWhole s → kind_at s x ≡ Some NewThread → word < 2 ^ 32 → IsWhole (deliver_word s x word)
+pub deliver_word-whole : (s : State) (x word : ℕ) → IsSound s → kind_at s x ≡ Some NewThread → word < 2 ^ 32 → IsSound (deliver_word s x word)
 deliver_word-whole s x word whole is less =
     let r = write (thread_at s x).registers a0 word in
     let t : ThreadState = record (thread_at s x) { registers = r } in
@@ -70,17 +69,17 @@ running-object s t x same runs = record {
 -- ---- what becomes of a sender
 
 called-whole : (kinds : ℕ → Option NewObject) (s : State) (sender : Sender) (receiver : ℕ) (r : ℕ → ℕ) → Moving kinds s sender.thread r (λ _. 0) false
-    → kinds sender.thread ≡ Some NewThread → kinds receiver ≡ Some NewThread → IsWhole (received s sender ByCall receiver)
+    → kinds sender.thread ≡ Some NewThread → kinds receiver ≡ Some NewThread → IsSound (received s sender ByCall receiver)
 called-whole kinds s sender receiver r moving one other =
-    elim sender.grant_reply as (λ b. IsWhole (if b then with_caller (block s sender.thread AwaitsReply) receiver (Some sender.thread) else block s sender.thread Inactive)) [
+    elim sender.grant_reply as (λ b. IsSound (if b then with_caller (block s sender.thread AwaitsReply) receiver (Some sender.thread) else block s sender.thread Inactive)) [
       | true ↦ awaiting-whole kinds s sender.thread receiver r AwaitsReply moving one other refl (λ _. refl) refl
       | false ↦ stopped-whole kinds s sender.thread r (λ _. 0) false moving one Inactive refl (λ _. refl) (λ e. e)
     ]
 
 -- one that runs
-received-whole : (s : State) (sender : Sender) (sent : Sent) (receiver : ℕ) → IsWhole s → IsRunning s sender.thread
+received-whole : (s : State) (sender : Sender) (sent : Sent) (receiver : ℕ) → IsSound s → IsRunning s sender.thread
     → kind_at s receiver ≡ Some NewThread
-    → IsWhole (received s sender sent receiver)
+    → IsSound (received s sender sent receiver)
 received-whole s sender BySend receiver whole runs is = passes-whole s whole sender.thread runs.kind
 received-whole s sender ByCall receiver whole runs is =
     called-whole (kind_at s) s sender receiver (runs_of (s.objects sender.thread)) (running s sender.thread whole runs) runs.kind is
@@ -90,7 +89,7 @@ received-whole s sender (ByFault fault) receiver whole runs is =
 -- one that waited
 waited-whole : (kinds : ℕ → Option NewObject) (s : State) (sender : Sender) (sent : Sent) (receiver : ℕ) (r : ℕ → ℕ)
     → Moving kinds s sender.thread r (λ _. 0) false
-    → kinds sender.thread ≡ Some NewThread → kinds receiver ≡ Some NewThread → IsWhole (received_waiting s sender sent receiver)
+    → kinds sender.thread ≡ Some NewThread → kinds receiver ≡ Some NewThread → IsSound (received_waiting s sender sent receiver)
 waited-whole kinds s sender BySend receiver r moving one other =
     woken-whole kinds (passes s sender.thread) sender.thread r (passes-moving kinds s sender.thread r (λ _. 0) false sender.thread one moving) one
 waited-whole kinds s sender ByCall receiver r moving one other = called-whole kinds s sender receiver r moving one other
@@ -99,9 +98,9 @@ waited-whole kinds s sender (ByFault fault) receiver r moving one other =
 
 -- ---- sending
 
-module _ (s : State) (q : ℕ) (sender : Sender) (whole : IsWhole s) (is : kind_at s q ≡ Some NewEndpoint) (runs : IsRunning s sender.thread) (sound : SenderIsSound sender) where
+module _ (s : State) (q : ℕ) (sender : Sender) (whole : IsSound s) (is : kind_at s q ≡ Some NewEndpoint) (runs : IsRunning s sender.thread) (sound : SenderIsSound sender) where
   sent_to-whole : (receiver : ℕ) (others : List ℕ) → (endpoint_at s q).receivers ≡ receiver ∷ others
-      → IsWhole (send_to (with_endpoint s q (record (endpoint_at s q) { receivers = others })) sender receiver)
+      → IsSound (send_to (with_endpoint s q (record (endpoint_at s q) { receivers = others })) sender receiver)
   sent_to-whole receiver others first =
       let e = endpoint_at s q in
       let object = endpoint-object s q is in
@@ -125,28 +124,28 @@ module _ (s : State) (q : ℕ) (sender : Sender) (whole : IsWhole s) (is : kind_
       received-whole s3 sender sender.sent receiver three (running-object s s3 x stays runs)
       (thread-kinds s2 receiver _ (two.listed.kind receiver ∙ waits.kind) receiver ∙ two.listed.kind receiver ∙ waits.kind)
 
-  sends-whole : (receivers : List ℕ) → (endpoint_at s q).receivers ≡ receivers → IsWhole (sends s q sender receivers)
+  sends-whole : (receivers : List ℕ) → (endpoint_at s q).receivers ≡ receivers → IsSound (sends s q sender receivers)
   sends-whole [] none =
       let e = endpoint_at s q in
       stopped-whole (kind_at s) (with_endpoint s q (record e { senders = e.senders ++ sender ∷ [] })) sender.thread (runs_of (s.objects sender.thread)) (in_queue (Blocked q)) false
       (with-sender s whole q e sender (endpoint-object s q is) none runs sound) runs.kind (Blocked q) refl (λ _. refl) (λ a. a)
   sends-whole (receiver ∷ others) first = sent_to-whole receiver others first
 
-  pub send-whole : IsWhole (send s q sender)
+  pub send-whole : IsSound (send s q sender)
   send-whole = sends-whole (endpoint_at s q).receivers refl
 
-  tries-whole : (receivers : List ℕ) → (endpoint_at s q).receivers ≡ receivers → IsWhole (tries_to_send s q sender receivers)
+  tries-whole : (receivers : List ℕ) → (endpoint_at s q).receivers ≡ receivers → IsSound (tries_to_send s q sender receivers)
   tries-whole [] none = passes-whole s whole sender.thread runs.kind
   tries-whole (receiver ∷ others) first = sent_to-whole receiver others first
 
-  pub try_to_send-whole : IsWhole (try_to_send s q sender)
+  pub try_to_send-whole : IsSound (try_to_send s q sender)
   try_to_send-whole = tries-whole (endpoint_at s q).receivers refl
 
 -- ---- receiving
 
 -- a thread that gives its right to reply away
-module _ (s : State) (x : ℕ) (whole : IsWhole s) (is : kind_at s x ≡ Some NewThread) where
-  pub dropped-whole : IsWhole (with_caller s x None)
+module _ (s : State) (x : ℕ) (whole : IsSound s) (is : kind_at s x ≡ Some NewThread) where
+  pub dropped-whole : IsSound (with_caller s x None)
   dropped-whole =
       same-whole s whole x is (record (thread_at s x) { caller = None }) (caller-fine (thread_at s x) None (fine-of s whole x is))
       (λ c e. let clash : None ≡ Some c = e in absurd cc) refl refl
@@ -160,9 +159,9 @@ module _ (s : State) (x : ℕ) (whole : IsWhole s) (is : kind_at s x ≡ Some Ne
     runs = subst (λ (o : Option Object). is_runnable (own_of o).status ≡ true) (sym (put-here s.objects x (Some (ThreadObject (record (thread_at s x) { caller = None }))))) runs;
   }
 
-module _ (s : State) (q receiver : ℕ) (whole : IsWhole s) (is : kind_at s q ≡ Some NewEndpoint) (runs : IsRunning s receiver) where
-  receives-whole : (otherwise : State) (senders : List Sender) → (endpoint_at s q).senders ≡ senders → ((endpoint_at s q).senders ≡ [] → IsWhole otherwise)
-      → IsWhole (receives s q receiver otherwise senders)
+module _ (s : State) (q receiver : ℕ) (whole : IsSound s) (is : kind_at s q ≡ Some NewEndpoint) (runs : IsRunning s receiver) where
+  receives-whole : (otherwise : State) (senders : List Sender) → (endpoint_at s q).senders ≡ senders → ((endpoint_at s q).senders ≡ [] → IsSound otherwise)
+      → IsSound (receives s q receiver otherwise senders)
   receives-whole otherwise [] none whole_otherwise = whole_otherwise none
   receives-whole otherwise (sender ∷ others) first whole_otherwise =
       let e = endpoint_at s q in
@@ -172,24 +171,24 @@ module _ (s : State) (q receiver : ℕ) (whole : IsWhole s) (is : kind_at s q �
       let s1 = with_endpoint s q (record e { senders = others }) in
       let waits = first-sender s whole q e sender others object first in
       let one = without-sender s whole q e sender others object first in
-      let sound = All-head SenderIsSound sender others (subst (All SenderIsSound) first (whole.deliveries.senders q e object)) in
+      let sound = All-head SenderIsSound sender others (subst (All SenderIsSound) first (whole.threads.senders q e object)) in
       let message = message_sent s1 sender sender.sent in
       let fine = sent-message s1 sender sender.sent (own-fine (kind_at s) s1 x r (λ _. 0) x one.listed waits.kind) sound.sent in
       let badge = sound.badge in
       let two = deliver-moving (kind_at s) s1 x r (λ _. 0) false receiver sender.badge message runs.kind one (omega (arith, badge)) fine in
       waited-whole (kind_at s) (deliver s1 receiver sender.badge message) sender sender.sent receiver r two waits.kind runs.kind
 
-  waits-whole : (endpoint_at s q).senders ≡ [] → IsWhole (waits_to_receive s q receiver)
+  waits-whole : (endpoint_at s q).senders ≡ [] → IsSound (waits_to_receive s q receiver)
   waits-whole none =
       let e = endpoint_at s q in
       stopped-whole (kind_at s) (with_endpoint s q (record e { receivers = e.receivers ++ receiver ∷ [] })) receiver (runs_of (s.objects receiver)) (in_queue (Blocked q)) false
       (with-receiver s whole q e receiver (endpoint-object s q is) none runs) runs.kind (Blocked q) refl (λ _. refl) (λ a. a)
 
-module _ (s : State) (q receiver : ℕ) (whole : IsWhole s) (is : kind_at s q ≡ Some NewEndpoint) (runs : IsRunning s receiver) where
+module _ (s : State) (q receiver : ℕ) (whole : IsSound s) (is : kind_at s q ≡ Some NewEndpoint) (runs : IsRunning s receiver) where
   abbrev ready : State
   ready = with_caller s receiver None
 
-  ready-whole : IsWhole ready
+  ready-whole : IsSound ready
   ready-whole = dropped-whole s receiver whole runs.kind
 
   ready-runs : IsRunning ready receiver
@@ -198,19 +197,19 @@ module _ (s : State) (q receiver : ℕ) (whole : IsWhole s) (is : kind_at s q �
   ready-endpoint : kind_at ready q ≡ Some NewEndpoint
   ready-endpoint = dropped-kinds s receiver whole runs.kind q ∙ is
 
-  pub receive-whole : IsWhole (receive s q receiver)
+  pub receive-whole : IsSound (receive s q receiver)
   receive-whole =
       receives-whole ready q receiver ready-whole ready-endpoint ready-runs (waits_to_receive ready q receiver) (endpoint_at ready q).senders refl
       (waits-whole ready q receiver ready-whole ready-endpoint ready-runs)
 
-  pub try_to_receive-whole : IsWhole (try_to_receive s q receiver)
+  pub try_to_receive-whole : IsSound (try_to_receive s q receiver)
   try_to_receive-whole =
       receives-whole ready q receiver ready-whole ready-endpoint ready-runs (deliver_word ready receiver 0) (endpoint_at ready q).senders refl
       (λ _. deliver_word-whole ready receiver 0 ready-whole ready-runs.kind (omega arith))
 
 -- ---- notifications
 
-module _ (s : State) (q : ℕ) (whole : IsWhole s) (is : kind_at s q ≡ Some NewNotification) where
+module _ (s : State) (q : ℕ) (whole : IsSound s) (is : kind_at s q ≡ Some NewNotification) where
   abbrev own_notification : NotificationState
   own_notification = notification_at s q
 
@@ -218,9 +217,9 @@ module _ (s : State) (q : ℕ) (whole : IsWhole s) (is : kind_at s q ≡ Some Ne
   object = notification-object s q is
 
   signals-whole : (badge : ℕ) (waiters : List ℕ) → badge < 2 ^ 28 → own_notification.waiters ≡ waiters
-      → IsWhole (signals s q badge own_notification waiters)
+      → IsSound (signals s q badge own_notification waiters)
   signals-whole badge [] less none =
-      with-word s whole q own_notification (bit_or own_notification.word badge) object (or_lt 28 own_notification.word badge (whole.deliveries.words q own_notification object) less)
+      with-word s whole q own_notification (bit_or own_notification.word badge) object (or_lt 28 own_notification.word badge (whole.threads.words q own_notification object) less)
   signals-whole badge (waiter ∷ others) less first =
       let s1 = with_notification s q (record own_notification { waiters = others }) in
       let waits = first-waiter s whole q own_notification waiter others object first in
@@ -229,28 +228,28 @@ module _ (s : State) (q : ℕ) (whole : IsWhole s) (is : kind_at s q ≡ Some Ne
       woken-whole (kind_at s) (deliver_word s1 waiter badge) waiter r
       (deliver_word-moving (kind_at s) s1 waiter r (λ _. 0) false waiter badge waits.kind one (omega (arith, less))) waits.kind
 
-  pub signal-whole : (badge : ℕ) → badge < 2 ^ 28 → IsWhole (signal s q badge)
+  pub signal-whole : (badge : ℕ) → badge < 2 ^ 28 → IsSound (signal s q badge)
   signal-whole badge less = signals-whole badge own_notification.waiters less refl
 
-  takes-whole : (thread : ℕ) (otherwise : State) → kind_at s thread ≡ Some NewThread → IsWhole otherwise → IsWhole (takes_word s q thread otherwise)
+  takes-whole : (thread : ℕ) (otherwise : State) → kind_at s thread ≡ Some NewThread → IsSound otherwise → IsSound (takes_word s q thread otherwise)
   takes-whole thread otherwise is_thread whole_otherwise =
       let word = own_notification.word in
       let s1 = with_notification s q (record own_notification { word = 0 }) in
-      let less = whole.deliveries.words q own_notification object in
-      elim (word == 0) as (λ b. IsWhole (if b then otherwise else deliver_word s1 thread word)) [
+      let less = whole.threads.words q own_notification object in
+      elim (word == 0) as (λ b. IsSound (if b then otherwise else deliver_word s1 thread word)) [
         | true ↦ whole_otherwise
         | false ↦
             deliver_word-whole s1 thread word (with-word s whole q own_notification 0 object (omega arith))
             (object-kinds s q (NotificationObject (record own_notification { word = 0 })) (sym is) thread ∙ is_thread) (omega (arith, less))
       ]
 
-  pub wait-whole : (thread : ℕ) → IsRunning s thread → IsWhole (wait s q thread)
+  pub wait-whole : (thread : ℕ) → IsRunning s thread → IsSound (wait s q thread)
   wait-whole thread runs =
       takes-whole thread (waits_for_signal s q thread) runs.kind
       (stopped-whole (kind_at s) (with_notification s q (record own_notification { waiters = own_notification.waiters ++ thread ∷ [] })) thread (runs_of (s.objects thread)) (in_queue (Blocked q)) false
       (with-waiter s whole q own_notification thread object runs) runs.kind (Blocked q) refl (λ _. refl) (λ a. a))
 
-  pub poll-whole : (thread : ℕ) → IsRunning s thread → IsWhole (poll s q thread)
+  pub poll-whole : (thread : ℕ) → IsRunning s thread → IsSound (poll s q thread)
   poll-whole thread runs = takes-whole thread (deliver_word s thread 0) runs.kind (deliver_word-whole s thread 0 whole runs.kind (omega arith))
 
 -- ---- replies
@@ -270,7 +269,7 @@ resumption-less pc [] less small = less
 resumption-less pc (word ∷ words) less small = let first = All-head (λ (n : ℕ). n < 2 ^ 32) word words small in omega (arith, first)
 
 -- the caller, for whom nobody holds a right any more
-module _ (s : State) (caller : ℕ) (message : Message) (whole : IsWhole s) (is_thread : kind_at s caller ≡ Some NewThread) (sound : MessageIsSound message)
+module _ (s : State) (caller : ℕ) (message : Message) (whole : IsSound s) (is_thread : kind_at s caller ≡ Some NewThread) (sound : MessageIsSound message)
     (free : (thread : ℕ) → (thread_at s thread).caller ≢ Some caller) where
   -- it stands in no queue
   alone : (status : Status) → (thread_at s caller).status ≡ status → ((queue : ℕ) → ◌≡◌ {A = ℕ} (in_queue status queue) 0) → Moving (kind_at s) s caller (runs_of (s.objects caller)) (λ _. 0) false
@@ -279,18 +278,18 @@ module _ (s : State) (caller : ℕ) (message : Message) (whole : IsWhole s) (is_
       let known : Moving (kind_at s) s caller (runs_of (s.objects caller)) (in_queue status) false = record { listed = moving.listed; rights = rights-none s caller (awaits_answer status) moving.rights free } in
       listed-as (kind_at s) s caller (runs_of (s.objects caller)) (in_queue status) (λ _. 0) false false known nowhere refl
 
-  called_back-whole : Moving (kind_at s) s caller (runs_of (s.objects caller)) (λ _. 0) false → IsWhole (reply_to_call s caller message)
+  called_back-whole : Moving (kind_at s) s caller (runs_of (s.objects caller)) (λ _. 0) false → IsSound (reply_to_call s caller message)
   called_back-whole moving =
       let r = runs_of (s.objects caller) in
       woken-whole (kind_at s) (deliver s caller 0 message) caller r (deliver-moving (kind_at s) s caller r (λ _. 0) false caller 0 message is_thread moving (omega arith) sound) is_thread
 
-  handled-whole : Moving (kind_at s) s caller (runs_of (s.objects caller)) (λ _. 0) false → IsWhole (reply_to_fault s caller message)
+  handled-whole : Moving (kind_at s) s caller (runs_of (s.objects caller)) (λ _. 0) false → IsSound (reply_to_fault s caller message)
   handled-whole moving =
       let r = runs_of (s.objects caller) in
       let file = (thread_at s caller).registers in
       let fine = fine-of s whole caller is_thread in
       let registers = registers-of (thread_at s caller) fine in
-      elim (message.label == 0) as (λ b. IsWhole (if b then wake (with_registers s caller (record file { pc = resumption file.pc message.words })) caller else block s caller Inactive)) [
+      elim (message.label == 0) as (λ b. IsSound (if b then wake (with_registers s caller (record file { pc = resumption file.pc message.words })) caller else block s caller Inactive)) [
         | true ↦
             woken-whole (kind_at s) (with_registers s caller (record file { pc = resumption file.pc message.words })) caller r
             (registers-moving (kind_at s) s caller r (λ _. 0) false caller is_thread (record file { pc = resumption file.pc message.words }) moving
@@ -298,14 +297,14 @@ module _ (s : State) (caller : ℕ) (message : Message) (whole : IsWhole s) (is_
         | false ↦ stopped-whole (kind_at s) s caller r (λ _. 0) false moving is_thread Inactive refl (λ _. refl) (λ e. e)
       ]
 
-  replied-whole : (status : Status) → (thread_at s caller).status ≡ status → IsWhole (replied s caller status message)
+  replied-whole : (status : Status) → (thread_at s caller).status ≡ status → IsSound (replied s caller status message)
   replied-whole AwaitsReply is = called_back-whole (alone AwaitsReply is (λ _. refl))
   replied-whole AwaitsHandler is = handled-whole (alone AwaitsHandler is (λ _. refl))
   replied-whole Inactive is = whole
   replied-whole Runnable is = whole
   replied-whole (Blocked queue) is = whole
 
-module _ (s : State) (thread : ℕ) (whole : IsWhole s) (is_thread : kind_at s thread ≡ Some NewThread) where
+module _ (s : State) (thread : ℕ) (whole : IsSound s) (is_thread : kind_at s thread ≡ Some NewThread) where
   abbrev without_right : State
   without_right = with_caller s thread None
 
@@ -317,15 +316,15 @@ module _ (s : State) (thread : ℕ) (whole : IsWhole s) (is_thread : kind_at s t
   right-gone caller is =
       put-either s.objects thread (Some (ThreadObject (record (thread_at s thread) { caller = None }))) (λ other o. (own_of o).caller ≢ Some caller)
       (λ e. let clash : None ≡ Some caller = e in cc)
-      (λ other apart e. apart (whole.sound.threads.one_right other thread caller e is))
+      (λ other apart e. apart (whole.threads.one_right other thread caller e is))
 
   reply-by : (o : Option ℕ) → (thread_at s thread).caller ≡ o
-      → IsWhole (option_map_or (λ caller. replied without_right caller (thread_at s caller).status (message_of (thread_at s thread))) o s)
+      → IsSound (option_map_or (λ caller. replied without_right caller (thread_at s caller).status (message_of (thread_at s thread))) o s)
   reply-by None is = whole
   reply-by (Some caller) is =
       replied-whole without_right caller (message_of (thread_at s thread)) (dropped-whole s thread whole is_thread)
-      (dropped-kinds s thread whole is_thread caller ∙ answering-kind (s.objects caller) (whole.sound.threads.callers thread caller is))
+      (dropped-kinds s thread whole is_thread caller ∙ answering-kind (s.objects caller) (whole.threads.callers thread caller is))
       (own-message (thread_at s thread) (fine-of s whole thread is_thread)) (right-gone caller is) (thread_at s caller).status (status-still caller)
 
-  pub reply-whole : IsWhole (reply s thread)
+  pub reply-whole : IsSound (reply s thread)
   reply-whole = reply-by (thread_at s thread).caller refl

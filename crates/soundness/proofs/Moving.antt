@@ -8,10 +8,9 @@ use Rattle.std.proofs.lemmas.Bool.Decides.{eqb_tells}
 use Rattle.model.specs.Kernel.Kinds.{kind_at, kind_of}
 use Rattle.model.specs.Kernel.Retype.{NewObject, NewThread}
 use Rattle.model.specs.Kernel.Scheduling.{at_tail, is_runnable, unready}
-use Rattle.model.specs.Kernel.Soundness.{ThreadIsSound, awaits_answer, is_blocked_on, waiting_at}
+use Rattle.model.specs.Kernel.Soundness.{ThreadIsSound, awaits_answer, is_blocked_on, waiting_at, IsSound, SenderIsSound}
 use Rattle.model.specs.Kernel.State.{State, Status, Object, ThreadObject, EndpointObject, NotificationObject, EndpointState, NotificationState, ThreadState, as_thread, new_thread, put, thread_at, with_thread}
 use Rattle.model.specs.Shared.Lists.{times_in, without}
-use Rattle.soundness.specs.Deliveries.{DeliveriesAreSound, IsWhole, SenderIsSound}
 use Rattle.soundness.proofs.Queues.{times-end_other, times-end_same, times-gone, times-kept}
 use Rattle.soundness.proofs.Rest.{RestIsSound, rest-kept, rest-of, sound-of, thread-kind}
 
@@ -80,7 +79,8 @@ pub record Listed (kinds : ℕ → Option NewObject) (s : State) (x : ℕ) (r w 
   pub here : (priority : ℕ) → times_in (s.ready priority) x ≡ r priority
   pub there : (queue : ℕ) → times_in (waiting_at (s.objects queue)) x ≡ w queue
   pub one_sided : (offset : ℕ) (e : EndpointState) → s.objects offset ≡ Some (EndpointObject e) → (e.senders ≡ []) ⊎ (e.receivers ≡ [])
-  pub deliveries : DeliveriesAreSound s
+  pub senders : (offset : ℕ) (e : EndpointState) → s.objects offset ≡ Some (EndpointObject e) → All SenderIsSound e.senders
+  pub words : (offset : ℕ) (n : NotificationState) → s.objects offset ≡ Some (NotificationObject n) → n.word < 2 ^ 28
 
 -- Objects and lists that differ from those of a state as far as one thread is concerned.
 pub record Relists (s : State) (x : ℕ) (objects : ℕ → Option Object) (ready : ℕ → List ℕ) (r w : ℕ → ℕ) : Type 0 where
@@ -106,7 +106,8 @@ relisted kinds s x r w objects ready after there listed change = record {
   here = change.here;
   there = change.there;
   one_sided = change.one_sided;
-  deliveries = record { senders = change.senders; words = change.words };
+  senders = change.senders;
+  words = change.words;
 }
 
 -- ---- rights to reply
@@ -137,54 +138,55 @@ pub record Moving (kinds : ℕ → Option NewObject) (s : State) (x : ℕ) (r w 
   pub listed : Listed kinds s x r w
   pub rights : Rights s x awaits
 
-pub begins : (s : State) (x : ℕ) → IsWhole s
+pub begins : (s : State) (x : ℕ) → IsSound s
     → Moving (kind_at s) s x (runs_of (s.objects x)) (waits_of (s.objects x)) (awaits_answer (thread_at s x).status)
 begins s x whole = record {
   listed = record {
     kind = λ _. refl;
-    rest = rest-of s whole.sound;
-    threads = whole.sound.threads.threads;
-    ready = λ thread priority _. whole.sound.threads.ready thread priority;
-    queued = λ thread queue _. whole.sound.threads.queued thread queue;
-    here = λ priority. whole.sound.threads.ready x priority;
-    there = λ queue. whole.sound.threads.queued x queue;
-    one_sided = whole.sound.threads.one_sided;
-    deliveries = whole.deliveries;
+    rest = rest-of s whole;
+    threads = whole.threads.threads;
+    ready = λ thread priority _. whole.threads.ready thread priority;
+    queued = λ thread queue _. whole.threads.queued thread queue;
+    here = λ priority. whole.threads.ready x priority;
+    there = λ queue. whole.threads.queued x queue;
+    one_sided = whole.threads.one_sided;
+    senders = whole.threads.senders;
+    words = whole.threads.words;
   };
   rights = record {
-    callers = λ thread caller _. whole.sound.threads.callers thread caller;
-    answer = λ thread. whole.sound.threads.callers thread x;
-    one_right = whole.sound.threads.one_right;
+    callers = λ thread caller _. whole.threads.callers thread caller;
+    answer = λ thread. whole.threads.callers thread x;
+    one_right = whole.threads.one_right;
   };
 }
 
 pub ends : (kinds : ℕ → Option NewObject) (s : State) (x : ℕ) (r w : ℕ → ℕ) (awaits : Bool) → Moving kinds s x r w awaits
     → ((priority : ℕ) → r priority ≡ runs_of (s.objects x) priority) → ((queue : ℕ) → w queue ≡ waits_of (s.objects x) queue)
-    → (IsTrue awaits → IsTrue (awaits_answer (thread_at s x).status)) → IsWhole s
-ends kinds s x r w awaits moving runs waits answers = record {
-  sound = sound-of s moving.listed.rest (record {
-    threads = moving.listed.threads;
-    ready = λ thread priority. elim (eqb_tells thread x) [
-      | inl here ↦
-          ap (times_in (s.ready priority)) here.1 ∙ moving.listed.here priority ∙ runs priority ∙ ap (λ (y : ℕ). runs_of (s.objects y) priority) (sym here.1)
-      | inr other ↦ moving.listed.ready thread priority other.1
-    ];
-    queued = λ thread queue. elim (eqb_tells thread x) [
-      | inl here ↦
-          ap (times_in (waiting_at (s.objects queue))) here.1 ∙ moving.listed.there queue ∙ waits queue ∙ ap (λ (y : ℕ). waits_of (s.objects y) queue) (sym here.1)
-      | inr other ↦ moving.listed.queued thread queue other.1
-    ];
-    one_sided = moving.listed.one_sided;
-    callers = λ thread caller is. elim (eqb_tells caller x) [
-      | inl here ↦
-          ap (λ (y : ℕ). awaits_answer (thread_at s y).status) here.1
-          ∙ answers (moving.rights.answer thread (is ∙ ap (λ (y : ℕ). Some y) here.1))
-      | inr other ↦ moving.rights.callers thread caller other.1 is
-    ];
-    one_right = moving.rights.one_right;
-  });
-  deliveries = moving.listed.deliveries;
-}
+    → (IsTrue awaits → IsTrue (awaits_answer (thread_at s x).status)) → IsSound s
+ends kinds s x r w awaits moving runs waits answers =
+    sound-of s moving.listed.rest (record {
+      threads = moving.listed.threads;
+      ready = λ thread priority. elim (eqb_tells thread x) [
+        | inl here ↦
+            ap (times_in (s.ready priority)) here.1 ∙ moving.listed.here priority ∙ runs priority ∙ ap (λ (y : ℕ). runs_of (s.objects y) priority) (sym here.1)
+        | inr other ↦ moving.listed.ready thread priority other.1
+      ];
+      queued = λ thread queue. elim (eqb_tells thread x) [
+        | inl here ↦
+            ap (times_in (waiting_at (s.objects queue))) here.1 ∙ moving.listed.there queue ∙ waits queue ∙ ap (λ (y : ℕ). waits_of (s.objects y) queue) (sym here.1)
+        | inr other ↦ moving.listed.queued thread queue other.1
+      ];
+      one_sided = moving.listed.one_sided;
+      senders = moving.listed.senders;
+      words = moving.listed.words;
+      callers = λ thread caller is. elim (eqb_tells caller x) [
+        | inl here ↦
+            ap (λ (y : ℕ). awaits_answer (thread_at s y).status) here.1
+            ∙ answers (moving.rights.answer thread (is ∙ ap (λ (y : ℕ). Some y) here.1))
+        | inr other ↦ moving.rights.callers thread caller other.1 is
+      ];
+      one_right = moving.rights.one_right;
+    })
 
 -- ---- a thread's own state
 
@@ -227,9 +229,9 @@ module _ (kinds : ℕ → Option NewObject) (s : State) (x : ℕ) (r w : ℕ →
         one_sided = put-either s.objects y (Some (ThreadObject t)) (λ offset o. (e : EndpointState) → o ≡ Some (EndpointObject e) → (e.senders ≡ []) ⊎ (e.receivers ≡ []))
             (λ e is. let f : Some (ThreadObject t) ≡ Some (EndpointObject e) = is in absurd cc) (λ offset _. listed.one_sided offset);
         senders = put-either s.objects y (Some (ThreadObject t)) (λ offset o. (e : EndpointState) → o ≡ Some (EndpointObject e) → All SenderIsSound e.senders)
-            (λ e is. let f : Some (ThreadObject t) ≡ Some (EndpointObject e) = is in absurd cc) (λ offset _. listed.deliveries.senders offset);
+            (λ e is. let f : Some (ThreadObject t) ≡ Some (EndpointObject e) = is in absurd cc) (λ offset _. listed.senders offset);
         words = put-either s.objects y (Some (ThreadObject t)) (λ offset o. (n : NotificationState) → o ≡ Some (NotificationObject n) → n.word < 2 ^ 28)
-            (λ n is. let f : Some (ThreadObject t) ≡ Some (NotificationObject n) = is in absurd cc) (λ offset _. listed.deliveries.words offset);
+            (λ n is. let f : Some (ThreadObject t) ≡ Some (NotificationObject n) = is in absurd cc) (λ offset _. listed.words offset);
       })
 
   rewritten-rights : (awaits : Bool) → Rights s x awaits → ((caller : ℕ) → t.caller ≡ Some caller → (thread_at s y).caller ≡ Some caller)
@@ -263,8 +265,8 @@ unreadied kinds s x r w awaits moving = record {
     here = λ priority. times-gone x (s.ready priority);
     there = moving.listed.there;
     one_sided = moving.listed.one_sided;
-    senders = moving.listed.deliveries.senders;
-    words = moving.listed.deliveries.words;
+    senders = moving.listed.senders;
+    words = moving.listed.words;
   });
   rights = rights-kept s (unready s x) x awaits moving.rights (λ _ _ is. is) (λ _ _. refl);
 }
@@ -287,8 +289,8 @@ tailed kinds s x w awaits moving =
             (λ p other. moving.listed.here p ∙ sym (ap (λ (b : Bool). if b then 1 else 0) (ne_eqb tail p (λ e. other (sym e)))));
         there = moving.listed.there;
         one_sided = moving.listed.one_sided;
-        senders = moving.listed.deliveries.senders;
-        words = moving.listed.deliveries.words;
+        senders = moving.listed.senders;
+        words = moving.listed.words;
       });
       rights = rights-kept s (at_tail s x) x awaits moving.rights (λ _ _ is. is) (λ _ _. refl);
     }

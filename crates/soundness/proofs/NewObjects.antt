@@ -17,21 +17,21 @@ use Rattle.model.specs.declared.capabilities.TableMapping.{TableMapping}
 use Rattle.model.specs.Capabilities.CapabilityKinds.{frame_mapping, table_mapping}
 use Rattle.model.specs.Kernel.AddressSpaces.{is_page, is_region, is_region_taken, maps_region, region_pages}
 use Rattle.model.specs.Shared.Lists.{times_in}
-use Rattle.soundness.specs.Deliveries.{DeliveriesAreSound, IsWhole, SenderIsSound}
 use Rattle.soundness.proofs.Carried.{full-near, full-unless, held-at, held-by, some-passes}
 use Rattle.soundness.proofs.Moving.{StandsAs, own_of, stands-same}
 use Rattle.model.specs.declared.slot_entries.Entry.{Entry}
 use Rattle.model.specs.Capabilities.Slots.{Descendant, child, deeper, IsDerivation, IsFull, IsOpen, Slots, capability_at, depth_of, depth_within, empty_entry, is_empty, is_full, is_within, parent_at, recapped}
-use Rattle.model.specs.Kernel.Kinds.{AreApart, IsInside, Names, Piece, frame_around, kind_at, kind_of, object_named, piece_of, piece_of_object, used_of}
+use Rattle.model.specs.Kernel.Kinds.{AreApart, Names, Piece, frame_around, kind_at, kind_of, object_named, piece_of, used_of}
 use Rattle.model.specs.Kernel.Removal.{slot_count}
 use Rattle.model.specs.Kernel.Retype.{NewObject, NewUntyped, NewThread, NewEndpoint, NewNotification, NewCNode, NewFrame, NewPageTable, NewRootTable, NewObjects, first_capability, is_frame, is_large_enough, is_small_enough, object, object_bits, place_of_new, some_new, with_first_capabilities, with_new, with_new_bytes, with_new_objects, with_new_slots}
-use Rattle.model.specs.Kernel.Soundness.{HasShape, HasSlot, of_boot_area, of_object, IsSound, MappingsAreSound, MemoryIsSound, SlotsAreSound, ThreadIsSound, ThreadsAreSound, waiting_at, Lies, apart, same, within, around}
+use Rattle.model.specs.Kernel.Soundness.{HasShape, HasSlot, of_boot_area, of_object, IsSound, MappingsAreSound, MemoryIsSound, SlotsAreSound, ThreadIsSound, ThreadsAreSound, waiting_at, Lies, apart, same, within, around, SenderIsSound}
 use Rattle.model.specs.Kernel.State.{State, Object, ThreadObject, EndpointObject, NotificationObject, EndpointState, NotificationState, ThreadState, boot_area_end, slot_of, with_slots}
 use Rattle.soundness.proofs.NewKinds.{born, first-fresh, first-named, first-piece, first-table, first-valid, frame-kind, named-first, new-fine, new-kind, new-slots, new_piece}
 use Rattle.soundness.proofs.NewPlaces.{IsLaid, next-within, place-some, some-place}
-use Rattle.soundness.proofs.Pieces.{named-piece, named-unused, slots-fit, slots_of_kind}
+use Rattle.soundness.proofs.Pieces.{slots-fit, slots_of_kind}
 use Rattle.soundness.proofs.Places.{IsPlain, MayHold, StandsIn, full-may_hold, plain-may_hold, plain-open, slot-stands, stands-slot}
 use Rattle.soundness.proofs.Rest.{thread-kind}
+use Rattle.soundness.proofs.UnusedMemory.{Against, lies-against, object-elsewhere, unused-inside}
 
 -- What is known before new objects come: where the untyped memory is, where the objects are to stand, and that their capabilities
 -- have room in slots of a CNode.
@@ -108,38 +108,17 @@ module _ (s : State) (sound : IsSound s) (slot offset bits watermark : ℕ) (kin
       let ends = known.laid.ends in
       (omega (arith, low), omega (arith, next, ends), known.laid.fits)
 
-  pub slot-inside : (boot_area_end s.boot_radix ≤ offset) × (offset + 2 ^ bits ≤ 2 ^ s.memory_bits)
-  slot-inside = sound.memory.inside slot whole_piece (ap piece_of known.memory)
-
   -- ---- what lies against the memory
 
-  abbrev Against : ℕ → Piece → Type 0
-  Against y p = ((p.first + p.size ≤ offset + watermark) ⊎ (offset + 2 ^ bits ≤ p.first))
-      ⊎ ((used : Piece) × (used_of (capability_at s.slots y) ≡ Some used) × IsInside whole_piece used × Descendant s.slots y slot)
+  pub slot-inside : (boot_area_end s.boot_radix ≤ offset) × (offset + 2 ^ bits ≤ 2 ^ s.memory_bits)
+  slot-inside = unused-inside s sound slot offset bits watermark known.memory
 
-  against-by : (y : ℕ) (p : Piece) → Lies s.slots y slot p whole_piece → Against y p
-  against-by y p (apart is) = elim is [ inl before ↦ inl (inl (omega (arith, before))) | inr behind ↦ inl (inr behind) ]
-  against-by y p (same k o one other) = let e : ◌≡◌ {A = Option (NewObject × ℕ)} None (Some (k, o)) = sym (ap object_named known.memory) ∙ other in absurd cc
-  against-by y p (within used is inside below) =
-      let e : Some (record { first = offset; size = watermark }) ≡ Some used = sym (ap used_of known.memory) ∙ is in
-      let same_part : record { first = offset; size = watermark } ≡ used = cc e in
-      let high : p.first + p.size ≤ offset + watermark = subst (λ (u : Piece). p.first + p.size ≤ u.first + u.size) (sym same_part) inside.1 in
-      inl (inl high)
-  against-by y p (around used is inside below) = inr (used, is, inside, below)
-
-  pub against : (y : ℕ) (p : Piece) → y ≢ slot → piece_of (capability_at s.slots y) ≡ Some p → Against y p
-  against y p other is = against-by y p (sound.memory.lies y slot p whole_piece other is (ap piece_of known.memory))
+  pub against : (y : ℕ) (p : Piece) → y ≢ slot → piece_of (capability_at s.slots y) ≡ Some p → Against s slot offset bits watermark y p
+  against = lies-against s sound slot offset bits watermark known.memory
 
   -- an object of before lies elsewhere
   pub object-apart : (o : ℕ) (k : NewObject) → kind_at s o ≡ Some k → (o + 2 ^ object_bits k ≤ offset + watermark) ⊎ (offset + 2 ^ bits ≤ o)
-  object-apart o k is =
-      let name = sound.memory.live o k is in
-      let other : name.0 ≢ slot = λ e.
-      (let clash : ◌≡◌ {A = Option (NewObject × ℕ)} None (Some (k, o)) = sym (ap object_named known.memory) ∙ ap (λ (y : ℕ). object_named (capability_at s.slots y)) (sym e) ∙ name.1 in cc) in
-      elim (against name.0 (piece_of_object (k, o)) other (named-piece (capability_at s.slots name.0) (k, o) name.1)) [
-        | inl far ↦ far
-        | inr near ↦ let clash : None ≡ Some near.0 = sym (named-unused (capability_at s.slots name.0) (k, o) name.1) ∙ near.1 in absurd cc
-      ]
+  object-apart = object-elsewhere s sound slot offset bits watermark known.memory
 
   no-object : (i : ℕ) (o : Option Object) → i < count → s.objects (place i) ≡ o → o ≡ None
   no-object i None less is = refl
@@ -857,20 +836,16 @@ module _ (s : State) (sound : IsSound s) (slot offset bits watermark : ℕ) (kin
     queued = λ thread queue. ap (λ (l : List ℕ). times_in l thread) (waiting-after queue) ∙ sound.threads.queued thread queue ∙ sym ((stands-after thread).waits queue);
     one_sided = objects-by (λ o after. (e : EndpointState) → after ≡ Some (EndpointObject e) → (e.senders ≡ []) ⊎ (e.receivers ≡ []))
         (λ i less e is. subst (λ (e : EndpointState). (e.senders ≡ []) ⊎ (e.receivers ≡ [])) ((born kind).endpoints e is) (inl refl)) (λ o _. sound.threads.one_sided o);
+    senders = objects-by (λ o after. (e : EndpointState) → after ≡ Some (EndpointObject e) → All SenderIsSound e.senders)
+        (λ i less e is. subst (λ (e : EndpointState). All SenderIsSound e.senders) ((born kind).endpoints e is) (All-nil SenderIsSound)) (λ o _. sound.threads.senders o);
+    words = objects-by (λ o after. (n : NotificationState) → after ≡ Some (NotificationObject n) → n.word < 2 ^ 28)
+        (λ i less n is. subst (λ (n : NotificationState). n.word < 2 ^ 28) ((born kind).notifications n is) (omega arith)) (λ o _. sound.threads.words o);
     callers = λ thread caller is. (stands-after caller).awaits ∙ sound.threads.callers thread caller (sym (caller-after thread) ∙ is);
     one_right = λ a b caller one other. sound.threads.one_right a b caller (sym (caller-after a) ∙ one) (sym (caller-after b) ∙ other);
   }
 
-  deliveries-after : DeliveriesAreSound s → DeliveriesAreSound state
-  deliveries-after deliveries = record {
-    senders = objects-by (λ o after. (e : EndpointState) → after ≡ Some (EndpointObject e) → All SenderIsSound e.senders)
-        (λ i less e is. subst (λ (e : EndpointState). All SenderIsSound e.senders) ((born kind).endpoints e is) (All-nil SenderIsSound)) (λ o _. deliveries.senders o);
-    words = objects-by (λ o after. (n : NotificationState) → after ≡ Some (NotificationObject n) → n.word < 2 ^ 28)
-        (λ i less n is. subst (λ (n : NotificationState). n.word < 2 ^ 28) ((born kind).notifications n is) (omega arith)) (λ o _. deliveries.words o);
-  }
-
-  pub retyped-whole : DeliveriesAreSound s → IsWhole (with_new (with_slots s (recapped s.slots slot (Untyped offset bits mark))) (record { kind = kind; first = first; count = count }) window slot)
-  retyped-whole deliveries =
+  pub retyped-whole : IsSound (with_new (with_slots s (recapped s.slots slot (Untyped offset bits mark))) (record { kind = kind; first = first; count = count }) window slot)
+  retyped-whole =
       let shape : HasShape state = record {
         least_bits = sound.shape.least_bits;
         most_bits = sound.shape.most_bits;
@@ -879,12 +854,9 @@ module _ (s : State) (sound : IsSound s) (slot offset bits watermark : ℕ) (kin
         room = sound.shape.room;
       } in
       record {
-        sound = record {
-          shape = shape;
-          slots = slots-after;
-          memory = memory-after;
-          mappings = mappings-after (λ x full. full-near state shape slots-after memory-after x full);
-          threads = threads-after;
-        };
-        deliveries = deliveries-after deliveries;
+        shape = shape;
+        slots = slots-after;
+        memory = memory-after;
+        mappings = mappings-after (λ x full. full-near state shape slots-after memory-after x full);
+        threads = threads-after;
       }

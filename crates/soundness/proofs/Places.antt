@@ -143,7 +143,7 @@ plain-no_thread s memory slot thread (of_cnode offset radix cnode low high) stan
     let clash : Some NewThread ≡ Some (NewCNode radix) = ap (λ (k : NewObject). Some k) (sym is) ∙ sym stands.is ∙ ap (kind_at s) e ∙ cnode in
     cc
 
-plain-no_line : (s : State) → MemoryIsSound s → (slot number : ℕ) → number < 64 → IsPlain s slot → slot ≡ binding_slot s number → ⊥
+pub plain-no_line : (s : State) → MemoryIsSound s → (slot number : ℕ) → number < 64 → IsPlain s slot → slot ≡ binding_slot s number → ⊥
 plain-no_line s memory slot number less (of_boot_cnode low) is = omega (arith, low, is)
 plain-no_line s memory slot number less (of_cnode offset radix cnode low high) is =
     let behind = behind-boot_area s memory offset slot (record { kind = NewCNode radix; is = cnode; low = low; high = high }) in omega (arith, behind, less, is)

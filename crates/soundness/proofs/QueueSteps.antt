@@ -8,10 +8,9 @@ use Rattle.std.proofs.lemmas.List.Elements.{All-push, All-tail}
 use Rattle.model.specs.Kernel.Kinds.{kind_at, kind_of}
 use Rattle.model.specs.Kernel.Retype.{NewObject, NewThread}
 use Rattle.model.specs.Kernel.Scheduling.{is_runnable}
-use Rattle.model.specs.Kernel.Soundness.{ThreadIsSound, awaits_answer, is_blocked_on, waiting_at}
+use Rattle.model.specs.Kernel.Soundness.{ThreadIsSound, awaits_answer, is_blocked_on, waiting_at, IsSound, SenderIsSound}
 use Rattle.model.specs.Kernel.State.{State, Status, Inactive, Runnable, Blocked, AwaitsReply, AwaitsHandler, Object, ThreadObject, EndpointObject, NotificationObject, CNodeObject, FrameObject, PageTableObject, RootTableObject, EndpointState, NotificationState, Sender, ThreadState, as_thread, new_thread, put, thread_at, with_endpoint, with_notification, with_object}
 use Rattle.model.specs.Shared.Lists.{times_in}
-use Rattle.soundness.specs.Deliveries.{IsWhole, SenderIsSound}
 use Rattle.soundness.specs.Running.{IsRunning}
 use Rattle.soundness.proofs.Moving.{Moving, Rights, StandsAs, begins, ends, own_of, put-either, put-here, relisted, rights-kept, runs_of, stands-none, stands-same, waits_of}
 use Rattle.soundness.proofs.Queues.{times-append, times-end_other, times-end_same, times-first_other, times-first_same}
@@ -29,7 +28,8 @@ listed-as kinds s x r w v a b moving same answer = record {
     here = moving.listed.here;
     there = λ queue. moving.listed.there queue ∙ same queue;
     one_sided = moving.listed.one_sided;
-    deliveries = moving.listed.deliveries;
+    senders = moving.listed.senders;
+    words = moving.listed.words;
   };
   rights = subst (Rights s x) answer moving.rights;
 }
@@ -72,9 +72,9 @@ replaced kinds s x q r w v awaits o moving replaces =
         one_sided = put-either s.objects q (Some o) (λ offset p. (e : EndpointState) → p ≡ Some (EndpointObject e) → (e.senders ≡ []) ⊎ (e.receivers ≡ []))
             replaces.one_sided (λ offset _. moving.listed.one_sided offset);
         senders = put-either s.objects q (Some o) (λ offset p. (e : EndpointState) → p ≡ Some (EndpointObject e) → All SenderIsSound e.senders)
-            replaces.senders (λ offset _. moving.listed.deliveries.senders offset);
+            replaces.senders (λ offset _. moving.listed.senders offset);
         words = put-either s.objects q (Some o) (λ offset p. (n : NotificationState) → p ≡ Some (NotificationObject n) → n.word < 2 ^ 28)
-            replaces.words (λ offset _. moving.listed.deliveries.words offset);
+            replaces.words (λ offset _. moving.listed.words offset);
       });
       rights = rights-kept s (with_object s q o) x awaits moving.rights
           (put-either s.objects q (Some o) (λ thread p. (caller : ℕ) → (own_of p).caller ≡ Some caller → (thread_at s thread).caller ≡ Some caller)
@@ -161,9 +161,9 @@ pub record WaitsAt (s : State) (q x : ℕ) : Type 0 where
   pub kind : kind_at s x ≡ Some NewThread
   pub status : (thread_at s x).status ≡ Blocked q
 
-pub waits-at : (s : State) → IsWhole s → (q x : ℕ) → 1 ≤ times_in (waiting_at (s.objects q)) x → WaitsAt s q x
+pub waits-at : (s : State) → IsSound s → (q x : ℕ) → 1 ≤ times_in (waiting_at (s.objects q)) x → WaitsAt s q x
 waits-at s whole q x stands =
-    let law = whole.sound.threads.queued x q in
+    let law = whole.threads.queued x q in
     let less : 1 ≤ waits_of (s.objects x) q = omega (arith, stands, law) in
     record {
       kind = waiting-thread (s.objects x) q less;
@@ -174,7 +174,7 @@ waits-at s whole q x stands =
 abbrev pub in_queue : Status → ℕ → ℕ
 in_queue status queue = if is_blocked_on queue status then 1 else 0
 
-pub standing : (s : State) (x : ℕ) (status : Status) → IsWhole s → (thread_at s x).status ≡ status
+pub standing : (s : State) (x : ℕ) (status : Status) → IsSound s → (thread_at s x).status ≡ status
     → Moving (kind_at s) s x (runs_of (s.objects x)) (in_queue status) (awaits_answer status)
 standing s x status whole is =
     listed-as (kind_at s) s x (runs_of (s.objects x)) (waits_of (s.objects x)) (in_queue status) (awaits_answer (thread_at s x).status) (awaits_answer status) (begins s x whole)
@@ -187,7 +187,7 @@ runnable-is (Blocked q) is = let e : false ≡ true = is in absurd cc
 runnable-is AwaitsReply is = let e : false ≡ true = is in absurd cc
 runnable-is AwaitsHandler is = let e : false ≡ true = is in absurd cc
 
-pub running : (s : State) (x : ℕ) → IsWhole s → IsRunning s x → Moving (kind_at s) s x (runs_of (s.objects x)) (λ _. 0) false
+pub running : (s : State) (x : ℕ) → IsSound s → IsRunning s x → Moving (kind_at s) s x (runs_of (s.objects x)) (λ _. 0) false
 running s x whole runs = standing s x Runnable whole (runnable-is (thread_at s x).status runs.runs)
 
 here-only : (q queue : ℕ) → queue ≢ q → ◌≡◌ {A = ℕ} (in_queue (Blocked q) queue) 0
@@ -205,7 +205,7 @@ sides-sender : (e : EndpointState) (x : Sender) (others : List Sender) → e.sen
     → e.receivers ≡ []
 sides-sender e x others is sides = elim sides [ inl none ↦ let clash : ◌≡◌ {A = List Sender} [] (x ∷ others) = sym none ∙ is in absurd cc | inr none ↦ none ]
 
-module _ (s : State) (whole : IsWhole s) (q : ℕ) where
+module _ (s : State) (whole : IsSound s) (q : ℕ) where
   -- the first that waits, of all that wait
   first-waits : (x : ℕ) (before others : List ℕ) → waiting_at (s.objects q) ≡ before ++ x ∷ others → WaitsAt s q x
   first-waits x before others is =
@@ -220,7 +220,7 @@ module _ (s : State) (whole : IsWhole s) (q : ℕ) where
       let split = times-append before (x ∷ others) x in
       let joined = times-append before others x in
       let one = times-first_same x others in
-      let law = whole.sound.threads.queued x q ∙ own-waits (s.objects x) q ∙ ap (λ (status : Status). in_queue status q) status ∙ here-once q in
+      let law = whole.threads.queued x q ∙ own-waits (s.objects x) q ∙ ap (λ (status : Status). in_queue status q) status ∙ here-once q in
       omega (arith, ap (λ (l : List ℕ). times_in l x) is, split, joined, one, law)
 
   then-others : (x : ℕ) (before others : List ℕ) (thread : ℕ) → thread ≢ x
@@ -244,7 +244,7 @@ module _ (s : State) (whole : IsWhole s) (q : ℕ) where
       (standing s x (Blocked q) whole waits.status) is
       (λ thread other. then-others x before others thread other ∙ sym (ap (λ (l : List ℕ). times_in (before ++ l) thread) first))
       (then-gone x before others (ap waiting_at is ∙ ap (λ (l : List ℕ). before ++ l) first) waits.status)
-      (here-only q) (inl (sides-first e x others first (whole.sound.threads.one_sided q e is))) (whole.deliveries.senders q e is)
+      (here-only q) (inl (sides-first e x others first (whole.threads.one_sided q e is))) (whole.threads.senders q e is)
 
   pub first-sender : (e : EndpointState) (x : Sender) (others : List Sender) → s.objects q ≡ Some (EndpointObject e)
       → e.senders ≡ x ∷ others → WaitsAt s q x.thread
@@ -261,8 +261,8 @@ module _ (s : State) (whole : IsWhole s) (q : ℕ) where
       (standing s x.thread (Blocked q) whole waits.status) is
       (λ thread other. then-others x.thread [] left thread other ∙ sym (ap (λ (l : List Sender). times_in (map (λ sender. sender.thread) l ++ e.receivers) thread) first))
       (then-gone x.thread [] left (ap waiting_at is ∙ ap (λ (l : List Sender). map (λ sender. sender.thread) l ++ e.receivers) first) waits.status)
-      (here-only q) (inr (sides-sender e x others first (whole.sound.threads.one_sided q e is)))
-      (All-tail SenderIsSound x others (subst (All SenderIsSound) first (whole.deliveries.senders q e is)))
+      (here-only q) (inr (sides-sender e x others first (whole.threads.one_sided q e is)))
+      (All-tail SenderIsSound x others (subst (All SenderIsSound) first (whole.threads.senders q e is)))
 
   pub first-waiter : (n : NotificationState) (x : ℕ) (others : List ℕ) → s.objects q ≡ Some (NotificationObject n) → n.waiters ≡ x ∷ others
       → WaitsAt s q x
@@ -276,7 +276,7 @@ module _ (s : State) (whole : IsWhole s) (q : ℕ) where
       (standing s x (Blocked q) whole waits.status) is
       (λ thread other. then-others x [] others thread other ∙ sym (ap (λ (l : List ℕ). times_in l thread) first))
       (then-gone x [] others (ap waiting_at is ∙ first) waits.status)
-      (here-only q) (whole.deliveries.words q n is)
+      (here-only q) (whole.threads.words q n is)
 
   -- ---- joining one
 
@@ -298,7 +298,7 @@ module _ (s : State) (whole : IsWhole s) (q : ℕ) where
       (let a = now x.thread in let b = times-end_same senders x.thread in let c = times-append senders e.receivers x.thread in let d = here-once q in
       let f = none-yet x.thread runs in let g = ap (λ (o : Option Object). times_in (waiting_at o) x.thread) is in omega (arith, a, b, c, d, f, g))
       (λ queue other. sym (here-only q queue other)) (inr none)
-      (All-push SenderIsSound e.senders x (whole.deliveries.senders q e is) sound)
+      (All-push SenderIsSound e.senders x (whole.threads.senders q e is) sound)
 
   pub with-receiver : (e : EndpointState) (x : ℕ) → s.objects q ≡ Some (EndpointObject e) → e.senders ≡ [] → IsRunning s x
       → Moving (kind_at s) (with_endpoint s q (record e { receivers = e.receivers ++ x ∷ [] })) x (runs_of (s.objects x)) (in_queue (Blocked q)) false
@@ -311,7 +311,7 @@ module _ (s : State) (whole : IsWhole s) (q : ℕ) where
       ∙ sym (times-append senders e.receivers thread))
       (let a = times-append senders (e.receivers ++ x ∷ []) x in let b = times-end_same e.receivers x in let c = times-append senders e.receivers x in let d = here-once q in
       let f = none-yet x runs in let g = ap (λ (o : Option Object). times_in (waiting_at o) x) is in omega (arith, a, b, c, d, f, g))
-      (λ queue other. sym (here-only q queue other)) (inl none) (whole.deliveries.senders q e is)
+      (λ queue other. sym (here-only q queue other)) (inl none) (whole.threads.senders q e is)
 
   pub with-waiter : (n : NotificationState) (x : ℕ) → s.objects q ≡ Some (NotificationObject n) → IsRunning s x
       → Moving (kind_at s) (with_notification s q (record n { waiters = n.waiters ++ x ∷ [] })) x (runs_of (s.objects x)) (in_queue (Blocked q)) false
@@ -320,15 +320,15 @@ module _ (s : State) (whole : IsWhole s) (q : ℕ) where
       (running s x whole runs) is
       (λ thread other. times-end_other n.waiters x thread other)
       (let b = times-end_same n.waiters x in let d = here-once q in let f = none-yet x runs in let g = ap (λ (o : Option Object). times_in (waiting_at o) x) is in omega (arith, b, d, f, g))
-      (λ queue other. sym (here-only q queue other)) (whole.deliveries.words q n is)
+      (λ queue other. sym (here-only q queue other)) (whole.threads.words q n is)
 
   -- another word
-  pub with-word : (n : NotificationState) (word : ℕ) → s.objects q ≡ Some (NotificationObject n) → word < 2 ^ 28 → IsWhole (with_notification s q (record n { word = word }))
+  pub with-word : (n : NotificationState) (word : ℕ) → s.objects q ≡ Some (NotificationObject n) → word < 2 ^ 28 → IsSound (with_notification s q (record n { word = word }))
   with-word n word is less =
       let o : Option Object = Some (NotificationObject (record n { word = word })) in
       let waits = waits_of (s.objects q) in
       let moving = notified (kind_at s) s q q (runs_of (s.objects q)) waits waits (awaits_answer (thread_at s q).status) n (record n { word = word }) (begins s q whole) is (λ _ _. refl)
-      (ap (λ (o : Option Object). times_in (waiting_at o) q) (sym is) ∙ whole.sound.threads.queued q q) (λ _ _. refl) less in
+      (ap (λ (o : Option Object). times_in (waiting_at o) q) (sym is) ∙ whole.threads.queued q q) (λ _ _. refl) less in
       let stands : StandsAs (put s.objects q o q) (s.objects q) = subst (λ (p : Option Object). StandsAs p (s.objects q)) (sym (put-here s.objects q o)) (stands-none o (s.objects q) refl (ap as_thread is)) in
       ends (kind_at s) (with_notification s q (record n { word = word })) q (runs_of (s.objects q)) waits (awaits_answer (thread_at s q).status) moving
       (λ p. sym (stands.runs p)) (λ queue. sym (stands.waits queue)) (λ a. stands.awaits ∙ a)

@@ -10,7 +10,7 @@ use Rattle.model.specs.declared.errors.KError.TheVariants.{DeleteFirst, FailedLo
 use Rattle.model.specs.declared.invocations.RetypeCall.{RetypeCall}
 use Rattle.model.specs.declared.invocations.SlotName.{SlotName}
 use Rattle.model.specs.declared.invocations.UntypedMemory.{UntypedMemory}
-use Rattle.model.specs.Capabilities.CapabilityKinds.{cnode_of}
+use Rattle.model.specs.Capabilities.CapabilityKinds.{cnode_of, Node}
 use Rattle.model.specs.Capabilities.CapabilityWords.{IsCapability}
 use Rattle.model.specs.Capabilities.Placement.{placement}
 use Rattle.model.specs.Capabilities.Slots.{Slots, capability_at, is_full, recapped}
@@ -19,7 +19,6 @@ use Rattle.model.specs.Kernel.Retype.{NewObjects, any_full, is_large_enough, is_
 use Rattle.model.specs.Kernel.Soundness.{IsSound}
 use Rattle.model.specs.Kernel.State.{State, slot_of, with_slots}
 use Rattle.soundness.specs.Calls.{IsRoot, of_slot}
-use Rattle.soundness.specs.Deliveries.{IsWhole}
 use Rattle.soundness.proofs.CNodeCalls.{room-below}
 use Rattle.soundness.proofs.Lookups.{check-passes, passes-both, root-plain, wanted-some}
 use Rattle.soundness.proofs.NewObjects.{Retypes, retyped-whole}
@@ -28,27 +27,27 @@ use Rattle.soundness.proofs.Places.{IsPlain}
 
 -- ---- the CNode that gets the capabilities
 
-cnode-plain : (s : State) → IsSound s → (c : Cap) (n : ℕ × ℕ) (index : ℕ) → IsRoot s c → cnode_of c ≡ Some n → index < 2 ^ n.1
-    → IsPlain s (n.0 / 16 + index)
-cnode-plain s sound Empty n index is_root is less = let e : ◌≡◌ {A = Option (ℕ × ℕ)} None (Some n) = is in absurd cc
-cnode-plain s sound (Untyped a b d) n index is_root is less = let e : ◌≡◌ {A = Option (ℕ × ℕ)} None (Some n) = is in absurd cc
-cnode-plain s sound (Endpoint a r b) n index is_root is less = let e : ◌≡◌ {A = Option (ℕ × ℕ)} None (Some n) = is in absurd cc
-cnode-plain s sound (Notification a r b) n index is_root is less = let e : ◌≡◌ {A = Option (ℕ × ℕ)} None (Some n) = is in absurd cc
+cnode-plain : (s : State) → IsSound s → (c : Cap) (n : Node) (index : ℕ) → IsRoot s c → cnode_of c ≡ Some n → index < 2 ^ n.radix
+    → IsPlain s (n.offset / 16 + index)
+cnode-plain s sound Empty n index is_root is less = let e : ◌≡◌ {A = Option Node} None (Some n) = is in absurd cc
+cnode-plain s sound (Untyped a b d) n index is_root is less = let e : ◌≡◌ {A = Option Node} None (Some n) = is in absurd cc
+cnode-plain s sound (Endpoint a r b) n index is_root is less = let e : ◌≡◌ {A = Option Node} None (Some n) = is in absurd cc
+cnode-plain s sound (Notification a r b) n index is_root is less = let e : ◌≡◌ {A = Option Node} None (Some n) = is in absurd cc
 cnode-plain s sound (CNode a r g) n index is_root is less =
-    let e : (a, r) ≡ n = cc is in
-    subst (λ (m : ℕ × ℕ). index < 2 ^ m.1 → IsPlain s (m.0 / 16 + index)) e (root-plain s sound.memory a r g index is_root) less
-cnode-plain s sound (Frame a r m) n index is_root is less = let e : ◌≡◌ {A = Option (ℕ × ℕ)} None (Some n) = is in absurd cc
-cnode-plain s sound (PageTable a m) n index is_root is less = let e : ◌≡◌ {A = Option (ℕ × ℕ)} None (Some n) = is in absurd cc
-cnode-plain s sound (Tcb a) n index is_root is less = let e : ◌≡◌ {A = Option (ℕ × ℕ)} None (Some n) = is in absurd cc
-cnode-plain s sound (RootTable a) n index is_root is less = let e : ◌≡◌ {A = Option (ℕ × ℕ)} None (Some n) = is in absurd cc
-cnode-plain s sound InterruptControl n index is_root is less = let e : ◌≡◌ {A = Option (ℕ × ℕ)} None (Some n) = is in absurd cc
-cnode-plain s sound (InterruptHandler a) n index is_root is less = let e : ◌≡◌ {A = Option (ℕ × ℕ)} None (Some n) = is in absurd cc
+    let e : ◌≡◌ {A = Node} (record { offset = a; radix = r }) n = cc is in
+    subst (λ (m : Node). index < 2 ^ m.radix → IsPlain s (m.offset / 16 + index)) e (root-plain s sound.memory a r g index is_root) less
+cnode-plain s sound (Frame a r m) n index is_root is less = let e : ◌≡◌ {A = Option Node} None (Some n) = is in absurd cc
+cnode-plain s sound (PageTable a m) n index is_root is less = let e : ◌≡◌ {A = Option Node} None (Some n) = is in absurd cc
+cnode-plain s sound (Tcb a) n index is_root is less = let e : ◌≡◌ {A = Option Node} None (Some n) = is in absurd cc
+cnode-plain s sound (RootTable a) n index is_root is less = let e : ◌≡◌ {A = Option Node} None (Some n) = is in absurd cc
+cnode-plain s sound InterruptControl n index is_root is less = let e : ◌≡◌ {A = Option Node} None (Some n) = is in absurd cc
+cnode-plain s sound (InterruptHandler a) n index is_root is less = let e : ◌≡◌ {A = Option Node} None (Some n) = is in absurd cc
 
-node-plain : (s : State) → IsSound s → (root : Cap) (name : SlotName) (n : ℕ × ℕ) → IsRoot s root → node s.slots root name ≡ Ok n
-    → (index : ℕ) → index < 2 ^ n.1 → IsPlain s (n.0 / 16 + index)
+node-plain : (s : State) → IsSound s → (root : Cap) (name : SlotName) (n : Node) → IsRoot s root → node s.slots root name ≡ Ok n
+    → (index : ℕ) → index < 2 ^ n.radix → IsPlain s (n.offset / 16 + index)
 node-plain s sound root name n is_root is index less =
     elim (name.depth == 0) as (λ b. (if b then wanted (cnode_of root) FailedLookup else (argument_slot s.slots root name >>= λ slot. wanted (cnode_of (capability_at s.slots slot)) FailedLookup)) ≡ Ok n
-    → IsPlain s (n.0 / 16 + index)) [
+    → IsPlain s (n.offset / 16 + index)) [
       | true ↦ λ so. cnode-plain s sound root n index is_root (wanted-some (cnode_of root) FailedLookup n so) less
       | false ↦ λ so.
           let one = passes-both (argument_slot s.slots root name) _ n so in
@@ -68,39 +67,38 @@ none-full slots first count j none less =
       | false ↦ λ _. refl
     ] refl
 
-pub retype-whole : (s t : State) (root : Cap) (slot : ℕ) (memory : UntypedMemory) (asked : RetypeCall) → IsWhole s → IsRoot s root
-    → capability_at s.slots slot ≡ Untyped memory.offset memory.bits memory.watermark → retype s root slot memory asked ≡ Ok t → IsWhole t
+pub retype-whole : (s t : State) (root : Cap) (slot : ℕ) (memory : UntypedMemory) (asked : RetypeCall) → IsSound s → IsRoot s root
+    → capability_at s.slots slot ≡ Untyped memory.offset memory.bits memory.watermark → retype s root slot memory asked ≡ Ok t → IsSound t
 unfolding retype
 retype-whole s t root slot memory asked whole is_root holds is =
-    let sound = whole.sound in
     let one = passes-both (wanted (type_of asked.kind asked.size) InvalidArgument) _ t is in
     let kind = one.value in
     let two = passes-both (check (is_large_enough kind) InvalidArgument) _ t one.rest in
     let three = passes-both (check (is_small_enough kind) RangeError) _ t two.rest in
     let four = passes-both (node s.slots root asked.node) _ t three.rest in
     let cnode = four.value in
-    let fits = nat_le 1 asked.count && nat_le asked.count 256 && nat_le (asked.index + asked.count) (2 ^ cnode.1) in
+    let fits = nat_le 1 asked.count && nat_le asked.count 256 && nat_le (asked.index + asked.count) (2 ^ cnode.radix) in
     let five = passes-both (check fits RangeError) _ t four.rest in
-    let window : ℕ = slot_of cnode.0 asked.index in
+    let window : ℕ = slot_of cnode.offset asked.index in
     let six = passes-both (check (not (any_full s.slots window asked.count)) DeleteFirst) _ t five.rest in
     let seven = passes-both (may_have_child s.slots slot) _ t six.rest in
     let eight = passes-both (wanted (placement memory.bits memory.watermark (object_bits kind) asked.count) NotEnoughMemory) _ t seven.rest in
     let place = eight.value in
-    let outer = and_parts (nat_le 1 asked.count && nat_le asked.count 256) (nat_le (asked.index + asked.count) (2 ^ cnode.1)) (check-passes fits RangeError five.value five.first) in
+    let outer = and_parts (nat_le 1 asked.count && nat_le asked.count 256) (nat_le (asked.index + asked.count) (2 ^ cnode.radix)) (check-passes fits RangeError five.value five.first) in
     let inner = and_parts (nat_le 1 asked.count) (nat_le asked.count 256) outer.0 in
     let some = leb-true 1 asked.count inner.0 in
-    let last = leb-true (asked.index + asked.count) (2 ^ cnode.1) outer.1 in
-    let valid : IsCapability (Untyped memory.offset memory.bits memory.watermark) = subst IsCapability holds (sound.slots.derivation.valid slot) in
+    let last = leb-true (asked.index + asked.count) (2 ^ cnode.radix) outer.1 in
+    let valid : IsCapability (Untyped memory.offset memory.bits memory.watermark) = subst IsCapability holds (whole.slots.derivation.valid slot) in
     let known : Retypes s slot memory.offset memory.bits memory.watermark kind (memory.offset + place.0) asked.count place.1 window = record {
       memory = holds;
       laid = laid memory.offset memory.bits memory.watermark (object_bits kind) asked.count place
           (wanted-some (placement memory.bits memory.watermark (object_bits kind) asked.count) NotEnoughMemory place eight.first) valid.0.0 some;
       large = check-passes (is_large_enough kind) InvalidArgument two.value two.first;
       small = check-passes (is_small_enough kind) RangeError three.value three.first;
-      plain = λ j less. subst (IsPlain s) (omega arith) (node-plain s sound root asked.node cnode is_root four.first (asked.index + j) (omega (arith, last, less)));
+      plain = λ j less. subst (IsPlain s) (omega arith) (node-plain s whole root asked.node cnode is_root four.first (asked.index + j) (omega (arith, last, less)));
       free = λ j less. none-full s.slots window asked.count j (not-true (any_full s.slots window asked.count) (check-passes (not (any_full s.slots window asked.count)) DeleteFirst six.value six.first)) less;
       room = room-below s slot seven.value seven.first;
     } in
     let new : NewObjects = record { kind = kind; first = memory.offset + place.0; count = asked.count } in
     let e : with_new (with_slots s (recapped s.slots slot (Untyped memory.offset memory.bits place.1))) new window slot ≡ t = cc eight.rest in
-    subst IsWhole e (retyped-whole s sound slot memory.offset memory.bits memory.watermark kind (memory.offset + place.0) asked.count place.1 window known whole.deliveries)
+    subst IsSound e (retyped-whole s whole slot memory.offset memory.bits memory.watermark kind (memory.offset + place.0) asked.count place.1 window known)

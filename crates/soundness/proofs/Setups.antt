@@ -22,9 +22,8 @@ use Rattle.model.specs.Kernel.Retype.{NewObject}
 use Rattle.model.specs.Kernel.Setup.{end_of_untyped, fill, is_frame_object, is_free_boot_slot, may_be_untyped, put_control, put_in_boot_slot, put_untyped, with_first_bytes}
 use Rattle.model.specs.Kernel.Soundness.{IsSound, MemoryIsSound, Lies, apart, same, within, around}
 use Rattle.model.specs.Kernel.State.{State, boot_area_end, holds_some, with_slots}
-use Rattle.soundness.specs.Deliveries.{IsWhole}
 use Rattle.soundness.proofs.Bytes.{bytes-whole}
-use Rattle.soundness.proofs.Carried.{CarriesMappings, full-near, full-unless, held-at, kept-by, mappings-carried, shape-carried, slots-carried, threads-carried, whole-kept}
+use Rattle.soundness.proofs.Carried.{CarriesMappings, full-near, full-unless, held-at, mappings-carried, shape-carried, slots-carried, threads-carried}
 use Rattle.soundness.proofs.Inserted.{empty-open}
 use Rattle.soundness.proofs.Places.{IsPlain, MayHold, of_boot_cnode, full-may_hold, plain-may_hold, plain-open}
 
@@ -180,24 +179,23 @@ free-empty s slot sound free =
 
 -- ---- interrupt control
 
-pub control-whole : (s t : State) (slot : ℕ) → IsWhole s → put_control s slot ≡ Some t → IsWhole t
+pub control-whole : (s t : State) (slot : ℕ) → IsSound s → put_control s slot ≡ Some t → IsSound t
 unfolding put_control
 control-whole s t slot whole is =
-    let sound = whole.sound in
     let parts = put-parts s slot InterruptControl t is in
     let free = IsFreeSlot.free parts in
-    whole-kept s t whole (kept-by s (inserted s.slots slot InterruptControl None) t (IsFreeSlot.is parts) (rooted-sound s slot InterruptControl sound (record {
-      empty = free-empty s slot sound free;
+    subst IsSound (IsFreeSlot.is parts) (rooted-sound s slot InterruptControl whole (record {
+      empty = free-empty s slot whole free;
       valid = tt;
       filled = refl;
       object = refl;
       frame = refl;
       table = refl;
       no_table = λ offset m e. let clash : InterruptControl ≡ PageTable offset m = e in cc;
-      may = plain-may_hold s sound.memory slot InterruptControl (free-plain s slot free).0;
+      may = plain-may_hold s whole.memory slot InterruptControl (free-plain s slot free).0;
       inside = λ p e. let clash : None ≡ Some p = e in absurd cc;
       alone = λ p q x e. let clash : None ≡ Some p = e in absurd cc;
-    })))
+    }))
 
 -- ---- untyped memory, while there are no objects
 
@@ -268,39 +266,38 @@ ends-before s offset x q sound none last is =
       | false ↦ λ less. let below = ltb-false offset (end_of_untyped c) less in omega (arith, below, end)
     ] refl
 
-untyped-whole : (s t : State) (slot offset bits : ℕ) → IsWhole s → ((o : ℕ) → s.objects o ≡ None) → may_be_untyped s offset bits ≡ true
-    → put_in_boot_slot s slot (Untyped offset bits 0) ≡ Some t → IsWhole t
+untyped-whole : (s t : State) (slot offset bits : ℕ) → IsSound s → ((o : ℕ) → s.objects o ≡ None) → may_be_untyped s offset bits ≡ true
+    → put_in_boot_slot s slot (Untyped offset bits 0) ≡ Some t → IsSound t
 untyped-whole s t slot offset bits whole none fits is =
-    let sound = whole.sound in
     let parts = put-parts s slot (Untyped offset bits 0) t is in
     let free = IsFreeSlot.free parts in
     let place = untyped-place s offset bits fits in
     let own : Piece = record { first = offset; size = 2 ^ bits } in
     let inside = IsUntypedPlace.inside place in
     let one = pow_pos bits in
-    let most : 2 ^ s.memory_bits ≤ 2 ^ 24 = pow_mono sound.shape.most_bits in
-    whole-kept s t whole (kept-by s (inserted s.slots slot (Untyped offset bits 0) None) t (IsFreeSlot.is parts) (rooted-sound s slot (Untyped offset bits 0) sound (record {
-      empty = free-empty s slot sound free;
+    let most : 2 ^ s.memory_bits ≤ 2 ^ 24 = pow_mono whole.shape.most_bits in
+    subst IsSound (IsFreeSlot.is parts) (rooted-sound s slot (Untyped offset bits 0) whole (record {
+      empty = free-empty s slot whole free;
       valid = ((IsUntypedPlace.aligned place, omega (arith, inside, one, most)), IsUntypedPlace.least place, IsUntypedPlace.most place, omega arith);
       filled = refl;
       object = refl;
       frame = refl;
       table = refl;
       no_table = λ o m e. let clash : Untyped offset bits 0 ≡ PageTable o m = e in cc;
-      may = plain-may_hold s sound.memory slot (Untyped offset bits 0) (free-plain s slot free).0;
+      may = plain-may_hold s whole.memory slot (Untyped offset bits 0) (free-plain s slot free).0;
       inside = λ p e.
           let f : own ≡ p = cc e in
           subst (λ (p : Piece). (boot_area_end s.boot_radix ≤ p.first) × (p.first + p.size ≤ 2 ^ s.memory_bits)) f (IsUntypedPlace.behind place, IsUntypedPlace.inside place);
       alone = λ p q x e other.
           let f : own ≡ p = cc e in
-          subst (λ (p : Piece). AreApart p q) f (inr (ends-before s offset x q sound none (IsUntypedPlace.last place) other));
-    })))
+          subst (λ (p : Piece). AreApart p q) f (inr (ends-before s offset x q whole none (IsUntypedPlace.last place) other));
+    }))
 
-pub put_untyped-whole : (s t : State) (slot offset bits : ℕ) → IsWhole s → ((o : ℕ) → s.objects o ≡ None)
-    → put_untyped s slot offset bits ≡ Some t → IsWhole t
+pub put_untyped-whole : (s t : State) (slot offset bits : ℕ) → IsSound s → ((o : ℕ) → s.objects o ≡ None)
+    → put_untyped s slot offset bits ≡ Some t → IsSound t
 unfolding put_untyped
 put_untyped-whole s t slot offset bits whole none is =
-    elim (may_be_untyped s offset bits) as (λ b. may_be_untyped s offset bits ≡ b → (if b then put_in_boot_slot s slot (Untyped offset bits 0) else None) ≡ Some t → IsWhole t) [
+    elim (may_be_untyped s offset bits) as (λ b. may_be_untyped s offset bits ≡ b → (if b then put_in_boot_slot s slot (Untyped offset bits 0) else None) ≡ Some t → IsSound t) [
       | true ↦ λ fits so. untyped-whole s t slot offset bits whole none fits so
       | false ↦ λ _ so. let e : None ≡ Some t = so in absurd cc
     ] refl is
@@ -324,17 +321,17 @@ list-small bytes index less = elim (cases_lt index (length bytes)) [
   | inr outside ↦ let e = get_or_past bytes index 0 outside in omega (arith, e)
 ]
 
-filled-whole : (s : State) (offset : ℕ) (bytes : List ℕ) → IsWhole s → All (λ byte. byte < 2 ^ 8) bytes → IsWhole (with_first_bytes s offset bytes)
+filled-whole : (s : State) (offset : ℕ) (bytes : List ℕ) → IsSound s → All (λ byte. byte < 2 ^ 8) bytes → IsSound (with_first_bytes s offset bytes)
 filled-whole s offset bytes whole small =
     bytes-whole s (λ place. if is_within offset (length bytes) place then option_map (λ _. slice_index bytes (place - offset)) (s.bytes place) else s.bytes place) whole
     (λ place. byte-there (is_within offset (length bytes) place) (slice_index bytes (place - offset)) (s.bytes place))
     (λ place byte is.
-    byte-small (is_within offset (length bytes) place) (slice_index bytes (place - offset)) byte (s.bytes place) (list-small bytes (place - offset) small) (whole.sound.memory.small place) is)
+    byte-small (is_within offset (length bytes) place) (slice_index bytes (place - offset)) byte (s.bytes place) (list-small bytes (place - offset) small) (whole.memory.small place) is)
 
-pub fill-whole : (s t : State) (offset : ℕ) (bytes : List ℕ) → IsWhole s → All (λ byte. byte < 2 ^ 8) bytes → fill s offset bytes ≡ Some t → IsWhole t
+pub fill-whole : (s t : State) (offset : ℕ) (bytes : List ℕ) → IsSound s → All (λ byte. byte < 2 ^ 8) bytes → fill s offset bytes ≡ Some t → IsSound t
 unfolding fill
 fill-whole s t offset bytes whole small is =
-    elim (is_frame_object (s.objects offset) && nat_le (length bytes) page_size) as (λ b. (if b then Some (with_first_bytes s offset bytes) else None) ≡ Some t → IsWhole t) [
-      | true ↦ λ so. let e : with_first_bytes s offset bytes ≡ t = cc so in subst IsWhole e (filled-whole s offset bytes whole small)
+    elim (is_frame_object (s.objects offset) && nat_le (length bytes) page_size) as (λ b. (if b then Some (with_first_bytes s offset bytes) else None) ≡ Some t → IsSound t) [
+      | true ↦ λ so. let e : with_first_bytes s offset bytes ≡ t = cc so in subst IsSound e (filled-whole s offset bytes whole small)
       | false ↦ λ so. let e : None ≡ Some t = so in absurd cc
     ] is

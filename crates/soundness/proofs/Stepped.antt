@@ -1,4 +1,4 @@
--- Every event keeps soundness, if removals and instructions do.
+-- Every event keeps soundness, if instructions do.
 use Rattle.std.proofs.Common.{ℕ, zero, suc, ◌≡◌, ◌^◌, ◌<◌, List, [], ◌∷◌, map, Option, Some, None, Result, Ok, Err, refl, ap, subst, arith}
 use Rattle.std.specs.Prelude.{All}
 use Rattle.std.specs.Int.{from_le_bytes}
@@ -26,9 +26,8 @@ use Rattle.model.specs.Kernel.Steps.{Done, after_effect, ran, registers_of, runs
 use Rattle.model.specs.Machine.Decoding.{decoded}
 use Rattle.model.specs.Machine.Effects.{access_number, cause_number, effect}
 use Rattle.model.specs.Machine.ProgramMemory.{Content, ◌>>=◌, loaded, named, next_address, place_at, places_from, width_of}
-use Rattle.soundness.specs.Deliveries.{IsWhole}
+use Rattle.model.specs.Kernel.Soundness.{IsSound}
 use Rattle.soundness.proofs.Instructions.{InstructionsKeep}
-use Rattle.soundness.specs.Removals.{RemovalsKeep}
 use Rattle.soundness.specs.Running.{IsRunning, RegistersAreSound}
 use Rattle.soundness.proofs.Bytes.{content-whole}
 use Rattle.soundness.proofs.Events.{fault-whole, raise-whole}
@@ -73,34 +72,34 @@ small-two : (a b : ℕ) → a < 2 ^ 32 → b < 2 ^ 32 → All (λ n. n < 2 ^ 32)
 small-two a b one other = let rest : List ℕ = b ∷ [] in All-cons (λ (n : ℕ). n < 2 ^ 32) a rest one (All-cons (λ (n : ℕ). n < 2 ^ 32) b [] other (All-nil (λ (n : ℕ). n < 2 ^ 32)))
 
 -- the bytes that a thread sees
-byte-less : (s : State) → IsWhole s → (place : ℕ) (o : Option ℕ) → s.bytes place ≡ o → option_map_or (λ byte. byte) o 0 < 2 ^ 8
+byte-less : (s : State) → IsSound s → (place : ℕ) (o : Option ℕ) → s.bytes place ≡ o → option_map_or (λ byte. byte) o 0 < 2 ^ 8
 byte-less s whole place None is = omega arith
-byte-less s whole place (Some byte) is = whole.sound.memory.small place byte is
+byte-less s whole place (Some byte) is = whole.memory.small place byte is
 
-module _ (removals : RemovalsKeep) (instructions : InstructionsKeep) (s : State) (thread : ℕ) (whole : IsWhole s) (running : IsRunning s thread) where
+module _ (instructions : InstructionsKeep) (s : State) (thread : ℕ) (whole : IsSound s) (running : IsRunning s thread) where
   registers : RegistersAreSound (registers_of s thread)
   registers = registers-of (thread_at s thread) (fine-of s whole thread running.kind)
 
-  memory-whole : (failed : MemoryFault) → failed.address < 2 ^ 32 → IsWhole (fault s thread (memory_fault (registers_of s thread).pc failed))
+  memory-whole : (failed : MemoryFault) → failed.address < 2 ^ 32 → IsSound (fault s thread (memory_fault (registers_of s thread).pc failed))
   memory-whole failed less =
       let pc = (registers_of s thread).pc in
       let rest : List ℕ = failed.address ∷ access_number failed.access ∷ [] in
       fault-whole s whole thread (memory_fault pc failed) running
       (All-cons (λ (n : ℕ). n < 2 ^ 32) pc rest registers.pc (small-two failed.address (access_number failed.access) less (access-less failed.access)), omega arith)
 
-  trap-whole : (cause : Cause) → IsWhole (fault s thread (instruction_fault (registers_of s thread).pc cause))
+  trap-whole : (cause : Cause) → IsSound (fault s thread (instruction_fault (registers_of s thread).pc cause))
   trap-whole cause =
       let pc = (registers_of s thread).pc in
       fault-whole s whole thread (instruction_fault pc cause) running (small-two pc (cause_number cause) registers.pc (cause-less cause), omega arith)
 
-  effect-whole : (exec : Exec) (after : Done) → ((address : ℕ) (access : Access) → exec ≡ Memory address access → address < 2 ^ 32) → IsWhole after.0
-      → IsWhole (after_effect s thread (registers_of s thread).pc (registers_of s thread) exec after).0
+  effect-whole : (exec : Exec) (after : Done) → ((address : ℕ) (access : Access) → exec ≡ Memory address access → address < 2 ^ 32) → IsSound after.0
+      → IsSound (after_effect s thread (registers_of s thread).pc (registers_of s thread) exec after).0
   effect-whole Next after addresses kept = kept
-  effect-whole Ecall after addresses kept = system_call-whole removals s thread whole running
+  effect-whole Ecall after addresses kept = system_call-whole s thread whole running
   effect-whole (Trap cause) after addresses kept = trap-whole cause
   effect-whole (Memory address access) after addresses kept = memory-whole (record { address = address; access = access }) (addresses address access refl)
 
-  decoded-whole : (word : ℕ) (o : Option Instr) → decoded word ≡ o → IsWhole (runs_decoded s thread o).0
+  decoded-whole : (word : ℕ) (o : Option Instr) → decoded word ≡ o → IsSound (runs_decoded s thread o).0
   decoded-whole word None is = trap-whole Illegal
   decoded-whole word (Some instruction) is =
       let r = registers_of s thread in
@@ -110,11 +109,11 @@ module _ (removals : RemovalsKeep) (instructions : InstructionsKeep) (s : State)
       (content-whole (with_registers s thread e.registers) e.content (registers-whole s whole thread running.kind e.registers sound.registers) sound.bytes)
 
   fetched-whole : (fetched : Result ℕ MemoryFault) → ((failed : MemoryFault) → fetched ≡ Err failed → failed.address < 2 ^ 32)
-      → IsWhole (runs_fetched s thread fetched).0
+      → IsSound (runs_fetched s thread fetched).0
   fetched-whole (Ok word) less = decoded-whole word (decoded word) refl
   fetched-whole (Err failed) less = memory-whole failed (less failed refl)
 
-  runs-whole : IsWhole (runs s thread).0
+  runs-whole : IsSound (runs s thread).0
   unfolding runs
   runs-whole =
       let pc = (registers_of s thread).pc in
@@ -123,18 +122,18 @@ module _ (removals : RemovalsKeep) (instructions : InstructionsKeep) (s : State)
       then-less (places_from content Fetch pc 4) _ failed (λ so. places-less content Fetch 4 pc failed registers.pc so)
       (λ places so. let e : ◌≡◌ {A = Result ℕ MemoryFault} (Ok (from_le_bytes (width_of Word) (map content.byte places))) (Err failed) = so in absurd cc) is)
 
-stepped-whole : RemovalsKeep → InstructionsKeep → (s : State) → IsWhole s → (o : Option ℕ) → current s ≡ o
-    → IsWhole (option_map_or (ran s) o (s, Idle)).0
-stepped-whole removals instructions s whole None is = whole
-stepped-whole removals instructions s whole (Some thread) is = runs-whole removals instructions s thread whole (current-runs s whole.sound.threads thread is)
+stepped-whole : InstructionsKeep → (s : State) → IsSound s → (o : Option ℕ) → current s ≡ o
+    → IsSound (option_map_or (ran s) o (s, Idle)).0
+stepped-whole instructions s whole None is = whole
+stepped-whole instructions s whole (Some thread) is = runs-whole instructions s thread whole (current-runs s whole.threads thread is)
 
-pub step-whole : RemovalsKeep → InstructionsKeep → (s : State) (event : Event) → IsWhole s → IsWhole (step s event).0
+pub step-whole : InstructionsKeep → (s : State) (event : Event) → IsSound s → IsSound (step s event).0
 unfolding step
-step-whole removals instructions s Step whole = stepped-whole removals instructions s whole (current s) refl
-step-whole removals instructions s Tick whole = tick-whole s whole
-step-whole removals instructions s (Irq irq_line) whole = raise-whole s whole irq_line
+step-whole instructions s Step whole = stepped-whole instructions s whole (current s) refl
+step-whole instructions s Tick whole = tick-whole s whole
+step-whole instructions s (Irq irq_line) whole = raise-whole s whole irq_line
 
-pub events-whole : RemovalsKeep → InstructionsKeep → (s : State) (events : List Event) → IsWhole s → IsWhole (state_after s events)
+pub events-whole : InstructionsKeep → (s : State) (events : List Event) → IsSound s → IsSound (state_after s events)
 unfolding state_after
-events-whole removals instructions s [] whole = whole
-events-whole removals instructions s (event ∷ events) whole = events-whole removals instructions (step s event).0 events (step-whole removals instructions s event whole)
+events-whole instructions s [] whole = whole
+events-whole instructions s (event ∷ events) whole = events-whole instructions (step s event).0 events (step-whole instructions s event whole)

@@ -7,10 +7,9 @@ use Rattle.std.proofs.lemmas.List.Elements.{All-filter}
 use Rattle.model.specs.Kernel.Kinds.{kind_of}
 use Rattle.model.specs.Kernel.Retype.{NewObject, NewThread}
 use Rattle.model.specs.Kernel.Scheduling.{block, forgetting, full_slice, is_runnable, leaves, to_tail, unready, wake}
-use Rattle.model.specs.Kernel.Soundness.{ThreadIsSound, awaits_answer, is_blocked_on, waiting_at}
+use Rattle.model.specs.Kernel.Soundness.{ThreadIsSound, awaits_answer, is_blocked_on, waiting_at, IsSound, SenderIsSound}
 use Rattle.model.specs.Kernel.State.{State, Status, Runnable, Object, ThreadObject, EndpointObject, NotificationObject, CNodeObject, FrameObject, PageTableObject, RootTableObject, EndpointState, NotificationState, Sender, ThreadState, put, thread_at, with_thread}
 use Rattle.model.specs.Shared.Lists.{times_in, without}
-use Rattle.soundness.specs.Deliveries.{IsWhole, SenderIsSound}
 use Rattle.soundness.proofs.Moving.{Listed, Moving, StandsAs, ends, own_of, put-here, relisted, rewritten, runs_of, tailed, unreadied, waits_of}
 use Rattle.soundness.proofs.Queues.{times-append, times-gone, times-kept}
 use Rattle.soundness.proofs.Rest.{thread-kind}
@@ -63,7 +62,7 @@ module _ (kinds : ℕ → Option NewObject) (s : State) (x : ℕ) (r w : ℕ →
 
   -- it runs: it goes to the tail of its priority
   pub tail-whole : (t : ThreadState) → ThreadIsSound t → t.caller ≡ (thread_at s x).caller → is_runnable t.status ≡ true → ((queue : ℕ) → w queue ≡ waits_of (Some (ThreadObject t)) queue)
-      → (IsTrue awaits → IsTrue (awaits_answer t.status)) → IsWhole (to_tail (with_thread s x t) x)
+      → (IsTrue awaits → IsTrue (awaits_answer t.status)) → IsSound (to_tail (with_thread s x t) x)
   tail-whole t fits caller runs waits answers =
       let one = rewritten kinds s x r w awaits x t moving is_thread fits (λ c e. sym caller ∙ e) (λ other. absurd (other refl)) in
       let s1 = with_thread s x t in
@@ -77,7 +76,7 @@ module _ (kinds : ℕ → Option NewObject) (s : State) (x : ℕ) (r w : ℕ →
 
   -- it does not run: it stands in no list, or in a queue that it was put into
   pub stopped-whole : (status : Status) → is_runnable status ≡ false → ((queue : ℕ) → ◌≡◌ {A = ℕ} (w queue) (if is_blocked_on queue status then 1 else 0))
-      → (IsTrue awaits → IsTrue (awaits_answer status)) → IsWhole (block s x status)
+      → (IsTrue awaits → IsTrue (awaits_answer status)) → IsSound (block s x status)
   stopped-whole status stops waits answers =
       let one = unreadied kinds s x r w awaits moving in
       let t : ThreadState = record (thread_at s x) { status = status } in
@@ -92,7 +91,7 @@ module _ (kinds : ℕ → Option NewObject) (s : State) (x : ℕ) (r w : ℕ →
   -- it changes beside where it stands
   pub rewritten-whole : (t : ThreadState) → ThreadIsSound t → ((caller : ℕ) → t.caller ≡ Some caller → (thread_at s x).caller ≡ Some caller)
       → ((priority : ℕ) → r priority ≡ runs_of (Some (ThreadObject t)) priority) → ((queue : ℕ) → w queue ≡ waits_of (Some (ThreadObject t)) queue)
-      → (IsTrue awaits → IsTrue (awaits_answer t.status)) → IsWhole (with_thread s x t)
+      → (IsTrue awaits → IsTrue (awaits_answer t.status)) → IsSound (with_thread s x t)
   rewritten-whole t fits had runs waits answers =
       let one = rewritten kinds s x r w awaits x t moving is_thread fits had (λ other. absurd (other refl)) in
       let here : Some (ThreadObject t) ≡ put s.objects x (Some (ThreadObject t)) x = sym (put-here s.objects x (Some (ThreadObject t))) in
@@ -103,7 +102,7 @@ module _ (kinds : ℕ → Option NewObject) (s : State) (x : ℕ) (r w : ℕ →
 
 -- a thread that stands in no queue wakes, if nobody holds a right for it
 pub woken-whole : (kinds : ℕ → Option NewObject) (s : State) (x : ℕ) (r : ℕ → ℕ) → Moving kinds s x r (λ _. 0) false
-    → kinds x ≡ Some NewThread → IsWhole (wake s x)
+    → kinds x ≡ Some NewThread → IsSound (wake s x)
 woken-whole kinds s x r moving is_thread =
     tail-whole kinds s x r (λ _. 0) false moving is_thread (record (thread_at s x) { status = Runnable; slice = full_slice })
     (woken-fine (thread_at s x) Runnable (own-fine kinds s x r (λ _. 0) x moving.listed is_thread)) refl refl (λ _. refl) (λ e. let f : false ≡ true = e in absurd cc)
@@ -276,9 +275,9 @@ left-moving kinds s x r w awaits moving = record {
     senders = λ offset e is.
         let was = was-endpoint x (s.objects offset) e is in
         subst (All SenderIsSound) (sym (WasEndpoint.senders was))
-        (All-filter (λ (sender : Sender). not (sender.thread == x)) SenderIsSound (WasEndpoint.before was).senders (moving.listed.deliveries.senders offset (WasEndpoint.before was) (WasEndpoint.was was)));
+        (All-filter (λ (sender : Sender). not (sender.thread == x)) SenderIsSound (WasEndpoint.before was).senders (moving.listed.senders offset (WasEndpoint.before was) (WasEndpoint.was was)));
     words = λ offset n is.
-        let was = was-notification x (s.objects offset) n is in subst (λ (word : ℕ). word < 2 ^ 28) (sym was.2) (moving.listed.deliveries.words offset was.0 was.1);
+        let was = was-notification x (s.objects offset) n is in subst (λ (word : ℕ). word < 2 ^ 28) (sym was.2) (moving.listed.words offset was.0 was.1);
   });
   rights = record {
     callers = λ thread caller other is.

@@ -1,4 +1,4 @@
--- Every system call of the thread that runs keeps soundness, if removals do.
+-- Every system call of the thread that runs keeps soundness.
 use Rattle.std.proofs.Common.{ℕ, zero, suc, ◌≡◌, ◌≢◌, ◌∙◌, ◌==◌, ◌||◌, ◌+◌, ◌-◌, ◌/◌, ◌%◌, ◌^◌, ◌<◌, ◌≤◌, Bool, true, false, not, is_some, nat_lt, if◌then◌else◌, List, [], ◌∷◌, Option, Some, None, option_map, Result, Ok, Err, refl, sym, ap, subst, arith}
 use Rattle.std.specs.Prelude.{All, bit_or}
 use Rattle.std.specs.Option.{option_map_or}
@@ -21,15 +21,13 @@ use Rattle.model.specs.Kernel.Kinds.{kind_at, kind_of, object_named}
 use Rattle.model.specs.Kernel.Messages.{Message, a0, a1, a7, deliver, deliver_word, extra_capabilities_of, info_word, message_of, passes, passes_with, replied, reply, resumption, signal, signals, with_caller, with_registers}
 use Rattle.model.specs.Kernel.Retype.{NewThread, NewEndpoint, NewNotification}
 use Rattle.model.specs.Kernel.Scheduling.{block, is_runnable, wake}
-use Rattle.model.specs.Kernel.Soundness.{awaits_answer}
+use Rattle.model.specs.Kernel.Soundness.{awaits_answer, IsSound}
 use Rattle.model.specs.Kernel.State.{State, Status, Inactive, Runnable, Blocked, AwaitsReply, AwaitsHandler, Object, ThreadObject, EndpointObject, NotificationObject, CNodeObject, FrameObject, PageTableObject, RootTableObject, BySend, ByCall, as_thread, cspace_slot, notification_at, thread_at, with_notification}
 use Rattle.model.specs.Kernel.Steps.{SystemCall, Sends, Receives, RepliesAndReceives, Replies, Yields, PutsCharacter, SendCall, Calling, Sending, Trying, ReceiveCall, Receiving, Polling, after_invocation, answered, call_of, calls, calls_known, completed, cspace_of, invokes, lacks_capability, named_slot, receive_by, receive_named, receive_on_endpoint, receive_on_notification, refused, registers_of, send_by, send_named, send_on, sender, sends_nothing, signal_on, system_call}
 use Rattle.model.specs.Machine.Effects.{advanced}
 use Rattle.model.specs.Machine.ProgramMemory.{RegisterFile, read, write}
 use Rattle.model.specs.Shared.Labels.{error_number}
 use Rattle.soundness.specs.Calls.{held, of_slot}
-use Rattle.soundness.specs.Deliveries.{IsWhole}
-use Rattle.soundness.specs.Removals.{RemovalsKeep}
 use Rattle.soundness.specs.Running.{IsRunning, RegistersAreSound}
 use Rattle.soundness.proofs.Delivered.{own-message, read-sound}
 use Rattle.soundness.proofs.Events.{fault-whole}
@@ -168,12 +166,12 @@ small-one a rest less more = All-cons (λ (n : ℕ). n < 2 ^ 32) a rest less mor
 
 -- ---- the thread that runs
 
-module _ (removals : RemovalsKeep) (s : State) (thread : ℕ) (whole : IsWhole s) (runs : IsRunning s thread) where
+module _ (s : State) (thread : ℕ) (whole : IsSound s) (runs : IsRunning s thread) where
   registers : RegistersAreSound (registers_of s thread)
   registers = registers-of (thread_at s thread) (fine-of s whole thread runs.kind)
 
   lacks-whole : (in_receive : ℕ) (failure : LookupFailure) → in_receive < 2 ^ 32 → bits_left_of failure ≤ 32
-      → IsWhole (lacks_capability s thread in_receive failure).0
+      → IsSound (lacks_capability s thread in_receive failure).0
   lacks-whole in_receive failure less few =
       let r = registers_of s thread in
       let four : List ℕ = bits_left_of failure ∷ [] in
@@ -186,19 +184,19 @@ module _ (removals : RemovalsKeep) (s : State) (thread : ℕ) (whole : IsWhole s
         omega arith,
       )
 
-  unknown-whole : (number : ℕ) → number < 2 ^ 32 → IsWhole (calls_known s thread number None).0
+  unknown-whole : (number : ℕ) → number < 2 ^ 32 → IsSound (calls_known s thread number None).0
   unknown-whole number less =
       let r = registers_of s thread in
       let one : List ℕ = number ∷ [] in
       fault-whole s whole thread (unknown_call r.pc number) runs (small-one r.pc one registers.pc (small-one number [] less (All-nil (λ (n : ℕ). n < 2 ^ 32))), omega arith)
 
-passes_with-whole : (s : State) (x : ℕ) (file : RegisterFile) → IsWhole s → kind_at s x ≡ Some NewThread → RegistersAreSound file
-    → IsWhole (passes_with s x file)
+passes_with-whole : (s : State) (x : ℕ) (file : RegisterFile) → IsSound s → kind_at s x ≡ Some NewThread → RegistersAreSound file
+    → IsSound (passes_with s x file)
 passes_with-whole s x file whole is sound =
     passes-whole (with_registers s x file) (registers-whole s whole x is file sound) x (thread-kinds s x (record (thread_at s x) { registers = file }) is x ∙ is)
 
-answered-whole : (s : State) (x : ℕ) (kind : SendCall) (number : ℕ) → IsWhole s → kind_at s x ≡ Some NewThread → number < 2 ^ 16
-    → IsWhole (answered s x kind number)
+answered-whole : (s : State) (x : ℕ) (kind : SendCall) (number : ℕ) → IsSound s → kind_at s x ≡ Some NewThread → number < 2 ^ 16
+    → IsSound (answered s x kind number)
 answered-whole s x Calling number whole is less =
     let r = registers_of s x in
     let sound = registers-of (thread_at s x) (fine-of s whole x is) in
@@ -224,7 +222,7 @@ not-runnable : (s : State) (x y : ℕ) (status : Status) → is_runnable (thread
 not-runnable s x y status runs is stops same =
     let clash : true ≡ false = sym runs ∙ ap (λ (z : ℕ). is_runnable (thread_at s z).status) same ∙ ap is_runnable is ∙ stops in cc
 
-signaled-object : (s : State) (q badge thread : ℕ) (waiters : List ℕ) → IsWhole s → kind_at s q ≡ Some NewNotification → IsRunning s thread
+signaled-object : (s : State) (q badge thread : ℕ) (waiters : List ℕ) → IsSound s → kind_at s q ≡ Some NewNotification → IsRunning s thread
     → (notification_at s q).waiters ≡ waiters
     → (signals s q badge (notification_at s q) waiters).objects thread ≡ s.objects thread
 signaled-object s q badge thread [] whole is runs none =
@@ -265,75 +263,75 @@ runs-or-awaits AwaitsReply runs awaits = let e : false ≡ true = runs in cc
 runs-or-awaits AwaitsHandler runs awaits = let e : false ≡ true = runs in cc
 
 -- a thread that replies runs on
-reply-runs : (s : State) (thread : ℕ) (o : Option ℕ) → IsWhole s → IsRunning s thread → (thread_at s thread).caller ≡ o
+reply-runs : (s : State) (thread : ℕ) (o : Option ℕ) → IsSound s → IsRunning s thread → (thread_at s thread).caller ≡ o
     → IsRunning (option_map_or (λ caller. replied (with_caller s thread None) caller (thread_at s caller).status (message_of (thread_at s thread))) o s) thread
 reply-runs s thread None whole runs is = runs
 reply-runs s thread (Some caller) whole runs is =
     let one = with_caller s thread None in
     let other : thread ≢ caller = λ e.
-    (let awaits : awaits_answer (thread_at s thread).status ≡ true = ap (λ (z : ℕ). awaits_answer (thread_at s z).status) e ∙ whole.sound.threads.callers thread caller is in
+    (let awaits : awaits_answer (thread_at s thread).status ≡ true = ap (λ (z : ℕ). awaits_answer (thread_at s z).status) e ∙ whole.threads.callers thread caller is in
     runs-or-awaits (thread_at s thread).status runs.runs awaits) in
     running-object one (replied one caller (thread_at s caller).status (message_of (thread_at s thread))) thread
     (replied-object one caller thread (thread_at s caller).status (message_of (thread_at s thread)) other) (dropped-runs s thread whole runs.kind runs.runs)
 
 -- ---- Call, Send and NBSend
 
-completed-whole : (s : State) (thread : ℕ) (kind : SendCall) → IsWhole s → IsWhole (completed s thread kind)
+completed-whole : (s : State) (thread : ℕ) (kind : SendCall) → IsSound s → IsSound (completed s thread kind)
 completed-whole s thread kind whole =
     elim (is_some (as_thread (s.objects thread))) as (λ b. is_some (as_thread (s.objects thread)) ≡ b
-    → IsWhole (if b then (if is_runnable (thread_at s thread).status then answered s thread kind 0 else passes s thread) else s)) [
+    → IsSound (if b then (if is_runnable (thread_at s thread).status then answered s thread kind 0 else passes s thread) else s)) [
       | true ↦ λ is.
           let is_thread = some-thread (s.objects thread) is in
-          elim (is_runnable (thread_at s thread).status) as (λ b. IsWhole (if b then answered s thread kind 0 else passes s thread)) [
+          elim (is_runnable (thread_at s thread).status) as (λ b. IsSound (if b then answered s thread kind 0 else passes s thread)) [
             | true ↦ answered-whole s thread kind 0 whole is_thread (omega arith)
             | false ↦ passes-whole s whole thread is_thread
           ]
       | false ↦ λ _. whole
     ] refl
 
-module _ (removals : RemovalsKeep) (s : State) (thread : ℕ) (whole : IsWhole s) (runs : IsRunning s thread) where
-  refused-whole : (kind : SendCall) (error : KError) → IsWhole (refused s thread kind error).0
+module _ (s : State) (thread : ℕ) (whole : IsSound s) (runs : IsRunning s thread) where
+  refused-whole : (kind : SendCall) (error : KError) → IsSound (refused s thread kind error).0
   refused-whole kind error = answered-whole s thread kind (error_number error) whole runs.kind (error-less error)
 
-  after-whole : (kind : SendCall) (result : Result State KError) → ((after : State) → result ≡ Ok after → IsWhole after)
-      → IsWhole (after_invocation s thread kind result).0
+  after-whole : (kind : SendCall) (result : Result State KError) → ((after : State) → result ≡ Ok after → IsSound after)
+      → IsSound (after_invocation s thread kind result).0
   after-whole kind (Ok after) kept = completed-whole after thread kind (kept after refl)
   after-whole kind (Err error) kept = refused-whole kind error
 
   invokes-whole : (kind : SendCall) (slot : ℕ) (capability : Cap) → IsFull s.slots slot → capability_at s.slots slot ≡ capability
-      → IsWhole (invokes s thread kind slot capability).0
+      → IsSound (invokes s thread kind slot capability).0
   invokes-whole kind slot capability full is =
       let message = message_of (thread_at s thread) in
       let extra = extra_capabilities_of (read (registers_of s thread) a1) in
       let call : Call = record { root = cspace_of s thread; caller = Some thread; slot = slot; capability = capability } in
       let fine = own-message (thread_at s thread) (fine-of s whole thread runs.kind) in
       after-whole kind (invoke s call message.label extra message.words)
-      (λ after so. invoke-whole removals s after call message.label extra message.words whole (record { root = of_slot (cspace_slot thread) refl; invoked = held is full }) fine.words so)
+      (λ after so. invoke-whole s after call message.label extra message.words whole (record { root = of_slot (cspace_slot thread) refl; invoked = held is full }) fine.words so)
 
   sent_on-whole : (kind : SendCall) (endpoint badge : ℕ) (grant_reply : Bool) → kind_at s endpoint ≡ Some NewEndpoint → badge < 2 ^ 28
-      → IsWhole (send_on s thread kind endpoint badge grant_reply).0
+      → IsSound (send_on s thread kind endpoint badge grant_reply).0
   sent_on-whole Calling endpoint badge grant_reply is less = send-whole s endpoint (sender thread ByCall badge grant_reply) whole is runs (record { badge = less; sent = tt })
   sent_on-whole Sending endpoint badge grant_reply is less = send-whole s endpoint (sender thread BySend badge grant_reply) whole is runs (record { badge = less; sent = tt })
   sent_on-whole Trying endpoint badge grant_reply is less = try_to_send-whole s endpoint (sender thread BySend badge grant_reply) whole is runs (record { badge = less; sent = tt })
 
   signal_on-whole : (kind : SendCall) (q badge : ℕ) → kind_at s q ≡ Some NewNotification → badge < 2 ^ 28
-      → IsWhole (signal_on s thread kind q badge).0
+      → IsSound (signal_on s thread kind q badge).0
   signal_on-whole kind q badge is less =
       let object = signaled-object s q badge thread (notification_at s q).waiters whole is runs refl in
       answered-whole (signal s q badge) thread kind 0 (signal-whole s q whole is badge less) (running-object s (signal s q badge) thread object runs).kind (omega arith)
 
   sent_by-whole : (kind : SendCall) (slot : ℕ) (capability : Cap) → IsFull s.slots slot → capability_at s.slots slot ≡ capability
-      → IsWhole (send_by s thread kind slot capability).0
+      → IsSound (send_by s thread kind slot capability).0
   sent_by-whole kind slot (Endpoint offset r badge) full is =
-      let valid : IsCapability (Endpoint offset r badge) = subst IsCapability is (whole.sound.slots.derivation.valid slot) in
-      elim (may_write r) as (λ b. IsWhole (if b then send_on s thread kind offset badge (may_grant_reply r) else refused s thread kind InvalidCapability).0) [
-        | true ↦ sent_on-whole kind offset badge (may_grant_reply r) (whole.sound.memory.named slot NewEndpoint offset (ap object_named is)) valid.2
+      let valid : IsCapability (Endpoint offset r badge) = subst IsCapability is (whole.slots.derivation.valid slot) in
+      elim (may_write r) as (λ b. IsSound (if b then send_on s thread kind offset badge (may_grant_reply r) else refused s thread kind InvalidCapability).0) [
+        | true ↦ sent_on-whole kind offset badge (may_grant_reply r) (whole.memory.named slot NewEndpoint offset (ap object_named is)) valid.2
         | false ↦ refused-whole kind InvalidCapability
       ]
   sent_by-whole kind slot (Notification offset r badge) full is =
-      let valid : IsCapability (Notification offset r badge) = subst IsCapability is (whole.sound.slots.derivation.valid slot) in
-      elim (may_write r) as (λ b. IsWhole (if b then signal_on s thread kind offset badge else refused s thread kind InvalidCapability).0) [
-        | true ↦ signal_on-whole kind offset badge (whole.sound.memory.named slot NewNotification offset (ap object_named is)) valid.2
+      let valid : IsCapability (Notification offset r badge) = subst IsCapability is (whole.slots.derivation.valid slot) in
+      elim (may_write r) as (λ b. IsSound (if b then signal_on s thread kind offset badge else refused s thread kind InvalidCapability).0) [
+        | true ↦ signal_on-whole kind offset badge (whole.memory.named slot NewNotification offset (ap object_named is)) valid.2
         | false ↦ refused-whole kind InvalidCapability
       ]
   sent_by-whole kind slot Empty full is = invokes-whole kind slot Empty full is
@@ -346,39 +344,39 @@ module _ (removals : RemovalsKeep) (s : State) (thread : ℕ) (whole : IsWhole s
   sent_by-whole kind slot InterruptControl full is = invokes-whole kind slot InterruptControl full is
   sent_by-whole kind slot (InterruptHandler a) full is = invokes-whole kind slot (InterruptHandler a) full is
 
-  sends_nothing-whole : (kind : SendCall) (failure : LookupFailure) → bits_left_of failure ≤ 32 → IsWhole (sends_nothing s thread kind failure).0
-  sends_nothing-whole Calling failure few = lacks-whole removals s thread whole runs 0 failure (omega arith) few
-  sends_nothing-whole Sending failure few = lacks-whole removals s thread whole runs 0 failure (omega arith) few
+  sends_nothing-whole : (kind : SendCall) (failure : LookupFailure) → bits_left_of failure ≤ 32 → IsSound (sends_nothing s thread kind failure).0
+  sends_nothing-whole Calling failure few = lacks-whole s thread whole runs 0 failure (omega arith) few
+  sends_nothing-whole Sending failure few = lacks-whole s thread whole runs 0 failure (omega arith) few
   sends_nothing-whole Trying failure few = passes-whole s whole thread runs.kind
 
-  sent_named-whole : (kind : SendCall) (named : Result ℕ LookupFailure) → named_slot s thread ≡ named → IsWhole (send_named s thread kind named).0
+  sent_named-whole : (kind : SendCall) (named : Result ℕ LookupFailure) → named_slot s thread ≡ named → IsSound (send_named s thread kind named).0
   sent_named-whole kind (Ok slot) is = sent_by-whole kind slot (capability_at s.slots slot) (named-full s thread slot is) refl
   sent_named-whole kind (Err failure) is = sends_nothing-whole kind failure (named-left s thread failure is)
 
   -- ---- Recv and NBRecv
 
-  missing-whole : IsWhole (lacks_capability s thread 1 MissingCapability).0
-  missing-whole = lacks-whole removals s thread whole runs 1 MissingCapability (omega arith) (omega arith)
+  missing-whole : IsSound (lacks_capability s thread 1 MissingCapability).0
+  missing-whole = lacks-whole s thread whole runs 1 MissingCapability (omega arith) (omega arith)
 
   from_endpoint-whole : (kind : ReceiveCall) (endpoint : ℕ) → kind_at s endpoint ≡ Some NewEndpoint
-      → IsWhole (receive_on_endpoint s thread kind endpoint).0
+      → IsSound (receive_on_endpoint s thread kind endpoint).0
   from_endpoint-whole Receiving endpoint is = receive-whole s endpoint thread whole is runs
   from_endpoint-whole Polling endpoint is = try_to_receive-whole s endpoint thread whole is runs
 
-  from_notification-whole : (kind : ReceiveCall) (q : ℕ) → kind_at s q ≡ Some NewNotification → IsWhole (receive_on_notification s thread kind q).0
+  from_notification-whole : (kind : ReceiveCall) (q : ℕ) → kind_at s q ≡ Some NewNotification → IsSound (receive_on_notification s thread kind q).0
   from_notification-whole Receiving q is = wait-whole s q whole is thread runs
   from_notification-whole Polling q is = poll-whole s q whole is thread runs
 
   received_by-whole : (kind : ReceiveCall) (slot : ℕ) (capability : Cap) → capability_at s.slots slot ≡ capability
-      → IsWhole (receive_by s thread kind capability).0
+      → IsSound (receive_by s thread kind capability).0
   received_by-whole kind slot (Endpoint offset r badge) is =
-      elim (may_read r) as (λ b. IsWhole (if b then receive_on_endpoint s thread kind offset else lacks_capability s thread 1 MissingCapability).0) [
-        | true ↦ from_endpoint-whole kind offset (whole.sound.memory.named slot NewEndpoint offset (ap object_named is))
+      elim (may_read r) as (λ b. IsSound (if b then receive_on_endpoint s thread kind offset else lacks_capability s thread 1 MissingCapability).0) [
+        | true ↦ from_endpoint-whole kind offset (whole.memory.named slot NewEndpoint offset (ap object_named is))
         | false ↦ missing-whole
       ]
   received_by-whole kind slot (Notification offset r badge) is =
-      elim (may_read r) as (λ b. IsWhole (if b then receive_on_notification s thread kind offset else lacks_capability s thread 1 MissingCapability).0) [
-        | true ↦ from_notification-whole kind offset (whole.sound.memory.named slot NewNotification offset (ap object_named is))
+      elim (may_read r) as (λ b. IsSound (if b then receive_on_notification s thread kind offset else lacks_capability s thread 1 MissingCapability).0) [
+        | true ↦ from_notification-whole kind offset (whole.memory.named slot NewNotification offset (ap object_named is))
         | false ↦ missing-whole
       ]
   received_by-whole kind slot Empty is = missing-whole
@@ -392,37 +390,37 @@ module _ (removals : RemovalsKeep) (s : State) (thread : ℕ) (whole : IsWhole s
   received_by-whole kind slot (InterruptHandler a) is = missing-whole
 
   received_named-whole : (kind : ReceiveCall) (named : Result ℕ LookupFailure) → named_slot s thread ≡ named
-      → IsWhole (receive_named s thread kind named).0
+      → IsSound (receive_named s thread kind named).0
   received_named-whole kind (Ok slot) is = received_by-whole kind slot (capability_at s.slots slot) refl
-  received_named-whole kind (Err failure) is = lacks-whole removals s thread whole runs 1 failure (omega arith) (named-left s thread failure is)
+  received_named-whole kind (Err failure) is = lacks-whole s thread whole runs 1 failure (omega arith) (named-left s thread failure is)
 
 -- ---- all of them
 
-called-whole : (removals : RemovalsKeep) (s : State) (thread : ℕ) (call : SystemCall) → IsWhole s → IsRunning s thread
-    → IsWhole (calls s thread call).0
-called-whole removals s thread (Sends kind) whole runs = sent_named-whole removals s thread whole runs kind (named_slot s thread) refl
-called-whole removals s thread (Receives kind) whole runs = received_named-whole removals s thread whole runs kind (named_slot s thread) refl
-called-whole removals s thread RepliesAndReceives whole runs =
+called-whole : (s : State) (thread : ℕ) (call : SystemCall) → IsSound s → IsRunning s thread
+    → IsSound (calls s thread call).0
+called-whole s thread (Sends kind) whole runs = sent_named-whole s thread whole runs kind (named_slot s thread) refl
+called-whole s thread (Receives kind) whole runs = received_named-whole s thread whole runs kind (named_slot s thread) refl
+called-whole s thread RepliesAndReceives whole runs =
     let after = reply s thread in
-    received_named-whole removals after thread (reply-whole s thread whole runs.kind) (reply-runs s thread (thread_at s thread).caller whole runs refl) Receiving (named_slot after thread) refl
-called-whole removals s thread Replies whole runs =
+    received_named-whole after thread (reply-whole s thread whole runs.kind) (reply-runs s thread (thread_at s thread).caller whole runs refl) Receiving (named_slot after thread) refl
+called-whole s thread Replies whole runs =
     passes-whole (reply s thread) (reply-whole s thread whole runs.kind) thread (reply-runs s thread (thread_at s thread).caller whole runs refl).kind
-called-whole removals s thread Yields whole runs =
+called-whole s thread Yields whole runs =
     let r = advanced (thread_at s thread).registers in
     let after = passes s thread in
     yielded-whole after (passes-whole s whole thread runs.kind) thread
     (thread-kinds s thread (record (thread_at s thread) { registers = r }) runs.kind thread ∙ runs.kind)
     (ap (λ (o : Option Object). is_runnable (own_of o).status) (put-here s.objects thread (Some (ThreadObject (record (thread_at s thread) { registers = r })))) ∙ runs.runs)
-called-whole removals s thread PutsCharacter whole runs = passes-whole s whole thread runs.kind
+called-whole s thread PutsCharacter whole runs = passes-whole s whole thread runs.kind
 
-known-whole : (removals : RemovalsKeep) (s : State) (thread number : ℕ) (call : Option SystemCall) → IsWhole s → IsRunning s thread
-    → number < 2 ^ 32 → IsWhole (calls_known s thread number call).0
-known-whole removals s thread number (Some call) whole runs less = called-whole removals s thread call whole runs
-known-whole removals s thread number None whole runs less = unknown-whole removals s thread whole runs number less
+known-whole : (s : State) (thread number : ℕ) (call : Option SystemCall) → IsSound s → IsRunning s thread
+    → number < 2 ^ 32 → IsSound (calls_known s thread number call).0
+known-whole s thread number (Some call) whole runs less = called-whole s thread call whole runs
+known-whole s thread number None whole runs less = unknown-whole s thread whole runs number less
 
-pub system_call-whole : RemovalsKeep → (s : State) (thread : ℕ) → IsWhole s → IsRunning s thread → IsWhole (system_call s thread).0
+pub system_call-whole : (s : State) (thread : ℕ) → IsSound s → IsRunning s thread → IsSound (system_call s thread).0
 unfolding system_call
-system_call-whole removals s thread whole runs =
+system_call-whole s thread whole runs =
     let number = read (registers_of s thread) a7 in
-    known-whole removals s thread number (call_of number) whole runs
+    known-whole s thread number (call_of number) whole runs
     (read-sound (registers_of s thread) a7 (registers-of (thread_at s thread) (fine-of s whole thread runs.kind)))

@@ -8,12 +8,11 @@ use Rattle.model.specs.Kernel.Kinds.{kind_at}
 use Rattle.model.specs.Kernel.Messages.{passes, register, with_registers}
 use Rattle.model.specs.Kernel.Retype.{NewThread}
 use Rattle.model.specs.Kernel.Scheduling.{at_tail, current, full_slice, is_runnable, leaves, tick, ticked, unready, wake, yielded}
-use Rattle.model.specs.Kernel.Soundness.{ThreadIsSound, awaits_answer}
+use Rattle.model.specs.Kernel.Soundness.{ThreadIsSound, awaits_answer, IsSound}
 use Rattle.model.specs.Kernel.State.{State, Inactive, Object, ThreadObject, ThreadState, thread_at, with_thread}
 use Rattle.model.specs.Kernel.ThreadCalls.{is_caller, resume, set_priority, set_register, suspend, with_priority, with_register}
 use Rattle.model.specs.Machine.Effects.{advanced}
 use Rattle.model.specs.Machine.ProgramMemory.{RegisterFile, write}
-use Rattle.soundness.specs.Deliveries.{IsWhole}
 use Rattle.soundness.specs.Running.{RegistersAreSound}
 use Rattle.soundness.proofs.Lookups.{check-passes, passes-both}
 use Rattle.soundness.proofs.Moving.{Moving, begins, own_of, runs_of, stands-thread, waits_of}
@@ -22,15 +21,15 @@ use Rattle.soundness.proofs.Rest.{thread-kind}
 use Rattle.soundness.proofs.Running.{current-runs}
 use Rattle.soundness.proofs.Steps.{left-moving, own-fine, rewritten-whole, stopped-whole, tail-whole, woken-whole}
 
-module _ (s : State) (whole : IsWhole s) (x : ℕ) (is_thread : kind_at s x ≡ Some NewThread) where
+module _ (s : State) (whole : IsSound s) (x : ℕ) (is_thread : kind_at s x ≡ Some NewThread) where
   left : Moving (kind_at s) (leaves s x) x (λ _. 0) (λ _. 0) false
   left = left-moving (kind_at s) s x (runs_of (s.objects x)) (waits_of (s.objects x)) (awaits_answer (thread_at s x).status) (begins s x whole)
 
-  pub suspend-whole : IsWhole (suspend s x)
+  pub suspend-whole : IsSound (suspend s x)
   suspend-whole = stopped-whole (kind_at s) (leaves s x) x (λ _. 0) (λ _. 0) false left is_thread Inactive refl (λ _. refl) (λ e. e)
 
-  pub resume-whole : IsWhole (resume s x)
-  resume-whole = elim (is_runnable (thread_at s x).status) as (λ b. IsWhole (if b then s else wake (leaves s x) x)) [
+  pub resume-whole : IsSound (resume s x)
+  resume-whole = elim (is_runnable (thread_at s x).status) as (λ b. IsSound (if b then s else wake (leaves s x) x)) [
     | true ↦ whole
     | false ↦ woken-whole (kind_at s) (leaves s x) x (λ _. 0) left is_thread
   ]
@@ -47,7 +46,7 @@ module _ (s : State) (whole : IsWhole s) (x : ℕ) (is_thread : kind_at s x ≡ 
 
   -- the same status and the same priority
   pub same-whole : (t : ThreadState) → ThreadIsSound t → ((caller : ℕ) → t.caller ≡ Some caller → (thread_at s x).caller ≡ Some caller)
-      → t.status ≡ (thread_at s x).status → t.priority ≡ (thread_at s x).priority → IsWhole (with_thread s x t)
+      → t.status ≡ (thread_at s x).status → t.priority ≡ (thread_at s x).priority → IsSound (with_thread s x t)
   same-whole t fine had status priority =
       let stands = stands-thread t (thread_at s x) status priority in
       rewritten-whole (kind_at s) s x (runs_of (s.objects x)) (waits_of (s.objects x)) (awaits_answer (thread_at s x).status) (begins s x whole) is_thread t fine had
@@ -55,10 +54,10 @@ module _ (s : State) (whole : IsWhole s) (x : ℕ) (is_thread : kind_at s x ≡ 
       (λ q. ap (λ (o : Option Object). waits_of o q) own-object ∙ sym (stands.waits q))
       (λ a. stands.awaits ∙ a)
 
-  pub registers-whole : (r : RegisterFile) → RegistersAreSound r → IsWhole (with_registers s x r)
+  pub registers-whole : (r : RegisterFile) → RegistersAreSound r → IsSound (with_registers s x r)
   registers-whole r sound = same-whole (record (thread_at s x) { registers = r }) (with-registers (thread_at s x) r fine-of sound) (λ _ e. e) refl refl
 
-  pub passes-whole : IsWhole (passes s x)
+  pub passes-whole : IsSound (passes s x)
   passes-whole = registers-whole (advanced (thread_at s x).registers) (advanced-sound (thread_at s x).registers (registers-of (thread_at s x) fine-of))
 
   priority-fine : (priority : ℕ) → priority ≤ 255 → ThreadIsSound (record (thread_at s x) { priority = priority })
@@ -71,12 +70,12 @@ module _ (s : State) (whole : IsWhole s) (x : ℕ) (is_thread : kind_at s x ≡ 
     slice = fine-of.slice;
   }
 
-  priority-whole : (priority : ℕ) → priority ≤ 255 → IsWhole (with_priority s x priority)
+  priority-whole : (priority : ℕ) → priority ≤ 255 → IsSound (with_priority s x priority)
   priority-whole priority less =
       let t : ThreadState = record (thread_at s x) { priority = priority } in
       let waits = λ (q : ℕ). ap (λ (o : Option Object). waits_of o q) own-object in
       elim (is_runnable (thread_at s x).status) as (λ b. is_runnable (thread_at s x).status ≡ b
-      → IsWhole (if b then at_tail (with_thread (unready s x) x t) x else with_thread s x t)) [
+      → IsSound (if b then at_tail (with_thread (unready s x) x t) x else with_thread s x t)) [
         | true ↦ λ runs.
             tail-whole (kind_at s) s x (runs_of (s.objects x)) (waits_of (s.objects x)) (awaits_answer (thread_at s x).status) (begins s x whole) is_thread t
             (priority-fine priority less) refl runs waits (λ a. a)
@@ -88,28 +87,28 @@ module _ (s : State) (whole : IsWhole s) (x : ℕ) (is_thread : kind_at s x ≡ 
             waits (λ a. a)
       ] refl
 
-  pub set_priority-whole : (t : State) (priority : ℕ) → set_priority s x priority ≡ Ok t → IsWhole t
+  pub set_priority-whole : (t : State) (priority : ℕ) → set_priority s x priority ≡ Ok t → IsSound t
   set_priority-whole t priority is =
       let one = passes-both (check (nat_le priority 255) RangeError) _ t is in
       let e : with_priority s x priority ≡ t = cc one.rest in
-      subst IsWhole e (priority-whole priority (leb-true priority 255 (check-passes (nat_le priority 255) RangeError one.value one.first)))
+      subst IsSound e (priority-whole priority (leb-true priority 255 (check-passes (nat_le priority 255) RangeError one.value one.first)))
 
-  register-whole : (index value : ℕ) → value < 2 ^ 32 → IsWhole (with_register s x index value)
+  register-whole : (index value : ℕ) → value < 2 ^ 32 → IsSound (with_register s x index value)
   register-whole index value less =
       let r = (thread_at s x).registers in
       let sound = registers-of (thread_at s x) fine-of in
-      elim (index == 0) as (λ b. IsWhole (with_registers s x (if b then record r { pc = value } else write r (register index) value))) [
+      elim (index == 0) as (λ b. IsSound (with_registers s x (if b then record r { pc = value } else write r (register index) value))) [
         | true ↦ registers-whole (record r { pc = value }) (with-pc r value sound less)
         | false ↦ registers-whole (write r (register index) value) (written-sound r (register index) value sound less)
       ]
 
-  pub set_register-whole : (t : State) (caller : Option ℕ) (index value : ℕ) → value < 2 ^ 32 → set_register s caller x index value ≡ Ok t → IsWhole t
+  pub set_register-whole : (t : State) (caller : Option ℕ) (index value : ℕ) → value < 2 ^ 32 → set_register s caller x index value ≡ Ok t → IsSound t
   set_register-whole t caller index value less is =
       let one = passes-both (check (not (is_caller caller x)) IllegalOperation) _ t is in
       let two = passes-both (check (nat_le index 31) RangeError) _ t one.rest in
       let three = passes-both (check (not (index == 0) || value % 4 == 0) AlignmentError) _ t two.rest in
       let e : with_register s x index value ≡ t = cc three.rest in
-      subst IsWhole e (register-whole index value less)
+      subst IsSound e (register-whole index value less)
 
   -- ---- slices
 
@@ -123,26 +122,26 @@ module _ (s : State) (whole : IsWhole s) (x : ℕ) (is_thread : kind_at s x ≡ 
     slice = λ _. (least, most);
   }
 
-  pub yielded-whole : is_runnable (thread_at s x).status ≡ true → IsWhole (yielded s x)
+  pub yielded-whole : is_runnable (thread_at s x).status ≡ true → IsSound (yielded s x)
   yielded-whole runs =
       tail-whole (kind_at s) s x (runs_of (s.objects x)) (waits_of (s.objects x)) (awaits_answer (thread_at s x).status) (begins s x whole) is_thread
       (record (thread_at s x) { slice = full_slice }) (slice-fine full_slice (omega arith) (omega arith)) refl runs
       (λ q. ap (λ (o : Option Object). waits_of o q) own-object) (λ a. a)
 
-  ticked-whole : is_runnable (thread_at s x).status ≡ true → IsWhole (ticked s x)
+  ticked-whole : is_runnable (thread_at s x).status ≡ true → IsSound (ticked s x)
   ticked-whole runs =
       let slice = (thread_at s x).slice in
       let bounds = fine-of.slice runs in
-      elim (nat_le slice 1) as (λ b. nat_le slice 1 ≡ b → IsWhole (if b then yielded s x else with_thread s x (record (thread_at s x) { slice = slice - 1 }))) [
+      elim (nat_le slice 1) as (λ b. nat_le slice 1 ≡ b → IsSound (if b then yielded s x else with_thread s x (record (thread_at s x) { slice = slice - 1 }))) [
         | true ↦ λ _. yielded-whole runs
         | false ↦ λ more.
             let large = leb-false slice 1 more in
             same-whole (record (thread_at s x) { slice = slice - 1 }) (slice-fine (slice - 1) (omega (arith, large)) (omega (arith, bounds.1))) (λ _ e. e) refl refl
       ] refl
 
-tick-by : (s : State) → IsWhole s → (o : Option ℕ) → current s ≡ o → IsWhole (option_map_or (ticked s) o s)
+tick-by : (s : State) → IsSound s → (o : Option ℕ) → current s ≡ o → IsSound (option_map_or (ticked s) o s)
 tick-by s whole None is = whole
-tick-by s whole (Some x) is = let runs = current-runs s whole.sound.threads x is in ticked-whole s whole x runs.kind runs.runs
+tick-by s whole (Some x) is = let runs = current-runs s whole.threads x is in ticked-whole s whole x runs.kind runs.runs
 
-pub tick-whole : (s : State) → IsWhole s → IsWhole (tick s)
+pub tick-whole : (s : State) → IsSound s → IsSound (tick s)
 tick-whole s whole = tick-by s whole (current s) refl

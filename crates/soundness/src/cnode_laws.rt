@@ -4,11 +4,9 @@ ghost use Rattle.std.specs.Prelude.{ℕ, ◌≡◌, Ok};
 ghost use Rattle.model.specs.Kernel.Arguments.{Call};
 ghost use Rattle.model.specs.Kernel.CNodeCalls.{copy, mint, move as moved, mutate};
 ghost use Rattle.model.specs.Kernel.Soundness.{IsSound};
-ghost use Rattle.model.specs.Capabilities.Slots.{Slots};
-ghost use Rattle.model.specs.Kernel.State.{State, with_slots};
+ghost use Rattle.model.specs.Kernel.State.{State};
 ghost use Rattle.model.specs.declared.invocations.SlotName.{SlotName};
 ghost use Rattle.soundness.specs.Calls.{IsCall};
-ghost use Rattle.soundness.specs.Deliveries.{DeliveriesAreSound};
 
 /// A copy keeps soundness.
 pub fn copy_keeps_soundness()
@@ -32,9 +30,4 @@ pub fn move_keeps_soundness()
 pub fn mutate_keeps_soundness()
     ensures { (s t : State) (call : Call) (destination source : SlotName) (payload : ℕ)
         → IsSound s → IsCall s call → mutate s call destination source payload ≡ Ok t → IsSound t }
-{}
-
-/// What changes slots alone changes nothing of what waits to be delivered.
-pub fn slots_keep_deliveries()
-    ensures { (s : State) (slots : Slots) → DeliveriesAreSound s → DeliveriesAreSound (with_slots s slots) }
 {}

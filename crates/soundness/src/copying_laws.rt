@@ -1,25 +1,23 @@
 //! Calls that put copies into slots keep soundness.
 
-ghost use Rattle.std.specs.Prelude.{ℕ, ◌≡◌, ◌^◌, ◌<◌, false, Ok, Option, Some};
-ghost use Rattle.model.specs.Capabilities.Slots.{is_full};
+ghost use Rattle.std.specs.Prelude.{ℕ, ◌≡◌, ◌^◌, ◌<◌, Ok, Option, Some};
 ghost use Rattle.model.specs.Kernel.Arguments.{Call};
 ghost use Rattle.model.specs.Kernel.InterruptCalls.{bind, get_handler};
 ghost use Rattle.model.specs.Kernel.Kinds.{kind_at};
 ghost use Rattle.model.specs.Kernel.Retype.{NewThread};
 ghost use Rattle.model.specs.Kernel.Soundness.{IsSound};
-ghost use Rattle.model.specs.Kernel.State.{State, binding_slot};
+ghost use Rattle.model.specs.Kernel.State.{State};
 ghost use Rattle.model.specs.Kernel.ThreadCalls.{configure};
 ghost use Rattle.model.specs.declared.capabilities.Cap.{Cap};
 ghost use Rattle.model.specs.declared.capabilities.Cap.TheVariants.{InterruptControl};
 ghost use Rattle.model.specs.declared.invocations.SlotName.{SlotName};
 ghost use Rattle.soundness.specs.Calls.{IsCall, IsRoot};
-ghost use Rattle.soundness.specs.Deliveries.{IsWhole};
 
 /// Copies of a CNode's and a root table's capability come into a thread's slots.
 pub fn configure_keeps_soundness()
     ensures { (s t : State) (root : Cap) (thread : ℕ) (guard : Option ℕ) (fault_address : ℕ) (cspace vspace : SlotName)
-        → IsWhole s → IsRoot s root → kind_at s thread ≡ Some NewThread → fault_address < 2 ^ 32
-        → configure s root thread guard fault_address cspace vspace ≡ Ok t → IsWhole t }
+        → IsSound s → IsRoot s root → kind_at s thread ≡ Some NewThread → fault_address < 2 ^ 32
+        → configure s root thread guard fault_address cspace vspace ≡ Ok t → IsSound t }
 {}
 
 /// Interrupt control makes a handler.
@@ -28,8 +26,8 @@ pub fn get_handler_keeps_soundness()
         → get_handler s call line name ≡ Ok t → IsSound t }
 {}
 
-/// A line to which nothing was bound gets a copy of a notification's capability.
+/// A line gets a copy of a notification's capability, in place of what was bound to it.
 pub fn bind_keeps_soundness()
     ensures { (s t : State) (call : Call) (line : ℕ) (name : SlotName) → IsSound s → IsCall s call → line < 64
-        → is_full s.slots (binding_slot s line) ≡ false → bind s call line name ≡ Ok t → IsSound t }
+        → bind s call line name ≡ Ok t → IsSound t }
 {}

@@ -1,24 +1,27 @@
 //! Calls and events keep what is true of every state that the kernel reaches. Each law stands as the
-//! contract of a function that does nothing. Nothing else uses this crate.
+//! contract of a function that does nothing.
 #![tactic(auto)]
 
 mod cnode_laws;
 mod copying_laws;
+mod fresh_laws;
 mod invocation_laws;
 mod mapping_laws;
 mod message_laws;
+mod removal_laws;
 mod retype_laws;
 mod setup_laws;
 mod step_laws;
 mod thread_laws;
+mod unused_laws;
 
 pub use cnode_laws::{
     copy_keeps_soundness, mint_keeps_soundness, move_keeps_soundness, mutate_keeps_soundness,
-    slots_keep_deliveries,
 };
 pub use copying_laws::{
     bind_keeps_soundness, configure_keeps_soundness, get_handler_keeps_soundness,
 };
+pub use fresh_laws::a_fresh_machine_is_sound;
 pub use invocation_laws::invocations_keep_soundness;
 pub use mapping_laws::{frame_calls_keep_soundness, table_calls_keep_soundness};
 pub use message_laws::{
@@ -27,6 +30,7 @@ pub use message_laws::{
     signal_keeps_soundness, try_to_receive_keeps_soundness, try_to_send_keeps_soundness,
     wait_keeps_soundness,
 };
+pub use removal_laws::{delete_keeps_soundness, removals_keep_soundness, revoke_keeps_soundness};
 pub use retype_laws::retype_keeps_soundness;
 pub use setup_laws::{
     calls_of_the_loader_keep_soundness, filling_keeps_soundness, interrupt_control_keeps_soundness,
@@ -38,3 +42,4 @@ pub use thread_laws::{
     set_priority_keeps_soundness, set_register_keeps_soundness, suspend_keeps_soundness,
     yield_keeps_soundness,
 };
+pub use unused_laws::unused_memory_is_free;

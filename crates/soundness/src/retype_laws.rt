@@ -9,10 +9,10 @@ ghost use Rattle.model.specs.declared.capabilities.Cap.TheVariants.{Untyped};
 ghost use Rattle.model.specs.declared.invocations.RetypeCall.{RetypeCall};
 ghost use Rattle.model.specs.declared.invocations.UntypedMemory.{UntypedMemory};
 ghost use Rattle.soundness.specs.Calls.{IsRoot};
-ghost use Rattle.soundness.specs.Deliveries.{IsWhole};
+ghost use Rattle.model.specs.Kernel.Soundness.{IsSound};
 
 /// New objects in untyped memory.
 pub fn retype_keeps_soundness()
-    ensures { (s t : State) (root : Cap) (slot : ℕ) (memory : UntypedMemory) (asked : RetypeCall) → IsWhole s → IsRoot s root
-        → capability_at s.slots slot ≡ Untyped memory.offset memory.bits memory.watermark → retype s root slot memory asked ≡ Ok t → IsWhole t }
+    ensures { (s t : State) (root : Cap) (slot : ℕ) (memory : UntypedMemory) (asked : RetypeCall) → IsSound s → IsRoot s root
+        → capability_at s.slots slot ≡ Untyped memory.offset memory.bits memory.watermark → retype s root slot memory asked ≡ Ok t → IsSound t }
 {}

@@ -1,6 +1,6 @@
--- A copy of a notification's capability, which is what the line's slot may hold.
-use Rattle.soundness.proofs.CopyingCalls.{bind-sound}
+-- What the line had goes; then it gets a copy of a notification's capability, which is what its slot may hold.
+use Rattle.soundness.proofs.Rebound.{bind-sound}
 use Rattle.soundness.proofs.copying_laws.bind_keeps_soundness.Goals as goal
 
 pub returns : goal.returns
-returns c s t call number name sound is_call less free is = (bind-sound s t call number name sound is_call less free is).sound
+returns c = bind-sound

@@ -4,4 +4,4 @@ use Rattle.soundness.proofs.Sizes.{instructions-keep}
 use Rattle.soundness.proofs.step_laws.events_keep_soundness.Goals as goal
 
 pub returns : goal.returns
-returns c removals = events-whole removals instructions-keep
+returns c = events-whole instructions-keep
