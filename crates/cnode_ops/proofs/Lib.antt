@@ -2,9 +2,13 @@ pub mod Answered
 pub mod Emptied
 pub mod Kept
 pub mod LinesTaken
+pub mod FreeWindows
 pub mod Lookups
+pub mod OpenNodes
+pub mod PlacedObjects
 pub mod Refused
 pub mod RefusedLaw
+pub mod RetypeSteps
 pub mod SomeSlot
 pub mod Values
 pub mod Watermarks

@@ -1,7 +1,7 @@
 //! What a removal tells those that keep objects and mappings.
 
-ghost use Rattle.std.specs.Prelude.{ℕ, ◌≡◌, ◌^◌, ◌<◌, List, None, Some, length};
-ghost use Rattle.model.specs.Capabilities.CapabilityKinds.{unmapped};
+ghost use Rattle.std.specs.Prelude.{ℕ, ◌≡◌, ◌^◌, ◌<◌, List, None, Some, false, length};
+ghost use Rattle.model.specs.Capabilities.CapabilityKinds.{names_object, object_of, unmapped};
 ghost use Rattle.model.specs.Capabilities.Slots.{IsFull, SameOutside, Slots, capability_at, closed, empty_entry, recapped, spliced};
 ghost use Rattle.model.specs.Kernel.Removal.{slot_count};
 ghost use Rattle.model.specs.Kernel.State.{State, binding_slot, with_slots};
@@ -34,6 +34,8 @@ pub trait Ends {
     fn end<S: SlotStore>(&mut self, store: &mut S, removed: Cap)
         requires agree { Agree self.old (S.slots store.old) (S.memory store.old) }
         requires there { IsThere (state self.old (S.slots store.old) (S.memory store.old)) removed }
+        requires unnamed { (slot : ℕ) → (offset : ℕ) → object_of removed ≡ Some offset
+            → names_object offset (capability_at (S.slots store.old) slot) ≡ false }
         ensures state { state self.new (S.slots store.new) (S.memory store.new)
             ≡ ended (state self.old (S.slots store.old) (S.memory store.old)) removed }
         ensures order { S.order store.new ≡ S.order store.old }
@@ -50,11 +52,12 @@ pub trait Ends {
 
     /// Threads that wait at objects that are gone stand at their call again and run, in rising order of
     /// their addresses.
-    fn wake<S: SlotStore>(&mut self, store: &S)
-        requires agree { Agree self.old (S.slots store.now) (S.memory store.now) }
-        ensures state { state self.new (S.slots store.now) (S.memory store.now)
-            ≡ woken (state self.old (S.slots store.now) (S.memory store.now)) }
-        ensures agree { Agree self.new (S.slots store.now) (S.memory store.now) };
+    fn wake<S: SlotStore>(&mut self, store: &mut S)
+        requires agree { Agree self.old (S.slots store.old) (S.memory store.old) }
+        ensures state { state self.new (S.slots store.new) (S.memory store.new)
+            ≡ woken (state self.old (S.slots store.old) (S.memory store.old)) }
+        ensures order { S.order store.new ≡ S.order store.old }
+        ensures agree { Agree self.new (S.slots store.new) (S.memory store.new) };
 
     // The state has the slots, and memory of that size.
     ghost of_slots: { (e : Self) (slots : Slots) (memory : List ℕ) → (state e slots memory).slots ≡ slots };

@@ -2,6 +2,7 @@
 //! seL4 Reference Manual, "Capability-based Access Control".
 #![tactic(auto)]
 
+mod beginnings;
 mod capabilities;
 mod copies;
 mod deletions;
@@ -11,15 +12,20 @@ mod lines;
 mod moves;
 mod mutations;
 mod named;
+mod new_types;
 mod refusals;
 mod removal;
+mod retypes;
 mod sets;
 mod settling;
+mod windows;
 
+pub use beginnings::{Begins, NewRange, NewType, Placing};
 pub use copies::{copy, mint};
 pub use deletions::{delete, revoke};
 pub use endings::Ends;
 pub use moves::move_cap;
 pub use mutations::mutate;
 pub use named::NodeCall;
-pub use removal::remove_slot;
+pub use removal::{remove_below, remove_slot};
+pub use retypes::retype;

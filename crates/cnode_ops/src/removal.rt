@@ -117,7 +117,7 @@ pub fn remove_slot<S: SlotStore, E: Ends>(
 /// changes.
 ///
 /// seL4 Reference Manual, "Deletion, Revocation, and Recycling".
-pub(crate) fn remove_below<S: SlotStore, E: Ends>(
+pub fn remove_below<S: SlotStore, E: Ends>(
     store: &mut S,
     ends: &mut E,
     slot: Slot,

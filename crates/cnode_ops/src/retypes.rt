@@ -1,0 +1,93 @@
+//! New objects in untyped memory, with their first capabilities.
+
+ghost use Rattle.std.specs.Prelude.{◌≡◌, ◌≤◌, true, OnErr};
+ghost use Rattle.cnode_ops.specs.Nodes.{HasOpenSlots};
+ghost use Rattle.cnode_ops.specs.Outcomes.{GivesState};
+ghost use Rattle.cnode_ops.specs.Placed.{new_type};
+ghost use Rattle.cnode_ops.specs.RetypeChecks.{places};
+ghost use Rattle.model.specs.Capabilities.CapabilityWords.{IsCapability};
+ghost use Rattle.model.specs.Capabilities.Slots.{IsOpen, capability_at};
+ghost use Rattle.model.specs.Kernel.Arguments.{may_have_child};
+ghost use Rattle.model.specs.Kernel.Retype.{is_small_enough, retype};
+ghost use Rattle.model.specs.Kernel.Soundness.{IsSound};
+ghost use Rattle.model.specs.declared.capabilities.Cap.TheVariants.{Untyped};
+
+use crate::new_types::{asked_type, object_bits};
+use crate::windows::{named_node, window};
+use crate::{Begins, NewRange, NewType, Placing};
+use model::{Cap, KError, RetypeCall, Slot, UntypedMemory};
+use slots::SlotStore;
+use untyped::place;
+
+/// A child may hang below a slot, if that is not of depth 255 (`IllegalOperation`).
+fn may_have_child<S: SlotStore>(store: &S, slot: Slot) -> Result<(), KError>
+    requires { IsOpen (S.slots store.now) slot }
+    ensures { result ≡ may_have_child (S.slots store.now) slot }
+{
+    if store.depth(slot) >= 255 {
+        return Err(KError::IllegalOperation);
+    }
+    Ok(())
+}
+
+/// Where so many objects stand behind the watermark of untyped memory, and the watermark behind them, if
+/// they fit (`NotEnoughMemory`).
+fn places(memory: UntypedMemory, new: NewType, count: u32) -> Result<(u32, u32), KError>
+    requires valid { IsCapability (Untyped memory.offset memory.bits memory.watermark) }
+    requires small { is_small_enough (new_type new) ≡ true }
+    requires few { count ≤ 256 }
+    ensures { result ≡ places memory (new_type new) count }
+{
+    match place(memory.bits, memory.watermark, object_bits(new), count) {
+        Ok((first, watermark)) => Ok((memory.offset + first, watermark)),
+        Err(_) => Err(KError::NotEnoughMemory),
+    }
+}
+
+/// Makes objects in the unused part of untyped memory, which stands in `slot`, with their first
+/// capabilities in a window of a CNode.
+///
+/// The first check that fails gives the error: there is no such type or its size is too small
+/// (`InvalidArgument`) or too great (`RangeError`); the CNode's name is wrong (`RangeError`,
+/// `FailedLookup`); the objects are none or too many, or the window leaves the CNode (`RangeError`); a slot
+/// of the window is full (`DeleteFirst`); the untyped memory's slot is of depth 255 (`IllegalOperation`);
+/// it has no room (`NotEnoughMemory`). Nothing changes then.
+///
+/// seL4 Reference Manual, seL4_Untyped_Retype.
+pub fn retype<S: SlotStore, B: Begins>(
+    store: &mut S,
+    begins: &mut B,
+    root: Cap,
+    slot: Slot,
+    memory: UntypedMemory,
+    call: RetypeCall,
+) -> Result<(), KError>
+    requires valid { IsCapability root }
+    requires there { HasOpenSlots (S.slots store.old) root }
+    requires held { capability_at (S.slots store.old) slot ≡ Untyped memory.offset memory.bits memory.watermark }
+    requires agree { B.Agree begins.old (S.slots store.old) (S.memory store.old) }
+    requires sound { IsSound (B.state begins.old (S.slots store.old) (S.memory store.old)) }
+    ensures outcome { GivesState (retype (B.state begins.old (S.slots store.old) (S.memory store.old)) root slot memory call) result
+        (B.state begins.new (S.slots store.new) (S.memory store.new)) }
+    ensures unchanged { OnErr result (store.new ≡ store.old) }
+    ensures same { OnErr result (begins.new ≡ begins.old) }
+    ensures agree { B.Agree begins.new (S.slots store.new) (S.memory store.new) }
+{
+    let kind = asked_type(call.kind, call.size)?;
+    let node = named_node(store, root, call.node)?;
+    let window = window(store, node, call.index, call.count)?;
+    may_have_child(store, slot)?;
+    let (first, watermark) = places(memory, kind, call.count)?;
+    let new = NewRange {
+        kind,
+        first,
+        count: call.count,
+    };
+    let at = Placing {
+        parent: slot,
+        window,
+        watermark,
+    };
+    begins.begin(store, new, at);
+    Ok(())
+}
