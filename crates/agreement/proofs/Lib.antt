@@ -1,0 +1,16 @@
+pub mod Agreeing
+pub mod Bare
+pub mod Grown
+pub mod GrownPlaces
+pub mod GrownTables
+pub mod Laws
+pub mod Lessened
+pub mod Mutated
+pub mod NewBegin
+pub mod NewBeside
+pub mod NewPlaced
+pub mod NewStates
+pub mod OneMore
+pub mod Puts
+pub mod RoomsMade
+pub mod Steps

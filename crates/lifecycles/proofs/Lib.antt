@@ -1,0 +1,4 @@
+pub mod Marked
+pub mod OneAfterAnother
+pub mod OneMade
+pub mod Places

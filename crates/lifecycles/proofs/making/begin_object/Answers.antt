@@ -1,0 +1,14 @@
+-- The place is fit for the kind.
+use Rattle.std.proofs.Common.{◌∙◌, ◌%◌, ◌^◌, ap, sym}
+use Rattle.agreement.proofs.NewStates.{may-stand}
+use Rattle.cnode_ops.specs.Placed.{new_type}
+use Rattle.cnode_ops.specs.declared.beginnings.NewType.{NewType}
+use Rattle.lifecycles.proofs.making.begin_object.Goals as goal
+use Rattle.model.specs.Kernel.Retype.{is_large_enough, is_small_enough, object_bits}
+
+pub begin-requires-clause-fits : goal.begin-requires-clause-fits
+begin-requires-clause-fits g c =
+    may-stand c.in-Object.kind c.args.place _
+    (ap (λ (k : NewType). c.args.place % 2 ^ object_bits (new_type k)) (sym c.in-Object.is) ∙ c.requires.aligned) c.requires.near
+    (ap (λ (k : NewType). is_large_enough (new_type k)) (sym c.in-Object.is) ∙ c.requires.large)
+    (ap (λ (k : NewType). is_small_enough (new_type k)) (sym c.in-Object.is) ∙ c.requires.small)

@@ -1,0 +1,9 @@
+//! How objects begin and end, with their slots, their page tables and their bytes of memory.
+//! seL4 Reference Manual, "Kernel Memory Allocation" and "Deletion, Revocation, and Recycling".
+#![tactic(auto)]
+
+mod beginning;
+mod kernel_objects;
+mod making;
+
+pub use kernel_objects::KernelObjects;
