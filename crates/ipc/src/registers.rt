@@ -1,0 +1,199 @@
+//! Messages in registers: what a sender's hold, and what a receiver's become.
+
+ghost use Rattle.std.specs.Prelude.{ℕ, ◌≡◌, ◌==◌, ◌+◌, ◌<◌, ◌≤◌, ◌^◌, length, slice_index_or};
+ghost use Rattle.ipc.specs.Registers.{message_for, message_in};
+ghost use Rattle.model.specs.Kernel.Messages.{delivered, register, resumption, word_registers, write_words};
+ghost use Rattle.model.specs.Machine.Effects.{advanced};
+ghost use Rattle.model.specs.Machine.Instructions.{IsRegister};
+ghost use Rattle.model.specs.Machine.ProgramMemory.{write};
+
+use model::{FaultKind, Register};
+use objects::Fault;
+use rv32_exec::Regs;
+use std::marker::Model;
+
+/// The capability or the byte of a call; a receiver gets the sender's badge.
+const A0: Register = Register(10);
+
+/// The info word.
+const A1: Register = Register(11);
+
+/// How many words a message has at most.
+const MOST_WORDS: u32 = 8;
+
+/// A message: its label, and the first so many of the words.
+#[derive(Drop)]
+pub(crate) struct Message {
+    label: u32,
+    count: u32,
+    words: [u32; 8],
+}
+
+impl Model for Message {
+    ghost use Rattle.std.specs.Prelude.{take};
+    ghost use Rattle.ipc.specs.Registers.{FitsInfo};
+    ghost use Rattle.model.specs.Kernel.Messages as messages;
+
+    ghost Value = { messages.Message };
+
+    ghost view = { λ m. record { label = m.label; words = take m.count m.words } };
+
+    ghost invariant = { λ m. FitsInfo m.label m.count };
+}
+
+impl Message {
+    /// The message in a sender's registers. A length above 8 counts as 8.
+    #[tactic(auto, unfolding(model::specs::Kernel::Messages::word_registers))]
+    pub(crate) fn of(registers: &Regs) -> Self
+        ensures { result ≡ message_in registers.now }
+    {
+        let info = registers.read(A1);
+        Message {
+            label: info / 0x1000,
+            count: MOST_WORDS.min(info % 0x80),
+            words: [
+                registers.read(Register(12)),
+                registers.read(Register(13)),
+                registers.read(Register(14)),
+                registers.read(Register(15)),
+                registers.read(Register(18)),
+                registers.read(Register(19)),
+                registers.read(Register(20)),
+                registers.read(Register(21)),
+            ],
+        }
+    }
+
+    /// The message that a fault is.
+    pub(crate) fn of_fault(fault: Fault) -> Self
+        ensures { result ≡ message_for fault }
+    {
+        match fault {
+            Fault::Capability {
+                pc,
+                address,
+                in_receive,
+                failure,
+            } => Message {
+                label: u32::from(FaultKind::Capability.number()),
+                count: 5,
+                words: [
+                    pc,
+                    address,
+                    u32::from(in_receive),
+                    u32::from(failure.number()),
+                    u32::from(failure.bits_left()),
+                    0,
+                    0,
+                    0,
+                ],
+            },
+            Fault::UnknownCall { pc, number } => Message {
+                label: u32::from(FaultKind::UnknownCall.number()),
+                count: 2,
+                words: [pc, number, 0, 0, 0, 0, 0, 0],
+            },
+            Fault::Instruction { pc, cause } => Message {
+                label: u32::from(FaultKind::Instruction.number()),
+                count: 2,
+                words: [pc, u32::from(cause.number()), 0, 0, 0, 0, 0, 0],
+            },
+            Fault::Memory { pc, fault } => Message {
+                label: u32::from(FaultKind::Memory.number()),
+                count: 3,
+                words: [
+                    pc,
+                    fault.address,
+                    u32::from(fault.access.number()),
+                    0,
+                    0,
+                    0,
+                    0,
+                    0,
+                ],
+            },
+        }
+    }
+}
+
+impl Message {
+    /// Whether it resumes a thread that faulted.
+    pub(crate) fn resumes(&self) -> bool
+        ensures { result ≡ (self.now.label == 0) }
+    {
+        self.label == 0
+    }
+
+    /// Where a thread goes on that its handler resumes: at word 0 with its low two bits cleared, or where it was.
+    fn resumption(&self, pc: u32) -> u32
+        ensures { result ≡ resumption pc self.now.words }
+    {
+        if self.count == 0 {
+            pc
+        } else {
+            self.words[0] - self.words[0] % 4
+        }
+    }
+
+    /// The registers of a thread that its handler resumes.
+    pub(crate) fn resumed(&self, registers: Regs) -> Regs
+        ensures { result ≡ record registers { pc = resumption registers.pc self.now.words } }
+    {
+        let mut now = registers;
+        now.set_pc(self.resumption(registers.pc()));
+        now
+    }
+}
+
+/// The register that holds a word of a message: a2 to a5, then s2 to s5.
+#[tactic(auto, unfolding(model::specs::Kernel::Messages::word_registers))]
+fn word_register(index: usize) -> Register
+    requires { index < 8 }
+    ensures register { result ≡ slice_index_or word_registers index (register 0) }
+    ensures named { IsRegister result }
+{
+    if index < 4 {
+        Register(12 + index as u8)
+    } else {
+        Register(14 + index as u8)
+    }
+}
+
+/// Writes words into the registers that hold them.
+fn write_words(registers: &mut Regs, words: &[u32])
+    requires { length words.now ≤ 8 }
+    ensures { registers.new ≡ write_words registers.old word_registers words.now }
+{
+    'words: for index in 0..words.len() {
+        registers.write(word_register(index), words[index]);
+    }
+}
+
+/// The registers of a thread that is delivered a message: badge, info and words, and no other.
+pub(crate) fn delivered(registers: Regs, badge: u32, message: &Message) -> Regs
+    ensures { result ≡ delivered registers badge message.now }
+{
+    let mut now = registers;
+    now.write(A0, badge);
+    now.write(A1, 0x1000 * message.label + message.count);
+    write_words(&mut now, &message.words[..message.count as usize]);
+    now
+}
+
+/// The registers of a thread that gets a word in a0 alone.
+pub fn with_word(registers: Regs, word: u32) -> Regs
+    ensures { result ≡ write registers (register 10) word }
+{
+    let mut now = registers;
+    now.write(A0, word);
+    now
+}
+
+/// The registers of a thread that goes on behind its call.
+pub fn advanced(registers: Regs) -> Regs
+    ensures { result ≡ advanced registers }
+{
+    let mut now = registers;
+    now.set_pc(registers.pc().wrapping_add(4));
+    now
+}

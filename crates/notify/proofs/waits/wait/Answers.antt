@@ -1,0 +1,19 @@
+-- Who runs is there, and waits nowhere.
+use Rattle.ipc.proofs.Premises.{runs-nowhere, runs-there}
+use Rattle.notify.proofs.waits.wait.Goals as goal
+use Rattle.objects.specs.Tables.{state_of}
+
+pub wait_for_signal-requires-clause-there : goal.wait_for_signal-requires-clause-there
+wait_for_signal-requires-clause-there g c =
+    runs-there (state_of c.args.objects.now (g.S.SlotMap.slots c.args.store.now) (g.S.SlotStore.memory c.args.store.now))
+    c.args.thread c.requires.runs
+
+pub wait_for_signal-requires-clause-apart : goal.wait_for_signal-requires-clause-apart
+wait_for_signal-requires-clause-apart g c =
+    runs-nowhere (state_of c.args.objects.now (g.S.SlotMap.slots c.args.store.now) (g.S.SlotStore.memory c.args.store.now))
+    c.args.thread c.requires.sound c.requires.runs
+
+pub take_word-requires-clause-there : goal.take_word-requires-clause-there
+take_word-requires-clause-there g c =
+    runs-there (state_of c.args.objects.now (g.S.SlotMap.slots c.args.store.now) (g.S.SlotStore.memory c.args.store.now))
+    c.args.thread c.requires.runs
