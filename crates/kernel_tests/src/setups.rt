@@ -1,0 +1,75 @@
+//! A system that is set up: its untyped memory, interrupt control, Delete and Revoke.
+//! Memory of 2^16 bytes with a boot CNode of 16 slots: the boot area ends at 0x500.
+
+ghost use Rattle.std.specs.Prelude.{ℕ, ◌≡◌, ◌+◌, ◌<◌, ◌≤◌, IfOk, None};
+ghost use Rattle.kernel.specs.Setups.{state_in};
+
+use kernel::Setup;
+use model::{Cap, Slot};
+use std::alloc::{AllocError, Global};
+use std::test::Fail;
+
+// A system without objects.
+#[tactic(auto, unfolding(model::specs::Kernel::Setup::boot_area))]
+pub(crate) fn empty(alloc: Global, bits: u32, radix: u32) -> Result<Setup, AllocError>
+    requires least { 16 ≤ bits }
+    requires most { bits ≤ 24 }
+    requires least_radix { 1 ≤ radix }
+    requires most_radix { radix ≤ 14 }
+    requires room { radix + 5 ≤ bits }
+    ensures { IfOk result (λ setup. (place : ℕ) → (state_in setup).objects place ≡ None) }
+{
+    Setup::new(alloc, bits, radix)
+}
+
+// What a boot slot holds.
+pub(crate) fn held(setup: &Setup, slot: u32) -> Option<(Cap, Option<Slot>)>
+    requires { slot < 4096 }
+{
+    setup.slot(Slot::new(slot))
+}
+
+// Untyped memory is aligned, behind the boot area and all that stands, and its slot is free.
+#[test]
+fn untyped_memory_finds_its_place(rt: HostRuntime) -> Result<(), Fail> {
+    let mut setup = empty(rt.alloc(), 16, 4)?;
+    let answers = [
+        setup.untyped(1, 0x400, 4),
+        setup.untyped(1, 0x1000, 3),
+        setup.untyped(1, 0x1800, 12),
+        setup.untyped(1, 0x1000, 12),
+        setup.untyped(1, 0x2000, 12),
+        setup.untyped(2, 0x1000, 8),
+        setup.untyped(2, 0x2000, 12),
+        setup.untyped(16, 0x4000, 12),
+        setup.untyped(3, 0x10000, 4),
+    ];
+    assert_eq!(rt;
+        answers,
+        [false, false, false, true, false, false, true, false, false]
+    );
+    let memory = Cap::Untyped {
+        offset: 0x1000,
+        bits: 12,
+        watermark: 0,
+    };
+    assert_eq!(rt; held(&setup, 1), Some((memory, None)));
+    Ok(())
+}
+
+// A slot is emptied once, and then there is nothing to empty; Revoke takes what is derived, and nothing is.
+#[test]
+fn a_slot_is_emptied(rt: HostRuntime) -> Result<(), Fail> {
+    let mut setup = empty(rt.alloc(), 16, 4)?;
+    assert!(rt; setup.untyped(1, 0x1000, 12));
+    assert!(rt; setup.control(2));
+    assert!(rt; !setup.control(2));
+    assert!(rt; setup.revoke(Slot::new(2)).is_ok());
+    assert_eq!(rt; held(&setup, 2), Some((Cap::InterruptControl, None)));
+    assert!(rt; setup.delete(Slot::new(2)).is_ok());
+    assert!(rt; setup.delete(Slot::new(2)).is_ok());
+    assert_eq!(rt; held(&setup, 2), Some((Cap::Empty, None)));
+    assert_eq!(rt; held(&setup, 79), Some((Cap::Empty, None)));
+    assert_eq!(rt; held(&setup, 80), None);
+    Ok(())
+}
