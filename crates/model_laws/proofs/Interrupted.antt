@@ -9,7 +9,7 @@ use Rattle.model.specs.declared.capabilities.Cap.TheVariants.{Empty, Untyped, En
 use Rattle.model.specs.Acceptance.Authority.{InterruptChange, joins, passes_on, wakes, stays, adds, IsDelivered, WithinInterrupt}
 use Rattle.model.specs.Capabilities.Slots.{capability_at}
 use Rattle.model.specs.Kernel.Deliveries.{woken}
-use Rattle.model.specs.Kernel.Interrupts.{binding, interrupt, raise, signal_of, with_pending}
+use Rattle.model.specs.Kernel.Interrupts.{Signal, binding, interrupt, raise, signal_of, with_pending}
 use Rattle.model.specs.Kernel.Kinds.{kind_of, object_named}
 use Rattle.model.specs.Kernel.Messages.{a0, deliver_word, signals, with_registers}
 use Rattle.model.specs.Kernel.Retype.{NewEndpoint, NewNotification, NewThread, NewCNode, NewFrame, NewPageTable, NewRootTable}
@@ -23,18 +23,21 @@ use Rattle.model_laws.proofs.Ticks.{thread-object}
 
 -- ---- what a binding names
 
-bound-is : (c : Cap) (n badge : ℕ) → signal_of c ≡ Some (n, badge) → object_named c ≡ Some (NewNotification, n)
-bound-is Empty n badge is = let e : None ≡ Some (n, badge) = is in absurd cc
-bound-is (Untyped offset bits watermark) n badge is = let e : None ≡ Some (n, badge) = is in absurd cc
-bound-is (Endpoint offset r b) n badge is = let e : None ≡ Some (n, badge) = is in absurd cc
-bound-is (Notification offset r b) n badge is = ap (λ (o : Option (ℕ × ℕ)). Some (NewNotification, option_map_or (λ p. p.0) o 0)) is
-bound-is (CNode offset radix guard) n badge is = let e : None ≡ Some (n, badge) = is in absurd cc
-bound-is (Frame offset r mapping) n badge is = let e : None ≡ Some (n, badge) = is in absurd cc
-bound-is (PageTable offset mapping) n badge is = let e : None ≡ Some (n, badge) = is in absurd cc
-bound-is (Tcb offset) n badge is = let e : None ≡ Some (n, badge) = is in absurd cc
-bound-is (RootTable offset) n badge is = let e : None ≡ Some (n, badge) = is in absurd cc
-bound-is InterruptControl n badge is = let e : None ≡ Some (n, badge) = is in absurd cc
-bound-is (InterruptHandler irq_line) n badge is = let e : None ≡ Some (n, badge) = is in absurd cc
+abbrev signalling : ℕ → ℕ → Signal
+signalling n badge = record { notification = n; badge = badge }
+
+bound-is : (c : Cap) (n badge : ℕ) → signal_of c ≡ Some (signalling n badge) → object_named c ≡ Some (NewNotification, n)
+bound-is Empty n badge is = let e : None ≡ Some (signalling n badge) = is in absurd cc
+bound-is (Untyped offset bits watermark) n badge is = let e : None ≡ Some (signalling n badge) = is in absurd cc
+bound-is (Endpoint offset r b) n badge is = let e : None ≡ Some (signalling n badge) = is in absurd cc
+bound-is (Notification offset r b) n badge is = ap (λ (o : Option Signal). Some (NewNotification, option_map_or (λ bound. bound.notification) o 0)) is
+bound-is (CNode offset radix guard) n badge is = let e : None ≡ Some (signalling n badge) = is in absurd cc
+bound-is (Frame offset r mapping) n badge is = let e : None ≡ Some (signalling n badge) = is in absurd cc
+bound-is (PageTable offset mapping) n badge is = let e : None ≡ Some (signalling n badge) = is in absurd cc
+bound-is (Tcb offset) n badge is = let e : None ≡ Some (signalling n badge) = is in absurd cc
+bound-is (RootTable offset) n badge is = let e : None ≡ Some (signalling n badge) = is in absurd cc
+bound-is InterruptControl n badge is = let e : None ≡ Some (signalling n badge) = is in absurd cc
+bound-is (InterruptHandler irq_line) n badge is = let e : None ≡ Some (signalling n badge) = is in absurd cc
 
 notification-object : (o : Option Object) → option_map kind_of o ≡ Some NewNotification → (x : NotificationState) × (o ≡ Some (NotificationObject x))
 notification-object None is = let e : None ≡ Some NewNotification = is in absurd cc
@@ -239,8 +242,8 @@ signalled-within s sound number n badge delivered old there [] list = joined s s
 signalled-within s sound number n badge delivered old there (w ∷ others) list = woken-within s sound number n badge delivered old there w others list
 
 -- the notification is there, so the signal is one on it
-interrupted-within : (s : State) → IsSound s → (number n badge : ℕ) → s.masked number ≡ false → binding s number ≡ Some (n, badge)
-    → WithinInterrupt number s (interrupt s number (n, badge))
+interrupted-within : (s : State) → IsSound s → (number n badge : ℕ) → s.masked number ≡ false → binding s number ≡ Some (signalling n badge)
+    → WithinInterrupt number s (interrupt s number (signalling n badge))
 interrupted-within s sound number n badge unmasked bound =
     let delivered : IsDelivered number s n badge = record { bound = bound; unmasked = unmasked } in
     let named = bound-is (capability_at s.slots (binding_slot s number)) n badge bound in
@@ -249,10 +252,10 @@ interrupted-within s sound number n badge unmasked bound =
     subst (λ (x : NotificationState). WithinInterrupt number s (record (signals s n badge x x.waiters) { masked = put s.masked number true })) (sym own)
     (signalled-within s sound number n badge delivered found.0 found.1 found.0.waiters refl)
 
-raised-by : (s : State) → IsSound s → (number : ℕ) → s.masked number ≡ false → (o : Option (ℕ × ℕ)) → binding s number ≡ o
+raised-by : (s : State) → IsSound s → (number : ℕ) → s.masked number ≡ false → (o : Option Signal) → binding s number ≡ o
     → WithinInterrupt number s (option_map_or (interrupt s number) o (with_pending s number true))
 raised-by s sound number unmasked None bound = pends number s
-raised-by s sound number unmasked (Some (n, badge)) bound = interrupted-within s sound number n badge unmasked bound
+raised-by s sound number unmasked (Some signal) bound = interrupted-within s sound number signal.notification signal.badge unmasked bound
 
 pub raise-within : (s : State) → IsSound s → (number : ℕ) → WithinInterrupt number s (raise s number)
 raise-within s sound number =

@@ -3,7 +3,6 @@ pub mod BranchedRegisters
 pub mod BranchedSides
 pub mod CapabilityTests
 pub mod Descents
-pub mod FreshMachines
 pub mod Interrupted
 pub mod LookupLaws
 pub mod MappedPages

@@ -11,15 +11,18 @@ use Rattle.model.specs.declared.capabilities.Cap.TheVariants.{Empty, Untyped, En
 use Rattle.model.specs.declared.capabilities.FrameMapping.{FrameMapping}
 use Rattle.model.specs.declared.rights.Rights.{Rights}
 use Rattle.model.specs.Capabilities.Slots.{capability_at, is_empty}
-use Rattle.model.specs.Kernel.AddressSpaces.{Maps, is_page, mapped, maps_page, page_of}
+use Rattle.model.specs.Kernel.AddressSpaces.{MappedFrame, Maps, is_page, mapped, maps_page, page_of}
 use Rattle.model.specs.Kernel.Scheduling.{head_of}
 use Rattle.model.specs.Kernel.Soundness.{IsSound}
 use Rattle.model.specs.Kernel.State.{State, slot_numbers}
 use Rattle.model.proofs.Ancestors.{full-open}
 use Rattle.removals.proofs.Whole.{open-near}
 
-abbrev found : ℕ → Rights → Option (ℕ × Rights)
-found frame allowed = Some (frame, allowed)
+abbrev standing : ℕ → Rights → MappedFrame
+standing frame allowed = record { frame = frame; allowed = allowed }
+
+abbrev found : ℕ → Rights → Option MappedFrame
+found frame allowed = Some (standing frame allowed)
 
 -- the first of a list that gives something, where all that do give the same
 first-found : {A : Type 0} (f : ℕ → Option A) (v : A) (ns : List ℕ) (i : ℕ) → i < length ns → f (get_or ns i 0) ≡ Some v → ((n : ℕ) (w : A) → f n ≡ Some w → w ≡ v) → head_of (filter_map f ns) ≡ Some v
@@ -59,8 +62,8 @@ page-frame root page f r m frame allowed true test is =
     let parts = both (m.root == root) (m.page == page) test in
     let at_root : m.root ≡ root = number-same m.root root parts.0 in
     let at_page : m.page ≡ page = number-same m.page page parts.1 in
-    let offset : f ≡ frame = ap (λ (o : Option (ℕ × Rights)). option_map_or (λ p. p.0) o 0) is in
-    let rights : m.rights ≡ allowed = ap (λ (o : Option (ℕ × Rights)). option_map_or (λ p. p.1) o m.rights) is in
+    let offset : f ≡ frame = ap (λ (o : Option MappedFrame). option_map_or (λ at. at.frame) o 0) is in
+    let rights : m.rights ≡ allowed = ap (λ (o : Option MappedFrame). option_map_or (λ at. at.allowed) o m.rights) is in
     (r, λ i. Frame (offset i) r (Some (record { root = at_root i; page = at_page i; rights = rights i })))
 
 page-held : (root page : ℕ) (c : Cap) (frame : ℕ) (allowed : Rights) → page_of root page c ≡ found frame allowed → AtPage root page frame allowed c
@@ -88,25 +91,25 @@ page-there root page frame r allowed c is =
 
 -- ---- the whole
 
-pub page-mapped : (s : State) (root page frame : ℕ) (allowed : Rights) → IsSound s → Maps s.slots root page frame allowed → mapped s root page ≡ Some (frame, allowed)
+pub page-mapped : (s : State) (root page frame : ℕ) (allowed : Rights) → IsSound s → Maps s.slots root page frame allowed → mapped s root page ≡ found frame allowed
 unfolding slot_numbers
 page-mapped s root page frame allowed sound maps =
     let count : ℕ = 2 ^ s.memory_bits / 16 in
     let there = page-there root page frame maps.frame_rights allowed (capability_at s.slots maps.slot) maps.capability in
     let near : maps.slot < count = open-near s sound maps.slot (full-open s.slots maps.slot there.2) in
     let here : get_or (range_with_len 0 count) maps.slot 0 ≡ maps.slot = get_or-range_with_len 0 count maps.slot 0 near ∙ omega arith in
-    first-found (λ slot. page_of root page (capability_at s.slots slot)) (frame, allowed) (range_with_len 0 count) maps.slot
+    first-found (λ slot. page_of root page (capability_at s.slots slot)) (standing frame allowed) (range_with_len 0 count) maps.slot
     (rw (length-range_with_len 0 count) near)
     (ap (λ (n : ℕ). page_of root page (capability_at s.slots n)) here ∙ there.0)
     (λ n w is.
-    let held = page-held root page (capability_at s.slots n) w.0 w.1 is in
-    let other = page-there root page w.0 held.0 w.1 (capability_at s.slots n) held.1 in
+    let held = page-held root page (capability_at s.slots n) w.frame w.allowed is in
+    let other = page-there root page w.frame held.0 w.allowed (capability_at s.slots n) held.1 in
     let one : n ≡ maps.slot = sound.mappings.one_page n maps.slot root page other.1 there.1 in
     let both_are : Some w ≡ found frame allowed = sym is ∙ ap (λ (m : ℕ). page_of root page (capability_at s.slots m)) one ∙ there.0 in
     cc)
 
-pub page-maps : (s : State) (root page frame : ℕ) (allowed : Rights) → mapped s root page ≡ Some (frame, allowed) → Maps s.slots root page frame allowed
+pub page-maps : (s : State) (root page frame : ℕ) (allowed : Rights) → mapped s root page ≡ found frame allowed → Maps s.slots root page frame allowed
 page-maps s root page frame allowed is =
-    let some = found-somewhere (λ slot. page_of root page (capability_at s.slots slot)) (frame, allowed) (slot_numbers s.memory_bits) is in
+    let some = found-somewhere (λ slot. page_of root page (capability_at s.slots slot)) (standing frame allowed) (slot_numbers s.memory_bits) is in
     let held = page-held root page (capability_at s.slots some.0) frame allowed some.1 in
     record { slot = some.0; frame_rights = held.0; capability = held.1 }

@@ -29,8 +29,8 @@ use Rattle.model.specs.Kernel.Arguments.{◌>>=◌, Call, argument_slot, check, 
 use Rattle.model.specs.Machine.Decoding.{decoded}
 use Rattle.model.specs.Machine.ProgramMemory.{RegisterFile, loaded, read}
 use Rattle.model.specs.Machine.Effects.{effect}
-use Rattle.model.specs.Kernel.Interrupts.{acknowledge, binding, interrupt, raise, with_pending}
-use Rattle.model.specs.Kernel.Faults.{fault, handler, tell}
+use Rattle.model.specs.Kernel.Interrupts.{Signal, acknowledge, binding, interrupt, raise, with_pending}
+use Rattle.model.specs.Kernel.Faults.{Handler, fault, handler, tell}
 use Rattle.model.specs.Kernel.CallForms.{decode}
 use Rattle.model.specs.Kernel.CNodeCalls.{copy, mint, move, mutate, on_cnode}
 use Rattle.model.specs.Kernel.InterruptCalls.{bind, get_handler, may_be_bound, on_handler}
@@ -194,8 +194,8 @@ takes_word-sound s notification thread otherwise before other =
 
 -- ---- interrupts and faults
 
-interrupt-sound : (s : State) (irq_line : ℕ) (bound : ℕ × ℕ) → Sound s → Sound (interrupt s irq_line bound)
-interrupt-sound s irq_line (notification, badge) before = same refl (signal-sound s notification badge before)
+interrupt-sound : (s : State) (irq_line : ℕ) (bound : Signal) → Sound s → Sound (interrupt s irq_line bound)
+interrupt-sound s irq_line bound before = same refl (signal-sound s bound.notification bound.badge before)
 
 raise-sound : (s : State) (irq_line : ℕ) → Sound s → Sound (raise s irq_line)
 raise-sound s irq_line before =
@@ -213,13 +213,13 @@ acknowledge-sound s irq_line before =
     (perhaps (interrupt taken irq_line) (binding s irq_line) unmasked (λ bound. interrupt-sound taken irq_line bound (same refl before)) (same refl before))
     (same refl before)
 
-tell-sound : (s : State) (thread : ℕ) (message : FaultMessage) (bound : ℕ × ℕ) → Sound s → Sound (tell s thread message bound)
-tell-sound s thread message (endpoint, badge) before =
-    sends-sound s endpoint (record { thread = thread; sent = ByFault message; badge = badge; grant_reply = true }) (endpoint_at s endpoint).receivers before
+tell-sound : (s : State) (thread : ℕ) (message : FaultMessage) (to : Handler) → Sound s → Sound (tell s thread message to)
+tell-sound s thread message to before =
+    sends-sound s to.endpoint (record { thread = thread; sent = ByFault message; badge = to.badge; grant_reply = true }) (endpoint_at s to.endpoint).receivers before
 
 fault-sound : (s : State) (thread : ℕ) (message : FaultMessage) → Sound s → Sound (fault s thread message)
 fault-sound s thread message before =
-    perhaps (tell s thread message) (handler s thread) (block s thread Inactive) (λ bound. tell-sound s thread message bound before) (block-sound s thread Inactive before)
+    perhaps (tell s thread message) (handler s thread) (block s thread Inactive) (λ to. tell-sound s thread message to before) (block-sound s thread Inactive before)
 
 -- ---- invocations
 
@@ -250,7 +250,7 @@ delete-sound s slot before = either_result _ _ _ (remove-sound s _ before) (fine
 retype-sound : (s : State) (root : Cap) (slot : ℕ) (memory : UntypedMemory) (call : RetypeCall) → Sound s → SoundResult (retype s root slot memory call)
 unfolding retype
 retype-sound s root slot memory call before =
-    bind-sound (wanted (type_of call.kind call.size) InvalidArgument) _ (λ kind. bind-sound (check (is_large_enough kind) InvalidArgument) _ (λ _. bind-sound (check (is_small_enough kind) RangeError) _ (λ _. bind-sound (node s.slots root call.node) _ (λ cnode. bind-sound (check (nat_le 1 call.count && nat_le call.count 256 && nat_le (call.index + call.count) (2 ^ cnode.1)) RangeError) _ (λ _. bind-sound (check (not (any_full s.slots (slot_of cnode.0 call.index) call.count)) DeleteFirst) _ (λ _. bind-sound (may_have_child s.slots slot) _ (λ _. bind-sound (wanted (placement memory.bits memory.watermark (object_bits kind) call.count) NotEnoughMemory) _ (λ place. fine (same refl before)))))))))
+    bind-sound (wanted (type_of call.kind call.size) InvalidArgument) _ (λ kind. bind-sound (check (is_large_enough kind) InvalidArgument) _ (λ _. bind-sound (check (is_small_enough kind) RangeError) _ (λ _. bind-sound (node s.slots root call.node) _ (λ cnode. bind-sound (check (nat_le 1 call.count && nat_le call.count 256 && nat_le (call.index + call.count) (2 ^ cnode.radix)) RangeError) _ (λ _. bind-sound (check (not (any_full s.slots (slot_of cnode.offset call.index) call.count)) DeleteFirst) _ (λ _. bind-sound (may_have_child s.slots slot) _ (λ _. bind-sound (wanted (placement memory.bits memory.watermark (object_bits kind) call.count) NotEnoughMemory) _ (λ place. fine (same refl before)))))))))
 
 with_priority-sound : (s : State) (thread priority : ℕ) → Sound s → Sound (with_priority s thread priority)
 with_priority-sound s thread priority before =

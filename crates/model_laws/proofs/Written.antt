@@ -1,10 +1,7 @@
 -- An instruction that goes on keeps the registers in the ranges behind it, so what it writes lies in its range.
-use Rattle.std.proofs.Common.{ℕ, zero, suc, ◌≡◌, ◌≢◌, ◌∙◌, ◌==◌, ◌&&◌, ◌-◌, ◌%◌, ◌^◌, ◌<◌, Bool, true, false, if◌then◌else◌, List, [], ◌∷◌, length, get_or, map, Result, Ok, Err, Option, Some, ap, subst, arith}
-use Rattle.std.specs.Prelude.{slice_set}
-use Rattle.std.specs.Option.{option_map_or}
+use Rattle.std.proofs.Common.{ℕ, zero, suc, ◌≡◌, ◌∙◌, ◌==◌, ◌&&◌, ◌-◌, ◌%◌, ◌^◌, ◌<◌, Bool, true, false, if◌then◌else◌, List, [], ◌∷◌, length, get_or, map, Result, Ok, Err, Some, ap, subst, arith}
 use Rattle.std.specs.Int.{byte_len, from_le_bytes}
-use Rattle.std.proofs.lemmas.Bool.{ne_eqb, and_parts}
-use Rattle.std.proofs.lemmas.List.{get_or-set_same}
+use Rattle.std.proofs.lemmas.Bool.{and_parts}
 use Rattle.programs.proofs.RangesKept.{written_within}
 use Rattle.model.specs.declared.instructions.Access.TheVariants as accesses
 use Rattle.model.specs.declared.instructions.AccessSize.{AccessSize}
@@ -25,8 +22,8 @@ use Rattle.std.specs.Prelude.{ℤ}
 use Rattle.model.specs.Machine.Instructions.{IsImmediate, IsInstr, IsRegister}
 use Rattle.model.specs.Machine.ProgramMemory.{Content, FitsSize, RegisterFile, ◌>>=◌, places_from, read, stored, width_of, write}
 use Rattle.model.specs.Machine.Effects.{branches, effect, goes_on, immediate_result, is_taken, jumps, load_result, load_size, loads, next_pc, plus, register_result, shift_result, stays, store_size, stores, upper_result}
-use Rattle.model.specs.Acceptance.RangeRules.{destination, immediate_range, is_single, load_range, ranges_after, register_range, result_range, shift_range, value_or}
-use Rattle.model.specs.Acceptance.Ranges.{full, range_of, single, with_range}
+use Rattle.model.specs.Acceptance.RangeRules.{destination, immediate_range, is_single, load_range, ranges_after, register_range, shift_range, value_or}
+use Rattle.model.specs.Acceptance.Ranges.{range_of, single, with_range}
 use Rattle.model.specs.Acceptance.ThreadInvariants.{LieWithin}
 use Rattle.model_laws.specs.Inside.{LiesIn}
 use Rattle.model_laws.proofs.Results.{chosen, immediates-in, known, loads-in, registers-in, shifts-in, single-in}
@@ -108,7 +105,7 @@ branch-keeps r content ranges false target before goes = before
 pub instruction-keeps : (r : RegisterFile) (content : Content) (ranges : List Range) (instr : Instr) → length r.words ≡ 32 → length ranges ≡ 31
     → ((x : Register) → read r x < 2 ^ 32) → HasBytes content → IsInstr instr → LieWithin r ranges → (effect r content instr).exec ≡ outcomes.Next
     → LieWithin (effect r content instr).registers (ranges_after r.pc instr ranges)
-unfolding effect result_range
+unfolding effect ranges_after
 instruction-keeps r content ranges (Upper op rd immediate) words long small bytes fits before goes =
     written_within r ranges rd (upper_result op r.pc immediate) (single (upper_result op r.pc immediate)) words long fits.0 before (single-in (upper_result op r.pc immediate))
 instruction-keeps r content ranges (Jal rd offset) words long small bytes fits before goes =
@@ -142,12 +139,6 @@ instruction-keeps r content ranges Ebreak words long small bytes fits before goe
 
 -- ---- what is written
 
--- the range of a register that was given one
-given-range : (ranges : List Range) (rd : Register) (out : Range) → length ranges ≡ 31 → IsRegister rd → rd.0 ≢ 0 → range_of (with_range ranges rd out) rd ≡ out
-given-range ranges rd out long fits other =
-    ap (λ (b : Bool). if b then single 0 else get_or (if b then ranges else slice_set ranges (rd.0 - 1) out) (rd.0 - 1) full) (ne_eqb rd.0 0 other)
-    ∙ get_or-set_same ranges (rd.0 - 1) out full (omega (arith, long, fits, other))
-
 target-fits : (instr : Instr) (rd : Register) → IsInstr instr → destination instr ≡ Some rd → IsRegister rd
 target-fits (Upper op other immediate) rd fits is = let same : other ≡ rd = cc in subst IsRegister same fits.0
 target-fits (Jal other offset) rd fits is = let same : other ≡ rd = cc in subst IsRegister same fits.0
@@ -163,13 +154,8 @@ target-fits Ecall rd fits is = absurd cc
 target-fits Ebreak rd fits is = absurd cc
 
 pub written-in : (r : RegisterFile) (content : Content) (ranges : List Range) (instr : Instr) (rd : Register) → length r.words ≡ 32 → length ranges ≡ 31
-    → ((x : Register) → read r x < 2 ^ 32) → HasBytes content → IsInstr instr → LieWithin r ranges → destination instr ≡ Some rd → rd.0 ≢ 0
-    → (effect r content instr).exec ≡ outcomes.Next → LiesIn (read (effect r content instr).registers rd) (result_range r.pc instr ranges)
-written-in r content ranges instr rd words long small bytes fits before is other goes =
-    let out : Range = result_range r.pc instr ranges in
-    let target : IsRegister rd = target-fits instr rd fits is in
+    → ((x : Register) → read r x < 2 ^ 32) → HasBytes content → IsInstr instr → LieWithin r ranges → destination instr ≡ Some rd
+    → (effect r content instr).exec ≡ outcomes.Next → LiesIn (read (effect r content instr).registers rd) (range_of (ranges_after r.pc instr ranges) rd)
+written-in r content ranges instr rd words long small bytes fits before is goes =
     let kept : LieWithin (effect r content instr).registers (ranges_after r.pc instr ranges) = instruction-keeps r content ranges instr words long small bytes fits before goes in
-    let behind : ranges_after r.pc instr ranges ≡ with_range ranges rd out = ap (λ (d : Option Register). option_map_or (λ (x : Register). with_range ranges x out) d ranges) is in
-    let here : LiesIn (read (effect r content instr).registers rd) (range_of (with_range ranges rd out) rd) =
-    subst (λ (x : List Range). LiesIn (read (effect r content instr).registers rd) (range_of x rd)) behind (kept rd.0 target) in
-    subst (λ (x : Range). LiesIn (read (effect r content instr).registers rd) x) (given-range ranges rd out long target other) here
+    kept rd.0 (target-fits instr rd fits is)

@@ -10,16 +10,16 @@ use Rattle.model.specs.declared.ranges.Range.{Range}
 use Rattle.model.specs.Acceptance.Edges.{branch_ranges}
 use Rattle.model.specs.Acceptance.Measures.{register_numbered}
 use Rattle.model.specs.Acceptance.NotedStates.{full_ranges}
-use Rattle.model.specs.Acceptance.RangeRules.{result_range}
+use Rattle.model.specs.Acceptance.RangeRules.{ranges_after}
 use Rattle.model.specs.Acceptance.Ranges.{range_of, with_range}
 use Rattle.std.specs.Prelude.{Bool, ℤ}
 
 abbrev pub with_both : Range → Range → List Range
 with_both r s = with_range (with_range full_ranges (register_numbered 5) r) (register_numbered 6) s
 
--- what an instruction at 0x1000 writes
+-- what an instruction at 0x1000 that writes x7 makes of it
 abbrev pub result_of : Instr → Range → Range → Range
-result_of instr r s = result_range 0x1000 instr (with_both r s)
+result_of instr r s = range_of (ranges_after 0x1000 instr (with_both r s)) (register_numbered 7)
 
 abbrev pub by_registers : RegisterOp → Range → Range → Range
 by_registers op r s = result_of (Registers op (register_numbered 7) (register_numbered 5) (register_numbered 6)) r s

@@ -13,7 +13,8 @@ ghost use Rattle.model.specs.Acceptance.Ranges.{range_of, single};
 ghost use Rattle.model.specs.Acceptance.Rules.{first_broken};
 ghost use Rattle.model.specs.declared.ranges.Range.{Range};
 ghost use Rattle.model.specs.declared.refusals.Refusal.TheVariants.{BadThread};
-ghost use Rattle.programs.specs.Certificates.{HasConstant, IsBare, IsOfForm, waited, with_image_slots};
+ghost use Rattle.model.specs.Images.Described.{Numbered};
+ghost use Rattle.programs.specs.Certificates.{HasConstant, IsBare, IsOfForm, sole, waited, with_image_slots};
 ghost use Rattle.image.specs.Stage.{is_staged, later, staged_image, staged_reading};
 
 /// What this release reads of bytes is the image that they spell.
@@ -46,7 +47,7 @@ pub fn records_of_the_form_are_bare()
 
 /// Where records are bare, each state that is noted has a constant for its measure.
 pub fn bare_records_note_constants()
-    ensures { (image : Image) (number : ℕ) (t : Thread) → All IsBare t.records → (point : ℕ) → HasConstant (noted image (number, t) point) }
+    ensures { (image : Image) (t : Numbered) → All IsBare t.thread.records → (point : ℕ) → HasConstant (noted image t point) }
 {}
 
 /// What is read of the form is accepted where its entry is a point of its program and the program keeps the rules.
@@ -59,5 +60,5 @@ pub fn images_of_the_form_are_accepted_by_their_programs()
 pub fn threads_of_the_form_may_wait()
     ensures { (t : Thread) (point : ℕ) (ranges : List Range) (m : Measure) → IsOfForm t
         → range_of ranges a7 ≡ single 5 → range_of ranges a0 ≡ single 1
-        → call_at (staged_image t) (0, t) point (with_image_slots t ranges m) ≡ Some (Ok (waited t ranges)) }
+        → call_at (staged_image t) (sole t) point (with_image_slots t ranges m) ≡ Some (Ok (waited t ranges)) }
 {}

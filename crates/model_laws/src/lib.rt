@@ -173,7 +173,6 @@ pub use setup_rows::untyped_memory_has_its_place;
 pub use slot_rows::noted_parents_are_slots;
 pub use slot_rows::noted_slots_rise;
 pub use slot_rows::noted_words_stand_for_a_capability;
-pub use soundness_laws::a_fresh_machine_is_sound;
 pub use soundness_laws::a_plain_step_stays_within_authority;
 pub use soundness_laws::a_tick_stays_within_authority;
 pub use soundness_laws::an_interrupt_stays_within_authority;

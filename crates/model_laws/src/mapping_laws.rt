@@ -9,5 +9,5 @@ ghost use Rattle.model.specs.declared.rights.Rights.{Rights};
 /// What is found at a page under a root table is what a frame's capability maps there.
 pub fn a_page_is_found_where_it_is_mapped()
     ensures { (s : State) (root page frame : ℕ) (allowed : Rights) → IsSound s
-        → Maps s.slots root page frame allowed ↔ (mapped s root page ≡ Some (frame, allowed)) }
+        → Maps s.slots root page frame allowed ↔ (mapped s root page ≡ Some (record { frame = frame; allowed = allowed })) }
 {}

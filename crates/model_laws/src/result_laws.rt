@@ -1,6 +1,6 @@
 //! Laws of results: what an instruction computes lies in the range that the rules give it.
 
-ghost use Rattle.std.specs.Prelude.{◌≡◌, ◌≢◌, ℕ, ◌<◌, ◌^◌, ℤ, List, length, Some};
+ghost use Rattle.std.specs.Prelude.{◌≡◌, ℕ, ◌<◌, ◌^◌, ℤ, List, length, Some};
 ghost use Rattle.model.specs.declared.instructions.Exec.TheVariants.{Next};
 ghost use Rattle.model.specs.declared.instructions.RegisterOp.{RegisterOp};
 ghost use Rattle.model.specs.declared.instructions.ImmediateOp.{ImmediateOp};
@@ -12,7 +12,8 @@ ghost use Rattle.model.specs.declared.ranges.Range.{Range};
 ghost use Rattle.model.specs.Machine.Instructions.{IsImmediate, IsInstr};
 ghost use Rattle.model.specs.Machine.ProgramMemory.{Content, FitsSize, RegisterFile, read};
 ghost use Rattle.model.specs.Machine.Effects.{effect, immediate_result, load_result, load_size, register_result, shift_result};
-ghost use Rattle.model.specs.Acceptance.RangeRules.{destination, immediate_range, load_range, ranges_after, register_range, result_range, shift_range};
+ghost use Rattle.model.specs.Acceptance.RangeRules.{destination, immediate_range, load_range, ranges_after, register_range, shift_range};
+ghost use Rattle.model.specs.Acceptance.Ranges.{range_of};
 ghost use Rattle.model.specs.Acceptance.ThreadInvariants.{LieWithin};
 ghost use Rattle.model_laws.specs.Inside.{LiesIn};
 
@@ -48,11 +49,11 @@ pub fn an_instruction_keeps_registers_in_their_ranges()
         → LieWithin (effect r content instr).registers (ranges_after r.pc instr ranges) }
 {}
 
-/// What an instruction that goes on writes to its destination lies in the range of its result.
+/// What an instruction that goes on writes to its destination lies in the range that this register has then.
 pub fn what_an_instruction_writes_lies_in_its_range()
     ensures { (r : RegisterFile) (content : Content) (ranges : List Range) (instr : Instr) (rd : Register)
         → length r.words ≡ 32 → length ranges ≡ 31 → ((x : Register) → read r x < 2 ^ 32)
         → ((place : ℕ) → content.byte place < 2 ^ 8) → IsInstr instr → LieWithin r ranges
-        → destination instr ≡ Some rd → rd.0 ≢ 0 → (effect r content instr).exec ≡ Next
-        → LiesIn (read (effect r content instr).registers rd) (result_range r.pc instr ranges) }
+        → destination instr ≡ Some rd → (effect r content instr).exec ≡ Next
+        → LiesIn (read (effect r content instr).registers rd) (range_of (ranges_after r.pc instr ranges) rd) }
 {}

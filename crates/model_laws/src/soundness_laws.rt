@@ -1,7 +1,6 @@
-//! Laws of sound states: the empty machine is one, and ticks, interrupts and plain
-//! steps stay within authority.
+//! Laws of sound states: ticks, interrupts and plain steps stay within authority.
 
-ghost use Rattle.std.specs.Prelude.{ℕ, ◌≡◌, ◌+◌, ◌≤◌, Option, Some};
+ghost use Rattle.std.specs.Prelude.{ℕ, ◌≡◌, Option, Some};
 ghost use Rattle.model.specs.Acceptance.Authority.{WithinAuthority, WithinInterrupt, WithinTick, self_of};
 ghost use Rattle.model.specs.Images.Image.{Image, Thread};
 ghost use Rattle.model.specs.Kernel.Interrupts.{raise};
@@ -9,14 +8,8 @@ ghost use Rattle.model.specs.Kernel.Messages.{with_registers};
 ghost use Rattle.model.specs.Machine.ProgramMemory.{RegisterFile};
 ghost use Rattle.model_laws.specs.Scenarios.{WritesOwnBytes};
 ghost use Rattle.model.specs.Kernel.Scheduling.{tick};
-ghost use Rattle.model.specs.Kernel.Setup.{boot_area};
 ghost use Rattle.model.specs.Kernel.Soundness.{IsSound};
 ghost use Rattle.model.specs.Kernel.State.{State, ThreadObject, ThreadState};
-
-/// The empty machine is sound.
-pub fn a_fresh_machine_is_sound()
-    ensures { (bits radix : ℕ) → 16 ≤ bits → bits ≤ 24 → 1 ≤ radix → radix ≤ 14 → radix + 5 ≤ bits → IsSound (boot_area bits radix) }
-{}
 
 /// A tick stays within authority.
 pub fn a_tick_stays_within_authority()

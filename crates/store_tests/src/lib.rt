@@ -1,5 +1,5 @@
-//! Tests of the public calls on capability slots, lookup, decoding, CNodes and address spaces, over a plain
-//! table of slots.
+//! Tests of the public calls on capability slots, lookup, decoding, CNodes and address spaces over a plain
+//! table of slots, and on queues of threads.
 #![tactic(auto)]
 
 #[cfg(test)]
@@ -20,3 +20,5 @@ mod nodes;
 mod tables;
 #[cfg(test)]
 mod trees;
+#[cfg(test)]
+mod waiting;

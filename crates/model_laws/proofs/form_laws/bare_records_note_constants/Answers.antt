@@ -3,4 +3,4 @@ use Rattle.programs.proofs.NotedConstants.{noted_constant}
 use Rattle.model_laws.proofs.form_laws.bare_records_note_constants.Goals as goal
 
 pub returns : goal.returns
-returns c = λ image number t bare point. noted_constant image (number, t) bare point
+returns c = noted_constant

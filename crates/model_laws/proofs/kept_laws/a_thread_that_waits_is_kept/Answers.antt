@@ -8,7 +8,7 @@ use Rattle.model.specs.declared.ranges.Range.{Range}
 use Rattle.model.specs.Acceptance.PointRules.{program_rules}
 use Rattle.model.specs.Acceptance.PointStates.{Noted, Known, Missing, Unmeasured, instruction_at, noted}
 use Rattle.model.specs.Acceptance.Rules.{first_broken}
-use Rattle.programs.specs.Certificates.{IsBare, IsWait, OnlyWaits, Rise, known_of}
+use Rattle.programs.specs.Certificates.{IsBare, IsWait, OnlyWaits, Rise, known_of, sole}
 use Rattle.image.specs.Stage.{staged_image}
 use Rattle.programs.proofs.Acceptance.{none-broken}
 use Rattle.model_laws.specs.Waiter.{waiter}
@@ -32,7 +32,7 @@ ranges_in (Known state) = state.ranges
 ranges_in Missing = []
 ranges_in Unmeasured = []
 
-at-start : IsWait (ranges_in (noted (staged_image waiter) (0, waiter) 0))
+at-start : IsWait (ranges_in (noted (staged_image waiter) (sole waiter) 0))
 unfolding opened
 at-start = (refl, refl)
 

@@ -1,4 +1,4 @@
--- The register is kept in the range behind the instruction, which is that of the result.
+-- Behind the instruction each register lies in its range.
 use Rattle.model_laws.proofs.Written.{written-in}
 use Rattle.model_laws.proofs.result_laws.what_an_instruction_writes_lies_in_its_range.Goals as goal
 

@@ -1,6 +1,0 @@
--- Nothing stands in its slots, and nothing else is there.
-use Rattle.model_laws.proofs.FreshMachines.{fresh-sound}
-use Rattle.model_laws.proofs.soundness_laws.a_fresh_machine_is_sound.Goals as goal
-
-pub returns : goal.returns
-returns c = fresh-sound
