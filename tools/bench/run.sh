@@ -8,7 +8,7 @@ trap 'rm -rf "$copy"' EXIT
 cp -r "$here/../../." "$copy"
 rm -rf "$copy/.git" "$copy/tools"
 git -C "$copy" init -q
-for name in exec_bench store_bench lookup_bench; do
+for name in exec_bench store_bench lookup_bench revoke_bench; do
     mkdir -p "$copy/crates/$name/src"
     cp "$here/$name.rt.in" "$copy/crates/$name/src/main.rt"
 done
@@ -18,8 +18,9 @@ cat >>"$copy/crates.txt" <<'LIST'
 exec_bench: model rv32_isa rv32_exec
 store_bench: model slots
 lookup_bench: model slots cspace
+revoke_bench: model kernel
 LIST
-for name in exec_bench store_bench lookup_bench; do
+for name in exec_bench store_bench lookup_bench revoke_bench; do
     (cd "$copy/crates/$name" && rt run >"$copy/$name.log" 2>&1)
 done
 echo "100 million instructions, proved:"
@@ -41,3 +42,16 @@ print(round(time.monotonic() - start, 3), "s,", peak, "KiB at most")' \
 done
 echo "100 million look-ups through one CNode:"
 time -p "$copy/crates/lookup_bench/out/lookup_bench"
+if command -v rustc >/dev/null; then
+    rustc -O -o "$copy/revoke_plain" "$here/revoke_plain.rs"
+fi
+for bits in 19 20 22; do
+    for shape in chains fan; do
+        echo "Revoke of 10,000 capabilities, $shape, memory of 2^$bits bytes:"
+        time -p "$copy/crates/revoke_bench/out/revoke_bench" "$shape" "$bits"
+        if [ -x "$copy/revoke_plain" ]; then
+            echo "the same in plain Rust:"
+            time -p "$copy/revoke_plain" "$shape" "$bits"
+        fi
+    done
+done
