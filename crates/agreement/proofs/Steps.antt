@@ -64,7 +64,7 @@ module _ (o : Tables) (slots now : Slots) (old new : List ℕ) (agrees : Agrees 
 
 -- ---- objects
 
-tables-beside : (s : State) (old new : List ℕ) → Agrees s old → SameBesideObjects s old new → TablesAgree s.slots new
+pub tables-beside : (s : State) (old new : List ℕ) → Agrees s old → SameBesideObjects s old new → TablesAgree s.slots new
 tables-beside s old new agrees same = agree-beside s.slots old new agrees.tables (record {
   size = same.size;
   bytes = λ table place named low high. same.bytes place (λ offset kind there kept. agrees.records table place offset kind named low high there kept);

@@ -1,3 +1,4 @@
 pub mod Agreement
 pub mod Growing
 pub mod Rooms
+pub mod Wholeness
