@@ -14,3 +14,4 @@ pub mod OneMore
 pub mod Puts
 pub mod RoomsMade
 pub mod Steps
+pub mod Whole
