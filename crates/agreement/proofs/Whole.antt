@@ -20,7 +20,7 @@ none-still s t sound after kinds place none =
       | Some byte ↦ λ is.
           let frame : kind_at t (frame_around place) ≡ Some NewFrame = (after.memory.bytes place).0 (subst (λ (b : Option ℕ). IsSome b) (sym is) refl) in
           let some = (sound.memory.bytes place).1 (sym (kinds (frame_around place)) ∙ frame) in
-          let clash : IsSome {A = ℕ} None = subst (λ (b : Option ℕ). IsSome b) none some in
+          let clash : IsSome {T = ℕ} None = subst (λ (b : Option ℕ). IsSome b) none some in
           absurd cc
     ] refl
 
