@@ -13,17 +13,17 @@ use rv32_exec::Regs;
 use std::marker::Model;
 
 /// The capability or the byte of a call; a receiver gets the sender's badge.
-const A0: Register = Register(10);
+pub const A0: Register = Register(10);
 
 /// The info word.
-const A1: Register = Register(11);
+pub const A1: Register = Register(11);
 
 /// How many words a message has at most.
 const MOST_WORDS: u32 = 8;
 
 /// A message: its label, and the first so many of the words.
 #[derive(Drop)]
-pub(crate) struct Message {
+pub struct Message {
     label: u32,
     count: u32,
     words: [u32; 8],
@@ -44,7 +44,7 @@ impl Model for Message {
 impl Message {
     /// The message in a sender's registers. A length above 8 counts as 8.
     #[tactic(auto, unfolding(model::specs::Kernel::Messages::word_registers))]
-    pub(crate) fn of(registers: &Regs) -> Self
+    pub fn of(registers: &Regs) -> Self
         ensures { result ≡ message_in registers.now }
     {
         let info = registers.read(A1);
@@ -117,6 +117,20 @@ impl Message {
 }
 
 impl Message {
+    /// Its label, below 2^20.
+    pub fn label(&self) -> u32
+        ensures { result ≡ self.now.label }
+    {
+        self.label
+    }
+
+    /// Its words, at most 8.
+    pub fn words(&self) -> &[u32]
+        ensures { result.now ≡ self.now.words }
+    {
+        &self.words[..self.count as usize]
+    }
+
     /// Whether it resumes a thread that faulted.
     pub(crate) fn resumes(&self) -> bool
         ensures { result ≡ (self.now.label == 0) }

@@ -1,0 +1,14 @@
+//! The system calls of a thread, over any store of slots.
+//! seL4 Reference Manual, "System Calls"; the numbers are this project's own.
+#![tactic(auto)]
+
+mod answers;
+mod calls;
+mod invocations;
+mod kinds;
+mod names;
+mod receives;
+mod rights;
+mod sends;
+
+pub use calls::system_call;
