@@ -4,7 +4,7 @@
 
 mod answers;
 mod calls;
-mod invocations;
+mod capability_calls;
 mod kinds;
 mod names;
 mod receives;

@@ -13,7 +13,7 @@ ghost use Rattle.soundness.specs.Running.{IsRunning};
 ghost use Rattle.system_calls.specs.Kinds.{send_call_of};
 
 use crate::answers::{answer, lacks_capability, pass, refuse};
-use crate::invocations::invoke_on;
+use crate::capability_calls::invoke_on;
 use crate::kinds::SendKind;
 use crate::names::named_slot;
 use crate::rights::{may_grant_reply, may_write};
