@@ -5,6 +5,7 @@
 
 mod calls;
 mod laws;
+mod line_calls;
 mod places;
 mod queue_calls;
 mod records;
