@@ -3,7 +3,6 @@
 
 ghost use Rattle.std.specs.Prelude.{◌≡◌, IfOk};
 ghost use Rattle.model.specs.Kernel.Arguments.{argument_slot, destination_slot, source_slot};
-ghost use Rattle.model.specs.Capabilities.Lookup.{called_slot};
 ghost use Rattle.model.specs.Capabilities.CapabilityWords.{IsCapability};
 ghost use Rattle.model.specs.Capabilities.Lookup.{called_slot};
 ghost use Rattle.model.specs.Capabilities.Slots.{IsFull};
@@ -24,20 +23,6 @@ pub fn argument_slot<S: SlotMap>(slots: &S, root: Cap, name: SlotName) -> Result
     match lookup(slots, root, name.address, name.depth) {
         Ok((slot, 0)) => Ok(slot),
         _ => Err(KError::FailedLookup),
-    }
-}
-
-/// The slot that an address names in the capability space of a root, by all its bits that are needed. An
-/// empty slot is a missing capability.
-pub fn called_slot<S: SlotMap>(slots: &S, root: Cap, address: u32) -> Result<Slot, LookupFailure>
-    requires { IsCapability root }
-    ensures { result ≡ called_slot (S.slots slots.now) root address }
-{
-    let (slot, _) = lookup(slots, root, address, 32)?;
-    if is_taken(slots, slot) {
-        Ok(slot)
-    } else {
-        Err(LookupFailure::MissingCapability)
     }
 }
 
