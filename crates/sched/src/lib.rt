@@ -21,22 +21,6 @@ pub fn yield_now<S: SlotStore>(store: &mut S, objects: &mut Objects, thread: u32
     ensures bytes { SameObjects (state_of objects.old (S.slots store.old) (S.memory store.old)) (state_of objects.new (S.slots store.new) (S.memory store.new)) (S.memory store.old) (S.memory store.new) }
     ensures order { S.order store.new ≡ S.order store.old }
 {
-}
-
-/// Ticks.
-pub fn tick<S: SlotStore>(store: &mut S, objects: &mut Objects)
-    requires sound { IsSound (state_of objects.old (S.slots store.old) (S.memory store.old)) }
-    ensures state { state_of objects.new (S.slots store.new) (S.memory store.new)
-        ≡ tick (state_of objects.old (S.slots store.old) (S.memory store.old)) }
-    ensures slots { S.slots store.new ≡ S.slots store.old }
-    ensures bytes { SameObjects (state_of objects.old (S.slots store.old) (S.memory store.old)) (state_of objects.new (S.slots store.new) (S.memory store.new)) (S.memory store.old) (S.memory store.new) }
-    ensures order { S.order store.new ≡ S.order store.old }
-{
-}
-
-/// Who runs.
-pub fn choose<S: SlotStore>(store: &S, objects: &Objects) -> Option<u32>
-    ensures { result ≡ current (state_of objects.now (S.slots store.now) (S.memory store.now)) }
-{
-    None
+    objects.set_slice(store, thread, 5);
+    objects.to_tail(store, thread);
 }
