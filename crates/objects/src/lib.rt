@@ -9,6 +9,7 @@ mod line_calls;
 mod places;
 mod queue_calls;
 mod records;
+mod scheduling_calls;
 mod tables;
 mod thread_calls;
 mod threads;
