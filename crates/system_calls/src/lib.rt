@@ -3,12 +3,8 @@
 #![tactic(auto)]
 
 mod answers;
-mod calls;
-mod capability_calls;
 mod kinds;
 mod names;
 mod receives;
 mod rights;
-mod sends;
 
-pub use calls::system_call;
