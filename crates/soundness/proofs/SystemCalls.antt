@@ -222,7 +222,7 @@ not-runnable : (s : State) (x y : ℕ) (status : Status) → is_runnable (thread
 not-runnable s x y status runs is stops same =
     let clash : true ≡ false = sym runs ∙ ap (λ (z : ℕ). is_runnable (thread_at s z).status) same ∙ ap is_runnable is ∙ stops in cc
 
-signaled-object : (s : State) (q badge thread : ℕ) (waiters : List ℕ) → IsSound s → kind_at s q ≡ Some NewNotification → IsRunning s thread
+pub signaled-object : (s : State) (q badge thread : ℕ) (waiters : List ℕ) → IsSound s → kind_at s q ≡ Some NewNotification → IsRunning s thread
     → (notification_at s q).waiters ≡ waiters
     → (signals s q badge (notification_at s q) waiters).objects thread ≡ s.objects thread
 signaled-object s q badge thread [] whole is runs none =
@@ -401,7 +401,7 @@ module _ (s : State) (thread : ℕ) (whole : IsSound s) (runs : IsRunning s thre
 
 -- ---- all of them
 
-called-whole : (s : State) (thread : ℕ) (call : SystemCall) → IsSound s → IsRunning s thread
+pub called-whole : (s : State) (thread : ℕ) (call : SystemCall) → IsSound s → IsRunning s thread
     → IsSound (calls s thread call).0
 called-whole s thread (Sends kind) whole runs = sent_named-whole s thread whole runs kind (named_slot s thread) refl
 called-whole s thread (Receives kind) whole runs = received_named-whole s thread whole runs kind (named_slot s thread) refl

@@ -6,5 +6,7 @@ mod answers;
 mod kinds;
 mod names;
 mod receives;
+mod replies;
 mod rights;
+mod sends;
 

@@ -1,6 +1,6 @@
 //! The capability that a call names.
 
-ghost use Rattle.std.specs.Prelude.{ℕ, ◌≡◌, IfErr, IfOk, ◌≤◌};
+ghost use Rattle.std.specs.Prelude.{ℕ, ◌≡◌, ◌<◌, ◌≤◌, ◌^◌, IfErr, IfOk};
 ghost use Rattle.model.specs.Capabilities.CapabilityWords.{IsCapability};
 ghost use Rattle.model.specs.Capabilities.LookupNumbers.{bits_left_of};
 ghost use Rattle.model.specs.Capabilities.Slots.{IsFull};
@@ -15,6 +15,7 @@ use objects::Objects;
 use slots::SlotStore;
 
 /// The root of a thread's capability space, which stands in its slot 0.
+#[tactic(auto, unfolding(objects::specs::Tables::state_of))]
 pub(crate) fn cspace_of<S: SlotStore>(store: &S, objects: &Objects, thread: u32) -> Cap
     requires { thread < 2 ^ 24 }
     ensures value { result ≡ cspace_of (state_of objects.now (S.slots store.now) (S.memory store.now)) thread }
@@ -24,13 +25,16 @@ pub(crate) fn cspace_of<S: SlotStore>(store: &S, objects: &Objects, thread: u32)
 }
 
 /// The slot that a thread's a0 names, which holds a capability.
+#[tactic(auto, unfolding(objects::specs::Tables::state_of))]
 pub(crate) fn named_slot<S: SlotStore>(
     store: &S,
     objects: &Objects,
     thread: u32,
 ) -> Result<Slot, LookupFailure>
     requires { thread < 2 ^ 24 }
-    ensures { result ≡ named_slot (state_of objects.now (S.slots store.now) (S.memory store.now)) thread }
+    ensures value { result ≡ named_slot (state_of objects.now (S.slots store.now) (S.memory store.now)) thread }
+    ensures full { IfOk result (IsFull (S.slots store.now)) }
+    ensures few { IfErr result (λ failure. bits_left_of failure ≤ 32) }
 {
     let root = cspace_of(store, objects, thread);
     called_slot(store, root, objects.registers(store, thread).read(A0))

@@ -3,7 +3,6 @@
 ghost use Rattle.std.specs.Prelude.{◌≡◌};
 ghost use Rattle.model.specs.Capabilities.Rights.{may_grant_reply, may_read, may_write};
 
-use bitflags::Flags;
 use model::Rights;
 
 /// Whether messages may be sent, and signals given.

@@ -1,0 +1,23 @@
+-- A call on objects by its definition leaves what is whole whole.
+use Rattle.std.proofs.Common.{ℕ, ◌≡◌, ◌∙◌, ◌^◌, ◌<◌, ◌≤◌, List, Some, sym, ap, subst, arith}
+use Rattle.std.proofs.Math.Pow.{pow_mono}
+use Rattle.agreement.proofs.Whole.{whole-kept}
+use Rattle.agreement.specs.Wholeness.{IsWhole}
+use Rattle.model.specs.Kernel.Kinds.{kind_at}
+use Rattle.model.specs.Kernel.Retype.{NewThread}
+use Rattle.model.specs.Kernel.Soundness.{IsSound}
+use Rattle.model.specs.Kernel.State.{State}
+use Rattle.objects.specs.Frames.{SameObjects}
+use Rattle.soundness.proofs.Places.{object-inside}
+use Rattle.soundness.specs.Machines.{SameBase}
+
+pub kept : (s t u : State) (old new : List ℕ) → IsWhole s old → t ≡ u → IsSound u → SameBase s u → SameObjects s t old new → IsWhole t new
+kept s t u old new whole is sound base same =
+    whole-kept s t old new whole (subst IsSound (sym is) sound) (ap (λ (x : State). x.slots) is ∙ base.slots) (ap (λ (x : State). x.memory_bits) is ∙ base.memory_bits) same
+
+-- a thread stands in the 2^24 bytes that memory has at most
+pub thread-near : (s : State) (thread : ℕ) → IsSound s → kind_at s thread ≡ Some NewThread → thread < 2 ^ 24
+thread-near s thread sound is =
+    let inside = (object-inside s sound.memory thread NewThread is).1 in
+    let most : 2 ^ s.memory_bits ≤ 2 ^ 24 = pow_mono sound.shape.most_bits in
+    omega (arith, inside, most)

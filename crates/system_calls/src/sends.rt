@@ -1,0 +1,136 @@
+//! Messages and signals that are sent.
+
+ghost use Rattle.std.specs.Prelude.{ℕ, ◌≡◌, ◌<◌, ◌≤◌, ◌^◌, Some};
+ghost use Rattle.agreement.specs.Wholeness.{IsWhole};
+ghost use Rattle.model.specs.Capabilities.LookupNumbers.{bits_left_of};
+ghost use Rattle.model.specs.Kernel.Kinds.{kind_at};
+ghost use Rattle.model.specs.Kernel.Messages.{signal};
+ghost use Rattle.model.specs.Kernel.Retype.{NewEndpoint, NewNotification};
+ghost use Rattle.model.specs.Kernel.Steps.{send_on, sends_nothing, signal_on};
+ghost use Rattle.objects.specs.Tables.{state_of};
+ghost use Rattle.soundness.specs.Running.{IsRunning};
+ghost use Rattle.system_calls.specs.Kinds.{send_call_of};
+
+use crate::answers::{answer, lacks_capability, pass};
+use crate::kinds::SendKind;
+use ipc::{send, try_to_send};
+use model::{LookupFailure, Outcome};
+use notify::signal;
+use objects::{Objects, Sending, Sent};
+use slots::SlotStore;
+
+/// What a thread sends by a capability with this badge.
+fn sending(sent: Sent, badge: u32, grant_reply: bool) -> Sending
+    ensures { result ≡ record { sent = sent; badge = badge; grant_reply = grant_reply } }
+{
+    Sending {
+        sent,
+        badge,
+        grant_reply,
+    }
+}
+
+/// A thread sends to an endpoint, by a capability with this badge.
+pub(crate) fn send_on<S: SlotStore>(
+    store: &mut S,
+    objects: &mut Objects,
+    thread: u32,
+    kind: SendKind,
+    endpoint: u32,
+    badge: u32,
+    grant_reply: bool,
+) -> Outcome
+    requires whole { IsWhole (state_of objects.old (S.slots store.old) (S.memory store.old)) (S.memory store.old) }
+    requires runs { IsRunning (state_of objects.old (S.slots store.old) (S.memory store.old)) thread }
+    requires endpoint { kind_at (state_of objects.old (S.slots store.old) (S.memory store.old)) endpoint ≡ Some NewEndpoint }
+    requires small { badge < 2 ^ 28 }
+    ensures state { state_of objects.new (S.slots store.new) (S.memory store.new)
+        ≡ (send_on (state_of objects.old (S.slots store.old) (S.memory store.old)) thread (send_call_of kind) endpoint badge grant_reply).0 }
+    ensures outcome { result ≡ (send_on (state_of objects.old (S.slots store.old) (S.memory store.old)) thread (send_call_of kind) endpoint badge grant_reply).1 }
+    ensures whole { IsWhole (state_of objects.new (S.slots store.new) (S.memory store.new)) (S.memory store.new) }
+{
+    match kind {
+        SendKind::Call => {
+            send(store, objects, endpoint, thread, sending(Sent::Call, badge, grant_reply));
+            Outcome::Waited
+        }
+        SendKind::Send => {
+            send(store, objects, endpoint, thread, sending(Sent::Send, badge, grant_reply));
+            Outcome::Waited
+        }
+        SendKind::Try => {
+            try_to_send(store, objects, endpoint, thread, sending(Sent::Send, badge, grant_reply));
+            Outcome::Plain
+        }
+    }
+}
+
+/// A thread signals a notification, and runs on.
+fn give_signal<S: SlotStore>(
+    store: &mut S,
+    objects: &mut Objects,
+    thread: u32,
+    notification: u32,
+    badge: u32,
+)
+    requires whole { IsWhole (state_of objects.old (S.slots store.old) (S.memory store.old)) (S.memory store.old) }
+    requires runs { IsRunning (state_of objects.old (S.slots store.old) (S.memory store.old)) thread }
+    requires notification { kind_at (state_of objects.old (S.slots store.old) (S.memory store.old)) notification ≡ Some NewNotification }
+    requires small { badge < 2 ^ 28 }
+    ensures state { state_of objects.new (S.slots store.new) (S.memory store.new)
+        ≡ signal (state_of objects.old (S.slots store.old) (S.memory store.old)) notification badge }
+    ensures whole { IsWhole (state_of objects.new (S.slots store.new) (S.memory store.new)) (S.memory store.new) }
+    ensures runs { IsRunning (state_of objects.new (S.slots store.new) (S.memory store.new)) thread }
+{
+    signal(store, objects, notification, badge);
+}
+
+/// A thread signals a notification, by a capability with this badge.
+pub(crate) fn signal_on<S: SlotStore>(
+    store: &mut S,
+    objects: &mut Objects,
+    thread: u32,
+    kind: SendKind,
+    notification: u32,
+    badge: u32,
+) -> Outcome
+    requires whole { IsWhole (state_of objects.old (S.slots store.old) (S.memory store.old)) (S.memory store.old) }
+    requires runs { IsRunning (state_of objects.old (S.slots store.old) (S.memory store.old)) thread }
+    requires notification { kind_at (state_of objects.old (S.slots store.old) (S.memory store.old)) notification ≡ Some NewNotification }
+    requires small { badge < 2 ^ 28 }
+    ensures state { state_of objects.new (S.slots store.new) (S.memory store.new)
+        ≡ (signal_on (state_of objects.old (S.slots store.old) (S.memory store.old)) thread (send_call_of kind) notification badge).0 }
+    ensures outcome { result ≡ (signal_on (state_of objects.old (S.slots store.old) (S.memory store.old)) thread (send_call_of kind) notification badge).1 }
+    ensures whole { IsWhole (state_of objects.new (S.slots store.new) (S.memory store.new)) (S.memory store.new) }
+{
+    give_signal(store, objects, thread, notification, badge);
+    answer(store, objects, thread, kind, 0);
+    Outcome::Plain
+}
+
+/// Without a capability NBSend does nothing, and the others fault.
+pub(crate) fn send_nothing<S: SlotStore>(
+    store: &mut S,
+    objects: &mut Objects,
+    thread: u32,
+    kind: SendKind,
+    failure: LookupFailure,
+) -> Outcome
+    requires whole { IsWhole (state_of objects.old (S.slots store.old) (S.memory store.old)) (S.memory store.old) }
+    requires runs { IsRunning (state_of objects.old (S.slots store.old) (S.memory store.old)) thread }
+    requires few { bits_left_of failure ≤ 32 }
+    ensures state { state_of objects.new (S.slots store.new) (S.memory store.new)
+        ≡ (sends_nothing (state_of objects.old (S.slots store.old) (S.memory store.old)) thread (send_call_of kind) failure).0 }
+    ensures outcome { result ≡ (sends_nothing (state_of objects.old (S.slots store.old) (S.memory store.old)) thread (send_call_of kind) failure).1 }
+    ensures whole { IsWhole (state_of objects.new (S.slots store.new) (S.memory store.new)) (S.memory store.new) }
+{
+    match kind {
+        SendKind::Call | SendKind::Send => {
+            lacks_capability(store, objects, thread, false, failure)
+        }
+        SendKind::Try => {
+            pass(store, objects, thread);
+            Outcome::Plain
+        }
+    }
+}
