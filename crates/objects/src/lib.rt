@@ -9,6 +9,7 @@ mod line_calls;
 mod places;
 mod queue_calls;
 mod records;
+mod scheduling_calls;
 mod tables;
 mod thread_calls;
 mod threads;
@@ -19,4 +20,4 @@ pub use laws::{
     what_fits_still_does,
 };
 pub use records::{Fault, Kind, Sending, Sent, Status, Thread, WaitingSender};
-pub use tables::Objects;
+pub use tables::{FULL_SLICE, Objects};
