@@ -1,0 +1,3 @@
+pub mod Checks
+pub mod Putting
+pub mod ThreadsNear
