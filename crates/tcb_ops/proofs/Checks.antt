@@ -1,7 +1,7 @@
 -- Configure makes all its checks first.
-use Rattle.std.proofs.Common.{ℕ, ◌≡◌, ◌∙◌, ◌&&◌, ◌+◌, ◌/◌, ◌^◌, ◌<◌, ◌≤◌, true, false, not, is_some, Option, Some, Result, Ok, Err, refl, sym, ap, subst, arith}
+use Rattle.std.proofs.Common.{ℕ, ◌≡◌, ◌∙◌, ◌&&◌, ◌+◌, ◌/◌, ◌<◌, true, false, not, is_some, Option, Some, Result, Ok, Err, refl, sym, ap, subst, arith}
 use Rattle.std.proofs.lemmas.Bool.{and_parts, not-true}
-use Rattle.model.specs.Capabilities.CapabilityKinds.{Node, cnode_of, root_of}
+use Rattle.model.specs.Capabilities.CapabilityKinds.{cnode_of, root_of}
 use Rattle.model.specs.Capabilities.Slots.{IsFull, Slots, capability_at, empty_entry, is_full}
 use Rattle.model.specs.Kernel.Arguments.{◌>>=◌, argument_slot, check, may_have_child, source_slot, wanted}
 use Rattle.model.specs.Kernel.Kinds.{kind_at}

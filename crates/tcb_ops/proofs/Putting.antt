@@ -1,17 +1,16 @@
 -- Copies come into the slots of a thread, one after the other.
-use Rattle.std.proofs.Common.{ℕ, ◌≡◌, ◌∙◌, ◌==◌, ◌+◌, ◌/◌, ◌<◌, inl, inr, true, if◌then◌else◌, is_some, Option, Some, None, refl, sym, ap, arith}
+use Rattle.std.proofs.Common.{ℕ, ◌≡◌, ◌∙◌, ◌==◌, ◌/◌, ◌<◌, inl, inr, true, if◌then◌else◌, is_some, Option, Some, None, refl, sym, ap, arith}
 use Rattle.std.proofs.lemmas.Bool.Decides.{eqb_tells}
 use Rattle.model.proofs.Depths.{depth-leaf}
 use Rattle.model.proofs.SlotChanges.{full-not-empty, parent_of}
-use Rattle.model.specs.Capabilities.CapabilityKinds.{Node, cnode_of}
+use Rattle.model.specs.Capabilities.CapabilityKinds.{cnode_of}
 use Rattle.model.specs.Capabilities.CapabilityWords.{IsCapability}
-use Rattle.model.specs.Capabilities.Slots.{IsDerivation, IsFull, Slots, capability_at, depth_of, empty_entry, inserted, parent_at}
+use Rattle.model.specs.Capabilities.Slots.{IsDerivation, IsFull, Slots, depth_of, empty_entry, inserted, parent_at}
 use Rattle.model.specs.Kernel.State.{cspace_slot}
 use Rattle.model.specs.Kernel.ThreadCalls.{given_guard_fits, with_guard}
 use Rattle.model.specs.declared.capabilities.Cap.{Cap}
 use Rattle.model.specs.declared.slot_entries.Entry.{Entry}
 use Rattle.soundness.proofs.Copies.{IsQuiet, cnode-quiet, no-badge, payload-valid}
-use Rattle.tcb_ops.specs.Configuring.{MayConfigure}
 
 -- ---- the copy of the CNode's capability
 

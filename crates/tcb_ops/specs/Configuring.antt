@@ -1,6 +1,6 @@
 -- What Configure checks, and what it puts into the slots of a thread.
 -- seL4 Reference Manual, seL4_TCB_Configure.
-use Rattle.std.specs.Prelude.{ℕ, ◌≡◌, ◌<◌, ◌&&◌, IsSome, not, true, false, Option, Some, Result, Ok}
+use Rattle.std.specs.Prelude.{ℕ, ◌≡◌, ◌<◌, ◌&&◌, IsSome, not, true, Option, Some, Result, Ok}
 use Rattle.model.specs.Capabilities.CapabilityKinds.{cnode_of, root_of}
 use Rattle.model.specs.Capabilities.Slots.{IsDerivation, IsFull, Slots, capability_at, depth_of, empty_entry, inserted, is_full}
 use Rattle.model.specs.Kernel.Arguments.{◌>>=◌, check, may_have_child, source_slot, wanted}
