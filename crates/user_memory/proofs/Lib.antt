@@ -1,3 +1,5 @@
-pub mod Reading
 pub mod Named
+pub mod Reading
+pub mod Running
+pub mod Writing
 pub mod Written

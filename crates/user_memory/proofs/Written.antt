@@ -15,7 +15,7 @@ use Rattle.model.specs.Kernel.State.{State}
 use Rattle.model.specs.Machine.ProgramMemory.{put_byte}
 use Rattle.model.specs.Shared.Bytes.{written}
 use Rattle.objects.specs.Tables.{Tables, byte_in, is_frame, record_in, state_of}
-use Rattle.user_memory.specs.Views.{Beside, IsUsable, beside_of, content_under, some_byte}
+use Rattle.user_memory.specs.Views.{Beside, IsUsable, beside_of, content_under}
 use Rattle.vspace.proofs.AgreementSlots.{agree-beside}
 use Rattle.vspace.specs.Agreement.{SameInTables}
 use Rattle.vspace.specs.Kept.{IsNamedTable}
@@ -99,11 +99,6 @@ module _ (o : Tables) (slots : Slots) (memory : List ℕ) (place value : ℕ) (s
   content-put root = λ i. record (content_under (state_of o slots memory) root) { byte = λ other. byte-seen other i }
 
   -- what no program changes
-  rest-if : (c : Bool) (b : Option ℕ) → (c ≡ true → IsSome b) → some_byte (if c then Some value else b) ≡ some_byte b
-  rest-if false b some = refl
-  rest-if true None some = absurd (let clash : false ≡ true = some refl in cc)
-  rest-if true (Some byte) some = refl
-
   beside-if : (c : Bool) (b : Option ℕ) (new old : ℕ) → (c ≡ true → IsSome b) → (c ≡ false → new ≡ old)
       → option_map_or (λ _. 0) (if c then Some value else b) new ≡ option_map_or (λ _. 0) b old
   beside-if false None new old some same = same refl
@@ -120,10 +115,6 @@ module _ (o : Tables) (slots : Slots) (memory : List ℕ) (place value : ℕ) (s
   there-same : (other : ℕ) → (other == place) ≡ false → slice_index (written memory place (value ∷ [])) other ≡ slice_index memory other
   there-same other apart = one-byte memory place value other inside ∙ ap (λ b. if b then value else slice_index memory other) apart
 
-  mark-same : (other : ℕ) → some_byte ((state_of o slots (written memory place (value ∷ []))).bytes other)
-      ≡ some_byte ((state_of o slots memory).bytes other)
-  mark-same other = ap some_byte (bytes-put other) ∙ rest-if (other == place) _ (here-some other)
-
   beside-same : (other : ℕ) → option_map_or (λ _. 0) ((state_of o slots (written memory place (value ∷ []))).bytes other) (slice_index (written memory place (value ∷ [])) other)
       ≡ option_map_or (λ _. 0) ((state_of o slots memory).bytes other) (slice_index memory other)
   beside-same other =
@@ -133,15 +124,8 @@ module _ (o : Tables) (slots : Slots) (memory : List ℕ) (place value : ℕ) (s
   size-same : length (written memory place (value ∷ [])) ≡ length memory
   size-same = length-written memory place (value ∷ []) (omega (arith, inside))
 
-  pub rest-same : (store : ℕ) → beside_of (state_of o slots (written memory place (value ∷ []))) (written memory place (value ∷ [])) store
-      ≡ beside_of (state_of o slots memory) memory store
-  unfolding state_of
-  rest-same store = λ i. record {
-    state = record (state_of o slots memory) { bytes = λ other. mark-same other i };
-    bytes = λ other. beside-same other i;
-    size = size-same i;
-    store = store;
-  }
+  pub rest-same : (root : Option ℕ) (store : ℕ) → beside_of o slots (written memory place (value ∷ [])) root store ≡ beside_of o slots memory root store
+  rest-same root store = λ i. record (beside_of o slots memory root store) { bytes = λ other. beside-same other i; size = size-same i }
 
   -- and what a program relies on
   none-same : (other : ℕ) → (state_of o slots memory).bytes other ≡ None → slice_index (written memory place (value ∷ [])) other ≡ slice_index memory other

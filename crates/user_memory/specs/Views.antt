@@ -1,6 +1,6 @@
 -- Memory under a root table, and what is true of it.
 -- seL4 Reference Manual, "Address Spaces and Virtual Memory".
-use Rattle.std.specs.Prelude.{ℕ, ◌≡◌, IsSome, Option, Some, None, List, length, option_and_then, option_map, slice_index}
+use Rattle.std.specs.Prelude.{ℕ, ◌≡◌, IsSome, Option, Some, None, List, length, option_and_then, slice_index}
 use Rattle.std.specs.Option.{option_map_or}
 use Rattle.agreement.specs.Agreement.{Agrees}
 use Rattle.model.specs.Capabilities.Slots.{Slots, capability_at}
@@ -11,6 +11,7 @@ use Rattle.model.specs.Machine.ProgramMemory.{Content}
 use Rattle.model.specs.declared.capabilities.Cap.TheVariants.{Frame, RootTable}
 use Rattle.model.specs.declared.capabilities.FrameMapping.{FrameMapping}
 use Rattle.model.specs.declared.rights.Rights.{Rights}
+use Rattle.objects.specs.Tables.{Tables, state_of}
 use Rattle.vspace.specs.Tables.{AreNear, Holds}
 
 -- memory under a root table; without one no address has a place
@@ -28,21 +29,22 @@ pub record IsUsable (s : State) (memory : List ℕ) (root : Option ℕ) : Type 0
   pub framed : (slot frame place : ℕ) (r : Rights) (m : Option FrameMapping) → capability_at s.slots slot ≡ Frame frame r m → frame_around place ≡ frame
       → IsSome (s.bytes place)
 
--- what no store of a program changes: the state but for bytes of frames, the bytes of memory in no frame, and which store it is
+-- what no store of a program changes: all but the bytes of frames, and which store it is
 pub record Beside : Type 0 where
-  pub state : State
+  pub objects : Tables
+  pub slots : Slots
+  pub root : Option ℕ
   pub bytes : ℕ → ℕ
   pub size : ℕ
   pub store : ℕ
 
--- that there is a byte, and not which
-abbrev pub some_byte : Option ℕ → Option ℕ
-some_byte byte = option_map (λ _. 0) byte
-
-abbrev pub beside_of : State → List ℕ → ℕ → Beside
-beside_of s memory store = record {
-  state = record s { bytes = λ place. some_byte (s.bytes place) };
-  bytes = λ place. option_map_or (λ _. 0) (s.bytes place) (slice_index memory place);
+-- of memory in frames no byte shows
+abbrev pub beside_of : Tables → Slots → List ℕ → Option ℕ → ℕ → Beside
+beside_of o slots memory root store = record {
+  objects = o;
+  slots = slots;
+  root = root;
+  bytes = λ place. option_map_or (λ _. 0) ((state_of o slots memory).bytes place) (slice_index memory place);
   size = length memory;
   store = store;
 }

@@ -24,7 +24,7 @@ impl<S: SlotStore> View for UserMemory<'_, '_, S> {
 
     ghost Rest = { Beside };
 
-    ghost rest = { λ view. beside_of (state_of view.objects.now (S.slots view.store.now) (S.memory view.store.now)) (S.memory view.store.now) view.store.ghost_name };
+    ghost rest = { λ view. beside_of view.objects.now (S.slots view.store.now) (S.memory view.store.now) view.root view.store.ghost_name };
 
     fn place(&self, address: u32, access: Access) -> Result<u32, MemoryFault> {
         let space = Space {
