@@ -1,5 +1,6 @@
 pub mod Named
 pub mod Reading
 pub mod Running
+pub mod Words
 pub mod Writing
 pub mod Written

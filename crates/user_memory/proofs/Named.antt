@@ -1,30 +1,28 @@
 -- A place that an address names lies in a frame that a capability maps.
-use Rattle.std.proofs.Common.{ℕ, ◌≡◌, ◌∙◌, ◌+◌, ◌-◌, ◌/◌, ◌%◌, ◌^◌, ◌<◌, ◌≤◌, Bool, true, false, if◌then◌else◌, Option, Some, None, IsSome, Result, Ok, Err, List, [], ◌∷◌, length, refl, sym, ap, subst, arith}
+use Rattle.std.proofs.Common.{ℕ, ◌≡◌, ◌∙◌, ◌+◌, ◌/◌, ◌%◌, ◌^◌, ◌<◌, Bool, true, false, if◌then◌else◌, Option, Some, None, IsSome, Ok, Err, List, [], ◌∷◌, length, refl, sym, ap, subst, arith}
 use Rattle.std.specs.Prelude.{filter_map, option_and_then}
 use Rattle.agreement.specs.Agreement.{Agrees}
 use Rattle.agreement.proofs.Steps.{no-slot}
 use Rattle.model.specs.Capabilities.CapabilityWords.{IsCapability}
 use Rattle.model.specs.Capabilities.Slots.{OutsideSlots, Slots, capability_at}
 use Rattle.model.specs.Kernel.AddressSpaces.{MappedFrame, allows, mapped, page_of, page_size, place_in, place_under}
-use Rattle.model.specs.Kernel.Kinds.{frame_around}
 use Rattle.model.specs.Kernel.Scheduling.{head_of}
 use Rattle.model.specs.Kernel.State.{State, slots_of}
-use Rattle.model.specs.Machine.ProgramMemory.{Content, IsNamed, named, place_at}
+use Rattle.model.specs.Machine.ProgramMemory.{IsNamed, named}
 use Rattle.model.specs.declared.capabilities.Cap.{Cap}
 use Rattle.model.specs.declared.capabilities.Cap.TheVariants.{Empty, Untyped, Endpoint, Notification, CNode, Frame, PageTable, Tcb, RootTable, InterruptControl, InterruptHandler}
 use Rattle.model.specs.declared.capabilities.FrameMapping.{FrameMapping}
 use Rattle.model.specs.declared.instructions.Access.{Access}
-use Rattle.model.specs.declared.instructions.MemoryFault.{MemoryFault}
 use Rattle.model.specs.declared.rights.Rights.{Rights}
 use Rattle.user_memory.specs.Views.{IsUsable, content_under}
 
 -- ---- what an answer says of its parts
 
-and-then : {A B : Type 0} (f : A → Option B) (o : Option A) (b : B) → option_and_then f o ≡ Some b → (a : A) × (o ≡ Some a) × (f a ≡ Some b)
+pub and-then : {A B : Type 0} (f : A → Option B) (o : Option A) (b : B) → option_and_then f o ≡ Some b → (a : A) × (o ≡ Some a) × (f a ≡ Some b)
 and-then f None b is = absurd (let clash : None ≡ Some b = is in cc)
 and-then f (Some a) b is = (a, refl, is)
 
-place-found : (o : Option ℕ) (access : Access) (address place : ℕ) → named o access address ≡ Ok place → o ≡ Some place
+pub place-found : (o : Option ℕ) (access : Access) (address place : ℕ) → named o access address ≡ Ok place → o ≡ Some place
 place-found None access address place is = absurd (let clash : Err (record { address = address; access = access }) ≡ Ok place = is in cc)
 place-found (Some found) access address place is = let same : Ok found ≡ Ok place = is in let e : found ≡ place = cc in ap Some e
 

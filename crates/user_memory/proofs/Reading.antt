@@ -1,6 +1,6 @@
 -- What reading and writing need, from a fact that is only known to be true.
-use Rattle.std.proofs.Common.{ℕ, ◌≡◌, ◌∙◌, ◌+◌, ◌/◌, ◌%◌, ◌^◌, ◌<◌, Option, Some, None, IsSome, Result, Ok, Err, List, length, refl, sym, ap, subst, arith}
-use Rattle.std.proofs.Math.Logic.{∥∥₁_elim, ∥∥₁_map}
+use Rattle.std.proofs.Common.{ℕ, ◌≡◌, ◌∙◌, ◌/◌, ◌^◌, ◌<◌, Option, Some, None, IsSome, Result, Ok, Err, List, length, refl, sym, ap}
+use Rattle.std.proofs.Math.Logic.{∥∥₁_elim}
 use Rattle.std.specs.Coded.{coded_bool, coded_option, coded_ℕ, le_prop}
 use base.Stored.{Coded-set}
 use Rattle.std.specs.Option.{ok_or, option_map_or}
@@ -8,12 +8,10 @@ use Rattle.std.specs.Prelude.{slice_index}
 use Rattle.model.specs.Capabilities.Slots.{OutsideSlots, Slots}
 use Rattle.model.specs.Kernel.AddressSpaces.{place_under}
 use Rattle.model.specs.Kernel.State.{State}
-use Rattle.model.specs.Machine.ProgramMemory.{Content, IsNamed, named, place_at}
+use Rattle.model.specs.Machine.ProgramMemory.{IsNamed, named, place_at}
 use Rattle.model.specs.Machine.Sv32.{page_fault, walk}
 use Rattle.model.specs.declared.instructions.Access.{Access}
-use Rattle.model.specs.declared.instructions.MemoryFault.{MemoryFault}
 use Rattle.model.specs.declared.instructions.PageFault.{PageFault}
-use Rattle.model.specs.declared.slot_entries.Entry.{Entry}
 use Rattle.objects.specs.Tables.{Tables, state_of}
 use Rattle.user_memory.proofs.Named.{named-mapped, place-inside, place-outside, place-some}
 use Rattle.user_memory.proofs.Written.{byte-there}

@@ -74,7 +74,7 @@ module _ (o : Tables) (slots : Slots) (old new : List ℕ) where
 
   module _ (agrees : Agrees (state_of o slots old) old) (size : length new ≡ length old)
       (same : (place : ℕ) → option_map_or (λ _. 0) ((state_of o slots new).bytes place) (slice_index new place)
-          ≡ option_map_or (λ _. 0) ((state_of o slots old).bytes place) (slice_index old place)) where
+      ≡ option_map_or (λ _. 0) ((state_of o slots old).bytes place) (slice_index old place)) where
     outside-same : (place : ℕ) → (state_of o slots old).bytes place ≡ None → slice_index new place ≡ slice_index old place
     unfolding state_of
     outside-same place none = none-same (in_frame place) (slice_index new place) (slice_index old place) none (same place)

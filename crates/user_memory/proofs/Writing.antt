@@ -1,14 +1,13 @@
 -- A byte that a program writes, in the store's own words.
-use Rattle.std.proofs.Common.{ℕ, ◌≡◌, ◌∙◌, ◌/◌, ◌<◌, Option, None, List, [], ◌∷◌, length, refl, sym, ap, subst}
+use Rattle.std.proofs.Common.{ℕ, ◌≡◌, ◌∙◌, ◌<◌, Option, List, [], ◌∷◌, length, sym, ap, subst}
 use Rattle.std.proofs.Math.Logic.{∥∥₁_map}
 use Rattle.model.specs.Capabilities.Slots.{OutsideSlots, Slots}
-use Rattle.model.specs.Kernel.State.{State}
-use Rattle.model.specs.Machine.ProgramMemory.{Content, IsNamed, put_byte}
+use Rattle.model.specs.Machine.ProgramMemory.{IsNamed, put_byte}
 use Rattle.model.specs.Shared.Bytes.{written}
 use Rattle.objects.specs.Tables.{Tables, state_of}
 use Rattle.user_memory.proofs.Reading.{named-inside, named-outside, named-some}
 use Rattle.user_memory.proofs.Written.{content-put, rest-same, usable-still}
-use Rattle.user_memory.specs.Views.{Beside, IsUsable, beside_of, content_under}
+use Rattle.user_memory.specs.Views.{IsUsable, beside_of, content_under}
 
 module _ (o : Tables) (slots : Slots) (memory : List ℕ) (root : Option ℕ) (place value : ℕ) (usable : ∥ IsUsable (state_of o slots memory) memory root ∥₁)
     (is : IsNamed (content_under (state_of o slots memory) root) place) where

@@ -1,6 +1,6 @@
 -- A byte that is written into a frame: what the program sees, and what stays.
-use Rattle.std.proofs.Common.{ℕ, ◌≡◌, ◌≢◌, ◌∙◌, ◌==◌, ◌+◌, ◌/◌, ◌^◌, ◌<◌, ◌≤◌, inl, inr, Bool, true, false, if◌then◌else◌, Option, Some, None, IsSome, List, [], ◌∷◌, length, refl, sym, ap, subst, arith}
-use Rattle.std.specs.Prelude.{is_some, slice_index}
+use Rattle.std.proofs.Common.{ℕ, ◌≡◌, ◌∙◌, ◌==◌, ◌+◌, ◌<◌, inl, inr, Bool, true, false, if◌then◌else◌, Option, Some, None, IsSome, List, [], ◌∷◌, length, refl, sym, ap, subst, arith}
+use Rattle.std.specs.Prelude.{slice_index}
 use Rattle.std.specs.Option.{option_map_or}
 use Rattle.std.proofs.lemmas.Bool.{cases_lt}
 use Rattle.std.proofs.lemmas.Bool.Decides.{eqb_tells}
@@ -9,16 +9,12 @@ use Rattle.agreement.proofs.Lessened.{less-same}
 use Rattle.agreement.specs.Agreement.{Agrees}
 use Rattle.model.proofs.BytesLemmas.{length-written, slice_index-written_before, slice_index-written_behind, slice_index-written_inside}
 use Rattle.model.specs.Capabilities.Slots.{Slots}
-use Rattle.model.specs.Kernel.AddressSpaces.{page_size}
 use Rattle.model.specs.Kernel.Kinds.{frame_around}
-use Rattle.model.specs.Kernel.State.{State}
 use Rattle.model.specs.Machine.ProgramMemory.{put_byte}
 use Rattle.model.specs.Shared.Bytes.{written}
-use Rattle.objects.specs.Tables.{Tables, byte_in, is_frame, record_in, state_of}
-use Rattle.user_memory.specs.Views.{Beside, IsUsable, beside_of, content_under}
+use Rattle.objects.specs.Tables.{Tables, is_frame, record_in, state_of}
+use Rattle.user_memory.specs.Views.{IsUsable, beside_of, content_under}
 use Rattle.vspace.proofs.AgreementSlots.{agree-beside}
-use Rattle.vspace.specs.Agreement.{SameInTables}
-use Rattle.vspace.specs.Kept.{IsNamedTable}
 use Rattle.vspace.specs.Tables.{TablesAgree}
 
 -- ---- the bytes of a state
@@ -88,10 +84,10 @@ module _ (o : Tables) (slots : Slots) (memory : List ℕ) (place value : ℕ) (s
   byte-seen : (other : ℕ) → option_map_or (λ byte. byte) ((state_of o slots (written memory place (value ∷ []))).bytes other) 0
       ≡ (if other == place then value else option_map_or (λ byte. byte) ((state_of o slots memory).bytes other) 0)
   byte-seen other = ap (λ b. option_map_or (λ byte. byte) b 0) (bytes-put other) ∙ seen-if (other == place) ((state_of o slots memory).bytes other)
-   where
-    seen-if : (c : Bool) (b : Option ℕ) → option_map_or (λ byte. byte) (if c then Some value else b) 0 ≡ (if c then value else option_map_or (λ byte. byte) b 0)
-    seen-if true b = refl
-    seen-if false b = refl
+    where
+      seen-if : (c : Bool) (b : Option ℕ) → option_map_or (λ byte. byte) (if c then Some value else b) 0 ≡ (if c then value else option_map_or (λ byte. byte) b 0)
+      seen-if true b = refl
+      seen-if false b = refl
 
   pub content-put : (root : Option ℕ) → content_under (state_of o slots (written memory place (value ∷ []))) root
       ≡ put_byte (content_under (state_of o slots memory) root) place value
@@ -148,10 +144,10 @@ module _ (o : Tables) (slots : Slots) (memory : List ℕ) (place value : ℕ) (s
 
   some-still : (other : ℕ) → IsSome ((state_of o slots memory).bytes other) → IsSome ((state_of o slots (written memory place (value ∷ []))).bytes other)
   some-still other is = subst (λ (b : Option ℕ). IsSome b) (sym (bytes-put other)) (some-if (other == place) _ is)
-   where
-    some-if : (c : Bool) (b : Option ℕ) → IsSome b → IsSome (if c then Some value else b)
-    some-if true b is = refl
-    some-if false b is = is
+    where
+      some-if : (c : Bool) (b : Option ℕ) → IsSome b → IsSome (if c then Some value else b)
+      some-if true b is = refl
+      some-if false b is = is
 
   tables-still : Agrees (state_of o slots memory) memory → TablesAgree slots (written memory place (value ∷ []))
   unfolding state_of

@@ -1,6 +1,6 @@
 -- Memory under a root table, and what is true of it.
 -- seL4 Reference Manual, "Address Spaces and Virtual Memory".
-use Rattle.std.specs.Prelude.{ℕ, ◌≡◌, IsSome, Option, Some, None, List, length, option_and_then, slice_index}
+use Rattle.std.specs.Prelude.{ℕ, ◌≡◌, IsSome, Option, Some, List, length, option_and_then, slice_index}
 use Rattle.std.specs.Option.{option_map_or}
 use Rattle.agreement.specs.Agreement.{Agrees}
 use Rattle.model.specs.Capabilities.Slots.{Slots, capability_at}

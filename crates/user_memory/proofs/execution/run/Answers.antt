@@ -1,5 +1,5 @@
 -- A sound state has usable memory, and an instruction changes what its memory says.
-use Rattle.std.proofs.Common.{◌≡◌, ◌∙◌, ap, sym}
+use Rattle.std.proofs.Common.{rules, ◌≡◌, ◌∙◌, ap, sym}
 use Rattle.agreement.specs.Agreement.{Agrees}
 use Rattle.model.specs.Kernel.AddressSpaces.{content_of, with_content}
 use Rattle.model.specs.Machine.Effects.{effect}
@@ -38,7 +38,7 @@ returns-clause-state g c =
     c.exec.ensures.rest _ c.exec.ensures.content in
     in-the-end (λ store. state_of o (g.S.SlotMap.slots store) (g.S.SlotStore.memory store)
     ≡ with_content s (effect c.args.registers.now (content_of s c.args.thread) c.args.instruction).content) _ view.store.now _ view.store.ghost_name
-    c.store-1.given.1 (sym (ap (λ (b : Beside). b.store) c.exec.ensures.rest))
+    (search rules) (sym (ap (λ (b : Beside). b.store) c.exec.ensures.rest))
     (left ∙ ap (λ root. with_content s (effect c.args.registers.now (content_under s root) c.args.instruction).content) c.root_of-root.ensures)
 
 pub returns-clause-agree : goal.returns-clause-agree
@@ -49,6 +49,6 @@ returns-clause-agree g c =
     let memory = g.S.SlotStore.memory c.args.store.now in
     let view = c.exec.new.view in
     in-the-end (λ store. Agrees (state_of o (g.S.SlotMap.slots store) (g.S.SlotStore.memory store)) (g.S.SlotStore.memory store)) _ view.store.now _ view.store.ghost_name
-    c.store-1.given.1 (sym (ap (λ (b : Beside). b.store) c.exec.ensures.rest))
+    (search rules) (sym (ap (λ (b : Beside). b.store) c.exec.ensures.rest))
     (agrees-left o view.objects.now slots (g.S.SlotMap.slots view.store.now) memory (g.S.SlotStore.memory view.store.now) c.root_of-root.result view.root _ _
     c.exec.ensures.rest c.requires.agree)

@@ -20,8 +20,8 @@ invariant_of-self g c =
     let view = c.args.self.now in
     record {
       usable =
-        usable-after view.objects.now (g.S.SlotMap.slots view.store.now) (g.S.SlotStore.memory view.store.now) view.root c.args.place c.args.value view.usable c.requires
-        (g.S.SlotMap.slots c.write8.new.self) (g.S.SlotStore.memory c.write8.new.self) c.write8.ensures.slots c.write8.ensures.bytes
+          usable-after view.objects.now (g.S.SlotMap.slots view.store.now) (g.S.SlotStore.memory view.store.now) view.root c.args.place c.args.value view.usable c.requires
+          (g.S.SlotMap.slots c.write8.new.self) (g.S.SlotStore.memory c.write8.new.self) c.write8.ensures.slots c.write8.ensures.bytes;
     }
 
 pub returns-clause-content : goal.returns-clause-content
