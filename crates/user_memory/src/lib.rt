@@ -4,8 +4,10 @@
 #![tactic(auto)]
 
 mod execution;
+mod filling;
 mod roots;
 mod spaces;
 mod view;
 
 pub use execution::{execute, fetch};
+pub use filling::fill;

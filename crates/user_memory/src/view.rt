@@ -5,7 +5,7 @@ ghost use Rattle.objects.specs.Tables.{state_of};
 ghost use Rattle.user_memory.specs.Views.{Beside, IsUsable, beside_of, content_under};
 
 use crate::spaces::Space;
-use model::{Access, MemoryFault};
+use model::{Access, AccessSize, MemoryFault};
 use objects::Objects;
 use rv32_exec::View;
 use slots::SlotStore;
@@ -42,6 +42,20 @@ impl<S: SlotStore> View for UserMemory<'_, '_, S> {
             root: self.root,
         };
         space.byte(place)
+    }
+
+    fn load(&self, address: u32, size: AccessSize) -> Result<u32, MemoryFault> {
+        match size {
+            AccessSize::Word if address % 4 == 0 => {
+                let space = Space {
+                    store: self.store,
+                    objects: self.objects,
+                    root: self.root,
+                };
+                space.aligned_word(address, Access::Load)
+            }
+            _ => self.number(address, size, Access::Load),
+        }
     }
 
     fn set_byte(&mut self, place: u32, value: u8) {
