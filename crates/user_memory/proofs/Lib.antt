@@ -1,3 +1,4 @@
+pub mod FilledFrames
 pub mod Named
 pub mod Reading
 pub mod Running

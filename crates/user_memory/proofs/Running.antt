@@ -90,7 +90,7 @@ module _ (o : Tables) (slots : Slots) (old new : List ℕ) where
     none-left true now before none = absurd (let clash : Some before ≡ None = none in cc)
     none-left false now before none = refl
 
-    content-agrees : Agrees (state_of o slots new) new
+    pub content-agrees : Agrees (state_of o slots new) new
     unfolding state_of
     content-agrees = agrees-less (state_of o slots old) (state_of o slots new) old new agrees tables-left refl size (less-same slots)
         (λ place none. none-left (in_frame place) (slice_index new place) (slice_index old place) none) (λ offset kind is. is)

@@ -1,9 +1,10 @@
 //! Bytes that a frame starts with. seL4 Reference Manual, "System Bootstrapping".
 
-ghost use Rattle.std.specs.Prelude.{◌≡◌, ◌+◌, ◌^◌, ◌≤◌, None, Some, false, if◌then◌else◌, length};
+ghost use Rattle.std.specs.Prelude.{◌≡◌, ◌+◌, ◌^◌, ◌≤◌, ◌&&◌, None, Some, false, if◌then◌else◌, length, nat_le};
 ghost use Rattle.agreement.specs.Agreement.{Agrees};
 ghost use Rattle.model.specs.Capabilities.Slots.{OutsideSlots};
-ghost use Rattle.model.specs.Kernel.Setup.{fill};
+ghost use Rattle.model.specs.Kernel.AddressSpaces.{page_size};
+ghost use Rattle.model.specs.Kernel.Setup.{fill, is_frame_object};
 ghost use Rattle.model.specs.Kernel.Soundness.{IsSound};
 ghost use Rattle.objects.specs.Tables.{state_of};
 ghost use Rattle.user_memory.specs.Fills.{AreWritten};
@@ -28,6 +29,14 @@ fn write_bytes<S: SlotStore>(store: &mut S, offset: u32, bytes: &[u8])
     }
 }
 
+/// Whether a frame starts at an offset, and is no smaller than the bytes.
+fn may_fill<S: SlotStore>(store: &S, objects: &Objects, offset: u32, bytes: &[u8]) -> bool
+    ensures { result ≡ (is_frame_object ((state_of objects.now (S.slots store.now) (S.memory store.now)).objects offset)
+        && nat_le (length bytes.now) page_size) }
+{
+    objects.is_frame(store, offset) && bytes.len() <= PAGE_SIZE
+}
+
 /// Writes at most a page of bytes from the beginning of a frame on. Where no frame starts at the offset, or
 /// there are more bytes, the answer is false, and nothing changes.
 pub fn fill<S: SlotStore>(store: &mut S, objects: &Objects, offset: u32, bytes: &[u8]) -> bool
@@ -38,7 +47,7 @@ pub fn fill<S: SlotStore>(store: &mut S, objects: &Objects, offset: u32, bytes: 
     ensures unchanged { result ≡ false → store.new ≡ store.old }
     ensures agree { Agrees (state_of objects.now (S.slots store.new) (S.memory store.new)) (S.memory store.new) }
 {
-    if bytes.len() > PAGE_SIZE || !objects.is_frame(store, offset) {
+    if !may_fill(store, objects, offset, bytes) {
         return false;
     }
     write_bytes(store, offset, bytes);
