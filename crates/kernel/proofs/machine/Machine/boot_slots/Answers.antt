@@ -1,7 +1,7 @@
 -- The boot CNode has few slots.
 use Rattle.std.proofs.Common.{arith}
 use Rattle.kernel.proofs.Untypeds.{boot-few}
-use Rattle.kernel.proofs.setup.Setup.boot_slots.Goals as goal
+use Rattle.kernel.proofs.machine.Machine.boot_slots.Goals as goal
 use Rattle.slots.specs.Table.{table_slots}
 
 pub returns-clause-most : goal.returns-clause-most

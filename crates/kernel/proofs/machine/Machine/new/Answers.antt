@@ -2,7 +2,7 @@
 use Rattle.std.proofs.Common.{◌≡◌, ◌^◌, ◌∙◌, ℕ, List, length, sym, ap, arith}
 use Rattle.std.proofs.lemmas.List.{length-replicate}
 use Rattle.kernel.proofs.Fresh.{boot-count, boot-fits, boot-whole, fresh-state}
-use Rattle.kernel.proofs.setup.Setup.new.Goals as goal
+use Rattle.kernel.proofs.machine.Machine.new.Goals as goal
 
 pub open_range-requires-clause-within : goal.open_range-requires-clause-within
 open_range-requires-clause-within c =

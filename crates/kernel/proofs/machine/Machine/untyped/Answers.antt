@@ -1,7 +1,7 @@
 -- By the law on untyped memory, where no objects are.
 use Rattle.std.proofs.Common.{◌∙◌, ◌+◌, ◌*◌, ◌^◌, ℕ, Bool, Option, refl, sym, ap, subst}
 use Rattle.kernel.proofs.Untypeds.{may-tested, memory-few, untyped-none, untyped-put, untyped-valid}
-use Rattle.kernel.proofs.setup.Setup.untyped.Goals as goal
+use Rattle.kernel.proofs.machine.Machine.untyped.Goals as goal
 use Rattle.kernel.specs.Setups.{GivesIf, Parts, state_in}
 use Rattle.model.specs.Kernel.Setup.{may_be_untyped, put_untyped}
 use Rattle.model.specs.Kernel.State.{State}

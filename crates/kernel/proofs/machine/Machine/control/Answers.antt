@@ -1,5 +1,5 @@
 -- By the law on interrupt control.
-use Rattle.kernel.proofs.setup.Setup.control.Goals as goal
+use Rattle.kernel.proofs.machine.Machine.control.Goals as goal
 use Rattle.model.specs.Kernel.Setup.{put_control}
 use Rattle.soundness.proofs.Setups.{control-whole}
 

@@ -1,7 +1,7 @@
 -- As the test of the slot says.
 use Rattle.std.proofs.Common.{◌∙◌, ◌^◌, ℕ, Bool, Some, None, refl, sym, ap, subst}
 use Rattle.kernel.proofs.Roots.{put-empty, put-passed, put-refused, root-agrees, root-state}
-use Rattle.kernel.proofs.setup.Setup.put.Goals as goal
+use Rattle.kernel.proofs.machine.Machine.put.Goals as goal
 use Rattle.kernel.specs.Setups.{GivesIf, Parts, state_in}
 use Rattle.model.specs.Capabilities.Slots.{Slots, inserted}
 use Rattle.model.specs.Kernel.Setup.{put_in_boot_slot}
