@@ -1,6 +1,6 @@
 //! The next instruction of a thread, and what it does.
 
-ghost use Rattle.std.specs.Prelude.{◌≡◌, Some};
+ghost use Rattle.std.specs.Prelude.{◌≡◌, ◌≢◌, Some};
 ghost use Rattle.agreement.specs.Agreement.{Agrees};
 ghost use Rattle.model.specs.Kernel.AddressSpaces.{content_of, with_content};
 ghost use Rattle.model.specs.Kernel.Kinds.{kind_at};
@@ -89,6 +89,7 @@ pub fn execute<S: SlotStore>(
     ensures state { let s = state_of objects.old (S.slots store.old) (S.memory store.old) in
         let after = effect (thread_at s thread).registers (content_of s thread) instruction in
         state_of objects.new (S.slots store.new) (S.memory store.new) ≡ with_content (with_registers s thread after.registers) after.content }
+    ensures unchanged { result ≢ Exec.Next → state_of objects.new (S.slots store.new) (S.memory store.new) ≡ state_of objects.old (S.slots store.old) (S.memory store.old) }
     ensures agree { Agrees (state_of objects.new (S.slots store.new) (S.memory store.new)) (S.memory store.new) }
 {
     let mut registers = objects.registers(store, thread);

@@ -19,6 +19,21 @@ pub(crate) struct UserMemory<'s, 'o, S: SlotStore> {
     ghost usable: { ∥ IsUsable (state_of objects.now (S.slots store.now) (S.memory store.now)) (S.memory store.now) root ∥₁ },
 }
 
+impl<S: SlotStore> UserMemory<'_, '_, S> {
+    /// The same memory, for reading.
+    fn space(&self) -> Space<'_, S>
+        ensures store { result.store.now ≡ self.now.store.now }
+        ensures objects { result.objects.now ≡ self.now.objects.now }
+        ensures root { result.root ≡ self.now.root }
+    {
+        Space {
+            store: self.store,
+            objects: self.objects,
+            root: self.root,
+        }
+    }
+}
+
 impl<S: SlotStore> View for UserMemory<'_, '_, S> {
     ghost content = { λ view. content_under (state_of view.objects.now (S.slots view.store.now) (S.memory view.store.now)) view.root };
 
@@ -27,32 +42,17 @@ impl<S: SlotStore> View for UserMemory<'_, '_, S> {
     ghost rest = { λ view. beside_of view.objects.now (S.slots view.store.now) (S.memory view.store.now) view.root view.store.ghost_name };
 
     fn place(&self, address: u32, access: Access) -> Result<u32, MemoryFault> {
-        let space = Space {
-            store: self.store,
-            objects: self.objects,
-            root: self.root,
-        };
-        space.place(address, access)
+        self.space().place(address, access)
     }
 
     fn byte(&self, place: u32) -> u8 {
-        let space = Space {
-            store: self.store,
-            objects: self.objects,
-            root: self.root,
-        };
-        space.byte(place)
+        self.space().byte(place)
     }
 
     fn load(&self, address: u32, size: AccessSize) -> Result<u32, MemoryFault> {
         match size {
             AccessSize::Word if address % 4 == 0 => {
-                let space = Space {
-                    store: self.store,
-                    objects: self.objects,
-                    root: self.root,
-                };
-                space.aligned_word(address, Access::Load)
+                self.space().aligned_word(address, Access::Load)
             }
             _ => self.number(address, size, Access::Load),
         }

@@ -1,6 +1,8 @@
--- Setting registers leaves the tables in agreement.
+-- Setting registers leaves the tables in agreement, and the state where they are those that were there.
+use Rattle.std.proofs.Common.{◌∙◌}
 use Rattle.objects.specs.Tables.{state_of}
 use Rattle.user_memory.proofs.Running.{registers-agree}
+use Rattle.user_memory.proofs.Unchanged.{unchanged}
 use Rattle.user_memory.proofs.execution.execute.Goals as goal
 
 pub returns-clause-agree : goal.returns-clause-agree
@@ -10,3 +12,12 @@ returns-clause-agree g c =
     registers-agree (state_of c.args.objects.now (g.S.SlotMap.slots ran) (g.S.SlotStore.memory ran))
     (state_of set.self (g.S.SlotMap.slots set.store) (g.S.SlotStore.memory set.store)) c.args.thread c.run-outcome.new.registers
     (g.S.SlotStore.memory ran) (g.S.SlotStore.memory set.store) c.run-outcome.ensures.agree c.set_registers.ensures.state c.set_registers.ensures.bytes
+
+pub returns-clause-unchanged : goal.returns-clause-unchanged
+returns-clause-unchanged g c = λ differs.
+    let ran = c.run-outcome.new.store in
+    let set = c.set_registers.new in
+    unchanged (state_of c.args.objects.now (g.S.SlotMap.slots c.args.store.now) (g.S.SlotStore.memory c.args.store.now))
+    (state_of c.args.objects.now (g.S.SlotMap.slots ran) (g.S.SlotStore.memory ran)) (state_of set.self (g.S.SlotMap.slots set.store) (g.S.SlotStore.memory set.store))
+    c.args.thread c.registers-registers.result c.run-outcome.new.registers c.args.instruction c.requires.there c.registers-registers.ensures
+    c.run-outcome.ensures.state c.run-outcome.ensures.registers c.set_registers.ensures.state (λ same. differs (c.run-outcome.ensures.outcome ∙ same))
