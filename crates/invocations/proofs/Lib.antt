@@ -1,0 +1,4 @@
+pub mod CNodeSteps
+pub mod MappedTables
+pub mod Roots
+pub mod Standing
