@@ -169,16 +169,17 @@ module _ (o : Tables) (slots now : Slots) (old new : List ℕ) (agrees : Agrees 
 called : {A S : Type 0} (slots_in : S → Slots) (memory_in : S → List ℕ) (o : Tables) (store now : S) (defined : State → Call → Result State KError) (on : NodeCall) (call : Call)
     (result : Result A KError) → Whole slots_in memory_in o store → SameOutside (slots_in store) (memory_in store) (memory_in now)
     → (defined (state_of o (slots_in store) (memory_in store)) call ≡ Ok (with_slots (state_of o (slots_in store) (memory_in store)) (slots_in now))
-      → Left o (slots_in store) (slots_in now) (memory_in store) (memory_in now))
+    → Left o (slots_in store) (slots_in now) (memory_in store) (memory_in now))
     → GivesOn defined on (slots_in store) (slots_in now) result → call.root ≡ on.root → call.capability ≡ on.node → OnErr result (now ≡ store)
     → GivesState (defined (state_of o (slots_in store) (memory_in store)) call) result (state_of o (slots_in now) (memory_in now)) × Whole slots_in memory_in o now
 called slots_in memory_in o store now defined on call result whole same leaves gives root node unchanged =
     let s : State = state_of o (slots_in store) (memory_in store) in
-    let known = given o (slots_in store) (memory_in store) defined on (slots_in now) result gives call root node in
-    (gives-after o (slots_in store) (slots_in now) (memory_in store) (memory_in now) whole.agrees same (defined s call) result leaves known,
-    refused-whole slots_in memory_in result store now o whole unchanged
-    (λ x is. whole-after o (slots_in store) (slots_in now) (memory_in store) (memory_in now) whole.agrees same
-    (leaves (subst (λ r. Gives (defined s call) s (slots_in now) r) is known))))
+    let known = given o (slots_in store) (memory_in store) defined on (slots_in now) result gives call root node in (
+      gives-after o (slots_in store) (slots_in now) (memory_in store) (memory_in now) whole.agrees same (defined s call) result leaves known,
+      refused-whole slots_in memory_in result store now o whole unchanged
+          (λ x is. whole-after o (slots_in store) (slots_in now) (memory_in store) (memory_in now) whole.agrees same
+          (leaves (subst (λ r. Gives (defined s call) s (slots_in now) r) is known))),
+    )
 
 pub copy-made : {A S : Type 0} (slots_in : S → Slots) (memory_in : S → List ℕ) (o : Tables) (store now : S) (on : NodeCall) (call : Call) (to from : SlotName) (word : ℕ)
     (result : Result A KError) → Whole slots_in memory_in o store → IsCall (state_of o (slots_in store) (memory_in store)) call

@@ -4,7 +4,8 @@
 
 mod calls;
 mod cnode_calls;
-
+mod frame_calls;
+mod table_calls;
 mod untyped_calls;
 
 pub use calls::KernelCall;
