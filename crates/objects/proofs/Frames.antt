@@ -1,9 +1,11 @@
 -- Calls that change records of objects leave the same objects.
-use Rattle.std.proofs.Common.{ℕ, ◌≡◌, ◌∙◌, inl, inr, if◌then◌else◌, Option, Some, None, option_map, List, refl, sym, ap}
+use Rattle.std.proofs.Common.{ℕ, ◌≡◌, ◌∙◌, inl, inr, Bool, true, false, if◌then◌else◌, Option, Some, None, option_map, List, refl, sym, ap}
 use Rattle.std.proofs.lemmas.Bool.Decides.{eqb_tells}
 use Rattle.model.specs.Kernel.Kinds.{kind_at, kind_of}
-use Rattle.model.specs.Kernel.Retype.{NewEndpoint, NewNotification}
-use Rattle.model.specs.Kernel.State.{Object, EndpointObject, NotificationObject, State, put}
+use Rattle.model.specs.Kernel.Retype.{NewEndpoint, NewNotification, NewThread}
+use Rattle.model.specs.Kernel.Scheduling.{at_tail, is_runnable, unready, without_threads}
+use Rattle.model.specs.Kernel.State.{Object, CNodeObject, EndpointObject, FrameObject, NotificationObject, PageTableObject, RootTableObject, State, ThreadObject, ThreadState, put, thread_at, with_thread}
+use Rattle.model.specs.Kernel.ThreadCalls.{with_priority}
 use Rattle.objects.proofs.Kept.{put-there}
 use Rattle.objects.specs.Frames.{SameBesideObjects, SameObjects}
 use Rattle.objects.specs.Waiting.{ReceiverTaken, SenderTaken, WaiterTaken}
@@ -20,6 +22,24 @@ kind-put objects place object is offset = elim (eqb_tells offset place) [
       ∙ sym (ap (λ n. option_map kind_of (objects n)) here.1 ∙ is)
   | inr apart ↦ ap (option_map kind_of) (put-there objects place (Some object) offset apart.1)
 ]
+
+pub kind-left : (gone : ℕ → Bool) (o : Option Object) → option_map kind_of (option_map (without_threads gone) o) ≡ option_map kind_of o
+kind-left gone None = refl
+kind-left gone (Some (ThreadObject t)) = refl
+kind-left gone (Some (EndpointObject e)) = refl
+kind-left gone (Some (NotificationObject n)) = refl
+kind-left gone (Some (CNodeObject radix)) = refl
+kind-left gone (Some FrameObject) = refl
+kind-left gone (Some PageTableObject) = refl
+kind-left gone (Some RootTableObject) = refl
+
+pub kind-priority : (s : State) (thread priority : ℕ) → kind_at s thread ≡ Some NewThread → (offset : ℕ) → kind_at (with_priority s thread priority) offset ≡ kind_at s offset
+kind-priority s thread priority is offset =
+    let t : ThreadState = record (thread_at s thread) { priority = priority } in
+    elim (is_runnable t.status) as (λ b. kind_at (if b then at_tail (with_thread (unready s thread) thread t) thread else with_thread s thread t) offset ≡ kind_at s offset) [
+      | true ↦ kind-put s.objects thread (ThreadObject t) is offset
+      | false ↦ kind-put s.objects thread (ThreadObject t) is offset
+    ]
 
 pub same-bytes : (s : State) (memory : List ℕ) → SameBesideObjects s memory memory
 same-bytes s memory = record { size = refl; bytes = λ place outside. refl }

@@ -1,24 +1,27 @@
 -- A thread is replaced by one that sends the same.
-use Rattle.std.proofs.Common.{ℕ, ◌≡◌, ◌∙◌, ◌==◌, ◌/◌, ◌%◌, ◌<◌, inl, inr, Bool, true, false, if◌then◌else◌, Option, Some, None, is_some, option_map, List, length, refl, sym, ap}
+use Rattle.std.proofs.Common.{ℕ, ◌≡◌, ◌∙◌, ◌==◌, ◌/◌, ◌%◌, ◌<◌, inl, inr, Bool, true, false, if◌then◌else◌, Option, Some, None, is_some, option_map, List, [], ◌∷◌, ◌++◌, length, refl, sym, ap}
 use Rattle.std.specs.Prelude.{option_and_then, slice_index_or}
 use Rattle.std.specs.Option.{option_map_or}
 use Rattle.std.proofs.lemmas.Bool.{cases_lt}
 use Rattle.std.proofs.lemmas.Bool.Decides.{eqb_tells}
 use Rattle.std.proofs.lemmas.List.{get_or_past}
 use Rattle.model.specs.Capabilities.Slots.{Slots}
-use Rattle.model.specs.Kernel.Kinds.{kind_of}
+use Rattle.model.specs.Kernel.Kinds.{kind_at, kind_of}
 use Rattle.model.specs.Kernel.Retype.{NewThread}
-use Rattle.model.specs.Kernel.Scheduling.{unready}
-use Rattle.model.specs.Kernel.State.{EndpointObject, Object, ThreadObject, new_thread, put, thread_at, with_thread}
+use Rattle.model.specs.Kernel.Scheduling.{at_tail, is_runnable, to_tail, unready}
+use Rattle.model.specs.Kernel.State.{EndpointObject, Object, State, ThreadObject, ThreadState, new_thread, put, thread_at, with_thread}
+use Rattle.model.specs.Kernel.ThreadCalls.{with_priority}
+use Rattle.model.specs.Shared.Lists.{without}
 use Rattle.objects.proofs.Ends.{as-thread}
-use Rattle.objects.proofs.Kept.{put-there}
+use Rattle.objects.proofs.Kept.{put-here, put-there}
 use Rattle.objects.proofs.Lists.{receivers-by, senders-by}
 use Rattle.objects.specs.Tables.{Tables, kind_in, object_from, object_in, object_of, placed, record_in, sending_in, state_of, thread_in}
-use Rattle.objects.specs.Threads.{thread_state}
+use Rattle.objects.specs.Threads.{status_of, thread_state}
 use Rattle.objects.specs.declared.records.Record.{Record}
 use Rattle.objects.specs.declared.records.Record.TheVariants.{Endpoint, Notification, CNode, Frame, PageTable, RootTable}
+use Rattle.objects.specs.declared.records.Status.TheVariants.{Runnable}
 use Rattle.objects.specs.declared.records.Thread.{Thread}
-use Rattle.queues.proofs.Parts.{queue-part}
+use Rattle.queues.proofs.Parts.{queue-part, queue-push}
 use Rattle.queues.specs.Queues.{QueuedThreads, queue_at, without_thread}
 
 -- ---- threads that are there
@@ -120,3 +123,46 @@ unfolding state_of
 unready-state o ready thread left slots memory = λ i. record (state_of o slots memory) {
   ready = λ priority. (ap (λ entries. queue_at entries priority) left ∙ queue-part o.ready.entries (λ other. other == thread) priority) i;
 }
+
+-- it stands behind all others of its priority
+module _ (o : Tables) (ready : QueuedThreads) (thread priority : ℕ) (slots : Slots) (memory : List ℕ)
+    (own : priority ≡ (thread_at (state_of o slots memory) thread).priority)
+    (pushed : ready.entries ≡ without_thread o.ready.entries thread ++ record { queue = priority; thread = thread } ∷ []) where
+  ready-pushed : (other : ℕ) → queue_at ready.entries other
+      ≡ put (λ p. without thread (queue_at o.ready.entries p)) priority (without thread (queue_at o.ready.entries priority) ++ thread ∷ []) other
+  ready-pushed other =
+      ap (λ entries. queue_at entries other) pushed
+      ∙ queue-push (without_thread o.ready.entries thread) priority thread other
+      ∙ (λ i. put (λ p. queue-part o.ready.entries (λ other. other == thread) p i) priority
+      (queue-part o.ready.entries (λ other. other == thread) priority i ++ thread ∷ []) other)
+
+  pub tail-state : state_of (record o { ready = ready }) slots memory ≡ to_tail (state_of o slots memory) thread
+  unfolding state_of
+  tail-state = λ i. record (state_of o slots memory) {
+    ready = λ other. (ready-pushed other
+        ∙ ap (λ (p : ℕ). put (λ q. without thread (queue_at o.ready.entries q)) p (without thread (queue_at o.ready.entries p) ++ thread ∷ []) other) own) i;
+  }
+
+-- ---- priorities
+
+pub replaced-there : (o n : Tables) (offset : ℕ) (t : ThreadState)
+    → ((slots : Slots) (memory : List ℕ) → state_of n slots memory ≡ with_thread (state_of o slots memory) offset t) → kind_in n offset ≡ Some NewThread
+unfolding state_of
+replaced-there o n offset t is = ap (λ (s : State). kind_at s offset) (is (λ _. None) []) ∙ ap (option_map kind_of) (put-here (object_in o) offset (Some (ThreadObject t)))
+
+-- a thread that runs goes to the tail of its new priority
+module _ (s : State) (thread priority : ℕ) (held : Thread) (is : thread_state held ≡ thread_at s thread) where
+  abbrev after : ThreadState → ThreadState
+  after t = record t { priority = priority }
+
+  abbrev prioritized : Bool → State
+  prioritized runs =
+      if runs then at_tail (with_thread (unready s thread) thread (after (thread_at s thread))) thread else with_thread s thread (after (thread_at s thread))
+
+  runs : held.status ≡ Runnable → is_runnable (thread_at s thread).status ≡ true
+  runs stands = ap (λ (t : ThreadState). is_runnable t.status) (sym is) ∙ ap (λ x. is_runnable (status_of x)) stands
+
+  pub at-new-tail : (t u : State) → t ≡ with_thread s thread (after (thread_state held)) → u ≡ to_tail t thread → held.status ≡ Runnable
+      → u ≡ with_priority s thread priority
+  at-new-tail t u put_there sent stands =
+      sent ∙ ap (λ x. to_tail x thread) (put_there ∙ ap (λ h. with_thread s thread (after h)) is) ∙ sym (ap prioritized (runs stands))

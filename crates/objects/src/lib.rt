@@ -8,6 +8,7 @@ mod laws;
 mod places;
 mod queue_calls;
 mod records;
+mod scheduling_calls;
 mod tables;
 mod thread_calls;
 mod threads;

@@ -139,7 +139,7 @@ impl Objects {
     }
 
     /// A thread leaves every queue and the ready list, and nobody has the right to reply to it any more.
-    fn forget(&mut self, thread: u32)
+    pub(crate) fn forget(&mut self, thread: u32)
         ensures state { (slots : Slots) (memory : List ℕ)
             → state_of self.new slots memory ≡ leaves (state_of self.old slots memory) thread }
         ensures gone { times_queued self.new.waiting.entries thread ≡ 0 }

@@ -4,14 +4,18 @@ ghost use Rattle.std.specs.Prelude.{ℕ, ◌≡◌, List, Some, true, is_some};
 ghost use Rattle.model.specs.Capabilities.Slots.{Slots};
 ghost use Rattle.model.specs.Kernel.Messages.{with_caller, with_registers};
 ghost use Rattle.model.specs.Kernel.Retype.{NewThread};
-ghost use Rattle.model.specs.Kernel.Scheduling.{block, unready, wake};
+ghost use Rattle.model.specs.Kernel.Scheduling.{block, current, to_tail, unready, wake};
 ghost use Rattle.model.specs.Kernel.State.{thread_at, with_thread};
+ghost use Rattle.model.specs.Kernel.ThreadCalls.{with_priority};
 ghost use Rattle.objects.specs.Tables.{kind_in, sending_in, state_of, thread_in};
 ghost use Rattle.objects.specs.Threads.{status_of, thread_state};
 
 use crate::records::{Status, Thread};
 use crate::tables::{Objects, THREAD_SIZE};
 use rv32_exec::Regs;
+
+/// Priorities are 0 to 255.
+const PRIORITIES: u32 = 256;
 
 impl Objects {
     /// The thread at an offset, or a new one where none is.
@@ -90,5 +94,51 @@ impl Objects {
     {
         let thread = self.thread_or_new(offset);
         self.wake_at(offset, thread);
+    }
+
+    /// The thread that runs: the first of the greatest priority.
+    #[tactic(auto, unfolding(crate::specs::Tables::state_of))]
+    pub(crate) fn running(&self) -> Option<u32>
+        ensures { (slots : Slots) (memory : List ℕ) → result ≡ current (state_of self.now slots memory) }
+    {
+        self.ready.first_below(PRIORITIES)
+    }
+
+    /// Sets how many ticks a thread runs on.
+    pub(crate) fn set_slice_at(&mut self, offset: u32, slice: u8)
+        requires { kind_in self.old offset ≡ Some NewThread }
+        ensures { (slots : Slots) (memory : List ℕ) → state_of self.new slots memory
+            ≡ with_thread (state_of self.old slots memory) offset (record (thread_at (state_of self.old slots memory) offset) { slice = slice }) }
+    {
+        let thread = self.thread_or_new(offset);
+        self.replace(offset, Thread { slice, ..thread });
+    }
+
+    /// A thread goes to the tail of its priority.
+    pub(crate) fn to_tail_at(&mut self, offset: u32)
+        requires { kind_in self.old offset ≡ Some NewThread }
+        ensures { (slots : Slots) (memory : List ℕ) → state_of self.new slots memory
+            ≡ to_tail (state_of self.old slots memory) offset }
+    {
+        let thread = self.thread_or_new(offset);
+        self.ready.leave(offset);
+        self.ready.push(u32::from(thread.priority), offset);
+    }
+
+    /// Sets the priority of a thread: one that runs goes to its tail, with the slice that it has.
+    pub(crate) fn set_priority_at(&mut self, offset: u32, priority: u8)
+        requires { kind_in self.old offset ≡ Some NewThread }
+        ensures { (slots : Slots) (memory : List ℕ) → state_of self.new slots memory
+            ≡ with_priority (state_of self.old slots memory) offset priority }
+    {
+        let thread = self.thread_or_new(offset);
+        self.replace(offset, Thread { priority, ..thread });
+        match thread.status {
+            Status::Runnable => self.to_tail_at(offset),
+            Status::Inactive
+            | Status::Blocked { .. }
+            | Status::AwaitsReply
+            | Status::AwaitsHandler => {}
+        }
     }
 }

@@ -1,3 +1,4 @@
 pub mod Rooms
 pub mod Parts
 pub mod Standings
+pub mod Greatest

@@ -1,5 +1,7 @@
 -- All queues in one list of entries: of those of one queue, the first comes first.
-use Rattle.std.specs.Prelude.{ℕ, ◌≡◌, ◌==◌, ◌<◌, ◌≤◌, ◌/◌, ◌%◌, not, List, filter, map}
+use Rattle.std.specs.Prelude.{ℕ, ◌≡◌, ◌==◌, ◌<◌, ◌≤◌, ◌/◌, ◌%◌, ◌&&◌, true, not, nat_lt, if◌then◌else◌, Option, Some, None, List, [], filter, map}
+use Rattle.std.specs.Option.{option_map_or}
+use Rattle.model.specs.Kernel.Scheduling.{head_of}
 use Rattle.model.specs.Shared.Lists.{times_in}
 use Rattle.queues.specs.declared.lists.Queued.{Queued}
 
@@ -27,3 +29,20 @@ pub record StandOnce (entries : List Queued) (limit : ℕ) : Type 0 where
   pub once : (thread : ℕ) → times_queued entries thread ≤ 1
   pub aligned : (thread : ℕ) → 0 < times_queued entries thread → thread % 512 ≡ 0
   pub within : (thread : ℕ) → 0 < times_queued entries thread → thread / 512 < limit
+
+-- ---- the greatest queue below a bound
+
+-- a later entry is better than the best so far only where its queue is greater
+abbrev pub better : ℕ → Option Queued → Queued → Option Queued
+better bound best entry =
+    if nat_lt entry.queue bound && option_map_or (λ held. nat_lt held.queue entry.queue) best true then Some entry else best
+
+-- the first thread of a queue below the bound, where no greater one below it has any
+pub record IsFirst (bound : ℕ) (entries : List Queued) (entry : Queued) : Type 0 where
+  pub below : entry.queue < bound
+  pub head : head_of (queue_at entries entry.queue) ≡ Some entry.thread
+  pub rest : (queue : ℕ) → entry.queue < queue → queue < bound → queue_at entries queue ≡ []
+
+abbrev pub IsBest : ℕ → List Queued → Option Queued → Type 0
+IsBest bound entries (Some entry) = IsFirst bound entries entry
+IsBest bound entries None = (queue : ℕ) → queue < bound → queue_at entries queue ≡ []

@@ -3,8 +3,8 @@
 ghost use Rattle.std.specs.Prelude.{ℕ, ◌≡◌, ◌≢◌, ◌==◌, ◌<◌, ◌/◌, ◌%◌, ◌↔◌, [], ◌∷◌, ◌++◌, IfOk, IfSome, IsTrue, drop, vec_capacity};
 ghost use Rattle.std.specs.Option.{option_map, option_map_or};
 ghost use Rattle.std.specs.List.{find, list_any};
-ghost use Rattle.model.specs.Kernel.Scheduling.{head_of};
-ghost use Rattle.queues.specs.Queues.{StandOnce, queue_at, times_queued, without_queue, without_thread};
+ghost use Rattle.model.specs.Kernel.Scheduling.{first_below, head_of};
+ghost use Rattle.queues.specs.Queues.{IsBest, StandOnce, better, queue_at, times_queued, without_queue, without_thread};
 
 use std::alloc::{AllocError, Global};
 use std::marker::Model;
@@ -65,6 +65,13 @@ impl Queues {
         first_of(&self.entries, queue)
     }
 
+    /// The first thread of the greatest queue below a bound.
+    pub fn first_below(&self, bound: u32) -> Option<u32>
+        ensures { result ≡ first_below bound (queue_at self.now.entries) }
+    {
+        best_below(&self.entries, bound).map(|entry| entry.thread)
+    }
+
     /// Puts a thread that stands in no queue behind all others of this queue.
     pub fn push(&mut self, queue: u32, thread: u32)
         requires apart { times_queued self.old.entries thread ≡ 0 }
@@ -123,6 +130,29 @@ fn first_of(entries: &[Queued], queue: u32) -> Option<u32>
         .iter()
         .find(|entry| entry.queue == queue)
         .map(|entry| entry.thread)
+}
+
+/// The better of the best entry so far and a later one: the later one is better only where its queue is
+/// greater, and below the bound.
+fn better(bound: u32, best: Option<Queued>, entry: Queued) -> Option<Queued>
+    ensures { result ≡ better bound best entry }
+{
+    match best {
+        Some(held) if held.queue >= entry.queue => best,
+        _ if entry.queue >= bound => best,
+        _ => Some(entry),
+    }
+}
+
+/// The first entry of the greatest queue below a bound.
+fn best_below(entries: &[Queued], bound: u32) -> Option<Queued>
+    ensures { IsBest bound entries.now result }
+{
+    let mut best = None;
+    for entry in entries {
+        best = better(bound, best, *entry);
+    }
+    best
 }
 
 /// Keeps the entries of other threads.
