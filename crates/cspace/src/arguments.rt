@@ -4,10 +4,11 @@
 ghost use Rattle.std.specs.Prelude.{◌≡◌, IfOk};
 ghost use Rattle.model.specs.Kernel.Arguments.{argument_slot, destination_slot, source_slot};
 ghost use Rattle.model.specs.Capabilities.CapabilityWords.{IsCapability};
+ghost use Rattle.model.specs.Capabilities.Lookup.{called_slot};
 ghost use Rattle.model.specs.Capabilities.Slots.{IsFull};
 
 use crate::lookup;
-use model::{Cap, KError, Slot, SlotName};
+use model::{Cap, KError, LookupFailure, Slot, SlotName};
 use slots::{SlotMap, is_taken};
 
 /// The slot of this name in the capability space of a root. The depth is out of its range
@@ -51,5 +52,19 @@ pub fn destination_slot<S: SlotMap>(slots: &S, root: Cap, name: SlotName) -> Res
         Err(KError::DeleteFirst)
     } else {
         Ok(slot)
+    }
+}
+
+/// The slot that a system call names, with all 32 bits of the address to be used; bits that are left over
+/// are ignored. The error is that of the lookup, and then an empty slot is a missing capability.
+pub fn called_slot<S: SlotMap>(slots: &S, root: Cap, address: u32) -> Result<Slot, LookupFailure>
+    requires { IsCapability root }
+    ensures value { result ≡ called_slot (S.slots slots.now) root address }
+    ensures full { IfOk result (IsFull (S.slots slots.now)) }
+{
+    match lookup(slots, root, address, 32) {
+        Err(failure) => Err(failure),
+        Ok((slot, _)) if is_taken(slots, slot) => Ok(slot),
+        Ok(_) => Err(LookupFailure::MissingCapability),
     }
 }

@@ -2,6 +2,7 @@ pub mod Beginning
 pub mod Endpoints
 pub mod Ends
 pub mod Following
+pub mod FramePlaces
 pub mod Frames
 pub mod Fresh
 pub mod Joining

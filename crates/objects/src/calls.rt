@@ -1,10 +1,11 @@
 //! The calls on objects, which are lent the store beside which these stand: a form that keeps its records in
 //! the machine's bytes has the same.
 
-ghost use Rattle.std.specs.Prelude.{ℕ, ◌≡◌, ◌<◌, ◌≤◌, List, None};
+ghost use Rattle.std.specs.Prelude.{ℕ, ◌≡◌, ◌^◌, ◌<◌, ◌≤◌, List, None, is_some, length};
 ghost use Rattle.model.specs.Capabilities.Slots.{Slots};
 ghost use Rattle.model.specs.Kernel.Removal.{slot_count};
-ghost use Rattle.model.specs.Kernel.State.{binding_slot};
+ghost use Rattle.model.specs.Kernel.Setup.{is_frame_object};
+ghost use Rattle.model.specs.Kernel.State.{as_thread, binding_slot};
 ghost use Rattle.objects.specs.Changes.{MayStand, begun};
 ghost use Rattle.objects.specs.Frames.{SameBesideObjects};
 ghost use Rattle.objects.specs.Tables.{state_of};
@@ -39,6 +40,35 @@ impl Objects {
         ensures { result ≡ slot_count ((state_of self.now (S.slots store.now) (S.memory store.now)).objects offset) }
     {
         self.count_slots(offset)
+    }
+
+    /// Whether the object at an offset is a thread.
+    #[tactic(auto, unfolding(crate::specs::Tables::state_of))]
+    pub fn is_thread<S: SlotStore>(&self, store: &S, offset: u32) -> bool
+        ensures { result ≡ is_some (as_thread ((state_of self.now (S.slots store.now) (S.memory store.now)).objects offset)) }
+    {
+        self.has_thread(offset)
+    }
+
+    /// Whether the object at an offset is a frame.
+    #[tactic(auto, unfolding(crate::specs::Tables::state_of))]
+    pub fn is_frame<S: SlotStore>(&self, store: &S, offset: u32) -> bool
+        ensures { result ≡ is_frame_object ((state_of self.now (S.slots store.now) (S.memory store.now)).objects offset) }
+    {
+        self.has_frame(offset)
+    }
+
+    /// The byte at a place in memory, if a frame is there.
+    #[tactic(auto, unfolding(crate::specs::Tables::state_of))]
+    pub fn byte<S: SlotStore>(&self, store: &S, place: u32) -> Option<u8>
+        requires size { 2 ^ (state_of self.now (S.slots store.now) (S.memory store.now)).memory_bits ≡ length (S.memory store.now) }
+        ensures { result ≡ (state_of self.now (S.slots store.now) (S.memory store.now)).bytes place }
+    {
+        if self.is_framed(place) {
+            Some(store.mem().read8(place))
+        } else {
+            None
+        }
     }
 
     /// The object at an offset ends, if there is one: a thread leaves every queue, and the rights to reply

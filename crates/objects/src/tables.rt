@@ -1,13 +1,15 @@
 //! The tables that the kernel keeps beside slots and memory.
 
 ghost use Rattle.std.specs.Prelude.{ℕ, ◌≡◌, ◌+◌, ◌*◌, ◌/◌, ◌^◌, ◌<◌, ◌≤◌, None, Some, IfOk, List, true, false, if◌then◌else◌, is_some, length, option_map, replicate};
+ghost use Rattle.std.specs.Option.{option_map_or};
 ghost use Rattle.model.specs.Capabilities.Slots.{Slots};
+ghost use Rattle.model.specs.Kernel.Kinds.{frame_around};
 ghost use Rattle.model.specs.Kernel.Removal.{slot_count};
 ghost use Rattle.model.specs.Kernel.Scheduling.{all_leave, leaves, wake};
-ghost use Rattle.model.specs.Kernel.Setup.{boot_area};
-ghost use Rattle.model.specs.Kernel.State.{binding_slot, with_slots};
+ghost use Rattle.model.specs.Kernel.Setup.{boot_area, is_frame_object};
+ghost use Rattle.model.specs.Kernel.State.{as_thread, binding_slot, with_slots};
 ghost use Rattle.objects.specs.Changes.{MayStand, begun, vacated, voided};
-ghost use Rattle.objects.specs.Tables.{object_in, record_of, state_of, thread_in};
+ghost use Rattle.objects.specs.Tables.{is_frame, object_in, record_in, record_of, state_of, thread_in};
 ghost use Rattle.objects.specs.Threads.{status_of};
 ghost use Rattle.queues.specs.Queues.{times_queued};
 ghost use Rattle.removals.specs.Finishing.{is_stranded, waits_nowhere, woken};
@@ -27,6 +29,9 @@ const FULL_SLICE: u8 = 5;
 pub(crate) const THREAD_SIZE: u32 = 512;
 
 pub(crate) const LEAST_SIZE: u32 = 16;
+
+/// How many bytes a frame has.
+const PAGE_SIZE: u32 = 4096;
 
 /// The objects by their offsets in memory, the queues, the ready list and the interrupt lines. Only
 /// [`Objects::new`] takes memory. Slots, and the bytes of frames, are the store's.
@@ -136,6 +141,30 @@ impl Objects {
         ensures { result ≡ is_some (object_in self.now offset) }
     {
         self.thread_at(offset).is_some() || self.records.get(LEAST_SIZE, offset).is_some()
+    }
+
+    /// Whether the object at an offset is a thread.
+    pub(crate) fn has_thread(&self, offset: u32) -> bool
+        ensures { result ≡ is_some (as_thread (object_in self.now offset)) }
+    {
+        self.thread_at(offset).is_some()
+    }
+
+    /// Whether the object at an offset is a frame.
+    pub(crate) fn has_frame(&self, offset: u32) -> bool
+        ensures { result ≡ is_frame_object (object_in self.now offset) }
+    {
+        self.thread_at(offset).is_none()
+            && matches!(self.records.get(LEAST_SIZE, offset), Some(Record::Frame))
+    }
+
+    /// Whether a place stands in a frame.
+    pub(crate) fn is_framed(&self, place: u32) -> bool
+        ensures value { result ≡ option_map_or is_frame (record_in self.now.records (frame_around place)) false }
+        ensures inside { result ≡ true → place < 2 ^ self.now.bits }
+    {
+        let frame = place - place % PAGE_SIZE;
+        matches!(self.records.get(LEAST_SIZE, frame), Some(Record::Frame))
     }
 
     /// A thread leaves every queue and the ready list, and nobody has the right to reply to it any more.

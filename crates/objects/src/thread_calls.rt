@@ -5,7 +5,7 @@ ghost use Rattle.model.specs.Kernel.Kinds.{kind_at};
 ghost use Rattle.model.specs.Kernel.Messages.{with_caller, with_registers};
 ghost use Rattle.model.specs.Kernel.Retype.{NewThread};
 ghost use Rattle.model.specs.Kernel.Scheduling.{block, wake};
-ghost use Rattle.model.specs.Kernel.State.{thread_at};
+ghost use Rattle.model.specs.Kernel.State.{thread_at, with_thread};
 ghost use Rattle.objects.specs.Frames.{SameObjects};
 ghost use Rattle.objects.specs.Tables.{state_of};
 ghost use Rattle.objects.specs.Threads.{status_of};
@@ -44,6 +44,13 @@ impl Objects {
         self.thread_or_new(thread).priority
     }
 
+    /// The capability address of the endpoint that takes a thread's faults, or 0.
+    pub fn fault_address<S: SlotStore>(&self, store: &S, thread: u32) -> u32
+        ensures { result ≡ (thread_at (state_of self.now (S.slots store.now) (S.memory store.now)) thread).fault_address }
+    {
+        self.thread_or_new(thread).fault_address
+    }
+
     /// Sets the registers of a thread.
     #[tactic(auto, unfolding(crate::specs::Tables::state_of))]
     pub fn set_registers<S: SlotStore>(&mut self, store: &mut S, thread: u32, registers: Regs)
@@ -68,6 +75,19 @@ impl Objects {
         ensures order { S.order store.new ≡ S.order store.old }
     {
         self.set_caller_at(thread, caller);
+    }
+
+    /// Sets the capability address of the endpoint that takes a thread's faults; 0 is none.
+    #[tactic(auto, unfolding(crate::specs::Tables::state_of))]
+    pub fn set_fault_address<S: SlotStore>(&mut self, store: &mut S, thread: u32, address: u32)
+        requires { kind_at (state_of self.old (S.slots store.old) (S.memory store.old)) thread ≡ Some NewThread }
+        ensures state { state_of self.new (S.slots store.new) (S.memory store.new)
+            ≡ with_thread (state_of self.old (S.slots store.old) (S.memory store.old)) thread (record (thread_at (state_of self.old (S.slots store.old) (S.memory store.old)) thread) { fault_address = address }) }
+        ensures slots { S.slots store.new ≡ S.slots store.old }
+        ensures bytes { SameObjects (state_of self.old (S.slots store.old) (S.memory store.old)) (state_of self.new (S.slots store.new) (S.memory store.new)) (S.memory store.old) (S.memory store.new) }
+        ensures order { S.order store.new ≡ S.order store.old }
+    {
+        self.set_fault_address_at(thread, address);
     }
 
     /// A thread stops running, for this reason.

@@ -67,6 +67,22 @@ impl Objects {
         self.replace(offset, Thread { caller, ..thread });
     }
 
+    /// Sets the capability address of the endpoint that takes a thread's faults.
+    pub(crate) fn set_fault_address_at(&mut self, offset: u32, address: u32)
+        requires { kind_in self.old offset ≡ Some NewThread }
+        ensures { (slots : Slots) (memory : List ℕ) → state_of self.new slots memory
+            ≡ with_thread (state_of self.old slots memory) offset (record (thread_at (state_of self.old slots memory) offset) { fault_address = address }) }
+    {
+        let thread = self.thread_or_new(offset);
+        self.replace(
+            offset,
+            Thread {
+                fault_address: address,
+                ..thread
+            },
+        );
+    }
+
     /// A thread leaves the ready list.
     fn unready(&mut self, offset: u32)
         ensures { (slots : Slots) (memory : List ℕ)

@@ -1,0 +1,4 @@
+pub mod EndpointsThere
+pub mod Found
+pub mod RightsTested
+pub mod ThreadsInside

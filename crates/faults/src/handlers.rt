@@ -1,0 +1,84 @@
+//! Who takes the faults of a thread.
+
+ghost use Rattle.std.specs.Prelude.{◌≡◌, ◌^◌, ◌<◌, ◌&&◌, option_map};
+ghost use Rattle.faults.specs.Handlers.{handler_told};
+ghost use Rattle.model.specs.Capabilities.Lookup.{called_slot};
+ghost use Rattle.model.specs.Capabilities.Rights.{may_grant_reply, may_write};
+ghost use Rattle.model.specs.Capabilities.Slots.{capability_at};
+ghost use Rattle.model.specs.Kernel.Faults.{handler, handler_in, handler_of};
+ghost use Rattle.model.specs.Kernel.State.{State, cspace_slot};
+ghost use Rattle.objects.specs.Tables.{state_of};
+
+use bitflags::Flags;
+use cspace::called_slot;
+use model::{Cap, Rights, Slot};
+use objects::Objects;
+use slots::SlotStore;
+
+/// An endpoint that takes faults, and the badge with which they come.
+#[derive(Clone, Copy)]
+pub(crate) struct Handler {
+    pub(crate) endpoint: u32,
+    pub(crate) badge: u32,
+}
+
+/// Whether an endpoint takes faults by such rights: they write, and let the handler reply.
+#[tactic(auto, using(crate::proofs::RightsTested::write_tested, crate::proofs::RightsTested::grant_reply_tested))]
+fn take_faults(rights: Rights) -> bool
+    ensures { result ≡ (may_write rights && may_grant_reply rights) }
+{
+    rights.contains(Rights::WRITE) && rights.contains(Rights::GRANT_REPLY)
+}
+
+/// The handler that a capability names: an endpoint, by rights that take faults.
+fn handler_of(capability: Cap) -> Option<Handler>
+    ensures { option_map handler_told result ≡ handler_of capability }
+{
+    match capability {
+        Cap::Endpoint {
+            offset,
+            rights,
+            badge,
+        } => {
+            if !take_faults(rights) {
+                return None;
+            }
+            Some(Handler {
+                endpoint: offset,
+                badge,
+            })
+        }
+        _ => None,
+    }
+}
+
+/// The handler that an address names in the capability space of a thread.
+fn handler_at<S: SlotStore>(store: &S, thread: u32, address: u32) -> Option<Handler>
+    requires { thread < 2 ^ 24 }
+    ensures { (s : State) → s.slots ≡ S.slots store.now → option_map handler_told result
+        ≡ handler_in s (called_slot s.slots (capability_at s.slots (cspace_slot thread)) address) }
+{
+    let root = store.capability(Slot::new(thread / 16));
+    match called_slot(store, root, address) {
+        Ok(slot) => handler_of(store.capability(slot)),
+        Err(_) => None,
+    }
+}
+
+/// The handler that a thread's fault address names; address 0 names none.
+#[tactic(auto, unfolding(objects::specs::Tables::state_of))]
+pub(crate) fn find_handler<S: SlotStore>(
+    store: &S,
+    objects: &Objects,
+    thread: u32,
+) -> Option<Handler>
+    requires { thread < 2 ^ 24 }
+    ensures { option_map handler_told result
+        ≡ handler (state_of objects.now (S.slots store.now) (S.memory store.now)) thread }
+{
+    let address = objects.fault_address(store, thread);
+    if address == 0 {
+        return None;
+    }
+    handler_at(store, thread, address)
+}
