@@ -8,6 +8,7 @@ pub mod Fresh
 pub mod Joining
 pub mod Kept
 pub mod Leaving
+pub mod Lines
 pub mod Lists
 pub mod Replacing
 pub mod Serving

@@ -5,6 +5,7 @@
 
 mod calls;
 mod laws;
+mod line_calls;
 mod places;
 mod queue_calls;
 mod records;
@@ -19,4 +20,4 @@ pub use laws::{
     what_fits_still_does,
 };
 pub use records::{Fault, Kind, Sending, Sent, Status, Thread, WaitingSender};
-pub use tables::Objects;
+pub use tables::{FULL_SLICE, Objects};

@@ -23,7 +23,7 @@ use std::alloc::{AllocError, Global};
 use std::marker::Model;
 
 /// How many ticks a thread gets when it is made runnable.
-const FULL_SLICE: u8 = 5;
+pub const FULL_SLICE: u8 = 5;
 
 /// How many bytes of memory a thread has; other objects have 16 or more.
 pub(crate) const THREAD_SIZE: u32 = 512;

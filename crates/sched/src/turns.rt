@@ -8,11 +8,8 @@ ghost use Rattle.model.specs.Kernel.Soundness.{IsSound};
 ghost use Rattle.objects.specs.Frames.{SameObjects};
 ghost use Rattle.objects.specs.Tables.{state_of};
 
-use objects::Objects;
+use objects::{FULL_SLICE, Objects};
 use slots::SlotStore;
-
-/// How many ticks a thread gets when it goes to the tail.
-const FULL_SLICE: u8 = 5;
 
 /// The thread that runs: the first of the greatest priority, if any is ready.
 pub fn choose<S: SlotStore>(store: &S, objects: &Objects) -> Option<u32>

@@ -16,6 +16,7 @@ pub mod LeftSlots
 pub mod LeftThreads
 pub mod Loading
 pub mod Lookups
+pub mod Machines
 pub mod MappingCalls
 pub mod Messages
 pub mod Moving

@@ -124,7 +124,7 @@ called-left slots (Ok found) failure few is =
 called-left slots (Err other) failure few is =
     let e : other ≡ failure = (let f : ◌≡◌ {A = Result ℕ LookupFailure} (Err other) (Err failure) = is in cc) in subst (λ (f : LookupFailure). bits_left_of f ≤ 32) e (few other refl)
 
-named-left : (s : State) (thread : ℕ) (failure : LookupFailure) → named_slot s thread ≡ Err failure → bits_left_of failure ≤ 32
+pub named-left : (s : State) (thread : ℕ) (failure : LookupFailure) → named_slot s thread ≡ Err failure → bits_left_of failure ≤ 32
 named-left s thread failure is =
     let address = read (registers_of s thread) a0 in
     called-left s.slots (lookup s.slots (cspace_of s thread) address 32) failure
@@ -139,7 +139,7 @@ called-full slots (Ok found) slot is =
     ] refl is
 called-full slots (Err failure) slot is = let e : ◌≡◌ {A = Result ℕ LookupFailure} (Err failure) (Ok slot) = is in absurd cc
 
-named-full : (s : State) (thread slot : ℕ) → named_slot s thread ≡ Ok slot → IsFull s.slots slot
+pub named-full : (s : State) (thread slot : ℕ) → named_slot s thread ≡ Ok slot → IsFull s.slots slot
 named-full s thread slot is = called-full s.slots (lookup s.slots (cspace_of s thread) (read (registers_of s thread) a0) 32) slot is
 
 number-less : (failure : LookupFailure) → failure_number failure < 2 ^ 32
@@ -170,7 +170,7 @@ module _ (s : State) (thread : ℕ) (whole : IsSound s) (runs : IsRunning s thre
   registers : RegistersAreSound (registers_of s thread)
   registers = registers-of (thread_at s thread) (fine-of s whole thread runs.kind)
 
-  lacks-whole : (in_receive : ℕ) (failure : LookupFailure) → in_receive < 2 ^ 32 → bits_left_of failure ≤ 32
+  pub lacks-whole : (in_receive : ℕ) (failure : LookupFailure) → in_receive < 2 ^ 32 → bits_left_of failure ≤ 32
       → IsSound (lacks_capability s thread in_receive failure).0
   lacks-whole in_receive failure less few =
       let r = registers_of s thread in
@@ -184,18 +184,18 @@ module _ (s : State) (thread : ℕ) (whole : IsSound s) (runs : IsRunning s thre
         omega arith,
       )
 
-  unknown-whole : (number : ℕ) → number < 2 ^ 32 → IsSound (calls_known s thread number None).0
+  pub unknown-whole : (number : ℕ) → number < 2 ^ 32 → IsSound (calls_known s thread number None).0
   unknown-whole number less =
       let r = registers_of s thread in
       let one : List ℕ = number ∷ [] in
       fault-whole s whole thread (unknown_call r.pc number) runs (small-one r.pc one registers.pc (small-one number [] less (All-nil (λ (n : ℕ). n < 2 ^ 32))), omega arith)
 
-passes_with-whole : (s : State) (x : ℕ) (file : RegisterFile) → IsSound s → kind_at s x ≡ Some NewThread → RegistersAreSound file
+pub passes_with-whole : (s : State) (x : ℕ) (file : RegisterFile) → IsSound s → kind_at s x ≡ Some NewThread → RegistersAreSound file
     → IsSound (passes_with s x file)
 passes_with-whole s x file whole is sound =
     passes-whole (with_registers s x file) (registers-whole s whole x is file sound) x (thread-kinds s x (record (thread_at s x) { registers = file }) is x ∙ is)
 
-answered-whole : (s : State) (x : ℕ) (kind : SendCall) (number : ℕ) → IsSound s → kind_at s x ≡ Some NewThread → number < 2 ^ 16
+pub answered-whole : (s : State) (x : ℕ) (kind : SendCall) (number : ℕ) → IsSound s → kind_at s x ≡ Some NewThread → number < 2 ^ 16
     → IsSound (answered s x kind number)
 answered-whole s x Calling number whole is less =
     let r = registers_of s x in
@@ -263,7 +263,7 @@ runs-or-awaits AwaitsReply runs awaits = let e : false ≡ true = runs in cc
 runs-or-awaits AwaitsHandler runs awaits = let e : false ≡ true = runs in cc
 
 -- a thread that replies runs on
-reply-runs : (s : State) (thread : ℕ) (o : Option ℕ) → IsSound s → IsRunning s thread → (thread_at s thread).caller ≡ o
+pub reply-runs : (s : State) (thread : ℕ) (o : Option ℕ) → IsSound s → IsRunning s thread → (thread_at s thread).caller ≡ o
     → IsRunning (option_map_or (λ caller. replied (with_caller s thread None) caller (thread_at s caller).status (message_of (thread_at s thread))) o s) thread
 reply-runs s thread None whole runs is = runs
 reply-runs s thread (Some caller) whole runs is =
@@ -274,9 +274,14 @@ reply-runs s thread (Some caller) whole runs is =
     running-object one (replied one caller (thread_at s caller).status (message_of (thread_at s thread))) thread
     (replied-object one caller thread (thread_at s caller).status (message_of (thread_at s thread)) other) (dropped-runs s thread whole runs.kind runs.runs)
 
+-- and goes on behind its ECALL
+pub reply-passes-whole : (s : State) (thread : ℕ) → IsSound s → IsRunning s thread → IsSound (passes (reply s thread) thread)
+reply-passes-whole s thread whole runs =
+    passes-whole (reply s thread) (reply-whole s thread whole runs.kind) thread (reply-runs s thread (thread_at s thread).caller whole runs refl).kind
+
 -- ---- Call, Send and NBSend
 
-completed-whole : (s : State) (thread : ℕ) (kind : SendCall) → IsSound s → IsSound (completed s thread kind)
+pub completed-whole : (s : State) (thread : ℕ) (kind : SendCall) → IsSound s → IsSound (completed s thread kind)
 completed-whole s thread kind whole =
     elim (is_some (as_thread (s.objects thread))) as (λ b. is_some (as_thread (s.objects thread)) ≡ b
     → IsSound (if b then (if is_runnable (thread_at s thread).status then answered s thread kind 0 else passes s thread) else s)) [
@@ -290,15 +295,15 @@ completed-whole s thread kind whole =
     ] refl
 
 module _ (s : State) (thread : ℕ) (whole : IsSound s) (runs : IsRunning s thread) where
-  refused-whole : (kind : SendCall) (error : KError) → IsSound (refused s thread kind error).0
+  pub refused-whole : (kind : SendCall) (error : KError) → IsSound (refused s thread kind error).0
   refused-whole kind error = answered-whole s thread kind (error_number error) whole runs.kind (error-less error)
 
-  after-whole : (kind : SendCall) (result : Result State KError) → ((after : State) → result ≡ Ok after → IsSound after)
+  pub after-whole : (kind : SendCall) (result : Result State KError) → ((after : State) → result ≡ Ok after → IsSound after)
       → IsSound (after_invocation s thread kind result).0
   after-whole kind (Ok after) kept = completed-whole after thread kind (kept after refl)
   after-whole kind (Err error) kept = refused-whole kind error
 
-  invokes-whole : (kind : SendCall) (slot : ℕ) (capability : Cap) → IsFull s.slots slot → capability_at s.slots slot ≡ capability
+  pub invokes-whole : (kind : SendCall) (slot : ℕ) (capability : Cap) → IsFull s.slots slot → capability_at s.slots slot ≡ capability
       → IsSound (invokes s thread kind slot capability).0
   invokes-whole kind slot capability full is =
       let message = message_of (thread_at s thread) in
@@ -308,19 +313,19 @@ module _ (s : State) (thread : ℕ) (whole : IsSound s) (runs : IsRunning s thre
       after-whole kind (invoke s call message.label extra message.words)
       (λ after so. invoke-whole s after call message.label extra message.words whole (record { root = of_slot (cspace_slot thread) refl; invoked = held is full }) fine.words so)
 
-  sent_on-whole : (kind : SendCall) (endpoint badge : ℕ) (grant_reply : Bool) → kind_at s endpoint ≡ Some NewEndpoint → badge < 2 ^ 28
+  pub sent_on-whole : (kind : SendCall) (endpoint badge : ℕ) (grant_reply : Bool) → kind_at s endpoint ≡ Some NewEndpoint → badge < 2 ^ 28
       → IsSound (send_on s thread kind endpoint badge grant_reply).0
   sent_on-whole Calling endpoint badge grant_reply is less = send-whole s endpoint (sender thread ByCall badge grant_reply) whole is runs (record { badge = less; sent = tt })
   sent_on-whole Sending endpoint badge grant_reply is less = send-whole s endpoint (sender thread BySend badge grant_reply) whole is runs (record { badge = less; sent = tt })
   sent_on-whole Trying endpoint badge grant_reply is less = try_to_send-whole s endpoint (sender thread BySend badge grant_reply) whole is runs (record { badge = less; sent = tt })
 
-  signal_on-whole : (kind : SendCall) (q badge : ℕ) → kind_at s q ≡ Some NewNotification → badge < 2 ^ 28
+  pub signal_on-whole : (kind : SendCall) (q badge : ℕ) → kind_at s q ≡ Some NewNotification → badge < 2 ^ 28
       → IsSound (signal_on s thread kind q badge).0
   signal_on-whole kind q badge is less =
       let object = signaled-object s q badge thread (notification_at s q).waiters whole is runs refl in
       answered-whole (signal s q badge) thread kind 0 (signal-whole s q whole is badge less) (running-object s (signal s q badge) thread object runs).kind (omega arith)
 
-  sent_by-whole : (kind : SendCall) (slot : ℕ) (capability : Cap) → IsFull s.slots slot → capability_at s.slots slot ≡ capability
+  pub sent_by-whole : (kind : SendCall) (slot : ℕ) (capability : Cap) → IsFull s.slots slot → capability_at s.slots slot ≡ capability
       → IsSound (send_by s thread kind slot capability).0
   sent_by-whole kind slot (Endpoint offset r badge) full is =
       let valid : IsCapability (Endpoint offset r badge) = subst IsCapability is (whole.slots.derivation.valid slot) in
@@ -344,7 +349,7 @@ module _ (s : State) (thread : ℕ) (whole : IsSound s) (runs : IsRunning s thre
   sent_by-whole kind slot InterruptControl full is = invokes-whole kind slot InterruptControl full is
   sent_by-whole kind slot (InterruptHandler a) full is = invokes-whole kind slot (InterruptHandler a) full is
 
-  sends_nothing-whole : (kind : SendCall) (failure : LookupFailure) → bits_left_of failure ≤ 32 → IsSound (sends_nothing s thread kind failure).0
+  pub sends_nothing-whole : (kind : SendCall) (failure : LookupFailure) → bits_left_of failure ≤ 32 → IsSound (sends_nothing s thread kind failure).0
   sends_nothing-whole Calling failure few = lacks-whole s thread whole runs 0 failure (omega arith) few
   sends_nothing-whole Sending failure few = lacks-whole s thread whole runs 0 failure (omega arith) few
   sends_nothing-whole Trying failure few = passes-whole s whole thread runs.kind
@@ -355,7 +360,7 @@ module _ (s : State) (thread : ℕ) (whole : IsSound s) (runs : IsRunning s thre
 
   -- ---- Recv and NBRecv
 
-  missing-whole : IsSound (lacks_capability s thread 1 MissingCapability).0
+  pub missing-whole : IsSound (lacks_capability s thread 1 MissingCapability).0
   missing-whole = lacks-whole s thread whole runs 1 MissingCapability (omega arith) (omega arith)
 
   from_endpoint-whole : (kind : ReceiveCall) (endpoint : ℕ) → kind_at s endpoint ≡ Some NewEndpoint
@@ -367,7 +372,7 @@ module _ (s : State) (thread : ℕ) (whole : IsSound s) (runs : IsRunning s thre
   from_notification-whole Receiving q is = wait-whole s q whole is thread runs
   from_notification-whole Polling q is = poll-whole s q whole is thread runs
 
-  received_by-whole : (kind : ReceiveCall) (slot : ℕ) (capability : Cap) → capability_at s.slots slot ≡ capability
+  pub received_by-whole : (kind : ReceiveCall) (slot : ℕ) (capability : Cap) → capability_at s.slots slot ≡ capability
       → IsSound (receive_by s thread kind capability).0
   received_by-whole kind slot (Endpoint offset r badge) is =
       elim (may_read r) as (λ b. IsSound (if b then receive_on_endpoint s thread kind offset else lacks_capability s thread 1 MissingCapability).0) [
@@ -403,8 +408,7 @@ called-whole s thread (Receives kind) whole runs = received_named-whole s thread
 called-whole s thread RepliesAndReceives whole runs =
     let after = reply s thread in
     received_named-whole after thread (reply-whole s thread whole runs.kind) (reply-runs s thread (thread_at s thread).caller whole runs refl) Receiving (named_slot after thread) refl
-called-whole s thread Replies whole runs =
-    passes-whole (reply s thread) (reply-whole s thread whole runs.kind) thread (reply-runs s thread (thread_at s thread).caller whole runs refl).kind
+called-whole s thread Replies whole runs = reply-passes-whole s thread whole runs
 called-whole s thread Yields whole runs =
     let r = advanced (thread_at s thread).registers in
     let after = passes s thread in
