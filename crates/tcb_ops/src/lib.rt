@@ -1,7 +1,11 @@
-//! Calls on threads over any store of slots.
+//! Calls on threads, over any store of slots.
 //! seL4 Reference Manual, "Threads and Execution".
 #![tactic(auto)]
 
+mod configuring;
+mod spaces;
 mod threads;
 
+pub use configuring::configure;
+pub use spaces::Spaces;
 pub use threads::{resume, set_priority, set_register, suspend};

@@ -1,0 +1,4 @@
+pub mod Checks
+pub mod Configured
+pub mod Putting
+pub mod ThreadsNear

@@ -1,0 +1,13 @@
+//! Memory as a thread sees it through the page tables in the machine's bytes, and one instruction of a
+//! thread over it. RISC-V Privileged Architecture, "Sv32"; seL4 Reference Manual, "Address Spaces and
+//! Virtual Memory".
+#![tactic(auto)]
+
+mod execution;
+mod filling;
+mod roots;
+mod spaces;
+mod view;
+
+pub use execution::{execute, fetch};
+pub use filling::fill;
