@@ -1,39 +1,34 @@
 -- What Copy, Mint, Move and Mutate leave is whole.
-use Rattle.std.proofs.Common.{ℕ, ◌≡◌, ◌≢◌, ◌∙◌, ◌&&◌, ◌+◌, ◌/◌, ◌^◌, ◌<◌, ◌⊎◌, inl, inr, true, false, not, nat_le, nat_lt, Option, Some, None, IsSome, List, Result, Ok, Err, refl, sym, ap, subst, arith}
+use Rattle.std.proofs.Common.{ℕ, ◌≡◌, ◌≢◌, ◌∙◌, true, false, not, Option, Some, None, IsSome, List, Result, Ok, Err, refl, sym, ap, subst}
 use Rattle.std.specs.Prelude.{OnErr}
 use Rattle.std.proofs.lemmas.Bool.{not-true}
 use Rattle.agreement.proofs.Laws.{follows-law}
 use Rattle.agreement.proofs.Mutated.{mutate-agrees, mutate-closes}
 use Rattle.agreement.proofs.Puts.{copy-agrees, move-agrees, moved-closes, put-closes}
 use Rattle.agreement.specs.Agreement.{Agrees}
-use Rattle.cnode_ops.proofs.OpenNodes.{sound-nodes}
-use Rattle.cnode_ops.specs.Nodes.{CNodesAreOpen, HasOpenSlots}
 use Rattle.cnode_ops.specs.Outcomes.{Gives, GivesCopy, GivesMint, GivesMove, GivesMutate, GivesOn, GivesState}
 use Rattle.cnode_ops.specs.declared.named.NodeCall.{NodeCall}
 use Rattle.agreement.specs.Wholeness.{IsWhole}
 use Rattle.invocations.proofs.Standing.{Whole, refused-whole}
 use Rattle.model.proofs.Ancestors.{full-open}
 use Rattle.model.specs.Capabilities.CapabilityKinds.{badge_fits, carries_messages, copied, guard_fits, is_badged, may_be_copied, with_payload}
-use Rattle.model.specs.Capabilities.Lookup.{lookup, lookup_within}
-use Rattle.model.specs.Capabilities.Slots.{IsFull, SameOutside, Slots, capability_at, empty_entry, inserted, is_empty, is_full, recapped, relocated}
-use Rattle.model.specs.Kernel.Arguments.{◌>>=◌, Call, argument_slot, check, destination_slot, may_have_child, source_slot, whole}
+use Rattle.model.specs.Capabilities.Slots.{IsFull, SameOutside, Slots, capability_at, empty_entry, inserted, is_full, recapped, relocated}
+use Rattle.model.specs.Kernel.Arguments.{Call, check, destination_slot, may_have_child, source_slot, whole}
 use Rattle.model.specs.Kernel.CNodeCalls.{copy, mint, move, mutate}
-use Rattle.model.specs.Kernel.Soundness.{IsSound, of_boot_area}
+use Rattle.model.specs.Kernel.Soundness.{IsSound}
 use Rattle.model.specs.Kernel.State.{State, with_slots}
 use Rattle.model.specs.declared.capabilities.Cap.{Cap}
-use Rattle.model.specs.declared.capabilities.Cap.TheVariants.{CNode, Empty}
 use Rattle.model.specs.declared.errors.KError.{KError}
-use Rattle.model.specs.declared.errors.KError.TheVariants.{DeleteFirst, FailedLookup, IllegalOperation, RangeError}
+use Rattle.model.specs.declared.errors.KError.TheVariants.{IllegalOperation, RangeError}
 use Rattle.model.specs.declared.invocations.SlotName.{SlotName}
 use Rattle.model.specs.declared.slot_entries.Entry.{Entry}
 use Rattle.objects.specs.Tables.{Tables, state_of}
-use Rattle.slots.specs.Table.{table_slots}
 use Rattle.soundness.proofs.CNodeCalls.{AreNamed, are-named, copy-sound, mint-sound, move-sound, mutate-sound}
 use Rattle.soundness.proofs.Copies.{alike-both, copied-alike, copied-badge_fits, copied-guard_fits, copied-unmapped, copied-valid, copies-shared, no-badge, payload-alike, payload-mapping, payload-valid}
-use Rattle.soundness.proofs.Inserted.{empty-capability, empty-open}
+use Rattle.soundness.proofs.Inserted.{empty-open}
 use Rattle.soundness.proofs.Lookups.{check-passes, passes-both}
 use Rattle.soundness.proofs.Places.{plain-open}
-use Rattle.soundness.specs.Calls.{IsCall, held, boot, of_loader}
+use Rattle.soundness.specs.Calls.{IsCall}
 
 -- ---- what is left
 

@@ -1,5 +1,5 @@
 -- What calls on frames and page tables leave is what their definitions say, and whole.
-use Rattle.std.proofs.Common.{ℕ, ◌≡◌, ◌∙◌, ◌||◌, ◌+◌, ◌/◌, ◌%◌, ◌^◌, ◌≤◌, ◌==◌, ◌⊎◌, inl, inr, true, false, not, nat_lt, if◌then◌else◌, Option, Some, None, IsSome, List, length, Result, Ok, Err, refl, sym, ap, subst}
+use Rattle.std.proofs.Common.{ℕ, ◌≡◌, ◌∙◌, ◌||◌, ◌+◌, ◌/◌, ◌%◌, ◌^◌, ◌≤◌, ◌==◌, inl, inr, true, false, not, nat_lt, if◌then◌else◌, Option, Some, None, IsSome, List, length, Result, Ok, Err, refl, sym, ap, subst}
 use Rattle.std.specs.Option.{option_map_or}
 use Rattle.std.specs.Prelude.{OnErr}
 use Rattle.std.proofs.lemmas.Bool.Decides.{eqb_tells}
@@ -9,11 +9,11 @@ use Rattle.agreement.specs.Agreement.{Agrees}
 use Rattle.agreement.specs.Wholeness.{IsWhole}
 use Rattle.cnode_ops.specs.Outcomes.{GivesState}
 use Rattle.invocations.proofs.Roots.{held-at}
-use Rattle.invocations.proofs.Standing.{Whole, refused-whole}
+use Rattle.invocations.proofs.Standing.{Whole}
 use Rattle.model.proofs.Ancestors.{full-open}
 use Rattle.model.specs.Capabilities.CapabilityKinds.{frame_mapping, table_mapping, unmapped, with_frame_mapping, with_table_mapping}
 use Rattle.model.specs.Capabilities.Rights.{mapping_rights, may_execute, may_read}
-use Rattle.model.specs.Capabilities.Slots.{IsFull, IsOpen, Slots, capability_at, parent_at, recapped}
+use Rattle.model.specs.Capabilities.Slots.{IsOpen, Slots, capability_at, parent_at, recapped}
 use Rattle.model.specs.Kernel.AddressSpaces.{address_limit, is_page_taken, is_region_taken, page_size, region_pages, region_size}
 use Rattle.model.specs.Kernel.Arguments.{Call, check}
 use Rattle.model.specs.Kernel.Kinds.{kind_at, piece_of}
@@ -37,11 +37,11 @@ use Rattle.removals.proofs.Whole.{root-kind}
 use Rattle.removals.specs.Steps.{slots_unmapped, unmapped_at}
 use Rattle.soundness.proofs.Carried.{full-near}
 use Rattle.soundness.proofs.Lookups.{passes-both}
-use Rattle.soundness.proofs.MappingCalls.{IsAt, frame-sound, invoked-at, table-sound}
+use Rattle.soundness.proofs.MappingCalls.{frame-sound, invoked-at, table-sound}
 use Rattle.soundness.specs.Calls.{IsCall}
-use Rattle.vspace.specs.Answers.{Gives, GivesMapped, frame_call}
+use Rattle.vspace.specs.Answers.{Gives, GivesMapped}
 use Rattle.vspace.specs.Kept.{IsNamedTable, NamesTable, SameBesideTables}
-use Rattle.vspace.specs.TableAnswers.{GivesTableMapped, table_call}
+use Rattle.vspace.specs.TableAnswers.{GivesTableMapped}
 use Rattle.vspace.specs.Tables.{AreNear, TablesAgree}
 
 -- ---- the state

@@ -1,5 +1,5 @@
 -- The capabilities of a call are capabilities, and the CNodes among them have open slots.
-use Rattle.std.proofs.Common.{ℕ, ◌≡◌, None, ◌-◌, ◌+◌, ◌/◌, ◌%◌, ◌^◌, ◌<◌, ◌≤◌, List, sym, subst, arith}
+use Rattle.std.proofs.Common.{ℕ, ◌≡◌, None, ◌-◌, ◌+◌, ◌/◌, ◌%◌, ◌^◌, ◌<◌, ◌≤◌, List, refl, sym, subst, arith}
 use Rattle.std.proofs.Math.Nat.{zero-mod}
 use Rattle.std.proofs.lemmas.Nat.{pow_pos}
 use Rattle.agreement.specs.Wholeness.{IsWhole}
@@ -12,7 +12,7 @@ use Rattle.model.specs.Kernel.Arguments.{Call}
 use Rattle.model.specs.Kernel.Soundness.{IsSound}
 use Rattle.model.specs.Kernel.State.{State}
 use Rattle.model.specs.declared.capabilities.Cap.{Cap}
-use Rattle.model.specs.declared.capabilities.Cap.TheVariants.{CNode}
+use Rattle.model.specs.declared.capabilities.Cap.TheVariants.{CNode, InterruptHandler}
 use Rattle.objects.specs.Tables.{Tables, state_of}
 use Rattle.soundness.proofs.CNodeCalls.{invoked-root}
 use Rattle.soundness.proofs.MappingCalls.{IsAt, invoked-at}
@@ -59,3 +59,9 @@ pub held-at : (o : Tables) (slots : Slots) (memory : List ℕ) (call : Call) (c 
     → capability_at slots call.slot ≡ c
 unfolding state_of
 held-at o slots memory call c is_call is none = IsAt.at (invoked-at (state_of o slots memory) call c is_call.invoked is none)
+
+-- a handler's line is one of 64
+pub line-small : (s : State) (call : Call) (line : ℕ) → IsSound s → IsCall s call → call.capability ≡ InterruptHandler line → line < 64
+line-small s call line sound is_call is =
+    let at = invoked-at s call (InterruptHandler line) is_call.invoked is refl in
+    let valid : IsCapability (InterruptHandler line) = subst IsCapability at.at (sound.slots.derivation.valid call.slot) in valid

@@ -5,7 +5,10 @@
 mod calls;
 mod cnode_calls;
 mod frame_calls;
+mod loader_calls;
 mod table_calls;
+mod thread_calls;
 mod untyped_calls;
 
 pub use calls::KernelCall;
+pub use loader_calls::configure_with_guard;

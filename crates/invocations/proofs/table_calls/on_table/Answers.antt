@@ -1,5 +1,5 @@
 -- What each call leaves is what its definition says, and whole.
-use Rattle.std.proofs.Common.{◌∙◌, Ok, ap, refl, subst, sym}
+use Rattle.std.proofs.Common.{◌≡◌, ◌∙◌, Ok, ap, refl, subst, sym}
 use Rattle.agreement.proofs.Laws.{own-tables}
 use Rattle.cnode_ops.specs.Outcomes.{GivesState}
 use Rattle.invocations.proofs.MappedTables.{table-mapped, table-unmapped}
@@ -56,9 +56,10 @@ returns-in-UnmapTable-clause-outcome g c =
     let a = c.requires.applies in
     let call : Call = call_of c.args.call in
     let s = state_of c.args.kernel.now (g.S.SlotMap.slots c.args.store.now) (g.S.SlotStore.memory c.args.store.now) in
-    ap (λ (a : TableCall). on_table s call a) k.is ∙ ap (λ (t : State). Ok t)
+    let t = state_of c.unmap.new.self (g.S.SlotMap.slots c.unmap.new.store) (g.S.SlotStore.memory c.unmap.new.store) in
+    subst (λ (a : TableCall). on_table s call a ≡ Ok t) (sym k.is) (ap (λ (x : State). Ok x)
     (table-unmapped g.S.SlotMap.slots g.S.SlotStore.memory c.args.kernel.now c.unmap.new.self c.args.store.now c.unmap.new.store call a.0 a.1 c.requires.whole c.requires.call a.2
-    c.unmap.ensures.slots c.unmap.ensures.state c.unmap.ensures.agree).0
+    c.unmap.ensures.slots c.unmap.ensures.state c.unmap.ensures.agree).0)
 
 pub returns-in-UnmapTable-clause-whole : goal.returns-in-UnmapTable-clause-whole
 returns-in-UnmapTable-clause-whole g c =
