@@ -5,10 +5,13 @@
 mod calls;
 mod cnode_calls;
 mod frame_calls;
+mod interrupt_calls;
 mod loader_calls;
+mod performing;
 mod table_calls;
 mod thread_calls;
 mod untyped_calls;
 
 pub use calls::KernelCall;
 pub use loader_calls::configure_with_guard;
+pub use performing::{invoke, perform};
