@@ -25,7 +25,7 @@ boot-valid radix least most =
     let none : (32 - radix) / 2 ^ 5 ≡ 0 = omega (arith, least) in
     ((zero-mod (2 ^ (radix + 4)), omega arith), least, most, (omega arith, omega (arith, none, some), omega (arith, least, most)))
 
-root-valid : (s : State) (root : Cap) → IsSound s → IsRoot s root → IsCapability root
+pub root-valid : (s : State) (root : Cap) → IsSound s → IsRoot s root → IsCapability root
 root-valid s root sound (of_slot slot is) = subst IsCapability is (sound.slots.derivation.valid slot)
 root-valid s root sound (of_loader is) = subst IsCapability (sym is) (boot-valid s.boot_radix sound.shape.least_radix sound.shape.most_radix)
 

@@ -63,11 +63,7 @@ fn call<S: SlotStore>(
 ///
 /// seL4 Reference Manual, "System Calls".
 #[tactic(auto, unfolding(model::specs::Kernel::Steps::system_call))]
-pub fn system_call<S: SlotStore>(
-    store: &mut S,
-    kernel: &mut KernelObjects,
-    thread: u32,
-) -> Outcome
+pub fn system_call<S: SlotStore>(store: &mut S, kernel: &mut KernelObjects, thread: u32) -> Outcome
     requires whole { IsWhole (state_of kernel.old (S.slots store.old) (S.memory store.old)) (S.memory store.old) }
     requires runs { IsRunning (state_of kernel.old (S.slots store.old) (S.memory store.old)) thread }
     ensures state { state_of kernel.new (S.slots store.new) (S.memory store.new)

@@ -54,9 +54,22 @@ fn send_by<S: SlotStore>(
             offset,
             rights,
             badge,
-        } if may_write(rights) => signal_on(store, &mut kernel.objects, thread, kind, offset, badge),
+        } if may_write(rights) => signal_on(
+            store,
+            &mut kernel.objects,
+            thread,
+            kind,
+            offset,
+            badge,
+        ),
         Cap::Endpoint { .. } | Cap::Notification { .. } => {
-            refuse(store, &mut kernel.objects, thread, kind, KError::InvalidCapability)
+            refuse(
+                store,
+                &mut kernel.objects,
+                thread,
+                kind,
+                KError::InvalidCapability,
+            )
         }
         _ => invoke_on(store, kernel, thread, kind, slot, capability),
     }
