@@ -54,10 +54,3 @@ module _ (s : State) (thread : ℕ) (i : Instr) where
       effect-sound (registers_of s thread) (content_of s thread) (registers-of (thread_at s thread) (fine-of s sound thread running.kind))
       (λ place. byte-less s sound place (s.bytes place) refl) i (instruction-fits i is) in
       content-whole (with_registers s thread effect-on.registers) effect-on.content (registers-whole s sound thread running.kind effect-on.registers left.registers) left.bytes
-
--- ---- a word that was fetched, or the fault
-
-pub fetched-so : (s : State) (thread : ℕ) (fetched found : Result ℕ MemoryFault) → fetched ≡ loaded (content_of s thread) Fetch Word (registers_of s thread).pc
-    → fetched ≡ found → runs s thread ≡ runs_fetched s thread found
-unfolding runs
-fetched-so s thread fetched found loads is = ap (runs_fetched s thread) (sym loads ∙ is)

@@ -8,6 +8,9 @@ ghost use Rattle.model.specs.Kernel.Steps.{executes, registers_of, runs, runs_de
 ghost use Rattle.model.specs.Machine.Decoding.{decoded};
 ghost use Rattle.model.specs.Machine.Effects.{effect};
 ghost use Rattle.model.specs.Machine.Instructions.{IsInstr};
+ghost use Rattle.model.specs.Machine.ProgramMemory.{loaded};
+ghost use Rattle.model.specs.declared.instructions.Access.TheVariants.{Fetch};
+ghost use Rattle.model.specs.declared.instructions.AccessSize.TheVariants.{Word};
 ghost use Rattle.objects.specs.Tables.{state_of};
 ghost use Rattle.soundness.specs.Running.{IsRunning};
 
@@ -88,6 +91,19 @@ fn execute_word<S: SlotStore>(
     }
 }
 
+/// The word at the pc of a thread, or the fault of reading it.
+fn next_word<S: SlotStore>(
+    store: &S,
+    kernel: &KernelObjects,
+    thread: u32,
+) -> Result<u32, MemoryFault>
+    requires { IsWhole (state_of kernel.now (S.slots store.now) (S.memory store.now)) (S.memory store.now) }
+    ensures { result ≡ loaded (content_of (state_of kernel.now (S.slots store.now) (S.memory store.now)) thread) Fetch Word
+        (registers_of (state_of kernel.now (S.slots store.now) (S.memory store.now)) thread).pc }
+{
+    fetch(store, &kernel.objects, thread)
+}
+
 /// The thread that runs executes the instruction at its pc.
 #[tactic(auto, unfolding(model::specs::Kernel::Steps::runs))]
 pub(crate) fn run<S: SlotStore>(store: &mut S, kernel: &mut KernelObjects, thread: u32) -> Outcome
@@ -98,7 +114,7 @@ pub(crate) fn run<S: SlotStore>(store: &mut S, kernel: &mut KernelObjects, threa
     ensures outcome { result ≡ (runs (state_of kernel.old (S.slots store.old) (S.memory store.old)) thread).1 }
     ensures whole { IsWhole (state_of kernel.new (S.slots store.new) (S.memory store.new)) (S.memory store.new) }
 {
-    match fetch(store, &kernel.objects, thread) {
+    match next_word(store, kernel, thread) {
         Ok(word) => execute_word(store, kernel, thread, word),
         Err(fault) => miss(store, &mut kernel.objects, thread, fault),
     }
