@@ -1,6 +1,4 @@
-pub mod Calls
+pub mod Filled
 pub mod Fresh
-pub mod Kept
-pub mod Retypes
 pub mod Roots
 pub mod Untypeds

@@ -1,12 +1,11 @@
--- A system that is being set up, and what is always true of it.
+-- The parts of the kernel, the state that they stand for, and what is always true of it.
 -- seL4 Reference Manual, "System Bootstrapping".
-use Rattle.std.specs.Prelude.{ℕ, ◌≡◌, ◌+◌, ◌%◌, ◌^◌, ◌==◌, ◌&&◌, nat_le, nat_lt, Bool, true, false, Option, Some, None, List}
-use Rattle.agreement.specs.Agreement.{Agrees}
+use Rattle.std.specs.Prelude.{ℕ, ◌≡◌, ◌+◌, ◌%◌, ◌^◌, ◌==◌, ◌&&◌, nat_le, nat_lt, Bool, true, false, if◌then◌else◌, Option, Some, None, List, slice_index}
+use Rattle.agreement.specs.Wholeness as wholeness
 use Rattle.cnode_ops.specs.Refusals.{some_slot}
 use Rattle.model.specs.Capabilities.Slots.{Slots, capability_at}
 use Rattle.model.specs.Kernel.Setup.{end_of_untyped}
-use Rattle.model.specs.Kernel.Soundness.{IsSound}
-use Rattle.model.specs.Kernel.State.{State}
+use Rattle.model.specs.Kernel.State.{State, ThreadState}
 use Rattle.model.specs.declared.slot_entries.Entry.{Entry}
 use Rattle.objects.specs.Tables.{Tables, state_of}
 use Rattle.slots.specs.Table.{table_slots}
@@ -25,14 +24,21 @@ abbrev pub state_in : Parts → State
 state_in parts = state_of parts.tables (slots_in parts) parts.memory
 
 -- what each call relies on, and leaves true
-pub record IsWhole (parts : Parts) : Type 0 where
-  pub sound : IsSound (state_in parts)
-  pub agrees : Agrees (state_in parts) parts.memory
+abbrev pub IsWhole : Parts → Type 0
+IsWhole parts = wholeness.IsWhole (state_in parts) parts.memory
 
 -- what an operation answers and leaves: nothing changes where its definition gives nothing
 abbrev pub GivesIf : Option State → Bool → Parts → Parts → Type 0
 GivesIf defined true before after = defined ≡ Some (state_in after)
 GivesIf defined false before after = (defined ≡ None) × (after ≡ before)
+
+-- ---- to look
+
+-- the program counter of a thread, or one of its registers 1 to 31
+abbrev pub register_in : ThreadState → ℕ → Option ℕ
+register_in t index =
+    if index == 0 then Some t.registers.pc
+    else if nat_le index 31 then Some (slice_index t.registers.words index) else None
 
 -- ---- where untyped memory may stand
 
