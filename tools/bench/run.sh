@@ -8,7 +8,7 @@ trap 'rm -rf "$copy"' EXIT
 cp -r "$here/../../." "$copy"
 rm -rf "$copy/.git" "$copy/tools"
 git -C "$copy" init -q
-for name in exec_bench store_bench lookup_bench revoke_bench; do
+for name in exec_bench store_bench lookup_bench revoke_bench kernel_bench; do
     mkdir -p "$copy/crates/$name/src"
     cp "$here/$name.rt.in" "$copy/crates/$name/src/main.rt"
 done
@@ -18,9 +18,10 @@ cat >>"$copy/crates.txt" <<'LIST'
 exec_bench: model rv32_isa rv32_exec
 store_bench: model slots
 lookup_bench: model slots cspace
-revoke_bench: model kernel
+revoke_bench: kernel
+kernel_bench: model kernel
 LIST
-for name in exec_bench store_bench lookup_bench revoke_bench; do
+for name in exec_bench store_bench lookup_bench revoke_bench kernel_bench; do
     (cd "$copy/crates/$name" && rt run >"$copy/$name.log" 2>&1)
 done
 echo "100 million instructions, proved:"
@@ -54,4 +55,8 @@ for bits in 19 20 22; do
             time -p "$copy/revoke_plain" "$shape" "$bits"
         fi
     done
+done
+for case in count memory calls lines; do
+    echo "10 million events of the kernel, $case:"
+    time -p "$copy/crates/kernel_bench/out/kernel_bench" "$case"
 done

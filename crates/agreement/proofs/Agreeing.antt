@@ -1,6 +1,5 @@
 -- What agrees still does where less is there.
-use Rattle.std.proofs.Common.{ℕ, ◌≡◌, ◌∙◌, ◌+◌, ◌/◌, ◌^◌, Option, Some, None, List, length, refl, sym, ap, subst}
-use Rattle.model.specs.Capabilities.Slots.{IsOpen, Slots}
+use Rattle.std.proofs.Common.{ℕ, ◌≡◌, ◌∙◌, ◌/◌, ◌^◌, Some, None, List, length, sym, ap}
 use Rattle.model.specs.Kernel.Kinds.{kind_at}
 use Rattle.model.specs.Kernel.Retype.{NewObject}
 use Rattle.model.specs.Kernel.State.{State}

@@ -1,10 +1,10 @@
 -- The laws on objects that agree with slots and memory.
-use Rattle.std.proofs.Common.{ℕ, ◌≡◌, ◌∙◌, ◌^◌, Some, None, List, length, refl, sym, ap, subst}
+use Rattle.std.proofs.Common.{ℕ, ◌≡◌, ◌^◌, Some, None, List, length, refl}
 use Rattle.model.specs.Capabilities.CapabilityKinds.{unmapped}
 use Rattle.model.specs.Capabilities.Slots.{IsFull, SameOutside, Slots, capability_at, closed, empty_entry, recapped, spliced}
-use Rattle.model.specs.Kernel.State.{State, with_slots}
+use Rattle.model.specs.Kernel.State.{with_slots}
 use Rattle.model.proofs.Ancestors.{full-open}
-use Rattle.agreement.proofs.Lessened.{Lessened, less-closed, less-same, less-spliced, less-unused}
+use Rattle.agreement.proofs.Lessened.{less-closed, less-same, less-spliced, less-unused}
 use Rattle.agreement.proofs.Steps.{no-slot, unmapped-agrees}
 use Rattle.agreement.specs.Agreement.{Agrees}
 use Rattle.objects.proofs.Following.{follows-bytes}

@@ -1,10 +1,10 @@
 -- Slots that hold less: a capability goes, or its mapping, or what untyped memory has used.
-use Rattle.std.proofs.Common.{ℕ, ◌≡◌, ◌≢◌, ◌∙◌, ◌==◌, ◌+◌, ◌/◌, inl, inr, Bool, true, false, not, if◌then◌else◌, Option, Some, None, option_map, refl, sym, ap, subst}
+use Rattle.std.proofs.Common.{ℕ, ◌≡◌, ◌≢◌, ◌∙◌, inl, inr, Bool, true, false, if◌then◌else◌, Option, Some, None, option_map, refl, sym, ap, subst}
 use Rattle.std.specs.Prelude.{IsSome}
 use Rattle.std.specs.Option.{option_map_or}
 use Rattle.std.proofs.lemmas.Bool.Decides.{eqb_tells}
-use Rattle.model.specs.Capabilities.CapabilityKinds.{frame_mapping, table_mapping, unmapped}
-use Rattle.model.specs.Capabilities.Slots.{IsFull, IsOpen, Slots, adopted, capability_at, closed, empty_entry, is_within, parent_at, recapped, spliced, with_entry, with_parent}
+use Rattle.model.specs.Capabilities.CapabilityKinds.{unmapped}
+use Rattle.model.specs.Capabilities.Slots.{IsOpen, Slots, adopted, capability_at, closed, empty_entry, is_within, parent_at, recapped, spliced, with_entry, with_parent}
 use Rattle.model.proofs.SlotChanges.{capability-adopted}
 use Rattle.model.specs.Kernel.MappingCalls.{lies_in_region, without_region, without_table}
 use Rattle.model.specs.declared.capabilities.Cap.{Cap}

@@ -1,12 +1,12 @@
 -- What Mutate leaves agrees as before: only a CNode's guard word changes.
-use Rattle.std.proofs.Common.{ℕ, ◌≡◌, ◌≢◌, ◌∙◌, ◌==◌, inl, inr, true, false, if◌then◌else◌, Option, Some, None, IsSome, List, refl, sym, ap, subst}
+use Rattle.std.proofs.Common.{ℕ, ◌≡◌, ◌≢◌, ◌∙◌, ◌==◌, inl, inr, true, false, if◌then◌else◌, Option, Some, None, List, refl, sym, ap, subst}
 use Rattle.std.specs.Option.{option_map_or}
 use Rattle.std.proofs.lemmas.Bool.Decides.{eqb_tells}
 use Rattle.agreement.proofs.Puts.{capability_of, changed-agrees, is-open, moved-closes, moved-named, moved_entry, put-closes, put-named}
 use Rattle.agreement.specs.Agreement.{Agrees}
 use Rattle.model.specs.Capabilities.CapabilityKinds.{carries_messages, with_payload}
 use Rattle.model.specs.Capabilities.CapabilityWords.{IsCapability}
-use Rattle.model.specs.Capabilities.Slots.{IsOpen, SameOutside, Slots, capability_at, empty_entry, parent_at, recapped, relocated}
+use Rattle.model.specs.Capabilities.Slots.{SameOutside, Slots, capability_at, empty_entry, parent_at, recapped, relocated}
 use Rattle.model.specs.declared.capabilities.Cap.{Cap}
 use Rattle.model.specs.declared.capabilities.Cap.TheVariants.{Empty, Untyped, Endpoint, Notification, CNode, Frame, PageTable, Tcb, RootTable, InterruptControl, InterruptHandler}
 use Rattle.model.specs.declared.slot_entries.Entry.{Entry}
@@ -14,7 +14,7 @@ use Rattle.objects.specs.Tables.{Tables, state_of}
 use Rattle.vspace.proofs.AgreementBytes.{agree-outside}
 use Rattle.vspace.proofs.AgreementSlots.{agree-changed, agree-moved}
 use Rattle.vspace.specs.Agreement.{IsWithoutTables}
-use Rattle.vspace.specs.Kept.{IsNamedTable, NamesTable}
+use Rattle.vspace.specs.Kept.{NamesTable}
 use Rattle.vspace.specs.Tables.{TablesAgree}
 
 abbrev parent_of : Option Entry → Option ℕ

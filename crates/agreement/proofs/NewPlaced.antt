@@ -1,6 +1,6 @@
 -- What one object more makes of the state: its record, its bytes and its capability.
-use Rattle.std.proofs.Common.{ℕ, ◌≡◌, ◌≢◌, ◌∙◌, ◌==◌, ◌&&◌, ◌||◌, ◌+◌, ◌*◌, ◌-◌, ◌/◌, ◌%◌, ◌^◌, ◌<◌, ◌≤◌, inl, inr, Bool, true, false, if◌then◌else◌, Option, Some, None, List, refl, sym, ap, subst, arith}
-use Rattle.std.specs.Prelude.{nat_le, nat_lt, slice_index}
+use Rattle.std.proofs.Common.{ℕ, ◌≡◌, ◌≢◌, ◌∙◌, ◌==◌, ◌&&◌, ◌+◌, ◌*◌, ◌-◌, ◌%◌, ◌^◌, ◌<◌, ◌≤◌, inl, inr, true, false, if◌then◌else◌, Option, Some, List, refl, sym, ap, arith}
+use Rattle.std.specs.Prelude.{slice_index}
 use Rattle.std.specs.Option.{option_map_or}
 use Rattle.std.proofs.lemmas.Bool.Decides.{eqb_tells}
 use Rattle.agreement.proofs.RoomsMade.{alone, some-alone}
@@ -9,7 +9,7 @@ use Rattle.model.proofs.SlotChanges.{bounds-within, within-bounds}
 use Rattle.model.specs.Capabilities.Slots.{Slots, inserted, is_within}
 use Rattle.model.specs.Kernel.AddressSpaces.{page_size}
 use Rattle.model.specs.Kernel.Kinds.{frame_around, kind_of}
-use Rattle.model.specs.Kernel.Retype.{NewObject, NewUntyped, NewFrame, first_capability, is_frame, object, object_bits, place_of_new, some_new, with_first_capabilities, with_new_bytes, with_new_objects, with_new_slots}
+use Rattle.model.specs.Kernel.Retype.{NewObject, NewUntyped, first_capability, object, place_of_new, some_new, with_first_capabilities, with_new_bytes, with_new_objects, with_new_slots}
 use Rattle.model.specs.Kernel.State.{Object, State, put, with_slots}
 use Rattle.model.specs.declared.slot_entries.Entry.{Entry}
 use Rattle.objects.specs.Changes.{begun, is_frame_kind}

@@ -1,32 +1,23 @@
 -- The state once one object was made: its room, its record, and its capability.
-use Rattle.std.proofs.Common.{ℕ, ◌≡◌, ◌≢◌, ◌∙◌, ◌==◌, ◌&&◌, ◌||◌, ◌+◌, ◌*◌, ◌-◌, ◌/◌, ◌%◌, ◌^◌, ◌<◌, ◌≤◌, ◌⊎◌, inl, inr, Bool, true, false, if◌then◌else◌, Option, Some, None, IsSome, List, length, pow_pos, refl, sym, ap, subst, arith}
-use Rattle.std.specs.Prelude.{nat_le, slice_index}
-use Rattle.std.specs.Option.{option_map_or}
-use Rattle.std.proofs.lemmas.Bool.{cases_lt, leb-true, le-leb}
-use Rattle.std.proofs.lemmas.Bool.Decides.{eqb_tells}
+use Rattle.std.proofs.Common.{ℕ, ◌≡◌, ◌∙◌, ◌+◌, ◌*◌, ◌-◌, ◌/◌, ◌%◌, ◌^◌, ◌<◌, ◌≤◌, ◌⊎◌, inl, inr, true, false, if◌then◌else◌, Some, None, List, pow_pos, refl, sym, ap, arith}
+use Rattle.std.proofs.lemmas.Bool.{cases_lt, leb-true}
 use Rattle.std.proofs.lemmas.Nat.{mod-pow-add, pow-add}
-use Rattle.agreement.proofs.RoomsMade.{alone, slots-alone, some-alone}
+use Rattle.agreement.proofs.RoomsMade.{slots-alone}
 use Rattle.agreement.proofs.Steps.{no-slot}
-use Rattle.agreement.specs.Agreement.{Agrees}
-use Rattle.agreement.specs.Growing.{Growing, one_placed}
+use Rattle.agreement.specs.Growing.{Growing}
 use Rattle.agreement.specs.Rooms.{RoomMade}
 use Rattle.model.proofs.SlotChanges.{within-bounds}
-use Rattle.model.specs.Capabilities.Slots.{IsOpen, Slots, empty_entry, inserted, is_within, with_entry}
-use Rattle.model.specs.Kernel.AddressSpaces.{page_size}
-use Rattle.model.specs.Kernel.Kinds.{frame_around, kind_at, kind_of}
+use Rattle.model.specs.Capabilities.Slots.{Slots, empty_entry, is_within}
+use Rattle.model.specs.Kernel.Kinds.{kind_of}
 use Rattle.model.specs.Kernel.Removal.{slot_count}
-use Rattle.model.specs.Kernel.Retype.{NewObject, NewUntyped, NewThread, NewEndpoint, NewNotification, NewCNode, NewFrame, NewPageTable, NewRootTable, first_capability, is_frame, is_large_enough, is_small_enough, object, object_bits, place_of_new, size_of, with_first_capabilities, with_new_bytes, with_new_objects, with_new_slots}
-use Rattle.model.specs.Kernel.State.{Object, State, put, with_slots}
-use Rattle.model.specs.declared.capabilities.Cap.{Cap}
-use Rattle.model.specs.declared.slot_entries.Entry.{Entry}
+use Rattle.model.specs.Kernel.Retype.{NewObject, NewUntyped, NewThread, NewEndpoint, NewNotification, NewCNode, NewFrame, NewPageTable, NewRootTable, is_large_enough, is_small_enough, object, object_bits}
+use Rattle.model.specs.Kernel.State.{State, with_slots}
 use Rattle.objects.proofs.Following.{follows-bytes}
-use Rattle.objects.specs.Changes.{MayStand, begun, is_frame_kind}
-use Rattle.objects.specs.Frames.{FitsMemory}
+use Rattle.objects.specs.Changes.{MayStand}
 use Rattle.objects.specs.Tables.{Tables, state_of}
 use Rattle.objects.specs.Threads.{new_object}
 use Rattle.objects.specs.declared.records.Kind.{Kind}
 use Rattle.objects.specs.declared.records.Kind.TheVariants as kinds
-use Rattle.soundness.specs.Unused.{IsFree}
 
 -- ---- places
 

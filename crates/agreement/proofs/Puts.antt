@@ -7,12 +7,11 @@ use Rattle.agreement.specs.Agreement.{Agrees}
 use Rattle.model.proofs.SlotChanges.{capability-adopted}
 use Rattle.model.specs.Capabilities.CapabilityKinds.{frame_mapping}
 use Rattle.model.specs.Capabilities.CapabilityWords.{IsCapability}
-use Rattle.model.specs.Capabilities.Slots.{IsOpen, SameOutside, Slots, adopted, capability_at, empty_entry, inserted, parent_at, recapped, relocated}
+use Rattle.model.specs.Capabilities.Slots.{IsOpen, SameOutside, Slots, adopted, capability_at, empty_entry, inserted, relocated}
 use Rattle.model.specs.Kernel.Kinds.{object_named}
-use Rattle.model.specs.Kernel.State.{State, with_slots}
+use Rattle.model.specs.Kernel.State.{State}
 use Rattle.model.specs.declared.capabilities.Cap.{Cap}
 use Rattle.model.specs.declared.capabilities.Cap.TheVariants.{Empty, Untyped, Endpoint, Notification, CNode, Frame, PageTable, Tcb, RootTable, InterruptControl, InterruptHandler}
-use Rattle.model.specs.declared.capabilities.FrameMapping.{FrameMapping}
 use Rattle.model.specs.declared.slot_entries.Entry.{Entry}
 use Rattle.objects.specs.Tables.{Tables, state_of}
 use Rattle.removals.proofs.Whole.{root-kind}

@@ -1,16 +1,15 @@
 -- The room that opening slots or zeroing a page makes.
-use Rattle.std.proofs.Common.{ℕ, ◌≡◌, ◌∙◌, ◌==◌, ◌&&◌, ◌||◌, ◌+◌, ◌*◌, ◌-◌, ◌/◌, ◌%◌, ◌^◌, ◌<◌, ◌≤◌, ◌⊎◌, inl, inr, Bool, true, false, if◌then◌else◌, Option, Some, None, List, length, replicate, refl, sym, ap, subst, arith}
+use Rattle.std.proofs.Common.{ℕ, ◌≡◌, ◌∙◌, ◌&&◌, ◌||◌, ◌+◌, ◌*◌, ◌-◌, ◌/◌, ◌^◌, ◌≤◌, inl, inr, Bool, true, false, if◌then◌else◌, Some, List, length, replicate, refl, sym, ap, arith}
 use Rattle.std.specs.Prelude.{nat_le, nat_lt, slice_index}
-use Rattle.std.proofs.lemmas.Bool.{cases_lt, le-ltb, leb-true}
+use Rattle.std.proofs.lemmas.Bool.{le-ltb, leb-true}
 use Rattle.std.proofs.lemmas.List.{get_or-replicate, length-replicate}
 use Rattle.model.specs.Capabilities.Slots.{SameOutside, Slots, empty_entry, is_within, opened}
 use Rattle.model.specs.Kernel.AddressSpaces.{page_size}
 use Rattle.model.specs.Kernel.Removal.{slot_count}
-use Rattle.model.specs.Kernel.Retype.{NewObject, NewUntyped, NewThread, NewEndpoint, NewNotification, NewCNode, NewFrame, NewPageTable, NewRootTable, NewObjects, object, object_bits, place_of_new, some_new, with_new_slots}
+use Rattle.model.specs.Kernel.Retype.{NewObject, NewObjects, object, object_bits, some_new, with_new_slots}
 use Rattle.model.specs.Kernel.State.{slot_of}
 use Rattle.model.specs.Shared.Bytes.{written}
 use Rattle.model.proofs.BytesLemmas.{length-written, slice_index-written_before, slice_index-written_behind, slice_index-written_inside}
-use Rattle.model.specs.declared.slot_entries.Entry.{Entry}
 use Rattle.agreement.specs.Rooms.{RoomMade, has_page}
 
 or-false : (b : Bool) → (b || false) ≡ b

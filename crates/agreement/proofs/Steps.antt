@@ -1,16 +1,16 @@
 -- What a removal does to objects and mappings leaves them in agreement.
-use Rattle.std.proofs.Common.{ℕ, ◌≡◌, ◌≢◌, ◌∙◌, ◌==◌, ◌+◌, ◌-◌, ◌/◌, ◌%◌, ◌^◌, ◌<◌, ◌≤◌, ◌⊎◌, inl, inr, Bool, true, false, if◌then◌else◌, Option, Some, None, option_map, List, [], ◌∷◌, IsSome, filter, fold, length, refl, sym, ap, subst, arith}
-use Rattle.std.specs.Prelude.{All, slice_index}
+use Rattle.std.proofs.Common.{ℕ, ◌≡◌, ◌∙◌, ◌==◌, ◌+◌, ◌-◌, ◌/◌, ◌%◌, inl, inr, Bool, true, false, if◌then◌else◌, Option, Some, None, option_map, List, [], ◌∷◌, IsSome, filter, fold, refl, sym, ap, subst}
+use Rattle.std.specs.Prelude.{All}
 use Rattle.std.specs.Option.{option_map_or}
 use Rattle.std.proofs.lemmas.Bool.{cases_lt}
 use Rattle.std.proofs.lemmas.Bool.Decides.{eqb_tells}
 use Rattle.std.proofs.lemmas.List.Elements.{All-head, All-tail, All-weaker, filter_passes}
-use Rattle.model.specs.Capabilities.Slots.{IsOpen, SameOutside, Slots}
+use Rattle.model.specs.Capabilities.Slots.{Slots}
 use Rattle.model.specs.Kernel.AddressSpaces.{page_size}
 use Rattle.model.specs.Kernel.Kinds.{kind_at, kind_of}
 use Rattle.model.specs.Kernel.Removal.{thread_places}
 use Rattle.model.specs.Kernel.Retype.{NewObject, NewThread}
-use Rattle.model.specs.Kernel.Scheduling.{all_leave, full_slice, wake, without_threads}
+use Rattle.model.specs.Kernel.Scheduling.{full_slice, wake, without_threads}
 use Rattle.model.specs.Kernel.State.{Object, Runnable, State, ThreadObject, EndpointObject, NotificationObject, CNodeObject, FrameObject, PageTableObject, RootTableObject, as_thread, put, thread_at, with_slots}
 use Rattle.model.specs.declared.capabilities.Cap.TheVariants.{RootTable}
 use Rattle.model.specs.declared.slot_entries.Entry.{Entry}
@@ -24,7 +24,6 @@ use Rattle.removals.proofs.Named.{kind-threads}
 use Rattle.removals.specs.Finishing.{is_stranded, waits_nowhere, woken}
 use Rattle.removals.specs.Steps.{ended, ends_thread, object_ended, without_root}
 use Rattle.vspace.proofs.AgreementSlots.{agree-beside}
-use Rattle.vspace.specs.Agreement.{SameInTables}
 use Rattle.vspace.specs.Kept.{IsBeside, IsNamedTable, SameBesideTables}
 use Rattle.vspace.specs.Tables.{TablesAgree}
 

@@ -1,12 +1,12 @@
 -- A call on objects leaves what is whole whole: slots and kinds of objects stay, and only bytes of records change.
-use Rattle.std.proofs.Common.{ℕ, ◌≡◌, ◌∙◌, Option, Some, None, IsSome, List, refl, sym, ap, subst}
+use Rattle.std.proofs.Common.{ℕ, ◌≡◌, ◌∙◌, Option, Some, None, IsSome, List, refl, sym, subst}
 use Rattle.agreement.proofs.Agreeing.{agrees-less}
 use Rattle.agreement.proofs.Lessened.{Lessened, less-same}
 use Rattle.agreement.proofs.Steps.{tables-beside}
 use Rattle.agreement.specs.Wholeness.{IsWhole}
 use Rattle.model.specs.Capabilities.Slots.{Slots}
 use Rattle.model.specs.Kernel.Kinds.{frame_around, kind_at}
-use Rattle.model.specs.Kernel.Retype.{NewFrame, NewObject}
+use Rattle.model.specs.Kernel.Retype.{NewFrame}
 use Rattle.model.specs.Kernel.Soundness.{IsSound}
 use Rattle.model.specs.Kernel.State.{State}
 use Rattle.objects.specs.Frames.{SameObjects}

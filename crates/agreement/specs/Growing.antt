@@ -1,6 +1,6 @@
 -- Objects that come one after another, in memory where nothing stands.
 -- seL4 Reference Manual, "Kernel Memory Allocation".
-use Rattle.std.specs.Prelude.{ℕ, ◌≡◌, ◌+◌, ◌^◌, ◌<◌, ◌≤◌, ◌⊎◌, Some, List}
+use Rattle.std.specs.Prelude.{ℕ, ◌+◌, ◌^◌, ◌≤◌, ◌⊎◌, List}
 use Rattle.agreement.specs.Agreement.{Agrees}
 use Rattle.model.specs.Kernel.AddressSpaces.{page_size}
 use Rattle.model.specs.Kernel.Retype.{NewObject, with_new}

@@ -1,1 +1,4 @@
+pub mod Binding
 pub mod Bound
+pub mod Handling
+pub mod Left

@@ -2,6 +2,8 @@
 //! store of slots. seL4 Reference Manual, "Hardware I/O".
 #![tactic(auto)]
 
+mod handlers;
 mod lines;
 
+pub use handlers::{bind, clear, get_handler};
 pub use lines::{ack, raise};

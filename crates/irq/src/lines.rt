@@ -1,8 +1,8 @@
 //! Raising interrupt lines, and acknowledging them.
 
-ghost use Rattle.std.specs.Prelude.{ℕ, ◌≡◌, ◌<◌, Some, option_map};
+ghost use Rattle.std.specs.Prelude.{ℕ, ◌≡◌, ◌<◌, Some, false, option_map};
 ghost use Rattle.irq.specs.Signals.{as_signal};
-ghost use Rattle.model.specs.Kernel.Interrupts.{acknowledge, binding, interrupt, raise, signal_of};
+ghost use Rattle.model.specs.Kernel.Interrupts.{acknowledge, binding, interrupt, raise, signal_of, with_pending};
 ghost use Rattle.model.specs.Kernel.Kinds.{kind_at};
 ghost use Rattle.model.specs.Kernel.Retype.{NewNotification};
 ghost use Rattle.model.specs.Kernel.Soundness.{IsSound};
@@ -56,6 +56,21 @@ fn deliver<S: SlotStore>(store: &mut S, objects: &mut Objects, line: u8, bound: 
     objects.set_masked(store, line, true);
 }
 
+/// The interrupt of a line, 0 to 63, that stands pending is delivered: it stands pending no more, and the
+/// line is masked.
+fn deliver_pending<S: SlotStore>(store: &mut S, objects: &mut Objects, line: u8, bound: Signal)
+    requires line { line < 64 }
+    requires there { kind_at (state_of objects.old (S.slots store.old) (S.memory store.old)) bound.notification ≡ Some NewNotification }
+    ensures state { state_of objects.new (S.slots store.new) (S.memory store.new)
+        ≡ interrupt (with_pending (state_of objects.old (S.slots store.old) (S.memory store.old)) line false) line (as_signal bound) }
+    ensures slots { S.slots store.new ≡ S.slots store.old }
+    ensures bytes { SameObjects (state_of objects.old (S.slots store.old) (S.memory store.old)) (state_of objects.new (S.slots store.new) (S.memory store.new)) (S.memory store.old) (S.memory store.new) }
+    ensures order { S.order store.new ≡ S.order store.old }
+{
+    objects.set_pending(store, line, false);
+    deliver(store, objects, line, bound);
+}
+
 /// An interrupt comes on a line. It is delivered where the line is bound and not masked, and masks the line
 /// then; else it stands pending. Lines above 63 do nothing.
 ///
@@ -100,7 +115,6 @@ pub fn ack<S: SlotStore>(store: &mut S, objects: &mut Objects, line: u8)
         return;
     }
     if let Some(bound) = binding(store, objects, line) {
-        objects.set_pending(store, line, false);
-        deliver(store, objects, line, bound);
+        deliver_pending(store, objects, line, bound);
     }
 }

@@ -1,3 +1,4 @@
+pub mod Filled
 pub mod Fresh
 pub mod Roots
 pub mod Untypeds

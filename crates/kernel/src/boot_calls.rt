@@ -24,8 +24,9 @@ const BOOT_CNODE: u32 = 0xFFFF_FFFF;
 
 /// The root of the capability space in which the system is set up: the boot CNode, whose slots are named by their
 /// numbers at 32 bits.
-fn boot_root(objects: &Objects) -> Cap
-    ensures value { (slots : Slots) (memory : List ℕ) → result ≡ boot_root (state_of objects.now slots memory).boot_radix }
+fn boot_root<S: SlotStore>(store: &S, objects: &Objects) -> Cap
+    requires { IsWhole (state_of objects.now (S.slots store.now) (S.memory store.now)) (S.memory store.now) }
+    ensures value { result ≡ boot_root (state_of objects.now (S.slots store.now) (S.memory store.now)).boot_radix }
     ensures valid { IsCapability result }
 {
     let radix = objects.boot_radix();
@@ -38,13 +39,14 @@ fn boot_root(objects: &Objects) -> Cap
 
 /// What a call is made on: the boot CNode itself, or what a boot slot holds. Where there is nothing the lookup
 /// failed (`FailedLookup`).
+#[tactic(auto, unfolding(objects::specs::Tables::state_of))]
 fn called<S: SlotStore>(store: &S, objects: &Objects, address: u32) -> Result<KernelCall, KError>
     requires whole { IsWhole (state_of objects.now (S.slots store.now) (S.memory store.now)) (S.memory store.now) }
     ensures call { IfOk result (λ call. boot_call (state_of objects.now (S.slots store.now) (S.memory store.now)) address ≡ Ok (call_of call)) }
     ensures sound { IfOk result (λ call. IsCall (state_of objects.now (S.slots store.now) (S.memory store.now)) (call_of call)) }
     ensures refused { IfErr result (λ error. boot_call (state_of objects.now (S.slots store.now) (S.memory store.now)) address ≡ Err error) }
 {
-    let root = boot_root(objects);
+    let root = boot_root(store, objects);
     if address == BOOT_CNODE {
         return Ok(KernelCall {
             root,

@@ -3,6 +3,7 @@
 #![tactic(auto)]
 
 mod boot_calls;
+mod fills;
 mod machine;
 mod places;
 mod setup;

@@ -39,16 +39,16 @@ bound-kept s set y InterruptControl is = let clash : false ≡ true = is in absu
 bound-kept s set y (InterruptHandler line) is = let clash : false ≡ true = is in absurd cc
 
 -- a line, and a slot of a CNode that holds what may be bound to it
-record Binds (s : State) (number source : ℕ) : Type 0 where
-  sound : IsSound s
-  less : number < 64
-  plain : IsPlain s source
-  full : IsFull s.slots source
-  room : depth_of s.slots source < 255
-  may : may_be_bound (capability_at s.slots source) ≡ true
+pub record Binds (s : State) (number source : ℕ) : Type 0 where
+  pub sound : IsSound s
+  pub less : number < 64
+  pub plain : IsPlain s source
+  pub full : IsFull s.slots source
+  pub room : depth_of s.slots source < 255
+  pub may : may_be_bound (capability_at s.slots source) ≡ true
 
 -- the line's slot alone, and the bindings that go with it
-abbrev taken : State → ℕ → SlotSet
+abbrev pub taken : State → ℕ → SlotSet
 taken s number = with_bindings s (λ other. other == binding_slot s number)
 
 module _ (s t : State) (number source : ℕ) (binds : Binds s number source) (leaves : Leaves s (taken s number) t) where
@@ -64,13 +64,13 @@ module _ (s t : State) (number source : ℕ) (binds : Binds s number source) (le
     ])
   ] refl
 
-  source-same : capability_at t.slots source ≡ capability_at s.slots source
+  pub source-same : capability_at t.slots source ≡ capability_at s.slots source
   source-same =
       ap (λ (n : Slots). capability_at n source) leaves.slots
       ∙ capability-left s (taken s number) leaves.removes source source-stays
       ∙ bound-kept s (taken s number) source (capability_at s.slots source) (Binds.may binds)
 
-  line-empty : is_full t.slots (binding_slot t number) ≡ false
+  pub line-empty : is_full t.slots (binding_slot t number) ≡ false
   line-empty =
       ap (λ (radix : ℕ). is_full t.slots (2 ^ radix + number)) leaves.radix
       ∙ ap (λ (n : Slots). is_full n (binding_slot s number)) leaves.slots
@@ -78,7 +78,7 @@ module _ (s t : State) (number source : ℕ) (binds : Binds s number source) (le
       (ap (λ b. b || list_any (λ line. binding_slot s number == binding_slot s line && takes_last s (λ x. x == binding_slot s number) (is_handler_of line))
       (range_with_len 0 64)) (eq-eqb (binding_slot s number) (binding_slot s number) refl)))
 
-  room-still : depth_of t.slots source < 255
+  pub room-still : depth_of t.slots source < 255
   room-still =
       let low = depth-left s (taken s number) leaves.removes source in
       let same : depth_of t.slots source ≡ depth_of (left s (taken s number)).slots source = ap (λ (n : Slots). depth_of n source) leaves.slots in

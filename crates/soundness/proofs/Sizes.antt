@@ -126,7 +126,7 @@ put-small content (place ∷ places) (value ∷ values) small less =
 
 -- ---- what is decoded fits
 
-abbrev Fits : Instr → Type 0
+abbrev pub Fits : Instr → Type 0
 Fits (Upper op rd immediate) = immediate < 2 ^ 20
 Fits (Immediate op rd rs1 z) = word_of z < 2 ^ 32
 Fits (Jal rd offset) = ⊤
@@ -230,7 +230,7 @@ module _ (r : RegisterFile) (content : Content) (sound : RegistersAreSound r) (s
       (put-small content found (to_le_bytes (width_of size) value) small (stored-bytes size value))
   store-sound size value (Err failed) less = failed-sound failed (less failed refl)
 
-  effect-sound : (i : Instr) → Fits i → EffectIsSound (effect r content i)
+  pub effect-sound : (i : Instr) → Fits i → EffectIsSound (effect r content i)
   unfolding effect
   effect-sound (Upper op rd immediate) fits = next-sound rd (upper_result op r.pc immediate) (upper-less op r.pc immediate fits)
   effect-sound (Jal rd offset) fits = jump-sound (write r rd (next_pc r)) (plus r.pc offset) (written-sound r rd (next_pc r) sound (omega arith)) (omega arith)

@@ -36,12 +36,12 @@ use Rattle.soundness.proofs.Running.{current-runs}
 use Rattle.soundness.proofs.SystemCalls.{system_call-whole}
 use Rattle.soundness.proofs.ThreadCalls.{fine-of, registers-whole, tick-whole}
 
-access-less : (access : Access) → access_number access < 2 ^ 32
+pub access-less : (access : Access) → access_number access < 2 ^ 32
 access-less Load = omega arith
 access-less Store = omega arith
 access-less Fetch = omega arith
 
-cause-less : (cause : Cause) → cause_number cause < 2 ^ 32
+pub cause-less : (cause : Cause) → cause_number cause < 2 ^ 32
 cause-less Illegal = omega arith
 cause-less Misaligned = omega arith
 
@@ -68,11 +68,11 @@ places-less content access (suc count) address failed less is =
     then-less (places_from content access (next_address address) count) _ failed (λ later. places-less content access count (next_address address) failed (omega arith) later)
     (λ others done. let e : ◌≡◌ {A = Result (List ℕ) MemoryFault} (Ok (place ∷ others)) (Err failed) = done in absurd cc) so) is
 
-small-two : (a b : ℕ) → a < 2 ^ 32 → b < 2 ^ 32 → All (λ n. n < 2 ^ 32) (a ∷ b ∷ [])
+pub small-two : (a b : ℕ) → a < 2 ^ 32 → b < 2 ^ 32 → All (λ n. n < 2 ^ 32) (a ∷ b ∷ [])
 small-two a b one other = let rest : List ℕ = b ∷ [] in All-cons (λ (n : ℕ). n < 2 ^ 32) a rest one (All-cons (λ (n : ℕ). n < 2 ^ 32) b [] other (All-nil (λ (n : ℕ). n < 2 ^ 32)))
 
 -- the bytes that a thread sees
-byte-less : (s : State) → IsSound s → (place : ℕ) (o : Option ℕ) → s.bytes place ≡ o → option_map_or (λ byte. byte) o 0 < 2 ^ 8
+pub byte-less : (s : State) → IsSound s → (place : ℕ) (o : Option ℕ) → s.bytes place ≡ o → option_map_or (λ byte. byte) o 0 < 2 ^ 8
 byte-less s whole place None is = omega arith
 byte-less s whole place (Some byte) is = whole.memory.small place byte is
 

@@ -2,6 +2,8 @@
 
 ghost use Rattle.std.specs.Prelude.{ℕ, ◌≡◌};
 ghost use Rattle.agreement.specs.Wholeness.{IsWhole};
+ghost use Rattle.model.specs.Kernel.Interrupts.{raise};
+ghost use Rattle.model.specs.Kernel.Scheduling.{tick};
 ghost use Rattle.model.specs.Kernel.Steps.{ran, step};
 ghost use Rattle.objects.specs.Tables.{state_of};
 ghost use Rattle.soundness.specs.Running.{IsRunning};
@@ -10,6 +12,7 @@ use crate::instructions::run;
 use irq::raise;
 use lifecycles::KernelObjects;
 use model::{Event, Label};
+use objects::Objects;
 use sched::{choose, tick};
 use slots::SlotStore;
 
@@ -49,6 +52,26 @@ fn run_current<S: SlotStore>(store: &mut S, kernel: &mut KernelObjects) -> Label
     }
 }
 
+/// A tick passes.
+fn pass_tick<S: SlotStore>(store: &mut S, objects: &mut Objects)
+    requires whole { IsWhole (state_of objects.old (S.slots store.old) (S.memory store.old)) (S.memory store.old) }
+    ensures state { state_of objects.new (S.slots store.new) (S.memory store.new)
+        ≡ tick (state_of objects.old (S.slots store.old) (S.memory store.old)) }
+    ensures whole { IsWhole (state_of objects.new (S.slots store.new) (S.memory store.new)) (S.memory store.new) }
+{
+    tick(store, objects);
+}
+
+/// An interrupt is raised on a line. Lines above 63 do nothing.
+fn raise_line<S: SlotStore>(store: &mut S, objects: &mut Objects, line: u8)
+    requires whole { IsWhole (state_of objects.old (S.slots store.old) (S.memory store.old)) (S.memory store.old) }
+    ensures state { state_of objects.new (S.slots store.new) (S.memory store.new)
+        ≡ raise (state_of objects.old (S.slots store.old) (S.memory store.old)) line }
+    ensures whole { IsWhole (state_of objects.new (S.slots store.new) (S.memory store.new)) (S.memory store.new) }
+{
+    raise(store, objects, line);
+}
+
 /// What an event does: the current thread goes on by an instruction, a tick passes, or an interrupt is raised.
 #[tactic(auto, unfolding(model::specs::Kernel::Steps::step))]
 pub fn step<S: SlotStore>(store: &mut S, kernel: &mut KernelObjects, event: Event) -> Label
@@ -61,11 +84,11 @@ pub fn step<S: SlotStore>(store: &mut S, kernel: &mut KernelObjects, event: Even
     match event {
         Event::Step => run_current(store, kernel),
         Event::Tick => {
-            tick(store, &mut kernel.objects);
+            pass_tick(store, &mut kernel.objects);
             Label::Ticked
         }
         Event::Irq(line) => {
-            raise(store, &mut kernel.objects, line);
+            raise_line(store, &mut kernel.objects, line);
             Label::Raised(line)
         }
     }

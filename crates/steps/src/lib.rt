@@ -2,6 +2,7 @@
 #![tactic(auto)]
 
 mod events;
+mod failures;
 mod instructions;
 
 pub use events::step;

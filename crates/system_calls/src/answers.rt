@@ -71,12 +71,7 @@ pub(crate) fn unknown_call<S: SlotStore>(
     ensures whole { IsWhole (state_of objects.new (S.slots store.new) (S.memory store.new)) (S.memory store.new) }
 {
     let pc = objects.registers(store, thread).pc();
-    raise_fault(
-        store,
-        objects,
-        thread,
-        Fault::UnknownCall { pc, number },
-    );
+    raise_fault(store, objects, thread, Fault::UnknownCall { pc, number });
     Outcome::Faulted(FaultKind::UnknownCall)
 }
 
@@ -143,9 +138,7 @@ pub(crate) fn complete<S: SlotStore>(
     }
     match objects.status(store, thread) {
         Status::Runnable => answer(store, objects, thread, kind, 0),
-        Status::Inactive
-        | Status::Blocked { .. }
-        | Status::AwaitsReply
-        | Status::AwaitsHandler => pass(store, objects, thread),
+        Status::Inactive | Status::Blocked { .. } | Status::AwaitsReply | Status::AwaitsHandler =>
+            pass(store, objects, thread),
     }
 }

@@ -3,10 +3,14 @@
 #![tactic(auto)]
 
 mod answers;
+mod calls;
+mod capability_calls;
 mod kinds;
 mod names;
 mod receives;
 mod replies;
 mod rights;
+mod send_calls;
 mod sends;
 
+pub use calls::system_call;

@@ -51,15 +51,33 @@ pub(crate) fn send_on<S: SlotStore>(
 {
     match kind {
         SendKind::Call => {
-            send(store, objects, endpoint, thread, sending(Sent::Call, badge, grant_reply));
+            send(
+                store,
+                objects,
+                endpoint,
+                thread,
+                sending(Sent::Call, badge, grant_reply),
+            );
             Outcome::Waited
         }
         SendKind::Send => {
-            send(store, objects, endpoint, thread, sending(Sent::Send, badge, grant_reply));
+            send(
+                store,
+                objects,
+                endpoint,
+                thread,
+                sending(Sent::Send, badge, grant_reply),
+            );
             Outcome::Waited
         }
         SendKind::Try => {
-            try_to_send(store, objects, endpoint, thread, sending(Sent::Send, badge, grant_reply));
+            try_to_send(
+                store,
+                objects,
+                endpoint,
+                thread,
+                sending(Sent::Send, badge, grant_reply),
+            );
             Outcome::Plain
         }
     }

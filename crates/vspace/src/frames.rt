@@ -1,6 +1,6 @@
 //! Mapping frames.
 
-ghost use Rattle.std.specs.Prelude.{◌≡◌, ◌<◌, ◌≤◌, ◌/◌, ◌*◌, ◌^◌, ◌||◌, ◌⊎◌, [], ◌∷◌, ◌+◌, None, IfErr, IfOk, length};
+ghost use Rattle.std.specs.Prelude.{◌≡◌, ◌<◌, ◌≤◌, ◌/◌, ◌*◌, ◌^◌, ◌||◌, ◌⊎◌, [], ◌∷◌, ◌+◌, None, IfOk, OnErr, length};
 ghost use Rattle.model.specs.Capabilities.CapabilityWords.{AreMappingRights, IsCapability, IsPlace};
 ghost use Rattle.model.specs.Kernel.Arguments.{Call};
 ghost use Rattle.model.specs.Kernel.MappingCalls.{unmap_frame};
@@ -162,8 +162,7 @@ pub fn map_frame<S: SlotStore>(
     requires within { frame.offset + 2 ^ 12 ≤ length (S.memory store.old) }
     ensures outcome { GivesMapped (S.slots store.old) cspace frame.slot frame.offset frame.rights
         frame.mapping root address rights (S.slots store.new) result }
-    ensures unchanged { IfErr result (λ _. (S.slots store.new ≡ S.slots store.old)
-        × (S.memory store.new ≡ S.memory store.old)) }
+    ensures unchanged { OnErr result (store.new ≡ store.old) }
     ensures bytes { SameBesideTables (S.slots store.old) (S.memory store.old) (S.memory store.new) }
     ensures order { S.order store.new ≡ S.order store.old }
     ensures agree { TablesAgree (S.slots store.new) (S.memory store.new) }

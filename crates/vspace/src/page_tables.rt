@@ -1,6 +1,6 @@
 //! Mapping page tables.
 
-ghost use Rattle.std.specs.Prelude.{◌≡◌, ◌<◌, ◌/◌, ◌^◌, [], ◌∷◌, IfErr, IfOk};
+ghost use Rattle.std.specs.Prelude.{◌≡◌, ◌<◌, ◌/◌, ◌^◌, [], ◌∷◌, IfOk, OnErr};
 ghost use Rattle.model.specs.Capabilities.CapabilityWords.{IsCapability, IsPlace};
 ghost use Rattle.model.specs.Kernel.Arguments.{Call};
 ghost use Rattle.model.specs.Kernel.MappingCalls.{unmap_table};
@@ -107,8 +107,7 @@ pub fn map_table<S: SlotStore>(
         ≡ Cap.PageTable table.offset table.mapping }
     ensures outcome { GivesTableMapped (S.slots store.old) cspace table.slot table.offset table.mapping
         root address (S.slots store.new) result }
-    ensures unchanged { IfErr result (λ _. (S.slots store.new ≡ S.slots store.old)
-        × (S.memory store.new ≡ S.memory store.old)) }
+    ensures unchanged { OnErr result (store.new ≡ store.old) }
     ensures bytes { SameBesideTables (S.slots store.old) (S.memory store.old) (S.memory store.new) }
     ensures order { S.order store.new ≡ S.order store.old }
     ensures agree { TablesAgree (S.slots store.new) (S.memory store.new) }

@@ -1,0 +1,7 @@
+pub mod CNodeSteps
+pub mod Decoding
+pub mod Guarded
+pub mod MappedTables
+pub mod ObjectSteps
+pub mod Roots
+pub mod Standing

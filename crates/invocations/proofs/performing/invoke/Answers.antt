@@ -1,0 +1,31 @@
+-- A message is decoded, and its call performed.
+use Rattle.std.proofs.Common.{◌∙◌, Result, ap, subst, sym}
+use Rattle.cnode_ops.specs.Outcomes.{GivesState}
+use Rattle.invocations.proofs.Decoding.{decoded-applies, invoked-by}
+use Rattle.invocations.proofs.performing.invoke.Goals as goal
+use Rattle.invocations.specs.Calls.{call_of}
+use Rattle.model.specs.Kernel.Arguments.{◌>>=◌}
+use Rattle.model.specs.Kernel.Invocations.{perform}
+use Rattle.model.specs.Kernel.State.{State}
+use Rattle.model.specs.declared.errors.KError.{KError}
+use Rattle.model.specs.declared.invocations.Invocation.{Invocation}
+use Rattle.objects.specs.Tables.{state_of}
+
+pub perform-requires-clause-applies : goal.perform-requires-clause-applies
+perform-requires-clause-applies g c =
+    decoded-applies c.args.words.now c.args.call.capability c.args.label c.args.extra c.in-Ok.invocation (sym c.decode_call.ensures ∙ c.in-Ok.is)
+
+pub returns-in-Ok-clause-outcome : goal.returns-in-Ok-clause-outcome
+returns-in-Ok-clause-outcome g c =
+    let s = state_of c.args.kernel.now (g.S.SlotMap.slots c.args.store.now) (g.S.SlotStore.memory c.args.store.now) in
+    let t = state_of c.perform.new.kernel (g.S.SlotMap.slots c.perform.new.store) (g.S.SlotStore.memory c.perform.new.store) in
+    let call = call_of c.args.call in
+    subst (λ (d : Result State KError). GivesState d c.perform.result t)
+    (sym (invoked-by s call c.args.label c.args.extra c.args.words.now c.decode_call.result c.decode_call.ensures ∙ ap (λ (r : Result Invocation KError). r >>= perform s call) c.in-Ok.is))
+    c.perform.ensures.outcome
+
+pub returns-in-Err-clause-outcome : goal.returns-in-Err-clause-outcome
+returns-in-Err-clause-outcome g c =
+    let s = state_of c.args.kernel.now (g.S.SlotMap.slots c.args.store.now) (g.S.SlotStore.memory c.args.store.now) in
+    let call = call_of c.args.call in
+    invoked-by s call c.args.label c.args.extra c.args.words.now c.decode_call.result c.decode_call.ensures ∙ ap (λ (r : Result Invocation KError). r >>= perform s call) c.in-Err.is

@@ -1,0 +1,84 @@
+//! The call that only the loader has.
+
+ghost use Rattle.std.specs.Prelude.{◌≡◌, ◌+◌, ◌<◌, ◌≤◌, OnErr, Some, length};
+ghost use Rattle.agreement.specs.Wholeness.{IsWhole};
+ghost use Rattle.cnode_ops.specs.Outcomes.{GivesState};
+ghost use Rattle.invocations.specs.Calls.{call_of};
+ghost use Rattle.model.specs.Capabilities.CapabilityKinds.{thread_of};
+ghost use Rattle.model.specs.Kernel.CallForms.{slot_name, word};
+ghost use Rattle.model.specs.Kernel.Invocations.{configure_with_guard};
+ghost use Rattle.objects.specs.Tables.{state_of};
+ghost use Rattle.soundness.specs.Calls.{IsCall};
+
+use crate::KernelCall;
+use crate::thread_calls::give_spaces;
+use lifecycles::KernelObjects;
+use model::{Cap, KError, SlotName};
+use slots::SlotStore;
+use tcb_ops::Spaces;
+
+/// The thread that a capability names.
+fn thread_of(capability: Cap) -> Option<u32>
+    ensures { result ≡ thread_of capability }
+{
+    match capability {
+        Cap::Tcb { offset } => Some(offset),
+        _ => None,
+    }
+}
+
+/// The slot that the word at an index and the next one name.
+fn slot_name(words: &[u32], first: usize) -> SlotName
+    requires { first + 1 < length words.now }
+    ensures { result ≡ slot_name words.now first }
+{
+    SlotName {
+        address: words[first],
+        depth: words[first + 1],
+    }
+}
+
+/// What a thread is configured with by the words of a call; the sixth is the guard word of its CNode.
+fn spaces_of(words: &[u32]) -> Spaces
+    requires { 6 ≤ length words.now }
+    ensures cspace { result.cspace ≡ slot_name words.now 1 }
+    ensures guard { result.guard ≡ Some (word words.now 5) }
+    ensures vspace { result.vspace ≡ slot_name words.now 3 }
+    ensures fault_address { result.fault_address ≡ word words.now 0 }
+{
+    Spaces {
+        cspace: slot_name(words, 1),
+        guard: Some(words[5]),
+        vspace: slot_name(words, 3),
+        fault_address: words[0],
+    }
+}
+
+/// Configures a thread as the loader does, with a guard word for the copy of its CNode's capability as the
+/// sixth word. First the capability has to be a thread's (`IllegalOperation`), and no word may be missing
+/// (`TruncatedMessage`). Where a check fails nothing changes.
+///
+/// seL4 Reference Manual, "System Bootstrapping".
+pub fn configure_with_guard<S: SlotStore>(
+    store: &mut S,
+    kernel: &mut KernelObjects,
+    call: KernelCall,
+    words: &[u32],
+) -> Result<(), KError>
+    requires whole { IsWhole (state_of kernel.old (S.slots store.old) (S.memory store.old)) (S.memory store.old) }
+    requires call { IsCall (state_of kernel.old (S.slots store.old) (S.memory store.old)) (call_of call) }
+    ensures outcome { GivesState (configure_with_guard (state_of kernel.old (S.slots store.old) (S.memory store.old)) (call_of call) words.now) result
+        (state_of kernel.new (S.slots store.new) (S.memory store.new)) }
+    ensures unchanged { OnErr result (store.new ≡ store.old) }
+    ensures same { OnErr result (kernel.new ≡ kernel.old) }
+    ensures whole { IsWhole (state_of kernel.new (S.slots store.new) (S.memory store.new)) (S.memory store.new) }
+{
+    let Some(thread) = thread_of(call.capability) else {
+        return Err(KError::IllegalOperation);
+    };
+    if words.len() < 6 {
+        return Err(KError::TruncatedMessage);
+    }
+    let spaces = spaces_of(words);
+    give_spaces(store, &mut kernel.objects, call, thread, spaces)
+}

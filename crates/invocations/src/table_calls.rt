@@ -1,0 +1,65 @@
+//! Calls on page tables.
+
+ghost use Rattle.std.specs.Prelude.{ℕ, ◌≡◌, OnErr, Option};
+ghost use Rattle.agreement.specs.Wholeness.{IsWhole};
+ghost use Rattle.cnode_ops.specs.Outcomes.{GivesState};
+ghost use Rattle.invocations.specs.Calls.{AppliesTo, call_of};
+ghost use Rattle.model.specs.Kernel.Invocations.{perform};
+ghost use Rattle.model.specs.declared.capabilities.TableMapping.{TableMapping};
+ghost use Rattle.model.specs.declared.invocations.Invocation.TheVariants.{OnTable};
+ghost use Rattle.objects.specs.Tables.{state_of};
+ghost use Rattle.soundness.specs.Calls.{IsCall};
+
+use crate::KernelCall;
+use cnode_ops::Ends;
+use lifecycles::KernelObjects;
+use model::{Cap, KError, TableCall};
+use slots::SlotStore;
+use vspace::{PageTableCap, map_table};
+
+/// The capability of the page table that a call is made on.
+fn table_of(call: KernelCall) -> PageTableCap
+    requires { (offset : ℕ) × (mapping : Option TableMapping) × (call.capability ≡ Cap.PageTable offset mapping) }
+    ensures slot { result.slot ≡ call.slot }
+    ensures capability { call.capability ≡ Cap.PageTable result.offset result.mapping }
+{
+    let Cap::PageTable { offset, mapping } = call.capability else {
+        unreachable!()
+    };
+    PageTableCap {
+        slot: call.slot,
+        offset,
+        mapping,
+    }
+}
+
+/// Maps a page table in an address space, or takes it out again with the frames of its region.
+///
+/// seL4 Reference Manual, seL4_RISCV_PageTable.
+pub(crate) fn on_table<S: SlotStore>(
+    store: &mut S,
+    kernel: &mut KernelObjects,
+    call: KernelCall,
+    asked: TableCall,
+) -> Result<(), KError>
+    requires whole { IsWhole (state_of kernel.old (S.slots store.old) (S.memory store.old)) (S.memory store.old) }
+    requires call { IsCall (state_of kernel.old (S.slots store.old) (S.memory store.old)) (call_of call) }
+    requires applies { AppliesTo call.capability (OnTable asked) }
+    ensures outcome { GivesState (perform (state_of kernel.old (S.slots store.old) (S.memory store.old)) (call_of call) (OnTable asked)) result
+        (state_of kernel.new (S.slots store.new) (S.memory store.new)) }
+    ensures unchanged { OnErr result (store.new ≡ store.old) }
+    ensures same { OnErr result (kernel.new ≡ kernel.old) }
+    ensures whole { IsWhole (state_of kernel.new (S.slots store.new) (S.memory store.new)) (S.memory store.new) }
+{
+    match asked {
+        TableCall::MapTable { root, address } => {
+            let cspace = call.root;
+            let table = table_of(call);
+            map_table(store, cspace, table, root, address)
+        }
+        TableCall::UnmapTable => {
+            kernel.unmap(store, call.slot);
+            Ok(())
+        }
+    }
+}

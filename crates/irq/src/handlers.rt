@@ -1,0 +1,190 @@
+//! The calls on interrupt control, and on handlers of interrupt lines.
+
+ghost use Rattle.std.specs.Prelude.{ℕ, ◌≡◌, ◌/◌, ◌<◌, ◌≤◌, IfOk, OnErr, length};
+ghost use Rattle.agreement.specs.Wholeness.{IsWhole};
+ghost use Rattle.cnode_ops.specs.Outcomes.{GivesState};
+ghost use Rattle.irq.specs.Handlers.{bound_source, handler_place, is_handled};
+ghost use Rattle.model.specs.Capabilities.CapabilityKinds.{is_handler_of};
+ghost use Rattle.model.specs.Capabilities.CapabilityWords.{IsCapability};
+ghost use Rattle.model.specs.Capabilities.Slots.{IsOpen, capability_at};
+ghost use Rattle.model.specs.Kernel.Arguments.{Call, may_have_child};
+ghost use Rattle.model.specs.Kernel.InterruptCalls.{bind, get_handler, may_be_bound};
+ghost use Rattle.model.specs.Kernel.Removal.{delete};
+ghost use Rattle.model.specs.Kernel.State.{binding_slot};
+ghost use Rattle.model.specs.declared.capabilities.Cap.TheVariants.{InterruptControl};
+ghost use Rattle.objects.specs.Tables.{state_of};
+ghost use Rattle.soundness.specs.Calls.{IsRoot};
+
+use bitflags::Flags;
+use cnode_ops::{Ends, remove_slot};
+use cspace::{destination_slot, source_slot};
+use lifecycles::KernelObjects;
+use model::{Cap, KError, Rights, Slot, SlotName};
+use slots::SlotStore;
+
+/// Whether a capability is a handler of a line.
+fn is_handler_of(capability: Cap, line: u32) -> bool
+    ensures { result ≡ is_handler_of line capability }
+{
+    match capability {
+        Cap::InterruptHandler { line: handled } => u32::from(handled) == line,
+        _ => false,
+    }
+}
+
+/// Whether some slot holds a handler of a line.
+fn is_handled<S: SlotStore>(store: &S, line: u32) -> bool
+    ensures { result ≡ is_handled (S.slots store.now) (length (S.memory store.now) / 16) line }
+{
+    let count = store.count();
+    'slots: for number in 0..count {
+        if is_handler_of(store.capability(Slot::new(number)), line) {
+            return true;
+        }
+    }
+    false
+}
+
+/// A child may hang below a slot, if that is not of depth 255 (`IllegalOperation`).
+fn may_have_child<S: SlotStore>(store: &S, slot: Slot) -> Result<(), KError>
+    requires { IsOpen (S.slots store.now) slot }
+    ensures { result ≡ may_have_child (S.slots store.now) slot }
+{
+    if store.depth(slot) >= 255 {
+        return Err(KError::IllegalOperation);
+    }
+    Ok(())
+}
+
+/// The empty slot of this name, for a handler of a line below the slot of interrupt control. Errors are
+/// those of [`get_handler`].
+fn handler_place<S: SlotStore>(
+    store: &S,
+    root: Cap,
+    slot: Slot,
+    line: u32,
+    name: SlotName,
+) -> Result<Slot, KError>
+    requires valid { IsCapability root }
+    requires there { IsOpen (S.slots store.now) slot }
+    ensures value { result ≡ handler_place (S.slots store.now) (length (S.memory store.now) / 16) root slot line name }
+    ensures few { IfOk result (λ _. line ≤ 63) }
+{
+    if line > 63 {
+        return Err(KError::RangeError);
+    }
+    if is_handled(store, line) {
+        return Err(KError::RevokeFirst);
+    }
+    let place = destination_slot(store, root, name)?;
+    may_have_child(store, slot)?;
+    Ok(place)
+}
+
+/// Makes the one handler of a line: a child of interrupt control, which stands in `slot`.
+///
+/// The first check that fails gives the error: the line is above 63 (`RangeError`); it has a handler
+/// (`RevokeFirst`); the destination's name is wrong (`RangeError`, `FailedLookup`), or it is full
+/// (`DeleteFirst`); interrupt control is of depth 255 (`IllegalOperation`). Nothing changes then.
+///
+/// seL4 Reference Manual, seL4_IRQControl_Get.
+pub fn get_handler<S: SlotStore>(
+    store: &mut S,
+    kernel: &mut KernelObjects,
+    root: Cap,
+    slot: Slot,
+    line: u32,
+    destination: SlotName,
+) -> Result<(), KError>
+    requires whole { IsWhole (state_of kernel.old (S.slots store.old) (S.memory store.old)) (S.memory store.old) }
+    requires root { IsRoot (state_of kernel.old (S.slots store.old) (S.memory store.old)) root }
+    requires held { capability_at (S.slots store.old) slot ≡ InterruptControl }
+    ensures outcome { (call : Call) → call.root ≡ root → call.slot ≡ slot
+        → GivesState (get_handler (state_of kernel.old (S.slots store.old) (S.memory store.old)) call line destination) result
+        (state_of kernel.new (S.slots store.new) (S.memory store.new)) }
+    ensures unchanged { OnErr result (store.new ≡ store.old) }
+    ensures same { OnErr result (kernel.new ≡ kernel.old) }
+    ensures whole { IsWhole (state_of kernel.new (S.slots store.new) (S.memory store.new)) (S.memory store.new) }
+{
+    let place = handler_place(store, root, slot, line, destination)?;
+    let handler = Cap::InterruptHandler { line: line as u8 };
+    store.insert(place, handler, Some(slot));
+    Ok(())
+}
+
+/// Whether a line may be bound to what a capability names: to a notification that it lets be signalled.
+fn may_be_bound(capability: Cap) -> bool
+    ensures { result ≡ may_be_bound capability }
+{
+    match capability {
+        Cap::Notification { rights, .. } => rights.contains(Rights::WRITE),
+        _ => false,
+    }
+}
+
+/// The slot of this name, which holds what a line may be bound to. Errors are the first ones of [`bind`].
+fn bound_source<S: SlotStore>(store: &S, root: Cap, name: SlotName) -> Result<Slot, KError>
+    requires { IsCapability root }
+    ensures { result ≡ bound_source (S.slots store.now) root name }
+{
+    let source = source_slot(store, root, name)?;
+    if !may_be_bound(store.capability(source)) {
+        return Err(KError::InvalidCapability);
+    }
+    may_have_child(store, source)?;
+    Ok(source)
+}
+
+/// Binds a line, 0 to 63, to a notification: its slot gets a copy of the notification's capability, in place
+/// of what it holds.
+///
+/// The first check that fails gives the error: the name is wrong (`RangeError`, `FailedLookup`) or its slot
+/// empty (`FailedLookup`); the capability is no notification's, or may not be signalled
+/// (`InvalidCapability`); it is of depth 255 (`IllegalOperation`). Nothing changes then.
+///
+/// seL4 Reference Manual, seL4_IRQHandler_SetNotification.
+pub fn bind<S: SlotStore>(
+    store: &mut S,
+    kernel: &mut KernelObjects,
+    root: Cap,
+    line: u8,
+    notification: SlotName,
+) -> Result<(), KError>
+    requires line { line < 64 }
+    requires whole { IsWhole (state_of kernel.old (S.slots store.old) (S.memory store.old)) (S.memory store.old) }
+    requires root { IsRoot (state_of kernel.old (S.slots store.old) (S.memory store.old)) root }
+    ensures outcome { (call : Call) → call.root ≡ root
+        → GivesState (bind (state_of kernel.old (S.slots store.old) (S.memory store.old)) call line notification) result
+        (state_of kernel.new (S.slots store.new) (S.memory store.new)) }
+    ensures unchanged { OnErr result (store.new ≡ store.old) }
+    ensures same { OnErr result (kernel.new ≡ kernel.old) }
+    ensures whole { IsWhole (state_of kernel.new (S.slots store.new) (S.memory store.new)) (S.memory store.new) }
+{
+    let source = bound_source(store, root, notification)?;
+    let capability = store.capability(source);
+    let binding = kernel.binding(line);
+    remove_slot(store, kernel, binding)?;
+    store.insert(binding, capability, Some(source));
+    Ok(())
+}
+
+/// Takes away what a line, 0 to 63, is bound to, if it is bound. The error is that of
+/// [`remove_slot`]; nothing changes then.
+///
+/// seL4 Reference Manual, seL4_IRQHandler_Clear.
+pub fn clear<S: SlotStore>(
+    store: &mut S,
+    kernel: &mut KernelObjects,
+    line: u8,
+) -> Result<(), KError>
+    requires line { line < 64 }
+    requires whole { IsWhole (state_of kernel.old (S.slots store.old) (S.memory store.old)) (S.memory store.old) }
+    ensures outcome { GivesState (delete (state_of kernel.old (S.slots store.old) (S.memory store.old)) (binding_slot (state_of kernel.old (S.slots store.old) (S.memory store.old)) line)) result
+        (state_of kernel.new (S.slots store.new) (S.memory store.new)) }
+    ensures unchanged { OnErr result (store.new ≡ store.old) }
+    ensures same { OnErr result (kernel.new ≡ kernel.old) }
+    ensures whole { IsWhole (state_of kernel.new (S.slots store.new) (S.memory store.new)) (S.memory store.new) }
+{
+    let binding = kernel.binding(line);
+    remove_slot(store, kernel, binding)
+}
