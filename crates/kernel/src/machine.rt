@@ -10,6 +10,7 @@ ghost use Rattle.model.specs.Images.BootCalls.{loader_call};
 ghost use Rattle.model.specs.Kernel.Setup.{boot_area, fill, put_control, put_in_boot_slot, put_untyped};
 ghost use Rattle.model.specs.Kernel.Soundness.{IsSound};
 ghost use Rattle.model.specs.Kernel.State.{State, ThreadState, as_thread};
+ghost use Rattle.model.specs.Kernel.Steps.{step};
 ghost use Rattle.vspace.specs.Agreement.{IsWithoutTables};
 
 use crate::boot_calls::make_call;
@@ -17,7 +18,7 @@ use crate::fills::fill_frame;
 use crate::places::{is_free, may_be_untyped};
 use cnode_ops::Ends;
 use lifecycles::KernelObjects;
-use model::{Cap, KError, Register, Slot};
+use model::{Cap, Event, KError, Label, Register, Slot};
 use objects::Objects;
 use rv32_exec::Regs;
 use slots::{PlainSlots, SlotMap, SlotStore};
@@ -122,6 +123,14 @@ impl Machine {
         ensures unchanged { OnErr result (self.new ≡ self.old) }
     {
         make_call(&mut self.store, &mut self.kernel, address, label, words)
+    }
+
+    /// What an event does.
+    pub(crate) fn step(&mut self, event: Event) -> Label
+        ensures state { state_in self.new ≡ (step (state_in self.old) event).0 }
+        ensures label { result ≡ (step (state_in self.old) event).1 }
+    {
+        steps::step(&mut self.store, &mut self.kernel, event)
     }
 
     /// A register of the thread at an offset: its program counter by index 0, and else that of this index, 1 to 31.
