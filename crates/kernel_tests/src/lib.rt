@@ -2,6 +2,26 @@
 #![tactic(auto)]
 
 #[cfg(test)]
+mod boot_calls;
+#[cfg(test)]
+mod handlers;
+#[cfg(test)]
+mod interrupt_lines;
+#[cfg(test)]
+mod looks;
+#[cfg(test)]
+mod messages;
+#[cfg(test)]
+mod pools;
+#[cfg(test)]
+mod programs;
+#[cfg(test)]
 mod rows;
 #[cfg(test)]
 mod setups;
+#[cfg(test)]
+mod signals;
+#[cfg(test)]
+mod systems;
+#[cfg(test)]
+mod turns;

@@ -3,55 +3,16 @@
 
 ghost use Rattle.std.specs.Prelude.{◌<◌};
 
-use crate::setups::{empty, held};
-use kernel::{Node, Setup};
+use crate::boot_calls::{
+    BOOT_CNODE, BOOT_NODE, CNODE, ENDPOINT, FRAME, MEMORY, boot, copy, delete, inside, passes,
+    retype, retype_by, revoke,
+};
+use crate::setups::{held, machine};
+use kernel::Setup;
 use model::{Cap, KError, RetypeCall, Rights, Slot, SlotName};
 use std::alloc::Global;
 use std::process::Abort;
 use std::test::Fail;
-
-const MEMORY: u32 = 1;
-
-// The numbers of types.
-const ENDPOINT: u32 = 3;
-
-const CNODE: u32 = 5;
-
-const FRAME: u32 = 6;
-
-fn machine(rt: &impl Abort, alloc: Global) -> Result<Setup, Fail> {
-    let mut setup = empty(alloc, 17, 6)?;
-    assert!(rt; setup.untyped(MEMORY, 0x10000, 16));
-    Ok(setup)
-}
-
-// A boot slot, by its index.
-fn boot(index: u32) -> SlotName {
-    SlotName {
-        address: index,
-        depth: 32,
-    }
-}
-
-// So many objects, with their capabilities in boot slots from an index on.
-fn retype(setup: &mut Setup, kind: u32, size: u32, index: u32, count: u32) -> Result<(), KError> {
-    let node = SlotName {
-        address: 0,
-        depth: 0,
-    };
-    let call = RetypeCall {
-        kind,
-        size,
-        node,
-        index,
-        count,
-    };
-    setup.retype(Slot::new(MEMORY), call)
-}
-
-fn passes(rt: &impl Abort, answer: Result<(), KError>) {
-    assert_eq!(rt; answer, Ok(()));
-}
 
 fn refused(rt: &impl Abort, answer: Result<(), KError>, error: KError) {
     assert_eq!(rt; answer, Err(error));
@@ -126,7 +87,7 @@ fn revoked_memory_is_used_again(rt: HostRuntime) -> Result<(), Fail> {
     let mut setup = machine(&rt, rt.alloc())?;
     passes(&rt, retype(&mut setup, ENDPOINT, 0, 2, 1));
     passes(&rt, retype(&mut setup, FRAME, 0, 3, 15));
-    passes(&rt, setup.revoke(Slot::new(MEMORY)));
+    passes(&rt, revoke(&mut setup, MEMORY));
     watermark(&rt, &setup, 0);
     is_empty(&rt, &setup, 2);
     is_empty(&rt, &setup, 17);
@@ -154,8 +115,8 @@ fn a_full_window_is_refused(rt: HostRuntime) -> Result<(), Fail> {
 fn tree(rt: &impl Abort, alloc: Global) -> Result<Setup, Fail> {
     let mut setup = machine(rt, alloc)?;
     passes(rt, retype(&mut setup, ENDPOINT, 0, 2, 1));
-    passes(rt, setup.copy(Node::Boot, boot(3), boot(2), 11));
-    passes(rt, setup.copy(Node::Boot, boot(4), boot(3), 11));
+    passes(rt, copy(&mut setup, BOOT_CNODE, boot(3), boot(2), 11));
+    passes(rt, copy(&mut setup, BOOT_CNODE, boot(4), boot(3), 11));
     passes(rt, retype(&mut setup, ENDPOINT, 0, 5, 1));
     Ok(setup)
 }
@@ -163,7 +124,7 @@ fn tree(rt: &impl Abort, alloc: Global) -> Result<Setup, Fail> {
 #[test]
 fn revoke_takes_all_that_descends(rt: HostRuntime) -> Result<(), Fail> {
     let mut setup = tree(&rt, rt.alloc())?;
-    passes(&rt, setup.revoke(Slot::new(2)));
+    passes(&rt, revoke(&mut setup, 2));
     holds(&rt, &setup, 2, endpoint(0x10000), MEMORY);
     is_empty(&rt, &setup, 3);
     is_empty(&rt, &setup, 4);
@@ -174,9 +135,9 @@ fn revoke_takes_all_that_descends(rt: HostRuntime) -> Result<(), Fail> {
 #[test]
 fn delete_gives_children_their_grandparent(rt: HostRuntime) -> Result<(), Fail> {
     let mut setup = tree(&rt, rt.alloc())?;
-    passes(&rt, setup.delete(Slot::new(3)));
+    passes(&rt, delete(&mut setup, 3));
     holds(&rt, &setup, 4, endpoint(0x10000), 2);
-    passes(&rt, setup.revoke(Slot::new(2)));
+    passes(&rt, revoke(&mut setup, 2));
     is_empty(&rt, &setup, 4);
     Ok(())
 }
@@ -187,24 +148,17 @@ fn a_filled_cnode_is_revoked_first(rt: HostRuntime) -> Result<(), Fail> {
     let mut setup = machine(&rt, rt.alloc())?;
     passes(&rt, retype(&mut setup, ENDPOINT, 0, 2, 1));
     passes(&rt, retype(&mut setup, CNODE, 4, 3, 1));
-    let inside = SlotName {
-        address: 7,
-        depth: 4,
-    };
-    assert_eq!(rt;
-        setup.copy(Node::InSlot(Slot::new(3)), inside, boot(2), 11),
-        Ok(())
-    );
+    passes(&rt, copy(&mut setup, 3, inside(7), boot(2), 11));
     let node = Cap::CNode {
         offset: 0x10100,
         radix: 4,
         guard: 0,
     };
-    refused(&rt, setup.delete(Slot::new(3)), KError::RevokeFirst);
+    refused(&rt, delete(&mut setup, 3), KError::RevokeFirst);
     holds(&rt, &setup, 3, node, MEMORY);
     holds(&rt, &setup, 2, endpoint(0x10000), MEMORY);
-    passes(&rt, setup.revoke(Slot::new(2)));
-    passes(&rt, setup.delete(Slot::new(3)));
+    passes(&rt, revoke(&mut setup, 2));
+    passes(&rt, delete(&mut setup, 3));
     is_empty(&rt, &setup, 3);
     Ok(())
 }
@@ -231,63 +185,60 @@ fn retype_checks_in_order(rt: HostRuntime) -> Result<(), Fail> {
     };
     refused(
         &rt,
-        setup.retype(Slot::new(5), asked),
+        retype_by(&mut setup, 5, asked),
         KError::IllegalOperation,
     );
     refused(
         &rt,
-        setup.retype(Slot::new(MEMORY), asked),
+        retype_by(&mut setup, MEMORY, asked),
         KError::InvalidArgument,
     );
     asked.kind = CNODE;
     refused(
         &rt,
-        setup.retype(Slot::new(MEMORY), asked),
+        retype_by(&mut setup, MEMORY, asked),
         KError::InvalidArgument,
     );
     asked.size = 15;
     refused(
         &rt,
-        setup.retype(Slot::new(MEMORY), asked),
+        retype_by(&mut setup, MEMORY, asked),
         KError::RangeError,
     );
     asked.size = 14;
     refused(
         &rt,
-        setup.retype(Slot::new(MEMORY), asked),
+        retype_by(&mut setup, MEMORY, asked),
         KError::RangeError,
     );
     asked.node = no_node;
     refused(
         &rt,
-        setup.retype(Slot::new(MEMORY), asked),
+        retype_by(&mut setup, MEMORY, asked),
         KError::FailedLookup,
     );
-    asked.node = SlotName {
-        address: 0,
-        depth: 0,
-    };
+    asked.node = BOOT_NODE;
     refused(
         &rt,
-        setup.retype(Slot::new(MEMORY), asked),
+        retype_by(&mut setup, MEMORY, asked),
         KError::RangeError,
     );
     asked.count = 1;
     refused(
         &rt,
-        setup.retype(Slot::new(MEMORY), asked),
+        retype_by(&mut setup, MEMORY, asked),
         KError::RangeError,
     );
     asked.index = 5;
     refused(
         &rt,
-        setup.retype(Slot::new(MEMORY), asked),
+        retype_by(&mut setup, MEMORY, asked),
         KError::DeleteFirst,
     );
     asked.index = 6;
     refused(
         &rt,
-        setup.retype(Slot::new(MEMORY), asked),
+        retype_by(&mut setup, MEMORY, asked),
         KError::NotEnoughMemory,
     );
     is_empty(&rt, &setup, 6);

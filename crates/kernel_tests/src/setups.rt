@@ -4,9 +4,11 @@
 ghost use Rattle.std.specs.Prelude.{ℕ, ◌≡◌, ◌+◌, ◌<◌, ◌≤◌, IfOk, None};
 ghost use Rattle.kernel.specs.Setups.{state_in};
 
+use crate::boot_calls::{MEMORY, delete, revoke};
 use kernel::Setup;
 use model::{Cap, Slot};
 use std::alloc::{AllocError, Global};
+use std::process::Abort;
 use std::test::Fail;
 
 // A system without objects.
@@ -22,11 +24,18 @@ pub(crate) fn empty(alloc: Global, bits: u32, radix: u32) -> Result<Setup, Alloc
     Setup::new(alloc, bits, radix)
 }
 
+// Memory of 2^17 bytes with a boot CNode of 64 slots, and 64 KiB of untyped memory at 0x10000.
+pub(crate) fn machine(rt: &impl Abort, alloc: Global) -> Result<Setup, Fail> {
+    let mut setup = empty(alloc, 17, 6)?;
+    assert!(rt; setup.untyped(MEMORY, 0x10000, 16));
+    Ok(setup)
+}
+
 // What a boot slot holds.
 pub(crate) fn held(setup: &Setup, slot: u32) -> Option<(Cap, Option<Slot>)>
     requires { slot < 4096 }
 {
-    setup.slot(Slot::new(slot))
+    setup.machine().slot(Slot::new(slot))
 }
 
 // Untyped memory is aligned, behind the boot area and all that stands, and its slot is free.
@@ -64,10 +73,10 @@ fn a_slot_is_emptied(rt: HostRuntime) -> Result<(), Fail> {
     assert!(rt; setup.untyped(1, 0x1000, 12));
     assert!(rt; setup.control(2));
     assert!(rt; !setup.control(2));
-    assert!(rt; setup.revoke(Slot::new(2)).is_ok());
+    assert!(rt; revoke(&mut setup, 2).is_ok());
     assert_eq!(rt; held(&setup, 2), Some((Cap::InterruptControl, None)));
-    assert!(rt; setup.delete(Slot::new(2)).is_ok());
-    assert!(rt; setup.delete(Slot::new(2)).is_ok());
+    assert!(rt; delete(&mut setup, 2).is_ok());
+    assert!(rt; delete(&mut setup, 2).is_ok());
     assert_eq!(rt; held(&setup, 2), Some((Cap::Empty, None)));
     assert_eq!(rt; held(&setup, 79), Some((Cap::Empty, None)));
     assert_eq!(rt; held(&setup, 80), None);
