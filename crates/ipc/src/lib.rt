@@ -10,7 +10,7 @@ mod replies;
 mod sends;
 
 pub use deliveries::{deliver_word, pass, pass_with};
-pub use registers::{A0, A1, Message};
 pub use receives::{receive, try_to_receive};
+pub use registers::{A0, A1, Message};
 pub use replies::reply;
 pub use sends::{send, try_to_send};
