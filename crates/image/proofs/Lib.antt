@@ -1,5 +1,12 @@
+pub mod CapabilityTests
+pub mod EntryLists
+pub mod HeaderSpellings
 pub mod Laws
-pub mod Sections
-pub mod StageLaws
+pub mod Lists
+pub mod SectionSizes
+pub mod SpellingLaws
 pub mod ThreadLaws
+pub mod WholeImage
+pub mod WholeReading
+pub mod WordLaws
 pub mod Words

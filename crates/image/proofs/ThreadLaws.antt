@@ -1,18 +1,15 @@
 -- The laws of the formats of a thread.
-use Rattle.std.proofs.Common.{◌≡◌, ℕ, ◌≤◌, ◌+◌, ◌^◌, ◌-◌, Bool, true, false, ltb, leb, ◌&&◌, ◌||◌, eqb, List, [], ◌∷◌, ◌++◌, length, drop, Ok, Err, cond, refl, ap, subst, arith}
+use Rattle.std.proofs.Common.{ℕ, ◌+◌, ◌^◌, ◌-◌, Bool, ltb, leb, ◌&&◌, ◌||◌, List, refl}
 use Rattle.std.specs.Int.{w32, w64}
-use Rattle.std.proofs.lemmas.Bool.{eqb-true}
 use Rattle.model.specs.declared.entries.RecordHeader.{RecordHeader}
 use Rattle.model.specs.declared.entries.ThreadHeader.{ThreadHeader}
 use Rattle.model.specs.declared.entries.RangeEntry.{RangeEntry}
 use Rattle.model.specs.declared.entries.RegisterEntry.{RegisterEntry}
 use Rattle.model.specs.declared.entries.SlotEntry.{SlotEntry}
-use Rattle.model.specs.declared.refusals.Refusal.{Refusal}
 use Rattle.model.specs.declared.refusals.Refusal.TheVariants.{Limit}
 use Rattle.model.specs.Images.Format.{field}
 use Rattle.model.specs.Images.Image.{SlotFormat, anything, below, between, not_zero, is_constant, register_format, range_format, term_format, record_header_format, ranges_format, terms_format, record_format, registers_format, words_format, records_format, thread_header_format, thread_format}
-use Rattle.image.specs.Stage.{later, no_slot_count, is_empty, no_slots}
-use Rattle.image.proofs.Laws.{IsBytes, IsLawful, Taken, bind_ok, ok_is, number_law, both_law, named_law, ordered_law, signed_law, wide32, wide64, signed_wide32, signed_wide64}
+use Rattle.image.proofs.Laws.{IsLawful, number_law, both_law, named_law, ordered_law, signed_law, wide32, wide64, signed_wide32, signed_wide64}
 
 pub field_law : (test : ℕ → Bool) → IsLawful (field test)
 field_law test = number_law Limit w32 test wide32
@@ -48,45 +45,6 @@ terms_law count = ordered_law 1 term_format (λ e. e.register + 1) count term_la
 pub words_law : (count : ℕ) → IsLawful (words_format count)
 unfolding words_format
 words_law count = ordered_law 0 (λ _. field anything) (λ _. 0) count (λ k. field_law anything)
-
--- ---- no slots
-
-later_ok : {A : Type 0} (b c : Bool) (x y : A) (d e : Refusal) → cond b (Ok x) (cond c (Err d) (Err e)) ≡ Ok y → (b ≡ true) × (x ≡ y)
-later_ok true c x y d e h = (refl, cc)
-later_ok false true x y d e h = absurd cc
-later_ok false false x y d e h = absurd cc
-
-no_slot_takes : (bytes : List ℕ) (at x after : ℕ) → IsBytes bytes → at ≤ length bytes → no_slot_count.reads bytes at ≡ Ok (x, after) → Taken no_slot_count bytes at x after
-no_slot_takes bytes at x after fits le e =
-    let b = bind_ok ((field anything).reads bytes at) (λ y. cond (eqb y.0 0) (Ok y) (cond (leb y.0 256) (Err later) (Err (Limit at)))) (x, after) e in
-    let y : ℕ × ℕ = b.0 in
-    let t = (field_law anything).takes bytes at y.0 y.1 fits le b.1 in
-    let g = later_ok (eqb y.0 0) (leb y.0 256) y (x, after) later (Limit at) b.2 in
-    let found : Taken no_slot_count bytes at y.0 y.1 = record { fits = g.0; spelled = t.spelled; end = t.end; within = t.within } in
-    subst (λ (z : ℕ × ℕ). Taken no_slot_count bytes at z.0 z.1) g.1 found
-
-no_slot_again : (bytes : List ℕ) (at x : ℕ) (rest : List ℕ) → at ≤ length bytes → no_slot_count.fits x ≡ true → drop at bytes ≡ no_slot_count.spelling x ++ rest
-    → no_slot_count.reads bytes at ≡ Ok (x, at + length (no_slot_count.spelling x))
-no_slot_again bytes at x rest le fits h =
-    let zero-is : x ≡ 0 = eqb-true x 0 fits in
-    let small : (ltb x (2 ^ 32) && true) ≡ true = rw zero-is refl in
-    rw ((field_law anything).again bytes at x rest le small h, fits) refl
-
-no_slot_law : IsLawful no_slot_count
-no_slot_law = record { takes = no_slot_takes; again = no_slot_again }
-
-no_entries_takes : (count : ℕ) (bytes : List ℕ) (at : ℕ) (xs : List SlotEntry) (after : ℕ) → IsBytes bytes → at ≤ length bytes → (no_slots.entries count).reads bytes at ≡ Ok (xs, after) → Taken (no_slots.entries count) bytes at xs after
-no_entries_takes count bytes at xs after fits le e =
-    subst (λ (y : List SlotEntry × ℕ). Taken (no_slots.entries count) bytes at y.0 y.1) (ok_is ([], at) (xs, after) e)
-    (record { fits = refl; spelled = refl; end = omega arith; within = le })
-
-no_entries_again : (count : ℕ) (bytes : List ℕ) (at : ℕ) (xs : List SlotEntry) (rest : List ℕ) → at ≤ length bytes → is_empty xs ≡ true → drop at bytes ≡ [] ++ rest
-    → (no_slots.entries count).reads bytes at ≡ Ok (xs, at + length ((no_slots.entries count).spelling xs))
-no_entries_again count bytes at [] rest le fits h = let here : at ≡ at + 0 = omega arith in ap (λ (k : ℕ). Ok ([], k)) here
-no_entries_again count bytes at (x ∷ xs) rest le fits h = absurd cc
-
-no_entries_law : (count : ℕ) → IsLawful (no_slots.entries count)
-no_entries_law count = record { takes = no_entries_takes count; again = no_entries_again count }
 
 -- ---- records and threads, by the laws of the slots that a record notes
 
@@ -138,6 +96,3 @@ thread_law slots laws objects = named_law _ _ _ (λ x h. refl) (λ y. refl)
     both_law _ _ (registers_law header.registers) (λ (a : List RegisterEntry).
     both_law _ _ (words_law header.words) (λ (b : List ℕ).
     records_law slots laws header.words header.records))))
-
-pub no_slots_laws : AreLawful no_slots
-no_slots_laws = record { count = no_slot_law; entries = no_entries_law }

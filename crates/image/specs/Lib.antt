@@ -1,1 +1,3 @@
-pub mod Stage
+pub mod Spellings
+pub mod Sections
+pub mod Sizes

@@ -1,12 +1,21 @@
 //! Fields: numbers at an offset of the file, each with its test.
 
-ghost use Rattle.std.specs.Prelude.{◌≡◌, IfOk, ◌≤◌, ◌+◌, ◌<◌, length};
+ghost use Rattle.std.specs.Prelude.{◌≡◌, IfOk, ◌≤◌, ◌+◌, ◌*◌, ◌^◌, ◌<◌, ◌==◌, ◌&&◌, nat_le, nat_lt, length};
 ghost use Rattle.std.specs.Int.{w32, w64};
-ghost use Rattle.model.specs.Images.Format.{field, number, signed};
-ghost use Rattle.model.specs.Images.Image.{anything, below, between, is_constant, not_zero};
+ghost use Rattle.model.specs.declared.refusals.Refusal.TheVariants.{Magic, Version};
+ghost use Rattle.model.specs.Images.Format.{field, number, number_or, signed};
+ghost use Rattle.model.specs.Images.Image.{anything, below, between, is_constant, magic, not_zero, pair_key};
 
 use byteorder::{ByteOrder, LittleEndian};
 use model::Refusal;
+
+/// Where item `number` of a list from `start` stands, in a file of so many bytes. Each item has `size`.
+pub(crate) fn item_offset(length: usize, start: usize, size: usize, number: u32) -> usize
+    requires { start + size * number ≤ length }
+    ensures { result ≡ start + size * number }
+{
+    start + size * number as usize
+}
 
 /// The 4 bytes at `at` as a number, and the offset behind them.
 pub(crate) fn any_word(bytes: &[u8], at: usize) -> Result<(u32, usize), Refusal>
@@ -18,9 +27,34 @@ pub(crate) fn any_word(bytes: &[u8], at: usize) -> Result<(u32, usize), Refusal>
     Ok((LittleEndian::read_u32(&bytes[at..]), at + 4))
 }
 
+/// The 4 bytes at `at`, which every image begins with, and the offset behind them.
+pub(crate) fn magic(bytes: &[u8], at: usize) -> Result<(u32, usize), Refusal>
+    ensures { result ≡ (number_or (λ _. Magic) w32 (λ n. n == magic)).reads bytes.now at }
+{
+    let (word, next) = any_word(bytes, at)?;
+    if word == 0x5359_534d {
+        Ok((word, next))
+    } else {
+        Err(Refusal::Magic)
+    }
+}
+
+/// The 4 bytes at `at` as the version of the format, and the offset behind them.
+pub(crate) fn version(bytes: &[u8], at: usize) -> Result<(u32, usize), Refusal>
+    ensures { result ≡ (number_or (λ _. Version) w32 (λ n. n == 1)).reads bytes.now at }
+{
+    let (word, next) = any_word(bytes, at)?;
+    if word == 1 {
+        Ok((word, next))
+    } else {
+        Err(Refusal::Version)
+    }
+}
+
 /// The 4 bytes at `at` as a number below `limit`, and the offset behind them.
 pub(crate) fn word_below(bytes: &[u8], at: usize, limit: u32) -> Result<(u32, usize), Refusal>
-    ensures { result ≡ (field (below limit)).reads bytes.now at }
+    ensures reads { result ≡ (field (below limit)).reads bytes.now at }
+    ensures small { IfOk result (λ x. x.0 < limit) }
 {
     let (word, next) = any_word(bytes, at)?;
     if word < limit {
@@ -34,13 +68,56 @@ pub(crate) fn word_below(bytes: &[u8], at: usize, limit: u32) -> Result<(u32, us
 pub(crate) fn word_between(
     bytes: &[u8],
     at: usize,
-    low: u32,
+    low: u64,
     high: u32,
 ) -> Result<(u32, usize), Refusal>
     ensures { result ≡ (field (between low high)).reads bytes.now at }
 {
     let (word, next) = any_word(bytes, at)?;
-    if low <= word && word <= high {
+    if low <= u64::from(word) && word <= high {
+        Ok((word, next))
+    } else {
+        Err(Refusal::Limit { offset: at as u64 })
+    }
+}
+
+/// The 4 bytes at `at` as a number from `least` on and below `limit`, and the offset behind them.
+pub(crate) fn rising_word(
+    bytes: &[u8],
+    at: usize,
+    least: u64,
+    limit: u32,
+) -> Result<(u32, usize), Refusal>
+    ensures reads { result ≡ (field (λ n. nat_le least n && nat_lt n limit)).reads bytes.now at }
+    ensures small { IfOk result (λ x. x.0 < limit) }
+{
+    let (word, next) = any_word(bytes, at)?;
+    if least <= u64::from(word) && word < limit {
+        Ok((word, next))
+    } else {
+        Err(Refusal::Limit { offset: at as u64 })
+    }
+}
+
+/// A key of two parts, in the order of the first and then of the second.
+pub(crate) fn pair_key(first: u32, second: u32) -> u64
+    ensures { result ≡ pair_key first second }
+{
+    u64::from(first) * 0x1_0000_0000 + u64::from(second)
+}
+
+/// The 4 bytes at `at` as the second part of a key that is not below `least`, and the offset behind
+/// them.
+pub(crate) fn second_part(
+    bytes: &[u8],
+    at: usize,
+    first: u32,
+    least: u64,
+) -> Result<(u32, usize), Refusal>
+    ensures { result ≡ (field (λ second. nat_le least (pair_key first second))).reads bytes.now at }
+{
+    let (word, next) = any_word(bytes, at)?;
+    if least <= pair_key(first, word) {
         Ok((word, next))
     } else {
         Err(Refusal::Limit { offset: at as u64 })

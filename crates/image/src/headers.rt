@@ -1,13 +1,66 @@
-//! The fixed parts of threads and records.
+//! The fixed parts of images, threads and records.
 
-ghost use Rattle.std.specs.Prelude.{◌≡◌, ◌<◌, ◌&&◌, nat_le, nat_lt, IfOk};
+ghost use Rattle.std.specs.Prelude.{◌≡◌, ◌-◌, ◌<◌, IfOk, min};
 ghost use Rattle.model.specs.Images.Format.{field};
-ghost use Rattle.model.specs.Images.Image.{record_header_format, thread_header_format};
-ghost use Rattle.image.specs.Stage.{no_slot_count, no_slots};
+ghost use Rattle.model.specs.Images.Image.{between, header_format, record_header_format, slots_format, thread_header_format};
 
-use crate::fields::{any_word, constant, double_between, word_below, word_between};
-use crate::stage::LATER;
-use model::{RecordHeader, Refusal, ThreadHeader};
+use crate::fields::{
+    any_word, constant, double_between, magic, rising_word, version, word_below, word_between,
+};
+use model::{ImageHeader, RecordHeader, Refusal, ThreadHeader};
+
+/// The largest radix of the boot CNode in memory of this size.
+fn radix_limit(memory_bits: u32) -> u32
+    ensures { result ≡ min 14 (memory_bits - 5) }
+{
+    memory_bits.saturating_sub(5).min(14)
+}
+
+/// The fixed part of the image at `at`, and the offset behind it.
+#[tactic(auto, unfolding(model::specs::Images::Image::header_format))]
+pub(crate) fn image_header(bytes: &[u8], at: usize) -> Result<(ImageHeader, usize), Refusal>
+    ensures { result ≡ header_format.reads bytes.now at }
+{
+    let (_magic, at) = magic(bytes, at)?;
+    let (version, at) = version(bytes, at)?;
+    let (memory_bits, at) = word_between(bytes, at, 16, 24)?;
+    let (boot_radix, at) = word_between(bytes, at, 1, radix_limit(memory_bits))?;
+    let (untypeds, at) = word_between(bytes, at, 1, 64)?;
+    let (objects, at) = word_between(bytes, at, 0, 4096)?;
+    let (capabilities, at) = word_between(bytes, at, 0, 16384)?;
+    let (interrupts, at) = word_between(bytes, at, 0, 64)?;
+    let (tables, at) = word_between(bytes, at, 0, 1024)?;
+    let (frames, at) = word_between(bytes, at, 0, 4096)?;
+    let (contents, at) = word_between(bytes, at, 0, 4096)?;
+    let (threads, at) = word_between(bytes, at, 1, 64)?;
+    let header = ImageHeader {
+        version,
+        memory_bits,
+        boot_radix,
+        untypeds,
+        objects,
+        capabilities,
+        interrupts,
+        tables,
+        frames,
+        contents,
+        threads,
+    };
+    Ok((header, at))
+}
+
+/// How many words a program has, at `at`, and the offset behind it.
+fn word_count(bytes: &[u8], at: usize) -> Result<(u32, usize), Refusal>
+    ensures reads { result ≡ (field (between 1 65536)).reads bytes.now at }
+    ensures some { IfOk result (λ x. 0 < x.0) }
+{
+    let (words, next) = any_word(bytes, at)?;
+    if 1 <= words && words <= 65536 {
+        Ok((words, next))
+    } else {
+        Err(Refusal::Limit { offset: at as u64 })
+    }
+}
 
 /// The fixed part of the thread at `at`, and the offset behind it.
 #[tactic(auto, unfolding(model::specs::Images::Image::thread_header_format))]
@@ -16,7 +69,8 @@ pub(crate) fn thread_header(
     at: usize,
     objects: u32,
 ) -> Result<(ThreadHeader, usize), Refusal>
-    ensures { result ≡ (thread_header_format objects).reads bytes.now at }
+    ensures reads { result ≡ (thread_header_format objects).reads bytes.now at }
+    ensures some { IfOk result (λ x. 0 < x.0.words) }
 {
     let (tcb, at) = word_below(bytes, at, objects)?;
     let (cnode, at) = word_below(bytes, at, objects)?;
@@ -28,7 +82,7 @@ pub(crate) fn thread_header(
     let (entry, at) = any_word(bytes, at)?;
     let (base, at) = any_word(bytes, at)?;
     let (registers, at) = word_between(bytes, at, 0, 31)?;
-    let (words, at) = word_between(bytes, at, 1, 65536)?;
+    let (words, at) = word_count(bytes, at)?;
     let (records, at) = word_between(bytes, at, 0, words)?;
     let header = ThreadHeader {
         tcb,
@@ -47,33 +101,21 @@ pub(crate) fn thread_header(
     Ok((header, at))
 }
 
-/// A count of slots that a record notes: 0 in this release.
-fn slot_count(bytes: &[u8], at: usize) -> Result<(u32, usize), Refusal>
-    ensures { result ≡ no_slot_count.reads bytes.now at }
-{
-    let (count, next) = any_word(bytes, at)?;
-    match count {
-        0 => Ok((count, next)),
-        1..=256 => Err(LATER),
-        _ => Err(Refusal::Limit { offset: at as u64 }),
-    }
-}
-
 /// The fixed part of the record at `at` of a program of `words` words, and the offset behind it. Its
 /// point is not below `least`.
 #[tactic(auto, unfolding(model::specs::Images::Image::record_header_format))]
 pub(crate) fn record_header(
     bytes: &[u8],
     at: usize,
+    objects: u32,
     words: u32,
-    least: u32,
+    least: u64,
 ) -> Result<(RecordHeader, usize), Refusal>
-    ensures reads { result ≡ (record_header_format no_slots words least).reads bytes.now at }
-    ensures below { IfOk result (λ x. x.0.point < words) }
+    ensures { result ≡ (record_header_format (slots_format objects) words least).reads bytes.now at }
 {
-    let (point, at) = point(bytes, at, words, least)?;
+    let (point, at) = rising_word(bytes, at, least, words)?;
     let (ranges, at) = word_between(bytes, at, 0, 31)?;
-    let (slots, at) = slot_count(bytes, at)?;
+    let (slots, at) = word_between(bytes, at, 0, 256)?;
     let (terms, at) = word_between(bytes, at, 0, 4)?;
     let (constant, at) = constant(bytes, at)?;
     let header = RecordHeader {
@@ -84,17 +126,4 @@ pub(crate) fn record_header(
         constant,
     };
     Ok((header, at))
-}
-
-/// The point of the record at `at`: not below `least`, and below `words`.
-fn point(bytes: &[u8], at: usize, words: u32, least: u32) -> Result<(u32, usize), Refusal>
-    ensures reads { result ≡ (field (λ point. nat_le least point && nat_lt point words)).reads bytes.now at }
-    ensures below { IfOk result (λ x. x.0 < words) }
-{
-    let (point, next) = any_word(bytes, at)?;
-    if least <= point && point < words {
-        Ok((point, next))
-    } else {
-        Err(Refusal::Limit { offset: at as u64 })
-    }
 }

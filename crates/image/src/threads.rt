@@ -1,14 +1,15 @@
 //! The threads of an image.
 
-ghost use Rattle.std.specs.Prelude.{◌≡◌, ◌<◌, slice_index};
-ghost use Rattle.model.specs.Images.Format.{end_of};
-ghost use Rattle.model.specs.Images.Image.{thread_format, words_format};
-ghost use Rattle.image.specs.Stage.{no_slots};
+ghost use Rattle.std.specs.Prelude.{◌≡◌, ◌<◌, length, slice_index};
+ghost use Rattle.std.specs.Iterator.{YieldsFirst, item_count};
+ghost use Rattle.model.specs.Images.Fills.{bytes_of};
+ghost use Rattle.model.specs.Images.Format.{end_of, many};
+ghost use Rattle.model.specs.Images.Image.{slots_format, thread_format};
 
-use crate::entries::{Entries, entries_end};
-use crate::fields::any_word;
+use crate::entries::{Counts, Entries, entries_end};
 use crate::headers::thread_header;
 use crate::records::{Records, records_end};
+use crate::word_lists::{bytes_of_words, word_of, words_end};
 use model::{Refusal, RegisterEntry, ThreadHeader};
 use std::marker::{Model, PhantomData};
 
@@ -16,6 +17,7 @@ use std::marker::{Model, PhantomData};
 #[derive(Drop)]
 pub struct ThreadRef<'a> {
     bytes: &'a [u8],
+    counts: Counts,
     header: ThreadHeader,
     registers_at: usize,
     words_at: usize,
@@ -23,10 +25,9 @@ pub struct ThreadRef<'a> {
 }
 
 impl<'a> Model for ThreadRef<'a> {
-    ghost use Rattle.std.specs.Prelude.{◌≡◌, Ok, true, is_ok};
+    ghost use Rattle.std.specs.Prelude.{◌≡◌, ◌<◌, Ok, true, is_ok};
     ghost use Rattle.model.specs.Images.Format.{end_of, values_of};
-    ghost use Rattle.model.specs.Images.Image.{Thread, registers_format, words_format, records_format};
-    ghost use Rattle.image.specs.Stage.{no_slots};
+    ghost use Rattle.model.specs.Images.Image.{Thread, registers_format, words_format, records_format, slots_format};
 
     ghost Value = { Thread };
 
@@ -34,41 +35,32 @@ impl<'a> Model for ThreadRef<'a> {
       header = t.header;
       registers = values_of ((registers_format t.header.registers).reads t.bytes.now t.registers_at);
       words = values_of ((words_format t.header.words).reads t.bytes.now t.words_at);
-      records = values_of ((records_format no_slots t.header.words t.header.records).reads t.bytes.now t.records_at);
+      records = values_of ((records_format (slots_format t.counts.objects) t.header.words t.header.records).reads t.bytes.now t.records_at);
     } };
 
     ghost invariant = { λ t. (end_of ((registers_format t.header.registers).reads t.bytes.now t.registers_at) ≡ Ok t.words_at)
         × (end_of ((words_format t.header.words).reads t.bytes.now t.words_at) ≡ Ok t.records_at)
-        × (is_ok (end_of ((records_format no_slots t.header.words t.header.records).reads t.bytes.now t.records_at)) ≡ true) };
+        × (is_ok (end_of ((records_format (slots_format t.counts.objects) t.header.words t.header.records).reads t.bytes.now t.records_at)) ≡ true)
+        × (0 < t.header.words) };
 }
 
-/// The offset behind `count` words from `start`.
-fn words_end(bytes: &[u8], start: usize, count: u32) -> Result<usize, Refusal>
-    ensures { result ≡ end_of ((words_format count).reads bytes.now start) }
-{
-    let mut at = start;
-    for _ in 0..count {
-        let (_word, next) = any_word(bytes, at)?;
-        at = next;
-    }
-    Ok(at)
-}
-
-/// The thread at `at` of an image with so many objects, and the offset behind it.
+/// The thread at `at`, and the offset behind it.
 #[tactic(auto, unfolding(model::specs::Images::Image::thread_format, model::specs::Images::Image::registers_format))]
 pub(crate) fn thread_at<'a>(
     bytes: &'a [u8],
     at: usize,
-    objects: u32,
+    counts: Counts,
 ) -> Result<(ThreadRef<'a>, usize), Refusal>
-    ensures { result ≡ (thread_format no_slots objects).reads bytes.now at }
+    ensures { result ≡ (thread_format (slots_format counts.objects) counts.objects).reads bytes.now at }
 {
-    let (header, registers_at) = thread_header(bytes, at, objects)?;
-    let words_at = entries_end::<RegisterEntry>(bytes, registers_at, header.registers)?;
+    let (header, registers_at) = thread_header(bytes, at, counts.objects)?;
+    let counts = counts.with_words(header.words);
+    let words_at = entries_end::<RegisterEntry>(bytes, registers_at, counts, 1, header.registers)?;
     let records_at = words_end(bytes, words_at, header.words)?;
-    let end = records_end(bytes, records_at, header.words, header.records)?;
+    let end = records_end(bytes, records_at, counts, header.records)?;
     let thread = ThreadRef {
         bytes,
+        counts,
         header,
         registers_at,
         words_at,
@@ -78,19 +70,6 @@ pub(crate) fn thread_at<'a>(
 }
 
 impl<'a> ThreadRef<'a> {
-    /// The same thread.
-    pub(crate) fn lend(&self) -> ThreadRef<'a>
-        ensures { result ≡ self.now }
-    {
-        ThreadRef {
-            bytes: self.bytes,
-            header: self.header,
-            registers_at: self.registers_at,
-            words_at: self.words_at,
-            records_at: self.records_at,
-        }
-    }
-
     /// The thread's fixed part.
     pub fn header(&self) -> ThreadHeader
         ensures { result ≡ self.now.header }
@@ -106,10 +85,19 @@ impl<'a> ThreadRef<'a> {
         Entries {
             bytes: self.bytes,
             at: self.registers_at,
+            counts: self.counts,
             least: 1,
             left: self.header.registers,
             kind: PhantomData,
         }
+    }
+
+    /// How many words the program has.
+    pub fn word_count(&self) -> u32
+        ensures value { result ≡ self.now.header.words }
+        ensures length { length self.now.words ≡ result }
+    {
+        self.header.words
     }
 
     /// Word `index` of the program.
@@ -117,10 +105,14 @@ impl<'a> ThreadRef<'a> {
         requires { index < self.now.header.words }
         ensures { result ≡ slice_index self.now.words index }
     {
-        match any_word(self.bytes, self.words_at + 4 * index as usize) {
-            Ok((word, _)) => word,
-            Err(_) => unreachable!(),
-        }
+        word_of(self.bytes, self.words_at, self.header.words, index)
+    }
+
+    /// The bytes of the program, lent.
+    pub fn program(&self) -> &'a [u8]
+        ensures { result.now ≡ bytes_of self.now.words }
+    {
+        bytes_of_words(self.bytes, self.words_at, self.header.words)
     }
 
     /// The records of the certificate, in rising order of their points.
@@ -131,9 +123,69 @@ impl<'a> ThreadRef<'a> {
         Records {
             bytes: self.bytes,
             at: self.records_at,
-            words: self.header.words,
+            counts: self.counts.with_words(self.header.words),
             least: 0,
             left: self.header.records,
+        }
+    }
+}
+
+/// The offset behind `count` threads from `start`.
+pub(crate) fn threads_end(
+    bytes: &[u8],
+    start: usize,
+    counts: Counts,
+    count: u32,
+) -> Result<usize, Refusal>
+    ensures { result ≡ end_of ((many count (thread_format (slots_format counts.objects) counts.objects)).reads bytes.now start) }
+{
+    let mut at = start;
+    for _ in 0..count {
+        let (_thread, next) = thread_at(bytes, at, counts)?;
+        at = next;
+    }
+    Ok(at)
+}
+
+/// The threads of an image.
+#[derive(Drop)]
+pub struct Threads<'a> {
+    pub(crate) bytes: &'a [u8],
+    pub(crate) at: usize,
+    pub(crate) counts: Counts,
+    pub(crate) left: u32,
+}
+
+impl<'a> Model for Threads<'a> {
+    ghost use Rattle.std.specs.Prelude.{◌≡◌, List, true, is_ok};
+    ghost use Rattle.model.specs.Images.Format.{many_read, values_of};
+    ghost use Rattle.model.specs.Images.Image.{Thread, slots_format, thread_format};
+
+    ghost Value = { List Thread };
+
+    ghost view = { λ r. values_of (many_read (λ _. thread_format (slots_format r.counts.objects) r.counts.objects) (λ _. 0) 0 r.left r.bytes.now r.at) };
+
+    ghost invariant = { λ r. is_ok (many_read (λ _. thread_format (slots_format r.counts.objects) r.counts.objects) (λ _. 0) 0 r.left r.bytes.now r.at) ≡ true };
+}
+
+impl<'a> Iterator for Threads<'a> {
+    type Item = ThreadRef<'a>;
+
+    ghost next_gives = { YieldsFirst (λ s. s) };
+
+    ghost remaining = { item_count (λ s. s) };
+
+    fn next(&mut self) -> Option<ThreadRef<'a>> {
+        if self.left == 0 {
+            return None;
+        }
+        match thread_at(self.bytes, self.at, self.counts) {
+            Ok((thread, next)) => {
+                self.at = next;
+                self.left -= 1;
+                Some(thread)
+            }
+            Err(_) => unreachable!(),
         }
     }
 }

@@ -14,7 +14,7 @@ use Rattle.model.specs.Acceptance.PointStates.{Known, noted}
 use Rattle.model.specs.Acceptance.Ranges.{full, range_of, single}
 use Rattle.model.specs.Acceptance.ThreadInvariants.{LieWithin}
 use Rattle.programs.specs.Programs.{AreWords, AtPoint, IsKept, Moves}
-use Rattle.image.specs.Stage.{staged_image}
+use Rattle.programs.specs.Stage.{staged_image}
 use Rattle.programs.proofs.ConstantMeasures.{constant_falls, constant_least_value, constant_stays_below}
 use Rattle.programs.proofs.KeptPrograms.{LeadsOn, measure-kept}
 use Rattle.programs.proofs.PlainStates.{state-plain}

@@ -16,7 +16,7 @@ use Rattle.model.specs.Acceptance.NotedStates.{PointState}
 use Rattle.model.specs.Acceptance.PointRules.{ProgramEdge, are_ranges_within, edge_rules, edges_at, entry_rules, kept_at, noted_at, point_at, point_rules, program_rules, rules_of_noted, rules_of_program, rules_on_edges, state_rules}
 use Rattle.model.specs.Acceptance.PointStates.{Noted, Known, Missing, Unmeasured, address_of, instruction_at, noted, point_of}
 use Rattle.model.specs.Acceptance.Rules.{Rule, refuse_if}
-use Rattle.image.specs.Stage.{staged_image}
+use Rattle.programs.specs.Stage.{staged_image}
 use Rattle.programs.specs.Certificates.{sole}
 
 -- ---- lists of rules

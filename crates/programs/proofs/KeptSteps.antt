@@ -32,13 +32,14 @@ use Rattle.model.specs.Acceptance.Rules.{Rule}
 use Rattle.model.specs.Acceptance.ThreadInvariants.{LieWithin}
 use Rattle.programs.specs.Certificates.{is_ecall, known_of, sole, waited}
 use Rattle.programs.specs.Programs.{AtPoint, GoesOn, IsKept}
-use Rattle.image.specs.Stage.{staged_image}
+use Rattle.programs.specs.Stage.{staged_image}
+use Rattle.ranges.proofs.WrittenRegisters.{kept_register, written_within, zero_kept}
 use Rattle.programs.proofs.Arrivals.{holds-at, left-at, moves-on, wakes-on}
 use Rattle.programs.proofs.ConstantMeasures.{constant_measured}
 use Rattle.programs.proofs.DecodedFields.{HaveFields, have-fields}
 use Rattle.programs.proofs.KeptPrograms.{LeadsOn, edge-leads, entry-kept, not-refused}
 use Rattle.programs.proofs.PlainStates.{state-plain, wait-known}
-use Rattle.programs.proofs.RangesKept.{addi-keeps, jal-keeps, kept_register, written_within, zero_kept}
+use Rattle.programs.proofs.RangesKept.{addi-keeps, jal-keeps}
 use Rattle.programs.proofs.RegisterWords.{read-word, start-words, write-words}
 
 base-of : (t : Thread) → IsKept t → t.header.base ≡ 0x1000

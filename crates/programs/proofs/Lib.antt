@@ -4,7 +4,6 @@ pub mod BareRecords
 pub mod Calm
 pub mod ConstantMeasures
 pub mod DecodedFields
-pub mod Followed
 pub mod KeptImages
 pub mod KeptPrograms
 pub mod KeptSteps
@@ -13,6 +12,6 @@ pub mod PlainStates
 pub mod RangesKept
 pub mod RegisterWords
 pub mod StagedCalls
+pub mod StagedFits
 pub mod StagedRules
 pub mod StartValues
-pub mod WholeImage

@@ -20,7 +20,7 @@ use Rattle.model.specs.Acceptance.PointStates.{Noted, Known, Missing, Unmeasured
 use Rattle.model.specs.Acceptance.RangeRules.{range, ranges_after}
 use Rattle.model.specs.Acceptance.Ranges.{with_range}
 use Rattle.programs.specs.Certificates.{IsBare, IsOfForm, IsPlain, IsWait, known_of, sole, waited, with_image_slots}
-use Rattle.image.specs.Stage.{staged_image}
+use Rattle.programs.specs.Stage.{staged_image}
 use Rattle.programs.proofs.NotedConstants.{found_in}
 use Rattle.programs.proofs.StagedCalls.{waits_at}
 

@@ -23,7 +23,7 @@ use Rattle.model.specs.Capabilities.Slots.{capability_at}
 use Rattle.model.specs.Kernel.Steps.{call_of}
 use Rattle.model.specs.Acceptance.ThreadRules.{reached, reached_within}
 use Rattle.programs.specs.Certificates.{IsBare, IsOfForm, numbered_thread, sole, waited, with_image_slots}
-use Rattle.image.specs.Stage.{staged_image}
+use Rattle.programs.specs.Stage.{staged_image}
 use Rattle.programs.proofs.NotedConstants.{found_in}
 
 abbrev Behind : Type 0

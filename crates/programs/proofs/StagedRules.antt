@@ -1,28 +1,25 @@
 -- The images of the one form are well formed, but for the entry of their thread.
-use Rattle.std.proofs.Common.{◌≡◌, cond, length, ◌⊎◌, ℕ, ◌+◌, ◌*◌, ◌/◌, ◌≤◌, ◌<◌, Bool, true, false, ◌&&◌, eqb, leb, ltb, nat_eq, List, [], ◌∷◌, Option, Some, None, Result, Ok, Err, inl, inr, refl, sym, ap, subst, ◌∙◌, arith}
+use Rattle.std.proofs.Common.{◌≡◌, ◌⊎◌, ℕ, ◌+◌, ◌*◌, ◌/◌, ◌≤◌, ◌<◌, Bool, true, false, ◌&&◌, eqb, leb, ltb, List, [], ◌∷◌, Option, Some, None, Ok, Err, inl, inr, refl, sym, ap, subst, ◌∙◌, arith}
 use Rattle.std.proofs.lemmas.Bool.{and_parts, cases_lt, eqb-true, le-leb, le-ltb, leb-true, lt-leb}
 use Rattle.std.proofs.Math.Nat.{mul-div-le}
-use Rattle.std.specs.List.{list_all, range_with_len, starts_with}
-use Rattle.std.specs.Prelude.{map, slice_get, slice_index_or}
+use Rattle.std.specs.List.{list_all, range_with_len}
+use Rattle.std.specs.Prelude.{map, slice_index_or}
 use Rattle.std.specs.Option.{option_or}
 use Rattle.model.specs.declared.refusals.Refusal.{Refusal}
-use Rattle.model.specs.declared.refusals.Refusal.TheVariants.{BadThread, Trailing}
+use Rattle.model.specs.declared.refusals.Refusal.TheVariants.{BadThread}
 use Rattle.model.specs.Acceptance.Accepted.{AreKept, IsAccepted, IsWellFormed, breach_of, first_breach, first_in, phases}
 use Rattle.model.specs.Kernel.AddressSpaces.{address_limit, page_size}
 use Rattle.model.specs.Images.Fills.{program_pages}
-use Rattle.model.specs.Images.Format.{◌>>=◌}
-use Rattle.model.specs.Images.Image.{Image, Thread, thread_format}
+use Rattle.model.specs.Images.Format.{IsSpelling, reading}
+use Rattle.model.specs.Images.Image.{Image, Thread, whole_image}
 use Rattle.model.specs.Images.Places.{used_by}
 use Rattle.model.specs.Acceptance.PointRules.{program_rules}
 use Rattle.model.specs.Acceptance.Rules.{first_broken, refuse_if}
 use Rattle.model.specs.Acceptance.ThreadRules.{is_bad, is_code, reached, reached_within, shares_cspace, shares_vspace, thread_rules}
 use Rattle.model.specs.Acceptance.WellFormed.{capability_rules, does_not_fit, has_no_room, has_writable_code, mapping_rules, misplaces_frame, misplaces_table, object_rules, overlaps}
 use Rattle.programs.specs.Certificates.{numbered_thread, sole}
-use Rattle.image.specs.Stage.{IsStaged, any_thread, has_no_terms, is_staged, later, no_slots, staged_end, staged_front, staged_image, staged_reading}
+use Rattle.programs.specs.Stage.{IsStaged, any_thread, has_no_slots, has_no_terms, is_staged, staged_image}
 use Rattle.programs.proofs.Acceptance.{kept-none, none-broken}
-use Rattle.image.proofs.Laws.{IsBytes, bind_ok, guard_ok, ok_is, ok_of}
-use Rattle.image.proofs.StageLaws.{chosen_ok}
-use Rattle.programs.proofs.Followed.{read_as_whole, spelled_as_whole}
 
 -- ---- the rules before those on threads do not look at the thread
 
@@ -85,7 +82,7 @@ eight_parts a b c d e f g h all =
 
 pub numbers_of : (t : Thread) → is_staged t ≡ true → HasNumbers t
 numbers_of t h =
-    let p = eight_parts (eqb t.header.tcb 4) (eqb t.header.cnode 5) (eqb t.header.guard 28) (eqb t.header.root 1) (eqb t.header.fault 0) (eqb t.header.base 0x1000) (leb t.header.words 1024) (has_no_terms t.records) h in
+    let p = eight_parts (eqb t.header.tcb 4) (eqb t.header.cnode 5) (eqb t.header.guard 28) (eqb t.header.root 1) (eqb t.header.fault 0) (eqb t.header.base 0x1000) (leb t.header.words 1024) (has_no_slots t.records) (and_parts _ (has_no_terms t.records) h).0 in
     record {
       is = with_numbers t t.header.tcb t.header.cnode t.header.guard t.header.root t.header.fault t.header.base (eqb-true t.header.tcb 4 p.first) (eqb-true t.header.cnode 5 p.second)
           (eqb-true t.header.guard 28 p.third) (eqb-true t.header.root 1 p.fourth) (eqb-true t.header.fault 0 p.fifth) (eqb-true t.header.base 0x1000 p.sixth);
@@ -165,30 +162,9 @@ bad_entry t staged past =
 
 -- ---- bytes
 
--- what was read of the form is of the form
-read_is_staged : (bytes : List ℕ) (image : Image) → staged_reading bytes ≡ Ok image → IsStaged image
-unfolding staged_reading
-read_is_staged bytes image h =
-    let front = chosen_ok (starts_with nat_eq bytes staged_front) ((thread_format no_slots 7).reads bytes 236 >>= staged_end bytes) later image h in
-    let b = bind_ok ((thread_format no_slots 7).reads bytes 236) (staged_end bytes) image front.1 in
-    let t : Thread = b.0.0 in
-    let end = guard_ok (ltb b.0.1 (length bytes)) (Trailing b.0.1) (cond (is_staged t) (Ok (staged_image t)) (Err later)) image b.2 in
-    let form = chosen_ok (is_staged t) (Ok (staged_image t)) later image end.1 in
-    record { thread = t; form = sym (ok_is (staged_image t) image form.1); staged = form.0 }
-
--- the thread of an image
-abbrev thread_of : Image → Thread
-thread_of image = slice_index_or image.threads 0 any_thread
-
-pub read_thread : (bytes : List ℕ) (t : Thread) → staged_reading bytes ≡ Ok (staged_image t) → is_staged t ≡ true
-read_thread bytes t h =
-    let found = read_is_staged bytes (staged_image t) h in
-    let same : t ≡ found.thread = ap thread_of found.form in
-    ap is_staged same ∙ found.staged
-
-pub bad_entry_first : (bytes : List ℕ) (t : Thread) → staged_reading bytes ≡ Ok (staged_image t) → t.header.words ≤ t.header.entry → first_breach bytes ≡ Some (BadThread 0)
+pub bad_entry_first : (bytes : List ℕ) (t : Thread) → is_staged t ≡ true → reading whole_image bytes ≡ Ok (staged_image t) → t.header.words ≤ t.header.entry → first_breach bytes ≡ Some (BadThread 0)
 unfolding first_breach
-bad_entry_first bytes t h past = ap breach_of (read_as_whole bytes (staged_image t) h) ∙ bad_entry t (read_thread bytes t h) past
+bad_entry_first bytes t staged read past = ap breach_of read ∙ bad_entry t staged past
 
 or_none : {A : Type 0} (o : Option A) → option_or o None ≡ o
 or_none None = refl
@@ -202,41 +178,29 @@ good_entry t staged inside =
     rw (kept-none (object_rules image) formed.objects, kept-none (capability_rules image) formed.capabilities, kept-none (mapping_rules image) formed.mappings, kept-none (thread_rules image) formed.threads)
     (or_none (first_broken (program_rules image)))
 
-pub good_entry_first : (bytes : List ℕ) (t : Thread) → staged_reading bytes ≡ Ok (staged_image t) → t.header.entry < t.header.words → first_breach bytes ≡ first_broken (program_rules (staged_image t))
+pub good_entry_first : (bytes : List ℕ) (t : Thread) → is_staged t ≡ true → reading whole_image bytes ≡ Ok (staged_image t) → t.header.entry < t.header.words
+    → first_breach bytes ≡ first_broken (program_rules (staged_image t))
 unfolding first_breach
-good_entry_first bytes t h inside = ap breach_of (read_as_whole bytes (staged_image t) h) ∙ good_entry t (read_thread bytes t h) inside
+good_entry_first bytes t staged read inside = ap breach_of read ∙ good_entry t staged inside
 
--- ---- the thread of what was read
+-- what cannot be read is refused so first
+pub unread_first : (bytes : List ℕ) (refusal : Refusal) → reading whole_image bytes ≡ Err refusal → first_breach bytes ≡ Some refusal
+unfolding first_breach
+unread_first bytes refusal read = ap breach_of read
 
--- what was read has one thread
-pub same_thread : (bytes : List ℕ) (image : Image) (thread t : Thread) → staged_reading bytes ≡ Ok image → slice_get image.threads 0 ≡ Some thread
-    → staged_reading bytes ≡ Ok (staged_image t) → t ≡ thread
-same_thread bytes image thread t read first again =
-    let same : ◌≡◌ {A = Result Image Refusal} (Ok image) (Ok (staged_image t)) = sym read ∙ again in
-    let is : image ≡ staged_image t = ok_is image (staged_image t) same in
-    let firsts : ◌≡◌ {A = Option Thread} (Some t) (Some thread) = ap (λ (i : Image). slice_get i.threads 0) (sym is) ∙ first in
-    cc firsts
+-- ---- the thread of an image
 
--- what was read is the image of its thread
-pub of_its_thread : (bytes : List ℕ) (image : Image) (thread : Thread) → staged_reading bytes ≡ Ok image → slice_get image.threads 0 ≡ Some thread → image ≡ staged_image thread
-of_its_thread bytes image thread read first =
-    let found = read_is_staged bytes image read in
-    let again : staged_reading bytes ≡ Ok (staged_image found.thread) = read ∙ ap (λ (i : Image). ok_of i) found.form in
-    found.form ∙ ap staged_image (same_thread bytes image thread found.thread read first again)
+abbrev thread_of : Image → Thread
+thread_of image = slice_index_or image.threads 0 any_thread
 
-pub read_well_formed : (bytes : List ℕ) (image : Image) (thread : Thread) → staged_reading bytes ≡ Ok image → slice_get image.threads 0 ≡ Some thread
-    → (thread.header.words ≤ thread.header.entry → ⊥) → IsWellFormed image
-read_well_formed bytes image thread read first inside =
-    let is : image ≡ staged_image thread = of_its_thread bytes image thread read first in
-    let staged : is_staged thread ≡ true = read_thread bytes thread (read ∙ ap (λ (i : Image). ok_of i) is) in
-    elim (cases_lt thread.header.entry thread.header.words) [
-      | inl below ↦ subst IsWellFormed (sym is) (well_formed thread staged below)
-      | inr past ↦ absurd (inside past)
-    ]
+-- an image of the form is that of one thread
+pub same_thread : (t u : Thread) → staged_image t ≡ staged_image u → t ≡ u
+same_thread t u same = ap thread_of same
 
-pub read_accepted : (bytes : List ℕ) (t : Thread) → IsBytes bytes → staged_reading bytes ≡ Ok (staged_image t) → t.header.entry < t.header.words → AreKept (program_rules (staged_image t)) → IsAccepted bytes (staged_image t)
-read_accepted bytes t fits read inside programs = record {
-  spelled = spelled_as_whole bytes (staged_image t) fits read;
-  formed = well_formed t (read_thread bytes t read) inside;
-  programs = programs;
-}
+-- a thread of the form is so in each way that the image is
+pub thread_staged : (t : Thread) → IsStaged (staged_image t) → is_staged t ≡ true
+thread_staged t of_form = ap is_staged (same_thread t of_form.thread of_form.form) ∙ of_form.staged
+
+pub read_accepted : (bytes : List ℕ) (t : Thread) → is_staged t ≡ true → IsSpelling whole_image bytes (staged_image t) → t.header.entry < t.header.words → AreKept (program_rules (staged_image t))
+    → IsAccepted bytes (staged_image t)
+read_accepted bytes t staged spelled inside programs = record { spelled = spelled; formed = well_formed t staged inside; programs = programs }

@@ -1,14 +1,12 @@
--- What is read of the form starts its registers with words.
-use Rattle.std.proofs.Common.{◌≡◌, ℕ, zero, suc, true, false, ◌&&◌, ◌+◌, ◌<◌, ◌^◌, List, [], ◌∷◌, Ok}
+-- A thread that fits starts its registers with words.
+use Rattle.std.proofs.Common.{◌≡◌, ℕ, zero, suc, true, false, ◌+◌, ◌<◌, ◌^◌, List, [], ◌∷◌}
 use Rattle.std.specs.Prelude.{All, nat_lt}
 use Rattle.std.proofs.lemmas.Bool.{and_parts, ltb-true}
 use Rattle.std.proofs.lemmas.List.Elements.{All-cons, All-nil}
 use Rattle.model.specs.declared.entries.RegisterEntry.{RegisterEntry}
 use Rattle.model.specs.Images.Format.{field, many_fit}
-use Rattle.model.specs.Images.Image.{Thread, between, records_format, register_format, registers_format, thread_format, thread_header_format, words_format}
-use Rattle.image.specs.Stage.{no_slots, staged_image, staged_reading}
-use Rattle.image.proofs.Laws.{IsBytes}
-use Rattle.image.proofs.StageLaws.{staged_found, thread_fits}
+use Rattle.model.specs.Images.Image.{Thread, between, register_format, registers_format, thread_format}
+use Rattle.programs.proofs.StagedFits.{parts_fit, slots}
 
 abbrev HasWord : RegisterEntry → Type 0
 HasWord e = e.value < 2 ^ 32
@@ -28,13 +26,6 @@ all_values (suc count) least (e ∷ es) fits =
     let parts = and_parts ((register_format least).fits e) (many_fit register_format (λ e. e.register + 1) (e.register + 1) count es) fits in
     All-cons HasWord e es (one_value least e parts.0) (all_values count (e.register + 1) es parts.1)
 
-pub fitting_values : (t : Thread) → (thread_format no_slots 7).fits t ≡ true → All HasWord t.registers
-unfolding thread_format registers_format
-fitting_values t fits =
-    let h = t.header in
-    let a = and_parts ((thread_header_format 7).fits h) ((registers_format h.registers).fits t.registers && ((words_format h.words).fits t.words && (records_format no_slots h.words h.records).fits t.records)) fits in
-    let b = and_parts ((registers_format h.registers).fits t.registers) ((words_format h.words).fits t.words && (records_format no_slots h.words h.records).fits t.records) a.1 in
-    all_values h.registers 1 t.registers b.0
-
-pub read_values : (bytes : List ℕ) (t : Thread) → IsBytes bytes → staged_reading bytes ≡ Ok (staged_image t) → All (λ e. e.value < 2 ^ 32) t.registers
-read_values bytes t bytes_fit read = fitting_values t (thread_fits t (staged_found bytes (staged_image t) bytes_fit read).spelled.fits)
+pub fitting_values : (t : Thread) → (thread_format slots 7).fits t ≡ true → All HasWord t.registers
+unfolding registers_format
+fitting_values t fits = all_values t.header.registers 1 t.registers (parts_fit t fits).registers

@@ -12,7 +12,7 @@ use Rattle.model.specs.Kernel.Messages.{a0, a7}
 use Rattle.model.specs.Acceptance.NotedStates.{PointState, image_slots}
 use Rattle.model.specs.Acceptance.PointStates.{Noted, Known, Missing, Unmeasured, instruction_at, noted}
 use Rattle.model.specs.Acceptance.Ranges.{is_ranged, range_of, single, with_range}
-use Rattle.image.specs.Stage.{staged_image}
+use Rattle.programs.specs.Stage.{staged_image}
 
 -- a record that notes no slots and no terms
 abbrev pub IsBare : StateRecord → Type 0

@@ -10,7 +10,7 @@ use Rattle.model.specs.Acceptance.PointRules.{program_rules}
 use Rattle.model.specs.Acceptance.PointStates.{Known, address_of, noted}
 use Rattle.model.specs.Acceptance.ThreadInvariants.{LieWithin}
 use Rattle.programs.specs.Certificates.{IsOfForm, IsPlain, sole}
-use Rattle.image.specs.Stage.{staged_image}
+use Rattle.programs.specs.Stage.{staged_image}
 
 -- A thread of the form that starts at a point of its program, with words in its registers, and whose program keeps the
 -- rules and makes no other system call than the wait.

@@ -1,0 +1,230 @@
+//! Images: parts whose fields are all in their ranges and orders.
+
+ghost use Rattle.std.specs.Prelude.{◌≡◌, ℕ, ◌+◌, ◌&&◌, if◌then◌else◌, Some, None, true, false, IfOk, IfErr, length};
+ghost use Rattle.model.specs.Images.Format.{many_fit, field, number, signed};
+ghost use Rattle.model.specs.Images.Image.{anything, between, content_format, header_format, image_with, record_format, record_header_format, sections_format, slots_format, thread_format, thread_header_format, whole_image};
+
+use crate::listed::{Limits, Listed, all_fit};
+use crate::parts::{Content, Parts, RecordParts, ThreadParts};
+use std::marker::Model;
+
+/// An image: parts whose fields are all in the ranges and orders of the format.
+#[derive(Drop)]
+pub struct Image {
+    parts: Parts,
+}
+
+impl Model for Image {
+    ghost use Rattle.std.specs.Prelude.{◌≡◌, true};
+    ghost use Rattle.model.specs.Images.Image as described;
+
+    ghost Value = { described.Image };
+
+    ghost view = { λ i. i.parts };
+
+    ghost invariant = { λ i. described.whole_image.fits i.parts ≡ true };
+}
+
+impl Image {
+    /// The image of these parts. Where a field is out of its range or its order, the parts are handed
+    /// back as they were.
+    pub fn checked(parts: Parts) -> Result<Image, Parts>
+        ensures ok { IfOk result (λ image. (image ≡ parts) × (whole_image.fits parts ≡ true)) }
+        ensures err { IfErr result (λ back. (back ≡ parts) × (whole_image.fits parts ≡ false)) }
+    {
+        if parts_fit(&parts) {
+            Ok(Image { parts })
+        } else {
+            Err(parts)
+        }
+    }
+
+    /// The parts that the image was made of.
+    pub fn parts(&self) -> &Parts
+        ensures parts { result.now ≡ self.now }
+        ensures fits { whole_image.fits self.now ≡ true }
+    {
+        &self.parts
+    }
+}
+
+/// Whether all that the parts list is in its ranges and orders.
+#[tactic(auto, unfolding(model::specs::Images::Image::image_with, model::specs::Images::Image::sections_format))]
+fn parts_fit(parts: &Parts) -> bool
+    ensures { result ≡ whole_image.fits parts.now }
+{
+    let Some(limits) = limits_of(parts) else {
+        return false;
+    };
+    if !all_fit(&parts.untypeds, limits, 0) {
+        return false;
+    }
+    if !all_fit(&parts.objects, limits, 0) {
+        return false;
+    }
+    if !all_fit(&parts.capabilities, limits, 0) {
+        return false;
+    }
+    if !all_fit(&parts.interrupts, limits, 0) {
+        return false;
+    }
+    if !all_fit(&parts.tables, limits, 0) {
+        return false;
+    }
+    if !all_fit(&parts.frames, limits, 0) {
+        return false;
+    }
+    if !all_fit(&parts.contents, limits, 0) {
+        return false;
+    }
+    all_fit(&parts.threads, limits, 0)
+}
+
+/// A number from `low` to `high`, or none.
+fn within(number: usize, low: u32, high: u32) -> Option<u32>
+    ensures { result ≡ (if (field (between low high)).fits number then Some number else None) }
+{
+    if low as usize <= number && number <= high as usize {
+        Some(number as u32)
+    } else {
+        None
+    }
+}
+
+/// What the numbers of the entries lie below, if the numbers of the image's head are in their ranges.
+#[tactic(auto, unfolding(model::specs::Images::Image::header_format))]
+fn limits_of(parts: &Parts) -> Option<Limits>
+    ensures { let h = parts.now.header in result ≡ (if header_format.fits h
+        then Some (record { untypeds = h.untypeds; objects = h.objects; interrupts = h.interrupts; words = 0 }) else None) }
+{
+    if parts.version != 1 {
+        return None;
+    }
+    let memory_bits = within(parts.memory_bits as usize, 16, 24)?;
+    within(parts.boot_radix as usize, 1, 14.min(memory_bits - 5))?;
+    let untypeds = within(parts.untypeds.len(), 1, 64)?;
+    let objects = within(parts.objects.len(), 0, 4096)?;
+    within(parts.capabilities.len(), 0, 16384)?;
+    let interrupts = within(parts.interrupts.len(), 0, 64)?;
+    within(parts.tables.len(), 0, 1024)?;
+    within(parts.frames.len(), 0, 4096)?;
+    within(parts.contents.len(), 0, 4096)?;
+    within(parts.threads.len(), 1, 64)?;
+    Some(Limits {
+        untypeds,
+        objects,
+        interrupts,
+        words: 0,
+    })
+}
+
+/// Whether a number is in the range of a field that may hold any, as all of 4 bytes are.
+fn is_word(number: u32) -> bool
+    ensures { result ≡ (field anything).fits number }
+{
+    number <= u32::MAX
+}
+
+/// Whether words are in their ranges, as all are.
+fn words_fit(words: &[u32]) -> bool
+    ensures { result ≡ many_fit (λ _. field anything) (λ _. 0) 0 (length words.now) words.now }
+{
+    true
+}
+
+#[tactic(auto, unfolding(model::specs::Images::Image::content_format))]
+impl Listed for Content {
+    ghost format = { λ limits. content_format limits.objects };
+
+    ghost next = { λ c. c.header.frame + 1 };
+
+    fn next_key(&self, limits: Limits, least: u64) -> Option<u64> {
+        let key = u64::from(self.frame);
+        if key < least || limits.objects <= self.frame {
+            return None;
+        }
+        within(self.words.len(), 1, 1024)?;
+        if words_fit(&self.words) {
+            Some(key + 1)
+        } else {
+            None
+        }
+    }
+}
+
+/// Whether the numbers of a record's head are in their ranges, in a program of so many words.
+#[tactic(auto, unfolding(model::specs::Images::Image::record_header_format))]
+fn record_header_fits(part: &RecordParts, limits: Limits, least: u64) -> bool
+    ensures { result ≡ (record_header_format (slots_format limits.objects) limits.words least).fits part.now.header }
+{
+    least <= u64::from(part.point)
+        && part.point < limits.words
+        && part.ranges.len() <= 31
+        && part.slots.len() <= 256
+        && part.terms.len() <= 4
+        && -(1 << 62) <= part.constant
+        && part.constant <= 1 << 62
+}
+
+#[tactic(auto, unfolding(model::specs::Images::Image::record_format, model::specs::Images::Image::ranges_format, model::specs::Images::Image::terms_format))]
+impl Listed for RecordParts {
+    ghost format = { λ limits. record_format (slots_format limits.objects) limits.words };
+
+    ghost next = { λ r. r.header.point + 1 };
+
+    fn next_key(&self, limits: Limits, least: u64) -> Option<u64> {
+        if record_header_fits(self, limits, least)
+            && all_fit(&self.ranges, limits, 1)
+            && all_fit(&self.slots, limits, 0)
+            && all_fit(&self.terms, limits, 1)
+        {
+            Some(u64::from(self.point) + 1)
+        } else {
+            None
+        }
+    }
+}
+
+/// How many words a thread's program has, if the numbers of the thread's head are in their ranges.
+#[tactic(auto, unfolding(model::specs::Images::Image::thread_header_format))]
+fn program_length(thread: &ThreadParts, objects: u32) -> Option<u32>
+    ensures { let h = thread.now.header in result ≡ (if (thread_header_format objects).fits h then Some h.words else None) }
+{
+    if objects <= thread.tcb || objects <= thread.cnode || !is_word(thread.guard) {
+        return None;
+    }
+    if objects <= thread.root {
+        return None;
+    }
+    within(thread.priority as usize, 0, 255)?;
+    if thread.budget < 1 || 1 << 62 < thread.budget {
+        return None;
+    }
+    if !is_word(thread.fault) || !is_word(thread.entry) || !is_word(thread.base) {
+        return None;
+    }
+    within(thread.registers.len(), 0, 31)?;
+    let words = within(thread.words.len(), 1, 65536)?;
+    within(thread.records.len(), 0, words)?;
+    Some(words)
+}
+
+#[tactic(auto, unfolding(model::specs::Images::Image::thread_format, model::specs::Images::Image::registers_format, model::specs::Images::Image::words_format, model::specs::Images::Image::records_format))]
+impl Listed for ThreadParts {
+    ghost format = { λ limits least. thread_format (slots_format limits.objects) limits.objects };
+
+    ghost next = { λ t. 0 };
+
+    fn next_key(&self, limits: Limits, _least: u64) -> Option<u64> {
+        let words = program_length(self, limits.objects)?;
+        let limits = Limits { words, ..limits };
+        if all_fit(&self.registers, limits, 1)
+            && words_fit(&self.words)
+            && all_fit(&self.records, limits, 0)
+        {
+            Some(0)
+        } else {
+            None
+        }
+    }
+}

@@ -1,0 +1,317 @@
+//! Entries of the sections of an image before the contents, and of the slots that a record notes.
+
+ghost use Rattle.std.specs.Prelude.{◌≡◌, ◌==◌, ◌&&◌, ◌||◌, ◌+◌, ◌^◌, nat_lt, nat_le, is_some};
+ghost use Rattle.model.specs.Capabilities.CapabilityFields.{unpacked};
+ghost use Rattle.model.specs.Images.Format.{field};
+ghost use Rattle.model.specs.Images.Image.{below, capability_format, frame_format, interrupt_format, names_parent, no_parent, object_format, pair_key, size_fits, slot_format, table_format, untyped_format};
+
+use crate::entries::{Counts, Entry};
+use crate::fields::{any_word, pair_key, rising_word, second_part, word_below, word_between};
+use crate::slot_words::{names_parent, unpacks};
+use model::{
+    CapabilityEntry, FrameEntry, InterruptEntry, ObjectEntry, Refusal, SlotEntry, TableEntry,
+    UntypedEntry,
+};
+
+#[tactic(auto, unfolding(model::specs::Images::Image::untyped_format))]
+impl Entry for UntypedEntry {
+    ghost format = { λ _ _. untyped_format };
+
+    ghost next = { λ _. 0 };
+
+    fn read(
+        bytes: &[u8],
+        at: usize,
+        _counts: Counts,
+        _least: u64,
+    ) -> Result<(UntypedEntry, usize), Refusal> {
+        let (offset, at) = any_word(bytes, at)?;
+        let (bits, at) = word_between(bytes, at, 4, 24)?;
+        Ok((UntypedEntry { offset, bits }, at))
+    }
+
+    fn least_behind(&self) -> u64 {
+        0
+    }
+}
+
+/// Whether an object of this type may have this size.
+fn size_fits(kind: u32, size: u32) -> bool
+    ensures { result ≡ size_fits kind size }
+{
+    match kind {
+        0 => false,
+        1 => 4 <= size && size <= 24,
+        5 => 1 <= size && size <= 14,
+        _ => size == 0,
+    }
+}
+
+/// The size of an object of this type at `at`, and the offset behind it.
+fn object_size(bytes: &[u8], at: usize, kind: u32) -> Result<(u32, usize), Refusal>
+    ensures { result ≡ (field (size_fits kind)).reads bytes.now at }
+{
+    let (size, next) = any_word(bytes, at)?;
+    if size_fits(kind, size) {
+        Ok((size, next))
+    } else {
+        Err(Refusal::Limit { offset: at as u64 })
+    }
+}
+
+#[tactic(auto, unfolding(model::specs::Images::Image::object_format))]
+impl Entry for ObjectEntry {
+    ghost format = { λ c. object_format c.untypeds };
+
+    ghost next = { λ e. e.untyped };
+
+    fn read(
+        bytes: &[u8],
+        at: usize,
+        counts: Counts,
+        least: u64,
+    ) -> Result<(ObjectEntry, usize), Refusal> {
+        let (untyped, at) = rising_word(bytes, at, least, counts.untypeds)?;
+        let (kind, at) = word_between(bytes, at, 1, 8)?;
+        let (size, at) = object_size(bytes, at, kind)?;
+        Ok((
+            ObjectEntry {
+                untyped,
+                kind,
+                size,
+            },
+            at,
+        ))
+    }
+
+    fn least_behind(&self) -> u64 {
+        u64::from(self.untyped)
+    }
+}
+
+#[tactic(auto, unfolding(model::specs::Images::Image::capability_format))]
+impl Entry for CapabilityEntry {
+    ghost format = { λ c. capability_format c.objects c.interrupts };
+
+    ghost next = { λ e. pair_key e.cnode e.index + 1 };
+
+    fn read(
+        bytes: &[u8],
+        at: usize,
+        counts: Counts,
+        least: u64,
+    ) -> Result<(CapabilityEntry, usize), Refusal> {
+        let (cnode, at) = word_below(bytes, at, counts.objects)?;
+        let (index, at) = second_part(bytes, at, cnode, least)?;
+        let (source, at) = source(bytes, at, counts)?;
+        let (rights, at) = any_word(bytes, at)?;
+        let (payload, at) = any_word(bytes, at)?;
+        Ok((
+            CapabilityEntry {
+                cnode,
+                index,
+                source,
+                rights,
+                payload,
+            },
+            at,
+        ))
+    }
+
+    fn least_behind(&self) -> u64 {
+        pair_key(self.cnode, self.index) + 1
+    }
+}
+
+/// The number of an object or of an interrupt behind the objects at `at`, and the offset behind it.
+fn source(bytes: &[u8], at: usize, counts: Counts) -> Result<(u32, usize), Refusal>
+    ensures { result ≡ (field (below (counts.objects + counts.interrupts))).reads bytes.now at }
+{
+    let (word, next) = any_word(bytes, at)?;
+    if u64::from(word) < u64::from(counts.objects) + u64::from(counts.interrupts) {
+        Ok((word, next))
+    } else {
+        Err(Refusal::Limit { offset: at as u64 })
+    }
+}
+
+#[tactic(auto, unfolding(model::specs::Images::Image::interrupt_format))]
+impl Entry for InterruptEntry {
+    ghost format = { λ c. interrupt_format c.objects };
+
+    ghost next = { λ e. e.line + 1 };
+
+    fn read(
+        bytes: &[u8],
+        at: usize,
+        counts: Counts,
+        least: u64,
+    ) -> Result<(InterruptEntry, usize), Refusal> {
+        let (line, at) = word_between(bytes, at, least, 63)?;
+        let (notification, at) = word_below(bytes, at, counts.objects)?;
+        let (badge, at) = word_below(bytes, at, 1 << 28)?;
+        Ok((
+            InterruptEntry {
+                line,
+                notification,
+                badge,
+            },
+            at,
+        ))
+    }
+
+    fn least_behind(&self) -> u64 {
+        u64::from(self.line) + 1
+    }
+}
+
+#[tactic(auto, unfolding(model::specs::Images::Image::table_format))]
+impl Entry for TableEntry {
+    ghost format = { λ c. table_format c.objects };
+
+    ghost next = { λ e. pair_key e.root e.address + 1 };
+
+    fn read(
+        bytes: &[u8],
+        at: usize,
+        counts: Counts,
+        least: u64,
+    ) -> Result<(TableEntry, usize), Refusal> {
+        let (root, at) = word_below(bytes, at, counts.objects)?;
+        let (address, at) = second_part(bytes, at, root, least)?;
+        let (table, at) = word_below(bytes, at, counts.objects)?;
+        Ok((
+            TableEntry {
+                root,
+                address,
+                table,
+            },
+            at,
+        ))
+    }
+
+    fn least_behind(&self) -> u64 {
+        pair_key(self.root, self.address) + 1
+    }
+}
+
+#[tactic(auto, unfolding(model::specs::Images::Image::frame_format))]
+impl Entry for FrameEntry {
+    ghost format = { λ c. frame_format c.objects };
+
+    ghost next = { λ e. pair_key e.root e.address + 1 };
+
+    fn read(
+        bytes: &[u8],
+        at: usize,
+        counts: Counts,
+        least: u64,
+    ) -> Result<(FrameEntry, usize), Refusal> {
+        let (root, at) = word_below(bytes, at, counts.objects)?;
+        let (address, at) = second_part(bytes, at, root, least)?;
+        let (frame, at) = word_below(bytes, at, counts.objects)?;
+        let (rights, at) = word_between(bytes, at, 0, 7)?;
+        Ok((
+            FrameEntry {
+                root,
+                address,
+                frame,
+                rights,
+            },
+            at,
+        ))
+    }
+
+    fn least_behind(&self) -> u64 {
+        pair_key(self.root, self.address) + 1
+    }
+}
+
+/// The second word of what a slot holds at `at`, and the offset behind it.
+fn second_word(bytes: &[u8], at: usize, head: u32) -> Result<(u32, usize), Refusal>
+    ensures { result ≡ (field (λ word. is_some (unpacked head word))).reads bytes.now at }
+{
+    let (word, next) = any_word(bytes, at)?;
+    if unpacks(head, word) {
+        Ok((word, next))
+    } else {
+        Err(Refusal::Limit { offset: at as u64 })
+    }
+}
+
+/// The CNode of a slot's parent at `at`, or what stands for the boot CNode, and the offset behind it.
+fn parent_cnode(bytes: &[u8], at: usize, objects: u32) -> Result<(u32, usize), Refusal>
+    ensures { result ≡ (field (λ parent. nat_lt parent objects || (parent == no_parent))).reads bytes.now at }
+{
+    let (parent, next) = any_word(bytes, at)?;
+    if parent < objects || parent == u32::MAX {
+        Ok((parent, next))
+    } else {
+        Err(Refusal::Limit { offset: at as u64 })
+    }
+}
+
+/// The index of a slot's parent at `at`, and the offset behind it.
+fn parent_index(
+    bytes: &[u8],
+    at: usize,
+    is_empty: bool,
+    parent: u32,
+) -> Result<(u32, usize), Refusal>
+    ensures { result ≡ (field (names_parent is_empty parent)).reads bytes.now at }
+{
+    let (index, next) = any_word(bytes, at)?;
+    if names_parent(is_empty, parent, index) {
+        Ok((index, next))
+    } else {
+        Err(Refusal::Limit { offset: at as u64 })
+    }
+}
+
+/// The index of a slot of a CNode at `at`, and the offset behind it.
+fn slot_index(bytes: &[u8], at: usize, cnode: u32, least: u64) -> Result<(u32, usize), Refusal>
+    ensures { result ≡ (field (λ index. nat_le least (pair_key cnode index) && nat_lt index (2 ^ 14))).reads bytes.now at }
+{
+    let (index, next) = any_word(bytes, at)?;
+    if least <= pair_key(cnode, index) && index < 1 << 14 {
+        Ok((index, next))
+    } else {
+        Err(Refusal::Limit { offset: at as u64 })
+    }
+}
+
+#[tactic(auto, unfolding(model::specs::Images::Image::slot_format))]
+impl Entry for SlotEntry {
+    ghost format = { λ c. slot_format c.objects };
+
+    ghost next = { λ e. pair_key e.cnode e.index + 1 };
+
+    fn read(
+        bytes: &[u8],
+        at: usize,
+        counts: Counts,
+        least: u64,
+    ) -> Result<(SlotEntry, usize), Refusal> {
+        let (cnode, at) = word_below(bytes, at, counts.objects)?;
+        let (index, at) = slot_index(bytes, at, cnode, least)?;
+        let (word0, at) = any_word(bytes, at)?;
+        let (word1, at) = second_word(bytes, at, word0)?;
+        let (parent_cnode, at) = parent_cnode(bytes, at, counts.objects)?;
+        let (parent_index, at) = parent_index(bytes, at, word0 == 0 && word1 == 0, parent_cnode)?;
+        Ok((
+            SlotEntry {
+                cnode,
+                index,
+                word0,
+                word1,
+                parent_cnode,
+                parent_index,
+            },
+            at,
+        ))
+    }
+
+    fn least_behind(&self) -> u64 {
+        pair_key(self.cnode, self.index) + 1
+    }
+}

@@ -1,0 +1,5 @@
+//! Tests on images: what parts are written as, byte for byte.
+#![tactic(auto)]
+
+#[cfg(test)]
+mod solo;
