@@ -1,0 +1,78 @@
+-- What an image is that fits its format: counts are lengths, numbers lie in their ranges, and keys rise.
+use Rattle.std.proofs.Common.{ℕ, ◌≡◌, ◌+◌, ◌<◌, true, length, Some, refl}
+use Rattle.std.specs.Prelude.{slice_get}
+use Rattle.std.proofs.lemmas.Bool.{and_parts}
+use Rattle.model.specs.declared.entries.CapabilityEntry.{CapabilityEntry}
+use Rattle.model.specs.declared.entries.FrameEntry.{FrameEntry}
+use Rattle.model.specs.declared.entries.InterruptEntry.{InterruptEntry}
+use Rattle.model.specs.declared.entries.ObjectEntry.{ObjectEntry}
+use Rattle.model.specs.declared.entries.TableEntry.{TableEntry}
+use Rattle.model.specs.declared.entries.UntypedEntry.{UntypedEntry}
+use Rattle.booting.proofs.PlacesFits.{many-each, many-length, many-rises}
+use Rattle.model.specs.Images.Image.{Image, Thread, capability_format, frame_format, image_with, interrupt_format, object_format, pair_key, sections_format, slots_format, table_format, thread_format, untyped_format, whole_image}
+use Rattle.booting.proofs.PlacesEntries.{CapabilityFits, FrameFits, HeaderFits, InterruptFits, ObjectFits, TableFits, ThreadFits, UntypedFits, capability-fits, frame-fits, header-fits, interrupt-fits, object-fits, table-fits, thread-fits, untyped-fits}
+
+pub record IsFitting (image : Image) : Type 0 where
+  pub header : HeaderFits image.header
+  pub untypeds : length image.untypeds ≡ image.header.untypeds
+  pub objects : length image.objects ≡ image.header.objects
+  pub capabilities : length image.capabilities ≡ image.header.capabilities
+  pub interrupts : length image.interrupts ≡ image.header.interrupts
+  pub tables : length image.tables ≡ image.header.tables
+  pub frames : length image.frames ≡ image.header.frames
+  pub threads : length image.threads ≡ image.header.threads
+  pub untyped : (k : ℕ) (u : UntypedEntry) → slice_get image.untypeds k ≡ Some u → UntypedFits u
+  pub object : (k : ℕ) (o : ObjectEntry) → slice_get image.objects k ≡ Some o → ObjectFits image o
+  pub capability : (k : ℕ) (c : CapabilityEntry) → slice_get image.capabilities k ≡ Some c → CapabilityFits image c
+  pub interrupt : (k : ℕ) (i : InterruptEntry) → slice_get image.interrupts k ≡ Some i → InterruptFits image i
+  pub table : (k : ℕ) (t : TableEntry) → slice_get image.tables k ≡ Some t → TableFits image t
+  pub frame : (k : ℕ) (f : FrameEntry) → slice_get image.frames k ≡ Some f → FrameFits image f
+  pub thread : (k : ℕ) (t : Thread) → slice_get image.threads k ≡ Some t → ThreadFits image t.header
+  -- keys rise
+  pub slots_rise : (i j : ℕ) (c d : CapabilityEntry) → i < j → slice_get image.capabilities i ≡ Some c → slice_get image.capabilities j ≡ Some d
+      → pair_key c.cnode c.index < pair_key d.cnode d.index
+  pub lines_rise : (i j : ℕ) (a b : InterruptEntry) → i < j → slice_get image.interrupts i ≡ Some a → slice_get image.interrupts j ≡ Some b → a.line < b.line
+  pub regions_rise : (i j : ℕ) (a b : TableEntry) → i < j → slice_get image.tables i ≡ Some a → slice_get image.tables j ≡ Some b
+      → pair_key a.root a.address < pair_key b.root b.address
+  pub pages_rise : (i j : ℕ) (a b : FrameEntry) → i < j → slice_get image.frames i ≡ Some a → slice_get image.frames j ≡ Some b
+      → pair_key a.root a.address < pair_key b.root b.address
+
+pub is-fitting : (image : Image) → whole_image.fits image ≡ true → IsFitting image
+unfolding image_with sections_format
+is-fitting image is =
+    let whole = and_parts _ _ is in
+    let a = and_parts _ _ whole.0 in
+    let b = and_parts _ _ a.1 in
+    let c = and_parts _ _ b.1 in
+    let d = and_parts _ _ c.1 in
+    let e = and_parts _ _ d.1 in
+    let f = and_parts _ _ e.1 in
+    let g = and_parts _ _ f.1 in
+    let h = image.header in
+    let objects = object_format h.untypeds in
+    let capabilities = capability_format h.objects h.interrupts in
+    let interrupts = interrupt_format h.objects in
+    let tables = table_format h.objects in
+    let frames = frame_format h.objects in
+    let threads = thread_format (slots_format h.objects) h.objects in
+    record {
+      header = header-fits h a.0;
+      untypeds = many-length (λ _. untyped_format) (λ _. 0) 0 h.untypeds image.untypeds b.0;
+      objects = many-length objects (λ o. o.untyped) 0 h.objects image.objects c.0;
+      capabilities = many-length capabilities (λ x. pair_key x.cnode x.index + 1) 0 h.capabilities image.capabilities d.0;
+      interrupts = many-length interrupts (λ x. x.line + 1) 0 h.interrupts image.interrupts e.0;
+      tables = many-length tables (λ x. pair_key x.root x.address + 1) 0 h.tables image.tables f.0;
+      frames = many-length frames (λ x. pair_key x.root x.address + 1) 0 h.frames image.frames g.0;
+      threads = many-length (λ _. threads) (λ _. 0) 0 h.threads image.threads whole.1;
+      untyped = λ k u at. untyped-fits u (many-each (λ _. untyped_format) (λ _. 0) 0 h.untypeds image.untypeds b.0 k u at).1;
+      object = λ k o at. let one = many-each objects (λ o. o.untyped) 0 h.objects image.objects c.0 k o at in object-fits image one.0 o one.1;
+      capability = λ k x at. let one = many-each capabilities (λ x. pair_key x.cnode x.index + 1) 0 h.capabilities image.capabilities d.0 k x at in (capability-fits image one.0 x one.1).0;
+      interrupt = λ k x at. let one = many-each interrupts (λ x. x.line + 1) 0 h.interrupts image.interrupts e.0 k x at in (interrupt-fits image one.0 x one.1).0;
+      table = λ k x at. let one = many-each tables (λ x. pair_key x.root x.address + 1) 0 h.tables image.tables f.0 k x at in (table-fits image one.0 x one.1).0;
+      frame = λ k x at. let one = many-each frames (λ x. pair_key x.root x.address + 1) 0 h.frames image.frames g.0 k x at in (frame-fits image one.0 x one.1).0;
+      thread = λ k t at. thread-fits image t (many-each (λ _. threads) (λ _. 0) 0 h.threads image.threads whole.1 k t at).1;
+      slots_rise = many-rises capabilities (λ x. pair_key x.cnode x.index + 1) (λ x. pair_key x.cnode x.index) (λ l x fits. (capability-fits image l x fits).1) (λ x. refl) 0 h.capabilities image.capabilities d.0;
+      lines_rise = many-rises interrupts (λ x. x.line + 1) (λ x. x.line) (λ l x fits. (interrupt-fits image l x fits).1) (λ x. refl) 0 h.interrupts image.interrupts e.0;
+      regions_rise = many-rises tables (λ x. pair_key x.root x.address + 1) (λ x. pair_key x.root x.address) (λ l x fits. (table-fits image l x fits).1) (λ x. refl) 0 h.tables image.tables f.0;
+      pages_rise = many-rises frames (λ x. pair_key x.root x.address + 1) (λ x. pair_key x.root x.address) (λ l x fits. (frame-fits image l x fits).1) (λ x. refl) 0 h.frames image.frames g.0;
+    }
