@@ -1,0 +1,11 @@
+-- The calls that are left leave what all of the section would.
+use Rattle.std.proofs.Common.{◌≡◌, ◌+◌, ◌*◌, ◌≤◌}
+use Rattle.loader.specs.Loading.{called, progress_of}
+use Rattle.loader.proofs.Rests.{signals_from}
+use Rattle.loader.proofs.loading.Loader.bind_interrupts.Given as goal
+
+abbrev pub invariant-loop-number : goal.invariant-loop-number
+invariant-loop-number l = record {
+  same : called (progress_of l.fn.self) (signals_from l.image 0) ≡ called (progress_of l.self) (signals_from l.image l.number);
+  room : l.self.calls ≤ l.fn.self.calls + 2 * l.number;
+}

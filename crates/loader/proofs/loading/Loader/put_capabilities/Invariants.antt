@@ -1,0 +1,11 @@
+-- The calls that are left leave what all of the section would.
+use Rattle.std.proofs.Common.{◌≡◌, ◌+◌, ◌*◌, ◌≤◌}
+use Rattle.loader.specs.Loading.{called, progress_of}
+use Rattle.loader.proofs.Rests.{capabilities_from}
+use Rattle.loader.proofs.loading.Loader.put_capabilities.Given as goal
+
+abbrev pub invariant-loop-number : goal.invariant-loop-number
+invariant-loop-number l = record {
+  same : called (progress_of l.fn.self) (capabilities_from l.image 0) ≡ called (progress_of l.self) (capabilities_from l.image l.number);
+  room : l.self.calls ≤ l.fn.self.calls + 1 * l.number;
+}

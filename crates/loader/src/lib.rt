@@ -1,0 +1,14 @@
+//! Loading an image: a new machine, and the kernel calls that make of it the system that the image describes.
+//! seL4 Reference Manual, "System Bootstrapping".
+#![tactic(auto)]
+
+mod boot;
+mod boot_slots;
+mod fills;
+mod loading;
+mod object_kinds;
+mod object_places;
+mod programs;
+mod untyped_places;
+
+pub use boot::boot_unverified;
