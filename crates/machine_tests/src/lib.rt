@@ -13,9 +13,13 @@ mod instructions;
 #[cfg(test)]
 mod lines;
 #[cfg(test)]
+mod measure_rows;
+#[cfg(test)]
 mod memory;
 #[cfg(test)]
 mod placing;
+#[cfg(test)]
+mod range_rows;
 #[cfg(test)]
 mod small_program;
 #[cfg(test)]

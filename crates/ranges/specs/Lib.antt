@@ -1,1 +1,4 @@
 pub mod Edges
+pub mod Inside
+pub mod Orders
+pub mod Standing

@@ -3,6 +3,7 @@
 ghost use Rattle.std.specs.Prelude.{◌≡◌, ◌↔◌, AllPairs, IsTrue, length, replicate};
 ghost use Rattle.model.specs.Machine.Instructions.{IsRegister};
 ghost use Rattle.model.specs.Acceptance.Ranges.{AreWithin, full, range_of, single, with_range};
+ghost use Rattle.ranges.specs.Orders.{AreOrdered, IsOrdered};
 
 use model::{Range, Register};
 use std::marker::Model;
@@ -14,7 +15,7 @@ pub struct Bounds {
 }
 
 impl Model for Bounds {
-    ghost use Rattle.std.specs.Prelude.{List};
+    ghost use Rattle.std.specs.Prelude.{◌≡◌, List, length};
     ghost use Rattle.model.specs.declared.ranges.Range.{Range};
 
     ghost Value = { List Range };
@@ -22,12 +23,15 @@ impl Model for Bounds {
     ghost view = { λ b. b.ranges };
 
     ghost inverse = { λ ranges. record { ranges = ranges } };
+
+    ghost invariant = { λ b. length b.ranges ≡ 31 };
 }
 
 impl Bounds {
     /// Every register has every value.
     pub fn full() -> Self
-        ensures { result ≡ replicate 31 full }
+        ensures ranges { result ≡ replicate 31 full }
+        ensures ordered { AreOrdered result }
     {
         Bounds {
             ranges: [Range::FULL; 31],
@@ -36,17 +40,28 @@ impl Bounds {
 
     /// Every register is 0.
     pub fn zero() -> Self
-        ensures { result ≡ replicate 31 (single 0) }
+        ensures ranges { result ≡ replicate 31 (single 0) }
+        ensures ordered { AreOrdered result }
     {
         Bounds {
             ranges: [Range { low: 0, high: 0 }; 31],
         }
     }
 
+    /// The ranges of all 31 registers.
+    pub(crate) fn all(&self) -> &Self
+        ensures same { result.now ≡ self.now }
+        ensures count { length self.now ≡ 31 }
+    {
+        let _ranges = self.ranges;
+        self
+    }
+
     /// The range of a register.
     pub fn get(&self, register: Register) -> Range
         requires { IsRegister register }
-        ensures { result ≡ range_of self.now register }
+        ensures range { result ≡ range_of self.now register }
+        ensures ordered { AreOrdered self.now → IsOrdered result }
     {
         if register.0 == 0 {
             Range::single(0)
@@ -58,7 +73,8 @@ impl Bounds {
     /// Sets the range of a register. Register 0 stays 0.
     pub fn set(&mut self, register: Register, range: Range)
         requires { IsRegister register }
-        ensures { self.new ≡ with_range self.old register range }
+        ensures ranges { self.new ≡ with_range self.old register range }
+        ensures ordered { AreOrdered self.old → IsOrdered range → AreOrdered self.new }
     {
         if register.0 != 0 {
             self.ranges[register.0 as usize - 1] = range;

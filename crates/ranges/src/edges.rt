@@ -1,15 +1,23 @@
 //! Where an instruction leads, and with which ranges.
 
-ghost use Rattle.std.specs.Prelude.{◌≡◌, true};
-ghost use Rattle.model.specs.Acceptance.Edges.{after};
+ghost use Rattle.std.specs.Prelude.{◌≡◌, false, IfSome, option_map};
+ghost use Rattle.model.specs.declared.instructions.Exec.TheVariants.{Next};
+ghost use Rattle.model.specs.Acceptance.Edges.{after, branch_edge};
+ghost use Rattle.model.specs.Acceptance.ThreadInvariants.{LieWithin};
+ghost use Rattle.model.specs.Machine.Effects.{effect};
+ghost use Rattle.model.specs.Machine.ProgramMemory.{Content, RegisterFile};
 ghost use Rattle.model.specs.Machine.Instructions.{IsInstr};
-ghost use Rattle.model.specs.Machine.Effects.{plus};
-ghost use Rattle.model.specs.Acceptance.RangeRules.{is_single, value_or};
-ghost use Rattle.model.specs.Acceptance.Ranges.{is_ranged, moved};
-ghost use Rattle.ranges.specs.Edges.{ways_of};
+ghost use Rattle.model.specs.Acceptance.RangeRules.{ranges_after};
+ghost use Rattle.model.specs.Acceptance.Ranges.{is_ranged};
+ghost use Rattle.ranges.specs.Edges.{way_of, ways_of};
+ghost use Rattle.ranges.specs.Orders.{AreOrdered, AreWaysOrdered};
+ghost use Rattle.ranges.specs.Standing.{AreWords, TakesWay, is_computed_jump};
 
 use crate::Bounds;
+use crate::branches::refine;
+use crate::results::{load_range, result_of_immediate, result_of_registers, result_of_shift};
 use model::{ImmediateOp, Instr, Range};
+use rv32_exec::upper_result;
 
 /// A way on from an instruction: the address that it leads to, and the ranges there.
 #[derive(Clone, Copy, Debug)]
@@ -23,11 +31,11 @@ pub struct Edge {
 pub struct Edges {
     /// To the next instruction.
     pub fall_through: Option<Edge>,
-    /// To the target of a jump.
+    /// To the target of a jump or a branch.
     pub taken: Option<Edge>,
 }
 
-/// Whether this release knows what the instruction makes of the ranges: ADDI and JAL.
+/// Whether it is ADDI or JAL, whose rules ask for no order of ranges.
 pub fn is_ranged(instr: &Instr) -> bool
     ensures { result ≡ is_ranged instr.now }
 {
@@ -40,62 +48,114 @@ pub fn is_ranged(instr: &Instr) -> bool
     )
 }
 
-/// What the instruction at `pc` makes of the ranges, on each way on.
-#[tactic(auto, unfolding(model::specs::Acceptance::Edges::after, model::specs::Acceptance::RangeRules::ranges_after))]
+/// What the instruction at `pc` makes of the ranges, on each way on. A computed jump leads nowhere that is known, and
+/// a system call has rules of its own.
 pub fn after(pc: u32, instr: Instr, bounds: &Bounds) -> Edges
     requires instr { IsInstr instr }
-    requires ranged { is_ranged instr ≡ true }
-    ensures { result ≡ ways_of (after pc instr bounds.now) }
+    requires ordered { is_ranged instr ≡ false → AreOrdered bounds.now }
+    ensures ways { result ≡ ways_of (after pc instr bounds.now) }
+    // An instruction that goes on, and is no computed jump, takes one of the ways, and each register that lay in its range
+    // lies in the range that it has there.
+    ensures taken { (r : RegisterFile) (content : Content) → r.pc ≡ pc → AreWords r content → is_computed_jump instr ≡ false
+        → LieWithin r bounds.now → (effect r content instr).exec ≡ Next → TakesWay (effect r content instr).registers result }
+    ensures ordered { AreOrdered bounds.now → AreWaysOrdered result }
+{
+    ways_on(pc, instr, bounds.all())
+}
+
+/// The ways on, by the kind of the instruction.
+#[tactic(auto, unfolding(model::specs::Acceptance::Edges::after))]
+fn ways_on(pc: u32, instr: Instr, bounds: &Bounds) -> Edges
+    requires instr { IsInstr instr }
+    requires ordered { is_ranged instr ≡ false → AreOrdered bounds.now }
+    ensures ways { result ≡ ways_of (after pc instr bounds.now) }
+    ensures ordered { AreOrdered bounds.now → AreWaysOrdered result }
 {
     let next = pc.wrapping_add(4);
     match instr {
-        Instr::Immediate {
-            op: ImmediateOp::Addi,
-            rd,
+        Instr::Jal { offset, .. } => Edges {
+            fall_through: None,
+            taken: Some(Edge {
+                target: pc.wrapping_add(offset.cast_unsigned()),
+                bounds: ranges_after(pc, instr, bounds),
+            }),
+        },
+        Instr::Branch {
+            op,
             rs1,
-            immediate,
-        } => {
-            let mut bounds = *bounds;
-            let range = addi_range(bounds.get(rs1), immediate);
-            bounds.set(rd, range);
-            Edges {
-                fall_through: Some(Edge {
-                    target: next,
-                    bounds,
-                }),
-                taken: None,
-            }
-        }
-        Instr::Jal { rd, offset } => {
-            let mut bounds = *bounds;
-            bounds.set(rd, Range::single(next));
-            Edges {
-                fall_through: None,
-                taken: Some(Edge {
-                    target: pc.wrapping_add(offset.cast_unsigned()),
-                    bounds,
-                }),
-            }
-        }
-        _ => unreachable!(),
+            rs2,
+            offset,
+        } => Edges {
+            fall_through: branch_edge(next, refine(op, false, rs1, rs2, bounds)),
+            taken: branch_edge(
+                pc.wrapping_add(offset.cast_unsigned()),
+                refine(op, true, rs1, rs2, bounds),
+            ),
+        },
+        Instr::Jalr { .. } | Instr::Ecall | Instr::Ebreak => Edges {
+            fall_through: None,
+            taken: None,
+        },
+        Instr::Upper { .. }
+        | Instr::Load { .. }
+        | Instr::Store { .. }
+        | Instr::Immediate { .. }
+        | Instr::Shift { .. }
+        | Instr::Registers { .. }
+        | Instr::Fence => Edges {
+            fall_through: Some(Edge {
+                target: next,
+                bounds: ranges_after(pc, instr, bounds),
+            }),
+            taken: None,
+        },
     }
 }
 
-/// The range of a sum of a register and an immediate.
-fn addi_range(range: Range, immediate: i32) -> Range
-    ensures { result ≡ value_or (is_single range) (plus range.low immediate) (moved range immediate) }
+/// The way of a branch to this address, where it can go there.
+fn branch_edge(target: u32, bounds: Option<Bounds>) -> Option<Edge>
+    ensures way { result ≡ option_map way_of (branch_edge target bounds) }
+    ensures ordered { IfSome bounds AreOrdered → IfSome result (λ way. AreOrdered way.bounds) }
 {
-    if range.low == range.high {
-        return Range::single(range.low.wrapping_add(immediate.cast_unsigned()));
-    }
-    let by = immediate.unsigned_abs();
-    let ends = if immediate >= 0 {
-        (range.low.checked_add(by), range.high.checked_add(by))
-    } else {
-        (range.low.checked_sub(by), range.high.checked_sub(by))
+    let bounds = bounds?;
+    Some(Edge { target, bounds })
+}
+
+/// The ranges behind the instruction at `pc`, which is no branch: the register that it writes gets the range of its
+/// result.
+#[tactic(auto, unfolding(model::specs::Acceptance::RangeRules::ranges_after))]
+fn ranges_after(pc: u32, instr: Instr, bounds: &Bounds) -> Bounds
+    requires instr { IsInstr instr }
+    requires ordered { is_ranged instr ≡ false → AreOrdered bounds.now }
+    ensures ranges { result ≡ ranges_after pc instr bounds.now }
+    ensures ordered { AreOrdered bounds.now → AreOrdered result }
+{
+    let (rd, range) = match instr {
+        Instr::Upper { op, rd, immediate } => (rd, Range::single(upper_result(op, pc, immediate))),
+        Instr::Jal { rd, .. } | Instr::Jalr { rd, .. } => (rd, Range::single(pc.wrapping_add(4))),
+        Instr::Load { op, rd, .. } => (rd, load_range(op)),
+        Instr::Immediate {
+            op,
+            rd,
+            rs1,
+            immediate,
+        } => (rd, result_of_immediate(op, bounds.get(rs1), immediate)),
+        Instr::Shift {
+            op,
+            rd,
+            rs1,
+            amount,
+        } => (rd, result_of_shift(op, bounds.get(rs1), u32::from(amount))),
+        Instr::Registers { op, rd, rs1, rs2 } => (
+            rd,
+            result_of_registers(op, bounds.get(rs1), bounds.get(rs2)),
+        ),
+        Instr::Branch { .. } | Instr::Store { .. } | Instr::Fence | Instr::Ecall | Instr::Ebreak =>
+            {
+                return *bounds;
+            }
     };
-    match ends {
-        (Some(low), Some(high)) => Range { low, high },
-        _ => Range::FULL,
-    }
+    let mut bounds = *bounds;
+    bounds.set(rd, range);
+    bounds
 }

@@ -2,8 +2,11 @@
 #![tactic(auto)]
 
 mod bounds;
+mod branches;
 mod edges;
+mod results;
 
 pub use bounds::Bounds;
+pub use branches::refine;
 pub use edges::{Edge, Edges, after, is_ranged};
 pub use model::Range;

@@ -1,0 +1,3 @@
+pub mod LinearSums
+pub mod Small
+pub mod SumSteps

@@ -1,0 +1,4 @@
+pub mod Measures
+pub mod Steps
+pub mod Sums
+pub mod Values

@@ -1,0 +1,129 @@
+//! Extremes of linear forms over ranges, each variable by itself.
+
+ghost use Rattle.std.specs.Prelude.{◌≡◌, ◌<◌, ◌^◌, ◌*ℤ◌, pos};
+ghost use Rattle.model.specs.Acceptance.Measures.{falls, greatest_on, greatest_term, least, least_term, least_value, range_at, register_numbered, stays_below};
+ghost use Rattle.model.specs.Acceptance.Ranges.{range_of};
+ghost use Rattle.measure.specs.Measures.{measure_of};
+ghost use Rattle.measure.specs.Sums.{IsSmall};
+
+use crate::forms::{Behind, Change, Linear};
+use crate::{Measure, Step, Unchanged};
+use model::Register;
+use ranges::{Bounds, Range};
+
+/// The least value of a measure over the ranges of the registers.
+pub fn least(measure: &Measure, bounds: &Bounds) -> i128
+    ensures { result ≡ least_value (measure_of measure.now) bounds.now }
+{
+    least_of(
+        &Behind {
+            measure,
+            step: &Unchanged,
+        },
+        bounds,
+    )
+}
+
+/// Whether the measure behind an edge is always less than the one before it.
+#[tactic(auto, unfolding(model::specs::Acceptance::Measures::falls))]
+pub fn falls<S: Step>(
+    from: &Measure,
+    to: &Measure,
+    step: &S,
+    before: &Bounds,
+    behind: &Bounds,
+) -> bool
+    ensures { result ≡ falls (measure_of from.now) (measure_of to.now) (S.value_of step.now) before.now behind.now }
+{
+    let change = Change {
+        before: from,
+        behind: Behind { measure: to, step },
+    };
+    greatest(&change, before, behind) < 0
+}
+
+/// Whether the measure behind an edge is never above a budget.
+#[tactic(auto, unfolding(model::specs::Acceptance::Measures::stays_below))]
+pub fn stays_below<S: Step>(
+    budget: u64,
+    to: &Measure,
+    step: &S,
+    before: &Bounds,
+    behind: &Bounds,
+) -> bool
+    ensures { result ≡ stays_below budget (measure_of to.now) (S.value_of step.now) before.now behind.now }
+{
+    greatest(&Behind { measure: to, step }, before, behind) <= i128::from(budget)
+}
+
+/// The greatest value of a form over an edge.
+#[tactic(auto, using(crate::proofs::LinearSums::sum_more), unfolding(model::specs::Acceptance::Measures::greatest))]
+fn greatest<L: Linear>(form: &L, before: &Bounds, behind: &Bounds) -> i128
+    ensures { result ≡ greatest_on before.now behind.now (L.form form.now) }
+{
+    let mut sum = 0;
+    for variable in 0..64 {
+        sum += greatest_term(
+            form.coefficient(variable),
+            range_at(before, behind, variable),
+        );
+    }
+    form.constant() + sum
+}
+
+/// The least value of a form of registers alone.
+#[tactic(auto, using(crate::proofs::LinearSums::sum_more), unfolding(model::specs::Acceptance::Measures::least))]
+fn least_of<L: Linear>(form: &L, bounds: &Bounds) -> i128
+    ensures { result ≡ least 32 (L.form form.now) (λ number. range_of bounds.now (register_numbered number)) }
+{
+    let mut sum = 0;
+    for number in 0..32u8 {
+        let range = bounds.get(Register(number));
+        sum += least_term(form.coefficient(u32::from(number)), range);
+    }
+    form.constant() + sum
+}
+
+/// The greatest value of a term.
+fn greatest_term(coefficient: i64, range: Range) -> i128
+    ensures value { result ≡ greatest_term coefficient range }
+    ensures small { IsSmall (2 ^ 96) result }
+{
+    if coefficient < 0 {
+        product(coefficient, range.low)
+    } else {
+        product(coefficient, range.high)
+    }
+}
+
+/// The least value of a term.
+fn least_term(coefficient: i64, range: Range) -> i128
+    ensures value { result ≡ least_term coefficient range }
+    ensures small { IsSmall (2 ^ 96) result }
+{
+    if coefficient < 0 {
+        product(coefficient, range.high)
+    } else {
+        product(coefficient, range.low)
+    }
+}
+
+/// A coefficient times a word.
+fn product(coefficient: i64, word: u32) -> i128
+    ensures value { result ≡ coefficient *ℤ pos word }
+    ensures small { IsSmall (2 ^ 96) result }
+{
+    i128::from(coefficient) * i128::from(word)
+}
+
+/// The range of a variable on an edge, by the ranges before and behind it.
+fn range_at(before: &Bounds, behind: &Bounds, variable: u32) -> Range
+    requires { variable < 64 }
+    ensures { result ≡ range_at before.now behind.now variable }
+{
+    if variable < 32 {
+        before.get(Register(variable as u8))
+    } else {
+        behind.get(Register((variable - 32) as u8))
+    }
+}

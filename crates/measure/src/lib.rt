@@ -1,0 +1,15 @@
+//! Measures of certificates: how much a thread may still run, as a linear form of its registers, and
+//! whether it falls on an edge.
+#![tactic(auto)]
+
+mod extremes;
+mod forms;
+mod measures;
+mod steps;
+mod values;
+
+pub use extremes::{falls, least, stays_below};
+pub use measures::Measure;
+pub use model::TermEntry;
+pub use steps::{AfterCall, AfterInstruction, Step, Unchanged};
+pub use values::Value;
