@@ -2,6 +2,7 @@
 //! seL4 Reference Manual, "Capability Derivation Tree" and "Capability Rights".
 
 ghost use Rattle.std.specs.Prelude.{⊤, ◌≡◌, [], ◌∷◌, bit_and, codes};
+ghost use Rattle.model.specs.Capabilities.Rights.{may_grant_reply, may_read, may_write};
 
 use bitflags::{Flag, Flags, bitflag_items};
 
@@ -63,5 +64,26 @@ impl Rights {
         ensures { result.0 ≡ bit_and self.0 word }
     {
         Rights((u32::from(self.0) & word) as u8)
+    }
+
+    /// Whether messages may be sent, signals given, and frames written.
+    pub fn may_write(self) -> bool
+        ensures { result ≡ may_write self }
+    {
+        self.0 & 1 != 0
+    }
+
+    /// Whether messages and signals may be received, and frames read.
+    pub fn may_read(self) -> bool
+        ensures { result ≡ may_read self }
+    {
+        self.0 & 2 != 0
+    }
+
+    /// Whether a call may get a reply.
+    pub fn may_grant_reply(self) -> bool
+        ensures { result ≡ may_grant_reply self }
+    {
+        self.0 & 8 != 0
     }
 }

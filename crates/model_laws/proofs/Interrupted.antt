@@ -2,7 +2,7 @@
 use Rattle.std.proofs.Common.{ℕ, ◌≡◌, ◌≢◌, ◌==◌, ◌+◌, ◌≤◌, ◌++◌, ◌&&◌, Bool, true, false, not, nat_lt, if◌then◌else◌, Option, Some, None, option_map, List, [], ◌∷◌, refl, sym, ◌∙◌, ap, subst, inl, inr, arith}
 use Rattle.std.specs.Prelude.{bit_or}
 use Rattle.std.specs.Option.{option_map_or}
-use Rattle.std.proofs.lemmas.Bool.{eq-eqb, ne_eqb}
+use Rattle.std.proofs.lemmas.Bool.{eq-eqb, eqb-true, ne_eqb}
 use Rattle.std.proofs.lemmas.Bool.Decides.{eqb_tells}
 use Rattle.model.specs.declared.capabilities.Cap.{Cap}
 use Rattle.model.specs.declared.capabilities.Cap.TheVariants.{Empty, Untyped, Endpoint, Notification, CNode, Frame, PageTable, Tcb, RootTable, InterruptControl, InterruptHandler}
@@ -39,7 +39,7 @@ bound-is (RootTable offset) n badge is = let e : None ≡ Some (signalling n bad
 bound-is InterruptControl n badge is = let e : None ≡ Some (signalling n badge) = is in absurd cc
 bound-is (InterruptHandler irq_line) n badge is = let e : None ≡ Some (signalling n badge) = is in absurd cc
 
-notification-object : (o : Option Object) → option_map kind_of o ≡ Some NewNotification → (x : NotificationState) × (o ≡ Some (NotificationObject x))
+pub notification-object : (o : Option Object) → option_map kind_of o ≡ Some NewNotification → (x : NotificationState) × (o ≡ Some (NotificationObject x))
 notification-object None is = let e : None ≡ Some NewNotification = is in absurd cc
 notification-object (Some (ThreadObject x)) is = let e : NewThread ≡ NewNotification = cc in absurd cc
 notification-object (Some (EndpointObject x)) is = let e : NewEndpoint ≡ NewNotification = cc in absurd cc
@@ -51,34 +51,35 @@ notification-object (Some RootTableObject) is = let e : NewRootTable ≡ NewNoti
 
 -- ---- who waits
 
-record Waits (s : State) (thread queue : ℕ) : Type 0 where
-  own : ThreadState
-  is : s.objects thread ≡ Some (ThreadObject own)
-  rests : is_runnable own.status ≡ false
+pub record Waits (s : State) (thread queue : ℕ) : Type 0 where
+  pub own : ThreadState
+  pub is : s.objects thread ≡ Some (ThreadObject own)
+  pub blocked : own.status ≡ Blocked queue
+  pub rests : is_runnable own.status ≡ false
 
-rests-when_blocked : (queue : ℕ) (status : Status) → is_blocked_on queue status ≡ true → is_runnable status ≡ false
-rests-when_blocked queue Inactive is = refl
-rests-when_blocked queue Runnable is = let e : false ≡ true = is in absurd cc
-rests-when_blocked queue (Blocked other) is = refl
-rests-when_blocked queue AwaitsReply is = refl
-rests-when_blocked queue AwaitsHandler is = refl
+blocked-is : (queue : ℕ) (status : Status) → is_blocked_on queue status ≡ true → status ≡ Blocked queue
+blocked-is queue Inactive is = let e : false ≡ true = is in absurd cc
+blocked-is queue Runnable is = let e : false ≡ true = is in absurd cc
+blocked-is queue (Blocked other) is = ap Blocked (eqb-true other queue is)
+blocked-is queue AwaitsReply is = let e : false ≡ true = is in absurd cc
+blocked-is queue AwaitsHandler is = let e : false ≡ true = is in absurd cc
 
-waits-own : (s : State) (thread queue : ℕ) (o : Option ThreadState) → as_thread (s.objects thread) ≡ o
+pub waits-own : (s : State) (thread queue : ℕ) (o : Option ThreadState) → as_thread (s.objects thread) ≡ o
     → 1 ≤ (if option_map_or (λ t. is_blocked_on queue t.status) o false then 1 else 0) → Waits s thread queue
 waits-own s thread queue None is some = absurd (omega (arith, some))
 waits-own s thread queue (Some t) is some =
     elim (is_blocked_on queue t.status) as (λ b. is_blocked_on queue t.status ≡ b → 1 ≤ (if b then 1 else 0) → Waits s thread queue) [
-      | true ↦ λ blocked more. record { own = t; is = thread-object (s.objects thread) t is; rests = rests-when_blocked queue t.status blocked }
+      | true ↦ λ blocked more. let waits = blocked-is queue t.status blocked in record { own = t; is = thread-object (s.objects thread) t is; blocked = waits; rests = ap is_runnable waits }
       | false ↦ λ free more. absurd (omega (arith, more))
     ] refl some
 
-one-more : (thread : ℕ) (rest : List ℕ) → 1 ≤ times_in (thread ∷ rest) thread
+pub one-more : (thread : ℕ) (rest : List ℕ) → 1 ≤ times_in (thread ∷ rest) thread
 one-more thread rest =
     let more : times_in (thread ∷ rest) thread ≡ times_in rest thread + 1 = ap (λ (b : Bool). if b then times_in rest thread + 1 else times_in rest thread) (eq-eqb thread thread refl) in
     omega (arith, more)
 
 -- a list that does not hold a thread
-without-absent : (thread : ℕ) (threads : List ℕ) → times_in threads thread ≡ 0 → without thread threads ≡ threads
+pub without-absent : (thread : ℕ) (threads : List ℕ) → times_in threads thread ≡ 0 → without thread threads ≡ threads
 without-absent thread [] none = refl
 without-absent thread (t ∷ threads) none = elim (eqb_tells t thread) [
   | inl here ↦
@@ -90,7 +91,7 @@ without-absent thread (t ∷ threads) none = elim (eqb_tells t thread) [
       ∙ ap (λ (l : List ℕ). t ∷ l) (without-absent thread threads (sym same ∙ none))
 ]
 
-rests-nowhere : (s : State) (thread : ℕ) (own : ThreadState) → s.objects thread ≡ Some (ThreadObject own) → is_runnable own.status ≡ false
+pub rests-nowhere : (s : State) (thread : ℕ) (own : ThreadState) → s.objects thread ≡ Some (ThreadObject own) → is_runnable own.status ≡ false
     → (priority : ℕ) → runs_at s thread priority ≡ false
 rests-nowhere s thread own is rests priority =
     ap (λ (o : Option Object). option_map_or (λ t. is_runnable t.status && t.priority == priority) (as_thread o) false) is

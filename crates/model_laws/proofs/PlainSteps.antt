@@ -11,7 +11,7 @@ use Rattle.model.specs.Machine.ProgramMemory.{RegisterFile}
 use Rattle.model.specs.Shared.Lists.{without}
 use Rattle.model_laws.specs.Scenarios.{WritesOwnBytes}
 
-append-none : (l : List ℕ) → l ≡ l ++ []
+pub append-none : (l : List ℕ) → l ≡ l ++ []
 append-none [] = refl
 append-none (x ∷ l) = ap (λ (rest : List ℕ). x ∷ rest) (append-none l)
 

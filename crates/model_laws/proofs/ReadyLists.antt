@@ -54,7 +54,7 @@ filtered-none_twice ready keeps before = record {
 }
 
 -- one more at the end of a list
-times-end : (threads : List ℕ) (last other : ℕ) → times_in (threads ++ last ∷ []) other ≡ times_in threads other + (if last == other then 1 else 0)
+pub times-end : (threads : List ℕ) (last other : ℕ) → times_in (threads ++ last ∷ []) other ≡ times_in threads other + (if last == other then 1 else 0)
 times-end [] last other = elim (eqb_tells last other) [
   | inl here ↦ ap (λ b. if b then 1 else 0) here.0 ∙ sym (ap (λ b. 0 + (if b then 1 else 0)) here.0)
   | inr apart ↦ ap (λ b. if b then 1 else 0) apart.0 ∙ sym (ap (λ b. 0 + (if b then 1 else 0)) apart.0)

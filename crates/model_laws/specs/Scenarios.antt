@@ -1,13 +1,20 @@
 -- What the laws on authority start from.
-use Rattle.std.specs.Prelude.{ℕ, ◌≡◌, ◌≢◌, ◌⊎◌, IsSome, Option, Some}
+use Rattle.std.specs.Prelude.{ℕ, ◌≡◌, ◌≢◌, ◌+◌, ◌^◌, ◌≤◌, ◌⊎◌, IsSome, Result, Ok, Option, Some, None}
 use Rattle.model.specs.declared.capabilities.Cap.{Cap}
-use Rattle.model.specs.declared.capabilities.Cap.TheVariants.{Empty}
+use Rattle.model.specs.declared.capabilities.Cap.TheVariants.{Empty, Untyped}
+use Rattle.model.specs.declared.errors.KError.{KError}
 use Rattle.model.specs.Acceptance.Authority.{IsOwnSlot, self_of}
-use Rattle.model.specs.Capabilities.Slots.{capability_at}
+use Rattle.model.specs.Capabilities.Slots.{capability_at, recapped}
 use Rattle.model.specs.declared.instructions.Access.TheVariants.{Store}
 use Rattle.model.specs.Kernel.AddressSpaces.{content_of}
 use Rattle.model.specs.Images.Image.{Image, Thread}
-use Rattle.model.specs.Kernel.State.{State}
+use Rattle.model.specs.Kernel.Arguments.{Call}
+use Rattle.model.specs.Kernel.Invocations.{invoke}
+use Rattle.model.specs.Kernel.Messages.{a1, a7, extra_capabilities_of, message_of}
+use Rattle.model.specs.Kernel.Retype.{NewObjects, NewEndpoint, with_new}
+use Rattle.model.specs.Kernel.State.{State, Runnable, AwaitsReply, ThreadObject, ThreadState, thread_at, with_slots}
+use Rattle.model.specs.Kernel.Steps.{cspace_of, named_slot, registers_of}
+use Rattle.model.specs.Machine.ProgramMemory.{read}
 
 -- the thread holds this capability, and nothing else
 pub record HoldsOnly (image : Image) (t : Thread) (s : State) (held : Cap) : Type 0 where
@@ -17,3 +24,48 @@ pub record HoldsOnly (image : Image) (t : Thread) (s : State) (held : Cap) : Typ
 pub record WritesOwnBytes (image : Image) (t : Thread) (s : State) (bytes : ℕ → Option ℕ) : Type 0 where
   pub written : (place : ℕ) → s.bytes place ≢ bytes place
       → IsSome (s.bytes place) × IsSome (bytes place) × ((address : ℕ) × ((content_of s (self_of image t)).place Store address ≡ Some place))
+
+-- the thread runs, and stands at the system call of this number, by a capability in a slot of its own
+pub record CallsOn (image : Image) (t : Thread) (s : State) (number : ℕ) (capability : Cap) : Type 0 where
+  pub own : ThreadState
+  pub is : s.objects (self_of image t) ≡ Some (ThreadObject own)
+  pub runs : own.status ≡ Runnable
+  pub calls : read own.registers a7 ≡ number
+  pub slot : ℕ
+  pub named : named_slot s (self_of image t) ≡ Ok slot
+  pub among : IsOwnSlot image t slot
+  pub holds : capability_at s.slots slot ≡ capability
+
+-- the thread runs, stands at Reply, and has the right to reply to another, which waits for that
+pub record RepliesTo (image : Image) (t : Thread) (s : State) (caller : ℕ) : Type 0 where
+  pub own : ThreadState
+  pub is : s.objects (self_of image t) ≡ Some (ThreadObject own)
+  pub runs : own.status ≡ Runnable
+  pub calls : read own.registers a7 ≡ 6
+  pub right : own.caller ≡ Some caller
+  pub waiter : ThreadState
+  pub there : s.objects caller ≡ Some (ThreadObject waiter)
+  pub waits : waiter.status ≡ AwaitsReply
+
+-- One endpoint made at `first` by Retype of the untyped memory in `slot`, which is used up to a new watermark; its first capability
+-- stands in `window`.
+abbrev pub with_endpoint_made : State → ℕ → ℕ → ℕ → ℕ → ℕ → ℕ → State
+with_endpoint_made s slot offset bits used first window =
+    let new : NewObjects = record { kind = NewEndpoint; first = first; count = 1 } in
+    with_new (with_slots s (recapped s.slots slot (Untyped offset bits used))) new window slot
+
+-- what a thread's message makes of the capability in a slot
+abbrev pub invoked : State → ℕ → ℕ → Result State KError
+invoked s thread slot =
+    let message = message_of (thread_at s thread) in
+    let call : Call = record { root = cspace_of s thread; caller = Some thread; slot = slot; capability = capability_at s.slots slot } in
+    invoke s call message.label (extra_capabilities_of (read (registers_of s thread) a1)) message.words
+
+-- that is what the thread's call does, in untyped memory where nothing stands, for an empty slot of its own
+pub record MakesEndpoint (image : Image) (t : Thread) (s : State) (slot offset bits used first window : ℕ) : Type 0 where
+  pub begins : offset ≤ first
+  pub ends : first + 2 ^ 4 ≤ offset + 2 ^ bits
+  pub unused : s.objects first ≡ None
+  pub own : IsOwnSlot image t window
+  pub empty : capability_at s.slots window ≡ Empty
+  pub made : invoked s (self_of image t) slot ≡ Ok (with_endpoint_made s slot offset bits used first window)

@@ -2,9 +2,10 @@
 use Rattle.std.specs.Prelude.{ℕ, ◌==◌, nat_lt, if◌then◌else◌, Some, None, Result, List}
 use Rattle.std.specs.Option.{option_map_or}
 use Rattle.model.specs.declared.capabilities.Cap.{Cap}
-use Rattle.model.specs.declared.capabilities.Cap.TheVariants.{CNode, Endpoint, Tcb}
+use Rattle.model.specs.declared.capabilities.Cap.TheVariants.{CNode, Endpoint, Frame, Tcb}
 use Rattle.model.specs.declared.errors.KError.{KError}
 use Rattle.model.specs.Capabilities.Rights.{rights}
+use Rattle.model.specs.Capabilities.Slots.{inserted}
 use Rattle.model.specs.Kernel.Arguments.{Call}
 use Rattle.model.specs.Kernel.Invocations.{configure_with_guard}
 use Rattle.model.specs.Kernel.Setup.{boot_area, fill, put_untyped}
@@ -17,6 +18,13 @@ fresh = boot_area 16 4
 -- half of memory is untyped memory in slot 0
 abbrev pub with_memory : State
 with_memory = option_map_or (λ s. s) (put_untyped fresh 0 0x8000 15) fresh
+
+-- a frame at 0x8000 is left of untyped memory that was deleted
+abbrev pub frame_left : State
+frame_left = record fresh {
+  slots = inserted fresh.slots 1 (Frame 0x8000 (rights 3) None) None;
+  objects = λ offset. if offset == 0x8000 then Some FrameObject else None;
+}
 
 -- a frame stands at 0x1000, all zero
 abbrev pub framed : State

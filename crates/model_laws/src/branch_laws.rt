@@ -9,7 +9,7 @@ ghost use Rattle.model.specs.Machine.Effects.{is_taken};
 ghost use Rattle.model.specs.Machine.Instructions.{IsRegister};
 ghost use Rattle.model.specs.Machine.ProgramMemory.{RegisterFile, read};
 ghost use Rattle.model.specs.Acceptance.ThreadInvariants.{LieWithin};
-ghost use Rattle.model_laws.specs.Inside.{LiesIn};
+ghost use Rattle.ranges.specs.Inside.{LiesIn};
 
 /// Each side of a branch that goes this way stays in what the branch narrows its range to.
 pub fn narrowed_sides_keep_their_values()

@@ -1,8 +1,7 @@
-//! Laws of the one form of images that this release reads.
+//! Laws of the one form of images whose programs this release knows.
 
-ghost use Rattle.std.specs.Prelude.{◌≡◌, ◌≤◌, ◌<◌, ◌⊎◌, ℕ, All, IfErr, List, Ok, Some, true};
+ghost use Rattle.std.specs.Prelude.{◌≡◌, ◌≤◌, ◌<◌, ℕ, All, List, Ok, Some, true};
 ghost use Rattle.model.specs.Acceptance.Accepted.{AreKept, IsAccepted, IsWellFormed, first_breach, first_in, phases};
-ghost use Rattle.model.specs.Shared.Bytes.{AreBytes};
 ghost use Rattle.model.specs.Images.Format.{IsSpelling, reading};
 ghost use Rattle.model.specs.Images.Image.{Image, Thread, whole_image};
 ghost use Rattle.model.specs.Acceptance.PointRules.{program_rules};
@@ -15,18 +14,7 @@ ghost use Rattle.model.specs.declared.ranges.Range.{Range};
 ghost use Rattle.model.specs.declared.refusals.Refusal.TheVariants.{BadThread};
 ghost use Rattle.model.specs.Images.Described.{Numbered};
 ghost use Rattle.programs.specs.Certificates.{HasConstant, IsBare, IsOfForm, sole, waited, with_image_slots};
-ghost use Rattle.image.specs.Stage.{is_staged, later, staged_image, staged_reading};
-
-/// What this release reads of bytes is the image that they spell.
-pub fn what_the_form_reads_is_the_image()
-    ensures image { (bytes : List ℕ) (image : Image) → staged_reading bytes ≡ Ok image → reading whole_image bytes ≡ Ok image }
-    ensures spelled { (bytes : List ℕ) (image : Image) → AreBytes bytes → staged_reading bytes ≡ Ok image → IsSpelling whole_image bytes image }
-{}
-
-/// What this release refuses to read is a later stage, or it is refused as the first breach.
-pub fn a_refusal_of_the_form_is_the_first_breach()
-    ensures { (bytes : List ℕ) → IfErr (staged_reading bytes) (λ refusal. (refusal ≡ later) ⊎ (first_breach bytes ≡ Some refusal)) }
-{}
+ghost use Rattle.programs.specs.Stage.{is_staged, staged_image};
 
 /// The images of the form are well formed, but for a thread whose entry is no point of its program.
 pub fn images_of_the_form_are_well_formed()
@@ -36,13 +24,13 @@ pub fn images_of_the_form_are_well_formed()
 
 /// Of bytes that are read, the first breach is the entry, if it is no point, and else one of the program.
 pub fn the_entry_of_the_form_counts_first()
-    ensures entry { (bytes : List ℕ) (t : Thread) → staged_reading bytes ≡ Ok (staged_image t) → t.header.words ≤ t.header.entry → first_breach bytes ≡ Some (BadThread 0) }
-    ensures program { (bytes : List ℕ) (t : Thread) → staged_reading bytes ≡ Ok (staged_image t) → t.header.entry < t.header.words → first_breach bytes ≡ first_broken (program_rules (staged_image t)) }
+    ensures entry { (bytes : List ℕ) (t : Thread) → is_staged t ≡ true → reading whole_image bytes ≡ Ok (staged_image t) → t.header.words ≤ t.header.entry → first_breach bytes ≡ Some (BadThread 0) }
+    ensures program { (bytes : List ℕ) (t : Thread) → is_staged t ≡ true → reading whole_image bytes ≡ Ok (staged_image t) → t.header.entry < t.header.words → first_breach bytes ≡ first_broken (program_rules (staged_image t)) }
 {}
 
-/// The records of what is read note no slots, and no terms of a measure.
+/// The records of the form note no slots, and no terms of a measure.
 pub fn records_of_the_form_are_bare()
-    ensures { (bytes : List ℕ) (t : Thread) → AreBytes bytes → staged_reading bytes ≡ Ok (staged_image t) → All IsBare t.records }
+    ensures { (t : Thread) → is_staged t ≡ true → whole_image.fits (staged_image t) ≡ true → All IsBare t.records }
 {}
 
 /// Where records are bare, each state that is noted has a constant for its measure.
@@ -50,9 +38,9 @@ pub fn bare_records_note_constants()
     ensures { (image : Image) (t : Numbered) → All IsBare t.thread.records → (point : ℕ) → HasConstant (noted image t point) }
 {}
 
-/// What is read of the form is accepted where its entry is a point of its program and the program keeps the rules.
+/// What is spelled of the form is accepted where its entry is a point of its program and the program keeps the rules.
 pub fn images_of_the_form_are_accepted_by_their_programs()
-    ensures { (bytes : List ℕ) (t : Thread) → AreBytes bytes → staged_reading bytes ≡ Ok (staged_image t) → t.header.entry < t.header.words → AreKept (program_rules (staged_image t)) → IsAccepted bytes (staged_image t) }
+    ensures { (bytes : List ℕ) (t : Thread) → is_staged t ≡ true → IsSpelling whole_image bytes (staged_image t) → t.header.entry < t.header.words → AreKept (program_rules (staged_image t)) → IsAccepted bytes (staged_image t) }
 {}
 
 /// The wait on the notification is a system call that threads of the form may make: behind it a0 is any

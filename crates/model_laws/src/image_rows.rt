@@ -2,7 +2,7 @@
 
 ghost use Rattle.std.specs.Prelude.{◌≡◌, ◌++◌, [], ◌∷◌, None, Some, slice_set, take};
 ghost use Rattle.model.specs.Acceptance.Accepted.{first_breach};
-ghost use Rattle.model.specs.declared.refusals.Refusal.TheVariants.{BadMapping, OverBudget, RangeNotKept, Trailing, Truncated, UntypedOverlap};
+ghost use Rattle.model.specs.declared.refusals.Refusal.TheVariants.{BadMapping, BadThread, OverBudget, RangeNotKept, Trailing, Truncated, UntypedOverlap};
 ghost use Rattle.model_laws.specs.Solo.{at_point, solo};
 
 /// The image has no breach.
@@ -33,6 +33,14 @@ pub fn solo_reads_what_it_writes()
 #[tactic(auto, unfolding(crate::proofs::Opened::opened))]
 pub fn solo_stands_behind_the_boot_area()
     ensures { first_breach (slice_set solo 49 0) ≡ Some (UntypedOverlap 0) }
+{}
+
+/// An entry past the program is refused before any state is looked for there: the last number that a word can
+/// have, as the first one behind the program.
+#[tactic(auto, unfolding(crate::proofs::Opened::opened))]
+pub fn solo_is_entered_at_a_point()
+    ensures behind { first_breach (slice_set solo 268 7) ≡ Some (BadThread 0) }
+    ensures last { first_breach (slice_set (slice_set (slice_set (slice_set solo 268 255) 269 255) 270 255) 271 255) ≡ Some (BadThread 0) }
 {}
 
 /// Files that end too early, or too late.

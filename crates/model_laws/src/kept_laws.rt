@@ -1,13 +1,12 @@
 //! Laws of the threads of the form whose programs keep the rules.
 
-ghost use Rattle.std.specs.Prelude.{◌≡◌, ◌<◌, ◌^◌, ℕ, List, Ok, Some, true};
+ghost use Rattle.std.specs.Prelude.{◌≡◌, ◌<◌, ◌^◌, ℕ, List, Some, true};
 ghost use Rattle.model.specs.declared.instructions.Instr.{Instr};
 ghost use Rattle.model.specs.declared.instructions.Instr.TheVariants.{Ecall};
 ghost use Rattle.model.specs.Acceptance.Accepted.{AreKept};
-ghost use Rattle.model.specs.Shared.Bytes.{AreBytes};
 ghost use Rattle.model.specs.Images.Described.{listed_thread};
 ghost use Rattle.model.specs.Images.Format.{IsSpelling};
-ghost use Rattle.model.specs.Images.Image.{Thread, image_format};
+ghost use Rattle.model.specs.Images.Image.{Thread, whole_image};
 ghost use Rattle.model.specs.Machine.ProgramMemory.{Content, RegisterFile, read, write};
 ghost use Rattle.model.specs.Machine.Effects.{advanced};
 ghost use Rattle.model.specs.Kernel.Messages.{a0, a7};
@@ -16,12 +15,12 @@ ghost use Rattle.model.specs.Acceptance.PointStates.{instruction_at};
 ghost use Rattle.model.specs.Acceptance.Ranges.{is_ranged};
 ghost use Rattle.programs.specs.Certificates.{IsPlain};
 ghost use Rattle.programs.specs.Programs.{AtPoint, GoesOn, IsKept};
-ghost use Rattle.image.specs.Stage.{is_staged, no_slots, staged_image};
+ghost use Rattle.programs.specs.Stage.{is_staged, staged_image};
 ghost use Rattle.model_laws.specs.Waiter.{waiter};
 
 /// What bytes of the form spell is a thread that keeps the rules, where its rules are kept.
 pub fn what_is_spelled_and_keeps_the_rules_is_kept()
-    ensures { (bytes : List ℕ) (t : Thread) → is_staged t ≡ true → IsSpelling (image_format no_slots) bytes (staged_image t) → t.header.entry < t.header.words
+    ensures { (bytes : List ℕ) (t : Thread) → is_staged t ≡ true → IsSpelling whole_image bytes (staged_image t) → t.header.entry < t.header.words
         → IsPlain t → AreKept (program_rules (staged_image t)) → IsKept t }
 {}
 

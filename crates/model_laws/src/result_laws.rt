@@ -15,7 +15,7 @@ ghost use Rattle.model.specs.Machine.Effects.{effect, immediate_result, load_res
 ghost use Rattle.model.specs.Acceptance.RangeRules.{destination, immediate_range, load_range, ranges_after, register_range, shift_range};
 ghost use Rattle.model.specs.Acceptance.Ranges.{range_of};
 ghost use Rattle.model.specs.Acceptance.ThreadInvariants.{LieWithin};
-ghost use Rattle.model_laws.specs.Inside.{LiesIn};
+ghost use Rattle.ranges.specs.Inside.{LiesIn};
 
 /// Of two words in their ranges, the result of each operation lies in the range of the rule.
 pub fn results_of_registers_lie_in_their_ranges()

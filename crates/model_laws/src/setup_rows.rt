@@ -5,7 +5,7 @@ ghost use Rattle.model.specs.declared.capabilities.Cap.TheVariants.{InterruptCon
 ghost use Rattle.model.specs.declared.errors.KError.TheVariants.{FailedLookup, IllegalOperation, TruncatedMessage};
 ghost use Rattle.model.specs.Capabilities.Slots.{capability_at, empty_entry, parent_at};
 ghost use Rattle.model.specs.Kernel.Setup.{fill, put_control, put_untyped};
-ghost use Rattle.model_laws.specs.Setups.{a_thread, an_endpoint, configured, filled_with, framed, fresh, with_memory};
+ghost use Rattle.model_laws.specs.Setups.{a_thread, an_endpoint, configured, filled_with, frame_left, framed, fresh, with_memory};
 
 /// The empty machine has 16 boot slots and the 64 of the interrupt table, all of them empty.
 #[tactic(auto, unfolding(crate::proofs::Opened::opened))]
@@ -32,6 +32,15 @@ pub fn untyped_memory_has_its_place()
     ensures great { is_none (put_untyped fresh 0 0 25) ≡ true }
     ensures occupied { is_none (put_untyped with_memory 0 0x1_0000 4) ≡ true }
     ensures no_slot { is_none (put_untyped fresh 16 0x8000 15) ≡ true }
+{}
+
+/// Where a frame is left of untyped memory that was deleted, new untyped memory goes behind the frame.
+#[tactic(auto, unfolding(crate::proofs::Opened::opened))]
+pub fn untyped_memory_goes_behind_a_frame()
+    ensures over { is_none (put_untyped frame_left 0 0x8000 12) ≡ true }
+    ensures across { is_none (put_untyped frame_left 0 0x8FF0 4) ≡ true }
+    ensures before { is_none (put_untyped frame_left 0 0x7000 12) ≡ true }
+    ensures behind { is_none (put_untyped frame_left 0 0x9000 12) ≡ false }
 {}
 
 /// Interrupt control goes into an empty boot slot.

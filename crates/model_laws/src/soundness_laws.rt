@@ -1,15 +1,19 @@
-//! Laws of sound states: ticks, interrupts and plain steps stay within authority.
+//! Laws of sound states: ticks, interrupts, plain steps and messages between threads stay within authority.
 
-ghost use Rattle.std.specs.Prelude.{ℕ, ◌≡◌, Option, Some};
+ghost use Rattle.std.specs.Prelude.{ℕ, ◌≡◌, true, Option, Some, List, ◌∷◌};
+ghost use Rattle.model.specs.declared.capabilities.Cap.TheVariants.{Endpoint, Notification, Untyped};
+ghost use Rattle.model.specs.declared.rights.Rights.{Rights};
 ghost use Rattle.model.specs.Acceptance.Authority.{WithinAuthority, WithinInterrupt, WithinTick, self_of};
+ghost use Rattle.model.specs.Capabilities.Rights.{may_write};
 ghost use Rattle.model.specs.Images.Image.{Image, Thread};
 ghost use Rattle.model.specs.Kernel.Interrupts.{raise};
 ghost use Rattle.model.specs.Kernel.Messages.{with_registers};
 ghost use Rattle.model.specs.Machine.ProgramMemory.{RegisterFile};
-ghost use Rattle.model_laws.specs.Scenarios.{WritesOwnBytes};
+ghost use Rattle.model_laws.specs.Scenarios.{CallsOn, MakesEndpoint, RepliesTo, WritesOwnBytes};
 ghost use Rattle.model.specs.Kernel.Scheduling.{tick};
 ghost use Rattle.model.specs.Kernel.Soundness.{IsSound};
-ghost use Rattle.model.specs.Kernel.State.{State, ThreadObject, ThreadState};
+ghost use Rattle.model.specs.Kernel.State.{State, ThreadObject, ThreadState, endpoint_at, notification_at};
+ghost use Rattle.model.specs.Kernel.Steps.{system_call};
 
 /// A tick stays within authority.
 pub fn a_tick_stays_within_authority()
@@ -22,6 +26,33 @@ pub fn a_plain_step_stays_within_authority()
     ensures { (image : Image) (t : Thread) (s : State) (own : ThreadState) (registers : RegisterFile) (bytes : ℕ → Option ℕ)
         → s.objects (self_of image t) ≡ Some (ThreadObject own) → WritesOwnBytes image t s bytes
         → WithinAuthority image t s (record (with_registers s (self_of image t) registers) { bytes = bytes }) }
+{}
+
+/// A Send that is delivered to the first receiver of an endpoint stays within authority.
+pub fn a_delivered_send_stays_within_authority()
+    ensures { (image : Image) (t : Thread) (s : State) → IsSound s → (endpoint badge : ℕ) (allowed : Rights) (first : ℕ) (others : List ℕ)
+        → CallsOn image t s 3 (Endpoint endpoint allowed badge) → may_write allowed ≡ true → (endpoint_at s endpoint).receivers ≡ first ∷ others
+        → WithinAuthority image t s (system_call s (self_of image t)).0 }
+{}
+
+/// A signal, by Send, that wakes the first waiter of a notification stays within authority.
+pub fn a_waking_signal_stays_within_authority()
+    ensures { (image : Image) (t : Thread) (s : State) → IsSound s → (notification badge : ℕ) (allowed : Rights) (first : ℕ) (others : List ℕ)
+        → CallsOn image t s 3 (Notification notification allowed badge) → may_write allowed ≡ true
+        → (notification_at s notification).waiters ≡ first ∷ others → WithinAuthority image t s (system_call s (self_of image t)).0 }
+{}
+
+/// A Reply to a thread that waits for it stays within authority.
+pub fn a_reply_stays_within_authority()
+    ensures { (image : Image) (t : Thread) (s : State) → IsSound s → (caller : ℕ) → RepliesTo image t s caller
+        → WithinAuthority image t s (system_call s (self_of image t)).0 }
+{}
+
+/// A Retype, by Send, that makes one endpoint in untyped memory of the thread's own, with its capability in a slot of its own, stays
+/// within authority.
+pub fn a_new_endpoint_stays_within_authority()
+    ensures { (image : Image) (t : Thread) (s : State) (offset bits watermark used first window : ℕ) (call : CallsOn image t s 3 (Untyped offset bits watermark))
+        → MakesEndpoint image t s call.slot offset bits used first window → WithinAuthority image t s (system_call s (self_of image t)).0 }
 {}
 
 /// An interrupt stays within authority.

@@ -2,10 +2,12 @@
 -- cannot be done.
 -- seL4 Reference Manual, "System Bootstrapping".
 use Rattle.std.specs.Prelude.{ℕ, ◌==◌, ◌+◌, ◌-◌, ◌%◌, ◌^◌, Bool, false, true, not, ◌&&◌, nat_le, nat_lt, if◌then◌else◌, Option, Some, None, option_map, List, [], length, slice_index}
+use Rattle.std.specs.Option.{option_map_or}
 use Rattle.model.specs.declared.capabilities.Cap.{Cap}
 use Rattle.model.specs.declared.capabilities.Cap.TheVariants.{InterruptControl, Untyped}
 use Rattle.model.specs.Capabilities.Slots.{empty_entry, inserted, is_full, is_within}
 use Rattle.model.specs.Kernel.AddressSpaces.{page_size}
+use Rattle.model.specs.Kernel.Kinds.{Piece, piece_of}
 use Rattle.model.specs.Kernel.State.{State, Object, ThreadObject, EndpointObject, NotificationObject, CNodeObject, FrameObject, PageTableObject, RootTableObject, boot_area_end, boot_area_slots, holds_some, with_slots}
 
 -- ---- the empty machine
@@ -32,16 +34,16 @@ abbrev pub put_in_boot_slot : State → ℕ → Cap → Option State
 put_in_boot_slot s slot capability =
     if is_free_boot_slot s slot then Some (with_slots s (inserted s.slots slot capability None)) else None
 
--- where untyped memory ends
-abbrev pub end_of_untyped : Cap → ℕ
-end_of_untyped (Untyped offset bits watermark) = offset + 2 ^ bits
-end_of_untyped _ = 0
+-- where the memory ends that a capability names, untyped or an object's
+abbrev pub end_of : Cap → ℕ
+end_of capability = option_map_or (λ (p : Piece). p.first + p.size) (piece_of capability) 0
 
--- of 2^4 to 2^24 bytes, aligned, inside memory, behind the boot area and behind all untyped memory that stands
+-- Of 2^4 to 2^24 bytes, aligned, inside memory, behind the boot area and behind all that stands: untyped memory, and objects,
+-- which may be left where the untyped memory around them was deleted. Each object has a capability.
 abbrev pub may_be_untyped : State → ℕ → ℕ → Bool
 may_be_untyped s offset bits =
     nat_le 4 bits && nat_le bits 24 && (offset % 2 ^ bits == 0) && nat_le (offset + 2 ^ bits) (2 ^ s.memory_bits)
-    && nat_le (boot_area_end s.boot_radix) offset && not (holds_some s (λ capability. nat_lt offset (end_of_untyped capability)))
+    && nat_le (boot_area_end s.boot_radix) offset && not (holds_some s (λ capability. nat_lt offset (end_of capability)))
 
 -- untyped memory that nothing uses yet
 unfoldable pub put_untyped : State → ℕ → ℕ → ℕ → Option State

@@ -1,7 +1,6 @@
--- By the laws of reading and of the form.
+-- By the laws of the form.
 use Rattle.programs.proofs.StagedRules.{read_accepted}
-use Rattle.programs.proofs.WholeImage.{bytes-fit}
 use Rattle.model_laws.proofs.form_laws.images_of_the_form_are_accepted_by_their_programs.Goals as goal
 
 pub returns : goal.returns
-returns c = λ bytes t fits. read_accepted bytes t (bytes-fit bytes fits)
+returns c = read_accepted

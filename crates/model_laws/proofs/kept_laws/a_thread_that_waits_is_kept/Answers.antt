@@ -9,7 +9,7 @@ use Rattle.model.specs.Acceptance.PointRules.{program_rules}
 use Rattle.model.specs.Acceptance.PointStates.{Noted, Known, Missing, Unmeasured, instruction_at, noted}
 use Rattle.model.specs.Acceptance.Rules.{first_broken}
 use Rattle.programs.specs.Certificates.{IsBare, IsWait, OnlyWaits, Rise, known_of, sole}
-use Rattle.image.specs.Stage.{staged_image}
+use Rattle.programs.specs.Stage.{staged_image}
 use Rattle.programs.proofs.Acceptance.{none-broken}
 use Rattle.model_laws.specs.Waiter.{waiter}
 use Rattle.model_laws.proofs.Opened.{opened}
