@@ -1,7 +1,7 @@
 //! What the program is asked to do.
 
 use clap::error::ErrorKind;
-use clap::{Arg, ArgMatches, Command};
+use clap::{Arg, ArgAction, ArgMatches, Command};
 use std::alloc::{AllocError, Global};
 use std::convert::AsStr;
 
@@ -9,9 +9,16 @@ use std::convert::AsStr;
 #[derive(Clone, Copy, Debug, PartialEq, Eq)]
 pub enum Request<'a> {
     /// To say whether an image is accepted.
-    Verify { image: &'a str },
+    Verify {
+        image: &'a str,
+    },
     /// To run an image over a list of events.
-    Run { image: &'a str, events: &'a str },
+    Run {
+        image: &'a str,
+        events: &'a str,
+        /// Whether the image runs without being verified.
+        unverified: bool,
+    },
 }
 
 /// Why the words are no request.
@@ -41,7 +48,8 @@ fn program<'a>(alloc: Global) -> Result<Command<'a>, AllocError> {
     let verify = Command::new(alloc, "verify").arg(file(alloc, "image"))?;
     let run = Command::new(alloc, "run")
         .arg(file(alloc, "image"))?
-        .arg(file(alloc, "events"))?;
+        .arg(file(alloc, "events"))?
+        .arg(flag(alloc, "unverified"))?;
     Command::new(alloc, "microsys")
         .no_binary_name(true)
         .subcommand_required(true)
@@ -54,6 +62,11 @@ fn file<'a>(alloc: Global, name: &'a str) -> Arg<'a> {
     Arg::new(alloc, name).required(true)
 }
 
+/// A word with two hyphens, which may be there once.
+fn flag<'a>(alloc: Global, name: &'a str) -> Arg<'a> {
+    Arg::new(alloc, name).long(name).action(ArgAction::SetTrue)
+}
+
 /// The request of words that were taken.
 fn requested<'a>(matches: &ArgMatches<'a>) -> Option<Request<'a>> {
     let (name, matches) = matches.subcommand()?;
@@ -64,6 +77,7 @@ fn requested<'a>(matches: &ArgMatches<'a>) -> Option<Request<'a>> {
         "run" => Some(Request::Run {
             image: matches.get_str("image")?,
             events: matches.get_str("events")?,
+            unverified: matches.get_flag("unverified"),
         }),
         _ => None,
     }

@@ -31,10 +31,12 @@ fn each_prefix_is_cut_inside_a_field(rt: HostRuntime) -> Result<(), Fail> {
     Ok(())
 }
 
-/// Below the front the form is missing; behind it, the field that does not fit is cut.
+/// A field that does not fit is cut at its first byte. Those of the front have four bytes each.
 fn want_of_prefix(len: u64) -> Refusal {
     if len < FRONT {
-        return LATER;
+        return Refusal::Truncated {
+            offset: len - len % 4,
+        };
     }
     let mut offset = FRONT;
     for field in FIELDS {
@@ -55,21 +57,6 @@ fn one_byte_more_is_trailing(rt: HostRuntime) -> Result<(), Fail> {
     Ok(())
 }
 
-#[test]
-fn each_byte_of_the_front_matters(rt: HostRuntime) -> Result<(), Fail> {
-    for at in 0..236usize {
-        for bit in [1u8, 128] {
-            let mut image = bell(rt.alloc())?;
-            if let Some(byte) = image.get_mut(at) {
-                *byte ^= bit;
-            }
-            let found = verify(rt.alloc(), image.as_slice()).err();
-            assert_eq!(rt; found, Some(LATER), "at {at}");
-        }
-    }
-    Ok(())
-}
-
 /// The sample with one word changed.
 fn refusal_with(rt: &impl AllocGlobal, at: usize, word: u32) -> Result<Option<Refusal>, Fail> {
     let mut image = bell(rt.alloc())?;
@@ -77,6 +64,65 @@ fn refusal_with(rt: &impl AllocGlobal, at: usize, word: u32) -> Result<Option<Re
         *place = value;
     }
     Ok(verify(rt.alloc(), image.as_slice()).err())
+}
+
+#[test]
+fn the_fields_of_the_front_have_their_ranges(rt: HostRuntime) -> Result<(), Fail> {
+    let limits: [(usize, u32); 16] = [
+        // The header: 16 to 24 memory bits, a boot radix of at most 11 of 16, and its counts.
+        (8, 15),
+        (12, 12),
+        (16, 0),
+        (20, 4097),
+        (44, 0),
+        // The bits of an untyped memory, an object's untyped memory, type and size.
+        (52, 3),
+        (56, 1),
+        (60, 9),
+        (64, 1),
+        // A capability's source, and the index of the one behind it.
+        (148, 8),
+        (164, 1),
+        // The interrupt's line and badge.
+        (180, 64),
+        (188, 0x1000_0000),
+        // A table's root, and the address and the rights of the second frame.
+        (192, 7),
+        (224, 0x1000),
+        (232, 8),
+    ];
+    for (at, word) in limits {
+        let want = Refusal::Limit { offset: at as u64 };
+        assert_eq!(rt; refusal_with(&rt, at, word)?, Some(want), "at {at}");
+    }
+    let others: [(usize, u32, Refusal); 6] = [
+        (0, 0x5359_534E, Refusal::Magic),
+        (4, 2, Refusal::Version),
+        // What can be read, and is of another form: memory, an untyped memory, a badge, rights.
+        (8, 17, LATER),
+        (52, 14, LATER),
+        (188, 2, LATER),
+        (232, 1, LATER),
+    ];
+    for (at, word, want) in others {
+        assert_eq!(rt; refusal_with(&rt, at, word)?, Some(want), "at {at}");
+    }
+    Ok(())
+}
+
+#[test]
+fn a_record_that_notes_a_slot_is_a_later_stage(rt: HostRuntime) -> Result<(), Fail> {
+    let mut image = bell(rt.alloc())?;
+    if let Some(slots) = image.get_mut(312) {
+        *slots = 1;
+    }
+    // An empty slot of the CNode, with no parent.
+    for word in [5u32, 3, 0, 0, 0xFFFF_FFFF, 0xFFFF_FFFF] {
+        image.extend_from_slice(&word.to_le_bytes())?;
+    }
+    let found = verify(rt.alloc(), image.as_slice()).err();
+    assert_eq!(rt; found, Some(LATER));
+    Ok(())
 }
 
 #[test]
@@ -102,22 +148,25 @@ fn the_fields_of_the_thread_have_their_ranges(rt: HostRuntime) -> Result<(), Fai
         };
         assert_eq!(rt; refusal_with(&rt, at, word)?, Some(want), "at {at}");
     }
-    let later: [(usize, u32); 7] = [
+    let later: [(usize, u32); 6] = [
         (236, 3),
         (240, 0),
         (244, 0),
         (248, 0),
         (264, 1),
         (272, 0x2000),
-        (312, 256),
     ];
     for (at, word) in later {
         assert_eq!(rt; refusal_with(&rt, at, word)?, Some(LATER), "at {at}");
     }
-    assert_eq!(rt;
-        refusal_with(&rt, 312, 257)?,
-        Some(Refusal::Limit { offset: 312 })
-    );
+    // Up to 256 slots would stand behind the record.
+    let slots = [
+        (257, Refusal::Limit { offset: 312 }),
+        (256, Refusal::Truncated { offset: 328 }),
+    ];
+    for (count, want) in slots {
+        assert_eq!(rt; refusal_with(&rt, 312, count)?, Some(want));
+    }
     Ok(())
 }
 

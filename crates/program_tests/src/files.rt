@@ -41,11 +41,16 @@ const THREAD: [u32; 23] = [
 
 /// The bytes of the sample image, 328 of them.
 pub fn bell(alloc: Global) -> Result<Vec<u8>, Fail> {
+    image_of(alloc, &THREAD)
+}
+
+/// The bytes of an image of the form, with this thread.
+pub fn image_of(alloc: Global, thread: &[u32]) -> Result<Vec<u8>, Fail> {
     let mut bytes = Vec::new(alloc);
     for word in FRONT {
         bytes.extend_from_slice(&word.to_le_bytes())?;
     }
-    for word in THREAD {
+    for word in thread {
         bytes.extend_from_slice(&word.to_le_bytes())?;
     }
     Ok(bytes)

@@ -13,4 +13,6 @@ mod rows;
 #[cfg(test)]
 mod sinks;
 #[cfg(test)]
+mod unverified;
+#[cfg(test)]
 mod words;

@@ -60,12 +60,11 @@ fn files_that_cannot_be_read_are_named(rt: HostRuntime) {
 
 #[test]
 fn other_words_are_usage(rt: HostRuntime) {
-    let cases: [&[&str]; 6] = [
+    let cases: [&[&str]; 5] = [
         &[],
         &["verify"],
         &["run", "a.img"],
         &["build", "a", "b"],
-        &["run", "a", "b", "--unverified"],
         &["--help"],
     ];
     for words in cases {

@@ -15,29 +15,54 @@ fn takes_the_words_of_the_usage(rt: HostRuntime) {
         &["verify", "a.img"],
         Ok(Request::Verify { image: "a.img" }),
     );
-    let (image, events) = ("a.img", "a.events");
     reads(
         &rt,
-        &["run", image, events],
-        Ok(Request::Run { image, events }),
+        &["run", "a.img", "a.events"],
+        run_of("a.img", "a.events", false),
     );
-    let (image, events) = ("-", "--x");
+    reads(&rt, &["run", "--", "-", "--x"], run_of("-", "--x", false));
+}
+
+/// The request to run.
+fn run_of<'a>(
+    image: &'a str,
+    events: &'a str,
+    unverified: bool,
+) -> Result<Request<'a>, WordsFault> {
+    Ok(Request::Run {
+        image,
+        events,
+        unverified,
+    })
+}
+
+#[test]
+fn takes_the_flag_in_each_place_once(rt: HostRuntime) {
+    let cases: [&[&str]; 3] = [
+        &["run", "--unverified", "a", "b"],
+        &["run", "a", "--unverified", "b"],
+        &["run", "a", "b", "--unverified"],
+    ];
+    for words in cases {
+        reads(&rt, words, run_of("a", "b", true));
+    }
     reads(
         &rt,
-        &["run", "--", image, events],
-        Ok(Request::Run { image, events }),
+        &["run", "--", "a", "--unverified"],
+        run_of("a", "--unverified", false),
     );
 }
 
 #[test]
 fn refuses_other_words(rt: HostRuntime) {
-    let cases: [&[&str]; 13] = [
+    let cases: [&[&str]; 14] = [
         &[],
         &["verify"],
         &["verify", "a", "b"],
         &["run", "a"],
         &["run", "a", "b", "c"],
-        &["run", "a", "b", "--unverified"],
+        &["run", "a", "b", "--unverified", "--unverified"],
+        &["verify", "a", "--unverified"],
         &["build", "a", "b"],
         &["boot", "a"],
         &["--help"],

@@ -7,9 +7,9 @@ use Rattle.model.specs.declared.entries.RegisterEntry.{RegisterEntry}
 use Rattle.model.specs.declared.entries.ThreadHeader.{ThreadHeader}
 use Rattle.std.specs.Int.{w64}
 use Rattle.model.specs.Images.Format.{IsSpelling, field, many_fit, number}
-use Rattle.model.specs.Images.Image.{Thread, anything, below, between, image_format, register_format, records_format, registers_format, thread_format, thread_header_format, words_format}
-use Rattle.image.specs.Stage.{no_slots, staged_image}
-use Rattle.image.proofs.StageLaws.{thread_fits}
+use Rattle.model.specs.Images.Image.{Thread, anything, below, between, register_format, registers_format, thread_format, thread_header_format, whole_image, words_format}
+use Rattle.programs.specs.Stage.{staged_image}
+use Rattle.programs.proofs.StagedFits.{parts_fit, slots, thread_fits}
 use Rattle.runner.specs.Loaded.{IsLoadable}
 
 -- ---- words
@@ -51,32 +51,18 @@ registers_other (suc count) least (r ∷ rs) low fits =
 
 -- ---- threads
 
-record ThreadFits (t : Thread) : Type 0 where
-  header : (thread_header_format 7).fits t.header ≡ true
-  registers : (registers_format t.header.registers).fits t.registers ≡ true
-  words : (words_format t.header.words).fits t.words ≡ true
-
-parts_fit : (t : Thread) → (thread_format no_slots 7).fits t ≡ true → ThreadFits t
-unfolding thread_format
-parts_fit t fits =
-    let h = t.header in
-    let a = and_parts ((thread_header_format 7).fits h) ((registers_format h.registers).fits t.registers && ((words_format h.words).fits t.words && (records_format no_slots h.words h.records).fits t.records)) fits in
-    let b = and_parts ((registers_format h.registers).fits t.registers) ((words_format h.words).fits t.words && (records_format no_slots h.words h.records).fits t.records) a.1 in
-    let c = and_parts ((words_format h.words).fits t.words) ((records_format no_slots h.words h.records).fits t.records) b.1 in
-    record { header = a.0; registers = b.0; words = c.0 }
-
-pub loadable : (t : Thread) → (thread_format no_slots 7).fits t ≡ true → IsLoadable t
+pub loadable : (t : Thread) → (thread_format slots 7).fits t ≡ true → IsLoadable t
 unfolding words_format registers_format
 loadable t fits =
     let p = parts_fit t fits in
     record { words = word_count t.header.words t.words p.words; registers = registers_other t.header.registers 1 t.registers (omega arith) p.registers }
 
-pub words_fit : (t : Thread) → (thread_format no_slots 7).fits t ≡ true → (point : ℕ) → slice_index t.words point < 2 ^ 32
+pub words_fit : (t : Thread) → (thread_format slots 7).fits t ≡ true → (point : ℕ) → slice_index t.words point < 2 ^ 32
 unfolding words_format
 words_fit t fits = words_below t.header.words t.words (parts_fit t fits).words
 
 -- the thread of what is spelled
-pub spelled_fits : (bytes : List ℕ) (t : Thread) → IsSpelling (image_format no_slots) bytes (staged_image t) → (thread_format no_slots 7).fits t ≡ true
+pub spelled_fits : (bytes : List ℕ) (t : Thread) → IsSpelling whole_image bytes (staged_image t) → (thread_format slots 7).fits t ≡ true
 spelled_fits bytes t spelled = thread_fits t spelled.fits
 
 abbrev rest_fits : ThreadHeader → Bool
@@ -85,7 +71,7 @@ rest_fits h = (number w64 (between 1 (2 ^ 62))).fits h.budget && ((field anythin
 abbrev root_fits : ThreadHeader → Bool
 root_fits h = (field (below 7)).fits h.root && ((field (between 0 255)).fits h.priority && rest_fits h)
 
-pub priority_fits : (t : Thread) → (thread_format no_slots 7).fits t ≡ true → t.header.priority < 256
+pub priority_fits : (t : Thread) → (thread_format slots 7).fits t ≡ true → t.header.priority < 256
 unfolding thread_header_format
 priority_fits t fits =
     let h = t.header in

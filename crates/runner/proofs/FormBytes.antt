@@ -14,7 +14,7 @@ use Rattle.model.specs.Images.Image.{Thread}
 use Rattle.model.specs.Images.Places.{offset_of, used_by}
 use Rattle.model.specs.Capabilities.Slots.{is_within}
 use Rattle.programs.specs.Certificates.{IsOfForm, numbered_thread}
-use Rattle.image.specs.Stage.{staged_image}
+use Rattle.programs.specs.Stage.{staged_image}
 use Rattle.runner.specs.Loaded.{HoldsWords}
 use Rattle.runner.proofs.LoadLemmas.{before, behind, none_within, within}
 

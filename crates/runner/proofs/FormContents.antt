@@ -6,11 +6,9 @@ use Rattle.std.proofs.lemmas.Bool.{cases_eq, ne_eqb}
 use Rattle.model.specs.declared.instructions.Access.{Access}
 use Rattle.model.specs.declared.instructions.Access.TheVariants.{Load, Store, Fetch}
 use Rattle.model.specs.declared.instructions.AccessSize.TheVariants.{Word}
-use Rattle.model.specs.declared.rights.Rights.{Rights}
 use Rattle.model.specs.Kernel.AddressSpaces.{MappedFrame, content_of, place_in, place_under}
 use Rattle.model.specs.Images.Image.{Thread}
 use Rattle.model.specs.Machine.ProgramMemory.{loaded}
-use Rattle.model.specs.Capabilities.Rights.{rights}
 use Rattle.programs.specs.Certificates.{numbered_thread}
 use Rattle.runner.specs.Machine.{Machine, fetched, state_of, tcb}
 use Rattle.runner.specs.Pages.{page_place}

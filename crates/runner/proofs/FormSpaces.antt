@@ -6,7 +6,6 @@ use Rattle.std.specs.Option.{option_map_or}
 use Rattle.std.proofs.lemmas.Bool.{and_parts, cases_eq, eq-eqb, ne_eqb}
 use Rattle.model.specs.declared.capabilities.Cap.{Cap}
 use Rattle.model.specs.declared.capabilities.Cap.TheVariants.{Empty, Untyped, Endpoint, Notification, CNode, Frame, PageTable, Tcb, RootTable, InterruptControl, InterruptHandler}
-use Rattle.model.specs.declared.rights.Rights.{Rights}
 use Rattle.model.specs.Kernel.AddressSpaces.{MappedFrame, page_of}
 use Rattle.model.specs.Capabilities.CapabilityKinds.{root_of}
 use Rattle.model.specs.Images.Described.{Holding, boot_holdings, described, held_in, holdings, is_open_slot}
@@ -17,7 +16,7 @@ use Rattle.model.specs.Kernel.Scheduling.{head_of}
 use Rattle.model.specs.Capabilities.Slots.{capability_at, empty_entry}
 use Rattle.model.specs.Kernel.State.{slot_numbers, vspace_slot}
 use Rattle.programs.specs.Certificates.{numbered_thread}
-use Rattle.image.specs.Stage.{staged_image}
+use Rattle.programs.specs.Stage.{staged_image}
 use Rattle.runner.specs.Machine.{tcb}
 use Rattle.runner.proofs.FormStates.{form_state}
 

@@ -6,7 +6,7 @@ use Rattle.model.specs.Images.Image.{Thread}
 use Rattle.model.specs.Images.Places.{offset_of, used_by}
 use Rattle.model.specs.Kernel.State.{NotificationObject, State, ThreadObject, new_notification}
 use Rattle.programs.specs.Certificates.{numbered_thread}
-use Rattle.image.specs.Stage.{staged_image}
+use Rattle.programs.specs.Stage.{staged_image}
 use Rattle.runner.specs.Machine.{notification, tcb}
 
 abbrev pub form_state : Thread → State

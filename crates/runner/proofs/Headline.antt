@@ -1,5 +1,5 @@
 -- The promise of a run: what is verified and booted runs as the kernel does from the described state, safely.
-use Rattle.std.proofs.Common.{◌≡◌, ◌∙◌, inl, inr, ℕ, zero, suc, ◌<◌, List, Option, Some, None, Ok, refl, sym, ap, subst, arith, false}
+use Rattle.std.proofs.Common.{◌≡◌, ◌∙◌, inl, inr, ℕ, zero, suc, ◌<◌, List, Option, Some, None, refl, sym, ap, subst, arith, true, false}
 use Rattle.std.specs.Prelude.{All, Contains}
 use Rattle.std.proofs.lemmas.Bool.{cases_lt}
 use Rattle.model.specs.declared.events.Event.{Event}
@@ -8,17 +8,17 @@ use Rattle.model.specs.declared.refusals.Refusal.{Refusal}
 use Rattle.model.specs.declared.refusals.Refusal.TheVariants.{BadThread}
 use Rattle.model.specs.Acceptance.Accepted.{IsAccepted}
 use Rattle.model.specs.Images.Described.{described}
-use Rattle.model.specs.Images.Format.{IsSpelling}
-use Rattle.model.specs.Images.Image.{Image, Thread, image_format}
+use Rattle.model.specs.Images.Image.{Image, Thread}
 use Rattle.model.specs.Images.Places.{offset_of, used_by}
 use Rattle.model.specs.Kernel.Steps.{trace}
 use Rattle.model.specs.Kernel.Waits.{KeepsBudget, is_error, is_fault}
 use Rattle.programs.specs.Certificates.{IsOfForm, IsPlain, numbered_thread}
 use Rattle.programs.specs.Programs.{IsKept}
-use Rattle.image.specs.Stage.{no_slots, staged_image, staged_reading}
+use Rattle.programs.specs.Stage.{IsStaged, is_staged, staged_image}
 use Rattle.programs.proofs.Acceptance.{accepted-no_breach}
 use Rattle.programs.proofs.KeptImages.{spelled_kept}
-use Rattle.programs.proofs.StagedRules.{bad_entry_first, read_thread}
+use Rattle.programs.proofs.StagedRules.{bad_entry_first, thread_staged}
+use Rattle.image.proofs.WholeImage.{spelled-reading}
 use Rattle.verify.specs.Refusing.{IsPlainImage}
 use Rattle.runner.specs.Loaded.{IsLoadable}
 use Rattle.runner.specs.Machine.{IsStarted, Machine, machine_trace, tcb}
@@ -32,28 +32,25 @@ use Rattle.runner.proofs.Safety.{standing_budget, trace_clean, trace_without_err
 
 -- what the verifier says of an image that it accepts
 pub record IsVerified (bytes : List ℕ) (image : Image) : Type 0 where
-  pub read : staged_reading bytes ≡ Ok image
   pub accepted : IsAccepted bytes image
   pub plain : IsPlainImage image
-  pub spelled : IsSpelling (image_format no_slots) bytes image
+  pub staged : IsStaged image
 
 -- the same of the image of its thread
 record IsVerifiedThread (bytes : List ℕ) (t : Thread) : Type 0 where
-  read : staged_reading bytes ≡ Ok (staged_image t)
   accepted : IsAccepted bytes (staged_image t)
+  staged : is_staged t ≡ true
   form : IsOfForm t
   plain : IsPlain t
-  spelled : IsSpelling (image_format no_slots) bytes (staged_image t)
 
 of_thread : (bytes : List ℕ) (image : Image) (v : IsVerified bytes image) → IsVerifiedThread bytes v.plain.thread
 of_thread bytes image v =
     let is : image ≡ staged_image v.plain.thread = v.plain.form in
     record {
-      read = v.read ∙ ap (λ (i : Image). Ok i) is;
       accepted = subst (λ (i : Image). IsAccepted bytes i) is v.accepted;
+      staged = thread_staged v.plain.thread (subst IsStaged is v.staged);
       form = v.plain.thread_form;
       plain = v.plain.plain;
-      spelled = subst (λ (i : Image). IsSpelling (image_format no_slots) bytes i) is v.spelled;
     }
 
 -- ---- the thread keeps the rules
@@ -62,20 +59,20 @@ entry_inside : (bytes : List ℕ) (t : Thread) → IsVerifiedThread bytes t → 
 entry_inside bytes t v = elim (cases_lt t.header.entry t.header.words) [
   | inl inside ↦ inside
   | inr past ↦
-      absurd (let clash : ◌≡◌ {A = Option Refusal} None (Some (BadThread 0)) = sym (accepted-no_breach bytes (staged_image t) v.accepted) ∙ bad_entry_first bytes t v.read past in cc)
+      absurd (let clash : ◌≡◌ {A = Option Refusal} None (Some (BadThread 0)) = sym (accepted-no_breach bytes (staged_image t) v.accepted) ∙ bad_entry_first bytes t v.staged (spelled-reading bytes (staged_image t) v.accepted.spelled) past in cc)
 ]
 
 is_kept : (bytes : List ℕ) (t : Thread) → IsVerifiedThread bytes t → IsKept t
-is_kept bytes t v = spelled_kept bytes t (read_thread bytes t v.read) v.spelled (entry_inside bytes t v) v.plain v.accepted.programs
+is_kept bytes t v = spelled_kept bytes t v.staged v.accepted.spelled (entry_inside bytes t v) v.plain v.accepted.programs
 
 pub is_loadable : (bytes : List ℕ) (image : Image) (v : IsVerified bytes image) → IsLoadable v.plain.thread
-is_loadable bytes image v = loadable v.plain.thread (spelled_fits bytes v.plain.thread (of_thread bytes image v).spelled)
+is_loadable bytes image v = loadable v.plain.thread (spelled_fits bytes v.plain.thread (of_thread bytes image v).accepted.spelled)
 
 -- ---- the machine stands
 
 stands_at_start : (bytes : List ℕ) (t : Thread) (m : Machine) → IsVerifiedThread bytes t → IsStarted t m → Stands t m
 stands_at_start bytes t m v started =
-    let fits = spelled_fits bytes t v.spelled in
+    let fits = spelled_fits bytes t v.accepted.spelled in
     started_stands t m (is_kept bytes t v) started (holds_program t m v.form (words_fit t fits) started)
 
 pub invariant : (t : Thread) → IsKept t → IsInvariant (Stands t)
@@ -90,7 +87,7 @@ invariant t kept = record {
 same_trace : (bytes : List ℕ) (t : Thread) (m : Machine) (events : List Event) → IsVerifiedThread bytes t → IsStarted t m
     → trace (described (staged_image t)) events ≡ machine_trace m events
 same_trace bytes t m events v started =
-    started_traces (Stands t) (invariant t (is_kept bytes t v)) t v.form (priority_fits t (spelled_fits bytes t v.spelled)) m started (stands_at_start bytes t m v started) events
+    started_traces (Stands t) (invariant t (is_kept bytes t v)) t v.form (priority_fits t (spelled_fits bytes t v.accepted.spelled)) m started (stands_at_start bytes t m v started) events
 
 pub trace_is : (bytes : List ℕ) (image : Image) (m : Machine) (events : List Event) (v : IsVerified bytes image) → IsStarted v.plain.thread m
     → trace_of image events ≡ machine_trace m events

@@ -15,7 +15,7 @@ use Rattle.model.specs.Machine.ProgramMemory.{Content, loaded, named, next_addre
 use Rattle.model.specs.Acceptance.PointStates.{address_of}
 use Rattle.model.specs.Capabilities.Slots.{is_within}
 use Rattle.programs.specs.Certificates.{IsOfForm}
-use Rattle.image.specs.Stage.{staged_image}
+use Rattle.programs.specs.Stage.{staged_image}
 use Rattle.runner.specs.Machine.{HoldsProgram, IsStarted, Machine}
 use Rattle.runner.specs.Pages.{page_place}
 use Rattle.runner.proofs.FormBytes.{described_program, framed_described, is_framed}

@@ -14,7 +14,7 @@ use Rattle.model.specs.Images.Places.{offset_of, used_by}
 use Rattle.model.specs.Capabilities.Slots.{capability_at, empty_entry}
 use Rattle.model.specs.Kernel.State.{State, put}
 use Rattle.programs.specs.Certificates.{numbered_thread}
-use Rattle.image.specs.Stage.{staged_image}
+use Rattle.programs.specs.Stage.{staged_image}
 use Rattle.runner.specs.Machine.{Machine, notification, raised, signalled}
 use Rattle.runner.specs.declared.machine.Status.{Status}
 use Rattle.runner.proofs.FormStates.{form_state}

@@ -11,8 +11,11 @@ pub mod KeptRuns
 pub mod KernelLines
 pub mod KernelStates
 pub mod KernelSteps
+pub mod KernelTraces
 pub mod LoadLemmas
+pub mod MachineTraces
 pub mod PageLemmas
+pub mod PutLines
 pub mod Refinement
 pub mod Refusals
 pub mod Safety
@@ -20,4 +23,3 @@ pub mod SinkLemmas
 pub mod StartedLaws
 pub mod StepLemmas
 pub mod Stretches
-pub mod Traces

@@ -11,7 +11,7 @@ use Rattle.model.specs.Machine.ProgramMemory.{Content}
 use Rattle.model.specs.Kernel.State.{State}
 use Rattle.model.specs.Kernel.Steps.{state_after, step, trace}
 use Rattle.programs.specs.Certificates.{IsOfForm, numbered_thread}
-use Rattle.image.specs.Stage.{staged_image}
+use Rattle.programs.specs.Stage.{staged_image}
 use Rattle.runner.specs.Machine.{IsStarted, Machine, machine_after, machine_step, machine_trace, state_of}
 use Rattle.runner.specs.NextSteps.{RunsNext}
 use Rattle.runner.specs.Pages.{page_place}

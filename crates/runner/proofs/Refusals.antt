@@ -1,17 +1,17 @@
 -- A run tells the refusal of an image that cannot be read as it is.
 use Rattle.std.proofs.Common.{◌≡◌, ◌∙◌, List, ℕ, Result, Ok, Err, refl, ap}
 use Rattle.std.specs.Prelude.{IfErr}
-use Rattle.model.specs.Images.Image.{Image}
+use Rattle.model.specs.Images.Format.{reading}
+use Rattle.model.specs.Images.Image.{Image, whole_image}
 use Rattle.model.specs.declared.refusals.Refusal.{Refusal}
 use Rattle.model.specs.declared.refusals.Refusal.TheVariants as refusals
-use Rattle.image.specs.Stage.{staged_reading}
-use Rattle.programs.proofs.Calm.{staged_calm}
+use Rattle.programs.proofs.Calm.{whole_calm}
 use Rattle.runner.specs.Running.{fault_of}
 use Rattle.runner.specs.declared.running.RunFault.{RunFault}
 use Rattle.runner.specs.declared.running.RunFault.TheVariants.{Refused}
 
-told : (bytes : List ℕ) (refusal : Refusal) → staged_reading bytes ≡ Err refusal → fault_of refusal ≡ Refused refusal
-told bytes refusals.OutOfMemory is = absurd (staged_calm bytes is)
+told : (bytes : List ℕ) (refusal : Refusal) → reading whole_image bytes ≡ Err refusal → fault_of refusal ≡ Refused refusal
+told bytes refusals.OutOfMemory is = absurd (whole_calm bytes is)
 told bytes refusal is = refl
 
 abbrev faulted : {T : Type 0} → RunFault → Result T RunFault
@@ -28,7 +28,7 @@ tells-of {T} {R} S (Err refusal) e x fault sink told_as same x-is fault-is =
     (x-is ∙ ap (λ (f : RunFault). faulted {T = T} f) other, refl)
 
 pub tells : {T R : Type 0} (S : Type 0) (bytes : List ℕ) (e : Refusal) (x : Result T RunFault) (fault : RunFault) (sink : R)
-    → IfErr (staged_reading bytes) (λ refusal. ◌≡◌ {A = Result S Refusal} (Err e) (Err refusal)) → x ≡ Err fault → fault ≡ fault_of e
-    → IfErr (staged_reading bytes) (λ refusal. (x ≡ Err (Refused refusal)) × (sink ≡ sink))
+    → IfErr (reading whole_image bytes) (λ refusal. ◌≡◌ {A = Result S Refusal} (Err e) (Err refusal)) → x ≡ Err fault → fault ≡ fault_of e
+    → IfErr (reading whole_image bytes) (λ refusal. (x ≡ Err (Refused refusal)) × (sink ≡ sink))
 tells {T} {R} S bytes e x fault sink same x-is fault-is =
-    tells-of {T = T} {R = R} S (staged_reading bytes) e x fault sink (told bytes) same x-is fault-is
+    tells-of {T = T} {R = R} S (reading whole_image bytes) e x fault sink (told bytes) same x-is fault-is

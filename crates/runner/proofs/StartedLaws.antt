@@ -7,7 +7,7 @@ use Rattle.model.specs.Images.Image.{Thread}
 use Rattle.model.specs.Machine.ProgramMemory.{RegisterFile}
 use Rattle.model.specs.Kernel.State.{NotificationObject, Object, ThreadObject, ThreadState}
 use Rattle.programs.specs.Certificates.{IsOfForm, numbered_thread}
-use Rattle.image.specs.Stage.{staged_image}
+use Rattle.programs.specs.Stage.{staged_image}
 use Rattle.runner.specs.Machine.{IsStarted, Machine, is_ready, notification, notification_of, object_of, state_of, status_of, tcb, thread_of, waiters_of}
 use Rattle.runner.specs.declared.machine.Status.{Status}
 use Rattle.runner.specs.declared.machine.Status.TheVariants.{Ready}

@@ -5,3 +5,4 @@ pub mod Pages
 pub mod Running
 pub mod Runs
 pub mod Sinks
+pub mod Unverified

@@ -25,7 +25,7 @@ use Rattle.model.specs.Kernel.Scheduling.{full_slice}
 use Rattle.model.specs.Kernel.State.{State, Object, ThreadObject, NotificationObject, Inactive, Runnable, Blocked, ThreadState, NotificationState, put}
 use Rattle.model.specs.Kernel.State.{Status as ThreadStatus}
 use Rattle.model.specs.Kernel.Steps.{memory_base}
-use Rattle.image.specs.Stage.{staged_image}
+use Rattle.programs.specs.Stage.{staged_image}
 use Rattle.runner.specs.Pages.{page_place}
 use Rattle.runner.specs.declared.machine.Status.{Status}
 use Rattle.runner.specs.declared.machine.System.{System}

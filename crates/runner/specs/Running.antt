@@ -1,5 +1,7 @@
 -- What a run answers, and what it puts.
 use Rattle.std.specs.Prelude.{ℕ, ◌≡◌, ◌<◌, ◌⊎◌, ◌-◌, ◌^◌, ◌++◌, false, All, Contains, List, [], ◌∷◌, flat_map, Option}
+use Rattle.model.specs.declared.boot_faults.BootFault.{BootFault}
+use Rattle.model.specs.declared.boot_faults.BootFault.TheVariants as boot_faults
 use Rattle.model.specs.declared.events.Event.{Event}
 use Rattle.model.specs.declared.labels.Label.{Label}
 use Rattle.model.specs.declared.refusals.Refusal.{Refusal}
@@ -13,12 +15,17 @@ use Rattle.model.specs.Shared.Trace.{line_of}
 use Rattle.model.specs.Kernel.Waits.{KeepsBudget, is_error, is_fault}
 use Rattle.runner.specs.Sinks.{Grows, GrowsByBeginning}
 use Rattle.runner.specs.declared.running.RunFault.{RunFault}
-use Rattle.runner.specs.declared.running.RunFault.TheVariants.{Refused, OutOfMemory}
+use Rattle.runner.specs.declared.running.RunFault.TheVariants.{Boot, Refused, OutOfMemory}
 
 -- a refusal for want of memory is told as such
 abbrev pub fault_of : Refusal → RunFault
 fault_of refusals.OutOfMemory = OutOfMemory
 fault_of other = Refused other
+
+-- so is a machine for which there is no memory
+abbrev pub boot_fault_of : BootFault → RunFault
+boot_fault_of boot_faults.OutOfMemory = OutOfMemory
+boot_fault_of other = Boot other
 
 -- ---- what is put
 

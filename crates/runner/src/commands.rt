@@ -11,6 +11,7 @@ ghost use Rattle.model.specs.declared.refusals.Refusal.{Refusal};
 use crate::event_lists::{EventsFault, events};
 use crate::running::{RunFault, run};
 use crate::sinks::{Sink, SinkFault, put_all};
+use crate::unverified::run_unverified;
 use command_line::{Request, WordsFault, parse};
 use model::{BootFault, Refusal};
 use std::alloc::{AllocError, Global};
@@ -158,11 +159,16 @@ fn answer<'a, R: Files + AllocGlobal, S: AsStr, W: Sink>(
         Request::Run {
             image,
             events: list,
+            unverified,
         } => {
             let bytes = read_file(rt, image)?;
             let text = read_file(rt, list)?;
             let events = events(rt.alloc(), text.as_slice())?;
-            run(rt.alloc(), bytes.as_slice(), events.as_slice(), output)?;
+            if unverified {
+                run_unverified(rt.alloc(), bytes.as_slice(), events.as_slice(), output)?;
+            } else {
+                run(rt.alloc(), bytes.as_slice(), events.as_slice(), output)?;
+            }
         }
     }
     Ok(())

@@ -9,6 +9,8 @@ mod pages;
 mod run_laws;
 mod running;
 mod sinks;
+mod traces;
+mod unverified;
 
 pub use commands::{command, command_line};
 pub use event_lists::{EventsFault, events};
@@ -18,3 +20,5 @@ pub use run_laws::{
 };
 pub use running::{RunFault, run};
 pub use sinks::{MemorySink, Sink, SinkFault, WriterSink, put_all};
+pub use traces::put_trace;
+pub use unverified::run_unverified;

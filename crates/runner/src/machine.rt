@@ -2,7 +2,7 @@
 
 ghost use Rattle.std.specs.Prelude.{◌≡◌, ◌≢◌, ◌^◌, ◌*◌, ◌≤◌, All, length, min, IfOk};
 ghost use Rattle.programs.specs.Certificates.{IsOfForm};
-ghost use Rattle.image.specs.Stage.{staged_image};
+ghost use Rattle.programs.specs.Stage.{staged_image};
 ghost use Rattle.model.specs.Images.Described.{listed_thread};
 ghost use Rattle.model.specs.Images.Image.{Thread};
 ghost use Rattle.model.specs.Machine.Decoding.{decoded};
@@ -10,13 +10,13 @@ ghost use Rattle.runner.specs.Loaded.{HoldsWords, IsLoadable};
 ghost use Rattle.runner.specs.Machine.{IsStarted, calls, machine_of, machine_step, raised, ran, receives, runs_decoded, stops, ticks};
 
 use crate::pages::{CODE, Pages};
-use image::{NOTIFICATION, ThreadRef};
+use image::ThreadRef;
 use model::{Event, FaultKind, Label, Outcome, RECEIVE, Register};
 use pmem::Mem;
 use rv32_exec::{Exec, Regs, View, exec};
 use rv32_isa::decode;
 use std::alloc::{AllocError, Global};
-use verify::Accepted;
+use verify::{Accepted, NOTIFICATION};
 
 /// The physical address of the thread's TCB.
 const THREAD: u32 = 0x8000_C000;

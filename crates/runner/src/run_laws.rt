@@ -14,7 +14,7 @@ ghost use Rattle.model.specs.Kernel.Steps.{step, trace};
 ghost use Rattle.model.specs.Kernel.Waits.{KeepsBudget, is_error, is_fault};
 ghost use Rattle.programs.specs.Certificates.{IsOfForm, known_of};
 ghost use Rattle.programs.specs.Programs.{IsKept};
-ghost use Rattle.image.specs.Stage.{staged_image};
+ghost use Rattle.programs.specs.Stage.{staged_image};
 ghost use Rattle.runner.specs.Machine.{HoldsProgram, IsStarted, Machine, fetched, machine_after, machine_step, machine_trace, state_of, tcb};
 ghost use Rattle.runner.specs.Pages.{page_place};
 ghost use Rattle.runner.specs.Runs.{Stands};

@@ -1,30 +1,23 @@
 //! A run: an image is verified and booted, and each event puts a line.
 
-ghost use Rattle.std.specs.Prelude.{◌≡◌, ◌≢◌, ◌+◌, ◌≤◌, ◌++◌, Err, IfErr, OnErr, OnOk, if◌then◌else◌, is_ok};
-ghost use Rattle.arrayvec.specs.ArrayVec.{array_vec_len};
-ghost use Rattle.image.specs.Stage.{staged_reading};
+ghost use Rattle.std.specs.Prelude.{◌≡◌, ◌≢◌, Err, IfErr, OnErr, OnOk};
+ghost use Rattle.model.specs.Images.Format.{reading};
+ghost use Rattle.model.specs.Images.Image.{whole_image};
 ghost use Rattle.model.specs.declared.boot_faults.BootFault.{BootFault};
 ghost use Rattle.model.specs.declared.refusals.Refusal.{Refusal};
 ghost use Rattle.verify.specs.Refusing.{IsRefused};
 ghost use Rattle.runner.specs.declared.running.RunFault.TheVariants.{Output, OutOfMemory};
 ghost use Rattle.runner.specs.Machine.{machine_of, machine_trace};
-ghost use Rattle.runner.specs.Running.{Failed, PutsAll, PutsFront, PutsSome, ended, fault_of, lines_of};
-ghost use Rattle.runner.specs.Sinks.{Grows, GrowsByBeginning, one_more};
+ghost use Rattle.runner.specs.Running.{Failed, PutsAll, PutsSome, boot_fault_of, fault_of, lines_of};
+ghost use Rattle.runner.specs.Sinks.{Grows, GrowsByBeginning};
 
 use crate::machine::{System, boot};
 use crate::sinks::{Sink, SinkFault, put_all};
-use arrayvec::ArrayVec;
-use model::{BootFault, Event, Label, Refusal};
+use crate::traces::{Piece, make_room, push_line};
+use model::{BootFault, Event, Refusal};
 use std::alloc::{AllocError, Global};
 use thiserror::Error;
-use trace::line;
 use verify::verify;
-
-/// Lines that wait to be put.
-type Piece = ArrayVec<u8, 8192>;
-
-/// How many bytes the longest line has, with its line feed.
-const LONGEST_LINE: usize = 33;
 
 /// Why a run ended before its last event.
 #[derive(Clone, Copy, Debug, PartialEq, Eq, Error)]
@@ -70,6 +63,17 @@ impl From<Refusal> for RunFault {
     }
 }
 
+impl From<BootFault> for RunFault {
+    ghost from_gives = { λ boot fault. fault ≡ boot_fault_of boot };
+
+    fn from(fault: BootFault) -> RunFault {
+        match fault {
+            BootFault::OutOfMemory => RunFault::OutOfMemory,
+            fault => RunFault::Boot(fault),
+        }
+    }
+}
+
 /// Verifies the image, boots it, and puts one line for each event.
 ///
 /// Where the answer is no `Output`, it is known before the first line.
@@ -85,7 +89,7 @@ pub fn run<S: Sink>(
     // A refusal is the first breach, or that of a later stage, and nothing is put.
     ensures refused { (refusal : Refusal) → result ≡ Err (RunFault.Refused refusal) → IsRefused bytes.now refusal × (sink.new ≡ sink.old) }
     // An image that cannot be read is refused for the first reason, and nothing is put.
-    ensures unread { IfErr (staged_reading bytes.now) (λ refusal. (result ≡ Err (RunFault.Refused refusal)) × (sink.new ≡ sink.old)) }
+    ensures unread { IfErr (reading whole_image bytes.now) (λ refusal. (result ≡ Err (RunFault.Refused refusal)) × (sink.new ≡ sink.old)) }
     // Where memory is refused, nothing is put.
     ensures memory { result ≡ Err RunFault.OutOfMemory → sink.new ≡ sink.old }
     // Where the sink fails, its count of failures tells, and a beginning of those lines is put.
@@ -114,28 +118,4 @@ fn put_trace<S: Sink>(system: &mut System, events: &[Event], sink: &mut S) -> Re
     }
     put_all(sink, piece.as_slice())?;
     Ok(())
-}
-
-/// Puts what the piece holds, if it has no room for another line.
-fn make_room<S: Sink>(sink: &mut S, piece: &mut Piece) -> Result<(), SinkFault>
-    ensures ok { OnOk result (PutsFront (S.contents sink.old) (S.contents sink.new) piece.old.items piece.new.items) }
-    ensures room { OnOk result (array_vec_len piece.new + 33 ≤ 8192) }
-    ensures err { OnErr result (GrowsByBeginning (S.contents sink.old) (S.contents sink.new) piece.old.items) }
-    ensures counted { S.failures sink.new ≡ (if is_ok result then S.failures sink.old else one_more (S.failures sink.old)) }
-{
-    if piece.remaining_capacity() < LONGEST_LINE {
-        put_all(sink, piece.as_slice())?;
-        piece.clear();
-    }
-    Ok(())
-}
-
-/// Appends the line of a label, with its line feed.
-fn push_line(piece: &mut Piece, label: Label)
-    requires { array_vec_len piece.old + 33 ≤ 8192 }
-    ensures { piece.new.items ≡ piece.old.items ++ ended label }
-{
-    let text = line(label);
-    let _fits = piece.try_extend_from_slice(text.as_slice());
-    piece.push(b'\n');
 }

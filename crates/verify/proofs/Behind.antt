@@ -18,7 +18,7 @@ use Rattle.model.specs.Acceptance.Ranges.{is_ranged, with_range}
 use Rattle.ranges.specs.declared.edges.Edge.{Edge as Way}
 use Rattle.ranges.specs.Edges.{way_of}
 use Rattle.programs.specs.Certificates.{IsOfForm, IsWait, is_ecall, known_of, constant_measure, sole, with_image_slots}
-use Rattle.image.specs.Stage.{staged_image}
+use Rattle.programs.specs.Stage.{staged_image}
 use Rattle.programs.proofs.NotedConstants.{no_term_of}
 use Rattle.programs.proofs.StagedCalls.{waits_at}
 use Rattle.verify.specs.Matching.{noted_at}

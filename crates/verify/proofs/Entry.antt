@@ -20,7 +20,7 @@ use Rattle.model.specs.Acceptance.PointStates.{Noted, Known, point_of}
 use Rattle.model.specs.Acceptance.Ranges.{AreWithin, IsWithin, full, single, with_range}
 use Rattle.model.specs.Acceptance.Rules.{first_broken, refuse_if}
 use Rattle.programs.specs.Certificates.{IsOfForm, constant_measure, sole, with_image_slots}
-use Rattle.image.specs.Stage.{staged_image}
+use Rattle.programs.specs.Stage.{staged_image}
 use Rattle.programs.proofs.ConstantMeasures.{constant_measured}
 use Rattle.verify.specs.Checking.{initial_ranges}
 use Rattle.verify.specs.Matching.{noted_at}

@@ -18,7 +18,7 @@ use Rattle.model.specs.Acceptance.Ranges.{AreWithin, IsWithin, full}
 use Rattle.model.specs.Acceptance.Rules.{Rule, first_broken, refuse_if}
 use Rattle.model.specs.Acceptance.ThreadRules.{reached, reached_within}
 use Rattle.programs.specs.Certificates.{IsOfForm, constant_measure, numbered_thread, sole, with_image_slots}
-use Rattle.image.specs.Stage.{staged_image}
+use Rattle.programs.specs.Stage.{staged_image}
 use Rattle.programs.proofs.ConstantMeasures.{constant_falls, constant_stays_below}
 use Rattle.verify.specs.Checking.{IsLimit, limited, rules_of_edge}
 use Rattle.verify.specs.Matching.{noted_at}

@@ -1,5 +1,6 @@
 pub mod Behind
 pub mod Entry
+pub mod Fronts
 pub mod KeptEdges
 pub mod Points
 pub mod Recorded

@@ -10,7 +10,7 @@ use Rattle.model.specs.Acceptance.Rules.{Rule, first_broken}
 use Rattle.model.specs.Acceptance.PointStates.{Noted, Known, Missing}
 use Rattle.programs.specs.Certificates.{OnlyWaits, constant_measure, sole, with_image_slots}
 use Rattle.verify.specs.Matching.{noted_at}
-use Rattle.image.specs.Stage.{staged_image}
+use Rattle.programs.specs.Stage.{staged_image}
 use Rattle.verify.specs.Checking.{Checks}
 use Rattle.verify.proofs.RuleLists.{checks_as, first_kept, refused_before}
 

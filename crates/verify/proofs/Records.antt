@@ -8,7 +8,7 @@ use Rattle.model.specs.Images.Image.{StateRecord, Thread}
 use Rattle.model.specs.Acceptance.NotedStates.{record_of, record_ranges, record_state}
 use Rattle.model.specs.Acceptance.PointStates.{Noted as PointNoted, Known as IsKnown, Missing, follows, noted, noted_or}
 use Rattle.programs.specs.Certificates.{IsBare, IsOfForm, Rise, constant_measure, sole, with_image_slots}
-use Rattle.image.specs.Stage.{staged_image}
+use Rattle.programs.specs.Stage.{staged_image}
 use Rattle.programs.proofs.NotedConstants.{found_in}
 use Rattle.verify.specs.Matching.{AreStates, Meets, noted_at}
 use Rattle.verify.specs.declared.states.Noted.{Noted}

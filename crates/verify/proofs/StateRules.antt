@@ -20,7 +20,7 @@ use Rattle.model.specs.Acceptance.Ranges.{is_ranged}
 use Rattle.model.specs.Acceptance.Rules.{Rule, first_broken, refuse_if}
 use Rattle.ranges.specs.Edges.{way_of}
 use Rattle.programs.specs.Certificates.{IsOfForm, IsWait, constant_measure, is_ecall, known_of, sole, waited, with_image_slots}
-use Rattle.image.specs.Stage.{staged_image}
+use Rattle.programs.specs.Stage.{staged_image}
 use Rattle.programs.proofs.ConstantMeasures.{constant_least_value}
 use Rattle.programs.proofs.StagedCalls.{no_stray_slots, waits_at}
 use Rattle.verify.specs.Checking.{IsWay, rules_behind, rules_of_edge, rules_of_way}

@@ -14,7 +14,7 @@ use Rattle.model.specs.Acceptance.PointStates.{instruction_at, point_of}
 use Rattle.model.specs.Acceptance.Rules.{Rule, first_broken, refuse_if}
 use Rattle.ranges.specs.declared.edges.Edge.{Edge as Way}
 use Rattle.programs.specs.Certificates.{IsOfForm, IsPlain, constant_measure, known_of, sole}
-use Rattle.image.specs.Stage.{staged_image}
+use Rattle.programs.specs.Stage.{staged_image}
 use Rattle.verify.specs.Matching.{AreStates}
 use Rattle.verify.specs.declared.states.Noted.{Noted}
 use Rattle.verify.specs.declared.checks.Limit.{Limit}

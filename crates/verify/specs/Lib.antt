@@ -1,3 +1,4 @@
+pub mod Front
 pub mod Checking
 pub mod Matching
 pub mod Refusing

@@ -3,7 +3,7 @@ use Rattle.std.specs.Prelude.{ℕ, ◌≡◌, List, length, slice_get, Some}
 use Rattle.model.specs.Images.Image.{Thread}
 use Rattle.model.specs.Acceptance.PointStates.{Noted as PointNoted, Known as IsKnown, Missing, noted}
 use Rattle.programs.specs.Certificates.{IsPlain, constant_measure, sole, with_image_slots}
-use Rattle.image.specs.Stage.{staged_image}
+use Rattle.programs.specs.Stage.{staged_image}
 use Rattle.verify.specs.declared.states.Noted.{Noted}
 use Rattle.verify.specs.declared.states.Noted.TheVariants.{Absent, Later, Known}
 use Rattle.verify.specs.declared.states.State.{State}

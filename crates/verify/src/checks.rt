@@ -10,7 +10,7 @@ ghost use Rattle.model.specs.Acceptance.PointStates.{address_of, instruction_at}
 ghost use Rattle.model.specs.Acceptance.Ranges.{is_ranged};
 ghost use Rattle.model.specs.declared.instructions.Instr.TheVariants.{Ecall};
 ghost use Rattle.programs.specs.Certificates.{IsWait, OnlyWaits, constant_measure, sole, with_image_slots};
-ghost use Rattle.image.specs.Stage.{staged_image};
+ghost use Rattle.programs.specs.Stage.{staged_image};
 ghost use Rattle.verify.specs.Checking.{AreKnown, Checks, IsCertified, initial_ranges, IsEdge, IsLater, IsWay, limited, rules_behind, rules_of_edge, rules_of_way, told};
 ghost use Rattle.verify.specs.declared.checks.Limit.TheVariants.{Below};
 ghost use Rattle.verify.specs.Matching.{IsKnownAt, Meets, noted_at};

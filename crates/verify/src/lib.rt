@@ -3,7 +3,9 @@
 
 mod accepted;
 mod checks;
+mod stage;
 mod states;
 
 pub use accepted::{Accepted, verify};
 pub use model::Refusal;
+pub use stage::NOTIFICATION;

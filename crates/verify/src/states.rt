@@ -11,11 +11,12 @@ ghost use Rattle.model.specs.Acceptance.Ranges.{is_ranged, with_range};
 ghost use Rattle.model.specs.declared.instructions.Instr.TheVariants.{Ecall};
 ghost use Rattle.model.specs.Acceptance.PointStates.{follows};
 ghost use Rattle.programs.specs.Certificates.{IsOfForm, IsWait, known_of, sole};
-ghost use Rattle.image.specs.Stage.{staged_image};
+ghost use Rattle.programs.specs.Stage.{staged_image};
 ghost use Rattle.verify.specs.Matching.{AreStates, IsKnownAt, Meets, noted_at};
 ghost use Rattle.verify.specs.States.{IsAtLeast};
 
-use image::{NOTIFICATION, RecordRef, ThreadRef};
+use crate::stage::NOTIFICATION;
+use image::{RecordRef, ThreadRef};
 use model::{Instr, RECEIVE, Range, Register};
 use ranges::{Bounds, after, is_ranged};
 use rv32_isa::decode;

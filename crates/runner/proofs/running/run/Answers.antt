@@ -20,7 +20,7 @@ returns-in_err-put_trace-clause-output g c = λ is.
     let image = c.in_ok-accepted.accepted in
     let events = c.args.events.now in
     let told = c.in_ok-accepted.ensures in
-    let v : IsVerified bytes image = record { read = told.read; accepted = told.accepted; plain = told.plain; spelled = told.staged.0 } in
+    let v : IsVerified bytes image = record { accepted = told.accepted; plain = told.plain; staged = told.staged } in
     let m = machine_of c.in_ok-system.system in
     let started : IsStarted v.plain.thread m = c.in_ok-system.ensures v.plain.thread v.plain.form v.plain.thread_form (is_loadable bytes image v) in
     let same : trace_of image events ≡ machine_trace m events = trace_is bytes image m events v started in
@@ -35,7 +35,7 @@ returns-clause-ok g c =
     let image = c.in_ok-accepted.accepted in
     let events = c.args.events.now in
     let told = c.in_ok-accepted.ensures in
-    let v : IsVerified bytes image = record { read = told.read; accepted = told.accepted; plain = told.plain; spelled = told.staged.0 } in
+    let v : IsVerified bytes image = record { accepted = told.accepted; plain = told.plain; staged = told.staged } in
     let m = machine_of c.in_ok-system.system in
     let started : IsStarted v.plain.thread m = c.in_ok-system.ensures v.plain.thread v.plain.form v.plain.thread_form (is_loadable bytes image v) in
     let same : trace_of image events ≡ machine_trace m events = trace_is bytes image m events v started in

@@ -4,7 +4,7 @@ use Rattle.std.proofs.lemmas.Result.{err_from_is_err_and}
 use Rattle.model.specs.declared.refusals.Refusal.{Refusal}
 use Rattle.model.specs.Acceptance.PointRules.{entry_rules, rules_of_program}
 use Rattle.model.specs.Acceptance.Rules.{Rule, first_broken}
-use Rattle.image.specs.Stage.{staged_image}
+use Rattle.programs.specs.Stage.{staged_image}
 use Rattle.verify.specs.Checking.{Checks}
 use Rattle.verify.specs.Matching.{noted_at}
 use Rattle.verify.proofs.Points.{program_parts, rules_from}

@@ -2,7 +2,7 @@
 use Rattle.std.proofs.Common.{inr}
 use Rattle.model.specs.Acceptance.PointRules.{point_rules, state_rules}
 use Rattle.programs.specs.Certificates.{constant_measure, sole, with_image_slots}
-use Rattle.image.specs.Stage.{staged_image}
+use Rattle.programs.specs.Stage.{staged_image}
 use Rattle.verify.specs.Checking.{IsLater}
 use Rattle.verify.proofs.Points.{known_rules, missing_rules}
 use Rattle.verify.proofs.RuleLists.{checks_as}

@@ -5,7 +5,7 @@ use Rattle.model.specs.declared.refusals.Point.{Point}
 use Rattle.model.specs.declared.refusals.Refusal.TheVariants.{MeasureNotFalling}
 use Rattle.model.specs.Acceptance.PointRules.{state_rules}
 use Rattle.programs.specs.Certificates.{constant_measure, sole, with_image_slots}
-use Rattle.image.specs.Stage.{staged_image}
+use Rattle.programs.specs.Stage.{staged_image}
 use Rattle.verify.specs.Checking.{rules_behind}
 use Rattle.verify.proofs.RuleLists.{checks_as}
 use Rattle.verify.proofs.StateRules.{low_measure, then_behind}

@@ -21,7 +21,7 @@ returns-in_err-check_way-clause-checks c =
     let i = c.args.instr in
     let n : ℤ = c.args.state.now.measure in
     let e = after (address_of t c.args.point) i c.args.state.now.bounds in
-    let ways : c.after-edges.result ≡ ways_of e = c.after-edges.ensures ∙ ap (λ (a : ℕ). ways_of (after a i c.args.state.now.bounds)) c.address.ensures.address in
+    let ways : c.after-edges.result ≡ ways_of e = c.after-edges.ensures.ways ∙ ap (λ (a : ℕ). ways_of (after a i c.args.state.now.bounds)) c.address.ensures.address in
     let taken : IsWay t (way_to t i e.taken) (constant_measure n) c.after-edges.result.taken c.below.result =
     subst (λ (l : Limit). IsWay t (way_to t i e.taken) (constant_measure n) c.after-edges.result.taken l) (sym c.below.ensures)
     (subst (λ (w : Ways). IsWay t (way_to t i e.taken) (constant_measure n) w.taken (Below n)) (sym ways) (is_way t i n e.taken)) in
@@ -40,7 +40,7 @@ returns-clause-checks c =
     let i = c.args.instr in
     let n : ℤ = c.args.state.now.measure in
     let e = after (address_of t c.args.point) i c.args.state.now.bounds in
-    let ways : c.after-edges.result ≡ ways_of e = c.after-edges.ensures ∙ ap (λ (a : ℕ). ways_of (after a i c.args.state.now.bounds)) c.address.ensures.address in
+    let ways : c.after-edges.result ≡ ways_of e = c.after-edges.ensures.ways ∙ ap (λ (a : ℕ). ways_of (after a i c.args.state.now.bounds)) c.address.ensures.address in
     let taken : IsWay t (way_to t i e.taken) (constant_measure n) c.after-edges.result.taken c.below.result =
     subst (λ (l : Limit). IsWay t (way_to t i e.taken) (constant_measure n) c.after-edges.result.taken l) (sym c.below.ensures)
     (subst (λ (w : Ways). IsWay t (way_to t i e.taken) (constant_measure n) w.taken (Below n)) (sym ways) (is_way t i n e.taken)) in

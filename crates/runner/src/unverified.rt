@@ -1,0 +1,48 @@
+//! A run of an image that is not verified.
+
+ghost use Rattle.std.specs.Prelude.{◌≡◌, ◌≢◌, Err, OnOk};
+ghost use Rattle.model.specs.Images.Format.{reading};
+ghost use Rattle.model.specs.Images.Image.{whole_image};
+ghost use Rattle.model.specs.declared.boot_faults.BootFault.{BootFault};
+ghost use Rattle.model.specs.declared.refusals.Refusal.{Refusal};
+ghost use Rattle.runner.specs.Running.{Failed};
+ghost use Rattle.runner.specs.Unverified.{FailsToBoot, PutsTrace, PutsTraceBeginning};
+
+use crate::running::RunFault;
+use crate::sinks::Sink;
+use crate::traces::put_trace;
+use image::read;
+use loader::boot_unverified;
+use model::{BootFault, Event, Refusal};
+use std::alloc::Global;
+
+/// Reads an image, boots it without verifying it, and puts one line for each event.
+///
+/// Nothing is promised of the lines but that they are the kernel's: threads may fault, be refused, and run
+/// as long as they like. Where the answer is no `Output`, it is known before the first line.
+pub fn run_unverified<S: Sink>(
+    alloc: Global,
+    bytes: &[u8],
+    events: &[Event],
+    sink: &mut S,
+) -> Result<(), RunFault>
+    // The image boots, and all lines of the kernel's trace are put.
+    ensures ok { OnOk result (PutsTrace bytes.now events.now (S.contents sink.old) (S.contents sink.new)) }
+    // A refusal is that of the reading, and nothing is put.
+    ensures refused { (refusal : Refusal) → result ≡ Err (RunFault.Refused refusal) → (reading whole_image bytes.now ≡ Err refusal) × (sink.new ≡ sink.old) }
+    // The image that is read does not boot, for this reason, and nothing is put.
+    ensures boot { (fault : BootFault) → result ≡ Err (RunFault.Boot fault) → FailsToBoot bytes.now fault × (sink.new ≡ sink.old) }
+    // Where memory is refused, nothing is put.
+    ensures memory { result ≡ Err RunFault.OutOfMemory → sink.new ≡ sink.old }
+    // Where the sink fails, its count of failures tells, and a beginning of those lines is put.
+    ensures output { result ≡ Err RunFault.Output → PutsTraceBeginning bytes.now events.now (S.contents sink.old) (S.contents sink.new) × Failed (S.failures sink.old) (S.failures sink.new) }
+    // Want of memory is no refusal,
+    ensures enough { result ≢ Err (RunFault.Refused Refusal.OutOfMemory) }
+    // and no fault of booting.
+    ensures room { result ≢ Err (RunFault.Boot BootFault.OutOfMemory) }
+{
+    let image = read(bytes)?;
+    let mut system = boot_unverified(alloc, &image)?;
+    put_trace(&mut system, events, sink)?;
+    Ok(())
+}
