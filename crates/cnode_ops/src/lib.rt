@@ -28,4 +28,4 @@ pub use moves::move_cap;
 pub use mutations::mutate;
 pub use named::NodeCall;
 pub use removal::{remove_below, remove_slot};
-pub use retypes::retype;
+pub use retypes::{may_have_child, retype};

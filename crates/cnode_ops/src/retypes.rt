@@ -20,7 +20,7 @@ use slots::SlotStore;
 use untyped::place;
 
 /// A child may hang below a slot, if that is not of depth 255 (`IllegalOperation`).
-fn may_have_child<S: SlotStore>(store: &S, slot: Slot) -> Result<(), KError>
+pub fn may_have_child<S: SlotStore>(store: &S, slot: Slot) -> Result<(), KError>
     requires { IsOpen (S.slots store.now) slot }
     ensures { result ≡ may_have_child (S.slots store.now) slot }
 {

@@ -1,4 +1,3 @@
 pub mod EndpointsThere
 pub mod Found
-pub mod RightsTested
 pub mod ThreadsInside

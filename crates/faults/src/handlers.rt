@@ -9,7 +9,6 @@ ghost use Rattle.model.specs.Kernel.Faults.{handler, handler_in, handler_of};
 ghost use Rattle.model.specs.Kernel.State.{State, cspace_slot};
 ghost use Rattle.objects.specs.Tables.{state_of};
 
-use bitflags::Flags;
 use cspace::called_slot;
 use model::{Cap, Rights, Slot};
 use objects::Objects;
@@ -23,11 +22,10 @@ pub(crate) struct Handler {
 }
 
 /// Whether an endpoint takes faults by such rights: they write, and let the handler reply.
-#[tactic(auto, using(crate::proofs::RightsTested::write_tested, crate::proofs::RightsTested::grant_reply_tested))]
 fn take_faults(rights: Rights) -> bool
     ensures { result ≡ (may_write rights && may_grant_reply rights) }
 {
-    rights.contains(Rights::WRITE) && rights.contains(Rights::GRANT_REPLY)
+    rights.may_write() && rights.may_grant_reply()
 }
 
 /// The handler that a capability names: an endpoint, by rights that take faults.

@@ -7,7 +7,7 @@ ghost use Rattle.irq.specs.Handlers.{bound_source, handler_place, is_handled};
 ghost use Rattle.model.specs.Capabilities.CapabilityKinds.{is_handler_of};
 ghost use Rattle.model.specs.Capabilities.CapabilityWords.{IsCapability};
 ghost use Rattle.model.specs.Capabilities.Slots.{IsOpen, capability_at};
-ghost use Rattle.model.specs.Kernel.Arguments.{Call, may_have_child};
+ghost use Rattle.model.specs.Kernel.Arguments.{Call};
 ghost use Rattle.model.specs.Kernel.InterruptCalls.{bind, get_handler, may_be_bound};
 ghost use Rattle.model.specs.Kernel.Removal.{delete};
 ghost use Rattle.model.specs.Kernel.State.{binding_slot};
@@ -15,11 +15,10 @@ ghost use Rattle.model.specs.declared.capabilities.Cap.TheVariants.{InterruptCon
 ghost use Rattle.objects.specs.Tables.{state_of};
 ghost use Rattle.soundness.specs.Calls.{IsRoot};
 
-use bitflags::Flags;
-use cnode_ops::{Ends, remove_slot};
+use cnode_ops::{Ends, may_have_child, remove_slot};
 use cspace::{destination_slot, source_slot};
 use lifecycles::KernelObjects;
-use model::{Cap, KError, Rights, Slot, SlotName};
+use model::{Cap, KError, Slot, SlotName};
 use slots::SlotStore;
 
 /// Whether a capability is a handler of a line.
@@ -43,17 +42,6 @@ fn is_handled<S: SlotStore>(store: &S, line: u32) -> bool
         }
     }
     false
-}
-
-/// A child may hang below a slot, if that is not of depth 255 (`IllegalOperation`).
-fn may_have_child<S: SlotStore>(store: &S, slot: Slot) -> Result<(), KError>
-    requires { IsOpen (S.slots store.now) slot }
-    ensures { result ≡ may_have_child (S.slots store.now) slot }
-{
-    if store.depth(slot) >= 255 {
-        return Err(KError::IllegalOperation);
-    }
-    Ok(())
 }
 
 /// The empty slot of this name, for a handler of a line below the slot of interrupt control. Errors are
@@ -117,7 +105,7 @@ fn may_be_bound(capability: Cap) -> bool
     ensures { result ≡ may_be_bound capability }
 {
     match capability {
-        Cap::Notification { rights, .. } => rights.contains(Rights::WRITE),
+        Cap::Notification { rights, .. } => rights.may_write(),
         _ => false,
     }
 }

@@ -4,7 +4,7 @@ use Rattle.std.specs.Prelude.{ℕ, ◌≡◌, ◌+◌, ◌%◌, ◌^◌, ◌==�
 use Rattle.agreement.specs.Wholeness as wholeness
 use Rattle.cnode_ops.specs.Refusals.{some_slot}
 use Rattle.model.specs.Capabilities.Slots.{Slots, capability_at}
-use Rattle.model.specs.Kernel.Setup.{end_of_untyped}
+use Rattle.model.specs.Kernel.Setup.{end_of}
 use Rattle.model.specs.Kernel.State.{State, ThreadState}
 use Rattle.model.specs.declared.slot_entries.Entry.{Entry}
 use Rattle.objects.specs.Tables.{Tables, state_of}
@@ -46,6 +46,6 @@ register_in t index =
 abbrev pub is_piece : ℕ → ℕ → ℕ → Bool
 is_piece size offset bits = nat_le 4 bits && nat_le bits 24 && (offset % 2 ^ bits == 0) && nat_le (offset + 2 ^ bits) size
 
--- in one of so many slots stands untyped memory that ends behind an offset
+-- one of so many slots names memory that ends behind an offset
 abbrev pub reaches_behind : Slots → ℕ → ℕ → Bool
-reaches_behind slots count offset = some_slot 0 count (λ slot. nat_lt offset (end_of_untyped (capability_at slots slot)))
+reaches_behind slots count offset = some_slot 0 count (λ slot. nat_lt offset (end_of (capability_at slots slot)))

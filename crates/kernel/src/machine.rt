@@ -1,6 +1,6 @@
 //! All that the kernel keeps: slots and memory, and the tables of objects beside them.
 
-ghost use Rattle.std.specs.Prelude.{ℕ, ◌≡◌, ◌+◌, ◌^◌, ◌≤◌, IfOk, None, OnErr, Some, false, option_and_then, option_map};
+ghost use Rattle.std.specs.Prelude.{ℕ, ◌≡◌, ◌+◌, ◌^◌, ◌≤◌, IfOk, OnErr, Some, None, false, option_and_then, option_map};
 ghost use Rattle.cnode_ops.specs.Outcomes.{GivesState};
 ghost use Rattle.kernel.specs.Setups.{GivesIf, register_in, slots_in, state_in};
 ghost use Rattle.model.specs.Capabilities.CapabilityWords.{IsCapability};
@@ -84,13 +84,11 @@ impl Machine {
         Some(self.store.get(slot))
     }
 
-    /// Puts untyped memory into an empty boot slot: 2^`bits` bytes from `offset` on, behind all that stands.
-    /// Nothing changes where it may not stand there. There must be no objects yet: one might be left of
-    /// untyped memory whose own capability is gone.
+    /// Puts untyped memory into an empty boot slot: 2^`bits` bytes from `offset` on, behind all that stands,
+    /// also behind objects that are left of untyped memory whose own capability is gone. Nothing changes where
+    /// it may not stand there.
     pub(crate) fn untyped(&mut self, index: u32, offset: u32, bits: u8) -> bool
-        requires { (place : ℕ) → (state_in self.old).objects place ≡ None }
-        ensures outcome { GivesIf (put_untyped (state_in self.old) index offset bits) result self.old self.new }
-        ensures none { (place : ℕ) → (state_in self.new).objects place ≡ None }
+        ensures { GivesIf (put_untyped (state_in self.old) index offset bits) result self.old self.new }
     {
         let untyped = Cap::Untyped {
             offset,
@@ -150,6 +148,14 @@ impl Machine {
         self.kernel.objects.byte(&self.store, offset)
     }
 
+    /// How many bytes of memory there are. No object stands behind them.
+    pub fn memory_size(&self) -> u32
+        ensures value { result ≡ 2 ^ (state_in self.now).memory_bits }
+        ensures inside { (place : ℕ) → result ≤ place → (state_in self.now).objects place ≡ None }
+    {
+        self.store.mem().len()
+    }
+
     /// How many slots the boot CNode has: so many stand before that of the first line.
     fn boot_slots(&self) -> u32
         ensures value { result ≡ 2 ^ (state_in self.now).boot_radix }
@@ -164,8 +170,7 @@ impl Machine {
         requires plain { IsWithoutTables capability }
         requires some { is_empty capability ≡ false }
         requires sound { (t : State) → IsSound (state_in self.old) → put_in_boot_slot (state_in self.old) index capability ≡ Some t → IsSound t }
-        ensures outcome { GivesIf (put_in_boot_slot (state_in self.old) index capability) result self.old self.new }
-        ensures objects { (state_in self.new).objects ≡ (state_in self.old).objects }
+        ensures { GivesIf (put_in_boot_slot (state_in self.old) index capability) result self.old self.new }
     {
         let count = self.boot_slots();
         let free = is_free(&self.store, count, index);

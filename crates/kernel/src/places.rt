@@ -4,7 +4,7 @@ ghost use Rattle.std.specs.Prelude.{ℕ, ◌≡◌, ◌/◌, ◌^◌, ◌≤◌,
 ghost use Rattle.kernel.specs.Setups.{is_piece, reaches_behind};
 ghost use Rattle.model.specs.Capabilities.CapabilityWords.{IsCapability};
 ghost use Rattle.model.specs.Capabilities.Slots.{is_full};
-ghost use Rattle.model.specs.Kernel.Setup.{end_of_untyped};
+ghost use Rattle.model.specs.Kernel.Setup.{end_of};
 
 use model::{Cap, Slot};
 use slots::{SlotStore, is_taken};
@@ -21,31 +21,37 @@ fn is_piece(size: u32, offset: u32, bits: u8) -> bool
         && u64::from(offset) + (1 << bits) <= u64::from(size)
 }
 
-/// Where untyped memory ends.
-fn end_of_untyped(capability: Cap) -> u32
+/// Where the memory ends that a capability names, untyped or an object's: 0, if it names none.
+fn end_of(capability: Cap) -> u32
     requires { IsCapability capability }
-    ensures { result ≡ end_of_untyped capability }
+    ensures { result ≡ end_of capability }
 {
     match capability {
         Cap::Untyped { offset, bits, .. } => offset + (1 << bits),
-        _ => 0,
+        Cap::Endpoint { offset, .. } | Cap::Notification { offset, .. } => offset + 16,
+        Cap::CNode { offset, radix, .. } => offset + (1 << (radix + 4)),
+        Cap::Tcb { offset } => offset + 512,
+        Cap::Frame { offset, .. } | Cap::PageTable { offset, .. } | Cap::RootTable { offset } => {
+            offset + 4096
+        }
+        Cap::Empty | Cap::InterruptControl | Cap::InterruptHandler { .. } => 0,
     }
 }
 
-/// Whether some untyped memory ends behind an offset.
+/// Whether some memory that a capability names ends behind an offset.
 fn reaches_behind<S: SlotStore>(store: &S, offset: u32) -> bool
     ensures { result ≡ reaches_behind (S.slots store.now) (length (S.memory store.now) / 16) offset }
 {
     let count = store.count();
     'slots: for number in 0..count {
-        if offset < end_of_untyped(store.capability(Slot::new(number))) {
+        if offset < end_of(store.capability(Slot::new(number))) {
             return true;
         }
     }
     false
 }
 
-/// Whether untyped memory may stand at an offset, from `first` on and behind all other.
+/// Whether untyped memory may stand at an offset, from `first` on and behind all that stands.
 pub(crate) fn may_be_untyped<S: SlotStore>(store: &S, first: u32, offset: u32, bits: u8) -> bool
     ensures { result ≡ (is_piece (length (S.memory store.now)) offset bits && nat_le first offset
         && not (reaches_behind (S.slots store.now) (length (S.memory store.now) / 16) offset)) }

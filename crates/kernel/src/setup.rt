@@ -1,6 +1,6 @@
 //! A system that is set up by calls, before its threads run.
 
-ghost use Rattle.std.specs.Prelude.{ℕ, ◌≡◌, ◌+◌, ◌≤◌, IfOk, None, OnErr};
+ghost use Rattle.std.specs.Prelude.{◌≡◌, ◌+◌, ◌≤◌, IfOk, OnErr};
 ghost use Rattle.cnode_ops.specs.Outcomes.{GivesState};
 ghost use Rattle.kernel.specs.Setups.{GivesIf, state_in};
 ghost use Rattle.model.specs.Images.Boot.{made};
@@ -41,13 +41,11 @@ impl Setup {
         Ok(Setup { machine })
     }
 
-    /// Puts untyped memory into an empty boot slot: 2^`bits` bytes from `offset` on, behind all that stands.
-    /// Nothing changes where it may not stand there. There must be no objects yet: one might be left of
-    /// untyped memory whose own capability is gone.
+    /// Puts untyped memory into an empty boot slot: 2^`bits` bytes from `offset` on, behind all that stands,
+    /// also behind objects that are left of untyped memory whose own capability is gone. Nothing changes where
+    /// it may not stand there.
     pub fn untyped(&mut self, index: u32, offset: u32, bits: u8) -> bool
-        requires { (place : ℕ) → (state_in self.old).objects place ≡ None }
-        ensures outcome { GivesIf (put_untyped (state_in self.old) index offset bits) result self.old self.new }
-        ensures none { (place : ℕ) → (state_in self.new).objects place ≡ None }
+        ensures { GivesIf (put_untyped (state_in self.old) index offset bits) result self.old self.new }
     {
         self.machine.untyped(index, offset, bits)
     }

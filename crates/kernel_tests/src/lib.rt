@@ -4,6 +4,8 @@
 #[cfg(test)]
 mod boot_calls;
 #[cfg(test)]
+mod endpoint_calls;
+#[cfg(test)]
 mod handlers;
 #[cfg(test)]
 mod interrupt_lines;

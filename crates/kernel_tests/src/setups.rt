@@ -1,32 +1,18 @@
 //! A system that is set up: its untyped memory, interrupt control, Delete and Revoke.
 //! Memory of 2^16 bytes with a boot CNode of 16 slots: the boot area ends at 0x500.
 
-ghost use Rattle.std.specs.Prelude.{ℕ, ◌≡◌, ◌+◌, ◌<◌, ◌≤◌, IfOk, None};
-ghost use Rattle.kernel.specs.Setups.{state_in};
+ghost use Rattle.std.specs.Prelude.{◌<◌};
 
-use crate::boot_calls::{MEMORY, delete, revoke};
+use crate::boot_calls::{FRAME, MEMORY, delete, passes, retype, revoke};
 use kernel::Setup;
 use model::{Cap, Slot};
-use std::alloc::{AllocError, Global};
+use std::alloc::Global;
 use std::process::Abort;
 use std::test::Fail;
 
-// A system without objects.
-#[tactic(auto, unfolding(model::specs::Kernel::Setup::boot_area))]
-pub(crate) fn empty(alloc: Global, bits: u32, radix: u32) -> Result<Setup, AllocError>
-    requires least { 16 ≤ bits }
-    requires most { bits ≤ 24 }
-    requires least_radix { 1 ≤ radix }
-    requires most_radix { radix ≤ 14 }
-    requires room { radix + 5 ≤ bits }
-    ensures { IfOk result (λ setup. (place : ℕ) → (state_in setup).objects place ≡ None) }
-{
-    Setup::new(alloc, bits, radix)
-}
-
 // Memory of 2^17 bytes with a boot CNode of 64 slots, and 64 KiB of untyped memory at 0x10000.
 pub(crate) fn machine(rt: &impl Abort, alloc: Global) -> Result<Setup, Fail> {
-    let mut setup = empty(alloc, 17, 6)?;
+    let mut setup = Setup::new(alloc, 17, 6)?;
     assert!(rt; setup.untyped(MEMORY, 0x10000, 16));
     Ok(setup)
 }
@@ -41,7 +27,7 @@ pub(crate) fn held(setup: &Setup, slot: u32) -> Option<(Cap, Option<Slot>)>
 // Untyped memory is aligned, behind the boot area and all that stands, and its slot is free.
 #[test]
 fn untyped_memory_finds_its_place(rt: HostRuntime) -> Result<(), Fail> {
-    let mut setup = empty(rt.alloc(), 16, 4)?;
+    let mut setup = Setup::new(rt.alloc(), 16, 4)?;
     let answers = [
         setup.untyped(1, 0x400, 4),
         setup.untyped(1, 0x1000, 3),
@@ -66,10 +52,26 @@ fn untyped_memory_finds_its_place(rt: HostRuntime) -> Result<(), Fail> {
     Ok(())
 }
 
+// A frame at 0x10000 is left when the untyped memory around it goes. New untyped memory is put behind the frame,
+// and not over it.
+#[test]
+fn untyped_memory_is_put_behind_a_frame(rt: HostRuntime) -> Result<(), Fail> {
+    let mut setup = machine(&rt, rt.alloc())?;
+    passes(&rt, retype(&mut setup, FRAME, 0, 2, 1));
+    passes(&rt, delete(&mut setup, MEMORY));
+    let answers = [
+        setup.untyped(MEMORY, 0x10000, 12),
+        setup.untyped(MEMORY, 0x10000, 16),
+        setup.untyped(MEMORY, 0x11000, 12),
+    ];
+    assert_eq!(rt; answers, [false, false, true]);
+    Ok(())
+}
+
 // A slot is emptied once, and then there is nothing to empty; Revoke takes what is derived, and nothing is.
 #[test]
 fn a_slot_is_emptied(rt: HostRuntime) -> Result<(), Fail> {
-    let mut setup = empty(rt.alloc(), 16, 4)?;
+    let mut setup = Setup::new(rt.alloc(), 16, 4)?;
     assert!(rt; setup.untyped(1, 0x1000, 12));
     assert!(rt; setup.control(2));
     assert!(rt; !setup.control(2));

@@ -10,4 +10,5 @@ mod view;
 pub use execution::exec;
 pub use model::{Access, AccessSize, Cause, Exec, Instr, MemoryFault, Register};
 pub use registers::Regs;
+pub use results::{immediate_result, register_result, shift_result, upper_result};
 pub use view::View;

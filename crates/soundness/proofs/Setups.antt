@@ -1,6 +1,7 @@
 -- Setting up: capabilities without a parent, and the bytes of frames.
 use Rattle.std.proofs.Common.{ℕ, ◌≡◌, ◌≢◌, ◌∙◌, ◌==◌, ◌&&◌, ◌+◌, ◌-◌, ◌%◌, ◌^◌, ◌<◌, ◌≤◌, inl, inr, Bool, true, false, not, is_some, nat_le, nat_lt, if◌then◌else◌, get_or, length, List, Option, Some, None, option_map, refl, sym, ap, subst, arith}
 use Rattle.std.specs.Prelude.{All, slice_index}
+use Rattle.std.specs.Option.{option_map_or}
 use Rattle.std.proofs.lemmas.Bool.{and_parts, cases_lt, eqb-true, leb-true, ltb-false, ltb-true, not-true}
 use Rattle.std.proofs.lemmas.Bool.Decides.{eqb_tells}
 use Rattle.std.proofs.lemmas.List.{get_or_past}
@@ -17,14 +18,15 @@ use Rattle.model.specs.Capabilities.CapabilityKinds.{frame_mapping, table_mappin
 use Rattle.model.specs.Capabilities.CapabilityWords.{IsCapability}
 use Rattle.model.specs.Capabilities.Slots.{Descendant, child, deeper, IsDerivation, IsFull, Slots, capability_at, empty_entry, inserted, is_empty, is_full, is_within, parent_at}
 use Rattle.model.specs.Kernel.AddressSpaces.{page_size}
-use Rattle.model.specs.Kernel.Kinds.{AreApart, Names, Piece, kind_of, object_named, piece_of, used_of}
-use Rattle.model.specs.Kernel.Retype.{NewObject}
-use Rattle.model.specs.Kernel.Setup.{end_of_untyped, fill, is_frame_object, is_free_boot_slot, may_be_untyped, put_control, put_in_boot_slot, put_untyped, with_first_bytes}
+use Rattle.model.specs.Kernel.Kinds.{AreApart, Names, Piece, kind_at, object_named, piece_of, used_of}
+use Rattle.model.specs.Kernel.Retype.{NewObject, object_bits}
+use Rattle.model.specs.Kernel.Setup.{end_of, fill, is_frame_object, is_free_boot_slot, may_be_untyped, put_control, put_in_boot_slot, put_untyped, with_first_bytes}
 use Rattle.model.specs.Kernel.Soundness.{IsSound, MemoryIsSound, Lies, apart, same, within, around}
 use Rattle.model.specs.Kernel.State.{State, boot_area_end, holds_some, with_slots}
 use Rattle.soundness.proofs.Bytes.{bytes-whole}
 use Rattle.soundness.proofs.Carried.{CarriesMappings, full-near, full-unless, held-at, mappings-carried, shape-carried, slots-carried, threads-carried}
 use Rattle.soundness.proofs.Inserted.{empty-open}
+use Rattle.soundness.proofs.Pieces.{named-piece}
 use Rattle.soundness.proofs.Places.{IsPlain, MayHold, of_boot_cnode, full-may_hold, plain-may_hold, plain-open}
 
 -- ---- a capability without a parent
@@ -197,27 +199,7 @@ control-whole s t slot whole is =
       alone = λ p q x e. let clash : None ≡ Some p = e in absurd cc;
     }))
 
--- ---- untyped memory, while there are no objects
-
--- memory that a capability names is untyped then, and ends where the capability says
-untyped-piece : (c : Cap) (q : Piece) → object_named c ≡ None → piece_of c ≡ Some q → end_of_untyped c ≡ q.first + q.size
-untyped-piece (Untyped a b d) q none is = let e : record { first = a; size = 2 ^ b } ≡ q = cc is in ap (λ (p : Piece). p.first + p.size) e
-untyped-piece Empty q none is = let e : None ≡ Some q = is in absurd cc
-untyped-piece (Endpoint a r b) q none is = let e : ◌≡◌ {A = Option (NewObject × ℕ)} (object_named (Endpoint a r b)) None = none in absurd cc
-untyped-piece (Notification a r b) q none is = let e : ◌≡◌ {A = Option (NewObject × ℕ)} (object_named (Notification a r b)) None = none in absurd cc
-untyped-piece (CNode a r g) q none is = let e : ◌≡◌ {A = Option (NewObject × ℕ)} (object_named (CNode a r g)) None = none in absurd cc
-untyped-piece (Frame a r m) q none is = let e : ◌≡◌ {A = Option (NewObject × ℕ)} (object_named (Frame a r m)) None = none in absurd cc
-untyped-piece (PageTable a m) q none is = let e : ◌≡◌ {A = Option (NewObject × ℕ)} (object_named (PageTable a m)) None = none in absurd cc
-untyped-piece (Tcb a) q none is = let e : ◌≡◌ {A = Option (NewObject × ℕ)} (object_named (Tcb a)) None = none in absurd cc
-untyped-piece (RootTable a) q none is = let e : ◌≡◌ {A = Option (NewObject × ℕ)} (object_named (RootTable a)) None = none in absurd cc
-untyped-piece InterruptControl q none is = let e : None ≡ Some q = is in absurd cc
-untyped-piece (InterruptHandler a) q none is = let e : None ≡ Some q = is in absurd cc
-
-nothing-named : (s : State) (x : ℕ) (o : Option (NewObject × ℕ)) → IsSound s → ((offset : ℕ) → s.objects offset ≡ None)
-    → object_named (capability_at s.slots x) ≡ o → o ≡ None
-nothing-named s x None sound none is = refl
-nothing-named s x (Some (kind, offset)) sound none is =
-    let e : None ≡ Some kind = ap (option_map kind_of) (sym (none offset)) ∙ sound.memory.named x kind offset is in absurd cc
+-- ---- untyped memory
 
 piece-full : (c : Cap) (q : Piece) → piece_of c ≡ Some q → not (is_empty c) ≡ true
 piece-full c q is = full-unless c piece_of q refl is
@@ -228,11 +210,11 @@ record IsUntypedPlace (s : State) (offset bits : ℕ) : Type 0 where
   aligned : offset % 2 ^ bits ≡ 0
   inside : offset + 2 ^ bits ≤ 2 ^ s.memory_bits
   behind : boot_area_end s.boot_radix ≤ offset
-  last : holds_some s (λ capability. nat_lt offset (end_of_untyped capability)) ≡ false
+  last : holds_some s (λ capability. nat_lt offset (end_of capability)) ≡ false
 
 untyped-place : (s : State) (offset bits : ℕ) → may_be_untyped s offset bits ≡ true → IsUntypedPlace s offset bits
 untyped-place s offset bits is =
-    let others = holds_some s (λ capability. nat_lt offset (end_of_untyped capability)) in
+    let others = holds_some s (λ capability. nat_lt offset (end_of capability)) in
     let a = nat_le 4 bits in
     let b = nat_le bits 24 in
     let c = offset % 2 ^ bits == 0 in
@@ -253,22 +235,21 @@ untyped-place s offset bits is =
     }
 
 -- no other memory reaches beyond where it begins
-ends-before : (s : State) (offset x : ℕ) (q : Piece) → IsSound s → ((o : ℕ) → s.objects o ≡ None)
-    → holds_some s (λ capability. nat_lt offset (end_of_untyped capability)) ≡ false
+ends-before : (s : State) (offset x : ℕ) (q : Piece) → IsSound s → holds_some s (λ capability. nat_lt offset (end_of capability)) ≡ false
     → piece_of (capability_at s.slots x) ≡ Some q → q.first + q.size ≤ offset
-ends-before s offset x q sound none last is =
+ends-before s offset x q sound last is =
     let c = capability_at s.slots x in
-    let end = untyped-piece c q (nothing-named s x (object_named c) sound none refl) is in
-    elim (nat_lt offset (end_of_untyped c)) as (λ b. nat_lt offset (end_of_untyped c) ≡ b → q.first + q.size ≤ offset) [
+    let end : end_of c ≡ q.first + q.size = ap (λ (o : Option Piece). option_map_or (λ (p : Piece). p.first + p.size) o 0) is in
+    elim (nat_lt offset (end_of c)) as (λ b. nat_lt offset (end_of c) ≡ b → q.first + q.size ≤ offset) [
       | true ↦ λ more.
-          let there = held-at s (λ capability. nat_lt offset (end_of_untyped capability)) x (full-near s sound.shape sound.slots sound.memory x (piece-full c q is)) more in
+          let there = held-at s (λ capability. nat_lt offset (end_of capability)) x (full-near s sound.shape sound.slots sound.memory x (piece-full c q is)) more in
           absurd (let clash : true ≡ false = sym there ∙ last in cc)
-      | false ↦ λ less. let below = ltb-false offset (end_of_untyped c) less in omega (arith, below, end)
+      | false ↦ λ less. let below = ltb-false offset (end_of c) less in omega (arith, below, end)
     ] refl
 
-untyped-whole : (s t : State) (slot offset bits : ℕ) → IsSound s → ((o : ℕ) → s.objects o ≡ None) → may_be_untyped s offset bits ≡ true
+untyped-whole : (s t : State) (slot offset bits : ℕ) → IsSound s → may_be_untyped s offset bits ≡ true
     → put_in_boot_slot s slot (Untyped offset bits 0) ≡ Some t → IsSound t
-untyped-whole s t slot offset bits whole none fits is =
+untyped-whole s t slot offset bits whole fits is =
     let parts = put-parts s slot (Untyped offset bits 0) t is in
     let free = IsFreeSlot.free parts in
     let place = untyped-place s offset bits fits in
@@ -290,17 +271,31 @@ untyped-whole s t slot offset bits whole none fits is =
           subst (λ (p : Piece). (boot_area_end s.boot_radix ≤ p.first) × (p.first + p.size ≤ 2 ^ s.memory_bits)) f (IsUntypedPlace.behind place, IsUntypedPlace.inside place);
       alone = λ p q x e other.
           let f : own ≡ p = cc e in
-          subst (λ (p : Piece). AreApart p q) f (inr (ends-before s offset x q whole none (IsUntypedPlace.last place) other));
+          subst (λ (p : Piece). AreApart p q) f (inr (ends-before s offset x q whole (IsUntypedPlace.last place) other));
     }))
 
-pub put_untyped-whole : (s t : State) (slot offset bits : ℕ) → IsSound s → ((o : ℕ) → s.objects o ≡ None)
-    → put_untyped s slot offset bits ≡ Some t → IsSound t
+untyped-fits : (s t : State) (slot offset bits : ℕ) → put_untyped s slot offset bits ≡ Some t
+    → (may_be_untyped s offset bits ≡ true) × (put_in_boot_slot s slot (Untyped offset bits 0) ≡ Some t)
 unfolding put_untyped
-put_untyped-whole s t slot offset bits whole none is =
-    elim (may_be_untyped s offset bits) as (λ b. may_be_untyped s offset bits ≡ b → (if b then put_in_boot_slot s slot (Untyped offset bits 0) else None) ≡ Some t → IsSound t) [
-      | true ↦ λ fits so. untyped-whole s t slot offset bits whole none fits so
+untyped-fits s t slot offset bits is =
+    elim (may_be_untyped s offset bits) as (λ b. may_be_untyped s offset bits ≡ b → (if b then put_in_boot_slot s slot (Untyped offset bits 0) else None) ≡ Some t
+    → (may_be_untyped s offset bits ≡ true) × (put_in_boot_slot s slot (Untyped offset bits 0) ≡ Some t)) [
+      | true ↦ λ fits so. (fits, so)
       | false ↦ λ _ so. let e : None ≡ Some t = so in absurd cc
     ] refl is
+
+pub put_untyped-whole : (s t : State) (slot offset bits : ℕ) → IsSound s → put_untyped s slot offset bits ≡ Some t → IsSound t
+put_untyped-whole s t slot offset bits whole is =
+    let fits = untyped-fits s t slot offset bits is in untyped-whole s t slot offset bits whole fits.0 fits.1
+
+-- an object has a capability, and so ends before it
+pub behind-objects : (s t : State) (slot offset bits place : ℕ) (kind : NewObject) → IsSound s → put_untyped s slot offset bits ≡ Some t
+    → kind_at s place ≡ Some kind → place + 2 ^ object_bits kind ≤ offset
+behind-objects s t slot offset bits place kind whole is there =
+    let fits = untyped-fits s t slot offset bits is in
+    let name = whole.memory.live place kind there in
+    ends-before s offset name.0 (record { first = place; size = 2 ^ object_bits kind }) whole (IsUntypedPlace.last (untyped-place s offset bits fits.0))
+    (named-piece (capability_at s.slots name.0) (kind, place) name.1)
 
 -- ---- filling
 

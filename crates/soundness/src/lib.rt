@@ -34,7 +34,7 @@ pub use removal_laws::{delete_keeps_soundness, removals_keep_soundness, revoke_k
 pub use retype_laws::retype_keeps_soundness;
 pub use setup_laws::{
     calls_of_the_loader_keep_soundness, filling_keeps_soundness, interrupt_control_keeps_soundness,
-    untyped_memory_keeps_soundness,
+    untyped_memory_is_put_behind_objects, untyped_memory_keeps_soundness,
 };
 pub use step_laws::{events_keep_soundness, system_calls_keep_soundness};
 pub use thread_laws::{

@@ -9,7 +9,6 @@ mod kinds;
 mod names;
 mod receives;
 mod replies;
-mod rights;
 mod send_calls;
 mod sends;
 

@@ -13,7 +13,6 @@ ghost use Rattle.system_calls.specs.Kinds.{receive_call_of};
 use crate::answers::lacks_capability;
 use crate::kinds::ReceiveKind;
 use crate::names::named_slot;
-use crate::rights::may_read;
 use ipc::{receive, try_to_receive};
 use model::{Cap, LookupFailure, Outcome, Slot};
 use notify::{poll, wait};
@@ -94,10 +93,10 @@ fn receive_by<S: SlotStore>(
     ensures whole { IsWhole (state_of objects.new (S.slots store.new) (S.memory store.new)) (S.memory store.new) }
 {
     match capability {
-        Cap::Endpoint { offset, rights, .. } if may_read(rights) => {
+        Cap::Endpoint { offset, rights, .. } if rights.may_read() => {
             receive_message(store, objects, thread, kind, offset)
         }
-        Cap::Notification { offset, rights, .. } if may_read(rights) => {
+        Cap::Notification { offset, rights, .. } if rights.may_read() => {
             receive_signal(store, objects, thread, kind, offset)
         }
         _ => lacks_capability(

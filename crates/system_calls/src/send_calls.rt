@@ -12,7 +12,6 @@ use crate::answers::refuse;
 use crate::capability_calls::invoke_on;
 use crate::kinds::SendKind;
 use crate::names::named_slot;
-use crate::rights::{may_grant_reply, may_write};
 use crate::sends::{send_nothing, send_on, signal_on};
 use lifecycles::KernelObjects;
 use model::{Cap, KError, Outcome, Slot};
@@ -41,20 +40,20 @@ fn send_by<S: SlotStore>(
             offset,
             rights,
             badge,
-        } if may_write(rights) => send_on(
+        } if rights.may_write() => send_on(
             store,
             &mut kernel.objects,
             thread,
             kind,
             offset,
             badge,
-            may_grant_reply(rights),
+            rights.may_grant_reply(),
         ),
         Cap::Notification {
             offset,
             rights,
             badge,
-        } if may_write(rights) => signal_on(
+        } if rights.may_write() => signal_on(
             store,
             &mut kernel.objects,
             thread,

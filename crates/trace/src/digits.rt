@@ -5,6 +5,7 @@ ghost use Rattle.arrayvec.specs.ArrayVec.{array_vec_len};
 ghost use Rattle.model.specs.Shared.Trace.{hex_digit, hex_byte, hex_word};
 
 use arrayvec::ArrayVec;
+use itoa::Buffer;
 
 /// A line of text that is being written.
 pub(crate) type Line = ArrayVec<u8, 32>;
@@ -23,13 +24,8 @@ pub(crate) fn push_decimal(to: &mut Line, number: u8)
     ensures text { to.new.items ≡ to.old.items ++ decimal number }
     ensures short { array_vec_len to.new ≤ array_vec_len to.old + 3 }
 {
-    if number >= 100 {
-        to.push(b'0' + number / 100);
-    }
-    if number >= 10 {
-        to.push(b'0' + number / 10 % 10);
-    }
-    to.push(b'0' + number % 10);
+    let mut digits = Buffer::new();
+    push_text(to, digits.format(number).as_bytes());
 }
 
 /// The hexadecimal digit of a number below 16, in lower case.

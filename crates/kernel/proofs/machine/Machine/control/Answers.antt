@@ -9,4 +9,4 @@ put-requires-clause-sound c t sound is = control-whole _ t c.args.index sound is
 
 pub returns : goal.returns
 unfolding put_control
-returns c = c.put.ensures.outcome
+returns c = c.put.ensures

@@ -33,8 +33,8 @@ invariant_of-self c =
       agrees = root-agrees o slots _ old c.insert.new.self.0 c.args.index c.args.capability c.self.invariant.agrees c.insert.ensures.bytes empty is c.requires.plain c.requires.valid;
     }
 
-pub returns-then-free-clause-outcome : goal.returns-then-free-clause-outcome
-returns-then-free-clause-outcome c =
+pub returns-then-free : goal.returns-then-free
+returns-then-free c =
     let o = c.self.inside.kernel in
     let slots : Slots = table_slots c.self.inside.store.1 in
     let old = c.self.inside.store.0 in
@@ -47,19 +47,8 @@ returns-then-free-clause-outcome c =
     (sym c.if-free.true)
     (ap (λ (p : Parts). put_in_boot_slot (state_in p) c.args.index c.args.capability) (sym c.self.view_is) ∙ passed ∙ ap (λ (s : State). Some s) (sym after))
 
-pub returns-then-free-clause-objects : goal.returns-then-free-clause-objects
-returns-then-free-clause-objects c =
-    let o = c.self.inside.kernel in
-    let slots : Slots = table_slots c.self.inside.store.1 in
-    let old = c.self.inside.store.0 in
-    let many = c.boot_slots-count.ensures.value ∙ ap (λ (p : Parts). 2 ^ (state_in p).boot_radix) (sym c.self.view_is) in
-    let empty = put-empty o slots old c.boot_slots-count.result c.args.index c.args.capability c.is_free-free.result many c.is_free-free.ensures c.self.invariant.sound c.if-free.true in
-    let is = c.insert.ensures.slots ∙ ap (λ (n : ℕ). inserted slots n c.args.capability None) c.new.ensures in
-    ap (λ (s : State). s.objects) (root-state o slots _ old c.insert.new.self.0 c.args.index c.args.capability c.self.invariant.agrees c.insert.ensures.bytes empty is)
-    ∙ ap (λ (p : Parts). (state_in p).objects) c.self.view_is
-
-pub returns-else-free-clause-outcome : goal.returns-else-free-clause-outcome
-returns-else-free-clause-outcome c =
+pub returns-else-free : goal.returns-else-free
+returns-else-free c =
     let many = c.boot_slots-count.ensures.value ∙ ap (λ (p : Parts). 2 ^ (state_in p).boot_radix) (sym c.self.view_is) in
     let refused = put-refused c.self.inside.kernel (table_slots c.self.inside.store.1) c.self.inside.store.0 c.boot_slots-count.result c.args.index c.args.capability c.is_free-free.result many c.is_free-free.ensures
     c.if-free.false in

@@ -1,4 +1,4 @@
--- By the law on untyped memory, where no objects are.
+-- By the law on untyped memory.
 use Rattle.std.proofs.Common.{◌∙◌, ◌+◌, ◌*◌, ◌^◌, ℕ, Bool, Option, refl, sym, ap, subst}
 use Rattle.kernel.proofs.Untypeds.{may-tested, memory-few, untyped-none, untyped-put, untyped-valid}
 use Rattle.kernel.proofs.machine.Machine.untyped.Goals as goal
@@ -17,17 +17,17 @@ put-requires-clause-sound c t sound is =
     let first = ap (λ (n : ℕ). 16 * (n + 64)) (c.boot_slots.ensures.value ∙ ap (λ (p : Parts). 2 ^ (state_in p).boot_radix) (sym c.self.view_is)) in
     let may = ap (λ (p : Parts). may_be_untyped (state_in p) c.args.offset c.args.bits) (sym c.self.view_is)
     ∙ may-tested c.self.inside.kernel (table_slots c.self.inside.store.1) c.self.inside.store.0 c.args.offset c.args.bits _ c.self.invariant.agrees first ∙ sym c.may_be_untyped-fits.ensures in
-    put_untyped-whole _ t c.args.index c.args.offset c.args.bits sound c.requires (untyped-put _ c.args.index c.args.offset c.args.bits (may ∙ c.if-fits.true) ∙ is)
+    put_untyped-whole _ t c.args.index c.args.offset c.args.bits sound (untyped-put _ c.args.index c.args.offset c.args.bits (may ∙ c.if-fits.true) ∙ is)
 
-pub returns-then-fits-clause-outcome : goal.returns-then-fits-clause-outcome
-returns-then-fits-clause-outcome c =
+pub returns-then-fits : goal.returns-then-fits
+returns-then-fits c =
     let first = ap (λ (n : ℕ). 16 * (n + 64)) (c.boot_slots.ensures.value ∙ ap (λ (p : Parts). 2 ^ (state_in p).boot_radix) (sym c.self.view_is)) in
     let may = ap (λ (p : Parts). may_be_untyped (state_in p) c.args.offset c.args.bits) (sym c.self.view_is)
     ∙ may-tested c.self.inside.kernel (table_slots c.self.inside.store.1) c.self.inside.store.0 c.args.offset c.args.bits _ c.self.invariant.agrees first ∙ sym c.may_be_untyped-fits.ensures in
-    subst (λ (d : Option State). GivesIf d c.put.result c.args.self.now c.put.new.self) (sym (untyped-put _ c.args.index c.args.offset c.args.bits (may ∙ c.if-fits.true))) c.put.ensures.outcome
+    subst (λ (d : Option State). GivesIf d c.put.result c.args.self.now c.put.new.self) (sym (untyped-put _ c.args.index c.args.offset c.args.bits (may ∙ c.if-fits.true))) c.put.ensures
 
-pub returns-else-fits-clause-outcome : goal.returns-else-fits-clause-outcome
-returns-else-fits-clause-outcome c =
+pub returns-else-fits : goal.returns-else-fits
+returns-else-fits c =
     let first = ap (λ (n : ℕ). 16 * (n + 64)) (c.boot_slots.ensures.value ∙ ap (λ (p : Parts). 2 ^ (state_in p).boot_radix) (sym c.self.view_is)) in
     let may = ap (λ (p : Parts). may_be_untyped (state_in p) c.args.offset c.args.bits) (sym c.self.view_is)
     ∙ may-tested c.self.inside.kernel (table_slots c.self.inside.store.1) c.self.inside.store.0 c.args.offset c.args.bits _ c.self.invariant.agrees first ∙ sym c.may_be_untyped-fits.ensures in
