@@ -56,7 +56,9 @@ for bits in 19 20 22; do
         fi
     done
 done
-for case in count memory calls lines; do
-    echo "10 million events of the kernel, $case:"
-    time -p "$copy/crates/kernel_bench/out/kernel_bench" "$case"
+for case in count memory calls lines crowd; do
+    for bits in 16 24; do
+        echo "10 million events of the kernel, $case, memory of 2^$bits bytes:"
+        time -p "$copy/crates/kernel_bench/out/kernel_bench" "$case" "$bits"
+    done
 done
