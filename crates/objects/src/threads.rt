@@ -11,7 +11,7 @@ ghost use Rattle.objects.specs.Tables.{kind_in, sending_in, state_of, thread_in}
 ghost use Rattle.objects.specs.Threads.{status_of, thread_state};
 
 use crate::records::{Status, Thread};
-use crate::tables::{Objects, THREAD_SIZE};
+use crate::tables::Objects;
 use rv32_exec::Regs;
 
 /// Priorities are 0 to 255.
@@ -38,7 +38,7 @@ impl Objects {
         ensures { (slots : Slots) (memory : List ℕ) → state_of self.new slots memory
             ≡ with_thread (state_of self.old slots memory) offset (thread_state thread) }
     {
-        self.threads.put(THREAD_SIZE, offset, thread);
+        self.threads.put(offset, thread);
     }
 
     /// Sets the registers of a thread.
