@@ -1,9 +1,8 @@
 -- What is kept of the rights to reply to a thread.
-use Rattle.std.proofs.Common.{ℕ, ◌≡◌, ◌∙◌, ◌==◌, ◌&&◌, inl, inr, Bool, true, false, not, if◌then◌else◌, Option, Some, None, option_map, List, refl, sym, ap}
-use Rattle.std.specs.Option.{option_map_or}
+use Rattle.std.proofs.Common.{ℕ, ◌≡◌, ◌∙◌, ◌==◌, ◌&&◌, inl, inr, true, false, not, if◌then◌else◌, Option, Some, None, option_map, List, refl, sym, ap}
 use Rattle.std.proofs.lemmas.Bool.Decides.{eqb_tells}
 use Rattle.model.specs.Kernel.State.{put}
-use Rattle.objects.proofs.Kept.{put-here, put-there}
+use Rattle.objects.proofs.Kept.{put-there}
 use Rattle.objects.specs.Changes.{voided}
 use Rattle.objects.specs.Rights.{AreKnown, has_right}
 use Rattle.objects.specs.Tables.{placed, thread_in}

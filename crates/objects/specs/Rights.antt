@@ -1,5 +1,5 @@
 -- Who has the right to reply to a thread, and what is kept of it.
-use Rattle.std.specs.Prelude.{ℕ, ◌≡◌, ◌==◌, Bool, true, false, Option, Some, None, List}
+use Rattle.std.specs.Prelude.{ℕ, ◌≡◌, ◌==◌, Bool, true, false, Option, Some, List}
 use Rattle.std.specs.Option.{option_map_or}
 use Rattle.objects.specs.Tables.{placed, thread_in}
 use Rattle.objects.specs.declared.records.Thread.{Thread}

@@ -19,7 +19,7 @@ use crate::places::Places;
 use crate::records::{Kind, Record, Status, Thread};
 use crate::thread_places::ThreadPlaces;
 use model::Slot;
-use queues::Queues;
+use queues::{Queues, ReadyList};
 use std::alloc::{AllocError, Global};
 use std::marker::Model;
 
@@ -43,7 +43,7 @@ pub struct Objects {
     pub(crate) records: Places<Record>,
     pub(crate) threads: ThreadPlaces,
     pub(crate) waiting: Queues,
-    pub(crate) ready: Queues,
+    pub(crate) ready: ReadyList,
     pub(crate) masked: [bool; 64],
     pub(crate) pending: [bool; 64],
 }
@@ -94,7 +94,7 @@ impl Objects {
             records: Places::filled(alloc, size / LEAST_SIZE, None)?,
             threads: ThreadPlaces::new(alloc, places)?,
             waiting: Queues::new(alloc, places)?,
-            ready: Queues::new(alloc, places)?,
+            ready: ReadyList::new(alloc, places)?,
             masked: quiet(),
             pending: quiet(),
         })

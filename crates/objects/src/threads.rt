@@ -14,9 +14,6 @@ use crate::records::{Status, Thread};
 use crate::tables::Objects;
 use rv32_exec::Regs;
 
-/// Priorities are 0 to 255.
-const PRIORITIES: u32 = 256;
-
 impl Objects {
     /// The thread at an offset, or a new one where none is.
     pub(crate) fn thread_or_new(&self, offset: u32) -> Thread
@@ -117,7 +114,7 @@ impl Objects {
     pub(crate) fn running(&self) -> Option<u32>
         ensures { (slots : Slots) (memory : List ℕ) → result ≡ current (state_of self.now slots memory) }
     {
-        self.ready.first_below(PRIORITIES)
+        self.ready.current()
     }
 
     /// Sets how many ticks a thread runs on.

@@ -1,5 +1,5 @@
 -- The one thread that may have the right loses it.
-use Rattle.std.proofs.Common.{ℕ, ◌∙◌, List, Option, option_map, ap, sym}
+use Rattle.std.proofs.Common.{◌∙◌, List, Option, option_map, ap, sym}
 use Rattle.objects.proofs.Repliers.{one-voided}
 use Rattle.objects.proofs.thread_places.ThreadPlaces.void_rights.Goals as goal
 use Rattle.objects.specs.Changes.{voided}
