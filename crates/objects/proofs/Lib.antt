@@ -10,6 +10,7 @@ pub mod Kept
 pub mod Leaving
 pub mod Lines
 pub mod Lists
+pub mod Repliers
 pub mod Replacing
 pub mod Serving
 pub mod Stranded

@@ -1,5 +1,6 @@
 pub mod Changes
 pub mod Frames
+pub mod Rights
 pub mod Tables
 pub mod Threads
 pub mod Waiting

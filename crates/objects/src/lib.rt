@@ -12,6 +12,7 @@ mod records;
 mod scheduling_calls;
 mod tables;
 mod thread_calls;
+mod thread_places;
 mod threads;
 mod waiting;
 

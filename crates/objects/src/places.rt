@@ -6,6 +6,7 @@ ghost use Rattle.objects.specs.Changes.{voided};
 ghost use Rattle.objects.specs.Tables.{placed, thread_in};
 
 use crate::records::Thread;
+use crate::tables::THREAD_SIZE;
 use std::alloc::{AllocError, Global};
 use std::marker::Model;
 
@@ -25,12 +26,12 @@ impl<T> Model for Places<T> {
 }
 
 impl<T: Copy> Places<T> {
-    /// A table of so many entries, all of them empty.
-    pub(crate) fn new(alloc: Global, count: u32) -> Result<Self, AllocError>
-        ensures { IfOk result (λ places. places ≡ replicate count None) }
+    /// A table of so many entries, with the same in each of them.
+    pub(crate) fn filled(alloc: Global, count: u32, held: Option<T>) -> Result<Self, AllocError>
+        ensures { IfOk result (λ places. places ≡ replicate count held) }
     {
         let mut entries = Vec::new(alloc);
-        entries.resize(count as usize, None)?;
+        entries.resize(count as usize, held)?;
         Ok(Places { entries })
     }
 
@@ -64,6 +65,17 @@ impl<T: Copy> Places<T> {
 }
 
 impl Places<Thread> {
+    /// Takes away the right to reply to a thread from the thread at an offset, if that has it.
+    pub(crate) fn void_right(&mut self, holder: u32, gone: u32)
+        ensures threads { (other : ℕ) → thread_in self.new other
+            ≡ put (thread_in self.old) holder (option_map (voided gone) (thread_in self.old holder)) other }
+        ensures long { length self.new ≡ length self.old }
+    {
+        if let Some(thread) = self.get(THREAD_SIZE, holder) {
+            self.put(THREAD_SIZE, holder, void_right(thread, gone));
+        }
+    }
+
     /// Takes away all rights to reply to a thread.
     pub(crate) fn void_rights(&mut self, gone: u32)
         ensures threads { (other : ℕ) → thread_in self.new other ≡ option_map (voided gone) (thread_in self.old other) }

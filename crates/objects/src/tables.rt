@@ -17,8 +17,9 @@ ghost use Rattle.removals.specs.Steps.{ends_thread, object_ended};
 
 use crate::places::Places;
 use crate::records::{Kind, Record, Status, Thread};
+use crate::thread_places::ThreadPlaces;
 use model::Slot;
-use queues::Queues;
+use queues::{Queues, ReadyList};
 use std::alloc::{AllocError, Global};
 use std::marker::Model;
 
@@ -40,9 +41,9 @@ pub struct Objects {
     pub(crate) bits: u32,
     pub(crate) radix: u32,
     pub(crate) records: Places<Record>,
-    pub(crate) threads: Places<Thread>,
+    pub(crate) threads: ThreadPlaces,
     pub(crate) waiting: Queues,
-    pub(crate) ready: Queues,
+    pub(crate) ready: ReadyList,
     pub(crate) masked: [bool; 64],
     pub(crate) pending: [bool; 64],
 }
@@ -90,10 +91,10 @@ impl Objects {
         Ok(Objects {
             bits,
             radix,
-            records: Places::new(alloc, size / LEAST_SIZE)?,
-            threads: Places::new(alloc, places)?,
+            records: Places::filled(alloc, size / LEAST_SIZE, None)?,
+            threads: ThreadPlaces::new(alloc, places)?,
             waiting: Queues::new(alloc, places)?,
-            ready: Queues::new(alloc, places)?,
+            ready: ReadyList::new(alloc, places)?,
             masked: quiet(),
             pending: quiet(),
         })
@@ -120,7 +121,7 @@ impl Objects {
     pub(crate) fn thread_at(&self, offset: u32) -> Option<Thread>
         ensures { result ≡ thread_in self.now.threads offset }
     {
-        self.threads.get(THREAD_SIZE, offset)
+        self.threads.get(offset)
     }
 
     /// How many slots the object has that starts at an offset.
@@ -184,7 +185,7 @@ impl Objects {
             ≡ all_leave (state_of self.old slots memory) (ends_thread (state_of self.old slots memory) offset) }
         ensures gone { times_queued self.new.waiting.entries offset ≡ 0 }
     {
-        if self.threads.get(THREAD_SIZE, offset).is_none() {
+        if self.threads.get(offset).is_none() {
             return;
         }
         self.forget(offset);
@@ -198,7 +199,7 @@ impl Objects {
     {
         self.waiting.end(offset);
         self.records.clear(LEAST_SIZE, offset);
-        self.threads.clear(THREAD_SIZE, offset);
+        self.threads.clear(offset);
     }
 
     /// The object at an offset ends: a thread leaves every queue.
@@ -221,7 +222,7 @@ impl Objects {
             slice: FULL_SLICE,
             ..thread
         };
-        self.threads.put(THREAD_SIZE, offset, woken);
+        self.threads.put(offset, woken);
         self.ready.leave(offset);
         self.ready.push(u32::from(thread.priority), offset);
     }
@@ -281,7 +282,7 @@ impl Objects {
             → state_of self.new slots memory ≡ begun (state_of self.old slots memory) memory kind offset }
     {
         match record_of(kind) {
-            None => self.threads.put(THREAD_SIZE, offset, Thread::new()),
+            None => self.threads.put(offset, Thread::new()),
             Some(record) => self.records.put(LEAST_SIZE, offset, record),
         }
     }

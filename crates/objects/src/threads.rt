@@ -11,11 +11,8 @@ ghost use Rattle.objects.specs.Tables.{kind_in, sending_in, state_of, thread_in}
 ghost use Rattle.objects.specs.Threads.{status_of, thread_state};
 
 use crate::records::{Status, Thread};
-use crate::tables::{Objects, THREAD_SIZE};
+use crate::tables::Objects;
 use rv32_exec::Regs;
-
-/// Priorities are 0 to 255.
-const PRIORITIES: u32 = 256;
 
 impl Objects {
     /// The thread at an offset, or a new one where none is.
@@ -38,7 +35,7 @@ impl Objects {
         ensures { (slots : Slots) (memory : List ℕ) → state_of self.new slots memory
             ≡ with_thread (state_of self.old slots memory) offset (thread_state thread) }
     {
-        self.threads.put(THREAD_SIZE, offset, thread);
+        self.threads.put(offset, thread);
     }
 
     /// Sets the registers of a thread.
@@ -117,7 +114,7 @@ impl Objects {
     pub(crate) fn running(&self) -> Option<u32>
         ensures { (slots : Slots) (memory : List ℕ) → result ≡ current (state_of self.now slots memory) }
     {
-        self.ready.first_below(PRIORITIES)
+        self.ready.current()
     }
 
     /// Sets how many ticks a thread runs on.

@@ -11,7 +11,7 @@ ghost use Rattle.objects.specs.Waiting.{IsOneSided, ReceiverTaken, SenderTaken, 
 ghost use Rattle.queues.specs.Queues.{queue_at, times_queued};
 
 use crate::records::{Record, Sending, Thread, WaitingSender};
-use crate::tables::{LEAST_SIZE, Objects, THREAD_SIZE};
+use crate::tables::{LEAST_SIZE, Objects};
 
 impl Objects {
     /// A thread that waits nowhere has no entry any more.
@@ -33,8 +33,7 @@ impl Objects {
             ≡ changed_at (state_of self.old slots memory) queue (joined thread sending) }
     {
         let held = self.thread_or_new(thread);
-        self.threads
-            .put(THREAD_SIZE, thread, Thread { sending, ..held });
+        self.threads.put(thread, Thread { sending, ..held });
         self.waiting.push(queue, thread);
     }
 

@@ -3,7 +3,7 @@
 ghost use Rattle.std.specs.Prelude.{ℕ, ◌≡◌, ◌≢◌, ◌==◌, ◌<◌, ◌/◌, ◌%◌, ◌↔◌, [], ◌∷◌, ◌++◌, IfOk, IfSome, IsTrue, drop, vec_capacity};
 ghost use Rattle.std.specs.Option.{option_map, option_map_or};
 ghost use Rattle.std.specs.List.{find, list_any};
-ghost use Rattle.model.specs.Kernel.Scheduling.{first_below, head_of};
+ghost use Rattle.model.specs.Kernel.Scheduling.{head_of};
 ghost use Rattle.queues.specs.Queues.{IsBest, StandOnce, better, queue_at, times_queued, without_queue, without_thread};
 
 use std::alloc::{AllocError, Global};
@@ -65,11 +65,11 @@ impl Queues {
         first_of(&self.entries, queue)
     }
 
-    /// The first thread of the greatest queue below a bound.
-    pub fn first_below(&self, bound: u32) -> Option<u32>
-        ensures { result ≡ first_below bound (queue_at self.now.entries) }
+    /// The first entry of the greatest queue below a bound.
+    pub(crate) fn best_below(&self, bound: u32) -> Option<Queued>
+        ensures { IsBest bound self.now.entries result }
     {
-        best_below(&self.entries, bound).map(|entry| entry.thread)
+        best_below(&self.entries, bound)
     }
 
     /// Puts a thread that stands in no queue behind all others of this queue.

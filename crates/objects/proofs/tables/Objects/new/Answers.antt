@@ -7,20 +7,20 @@ use Rattle.objects.specs.Tables.{AreTables, Tables, state_of}
 made : (c : goal.After-quiet-2) → fresh c.args.bits c.args.radix ≡ record {
   bits = c.args.bits;
   radix = c.args.radix;
-  records = c.in_ok-new.field-0;
-  threads = c.in_ok-new-2.field-0;
-  waiting = c.in_ok-new-3.field-0;
-  ready = c.in_ok-new-4.field-0;
+  records = c.in_ok-filled.field-0;
+  threads = c.in_ok-new.field-0;
+  waiting = c.in_ok-new-2.field-0;
+  ready = c.in_ok-new-3.field-0;
   masked = c.quiet.result;
   pending = c.quiet-2.result;
 }
 made c = λ i. record {
   bits = c.args.bits;
   radix = c.args.radix;
-  records = (ap (λ (n : ℕ). replicate (n / 16) None) (sym c.power-size.ensures.value) ∙ sym c.in_ok-new.ensures) i;
-  threads = (ap (λ (n : ℕ). replicate (n / 512) None) (sym c.power-size.ensures.value) ∙ sym c.in_ok-new-2.ensures) i;
-  waiting = (ap (λ (n : ℕ). record { entries = []; limit = n / 512 }) (sym c.power-size.ensures.value) ∙ sym c.in_ok-new-3.ensures) i;
-  ready = (ap (λ (n : ℕ). record { entries = []; limit = n / 512 }) (sym c.power-size.ensures.value) ∙ sym c.in_ok-new-4.ensures) i;
+  records = (ap (λ (n : ℕ). replicate (n / 16) None) (sym c.power-size.ensures.value) ∙ sym c.in_ok-filled.ensures) i;
+  threads = (ap (λ (n : ℕ). replicate (n / 512) None) (sym c.power-size.ensures.value) ∙ sym c.in_ok-new.ensures) i;
+  waiting = (ap (λ (n : ℕ). record { entries = []; limit = n / 512 }) (sym c.power-size.ensures.value) ∙ sym c.in_ok-new-2.ensures) i;
+  ready = (ap (λ (n : ℕ). record { entries = []; limit = n / 512 }) (sym c.power-size.ensures.value) ∙ sym c.in_ok-new-3.ensures) i;
   masked = sym c.quiet.ensures i;
   pending = sym c.quiet-2.ensures i;
 }
