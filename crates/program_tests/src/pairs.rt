@@ -10,6 +10,8 @@
 //! | 8, 9 | CNodes of 16 slots | 0x16400, 0x16500 |
 //! | 10 | the endpoint | 0x16600 |
 
+ghost use Rattle.std.specs.Prelude.{◌<◌};
+
 use image::{Parts, ThreadParts};
 use model::{CapabilityEntry, FrameEntry, ObjectEntry, RegisterEntry, TableEntry, UntypedEntry};
 use rv32_isa::Register;
