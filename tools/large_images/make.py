@@ -6,6 +6,8 @@ threads of 31 registers, 65536 words and as many records, each with a range and 
 
 To be booted: the same counts in memory of 2^24 bytes, but for the contents, which are as many as frames fit beside the other objects;
 the threads have no records, share one address space and one CNode, and each fills the same 64 pages.
+
+`make.py count 1 FILE` writes an image of one thread that counts in a register, in memory of 2^16 bytes.
 """
 
 import struct
@@ -95,7 +97,17 @@ def boot_image(share):
         yield b"".join(words(i, i) for i in range(1, 32)) + program
 
 
-make = {"read": read_image, "boot": boot_image}[sys.argv[1]]
+def counting_image(_share):
+    yield header(16, 4, (1, 5, 0, 0, 1, 1, 0, 1))
+    yield words(0x8000, 15)
+    yield words(0, 6, 0, 0, 8, 0, 0, 7, 0, 0, 2, 0, 0, 5, 4)
+    yield words(1, 0, 2)
+    yield words(1, 0x1000, 0, 4)
+    yield words(3, 4, 28, 1, 100) + struct.pack("<Q", 100) + words(0, 0, 0x1000, 0, 2, 0)
+    yield words(0x00128293, 0xFFDFF06F)  # addi x5, x5, 1; jal x0, -4
+
+
+make = {"read": read_image, "boot": boot_image, "count": counting_image}[sys.argv[1]]
 with open(sys.argv[3], "wb") as file:
     for piece in make(int(sys.argv[2])):
         file.write(piece)
