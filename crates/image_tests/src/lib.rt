@@ -3,3 +3,5 @@
 
 #[cfg(test)]
 mod solo;
+#[cfg(test)]
+mod solo_parts;

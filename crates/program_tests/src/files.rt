@@ -97,6 +97,22 @@ impl Answer {
         assert_eq!(rt; self.errors.bytes(), errors);
         assert_eq!(rt; self.status, status);
     }
+
+    /// Asserts that the run was carried out, and what its last lines are.
+    pub fn ends_with(&self, rt: &impl Abort, lines: &[u8]) {
+        assert_eq!(rt; self.status, 0);
+        assert!(rt; self.output.bytes().ends_with(lines));
+    }
+
+    /// Asserts that there are so many lines and that none says `error` or `fault`: of all the words of a trace
+    /// without interrupts, `error` alone has an r, and `fault` alone a u.
+    pub fn has_no_failure(&self, rt: &impl Abort, lines: usize) {
+        let output = self.output.bytes();
+        assert_eq!(rt; self.status, 0);
+        assert_eq!(rt; output.iter().filter(|byte| **byte == b'\n').count(), lines);
+        assert!(rt; !output.contains(&b'r'));
+        assert!(rt; !output.contains(&b'u'));
+    }
 }
 
 /// Runs the program over words, with so much room for its output.

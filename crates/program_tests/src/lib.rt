@@ -9,6 +9,10 @@ mod event_lines;
 #[cfg(test)]
 mod files;
 #[cfg(test)]
+mod instructions;
+#[cfg(test)]
+mod pairs;
+#[cfg(test)]
 mod rows;
 #[cfg(test)]
 mod sinks;
@@ -16,3 +20,5 @@ mod sinks;
 mod unverified;
 #[cfg(test)]
 mod words;
+#[cfg(test)]
+mod workers;

@@ -1,6 +1,9 @@
 //! Runs of images that are not verified, by the program over real files.
 
 use crate::files::{Answer, file_of, image_of, program};
+use crate::workers::{late_worker, worker};
+use image::{Image, Parts, write};
+use std::alloc::Global;
 use std::fs;
 use std::rt::{Env, Files};
 use std::test::Fail;
@@ -18,6 +21,9 @@ const SOLO: [u32; 48] = [
     1, 1, 0, 1, 3, 0,  5, 1, 10,  5, 2,
     2, 1, 0, 1, 4, 0,  5, 0, 9,  5, 2,
 ];
+
+/// More than any trace here has.
+const ROOM: usize = 500_000;
 
 /// The image with these bytes from a place on.
 fn solo_with<R: AllocGlobal>(rt: &R, at: usize, new: &[u8]) -> Result<Vec<u8>, Fail> {
@@ -40,11 +46,17 @@ fn run_image<R: Files + Env + AllocGlobal>(
     let answer = program(
         rt,
         &["run", "--unverified", image.as_str(), list.as_str()],
-        1000,
+        ROOM,
     );
     fs::remove_file(rt, image.as_str())?;
     fs::remove_file(rt, list.as_str())?;
     Ok(answer)
+}
+
+/// The bytes of an image made of its parts.
+fn bytes_of(alloc: Global, parts: Parts) -> Result<Vec<u8>, Fail> {
+    let image = Image::checked(parts).ok().ok_or("the parts are no image")?;
+    Ok(write(alloc, &image)?)
 }
 
 #[test]
@@ -92,5 +104,28 @@ fn a_jump_to_an_odd_word_faults(rt: HostRuntime) -> Result<(), Fail> {
     let image = solo_with(&rt, 288, &words)?;
     let answer = run_image(&rt, "odd", image.as_slice(), b"step 4\n")?;
     answer.is(&rt, 0, lines.as_slice(), b"");
+    Ok(())
+}
+
+#[test]
+fn a_worker_maps_and_revokes_for_ever(rt: HostRuntime) -> Result<(), Fail> {
+    let image = bytes_of(rt.alloc(), worker(rt.alloc())?)?;
+    let mut list = Vec::new(rt.alloc());
+    for _ in 0..5000 {
+        list.extend_from_slice(b"step\ntick\n")?;
+    }
+    let answer = run_image(&rt, "worker", image.as_slice(), list.as_slice())?;
+    answer.has_no_failure(&rt, 10_000);
+    Ok(())
+}
+
+#[test]
+fn a_store_behind_the_revoke_faults(rt: HostRuntime) -> Result<(), Fail> {
+    let image = bytes_of(rt.alloc(), late_worker(rt.alloc())?)?;
+    let answer = run_image(&rt, "late", image.as_slice(), b"step 35\n")?;
+    answer.ends_with(
+        &rt,
+        b"80016000 0000101c ok\n80016000 00001020 fault 4\nidle\n",
+    );
     Ok(())
 }

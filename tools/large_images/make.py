@@ -1,0 +1,113 @@
+"""Writes an image at a share of the format's limits: `make.py read SHARE FILE` one to be read, `make.py boot SHARE FILE` one that
+boots. SHARE is 1, 4 or 16: the limits are divided by it.
+
+To be read: 64 untypeds, 4096 objects, 16384 capabilities, 64 interrupts, 1024 tables, 4096 frames, 4096 contents of 1024 words, 64
+threads of 31 registers, 65536 words and as many records, each with a range and a term; all divided by the share.
+
+To be booted: the same counts in memory of 2^24 bytes, but for the contents, which are as many as frames fit beside the other objects;
+the threads have no records, share one address space and one CNode, and each fills the same 64 pages.
+
+`make.py count 1 FILE` writes an image of one thread that counts in a register, in memory of 2^16 bytes.
+"""
+
+import struct
+import sys
+
+
+def words(*numbers):
+    return struct.pack(f"<{len(numbers)}I", *numbers)
+
+
+def header(bits, radix, counts):
+    return b"MSYS" + words(1, bits, radix, *counts)
+
+
+def read_image(share):
+    untypeds, objects, capabilities, interrupts = (it // share for it in (64, 4096, 16384, 64))
+    tables, frames, contents, threads = (it // share for it in (1024, 4096, 4096, 64))
+    yield header(24, 14, (untypeds, objects, capabilities, interrupts, tables, frames, contents, threads))
+    yield b"".join(words(0x80000 + 0x1000 * i, 12) for i in range(untypeds))
+    yield b"".join(words(i * untypeds // objects, 6, 0) for i in range(objects))
+    yield b"".join(words(0, i, i % objects, 3, 0) for i in range(capabilities))
+    yield b"".join(words(i, 0, 1) for i in range(interrupts))
+    yield b"".join(words(0, i << 22, 0) for i in range(tables))
+    yield b"".join(words(0, i << 12, i % objects, 3) for i in range(frames))
+    for i in range(contents):
+        yield words(i, 1024, *range(1024))
+    program = words(*[0x13] * 65536)
+    registers = b"".join(words(i, i) for i in range(1, 32))
+    records = b"".join(words(i, 1, 0, 1) + struct.pack("<q", i) + words(5, 1, 10, 5, 2) for i in range(65536))
+    for i in range(threads):
+        yield words(i, 0, 18, 0, 100) + struct.pack("<Q", 100) + words(0, 0, 0x1000, 31, 65536, 65536)
+        yield registers + program + records
+
+
+def boot_image(share):
+    small, capabilities, interrupts, tables, mappings, threads = (
+        it // share for it in (59, 16384, 64, 1024, 4096, 64)
+    )
+    untypeds = [(0x41000 + 0x1000 * i, 12) for i in range(small)] + [(1 << bits, bits) for bits in range(19, 24)]
+    objects = [(i, 6, 0) for i in range(small)]
+    room = [1 << bits for _, bits in untypeds]
+
+    # Puts an object into the last untyped, or one behind it, that still has room; sizes never rise, so none is lost.
+    at = [small]
+
+    def put(kind, size, bits):
+        while room[at[0]] < 1 << bits:
+            at[0] += 1
+        room[at[0]] -= 1 << bits
+        objects.append((at[0], kind, size))
+        return len(objects) - 1
+
+    cnode = put(5, 14, 18)
+    roots = [put(8, 0, 12), put(8, 0, 12)]
+    page_tables = [put(7, 0, 12) for _ in range(tables)]
+    # What is left of the objects are frames, as far as memory reaches, and endpoints.
+    rest = 4096 // share - len(objects) - threads - interrupts
+    pages = (sum(room[at[0] :]) - 512 * threads - 16 * (interrupts + rest)) // 4096
+    count = min(rest, pages)
+    frames = list(range(small)) + [put(6, 0, 12) for _ in range(count)]
+    tcbs = [put(2, 0, 9) for _ in range(threads)]
+    bells = [put(4, 0, 4) for _ in range(interrupts)]
+    endpoints = [put(3, 0, 4) for _ in range(rest - count)]
+
+    code = frames[-64:]
+    places = sorted((roots[i % 2], i // 2 << 22) for i in range(tables))
+    pages = [(roots[0], 0x1000 * (i + 1), code[i], 4) for i in range(64)]
+    each = (mappings - 64) // tables + 1
+    others = [(root, base + 0x100000 + 0x1000 * i) for i in range(each) for root, base in places][: mappings - 64]
+    pages += [(*place, frames[i % len(frames)], 3) for i, place in enumerate(others)]
+
+    yield header(
+        24, 14, (len(untypeds), len(objects), capabilities, interrupts, tables, len(pages), len(frames), threads)
+    )
+    yield b"".join(words(*it) for it in untypeds)
+    yield b"".join(words(*it) for it in objects)
+    sources = frames + endpoints
+    yield b"".join(words(cnode, i, sources[i % len(sources)], 3, 0) for i in range(capabilities))
+    yield b"".join(words(i, bells[i], 1) for i in range(interrupts))
+    yield b"".join(words(*place, table) for place, table in zip(places, page_tables))
+    yield b"".join(words(*it) for it in sorted(pages))
+    for frame in frames:
+        yield words(frame, 1024, *range(1024))
+    program = words(*[0x13] * 65536)
+    for tcb in tcbs:
+        yield words(tcb, cnode, 18, roots[0], 100) + struct.pack("<Q", 100) + words(0, 0, 0x1000, 31, 65536, 0)
+        yield b"".join(words(i, i) for i in range(1, 32)) + program
+
+
+def counting_image(_share):
+    yield header(16, 4, (1, 5, 0, 0, 1, 1, 0, 1))
+    yield words(0x8000, 15)
+    yield words(0, 6, 0, 0, 8, 0, 0, 7, 0, 0, 2, 0, 0, 5, 4)
+    yield words(1, 0, 2)
+    yield words(1, 0x1000, 0, 4)
+    yield words(3, 4, 28, 1, 100) + struct.pack("<Q", 100) + words(0, 0, 0x1000, 0, 2, 0)
+    yield words(0x00128293, 0xFFDFF06F)  # addi x5, x5, 1; jal x0, -4
+
+
+make = {"read": read_image, "boot": boot_image, "count": counting_image}[sys.argv[1]]
+with open(sys.argv[3], "wb") as file:
+    for piece in make(int(sys.argv[2])):
+        file.write(piece)
