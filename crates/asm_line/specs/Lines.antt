@@ -279,8 +279,3 @@ measure_of words = do
   number ← constant_of constant.0
   ranges ← all_terms constant.1
   Ok (line.Measure number constant.1)
-
--- a line `slot` with these two words
-abbrev pub Notes : Line → List ℕ → Type 0
-Notes (line.Slot cnode index word0 word1 parent) words = word0 ∷ word1 ∷ [] ≡ words
-Notes _ words = ⊥

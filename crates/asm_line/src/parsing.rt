@@ -1,5 +1,11 @@
 //! Whole lines.
 
+ghost use Rattle.std.specs.Prelude.{◌≡◌, ◌==◌, Ok, Some, None, nat_lt, option_map, position};
+ghost use Rattle.std.specs.List.{list_all};
+ghost use Rattle.asm_line.specs.Listed.{Lists};
+ghost use Rattle.asm_line.specs.declared.lines.Line.{Line};
+ghost use Rattle.asm_line.specs.Parsing.{IsKnown, label_line, label_of, line_for, line_of, plain_word_of};
+
 use crate::faults::SYNTAX;
 use crate::instructions::instruction;
 use crate::keywords::{Keyword, is, keyword_in};
@@ -10,7 +16,9 @@ use crate::words::Words;
 use crate::{sections, thread_lines};
 
 /// What stands before the colon with which a label ends, if a word is one.
-fn label_in(word: &[u8]) -> Option<&[u8]> {
+fn label_in(word: &[u8]) -> Option<&[u8]>
+    ensures { option_map (λ name. name.now) result ≡ label_of word.now }
+{
     match word {
         [name @ .., b':'] => Some(name),
         _ => None,
@@ -18,14 +26,20 @@ fn label_in(word: &[u8]) -> Option<&[u8]> {
 }
 
 /// `word N`, behind its first word.
-fn plain_word(words: Words<'_>) -> Result<Code<'_>, u8> {
+#[tactic(auto, unfolding(crate::specs::Parsing::plain_word_of))]
+fn plain_word(words: Words<'_>) -> Result<Code<'_>, u8>
+    ensures { result ≡ plain_word_of words.entry }
+{
     let (number, words) = words.number()?;
     words.end()?;
     Ok(Code::Word(word(number)?))
 }
 
 /// What a line says that begins with a keyword.
-fn declared(keyword: Keyword, words: Words<'_>) -> Result<Line<'_>, u8> {
+#[tactic(auto, unfolding(crate::specs::Parsing::line_for))]
+fn declared(keyword: Keyword, words: Words<'_>) -> Result<Line<'_>, u8>
+    ensures { (line : Line) → IsKnown line → line_for keyword words.entry ≡ Ok line → result ≡ Ok line }
+{
     match keyword {
         Keyword::Memory => sections::memory(words),
         Keyword::Untyped => sections::untyped(words),
@@ -61,7 +75,9 @@ fn code<'a>(word: &[u8], words: Words<'a>) -> Result<Code<'a>, u8> {
 }
 
 /// What a line says that begins with a label, with what stands behind it.
-fn labelled<'a>(name: &'a [u8], words: Words<'a>) -> Result<Line<'a>, u8> {
+fn labelled<'a>(name: &'a [u8], words: Words<'a>) -> Result<Line<'a>, u8>
+    ensures { (line : Line) → label_line (Some name.now) words.entry ≡ Some (Ok line) → result ≡ Ok line }
+{
     let label = name_in(name)?;
     match words.first() {
         Some((word, words)) => Ok(Line::Code {
@@ -73,7 +89,10 @@ fn labelled<'a>(name: &'a [u8], words: Words<'a>) -> Result<Line<'a>, u8> {
 }
 
 /// What the words of a line say.
-fn line_in(words: Words<'_>) -> Result<Line<'_>, u8> {
+#[tactic(auto, unfolding(crate::specs::Parsing::line_of))]
+fn line_in(words: Words<'_>) -> Result<Line<'_>, u8>
+    ensures { (line : Line) → IsKnown line → line_of words.entry ≡ Some (Ok line) → result ≡ Ok line }
+{
     let Some((word, words)) = words.first() else {
         return Ok(Line::Blank);
     };
@@ -89,9 +108,25 @@ fn line_in(words: Words<'_>) -> Result<Line<'_>, u8> {
     }
 }
 
+/// Where a comment begins, if there is one.
+fn comment_start(text: &[u8]) -> Option<usize>
+    ensures { result ≡ position (λ byte. byte == 35) text.now }
+{
+    text.iter().position(|byte| *byte == b'#')
+}
+
+/// Whether a text is ASCII.
+fn is_ascii(text: &[u8]) -> bool
+    ensures { result ≡ list_all (λ byte. nat_lt byte 128) text.now }
+{
+    text.iter().all(|byte| *byte < 128)
+}
+
 /// The text before a comment.
-fn without_comment(text: &[u8]) -> &[u8] {
-    match text.iter().position(|byte| *byte == b'#') {
+fn without_comment(text: &[u8]) -> &[u8]
+    ensures { position (λ byte. byte == 35) text.now ≡ None → result.now ≡ text.now }
+{
+    match comment_start(text) {
         Some(end) => text.split_at(end).0,
         None => text,
     }
@@ -103,9 +138,11 @@ fn without_comment(text: &[u8]) -> &[u8] {
 ///
 /// `SYNTAX` if the line is none of the text form, and else `RANGE` if a number of it is out of the
 /// range that the line by itself can tell.
-pub fn parse_line(text: &str) -> Result<Line<'_>, u8> {
+pub fn parse_line(text: &str) -> Result<Line<'_>, u8>
+    ensures { (line : Line) → Lists line text.now → result ≡ Ok line }
+{
     let bytes = text.as_bytes();
-    if !bytes.is_ascii() {
+    if !is_ascii(bytes) {
         return Err(SYNTAX);
     }
     line_in(Words::of(without_comment(bytes)))

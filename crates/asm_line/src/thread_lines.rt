@@ -4,7 +4,8 @@ ghost use Rattle.std.specs.Prelude.{◌≡◌, ◌==◌, ◌&&◌, [], ◌∷◌
 ghost use Rattle.model.specs.Capabilities.CapabilityWords.{IsCapability, words_of};
 ghost use Rattle.model.specs.declared.capabilities.Cap.{Cap};
 ghost use Rattle.asm_line.specs.declared.lines.Line.{Line};
-ghost use Rattle.asm_line.specs.Lines.{budget_of, Notes, all_pairs, all_terms, coefficient_of, constant_of, measure_of, named_register, parent_first, parent_with, range_of, register_line_of, slot_of, term_first, term_of, thread_of};
+ghost use Rattle.asm_line.specs.Parsing.{IsKnown};
+ghost use Rattle.asm_line.specs.Lines.{budget_of, all_pairs, all_terms, coefficient_of, constant_of, measure_of, named_register, parent_first, parent_with, range_of, register_line_of, slot_of, term_first, term_of, thread_of};
 
 use crate::faults::{RANGE, SYNTAX};
 use crate::keywords::is;
@@ -178,18 +179,17 @@ fn unpacks(word0: u32, word1: u32) -> bool
 
 /// Whether the words of a line `slot` are those of a capability.
 fn notes_capability(line: &Line<'_>) -> bool
-    ensures { (capability : Cap) → IsCapability capability → Notes line.now (words_of capability) → result ≡ true }
+    ensures { IsKnown line.now → result ≡ true }
 {
     match line {
         Line::Slot { word0, word1, .. } => unpacks(*word0, *word1),
-        _ => false,
+        _ => true,
     }
 }
 
 /// `slot CNODE INDEX WORD0 WORD1 PARENT INDEX`
 pub(crate) fn slot(words: Words<'_>) -> Result<Line<'_>, u8>
-    ensures { (capability : Cap) (line : Line) → IsCapability capability → Notes line (words_of capability)
-        → slot_of words.entry ≡ Ok line → result ≡ Ok line }
+    ensures { (line : Line) → IsKnown line → slot_of words.entry ≡ Ok line → result ≡ Ok line }
 {
     let line = slot_fields(words)?;
     if notes_capability(&line) {
