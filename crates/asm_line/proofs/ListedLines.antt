@@ -1,8 +1,8 @@
 -- Each line of a listing is read as what it says.
 use Rattle.std.specs.Prelude.{◌==◌, nat_lt, nat_le}
-use Rattle.std.proofs.Common.{◌≡◌, ℕ, zero, suc, ◌+◌, ◌-◌, ◌^◌, ◌<◌, ◌≤◌, Bool, true, false, not, ◌&&◌, List, [], ◌∷◌, ◌++◌, length, get_or, Option, Some, None, Result, Ok, Err, ℤ, pos, negsuc, refl, sym, ap, ◌∙◌, arith, ltb, lt-ltb, codes, min}
+use Rattle.std.proofs.Common.{◌≡◌, ℕ, zero, suc, ◌-◌, ◌^◌, ◌<◌, Bool, true, false, not, ◌&&◌, List, [], ◌∷◌, ◌++◌, length, Some, None, Ok, ℤ, pos, negsuc, refl, ap, ◌∙◌, arith, codes, min}
 use Rattle.std.specs.Fmt.{decimal}
-use Rattle.std.specs.List.{list_all, join_with_byte}
+use Rattle.std.specs.List.{list_all}
 use Rattle.std.proofs.lemmas.Bool.{and_parts, and_from}
 use Rattle.std.proofs.lemmas.Bool.Decides.{nat_tests}
 use Rattle.model.specs.Images.Image.{between, Image, size_fits}
@@ -13,7 +13,7 @@ use Rattle.model.specs.Images.Listing.{Text, line, untyped_name, object_name, in
 use Rattle.asm_line.specs.declared.lines.Line.{Line}
 use Rattle.asm_line.specs.declared.lines.Line.TheVariants as said
 use Rattle.asm_line.specs.declared.lines.Code.TheVariants as code
-use Rattle.asm_line.specs.Words.{◌>>=◌, words_of, within, name_of, name_first, object_first, is_name}
+use Rattle.asm_line.specs.Words.{◌>>=◌, within, name_of, name_first, object_first}
 use Rattle.asm_line.specs.Lines.{keyword_of, thread_keyword_of, memory_of, untyped_of, interrupt_of, table_of, frame_of, register_line_of, word, kind_of, kind_first, size_first, object_of, capability_of, content_of, all_numbers, all_words, some_numbers, thread_of, budget_of, range_of}
 use Rattle.asm_line.specs.Parsing.{line_of, line_for, plain_word_of, IsKnown}
 use Rattle.asm_line.specs.Listed.{IsWord}
@@ -24,10 +24,19 @@ use Rattle.std.specs.Int.{w32}
 use Rattle.std.proofs.lemmas.Bool.{ltb-true}
 use Rattle.model.specs.declared.entries.TermEntry.{TermEntry}
 use Rattle.model.specs.Images.Format.{fits_signed}
-use Rattle.model.specs.Images.Image.{is_constant, not_zero}
+use Rattle.model.specs.Images.Image.{is_constant}
 use Rattle.model.specs.Images.Listing.{whole_number, term_words}
 use Rattle.asm_line.specs.Lines.{all_pairs, all_terms, term_of, coefficient_of, constant_of, measure_of}
 use Rattle.asm_line.specs.Listed.{IsTerm}
+use Rattle.model.specs.declared.capabilities.Cap.{Cap}
+use Rattle.model.specs.Capabilities.CapabilityWords.{IsCapability, words_of as words_of_capability}
+use Rattle.model.specs.declared.entries.SlotEntry.{SlotEntry}
+use Rattle.model.specs.Images.Image.{no_parent}
+use Rattle.asm_line.specs.declared.lines.Parent.{Parent}
+use Rattle.asm_line.specs.declared.lines.Parent.TheVariants as parent
+use Rattle.asm_line.specs.Words.{number_first}
+use Rattle.asm_line.specs.Lines.{parent_first, parent_with, slot_of, term_first, word_first}
+use Rattle.asm_line.proofs.NumberLaws.{name-digits}
 
 -- the words of a line, and that they say this
 pub record Reads (l : Line) (text : Text) : Type 0 where
@@ -147,10 +156,10 @@ pub record Sourced (name : Text) : Type 0 where
 
 pub source-says : (i : Image) (source : ℕ) → IsWord source → Sourced (source_name i source)
 source-says i source h = elim (is_handler i source) as (λ b. Sourced (if b then interrupt_name (interrupt_behind i source) else object_name source)) [
-    | true ↦ let less : IsWord (interrupt_behind i source) = omega arith in
-        record { first = λ words. first-object 105 (interrupt_behind i source) words refl refl (wide _ less); plain = named-plain 105 _ refl less }
-    | false ↦ record { first = λ words. first-object 111 source words refl refl (wide source h); plain = named-plain 111 source refl h }
-  ]
+  | true ↦ let less : IsWord (interrupt_behind i source) = omega arith in
+      record { first = λ words. first-object 105 (interrupt_behind i source) words refl refl (wide _ less); plain = named-plain 105 _ refl less }
+  | false ↦ record { first = λ words. first-object 111 source words refl refl (wide source h); plain = named-plain 111 source refl h }
+]
 
 capability-named : (cnode index : ℕ) (name : Text) (rights payload : ℕ) → IsWord cnode → IsWord index → Sourced name → IsWord rights → IsWord payload
     → line_of (codes "cap" ∷ object_name cnode ∷ decimal index ∷ name ∷ decimal rights ∷ decimal payload ∷ []) ≡ Some (Ok (said.Capability (object_name cnode) index name rights payload))
@@ -248,10 +257,10 @@ terms-say (t ∷ ts) h =
     let rest = terms-say ts h.1 in
     let less : t.register < 32 = grind (arith, nat_tests, h.0.0) in
     let small = small-signed t.coefficient h.0.1 in record {
-  pairs = rw (register-name t.register less) (rw (number-whole t.coefficient small) rest.pairs);
-  terms = rw (term-says t h.0) rest.terms;
-  plain = (named-digits 120 t.register refl (omega arith), (whole-plain t.coefficient small, rest.plain));
-}
+      pairs = rw (register-name t.register less) (rw (number-whole t.coefficient small) rest.pairs);
+      terms = rw (term-says t h.0) rest.terms;
+      plain = (named-digits 120 t.register refl (omega arith), (whole-plain t.coefficient small, rest.plain));
+    }
 
 small-constant : (z : ℤ) → is_constant z ≡ true → IsSmall z
 small-constant (pos n) h = grind (arith, nat_tests)
@@ -263,3 +272,77 @@ measure-says z words h t = rw (first-number z words (small-constant z h)) (rw t.
 
 pub constant-plain : (z : ℤ) → is_constant z ≡ true → IsPlainWord (whole_number z)
 constant-plain z h = whole-plain z (small-constant z h)
+
+-- ---- slots
+
+pub record Parented (first second : Text) (empty : Bool) (p : Parent) : Type 0 where
+  pub raw : Parent
+  pub number : ℤ
+  pub begins : parent_first (first ∷ second ∷ []) ≡ Ok (raw, second ∷ [])
+  pub index : number_first (second ∷ []) ≡ Ok (number, [])
+  pub whole : parent_with empty raw number ≡ Ok p
+
+slot-says : (cnode index word0 word1 : ℕ) (first second : Text) (p : Parent) → IsWord cnode → between 0 (2 ^ 14 - 1) index ≡ true → index < 2 ^ 63 → IsWord word0 → IsWord word1
+    → Parented first second ((word0 == 0) && (word1 == 0)) p
+    → line_of (codes "slot" ∷ object_name cnode ∷ decimal index ∷ decimal word0 ∷ decimal word1 ∷ first ∷ second ∷ []) ≡ Some (Ok (said.Slot (object_name cnode) index word0 word1 p))
+unfolding line_of keyword_of thread_keyword_of line_for slot_of
+slot-says cnode index word0 word1 first second p a h small b d parented =
+    rw (first-object 111 cnode (decimal index ∷ decimal word0 ∷ decimal word1 ∷ first ∷ second ∷ []) refl refl (wide cnode a))
+    (rw (first-decimal index (decimal word0 ∷ decimal word1 ∷ first ∷ second ∷ []) small)
+    (rw (first-decimal word0 (decimal word1 ∷ first ∷ second ∷ []) (wide word0 b))
+    (rw (first-decimal word1 (first ∷ second ∷ []) (wide word1 d))
+    (rw parented.begins (rw parented.index (rw h (rw (is-word word0 b) (rw (is-word word1 d) (rw parented.whole refl)))))))))
+
+boot-parented : (empty : Bool) → Parented (codes "boot") (decimal 0) empty parent.Boot
+boot-parented empty = record { raw = parent.Boot; number = pos 0; begins = refl; index = first-decimal 0 [] (omega arith); whole = refl }
+
+named-parented : (cnode index : ℕ) (empty : Bool) → IsWord cnode → (not empty && nat_lt index (2 ^ 14)) ≡ true → Parented (object_name cnode) (decimal index) empty (parent.Slot (object_name cnode) index)
+named-parented cnode index empty a h =
+    let both = and_parts (not empty) (nat_lt index (2 ^ 14)) h in
+    let less : index < 2 ^ 14 = ltb-true _ _ both.1 in
+    let inside : between 0 (2 ^ 14 - 1) index ≡ true = grind (arith, nat_tests) in record {
+      raw = parent.Slot (object_name cnode) 0;
+      number = pos index;
+      begins = ap (λ r. r >>= λ name. Ok (parent.Slot name 0, decimal index ∷ [])) (name-digits 111 (decimal cnode) refl (decimal-digits cnode (omega arith)));
+      index = first-decimal index [] (omega arith);
+      whole = rw both.0 (rw inside refl);
+    }
+
+abbrev pub parent_by : Bool → SlotEntry → Parent
+parent_by b e = if b then parent.Boot else parent.Slot (object_name e.parent_cnode) e.parent_index
+
+abbrev pub parent_words_by : Bool → SlotEntry → List Text
+parent_words_by b e = if b then codes "boot" ∷ decimal 0 ∷ [] else object_name e.parent_cnode ∷ decimal e.parent_index ∷ []
+
+pub slot-reads : (e : SlotEntry) (c : Cap) (b : Bool) → IsWord e.cnode → nat_lt e.index (2 ^ 14) ≡ true → IsWord e.word0 → IsWord e.word1 → IsCapability c → e.word0 ∷ e.word1 ∷ [] ≡ words_of_capability c
+    → IsWord e.parent_cnode → (if b then e.parent_index == no_parent else (not ((e.word0 == 0) && (e.word1 == 0)) && nat_lt e.parent_index (2 ^ 14))) ≡ true
+    → Reads (said.Slot (object_name e.cnode) e.index e.word0 e.word1 (parent_by b e))
+    (line ((codes "slot" ∷ object_name e.cnode ∷ decimal e.index ∷ decimal e.word0 ∷ decimal e.word1 ∷ []) ++ parent_words_by b e))
+slot-reads e c true a h w0 w1 cap own g k =
+    let less : e.index < 2 ^ 14 = ltb-true _ _ h in
+    let inside : between 0 (2 ^ 14 - 1) e.index ≡ true = grind (arith, nat_tests) in record {
+      words = codes "slot" ∷ object_name e.cnode ∷ decimal e.index ∷ decimal e.word0 ∷ decimal e.word1 ∷ codes "boot" ∷ decimal 0 ∷ [];
+      spelled = refl;
+      plain = (plain-literal (codes "slot") (omega arith) refl, (named-plain 111 e.cnode refl a, (decimal-plain e.index (omega arith), (number-plain e.word0 w0, (number-plain e.word1 w1, (plain-literal (codes "boot") (omega arith) refl, (number-plain 0 (omega arith), tt)))))));
+      known = (c, cap, own);
+      says = slot-says e.cnode e.index e.word0 e.word1 (codes "boot") (decimal 0) parent.Boot a inside (omega arith) w0 w1 (boot-parented _);
+    }
+slot-reads e c false a h w0 w1 cap own g k =
+    let less : e.index < 2 ^ 14 = ltb-true _ _ h in
+    let both = and_parts (not ((e.word0 == 0) && (e.word1 == 0))) (nat_lt e.parent_index (2 ^ 14)) k in
+    let parent-less : e.parent_index < 2 ^ 14 = ltb-true _ _ both.1 in
+    let inside : between 0 (2 ^ 14 - 1) e.index ≡ true = grind (arith, nat_tests) in record {
+      words = codes "slot" ∷ object_name e.cnode ∷ decimal e.index ∷ decimal e.word0 ∷ decimal e.word1 ∷ object_name e.parent_cnode ∷ decimal e.parent_index ∷ [];
+      spelled = refl;
+      plain = (plain-literal (codes "slot") (omega arith) refl, (named-plain 111 e.cnode refl a, (decimal-plain e.index (omega arith), (number-plain e.word0 w0, (number-plain e.word1 w1, (named-plain 111 e.parent_cnode refl g, (decimal-plain e.parent_index (omega arith), tt)))))));
+      known = (c, cap, own);
+      says = slot-says e.cnode e.index e.word0 e.word1 (object_name e.parent_cnode) (decimal e.parent_index) (parent.Slot (object_name e.parent_cnode) e.parent_index) a inside (omega arith) w0 w1 (named-parented e.parent_cnode e.parent_index _ g k);
+    }
+
+-- ---- what is lent
+
+pub next-number : (n : ℕ) (words rest : List Text) → IsWord n → words ≡ decimal n ∷ rest → word_first words ≡ Ok (n, rest)
+next-number n words rest h e = ap word_first e ∙ (rw (number-decimal n (wide n h)) (rw (is-word n h) refl))
+
+pub next-term : (t : TermEntry) (words rest : List Text) → IsTerm t → words ≡ term_words t ++ rest → term_first words ≡ Ok (t, rest)
+next-term t words rest h e = ap term_first e ∙ (rw (term-says t h) refl)

@@ -1,17 +1,17 @@
 -- The text of each line of a listing falls into the words that say it.
-use Rattle.std.specs.Prelude.{◌==◌, nat_lt, nat_le, codes, map, flat_map}
-use Rattle.std.proofs.Common.{◌≡◌, ℕ, zero, suc, ◌+◌, ◌-◌, ◌^◌, ◌<◌, ◌≤◌, Bool, true, false, not, ◌&&◌, min, List, [], ◌∷◌, length, Option, Some, None, Result, Ok, refl, sym, ap, ◌∙◌, arith}
+use Rattle.std.specs.Prelude.{◌==◌, nat_lt, codes, map, flat_map}
+use Rattle.std.proofs.Common.{◌≡◌, ℕ, suc, ◌-◌, ◌^◌, ◌<◌, true, not, min, [], ◌∷◌, length, Some, None, Ok, refl, ap, ◌∙◌, arith}
 use Rattle.std.specs.Fmt.{decimal}
 use Rattle.std.specs.List.{list_all, position}
 use Rattle.std.proofs.lemmas.Bool.Decides.{nat_tests}
-use Rattle.model.specs.Images.Image.{between}
-use Rattle.model.specs.Images.Listing.{Text, line, untyped_name, object_name, interrupt_name, register_name, kind_name, source_name, whole_number, term_words}
+use Rattle.model.specs.Images.Image.{between, no_parent}
+use Rattle.model.specs.Images.Listing.{Text, untyped_name, object_name, interrupt_name, register_name, kind_name, source_name, whole_number, term_words}
 use Rattle.asm_line.specs.declared.lines.Line.{Line}
 use Rattle.asm_line.specs.Words.{words_of}
-use Rattle.asm_line.specs.Parsing.{IsKnown, line_of}
-use Rattle.asm_line.specs.Listed.{Lists, memory, untyped, object, interrupt, capability, table, frame, content, thread, measure, range, register, label, word, end, IsWord}
-use Rattle.asm_line.proofs.PlainWords.{IsPlainWord, AllPlain, is_plain, decimal-plain, words-line, line-all, none-there}
-use Rattle.asm_line.proofs.ListedLines.{Reads, wide, named-plain, named-digits, number-plain, plain-literal, memory-says, untyped-says, object-says, interrupt-says, capability-says, table-says, frame-says, content-says, thread-says, measure-says, constant-plain, terms-say, range-says, register-says, label-says, word-says, end-says, kind-says, source-says, plain-numbers}
+use Rattle.asm_line.specs.Parsing.{line_of}
+use Rattle.asm_line.specs.Listed.{Lists, memory, untyped, object, interrupt, capability, table, frame, content, thread, measure, range, slot, register, label, word, end, IsWord}
+use Rattle.asm_line.proofs.PlainWords.{IsPlainWord, is_plain, decimal-plain, words-line, line-all, none-there}
+use Rattle.asm_line.proofs.ListedLines.{Reads, named-plain, named-digits, number-plain, plain-literal, memory-says, untyped-says, object-says, interrupt-says, capability-says, table-says, frame-says, content-says, thread-says, measure-says, constant-plain, terms-say, range-says, register-says, label-says, word-says, end-says, kind-says, source-says, plain-numbers, slot-reads}
 
 most : (low high n : ℕ) → between low high n ≡ true → high < 2 ^ 63 → n < 2 ^ 63
 most low high n h less = grind (arith, nat_tests)
@@ -94,8 +94,25 @@ reads _ _ (content c a some h) = record {
 reads _ _ (thread t a b d e h k f g) = let x = t.header in record {
   words = codes "thread" ∷ object_name x.tcb ∷ object_name x.cnode ∷ decimal x.guard ∷ object_name x.root ∷ decimal x.priority ∷ decimal x.budget ∷ decimal x.fault ∷ codes "l" ∷ decimal x.base ∷ [];
   spelled = refl;
-  plain = (literal (codes "thread") (omega arith) refl, (named-plain 111 x.tcb refl a, (named-plain 111 x.cnode refl b, (number-plain x.guard d, (named-plain 111 x.root refl e, (small-plain 0 255 x.priority h (omega arith),
-      (small-plain 1 (2 ^ 62) x.budget k (omega arith), (number-plain x.fault f, (literal (codes "l") (omega arith) refl, (number-plain x.base g, tt))))))))));
+  plain = (
+    literal (codes "thread") (omega arith) refl,
+    (
+      named-plain 111 x.tcb refl a,
+      (
+        named-plain 111 x.cnode refl b,
+        (
+          number-plain x.guard d,
+          (
+            named-plain 111 x.root refl e,
+            (
+              small-plain 0 255 x.priority h (omega arith),
+              (small-plain 1 (2 ^ 62) x.budget k (omega arith), (number-plain x.fault f, (literal (codes "l") (omega arith) refl, (number-plain x.base g, tt)))),
+            ),
+          ),
+        ),
+      ),
+    ),
+  );
   known = tt;
   says = thread-says x.tcb x.cnode x.guard x.root x.priority x.budget x.fault x.base a b d e h (most 0 255 x.priority h (omega arith)) k (most 1 (2 ^ 62) x.budget k (omega arith)) f g;
 }
@@ -113,6 +130,7 @@ reads _ _ (range e h a b k) = record {
   known = tt;
   says = range-says e.register e.low e.high (least 0 31 e.register h) (under e.register h) a b k;
 }
+reads _ _ (slot e c a h w0 w1 cap own g k) = slot-reads e c (e.parent_cnode == no_parent) a h w0 w1 cap own g k
 reads _ _ (register e h some small) = record {
   words = codes "reg" ∷ register_name e.register ∷ decimal e.value ∷ [];
   spelled = refl;

@@ -1,7 +1,6 @@
 -- What listings write of numbers, names and registers is read as these.
 use Rattle.std.specs.Prelude.{◌==◌}
-use Rattle.std.proofs.Common.{◌≡◌, ℕ, zero, suc, ◌+◌, ◌-◌, ◌*◌, ◌/◌, ◌%◌, ◌^◌, ◌<◌, ◌≤◌, Bool, true, false, not, ◌&&◌, ◌||◌, cond, List, [], ◌∷◌, ◌++◌, length, get_or, Option, Some, None, Result, Ok, Err, ℤ, pos, negsuc, refl, sym, ap, subst, ◌∙◌, arith, ltb, lt-ltb, le-ltb, min}
-use Rattle.std.specs.List.{list_all}
+use Rattle.std.proofs.Common.{◌≡◌, ℕ, suc, ◌+◌, ◌-◌, ◌*◌, ◌/◌, ◌%◌, ◌^◌, ◌<◌, ◌≤◌, Bool, true, false, ◌&&◌, cond, List, [], ◌∷◌, ◌++◌, length, Some, Ok, Err, ℤ, pos, negsuc, refl, ap, ◌∙◌, arith, ltb, lt-ltb, min}
 use Rattle.std.specs.Fmt.{decimal}
 use Rattle.std.specs.Str.{all_ascii_digits}
 use Rattle.std.specs.Char.{is_ascii_digit, digit_value}
@@ -10,7 +9,7 @@ use Rattle.std.proofs.lemmas.Bool.{and_parts, and_right, ltb-true, ltb-false}
 use Rattle.std.proofs.lemmas.Bool.Decides.{nat_tests}
 use Rattle.std.proofs.lemmas.Fmt.{decimal_nonempty, decimal_by_steps, decimal_digit, decimal_step}
 use Rattle.model.specs.Images.Listing.{Text, whole_number, register_name}
-use Rattle.asm_line.specs.Words.{◌>>=◌, is_name, is_name_byte, is_name_start, name_of, name_first, object_first, number_of, number_first, value_on, magnitude, digit_in, small_number_of, register_numbered, register_of, register_first}
+use Rattle.asm_line.specs.Words.{◌>>=◌, is_name_start, name_of, object_first, number_of, number_first, value_on, magnitude, digit_in, small_number_of, register_numbered, register_of, register_first}
 use Rattle.asm_line.proofs.PlainWords.{decimal-digits, digits-name}
 
 -- ---- values
@@ -20,8 +19,8 @@ value-append radix m [] ys = refl
 value-append radix m (x ∷ xs) ys =
     let rest = value-append radix (min (m * radix + digit_value x) (2 ^ 63 - 1)) xs ys in
     elim (ltb (digit_value x) radix) as (λ b. ((cond b (Ok (digit_value x)) (Err 1)) >>= λ digit. value_on radix (min (m * radix + digit) (2 ^ 63 - 1)) (xs ++ ys))
-        ≡ (((cond b (Ok (digit_value x)) (Err 1)) >>= λ digit. value_on radix (min (m * radix + digit) (2 ^ 63 - 1)) xs) >>= λ k. value_on radix k ys))
-        [ true ↦ rest | false ↦ refl ]
+    ≡ (((cond b (Ok (digit_value x)) (Err 1)) >>= λ digit. value_on radix (min (m * radix + digit) (2 ^ 63 - 1)) xs) >>= λ k. value_on radix k ys))
+    [ true ↦ rest | false ↦ refl ]
 
 digit-value : (d : ℕ) → d < 10 → digit_value (48 + d) ≡ d
 digit-value d h = grind (arith, nat_tests)
@@ -40,13 +39,14 @@ Valued n ds = n < 2 ^ 63 → value_on 10 0 ds ≡ Ok n
 value-decimal : (n : ℕ) → n < 2 ^ 63 → value_on 10 0 (decimal n) ≡ Ok n
 value-decimal n small = decimal_by_steps Valued one more n (omega arith) small
   where
-  one : (k : ℕ) → k < 10 → Valued k ((48 + k) ∷ [])
-  one k h less = let same : 0 * 10 + k ≡ k = omega arith in digit-last 0 k h (omega arith) ∙ ap Ok same
-  more : (k : ℕ) (ds : Text) → 10 ≤ k → Valued (k / 10) ds → Valued k (ds ++ ((48 + k % 10) ∷ []))
-  more k ds least front less =
-      let same : k / 10 * 10 + k % 10 ≡ k = omega arith in
-      value-append 10 0 ds ((48 + k % 10) ∷ [])
-      ∙ (ap (λ r. r >>= λ m. value_on 10 m ((48 + k % 10) ∷ [])) (front (omega arith)) ∙ (digit-last (k / 10) (k % 10) (omega arith) (omega arith) ∙ ap Ok same))
+    one : (k : ℕ) → k < 10 → Valued k ((48 + k) ∷ [])
+    one k h less = let same : 0 * 10 + k ≡ k = omega arith in digit-last 0 k h (omega arith) ∙ ap Ok same
+
+    more : (k : ℕ) (ds : Text) → 10 ≤ k → Valued (k / 10) ds → Valued k (ds ++ ((48 + k % 10) ∷ []))
+    more k ds least front less =
+        let same : k / 10 * 10 + k % 10 ≡ k = omega arith in
+        value-append 10 0 ds ((48 + k % 10) ∷ [])
+        ∙ (ap (λ r. r >>= λ m. value_on 10 m ((48 + k % 10) ∷ [])) (front (omega arith)) ∙ (digit-last (k / 10) (k % 10) (omega arith) (omega arith) ∙ ap Ok same))
 
 magnitude-some : (radix : ℕ) (ds : Text) → 0 < length ds → magnitude radix ds ≡ value_on radix 0 ds
 magnitude-some radix [] h = absurd (omega arith)
@@ -113,13 +113,13 @@ small-two tens ones some less small =
 small-decimal : (n : ℕ) → n < 32 → small_number_of (decimal n) ≡ Some n
 small-decimal n less = by (ltb n 10) refl
   where
-  by : (b : Bool) → ltb n 10 ≡ b → small_number_of (decimal n) ≡ Some n
-  by true e = let one : n < 10 = ltb-true n 10 e in ap small_number_of (decimal_digit n one) ∙ small-one n one
-  by false e =
-      let many : 10 ≤ n = ltb-false n 10 e in
-      let same : n / 10 * 10 + n % 10 ≡ n = omega arith in
-      ap small_number_of (decimal_step n many (omega arith) ∙ ap (λ ds. ds ++ ((48 + n % 10) ∷ [])) (decimal_digit (n / 10) (omega arith)))
-      ∙ (small-two (n / 10) (n % 10) (omega arith) (omega arith) (omega arith) ∙ ap Some same)
+    by : (b : Bool) → ltb n 10 ≡ b → small_number_of (decimal n) ≡ Some n
+    by true e = let one : n < 10 = ltb-true n 10 e in ap small_number_of (decimal_digit n one) ∙ small-one n one
+    by false e =
+        let many : 10 ≤ n = ltb-false n 10 e in
+        let same : n / 10 * 10 + n % 10 ≡ n = omega arith in
+        ap small_number_of (decimal_step n many (omega arith) ∙ ap (λ ds. ds ++ ((48 + n % 10) ∷ [])) (decimal_digit (n / 10) (omega arith)))
+        ∙ (small-two (n / 10) (n % 10) (omega arith) (omega arith) (omega arith) ∙ ap Some same)
 
 pub register-name : (n : ℕ) → n < 32 → register_of (register_name n) ≡ Ok n
 unfolding register_of

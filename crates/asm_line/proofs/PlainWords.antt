@@ -1,22 +1,22 @@
 -- Words as listings write them: no byte parts words, begins a comment or is no ASCII.
-use Rattle.std.specs.Prelude.{◌==◌, Option, None}
+use Rattle.std.specs.Prelude.{◌==◌, None}
 use Rattle.std.specs.List.{position, prefix_len}
 use Rattle.std.proofs.Common.{le-ltb}
 use Rattle.std.proofs.lemmas.List.Folds.{list_all-append}
-use Rattle.std.proofs.Common.{◌≡◌, ℕ, zero, suc, ◌+◌, ◌-◌, ◌*◌, ◌/◌, ◌%◌, ◌^◌, ◌<◌, ◌≤◌, Bool, true, false, not, ◌&&◌, ◌||◌, cond, List, [], ◌∷◌, ◌++◌, length, get_or, Result, Ok, Err, ℤ, pos, negsuc, refl, sym, ap, subst, ◌∙◌, arith, ltb, lt-ltb, min}
-use Rattle.std.specs.List.{list_all, filter, slice_split, join_with_byte, All, AllByRecursion}
+use Rattle.std.proofs.Common.{◌≡◌, ℕ, ◌^◌, ◌<◌, Bool, true, false, not, ◌&&◌, List, [], ◌∷◌, length, refl, ap, ◌∙◌, arith, ltb, lt-ltb}
+use Rattle.std.specs.List.{list_all, filter, AllByRecursion}
 use Rattle.std.specs.Fmt.{decimal}
 use Rattle.std.specs.Str.{all_ascii_digits}
-use Rattle.std.specs.Char.{is_ascii_digit, digit_value}
+use Rattle.std.specs.Char.{is_ascii_digit}
 use Rattle.std.specs.Str.Parse.{digits_value}
 use Rattle.std.proofs.lemmas.Bool.{and_parts, and_from}
 use Rattle.std.proofs.lemmas.Bool.Decides.{nat_tests}
-use Rattle.std.proofs.lemmas.Fmt.{digits_decimal, decimal_nonempty, decimal_by_steps}
+use Rattle.std.proofs.lemmas.Fmt.{digits_decimal, decimal_nonempty}
 use Rattle.std.proofs.lemmas.Str.Parse.{IsNumeralModel, numerals_by_value, tells_all_ascii_digits}
-use Rattle.std.proofs.lemmas.List.Elements.{All-from_recursion, recursion_from_All}
+use Rattle.std.proofs.lemmas.List.Elements.{All-from_recursion}
 use Rattle.std.proofs.lemmas.List.Splits.{slice_split_at, slice_split_none}
 use Rattle.model.specs.Images.Listing.{Text, line}
-use Rattle.asm_line.specs.Words.{◌>>=◌, is_blank, words_of, is_name_byte, value_on, magnitude, digit_in}
+use Rattle.asm_line.specs.Words.{is_blank, words_of, is_name_byte}
 use Rattle.asm_line.proofs.Splitting.{is_full}
 
 abbrev pub is_plain : ℕ → Bool

@@ -30,23 +30,23 @@ record Found (p : ℕ → Bool) (xs : Text) (i : ℕ) : Type 0 where
 found : (p : ℕ → Bool) (xs : Text) (i : ℕ) → position p xs ≡ Some i → Found p xs i
 found p xs i = by (ltb (position_or_len p xs) (length xs)) refl
   where
-  by : (b : Bool) → ltb (position_or_len p xs) (length xs) ≡ b → cond b (Some (position_or_len p xs)) None ≡ Some i → Found p xs i
-  by true e h = let same : position_or_len p xs ≡ i = cc in record { place = same; inside = let less : position_or_len p xs < length xs = ltb-true _ _ e in omega arith }
-  by false e h = absurd (cc)
+    by : (b : Bool) → ltb (position_or_len p xs) (length xs) ≡ b → cond b (Some (position_or_len p xs)) None ≡ Some i → Found p xs i
+    by true e h = let same : position_or_len p xs ≡ i = cc in record { place = same; inside = let less : position_or_len p xs < length xs = ltb-true _ _ e in omega arith }
+    by false e h = absurd (cc)
 
 absent : (p : ℕ → Bool) (xs : Text) → position p xs ≡ None → length xs ≤ position_or_len p xs
 absent p xs = by (ltb (position_or_len p xs) (length xs)) refl
   where
-  by : (b : Bool) → ltb (position_or_len p xs) (length xs) ≡ b → cond b (Some (position_or_len p xs)) None ≡ None → length xs ≤ position_or_len p xs
-  by true e h = absurd (cc)
-  by false e h = ltb-false _ _ e
+    by : (b : Bool) → ltb (position_or_len p xs) (length xs) ≡ b → cond b (Some (position_or_len p xs)) None ≡ None → length xs ≤ position_or_len p xs
+    by true e h = absurd (cc)
+    by false e h = ltb-false _ _ e
 
 pub position-or : (p : ℕ → Bool) (xs : Text) → unwrap_or (position p xs) (length xs) ≡ position_or_len p xs
 position-or p xs = by (ltb (position_or_len p xs) (length xs)) refl
   where
-  by : (b : Bool) → ltb (position_or_len p xs) (length xs) ≡ b → unwrap_or (cond b (Some (position_or_len p xs)) None) (length xs) ≡ position_or_len p xs
-  by true e = refl
-  by false e = let most : position_or_len p xs ≤ length xs = prefix-le (λ x. not (p x)) xs in let least : length xs ≤ position_or_len p xs = ltb-false _ _ e in omega arith
+    by : (b : Bool) → ltb (position_or_len p xs) (length xs) ≡ b → unwrap_or (cond b (Some (position_or_len p xs)) None) (length xs) ≡ position_or_len p xs
+    by true e = refl
+    by false e = let most : position_or_len p xs ≤ length xs = prefix-le (λ x. not (p x)) xs in let least : length xs ≤ position_or_len p xs = ltb-false _ _ e in omega arith
 
 -- ---- blanks before a word
 
@@ -58,12 +58,12 @@ skipped : (text : Text) → words_of (drop (position_or_len is_other text) text)
 skipped [] = refl
 skipped (b ∷ text) = by (skipped text) (is_blank b) refl
   where
-  by : words_of (drop (position_or_len is_other text) text) ≡ words_of text → (v : Bool) → is_blank b ≡ v
-      → words_of (drop (cond (not (not v)) (1 + position_or_len is_other text) 0) (b ∷ text)) ≡ words_of (b ∷ text)
-  by behind true e =
-      let one : 1 + position_or_len is_other text ≡ suc (position_or_len is_other text) = omega arith in
-      rw one (behind ∙ sym (blank-first b text e))
-  by behind false e = refl
+    by : words_of (drop (position_or_len is_other text) text) ≡ words_of text → (v : Bool) → is_blank b ≡ v
+        → words_of (drop (cond (not (not v)) (1 + position_or_len is_other text) 0) (b ∷ text)) ≡ words_of (b ∷ text)
+    by behind true e =
+        let one : 1 + position_or_len is_other text ≡ suc (position_or_len is_other text) = omega arith in
+        rw one (behind ∙ sym (blank-first b text e))
+    by behind false e = refl
 
 pub words-none : (text : Text) → position is_other text ≡ None → words_of text ≡ []
 unfolding words_of
@@ -82,18 +82,18 @@ unfolding words_of
 parts [] = record { rest = []; split = refl; words = refl }
 parts (b ∷ text) = by (parts text) (is_blank b) refl
   where
-  by : Parts text → (v : Bool) → is_blank b ≡ v → Parts (b ∷ text)
-  by others true e = record {
-    rest = slice_split is_blank text;
-    split = rw (slice_split-cons_yes is_blank b text e) (rw e refl);
-    words = rw e (sym (blank-first b text e));
-  }
-  by others false e =
-      let one : 1 + position_or_len is_blank text ≡ suc (position_or_len is_blank text) = omega arith in record {
-    rest = others.rest;
-    split = rw (slice_split-cons_no is_blank b text e) (rw others.split (rw e (rw one refl)));
-    words = rw e (rw one others.words);
-  }
+    by : Parts text → (v : Bool) → is_blank b ≡ v → Parts (b ∷ text)
+    by others true e = record {
+      rest = slice_split is_blank text;
+      split = rw (slice_split-cons_yes is_blank b text e) (rw e refl);
+      words = rw e (sym (blank-first b text e));
+    }
+    by others false e =
+        let one : 1 + position_or_len is_blank text ≡ suc (position_or_len is_blank text) = omega arith in record {
+          rest = others.rest;
+          split = rw (slice_split-cons_no is_blank b text e) (rw others.split (rw e (rw one refl)));
+          words = rw e (rw one others.words);
+        }
 
 abbrev pub word_size : Text → ℕ
 word_size text = position_or_len is_blank text
@@ -121,9 +121,9 @@ words-some text i h =
     let same : words_of (drop i text) ≡ words_of text = rw place.place at (skipped text) in
     sym same ∙ (rw cut (word-first _ _ blank))
   where
-  not-true : (b : Bool) → not b ≡ true → b ≡ false
-  not-true true e = sym e
-  not-true false e = refl
+    not-true : (b : Bool) → not b ≡ true → b ≡ false
+    not-true true e = sym e
+    not-true false e = refl
 
 -- the same of what two cuts of a text give
 pub words-cut : (text rest front back : Text) (i n : ℕ) → position is_other text ≡ Some i → rest ≡ drop i text

@@ -1,12 +1,8 @@
 -- What lines say, by their words. The grammar of a line comes first, and then the ranges of its own numbers.
-use Rattle.std.specs.Prelude.{◌≡◌, zero, suc, ℕ, ◌+◌, ◌-◌, ◌^◌, ◌==◌, Bool, ◌||◌, ◌&&◌, true, false, not, if◌then◌else◌, ℤ, pos, negsuc, codes, List, [], ◌∷◌, length, nat_lt, nat_le, min, take, slice_index_or, Option, Some, None, option_map, is_some, Result, Ok, Err}
+use Rattle.std.specs.Prelude.{ℕ, ◌-◌, ◌^◌, ◌==◌, Bool, ◌||◌, ◌&&◌, not, if◌then◌else◌, ℤ, pos, negsuc, codes, List, [], ◌∷◌, nat_lt, nat_le, min, Option, Some, None, Result, Ok, Err}
 use Rattle.std.specs.Str.{bytes_eq}
 use Rattle.std.specs.Int.{w32}
-use Rattle.model.specs.declared.entries.UntypedEntry.{UntypedEntry}
-use Rattle.model.specs.declared.entries.RegisterEntry.{RegisterEntry}
-use Rattle.model.specs.declared.entries.RangeEntry.{RangeEntry}
 use Rattle.model.specs.declared.entries.TermEntry.{TermEntry}
-use Rattle.model.specs.Capabilities.CapabilityFields.{unpacked}
 use Rattle.model.specs.Images.Image.{size_fits, is_constant, not_zero}
 use Rattle.model.specs.Images.Format.{fits_signed}
 use Rattle.model.specs.Images.Listing.{Text}
@@ -16,7 +12,6 @@ use Rattle.asm_line.specs.declared.lines.Line.{Line}
 use Rattle.asm_line.specs.declared.lines.Line.TheVariants as line
 use Rattle.asm_line.specs.declared.lines.Parent.{Parent}
 use Rattle.asm_line.specs.declared.lines.Parent.TheVariants as parent
-use Rattle.asm_line.specs.declared.lines.Code.TheVariants as code
 use Rattle.asm_line.specs.Words.{◌>>=◌, ends, name_of, name_first, number_of, number_first, object_first, register_first, register_of, within}
 
 -- ---- keywords
@@ -162,6 +157,10 @@ some_numbers (w ∷ ws) = all_numbers (w ∷ ws)
 abbrev pub all_words : List Text → Result (Unit {0}) ℕ
 all_words [] = Ok tt
 all_words (w ∷ ws) = number_of w >>= λ number. word number >>= λ _. all_words ws
+
+abbrev pub word_first : List Text → Result (ℕ × List Text) ℕ
+word_first [] = Err 1
+word_first (w ∷ ws) = number_of w >>= λ number. word number >>= λ value. Ok (value, ws)
 
 unfoldable pub content_of : List Text → Result Line ℕ
 content_of words = do

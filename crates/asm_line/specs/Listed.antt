@@ -1,5 +1,5 @@
 -- The lines of listings, and what each says.
-use Rattle.std.specs.Prelude.{◌≡◌, ℕ, ◌^◌, ◌<◌, true, Some, None, ◌&&◌, ◌||◌, nat_lt, nat_le, codes, decimal, List, [], ◌∷◌, map, flat_map, length, min, ◌-◌}
+use Rattle.std.specs.Prelude.{◌≡◌, ℕ, ◌^◌, ◌<◌, true, None, ◌&&◌, ◌||◌, nat_lt, nat_le, codes, decimal, [], ◌∷◌, map, flat_map, length, min, ◌-◌}
 use Rattle.std.specs.List.{AllByRecursion}
 use Rattle.std.specs.Prelude.{◌==◌, if◌then◌else◌}
 use Rattle.asm_line.specs.declared.lines.Parent.{Parent}
@@ -59,6 +59,9 @@ pub data Lists : Line → Text → Type 0 where
       → Lists (said.Measure r.header.constant (flat_map term_words r.terms)) (measure_line r)
   range : (e : RangeEntry) → between 1 31 e.register ≡ true → IsWord e.low → IsWord e.high → (nat_le e.low e.high && (nat_lt 0 e.low || nat_lt e.high (2 ^ 32 - 1))) ≡ true
       → Lists (said.Range e) (range_line e)
+  slot : (e : SlotEntry) (c : Cap) → IsWord e.cnode → nat_lt e.index (2 ^ 14) ≡ true → IsWord e.word0 → IsWord e.word1 → IsCapability c → e.word0 ∷ e.word1 ∷ [] ≡ words_of c
+      → IsWord e.parent_cnode → names_parent ((e.word0 == 0) && (e.word1 == 0)) e.parent_cnode e.parent_index ≡ true
+      → Lists (said.Slot (object_name e.cnode) e.index e.word0 e.word1 (parent_said e)) (slot_line e)
   register : (e : RegisterEntry) → between 1 31 e.register ≡ true → nat_lt 0 e.value ≡ true → IsWord e.value → Lists (said.Register e) (register_line e)
   label : Lists (said.Label (codes "l")) (codes "l:")
   word : (number : ℕ) → IsWord number → Lists (said.Code None (code.Word number)) (line (codes "word" ∷ decimal number ∷ []))

@@ -1,5 +1,5 @@
 -- Whole lines, but for instructions.
-use Rattle.std.specs.Prelude.{◌≡◌, ℕ, suc, ◌+◌, ◌-◌, ◌==◌, if◌then◌else◌, List, [], ◌∷◌, length, take, slice_index_or, Option, Some, None, option_map, Result, Ok, Err}
+use Rattle.std.specs.Prelude.{◌≡◌, ℕ, ◌-◌, ◌==◌, if◌then◌else◌, List, [], ◌∷◌, length, take, slice_index_or, Option, Some, None, Result, Ok}
 use Rattle.model.specs.declared.capabilities.Cap.{Cap}
 use Rattle.model.specs.Capabilities.CapabilityWords.{IsCapability, words_of}
 use Rattle.model.specs.Images.Listing.{Text}

@@ -2,7 +2,7 @@
 
 ghost use Rattle.std.specs.Prelude.{◌≡◌};
 ghost use Rattle.model.specs.Images.Image.{size_fits as size_fits_kind};
-ghost use Rattle.asm_line.specs.Lines.{all_numbers, all_words, some_numbers, capability_of, content_of, frame_of, interrupt_of, kind_first, memory_of, object_of, size_first, table_of, untyped_of};
+ghost use Rattle.asm_line.specs.Lines.{all_numbers, all_words, some_numbers, capability_of, content_of, frame_of, interrupt_of, kind_first, memory_of, object_of, size_first, table_of, untyped_of, word_first};
 
 use crate::faults::{RANGE, SYNTAX};
 use crate::keywords::kind_in;
@@ -194,6 +194,16 @@ fn check_words(words: Words<'_>) -> Result<(), u8>
         rest = words;
     }
     Ok(())
+}
+
+/// The first word, which is to be a number of 32 bits, and those behind it.
+pub(crate) fn word_and_rest(words: Words<'_>) -> Result<(u32, Words<'_>), u8>
+    ensures { result ≡ word_first words.entry }
+{
+    match words.first() {
+        Some((text, words)) => Ok((word(number_in(text)?)?, words)),
+        None => Err(SYNTAX),
+    }
 }
 
 /// `data FRAME WORD ..`

@@ -3,11 +3,11 @@
 ghost use Rattle.std.specs.Prelude.{◌≡◌, ◌<◌, IfOk, [], ◌∷◌, not, position, MatchOption};
 ghost use Rattle.asm_line.specs.Words.{ends, is_blank, name_first, number_first, object_first, register_first, words_of};
 
+use crate::faults::SYNTAX;
+use crate::keywords::is;
 use crate::names::{Name, name_in};
 use crate::numbers::number_in;
 use crate::registers::register_in;
-use crate::keywords::is;
-use crate::faults::SYNTAX;
 use std::marker::Model;
 
 /// The words of a text that are left.
