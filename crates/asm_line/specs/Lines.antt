@@ -1,0 +1,280 @@
+-- What lines say, by their words. The grammar of a line comes first, and then the ranges of its own numbers.
+use Rattle.std.specs.Prelude.{ℕ, ◌-◌, ◌^◌, ◌==◌, Bool, ◌||◌, ◌&&◌, not, if◌then◌else◌, ℤ, pos, negsuc, codes, List, [], ◌∷◌, nat_lt, nat_le, min, Option, Some, None, Result, Ok, Err}
+use Rattle.std.specs.Str.{bytes_eq}
+use Rattle.std.specs.Int.{w32}
+use Rattle.model.specs.declared.entries.TermEntry.{TermEntry}
+use Rattle.model.specs.Images.Image.{size_fits, is_constant, not_zero}
+use Rattle.model.specs.Images.Format.{fits_signed}
+use Rattle.model.specs.Images.Listing.{Text}
+use Rattle.asm_line.specs.declared.keywords.Keyword.{Keyword}
+use Rattle.asm_line.specs.declared.keywords.Keyword.TheVariants as keyword
+use Rattle.asm_line.specs.declared.lines.Line.{Line}
+use Rattle.asm_line.specs.declared.lines.Line.TheVariants as line
+use Rattle.asm_line.specs.declared.lines.Parent.{Parent}
+use Rattle.asm_line.specs.declared.lines.Parent.TheVariants as parent
+use Rattle.asm_line.specs.Words.{◌>>=◌, ends, name_of, name_first, number_of, number_first, object_first, register_first, register_of, within}
+
+-- ---- keywords
+
+unfoldable pub thread_keyword_of : Text → Option Keyword
+thread_keyword_of word =
+    if bytes_eq word (codes "reg") then Some keyword.Register else
+    if bytes_eq word (codes "measure") then Some keyword.Measure else
+    if bytes_eq word (codes "range") then Some keyword.Range else
+    if bytes_eq word (codes "slot") then Some keyword.Slot else
+    if bytes_eq word (codes "word") then Some keyword.Word else
+    if bytes_eq word (codes "end") then Some keyword.End else None
+
+unfoldable pub keyword_of : Text → Option Keyword
+keyword_of word =
+    if bytes_eq word (codes "memory") then Some keyword.Memory else
+    if bytes_eq word (codes "untyped") then Some keyword.Untyped else
+    if bytes_eq word (codes "object") then Some keyword.Object else
+    if bytes_eq word (codes "irq") then Some keyword.Interrupt else
+    if bytes_eq word (codes "cap") then Some keyword.Capability else
+    if bytes_eq word (codes "table") then Some keyword.Table else
+    if bytes_eq word (codes "map") then Some keyword.Frame else
+    if bytes_eq word (codes "data") then Some keyword.Content else
+    if bytes_eq word (codes "thread") then Some keyword.Thread else thread_keyword_of word
+
+unfoldable pub kind_of : Text → Result ℕ ℕ
+kind_of word =
+    if bytes_eq word (codes "untyped") then Ok 1 else
+    if bytes_eq word (codes "tcb") then Ok 2 else
+    if bytes_eq word (codes "endpoint") then Ok 3 else
+    if bytes_eq word (codes "notification") then Ok 4 else
+    if bytes_eq word (codes "cnode") then Ok 5 else
+    if bytes_eq word (codes "frame") then Ok 6 else
+    if bytes_eq word (codes "table") then Ok 7 else
+    if bytes_eq word (codes "root") then Ok 8 else Err 1
+
+-- ---- ranges
+
+-- a number of 32 bits
+abbrev pub word : ℤ → Result ℕ ℕ
+word number = within 0 (2 ^ 32 - 1) number
+
+-- a register that is not x0
+abbrev pub named_register : ℕ → Result ℕ ℕ
+named_register number = if nat_lt 0 number then Ok number else Err 4
+
+abbrev pub checked : Bool → Result (Unit {0}) ℕ
+checked test = if test then Ok tt else Err 4
+
+-- ---- the lines of the sections
+
+unfoldable pub memory_of : List Text → Result Line ℕ
+memory_of words = do
+  bits ← number_first words
+  radix ← number_first bits.1
+  last ← ends radix.1
+  memory_bits ← within 16 24 bits.0
+  boot_radix ← within 1 (min 14 (memory_bits - 5)) radix.0
+  Ok (line.Memory memory_bits boot_radix)
+
+unfoldable pub untyped_of : List Text → Result Line ℕ
+untyped_of words = do
+  name ← object_first words
+  offset ← number_first name.1
+  bits ← number_first offset.1
+  last ← ends bits.1
+  offset_word ← word offset.0
+  size ← within 4 24 bits.0
+  Ok (line.Untyped name.0 (record { offset = offset_word; bits = size }))
+
+abbrev pub kind_first : List Text → Result (ℕ × List Text) ℕ
+kind_first [] = Err 1
+kind_first (word ∷ words) = kind_of word >>= λ kind. Ok (kind, words)
+
+-- a size that is left out is 0
+abbrev pub size_first : List Text → Result (ℤ × List Text) ℕ
+size_first [] = Ok (pos 0, [])
+size_first (word ∷ words) = number_of word >>= λ size. Ok (size, words)
+
+unfoldable pub object_of : List Text → Result Line ℕ
+object_of words = do
+  name ← object_first words
+  untyped ← object_first name.1
+  kind ← kind_first untyped.1
+  size ← size_first kind.1
+  last ← ends size.1
+  size_word ← word size.0
+  fits ← checked (size_fits kind.0 size_word)
+  Ok (line.Object name.0 untyped.0 kind.0 size_word)
+
+unfoldable pub interrupt_of : List Text → Result Line ℕ
+interrupt_of words = do
+  name ← object_first words
+  number ← number_first name.1
+  notification ← object_first number.1
+  badge ← number_first notification.1
+  last ← ends badge.1
+  interrupt_line ← within 0 63 number.0
+  badge_word ← within 0 (2 ^ 28 - 1) badge.0
+  Ok (line.Interrupt name.0 interrupt_line notification.0 badge_word)
+
+unfoldable pub capability_of : List Text → Result Line ℕ
+capability_of words = do
+  cnode ← object_first words
+  index ← number_first cnode.1
+  source ← object_first index.1
+  rights ← number_first source.1
+  payload ← number_first rights.1
+  last ← ends payload.1
+  index_word ← word index.0
+  rights_word ← word rights.0
+  payload_word ← word payload.0
+  Ok (line.Capability cnode.0 index_word source.0 rights_word payload_word)
+
+unfoldable pub table_of : List Text → Result Line ℕ
+table_of words = do
+  root ← object_first words
+  address ← number_first root.1
+  table ← object_first address.1
+  last ← ends table.1
+  address_word ← word address.0
+  Ok (line.Table root.0 address_word table.0)
+
+unfoldable pub frame_of : List Text → Result Line ℕ
+frame_of words = do
+  root ← object_first words
+  address ← number_first root.1
+  frame ← object_first address.1
+  rights ← number_first frame.1
+  last ← ends rights.1
+  address_word ← word address.0
+  rights_word ← within 0 7 rights.0
+  Ok (line.Frame root.0 address_word frame.0 rights_word)
+
+abbrev pub all_numbers : List Text → Result (Unit {0}) ℕ
+all_numbers [] = Ok tt
+all_numbers (w ∷ ws) = number_of w >>= λ _. all_numbers ws
+
+abbrev pub some_numbers : List Text → Result (Unit {0}) ℕ
+some_numbers [] = Err 1
+some_numbers (w ∷ ws) = all_numbers (w ∷ ws)
+
+abbrev pub all_words : List Text → Result (Unit {0}) ℕ
+all_words [] = Ok tt
+all_words (w ∷ ws) = number_of w >>= λ number. word number >>= λ _. all_words ws
+
+abbrev pub word_first : List Text → Result (ℕ × List Text) ℕ
+word_first [] = Err 1
+word_first (w ∷ ws) = number_of w >>= λ number. word number >>= λ value. Ok (value, ws)
+
+unfoldable pub content_of : List Text → Result Line ℕ
+content_of words = do
+  frame ← object_first words
+  grammar ← some_numbers frame.1
+  ranges ← all_words frame.1
+  Ok (line.Content frame.0 frame.1)
+
+-- ---- the lines of threads
+
+unfoldable pub budget_of : ℤ → Result ℕ ℕ
+budget_of (pos n) = if nat_le 1 n && nat_le n (2 ^ 62) then Ok n else Err 4
+budget_of (negsuc n) = Err 4
+
+unfoldable pub thread_of : List Text → Result Line ℕ
+thread_of words = do
+  tcb ← object_first words
+  cnode ← object_first tcb.1
+  guard ← number_first cnode.1
+  root ← object_first guard.1
+  priority ← number_first root.1
+  budget ← number_first priority.1
+  fault ← number_first budget.1
+  entry ← name_first fault.1
+  base ← number_first entry.1
+  last ← ends base.1
+  guard_word ← word guard.0
+  priority_number ← within 0 255 priority.0
+  instructions ← budget_of budget.0
+  fault_word ← word fault.0
+  base_word ← word base.0
+  Ok (line.Thread (record { tcb = tcb.0; cnode = cnode.0; guard = guard_word; root = root.0; priority = priority_number; budget = instructions; fault = fault_word; entry = entry.0; base = base_word }))
+
+unfoldable pub register_line_of : List Text → Result Line ℕ
+register_line_of words = do
+  register ← register_first words
+  value ← number_first register.1
+  last ← ends value.1
+  number ← named_register register.0
+  value_word ← within 1 (2 ^ 32 - 1) value.0
+  Ok (line.Register (record { register = number; value = value_word }))
+
+unfoldable pub range_of : List Text → Result Line ℕ
+range_of words = do
+  register ← register_first words
+  low ← number_first register.1
+  high ← number_first low.1
+  last ← ends high.1
+  number ← named_register register.0
+  low_word ← word low.0
+  high_word ← word high.0
+  fits ← checked (nat_le low_word high_word && (nat_lt 0 low_word || nat_lt high_word (2 ^ 32 - 1)))
+  Ok (line.Range (record { register = number; low = low_word; high = high_word }))
+
+abbrev pub parent_first : List Text → Result (Parent × List Text) ℕ
+parent_first [] = Err 1
+parent_first (w ∷ ws) =
+    if bytes_eq w (codes "boot") then Ok (parent.Boot, ws) else (name_of w >>= λ cnode. Ok (parent.Slot cnode 0, ws))
+
+-- a parent in the boot CNode is said with 0 behind it; an empty slot has no other
+abbrev pub parent_with : Bool → Parent → ℤ → Result Parent ℕ
+parent_with is_empty (parent.Boot) index = within 0 0 index >>= λ _. Ok parent.Boot
+parent_with is_empty (parent.Slot cnode _index) index = checked (not is_empty) >>= λ _. within 0 (2 ^ 14 - 1) index >>= λ number. Ok (parent.Slot cnode number)
+
+unfoldable pub slot_of : List Text → Result Line ℕ
+slot_of words = do
+  cnode ← object_first words
+  index ← number_first cnode.1
+  word0 ← number_first index.1
+  word1 ← number_first word0.1
+  parent ← parent_first word1.1
+  parent_index ← number_first parent.1
+  last ← ends parent_index.1
+  index_number ← within 0 (2 ^ 14 - 1) index.0
+  head ← word word0.0
+  second ← word word1.0
+  whole ← parent_with ((head == 0) && (second == 0)) parent.0 parent_index.0
+  Ok (line.Slot cnode.0 index_number head second whole)
+
+unfoldable pub constant_of : ℤ → Result ℤ ℕ
+constant_of number = if is_constant number then Ok number else Err 4
+
+-- a register that is not x0 and a coefficient of 32 bits that is not 0
+unfoldable pub coefficient_of : ℤ → Result ℤ ℕ
+coefficient_of number = if fits_signed w32 number && not_zero number then Ok number else Err 4
+
+unfoldable pub term_of : Text → Text → Result TermEntry ℕ
+term_of name factor = do
+  register ← register_of name
+  coefficient ← number_of factor
+  number ← named_register register
+  known ← coefficient_of coefficient
+  Ok (record { register = number; coefficient = known })
+
+abbrev pub term_first : List Text → Result (TermEntry × List Text) ℕ
+term_first [] = Err 1
+term_first (name ∷ []) = Err 1
+term_first (name ∷ factor ∷ words) = term_of name factor >>= λ term. Ok (term, words)
+
+-- the grammar of terms: registers, each with a number behind it
+abbrev pub all_pairs : List Text → Result (Unit {0}) ℕ
+all_pairs [] = Ok tt
+all_pairs (name ∷ []) = Err 1
+all_pairs (name ∷ factor ∷ words) = register_of name >>= λ _. number_of factor >>= λ _. all_pairs words
+
+abbrev pub all_terms : List Text → Result (Unit {0}) ℕ
+all_terms [] = Ok tt
+all_terms (name ∷ []) = Err 1
+all_terms (name ∷ factor ∷ words) = term_of name factor >>= λ _. all_terms words
+
+unfoldable pub measure_of : List Text → Result Line ℕ
+measure_of words = do
+  constant ← number_first words
+  grammar ← all_pairs constant.1
+  number ← constant_of constant.0
+  ranges ← all_terms constant.1
+  Ok (line.Measure number constant.1)

@@ -1,0 +1,218 @@
+//! The lines of the sections before the threads.
+
+ghost use Rattle.std.specs.Prelude.{◌≡◌};
+ghost use Rattle.model.specs.Images.Image.{size_fits as size_fits_kind};
+ghost use Rattle.asm_line.specs.Lines.{all_numbers, all_words, some_numbers, capability_of, content_of, frame_of, interrupt_of, kind_first, memory_of, object_of, size_first, table_of, untyped_of, word_first};
+
+use crate::faults::{RANGE, SYNTAX};
+use crate::keywords::kind_in;
+use crate::lines::Line;
+use crate::numbers::{between, number_in, word};
+use crate::words::Words;
+use model::UntypedEntry;
+
+/// `memory BITS RADIX`
+#[tactic(auto, unfolding(crate::specs::Lines::memory_of))]
+pub(crate) fn memory(words: Words<'_>) -> Result<Line<'_>, u8>
+    ensures { result ≡ memory_of words.entry }
+{
+    let (memory_bits, words) = words.number()?;
+    let (boot_radix, words) = words.number()?;
+    words.end()?;
+    let memory_bits = between(memory_bits, 16, 24)?;
+    let boot_radix = between(boot_radix, 1, 14.min(memory_bits - 5))?;
+    Ok(Line::Memory {
+        memory_bits,
+        boot_radix,
+    })
+}
+
+/// `untyped NAME OFFSET BITS`
+#[tactic(auto, unfolding(crate::specs::Lines::untyped_of))]
+pub(crate) fn untyped(words: Words<'_>) -> Result<Line<'_>, u8>
+    ensures { result ≡ untyped_of words.entry }
+{
+    let (name, words) = words.object()?;
+    let (offset, words) = words.number()?;
+    let (bits, words) = words.number()?;
+    words.end()?;
+    let offset = word(offset)?;
+    let bits = between(bits, 4, 24)?;
+    Ok(Line::Untyped {
+        name,
+        entry: UntypedEntry { offset, bits },
+    })
+}
+
+/// The first word, which is to be a kind of objects, and those behind it.
+fn kind_and_rest(words: Words<'_>) -> Result<(u32, Words<'_>), u8>
+    ensures { result ≡ kind_first words.entry }
+{
+    match words.first() {
+        Some((word, words)) => Ok((kind_in(word)?, words)),
+        None => Err(SYNTAX),
+    }
+}
+
+/// The first word, which is to be a number, and those behind it; 0 if no word is left.
+#[tactic(auto, unfolding(crate::specs::Words::words_of))]
+fn size_and_rest(words: Words<'_>) -> Result<(i64, Words<'_>), u8>
+    ensures { result ≡ size_first words.entry }
+{
+    match words.first() {
+        Some((word, words)) => Ok((number_in(word)?, words)),
+        None => Ok((0, Words::of(&[]))),
+    }
+}
+
+/// Whether an object of this kind may have this size.
+fn size_fits(kind: u32, size: u32) -> bool
+    ensures { result ≡ size_fits_kind kind size }
+{
+    (kind == 1 && 4 <= size && size <= 24)
+        || (kind == 5 && 1 <= size && size <= 14)
+        || (1 < kind && size == 0 && (kind < 5 || 5 < kind))
+}
+
+/// `object NAME UNTYPED KIND [SIZE]`
+#[tactic(auto, unfolding(crate::specs::Lines::object_of))]
+pub(crate) fn object(words: Words<'_>) -> Result<Line<'_>, u8>
+    ensures { result ≡ object_of words.entry }
+{
+    let (name, words) = words.object()?;
+    let (untyped, words) = words.object()?;
+    let (kind, words) = kind_and_rest(words)?;
+    let (size, words) = size_and_rest(words)?;
+    words.end()?;
+    let size = word(size)?;
+    if !size_fits(kind, size) {
+        return Err(RANGE);
+    }
+    Ok(Line::Object {
+        name,
+        untyped,
+        kind,
+        size,
+    })
+}
+
+/// `irq NAME LINE NOTIFICATION BADGE`
+#[tactic(auto, unfolding(crate::specs::Lines::interrupt_of))]
+pub(crate) fn interrupt(words: Words<'_>) -> Result<Line<'_>, u8>
+    ensures { result ≡ interrupt_of words.entry }
+{
+    let (name, words) = words.object()?;
+    let (line, words) = words.number()?;
+    let (notification, words) = words.object()?;
+    let (badge, words) = words.number()?;
+    words.end()?;
+    Ok(Line::Interrupt {
+        name,
+        line: between(line, 0, 63)?,
+        notification,
+        badge: between(badge, 0, (1 << 28) - 1)?,
+    })
+}
+
+/// `cap CNODE INDEX SOURCE RIGHTS DATA`
+#[tactic(auto, unfolding(crate::specs::Lines::capability_of))]
+pub(crate) fn capability(words: Words<'_>) -> Result<Line<'_>, u8>
+    ensures { result ≡ capability_of words.entry }
+{
+    let (cnode, words) = words.object()?;
+    let (index, words) = words.number()?;
+    let (source, words) = words.object()?;
+    let (rights, words) = words.number()?;
+    let (payload, words) = words.number()?;
+    words.end()?;
+    Ok(Line::Capability {
+        cnode,
+        index: word(index)?,
+        source,
+        rights: word(rights)?,
+        payload: word(payload)?,
+    })
+}
+
+/// `table ROOT ADDRESS TABLE`
+#[tactic(auto, unfolding(crate::specs::Lines::table_of))]
+pub(crate) fn table(words: Words<'_>) -> Result<Line<'_>, u8>
+    ensures { result ≡ table_of words.entry }
+{
+    let (root, words) = words.object()?;
+    let (address, words) = words.number()?;
+    let (table, words) = words.object()?;
+    words.end()?;
+    let address = word(address)?;
+    Ok(Line::Table {
+        root,
+        address,
+        table,
+    })
+}
+
+/// `map ROOT ADDRESS FRAME RIGHTS`
+#[tactic(auto, unfolding(crate::specs::Lines::frame_of))]
+pub(crate) fn frame(words: Words<'_>) -> Result<Line<'_>, u8>
+    ensures { result ≡ frame_of words.entry }
+{
+    let (root, words) = words.object()?;
+    let (address, words) = words.number()?;
+    let (frame, words) = words.object()?;
+    let (rights, words) = words.number()?;
+    words.end()?;
+    Ok(Line::Frame {
+        root,
+        address: word(address)?,
+        frame,
+        rights: between(rights, 0, 7)?,
+    })
+}
+
+/// Some words are to be left, and all of them numbers.
+fn check_numbers(words: Words<'_>) -> Result<(), u8>
+    ensures { result ≡ some_numbers words.entry }
+{
+    let Some((first, mut rest)) = words.first() else {
+        return Err(SYNTAX);
+    };
+    number_in(first)?;
+    'numbers: while let Some((word, words)) = rest.first() {
+        number_in(word)?;
+        rest = words;
+    }
+    Ok(())
+}
+
+/// The words are to be numbers of 32 bits.
+fn check_words(words: Words<'_>) -> Result<(), u8>
+    ensures { result ≡ all_words words.entry }
+{
+    let mut rest = words;
+    'words: while let Some((text, words)) = rest.first() {
+        word(number_in(text)?)?;
+        rest = words;
+    }
+    Ok(())
+}
+
+/// The first word, which is to be a number of 32 bits, and those behind it.
+pub(crate) fn word_and_rest(words: Words<'_>) -> Result<(u32, Words<'_>), u8>
+    ensures { result ≡ word_first words.entry }
+{
+    match words.first() {
+        Some((text, words)) => Ok((word(number_in(text)?)?, words)),
+        None => Err(SYNTAX),
+    }
+}
+
+/// `data FRAME WORD ..`
+#[tactic(auto, unfolding(crate::specs::Lines::content_of))]
+pub(crate) fn content(words: Words<'_>) -> Result<Line<'_>, u8>
+    ensures { result ≡ content_of words.entry }
+{
+    let (frame, words) = words.object()?;
+    check_numbers(words.copied())?;
+    check_words(words.copied())?;
+    Ok(Line::Content { frame, words })
+}

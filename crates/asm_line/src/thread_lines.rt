@@ -1,0 +1,293 @@
+//! The lines with which threads begin, and those of their registers and certificates.
+
+ghost use Rattle.std.specs.Prelude.{◌≡◌, ◌==◌, ◌&&◌, [], ◌∷◌, Ok, true};
+ghost use Rattle.model.specs.Capabilities.CapabilityWords.{IsCapability, words_of};
+ghost use Rattle.model.specs.declared.capabilities.Cap.{Cap};
+ghost use Rattle.asm_line.specs.declared.lines.Line.{Line};
+ghost use Rattle.asm_line.specs.Parsing.{IsKnown};
+ghost use Rattle.asm_line.specs.Lines.{budget_of, all_pairs, all_terms, coefficient_of, constant_of, measure_of, named_register, parent_first, parent_with, range_of, register_line_of, slot_of, term_first, term_of, thread_of};
+
+use crate::faults::{RANGE, SYNTAX};
+use crate::keywords::is;
+use crate::lines::{Line, Parent, ThreadLine};
+use crate::names::name_in;
+use crate::numbers::{between, number_in, word};
+use crate::registers::register_in;
+use crate::words::Words;
+use model::{RangeEntry, RegisterEntry, TermEntry};
+
+/// A number of instructions from one wait to the next.
+#[tactic(auto, unfolding(crate::specs::Lines::budget_of))]
+fn budget_in(number: i64) -> Result<u64, u8>
+    ensures { result ≡ budget_of number }
+{
+    if 1 <= number && number <= 1 << 62 {
+        Ok(number as u64)
+    } else {
+        Err(RANGE)
+    }
+}
+
+/// `thread TCB CNODE GUARD ROOT PRIORITY BUDGET FAULT LABEL BASE`
+#[tactic(auto, unfolding(crate::specs::Lines::thread_of))]
+pub(crate) fn thread(words: Words<'_>) -> Result<Line<'_>, u8>
+    ensures { result ≡ thread_of words.entry }
+{
+    let (tcb, words) = words.object()?;
+    let (cnode, words) = words.object()?;
+    let (guard, words) = words.number()?;
+    let (root, words) = words.object()?;
+    let (priority, words) = words.number()?;
+    let (budget, words) = words.number()?;
+    let (fault, words) = words.number()?;
+    let (entry, words) = words.name()?;
+    let (base, words) = words.number()?;
+    words.end()?;
+    Ok(Line::Thread(ThreadLine {
+        tcb,
+        cnode,
+        guard: word(guard)?,
+        root,
+        priority: between(priority, 0, 255)?,
+        budget: budget_in(budget)?,
+        fault: word(fault)?,
+        entry,
+        base: word(base)?,
+    }))
+}
+
+/// A register that is not x0.
+fn named(register: u8) -> Result<u32, u8>
+    ensures { result ≡ named_register register }
+{
+    if register > 0 {
+        Ok(register as u32)
+    } else {
+        Err(RANGE)
+    }
+}
+
+/// `reg xN VALUE`
+#[tactic(auto, unfolding(crate::specs::Lines::register_line_of))]
+pub(crate) fn register(words: Words<'_>) -> Result<Line<'_>, u8>
+    ensures { result ≡ register_line_of words.entry }
+{
+    let (register, words) = words.register()?;
+    let (value, words) = words.number()?;
+    words.end()?;
+    Ok(Line::Register(RegisterEntry {
+        register: named(register)?,
+        value: between(value, 1, u32::MAX)?,
+    }))
+}
+
+/// `range xN LOW HIGH`
+#[tactic(auto, unfolding(crate::specs::Lines::range_of))]
+pub(crate) fn range(words: Words<'_>) -> Result<Line<'_>, u8>
+    ensures { result ≡ range_of words.entry }
+{
+    let (register, words) = words.register()?;
+    let (low, words) = words.number()?;
+    let (high, words) = words.number()?;
+    words.end()?;
+    let register = named(register)?;
+    let low = word(low)?;
+    let high = word(high)?;
+    if high < low || (low == 0 && high == u32::MAX) {
+        return Err(RANGE);
+    }
+    Ok(Line::Range(RangeEntry {
+        register,
+        low,
+        high,
+    }))
+}
+
+/// The first word, which is to be `boot` or the name of a CNode, and those behind it.
+fn parent_and_rest(words: Words<'_>) -> Result<(Parent<'_>, Words<'_>), u8>
+    ensures { result ≡ parent_first words.entry }
+{
+    match words.first() {
+        Some((word, words)) => {
+            if is(word, "boot") {
+                return Ok((Parent::Boot, words));
+            }
+            let cnode = name_in(word)?;
+            Ok((Parent::Slot { cnode, index: 0 }, words))
+        }
+        None => Err(SYNTAX),
+    }
+}
+
+/// The parent with its index, which is 0 for one in the boot CNode. An empty slot has no other.
+fn whole_parent(is_empty: bool, parent: Parent<'_>, index: i64) -> Result<Parent<'_>, u8>
+    ensures { result ≡ parent_with is_empty parent.entry index }
+{
+    match parent {
+        Parent::Boot => {
+            between(index, 0, 0)?;
+            Ok(Parent::Boot)
+        }
+        Parent::Slot { cnode, .. } => {
+            if is_empty {
+                return Err(RANGE);
+            }
+            let index = between(index, 0, (1 << 14) - 1)?;
+            Ok(Parent::Slot { cnode, index })
+        }
+    }
+}
+
+/// Whether two words are those of an empty slot.
+fn is_empty(word0: u32, word1: u32) -> bool
+    ensures { result ≡ (word0 == 0) && (word1 == 0) }
+{
+    word0 == 0 && word1 == 0
+}
+
+/// What a line `slot` says, by whatever words.
+#[tactic(auto, unfolding(crate::specs::Lines::slot_of))]
+fn slot_fields(words: Words<'_>) -> Result<Line<'_>, u8>
+    ensures { result ≡ slot_of words.entry }
+{
+    let (cnode, words) = words.object()?;
+    let (index, words) = words.number()?;
+    let (word0, words) = words.number()?;
+    let (word1, words) = words.number()?;
+    let (parent, words) = parent_and_rest(words)?;
+    let (parent_index, words) = words.number()?;
+    words.end()?;
+    let index = between(index, 0, (1 << 14) - 1)?;
+    let word0 = word(word0)?;
+    let word1 = word(word1)?;
+    let parent = whole_parent(is_empty(word0, word1), parent, parent_index)?;
+    Ok(Line::Slot {
+        cnode,
+        index,
+        word0,
+        word1,
+        parent,
+    })
+}
+
+/// Whether two words are those of a capability.
+fn unpacks(word0: u32, word1: u32) -> bool
+    ensures { (capability : Cap) → IsCapability capability → word0 ∷ word1 ∷ [] ≡ words_of capability → result ≡ true }
+{
+    capwords::unpack([word0, word1]).is_some()
+}
+
+/// Whether the words of a line `slot` are those of a capability.
+fn notes_capability(line: &Line<'_>) -> bool
+    ensures { IsKnown line.now → result ≡ true }
+{
+    match line {
+        Line::Slot { word0, word1, .. } => unpacks(*word0, *word1),
+        _ => true,
+    }
+}
+
+/// `slot CNODE INDEX WORD0 WORD1 PARENT INDEX`
+pub(crate) fn slot(words: Words<'_>) -> Result<Line<'_>, u8>
+    ensures { (line : Line) → IsKnown line → slot_of words.entry ≡ Ok line → result ≡ Ok line }
+{
+    let line = slot_fields(words)?;
+    if notes_capability(&line) {
+        Ok(line)
+    } else {
+        Err(RANGE)
+    }
+}
+
+/// A constant of a measure.
+#[tactic(auto, unfolding(crate::specs::Lines::constant_of))]
+pub(crate) fn constant_in(number: i64) -> Result<i64, u8>
+    ensures { result ≡ constant_of number }
+{
+    if -(1 << 62) <= number && number <= 1 << 62 {
+        Ok(number)
+    } else {
+        Err(RANGE)
+    }
+}
+
+/// A coefficient of a measure.
+#[tactic(auto, unfolding(crate::specs::Lines::coefficient_of))]
+fn coefficient_in(number: i64) -> Result<i32, u8>
+    ensures { result ≡ coefficient_of number }
+{
+    if i32::MIN as i64 <= number && number <= i32::MAX as i64 && number != 0 {
+        Ok(number as i32)
+    } else {
+        Err(RANGE)
+    }
+}
+
+/// The term that two words are.
+#[tactic(auto, unfolding(crate::specs::Lines::term_of))]
+fn term_in(name: &[u8], factor: &[u8]) -> Result<TermEntry, u8>
+    ensures { result ≡ term_of name.now factor.now }
+{
+    let register = register_in(name)?;
+    let coefficient = number_in(factor)?;
+    Ok(TermEntry {
+        register: named(register)?,
+        coefficient: coefficient_in(coefficient)?,
+    })
+}
+
+/// The first term of a measure and the words behind it.
+pub(crate) fn term_and_rest(words: Words<'_>) -> Result<(TermEntry, Words<'_>), u8>
+    ensures { result ≡ term_first words.entry }
+{
+    let Some((name, words)) = words.first() else {
+        return Err(SYNTAX);
+    };
+    let Some((factor, words)) = words.first() else {
+        return Err(SYNTAX);
+    };
+    Ok((term_in(name, factor)?, words))
+}
+
+/// The words are to be registers, each with a number behind it.
+fn check_pairs(words: Words<'_>) -> Result<(), u8>
+    ensures { result ≡ all_pairs words.entry }
+{
+    let mut rest = words;
+    'pairs: while let Some((name, words)) = rest.first() {
+        let Some((factor, words)) = words.first() else {
+            return Err(SYNTAX);
+        };
+        register_in(name)?;
+        number_in(factor)?;
+        rest = words;
+    }
+    Ok(())
+}
+
+/// The words are to be terms of a measure.
+fn check_terms(words: Words<'_>) -> Result<(), u8>
+    ensures { result ≡ all_terms words.entry }
+{
+    let mut rest = words;
+    'terms: while let Some((name, words)) = rest.first() {
+        let Some((factor, words)) = words.first() else {
+            return Err(SYNTAX);
+        };
+        term_in(name, factor)?;
+        rest = words;
+    }
+    Ok(())
+}
+
+/// `measure CONSTANT [xN COEFFICIENT] ..`
+#[tactic(auto, unfolding(crate::specs::Lines::measure_of))]
+pub(crate) fn measure(words: Words<'_>) -> Result<Line<'_>, u8>
+    ensures { result ≡ measure_of words.entry }
+{
+    let (constant, terms) = words.number()?;
+    check_pairs(terms.copied())?;
+    let constant = constant_in(constant)?;
+    check_terms(terms.copied())?;
+    Ok(Line::Measure { constant, terms })
+}

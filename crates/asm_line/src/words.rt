@@ -1,0 +1,144 @@
+//! The words of a line: what stands between spaces, tabs and commas.
+
+ghost use Rattle.std.specs.Prelude.{◌≡◌, ◌<◌, IfOk, [], ◌∷◌, not, position, MatchOption};
+ghost use Rattle.asm_line.specs.Words.{ends, is_blank, name_first, number_first, object_first, register_first, words_of};
+
+use crate::faults::SYNTAX;
+use crate::keywords::is;
+use crate::names::{Name, name_in};
+use crate::numbers::number_in;
+use crate::registers::register_in;
+use std::marker::Model;
+
+/// The words of a text that are left.
+#[derive(Drop)]
+pub struct Words<'a> {
+    text: &'a [u8],
+}
+
+impl<'a> Model for Words<'a> {
+    ghost use Rattle.std.specs.Prelude.{List};
+    ghost use Rattle.model.specs.Images.Listing.{Text};
+    ghost use Rattle.asm_line.specs.Words.{words_of};
+
+    ghost Value = { List Text };
+
+    ghost view = { λ w. words_of w.text.now };
+}
+
+impl<'a> Words<'a> {
+    /// The words of a text.
+    pub fn of(text: &'a [u8]) -> Words<'a>
+        ensures { result ≡ words_of text.now }
+    {
+        Words { text }
+    }
+
+    /// The first word, and those behind it.
+    pub(crate) fn first(self) -> Option<(&'a [u8], Words<'a>)>
+        ensures { MatchOption result (self.entry ≡ []) (λ p. self.entry ≡ p.0.now ∷ p.1) }
+    {
+        let (word, rest) = first_word(self.text)?;
+        Some((word, Words { text: rest }))
+    }
+
+    /// The first word, which is to be a name, and those behind it.
+    #[tactic(auto, unfolding(crate::specs::Words::name_first))]
+    pub(crate) fn name(self) -> Result<(Name<'a>, Words<'a>), u8>
+        ensures { result ≡ name_first self.entry }
+    {
+        match self.first() {
+            Some((word, words)) => Ok((name_in(word)?, words)),
+            None => Err(SYNTAX),
+        }
+    }
+
+    /// The first word, which is to name an untyped, an object or an interrupt, and those behind it.
+    #[tactic(auto, unfolding(crate::specs::Words::object_first))]
+    pub(crate) fn object(self) -> Result<(Name<'a>, Words<'a>), u8>
+        ensures { result ≡ object_first self.entry }
+    {
+        match self.first() {
+            Some((word, words)) => {
+                if is(word, "boot") {
+                    return Err(SYNTAX);
+                }
+                Ok((name_in(word)?, words))
+            }
+            None => Err(SYNTAX),
+        }
+    }
+
+    /// The first word, which is to be a register, and those behind it.
+    #[tactic(auto, unfolding(crate::specs::Words::register_first))]
+    pub(crate) fn register(self) -> Result<(u8, Words<'a>), u8>
+        ensures register { result ≡ register_first self.entry }
+        ensures small { IfOk result (λ x. x.0 < 32) }
+    {
+        match self.first() {
+            Some((word, words)) => Ok((register_in(word)?, words)),
+            None => Err(SYNTAX),
+        }
+    }
+
+    /// The first word, which is to be a number, and those behind it.
+    #[tactic(auto, unfolding(crate::specs::Words::number_first))]
+    pub(crate) fn number(self) -> Result<(i64, Words<'a>), u8>
+        ensures { result ≡ number_first self.entry }
+    {
+        match self.first() {
+            Some((word, words)) => Ok((number_in(word)?, words)),
+            None => Err(SYNTAX),
+        }
+    }
+
+    /// The same words once more.
+    pub(crate) fn copied(&self) -> Words<'a>
+        ensures { result ≡ self.now }
+    {
+        Words { text: self.text }
+    }
+
+    /// No word is to be left.
+    pub(crate) fn end(self) -> Result<(), u8>
+        ensures { result ≡ ends self.entry }
+    {
+        match self.first() {
+            Some(_) => Err(SYNTAX),
+            None => Ok(()),
+        }
+    }
+}
+
+/// Whether a byte parts words.
+fn parts_words(byte: u8) -> bool
+    ensures { result ≡ is_blank byte }
+{
+    byte == b' ' || byte == b'\t' || byte == b','
+}
+
+/// Where the first byte that parts no words stands, if there is one.
+fn word_start(text: &[u8]) -> Option<usize>
+    ensures { result ≡ position (λ byte. not (is_blank byte)) text.now }
+{
+    text.iter().position(|byte| !parts_words(*byte))
+}
+
+/// Where the first byte that parts words stands, if there is one.
+fn word_end(text: &[u8]) -> Option<usize>
+    ensures { result ≡ position is_blank text.now }
+{
+    text.iter().position(|byte| parts_words(*byte))
+}
+
+/// The first word of a text, and what stands behind it.
+fn first_word(text: &[u8]) -> Option<(&[u8], &[u8])>
+    ensures { MatchOption result (words_of text.now ≡ []) (λ p. words_of text.now ≡ p.0.now ∷ words_of p.1.now) }
+{
+    let Some(start) = word_start(text) else {
+        return None;
+    };
+    let (_, text) = text.split_at(start);
+    let end = word_end(text).unwrap_or(text.len());
+    Some(text.split_at(end))
+}

@@ -1,0 +1,7 @@
+//! Tests on the public calls of the text form's layers.
+#![tactic(auto)]
+
+#[cfg(test)]
+mod faults;
+#[cfg(test)]
+mod instructions;
