@@ -20,9 +20,6 @@ pub mod PhaseSources
 pub mod PhaseStates
 pub mod PhaseTables
 pub mod PlacesApart
-pub mod PlacesEntries
-pub mod PlacesFits
-pub mod PlacesImage
 pub mod PlacesObjects
 pub mod PlacesRules
 pub mod PlacesSlots

@@ -13,7 +13,7 @@ use Rattle.booting.proofs.CallDepths.{root-shallow}
 use Rattle.booting.proofs.CallRetype.{retype-made}
 use Rattle.booting.proofs.ObjectsGrown.{any-range-more, new-bytes, new-objects, one_new, other-held, some-one}
 use Rattle.booting.proofs.PhaseStates.{capability-read, free-read, parent-read}
-use Rattle.booting.proofs.PlacesImage.{IsFitting}
+use Rattle.fitting.specs.Fitting.{IsFitting}
 use Rattle.booting.proofs.PlacesObjects.{ObjectStands, object-at, object-stands, size_at, used_after}
 use Rattle.booting.proofs.PlacesRules.{AreFormed}
 use Rattle.booting.proofs.PlacesSlots.{bits-type, boot-slots-suffice, count-type, slot-behind-boot}

@@ -8,7 +8,7 @@ use Rattle.model.specs.declared.capabilities.Cap.TheVariants.{Untyped}
 use Rattle.model.specs.declared.entries.UntypedEntry.{UntypedEntry}
 use Rattle.model.specs.declared.slot_entries.Entry.{Entry}
 use Rattle.booting.proofs.ObjectsThere.{elsewhere, first-at, first-more, first-none, there_by}
-use Rattle.booting.proofs.PlacesImage.{IsFitting}
+use Rattle.fitting.specs.Fitting.{IsFitting}
 use Rattle.booting.proofs.PlacesObjects.{object-at, offsets-apart}
 use Rattle.booting.proofs.PlacesRules.{AreFormed}
 use Rattle.booting.proofs.PlacesTypes.{HasType}

@@ -30,7 +30,7 @@ use Rattle.booting.proofs.CallOriginals.{cnode-type, original-described, origina
 use Rattle.booting.proofs.PhaseHandlers.{enough-slots, same-radix}
 use Rattle.booting.proofs.PhaseSources.{original-source}
 use Rattle.booting.proofs.PhaseStates.{Known, capabilities-next, capability-read, free-read, parent-read}
-use Rattle.booting.proofs.PlacesEntries.{CapabilityFits}
+use Rattle.fitting.specs.Fitting.{CapabilityFits}
 use Rattle.booting.proofs.PlacesRules.{CapabilityKept}
 use Rattle.booting.proofs.PlacesTypes.{HasType, has-type}
 use Rattle.booting.proofs.Readings.{one_capability}

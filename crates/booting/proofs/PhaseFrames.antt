@@ -36,7 +36,7 @@ use Rattle.booting.proofs.PhaseMappings.{key-same, multiple-same, no-frame-liste
 use Rattle.booting.proofs.PhaseSources.{inserted-elsewhere, inserted-here, original-read, original-source}
 use Rattle.booting.proofs.PhaseStates.{Known, capability-read, frames-next, free-read}
 use Rattle.booting.proofs.PhaseTables.{address-parts, root-slot}
-use Rattle.booting.proofs.PlacesEntries.{FrameFits}
+use Rattle.fitting.specs.Fitting.{FrameFits}
 use Rattle.booting.proofs.PlacesObjects.{offsets-apart}
 use Rattle.booting.proofs.PlacesRules.{FrameKept}
 use Rattle.booting.proofs.Readings.{entry, mapping_of, one_frame}

@@ -22,7 +22,7 @@ use Rattle.booting.proofs.CallDepths.{root-shallow}
 use Rattle.booting.proofs.CallHeld.{none-held}
 use Rattle.booting.proofs.PhaseHeld.{NoneHolds, none-holds}
 use Rattle.booting.proofs.PhaseStates.{Known, capability-read, parent-read, free-read, handlers-next}
-use Rattle.booting.proofs.PlacesImage.{IsFitting}
+use Rattle.fitting.specs.Fitting.{IsFitting}
 use Rattle.booting.proofs.PlacesRules.{AreFormed}
 use Rattle.booting.proofs.Readings.{one_handler}
 

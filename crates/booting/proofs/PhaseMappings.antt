@@ -18,7 +18,7 @@ use Rattle.model.specs.Kernel.AddressSpaces.{page_size, region_pages, region_siz
 use Rattle.model.specs.Kernel.Retype.{NewObject, NewUntyped, NewThread, NewEndpoint, NewNotification, NewCNode, NewFrame, NewPageTable, NewRootTable, first_capability}
 use Rattle.booting.specs.Loading.{Progress, original_so_far}
 use Rattle.booting.proofs.CallOriginals.{original-described}
-use Rattle.booting.proofs.PlacesImage.{IsFitting}
+use Rattle.fitting.specs.Fitting.{IsFitting}
 use Rattle.booting.proofs.PlacesRules.{CapabilityKept}
 use Rattle.booting.proofs.PlacesTypes.{HasType, has-type}
 

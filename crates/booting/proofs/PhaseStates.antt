@@ -8,7 +8,7 @@ use Rattle.model.specs.Images.Image.{Image}
 use Rattle.model.specs.Kernel.Soundness.{HasShape}
 use Rattle.model.specs.Kernel.State.{with_slots}
 use Rattle.booting.specs.Loading.{Progress, bytes_so_far, holdings_so_far, is_open_so_far, loaded}
-use Rattle.booting.proofs.PlacesImage.{IsFitting}
+use Rattle.fitting.specs.Fitting.{IsFitting}
 use Rattle.booting.proofs.PlacesRules.{AreFormed}
 use Rattle.booting.proofs.Readings.{ReadsBoot, ReadsEmpty, ReadsRoom, ReadsObjects, AddsBoot, AddsRoom, Reads, one_capability, one_frame, one_handler, one_signal, one_table, slots_of_loaded}
 

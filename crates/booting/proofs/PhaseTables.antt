@@ -25,7 +25,7 @@ use Rattle.booting.proofs.PhaseHeld.{NoneHolds, none-holds}
 use Rattle.booting.proofs.PhaseMappings.{find-item, find-none, key-same, multiple-same, no-table-first, no-table-listed, region-of-page}
 use Rattle.booting.proofs.PhaseSources.{original-source}
 use Rattle.booting.proofs.PhaseStates.{Known, tables-next}
-use Rattle.booting.proofs.PlacesEntries.{TableFits}
+use Rattle.fitting.specs.Fitting.{TableFits}
 use Rattle.booting.proofs.PlacesObjects.{offsets-apart}
 use Rattle.booting.proofs.PlacesRules.{TableKept}
 use Rattle.booting.proofs.Readings.{one_table}

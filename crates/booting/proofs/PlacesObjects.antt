@@ -5,7 +5,7 @@ use Rattle.std.proofs.lemmas.Bool.{true≢false, cases_order, eqb-true, ltb-fals
 use Rattle.std.proofs.lemmas.Bool.Decides.{eqb_tells}
 use Rattle.std.proofs.lemmas.Option.{slice_get-get_or}
 use Rattle.model.specs.declared.entries.UntypedEntry.{UntypedEntry}
-use Rattle.booting.proofs.PlacesImage.{IsFitting}
+use Rattle.fitting.specs.Fitting.{IsFitting}
 use Rattle.booting.proofs.PlacesRules.{AreFormed}
 use Rattle.booting.proofs.PlacesUsed.{used-grows, used-here, used-more}
 use Rattle.model.specs.Acceptance.WellFormed.{end_before, has_no_room, overlaps, untyped_end}

@@ -6,7 +6,7 @@ use Rattle.std.proofs.lemmas.Bool.{false≢true, ltb-true, ltb-false}
 use Rattle.std.proofs.lemmas.Bool.Decides.{eqb_tells}
 use Rattle.std.proofs.lemmas.Nat.{mod-pow-add}
 use Rattle.model.proofs.SlotChanges.{bounds-within, within-bounds}
-use Rattle.booting.proofs.PlacesImage.{IsFitting}
+use Rattle.fitting.specs.Fitting.{IsFitting}
 use Rattle.booting.proofs.PlacesRules.{AreFormed}
 use Rattle.booting.proofs.PlacesObjects.{ObjectStands, object-bounds, object-stands, objects-apart, size_at}
 use Rattle.booting.proofs.PlacesTypes.{HasType, four-bits, has-type, room-fits}

@@ -3,8 +3,8 @@ use Rattle.std.proofs.Common.{ℕ, zero, suc, ◌≡◌, ◌+◌, ◌*◌, ◌^�
 use Rattle.std.proofs.lemmas.Bool.{and_parts, false≢true, or_cases, le-leb, leb-true}
 use Rattle.std.proofs.lemmas.Nat.{pow-add}
 use Rattle.model.specs.declared.entries.ObjectEntry.{ObjectEntry}
-use Rattle.booting.proofs.PlacesFits.{between-bounds}
-use Rattle.booting.proofs.PlacesImage.{IsFitting}
+use Rattle.fitting.proofs.FormatFits.{between-bounds}
+use Rattle.fitting.specs.Fitting.{IsFitting}
 use Rattle.booting.proofs.PlacesObjects.{object-at}
 use Rattle.model.specs.Images.Image.{Image, between, size_fits}
 use Rattle.model.specs.Images.Places.{object_at}

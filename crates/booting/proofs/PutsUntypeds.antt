@@ -18,7 +18,7 @@ use Rattle.model.specs.declared.capabilities.Cap.TheVariants.{InterruptControl, 
 use Rattle.model.specs.declared.entries.UntypedEntry.{UntypedEntry}
 use Rattle.booting.proofs.CallHeld.{none-held}
 use Rattle.booting.proofs.PhaseHeld.{get-take}
-use Rattle.booting.proofs.PlacesImage.{IsFitting}
+use Rattle.fitting.specs.Fitting.{IsFitting}
 use Rattle.booting.proofs.PlacesObjects.{UntypedStands, untyped-at, untyped-stands, untypeds-apart}
 use Rattle.booting.proofs.PlacesRules.{AreFormed, numbered-at}
 use Rattle.booting.proofs.PlacesSlots.{boot-slots-suffice}

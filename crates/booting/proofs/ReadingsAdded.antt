@@ -5,7 +5,7 @@ use Rattle.std.proofs.lemmas.Option.{slice_get_within}
 use Rattle.model.specs.declared.capabilities.Cap.TheVariants.{Frame, InterruptHandler}
 use Rattle.model.specs.declared.entries.FrameEntry.{FrameEntry}
 use Rattle.model.specs.declared.entries.InterruptEntry.{InterruptEntry}
-use Rattle.booting.proofs.PlacesImage.{IsFitting}
+use Rattle.fitting.specs.Fitting.{IsFitting}
 use Rattle.booting.proofs.PlacesRules.{AreFormed, numbered-at}
 use Rattle.booting.proofs.Readings.{AddsBoot, IsWithin, ReadsBoot, entry, mapping_of, one_frame, one_handler, one_signal}
 use Rattle.booting.proofs.ReadingsBoot.{reads-boot}

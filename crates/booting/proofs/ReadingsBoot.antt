@@ -9,8 +9,8 @@ use Rattle.model.specs.declared.slot_entries.Entry.{Entry}
 use Rattle.model.specs.Capabilities.Rights.{frame_rights}
 use Rattle.model.specs.declared.entries.FrameEntry.{FrameEntry}
 use Rattle.model.specs.declared.entries.InterruptEntry.{InterruptEntry}
-use Rattle.booting.proofs.PlacesEntries.{InterruptFits}
-use Rattle.booting.proofs.PlacesImage.{IsFitting}
+use Rattle.fitting.specs.Fitting.{InterruptFits}
+use Rattle.fitting.specs.Fitting.{IsFitting}
 use Rattle.booting.proofs.PlacesObjects.{untyped-at}
 use Rattle.booting.proofs.PlacesRules.{AreFormed, numbered-at}
 use Rattle.booting.proofs.PlacesSlots.{boot-slots-suffice}

@@ -12,8 +12,8 @@ use Rattle.model.specs.declared.entries.CapabilityEntry.{CapabilityEntry}
 use Rattle.model.specs.declared.entries.InterruptEntry.{InterruptEntry}
 use Rattle.model.specs.declared.entries.TableEntry.{TableEntry}
 use Rattle.model.specs.declared.slot_entries.Entry.{Entry}
-use Rattle.booting.proofs.PlacesEntries.{TableFits}
-use Rattle.booting.proofs.PlacesImage.{IsFitting}
+use Rattle.fitting.specs.Fitting.{TableFits}
+use Rattle.fitting.specs.Fitting.{IsFitting}
 use Rattle.booting.proofs.PlacesRules.{AreFormed, CapabilityKept, TableKept}
 use Rattle.booting.proofs.Readings.{AddsRoom, IsWithin, ReadsBoot, ReadsEmpty, entry, one_capability, one_table, one_thread, slots_of_loaded}
 use Rattle.booting.proofs.ReadingsBoot.{reads-boot, reads-empty}

@@ -2,7 +2,7 @@
 use Rattle.std.proofs.Common.{◌≡◌}
 use Rattle.booting.proofs.ObjectsThere.{reads-objects}
 use Rattle.booting.proofs.PhaseStates.{Known}
-use Rattle.booting.proofs.PlacesImage.{IsFitting}
+use Rattle.fitting.specs.Fitting.{IsFitting}
 use Rattle.booting.proofs.PlacesRules.{AreFormed}
 use Rattle.booting.proofs.Readings.{IsWithin}
 use Rattle.booting.proofs.ReadingsAdded.{adds-boot}

@@ -7,7 +7,7 @@ use Rattle.std.proofs.lemmas.Bool.Decides.{eqb_tells}
 use Rattle.model.specs.declared.capabilities.Cap.{Cap}
 use Rattle.model.specs.declared.entries.CapabilityEntry.{CapabilityEntry}
 use Rattle.model.specs.declared.entries.TableEntry.{TableEntry}
-use Rattle.booting.proofs.PlacesImage.{IsFitting}
+use Rattle.fitting.specs.Fitting.{IsFitting}
 use Rattle.booting.proofs.Readings.{one_capability, one_table, one_thread}
 use Rattle.booting.proofs.ReadingsLists.{flat-more, held-in-first, held-in-rest, mapped-more, range-alike}
 use Rattle.booting.proofs.ReadingsSections.{bindings_part, control_part, frames_part, handlers_part, listed_part, notifications_part, threads_part, untypeds_part}

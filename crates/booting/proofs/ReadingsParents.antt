@@ -10,8 +10,8 @@ use Rattle.model.specs.declared.entries.CapabilityEntry.{CapabilityEntry}
 use Rattle.model.specs.declared.entries.FrameEntry.{FrameEntry}
 use Rattle.model.specs.declared.entries.InterruptEntry.{InterruptEntry}
 use Rattle.model.specs.declared.slot_entries.Entry.{Entry}
-use Rattle.booting.proofs.PlacesEntries.{ObjectFits}
-use Rattle.booting.proofs.PlacesImage.{IsFitting}
+use Rattle.fitting.specs.Fitting.{ObjectFits}
+use Rattle.fitting.specs.Fitting.{IsFitting}
 use Rattle.booting.proofs.PlacesObjects.{object-at}
 use Rattle.booting.proofs.PlacesRules.{AreFormed, FrameKept, ThreadKept}
 use Rattle.booting.proofs.Readings.{IsWithin}

@@ -7,8 +7,8 @@ use Rattle.std.proofs.lemmas.Bool.{eq-eqb, false≢true, or_left, or_right, true
 use Rattle.std.proofs.lemmas.Option.{none-some, same_Some}
 use Rattle.model.specs.declared.entries.CapabilityEntry.{CapabilityEntry}
 use Rattle.model.specs.declared.slot_entries.Entry.{Entry}
-use Rattle.booting.proofs.PlacesEntries.{CapabilityFits, ThreadFits}
-use Rattle.booting.proofs.PlacesImage.{IsFitting}
+use Rattle.fitting.specs.Fitting.{CapabilityFits, ThreadFits}
+use Rattle.fitting.specs.Fitting.{IsFitting}
 use Rattle.booting.proofs.PlacesRules.{AreFormed, CapabilityKept, ThreadKept}
 use Rattle.booting.proofs.PlacesSlots.{cnode-slot, cspace-slot, slot-of-one, vspace-slot}
 use Rattle.booting.proofs.Readings.{IsWithin, Reads, ReadsRoom, entry}

@@ -8,8 +8,8 @@ use Rattle.model.specs.declared.capabilities.Cap.TheVariants.{InterruptControl}
 use Rattle.model.specs.declared.entries.CapabilityEntry.{CapabilityEntry}
 use Rattle.model.specs.declared.entries.InterruptEntry.{InterruptEntry}
 use Rattle.model.specs.declared.slot_entries.Entry.{Entry}
-use Rattle.booting.proofs.PlacesEntries.{CapabilityFits, InterruptFits, ThreadFits}
-use Rattle.booting.proofs.PlacesImage.{IsFitting}
+use Rattle.fitting.specs.Fitting.{CapabilityFits, InterruptFits, ThreadFits}
+use Rattle.fitting.specs.Fitting.{IsFitting}
 use Rattle.booting.proofs.PlacesRules.{AreFormed, CapabilityKept, ThreadKept}
 use Rattle.booting.proofs.PlacesSlots.{boot-slots-suffice, cnode-slot, cspace-slot, slot-behind-boot}
 use Rattle.booting.proofs.Readings.{IsWithin}

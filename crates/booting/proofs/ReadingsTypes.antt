@@ -13,7 +13,7 @@ use Rattle.model.specs.declared.entries.CapabilityEntry.{CapabilityEntry}
 use Rattle.model.specs.declared.entries.InterruptEntry.{InterruptEntry}
 use Rattle.model.specs.declared.entries.ObjectEntry.{ObjectEntry}
 use Rattle.model.specs.declared.entries.TableEntry.{TableEntry}
-use Rattle.booting.proofs.PlacesImage.{IsFitting}
+use Rattle.fitting.specs.Fitting.{IsFitting}
 use Rattle.booting.specs.Loading.{Progress, original_so_far}
 use Rattle.model.specs.Acceptance.WellFormed.{is_untyped_type, source_type}
 use Rattle.model.specs.Capabilities.CapabilityKinds.{is_untyped, with_table_mapping}

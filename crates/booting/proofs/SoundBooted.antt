@@ -18,7 +18,8 @@ use Rattle.model.specs.Kernel.Setup.{boot_area}
 use Rattle.model.specs.Kernel.Soundness.{IsSound}
 use Rattle.model.specs.Kernel.State.{State}
 use Rattle.soundness.proofs.FreshMachines.{fresh-sound}
-use Rattle.booting.proofs.PlacesImage.{IsFitting, is-fitting}
+use Rattle.fitting.specs.Fitting.{IsFitting}
+use Rattle.fitting.proofs.ImageFits.{is-fitting}
 use Rattle.booting.proofs.PlacesRules.{are-formed, range-at}
 use Rattle.booting.proofs.PutsUntypeds.{puts-sound, puts-lead}
 use Rattle.booting.proofs.SoundRuns.{FillsBytes, HasSmallBytes, HasSmallWords, IsFine, run-sound}

@@ -25,7 +25,7 @@ use Rattle.model.specs.declared.entries.RegisterEntry.{RegisterEntry}
 use Rattle.booting.proofs.CallCopies.{IsSource}
 use Rattle.booting.proofs.CallOriginals.{cnode-type, original-described, original-loaded, root-type, stays, thread-type}
 use Rattle.booting.proofs.CallThreads.{Configures, configure-made}
-use Rattle.booting.proofs.PlacesEntries.{ThreadFits}
+use Rattle.fitting.specs.Fitting.{ThreadFits}
 use Rattle.booting.proofs.PhaseHeld.{get-take}
 use Rattle.booting.proofs.PhaseSources.{original-source}
 use Rattle.booting.proofs.PhaseStates.{Known, capability-read}

@@ -3,8 +3,8 @@ use Rattle.std.proofs.Common.{ℕ, ◌≡◌, ◌∙◌, ◌+◌, ◌*◌, ◌�
 use Rattle.std.specs.Prelude.{nat_le, nat_lt, flat_map, slice_get}
 use Rattle.std.specs.List.{enumerate_from}
 use Rattle.std.proofs.lemmas.Bool.{and_parts}
-use Rattle.booting.proofs.PlacesFits.{field-between, many-each, many-length}
-use Rattle.booting.proofs.PlacesImage.{IsFitting}
+use Rattle.fitting.proofs.FormatFits.{field-between, many-each, many-length}
+use Rattle.fitting.specs.Fitting.{IsFitting}
 use Rattle.booting.proofs.RunBoots.{length-joined}
 use Rattle.booting.proofs.RunEnd.{CountsAreLengths}
 use Rattle.model.specs.Images.Described.{numbered}

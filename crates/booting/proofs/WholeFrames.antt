@@ -21,7 +21,7 @@ use Rattle.model.specs.declared.entries.FrameEntry.{FrameEntry}
 use Rattle.model.specs.declared.entries.ObjectEntry.{ObjectEntry}
 use Rattle.booting.proofs.CallOriginals.{frame-type}
 use Rattle.booting.proofs.PhaseHeld.{get-take}
-use Rattle.booting.proofs.PlacesImage.{IsFitting}
+use Rattle.fitting.specs.Fitting.{IsFitting}
 use Rattle.booting.proofs.PlacesObjects.{offsets-apart}
 use Rattle.booting.proofs.PlacesRules.{AreFormed, FrameKept, ThreadKept}
 use Rattle.booting.proofs.RunContents.{FramesAreThere}

@@ -19,7 +19,7 @@ const PROGRAM: [u32; 7] = [
     0xFF5F_F06F,
 ];
 
-fn object(kind: u32, size: u32) -> ObjectEntry {
+pub(crate) fn object(kind: u32, size: u32) -> ObjectEntry {
     ObjectEntry {
         untyped: 0,
         kind,
@@ -57,7 +57,7 @@ fn counting(
     })
 }
 
-fn thread(alloc: Global) -> Result<ThreadParts, AllocError> {
+pub(crate) fn thread(alloc: Global) -> Result<ThreadParts, AllocError> {
     let start = RecordParts {
         point: 0,
         constant: 24,

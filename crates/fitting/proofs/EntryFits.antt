@@ -1,4 +1,4 @@
--- What the entries of an image are that fit their formats: numbers lie in their ranges.
+-- The entries of an image that fit their formats have their numbers in their ranges.
 use Rattle.std.proofs.Common.{ℕ, ◌≡◌, ◌==◌, ◌+◌, ◌-◌, ◌^◌, ◌<◌, ◌≤◌, ◌&&◌, true, min, arith}
 use Rattle.std.specs.Prelude.{nat_le, nat_lt}
 use Rattle.std.proofs.lemmas.Bool.{and_parts, ltb-true, leb-true}
@@ -10,68 +10,12 @@ use Rattle.model.specs.declared.entries.ObjectEntry.{ObjectEntry}
 use Rattle.model.specs.declared.entries.TableEntry.{TableEntry}
 use Rattle.model.specs.declared.entries.ThreadHeader.{ThreadHeader}
 use Rattle.model.specs.declared.entries.UntypedEntry.{UntypedEntry}
-use Rattle.booting.proofs.PlacesFits.{field-between, field-parts}
+use Rattle.fitting.specs.Fitting.{CapabilityFits, FrameFits, HeaderFits, InterruptFits, ObjectFits, TableFits, ThreadFits, UntypedFits}
+use Rattle.fitting.proofs.FormatFits.{field-between, field-parts}
 use Rattle.model.specs.Images.Image.{Image, Thread, anything, below, between, capability_format, frame_format, header_format, interrupt_format, magic, object_format, pair_key, size_fits, slots_format, table_format, thread_format, thread_header_format, untyped_format}
 use Rattle.model.specs.Images.Format.{both, field, number_or}
 use Rattle.model.specs.declared.refusals.Refusal.TheVariants.{Magic, Version}
 use Rattle.std.specs.Int.{w32}
-
-pub record HeaderFits (h : ImageHeader) : Type 0 where
-  pub memory_low : 16 ≤ h.memory_bits
-  pub memory_high : h.memory_bits ≤ 24
-  pub radix_low : 1 ≤ h.boot_radix
-  pub radix_high : h.boot_radix ≤ 14
-  pub radix_memory : h.boot_radix + 5 ≤ h.memory_bits
-  pub untypeds : h.untypeds ≤ 64
-  pub objects : h.objects ≤ 4096
-  pub capabilities : h.capabilities ≤ 16384
-  pub interrupts : h.interrupts ≤ 64
-  pub tables : h.tables ≤ 1024
-  pub frames : h.frames ≤ 4096
-
-pub record UntypedFits (u : UntypedEntry) : Type 0 where
-  pub offset : u.offset < 2 ^ 32
-  pub low : 4 ≤ u.bits
-  pub high : u.bits ≤ 24
-
-pub record ObjectFits (image : Image) (o : ObjectEntry) : Type 0 where
-  pub untyped : o.untyped < image.header.untypeds
-  pub low : 1 ≤ o.kind
-  pub high : o.kind ≤ 8
-  pub size : size_fits o.kind o.size ≡ true
-
-pub record CapabilityFits (image : Image) (c : CapabilityEntry) : Type 0 where
-  pub cnode : c.cnode < image.header.objects
-  pub index : c.index < 2 ^ 32
-  pub source : c.source < image.header.objects + image.header.interrupts
-  pub rights : c.rights < 2 ^ 32
-  pub payload : c.payload < 2 ^ 32
-
-pub record InterruptFits (image : Image) (i : InterruptEntry) : Type 0 where
-  pub line : i.line ≤ 63
-  pub notification : i.notification < image.header.objects
-  pub badge : i.badge < 2 ^ 28
-
-pub record TableFits (image : Image) (t : TableEntry) : Type 0 where
-  pub root : t.root < image.header.objects
-  pub address : t.address < 2 ^ 32
-  pub table : t.table < image.header.objects
-
-pub record FrameFits (image : Image) (f : FrameEntry) : Type 0 where
-  pub root : f.root < image.header.objects
-  pub address : f.address < 2 ^ 32
-  pub frame : f.frame < image.header.objects
-  pub rights : f.rights ≤ 7
-
-pub record ThreadFits (image : Image) (t : ThreadHeader) : Type 0 where
-  pub tcb : t.tcb < image.header.objects
-  pub cnode : t.cnode < image.header.objects
-  pub guard : t.guard < 2 ^ 32
-  pub root : t.root < image.header.objects
-  pub priority : t.priority ≤ 255
-  pub fault : t.fault < 2 ^ 32
-  pub entry : t.entry < 2 ^ 32
-  pub base : t.base < 2 ^ 32
 
 -- ---- fields and their tests
 
@@ -90,6 +34,7 @@ header-fits h is =
     let f = and_parts _ _ e.1 in
     let g = and_parts _ _ f.1 in
     let k = and_parts _ ((both {B = ℕ} (field (between 0 4096)) (λ _. field (between 1 64))).fits (h.contents, h.threads)) g.1 in
+    let m = and_parts ((field (between 0 4096)).fits h.contents) ((field (between 1 64)).fits h.threads) k.1 in
     record {
       memory_low = memory.0;
       memory_high = memory.1;
@@ -102,6 +47,8 @@ header-fits h is =
       interrupts = (field-between 0 64 h.interrupts f.0).1;
       tables = (field-between 0 1024 h.tables g.0).1;
       frames = (field-between 0 4096 h.frames k.0).1;
+      contents = (field-between 0 4096 h.contents m.0).1;
+      threads = (field-between 1 64 h.threads m.1).1;
     }
 
 pub untyped-fits : (u : UntypedEntry) → untyped_format.fits u ≡ true → UntypedFits u

@@ -1,4 +1,4 @@
--- What an image is that fits its format: counts are lengths, numbers lie in their ranges, and keys rise.
+-- An image that fits its format: counts are lengths, numbers lie in their ranges, and keys rise.
 use Rattle.std.proofs.Common.{ℕ, ◌≡◌, ◌+◌, ◌<◌, true, length, Some, refl}
 use Rattle.std.specs.Prelude.{slice_get}
 use Rattle.std.proofs.lemmas.Bool.{and_parts}
@@ -8,34 +8,10 @@ use Rattle.model.specs.declared.entries.InterruptEntry.{InterruptEntry}
 use Rattle.model.specs.declared.entries.ObjectEntry.{ObjectEntry}
 use Rattle.model.specs.declared.entries.TableEntry.{TableEntry}
 use Rattle.model.specs.declared.entries.UntypedEntry.{UntypedEntry}
-use Rattle.booting.proofs.PlacesFits.{many-each, many-length, many-rises}
+use Rattle.fitting.proofs.FormatFits.{many-each, many-length, many-rises}
 use Rattle.model.specs.Images.Image.{Image, Thread, capability_format, frame_format, image_with, interrupt_format, object_format, pair_key, sections_format, slots_format, table_format, thread_format, untyped_format, whole_image}
-use Rattle.booting.proofs.PlacesEntries.{CapabilityFits, FrameFits, HeaderFits, InterruptFits, ObjectFits, TableFits, ThreadFits, UntypedFits, capability-fits, frame-fits, header-fits, interrupt-fits, object-fits, table-fits, thread-fits, untyped-fits}
-
-pub record IsFitting (image : Image) : Type 0 where
-  pub header : HeaderFits image.header
-  pub untypeds : length image.untypeds ≡ image.header.untypeds
-  pub objects : length image.objects ≡ image.header.objects
-  pub capabilities : length image.capabilities ≡ image.header.capabilities
-  pub interrupts : length image.interrupts ≡ image.header.interrupts
-  pub tables : length image.tables ≡ image.header.tables
-  pub frames : length image.frames ≡ image.header.frames
-  pub threads : length image.threads ≡ image.header.threads
-  pub untyped : (k : ℕ) (u : UntypedEntry) → slice_get image.untypeds k ≡ Some u → UntypedFits u
-  pub object : (k : ℕ) (o : ObjectEntry) → slice_get image.objects k ≡ Some o → ObjectFits image o
-  pub capability : (k : ℕ) (c : CapabilityEntry) → slice_get image.capabilities k ≡ Some c → CapabilityFits image c
-  pub interrupt : (k : ℕ) (i : InterruptEntry) → slice_get image.interrupts k ≡ Some i → InterruptFits image i
-  pub table : (k : ℕ) (t : TableEntry) → slice_get image.tables k ≡ Some t → TableFits image t
-  pub frame : (k : ℕ) (f : FrameEntry) → slice_get image.frames k ≡ Some f → FrameFits image f
-  pub thread : (k : ℕ) (t : Thread) → slice_get image.threads k ≡ Some t → ThreadFits image t.header
-  -- keys rise
-  pub slots_rise : (i j : ℕ) (c d : CapabilityEntry) → i < j → slice_get image.capabilities i ≡ Some c → slice_get image.capabilities j ≡ Some d
-      → pair_key c.cnode c.index < pair_key d.cnode d.index
-  pub lines_rise : (i j : ℕ) (a b : InterruptEntry) → i < j → slice_get image.interrupts i ≡ Some a → slice_get image.interrupts j ≡ Some b → a.line < b.line
-  pub regions_rise : (i j : ℕ) (a b : TableEntry) → i < j → slice_get image.tables i ≡ Some a → slice_get image.tables j ≡ Some b
-      → pair_key a.root a.address < pair_key b.root b.address
-  pub pages_rise : (i j : ℕ) (a b : FrameEntry) → i < j → slice_get image.frames i ≡ Some a → slice_get image.frames j ≡ Some b
-      → pair_key a.root a.address < pair_key b.root b.address
+use Rattle.fitting.specs.Fitting.{IsFitting}
+use Rattle.fitting.proofs.EntryFits.{capability-fits, frame-fits, header-fits, interrupt-fits, object-fits, table-fits, thread-fits, untyped-fits}
 
 pub is-fitting : (image : Image) → whole_image.fits image ≡ true → IsFitting image
 unfolding image_with sections_format

@@ -1,0 +1,3 @@
+pub mod EntryFits
+pub mod FormatFits
+pub mod ImageFits

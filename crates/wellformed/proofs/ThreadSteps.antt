@@ -1,0 +1,104 @@
+-- What threads so far have, and one thread more.
+use Rattle.std.proofs.Common.{◌≡◌, ◌∙◌, inl, inr, drop-cons, map, None, Option, ◌-◌, ◌<◌, ◌≤◌, ℕ, suc, ◌+◌, ◌==◌, ◌||◌, ◌&&◌, not, Bool, true, false, List, [], ◌∷◌, ◌++◌, Some, take, drop, length, get_or, sym, ap, arith, add-one, take-suc}
+use Rattle.std.specs.Prelude.{find, flat_map, if◌then◌else◌, nat_eq, slice_get}
+use Rattle.std.specs.List.{list_all, list_any, range_with_len}
+use Rattle.std.proofs.lemmas.Bool.{cases_lt}
+use Rattle.std.proofs.lemmas.List.{drop_all, flat_map_more}
+use Rattle.std.proofs.lemmas.List.Folds.{list_any-append}
+use Rattle.std.proofs.lemmas.Option.{get_or_from_slice_get, slice_get-get_or, slice_get_within}
+use Rattle.model.specs.Acceptance.ThreadRules.{is_member, reached, shares_cspace, shares_vspace}
+use Rattle.model.specs.Acceptance.WellFormed.{is_root_type, source_type}
+use Rattle.model.specs.Images.Image.{Image, Thread}
+use Rattle.wellformed.specs.Answering.{AreEarlier, with_number}
+use Rattle.wellformed.proofs.Named.{named-next, named-none}
+use Rattle.wellformed.proofs.RulesLeft.{rest-next}
+
+pub head-of : {A : Type 0} (n : ℕ) (xs ys : List A) (x : A) → drop n xs ≡ x ∷ ys → (slice_get xs n ≡ Some x) × (drop (n + 1) xs ≡ ys)
+head-of {A} n xs ys x is =
+    elim (cases_lt n (length xs)) [
+      | inl inside ↦
+          let first : drop n xs ≡ get_or xs n x ∷ drop (suc n) xs = drop-cons xs n x inside in
+          let same : get_or xs n x ∷ drop (suc n) xs ≡ x ∷ ys = sym first ∙ is in
+          let here : get_or xs n x ≡ x = ap (λ (l : List A). get_or l 0 x) same in
+          let rest : drop (suc n) xs ≡ ys = ap (λ (l : List A). drop 1 l) same in
+          let one : drop (n + 1) xs ≡ drop (suc n) xs = ap (λ (k : ℕ). drop k xs) (add-one n) in
+          (slice_get-get_or xs n x inside ∙ ap (λ (y : A). Some y) here, one ∙ rest)
+      | inr past ↦
+          let none : [] ≡ x ∷ ys = sym (drop_all n xs past) ∙ is in
+          absurd (let clash : 0 ≡ suc (length ys) = ap (λ (l : List A). length l) none in omega (arith, clash))
+    ]
+
+module _ (image : Image) where
+  pub no-earlier : (tcbs roots cnodes : List ℕ) → tcbs ≡ [] → roots ≡ [] → cnodes ≡ [] → AreEarlier image (take 0 image.threads) tcbs roots cnodes
+  no-earlier tcbs roots cnodes a b c = record {
+    have_tcbs = named-none (λ t. t.header.tcb) image.threads tcbs a;
+    have_roots = named-none (λ t. t.header.root) image.threads roots b;
+    reach = λ n. ap (λ (s : List ℕ). is_member n s) c;
+  }
+
+  one-earlier : (n : ℕ) (t : Thread) (found : List ℕ) (m : ℕ) → slice_get image.threads n ≡ Some t → found ≡ reached image t
+      → is_member m (flat_map (reached image) (take (n + 1) image.threads)) ≡ (is_member m (flat_map (reached image) (take n image.threads)) || is_member m found)
+  one-earlier n t found m at is =
+      let here : get_or image.threads n t ≡ t = get_or_from_slice_get image.threads n t t at in
+      let parts : take (n + 1) image.threads ≡ take n image.threads ++ (t ∷ []) =
+      rw (add-one n) (take-suc image.threads n t (slice_get_within image.threads n t at) ∙ ap (λ x. take n image.threads ++ (x ∷ [])) here) in
+      let joined = flat_map_more (reached image) [] (take n image.threads) t in
+      ap (λ (ts : List Thread). is_member m (flat_map (reached image) ts)) parts ∙ ap (λ (l : List ℕ). is_member m l) (sym joined)
+      ∙ list_any-append (nat_eq m) (flat_map (reached image) (take n image.threads)) (reached image t)
+      ∙ ap (λ (l : List ℕ). is_member m (flat_map (reached image) (take n image.threads)) || is_member m l) (sym is)
+
+  pub earlier-next : (n : ℕ) (t : Thread) (found tcbs roots cnodes tcbs' roots' cnodes' : List ℕ) → slice_get image.threads n ≡ Some t → found ≡ reached image t
+      → tcbs' ≡ with_number t.header.tcb tcbs → roots' ≡ with_number t.header.root roots → ((m : ℕ) → is_member m cnodes' ≡ (is_member m cnodes || is_member m found))
+      → AreEarlier image (take n image.threads) tcbs roots cnodes → AreEarlier image (take (n + 1) image.threads) tcbs' roots' cnodes'
+  earlier-next n t found tcbs roots cnodes tcbs' roots' cnodes' at is put_tcb put_root put_cnodes before = record {
+    have_tcbs = named-next (λ t. t.header.tcb) image.threads n t tcbs tcbs' at put_tcb before.have_tcbs;
+    have_roots = named-next (λ t. t.header.root) image.threads n t roots roots' at put_root before.have_roots;
+    reach = λ m. put_cnodes m ∙ ap (λ (b : Bool). b || is_member m found) (before.reach m) ∙ sym (one-earlier n t found m at is);
+  }
+
+  pub shares-cspace-is : (n : ℕ) (t : Thread) (found tcbs roots cnodes : List ℕ) → found ≡ reached image t → AreEarlier image (take n image.threads) tcbs roots cnodes
+      → list_any (λ m. is_member m cnodes) found ≡ shares_cspace image (record { number = n; thread = t })
+  unfolding shares_cspace
+  shares-cspace-is n t found tcbs roots cnodes is before =
+      let same : (λ (m : ℕ). is_member m cnodes) ≡ (λ (m : ℕ). is_member m (flat_map (reached image) (take n image.threads))) = λ i m. before.reach m i in
+      ap (λ (p : ℕ → Bool). list_any p found) same ∙ ap (λ (l : List ℕ). list_any (λ m. is_member m (flat_map (reached image) (take n image.threads))) l) is
+
+  pub shares-vspace-is : (n : ℕ) (t : Thread) (found tcbs roots cnodes : List ℕ) (root : ℕ) → root ≡ t.header.root → found ≡ reached image t → AreEarlier image (take n image.threads) tcbs roots cnodes
+      → (is_member root roots || list_any (λ c. is_member c.cnode found && is_root_type (source_type image c.source) && not (c.source == root)) image.capabilities)
+      ≡ shares_vspace image (record { number = n; thread = t })
+  unfolding shares_vspace
+  shares-vspace-is n t found tcbs roots cnodes root same is before =
+      ap (λ (r : ℕ). is_member r roots || list_any (λ c. is_member c.cnode found && is_root_type (source_type image c.source) && not (c.source == r)) image.capabilities) same
+      ∙ ap (λ (b : Bool). b || list_any (λ c. is_member c.cnode found && is_root_type (source_type image c.source) && not (c.source == t.header.root)) image.capabilities) (before.have_roots.is t.header.root)
+      ∙ ap (λ (l : List ℕ). list_any (λ u. u.header.root == t.header.root) (take n image.threads) || list_any (λ c. is_member c.cnode l && is_root_type (source_type image c.source) && not (c.source == t.header.root)) image.capabilities) is
+
+-- ---- searches over the mappings, and over the pages of a program
+
+module _ {A : Type 0} (test : A → Bool) (xs : List A) (n : ℕ) where
+  pub found-here : (x : A) (total : Option A) → slice_get xs n ≡ Some x → test x ≡ true → total ≡ find test (drop n xs) → total ≡ Some x
+  found-here x total at is so_far =
+      so_far ∙ ap (λ (l : List A). find test l) (rest-next xs n x at) ∙ ap (λ (b : Bool). if b then Some x else find test (drop (n + 1) xs)) is
+
+  pub found-later : (x : A) (total : Option A) → slice_get xs n ≡ Some x → test x ≡ false → total ≡ find test (drop n xs) → total ≡ find test (drop (n + 1) xs)
+  found-later x total at is so_far =
+      so_far ∙ ap (λ (l : List A). find test l) (rest-next xs n x at) ∙ ap (λ (b : Bool). if b then Some x else find test (drop (n + 1) xs)) is
+
+  pub found-none : (total : Option A) → length xs ≤ n → total ≡ find test (drop n xs) → total ≡ None
+  found-none total le so_far = so_far ∙ ap (λ (l : List A). find test l) (drop_all n xs le)
+
+module _ (test : ℕ → Bool) (f : ℕ → ℕ) (k count : ℕ) (total : Bool) where
+  abbrev pub PagesLeft : ℕ → Type 0
+  PagesLeft n = list_all test (map f (range_with_len n (count - n))) ≡ total
+
+  page-next : k < count → list_all test (map f (range_with_len k (count - k))) ≡ (test (f k) && list_all test (map f (range_with_len (k + 1) (count - (k + 1)))))
+  page-next lt = let one : count - k ≡ suc (count - (k + 1)) = omega arith in ap (λ (n : ℕ). list_all test (map f (range_with_len k n))) one
+
+  pub page-passes : k < count → test (f k) ≡ true → PagesLeft k → PagesLeft (k + 1)
+  page-passes lt is so_far =
+      sym (ap (λ (b : Bool). b && list_all test (map f (range_with_len (k + 1) (count - (k + 1))))) is) ∙ sym (page-next lt) ∙ so_far
+
+  pub page-fails : k < count → test (f k) ≡ false → PagesLeft k → total ≡ false
+  page-fails lt is so_far = sym so_far ∙ page-next lt ∙ ap (λ (b : Bool). b && list_all test (map f (range_with_len (k + 1) (count - (k + 1))))) is
+
+  pub pages-end : count ≤ k → PagesLeft k → total ≡ true
+  pages-end le so_far = let none : count - k ≡ 0 = omega arith in sym so_far ∙ ap (λ (n : ℕ). list_all test (map f (range_with_len k n))) none

@@ -1,0 +1,36 @@
+-- What checks of an image answer, by the rules that they check.
+use Rattle.std.specs.Prelude.{ℕ, ◌≡◌, ◌==◌, ◌⊎◌, ◌++◌, nat_lt, count_by, flat_map, if◌then◌else◌, Option, Some, None, Result, Ok, Err, List, [], ◌∷◌}
+use Rattle.std.specs.List.{list_any}
+use Rattle.model.specs.declared.refusals.Refusal.{Refusal}
+use Rattle.model.specs.declared.refusals.Refusal.TheVariants.{OutOfMemory}
+use Rattle.model.specs.Acceptance.Rules.{Rule}
+use Rattle.model.specs.Acceptance.ThreadRules.{is_member, reached, thread_rules}
+use Rattle.model.specs.Acceptance.WellFormed.{capability_rules, mapping_rules, object_rules}
+use Rattle.model.specs.Images.Image.{Image, Thread}
+
+-- There is no breach, or it is told; or memory was refused.
+abbrev pub Answers : Option Refusal → Result (Unit {0}) Refusal → Type 0
+Answers breach (Ok x) = breach ≡ None
+Answers breach (Err refusal) = (refusal ≡ OutOfMemory) ⊎ (breach ≡ Some refusal)
+
+-- the rules before those on programs, phase after phase
+abbrev pub form_rules : Image → List (List Rule)
+form_rules image = object_rules image ∷ capability_rules image ∷ mapping_rules image ∷ thread_rules image ∷ []
+
+-- The numbers in a set are those that the entries name.
+pub record AreNamed {A : Type 0} (key : A → ℕ) (xs : List A) (set : List ℕ) : Type 0 where
+  pub is : (n : ℕ) → is_member n set ≡ list_any (λ x. key x == n) xs
+
+-- The numbers in a set are those that more than one entry names.
+pub record AreTwice {A : Type 0} (key : A → ℕ) (xs : List A) (set : List ℕ) : Type 0 where
+  pub is : (n : ℕ) → is_member n set ≡ nat_lt 1 (count_by (λ x. key x == n) xs)
+
+-- a set with one number more, if that is not there
+abbrev pub with_number : ℕ → List ℕ → List ℕ
+with_number n set = if is_member n set then set else set ++ n ∷ []
+
+-- What these threads have: their TCBs, their root tables, and the CNodes that they reach.
+pub record AreEarlier (image : Image) (threads : List Thread) (tcbs roots cnodes : List ℕ) : Type 0 where
+  pub have_tcbs : AreNamed (λ t. t.header.tcb) threads tcbs
+  pub have_roots : AreNamed (λ t. t.header.root) threads roots
+  pub reach : (n : ℕ) → is_member n cnodes ≡ is_member n (flat_map (reached image) threads)

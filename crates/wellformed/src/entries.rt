@@ -1,0 +1,38 @@
+//! Entries of an image, with what is known of them since the image fits its format.
+
+ghost use Rattle.std.specs.Prelude.{◌≡◌, ◌<◌, Some, slice_get};
+ghost use Rattle.fitting.specs.Fitting.{HeaderFits, IsFitting, ObjectFits, UntypedFits};
+ghost use Rattle.image.specs.Sections.{HasCounts};
+
+use image::ImageRef;
+use model::{ImageHeader, ObjectEntry, UntypedEntry};
+
+/// The image's fixed part.
+pub(crate) fn header_of(image: &ImageRef<'_>) -> ImageHeader
+    ensures value { result ≡ image.now.header }
+    ensures small { HeaderFits result }
+    ensures fitting { IsFitting image.now }
+    ensures counts { HasCounts image.now }
+{
+    image.header()
+}
+
+/// An untyped, by its number.
+pub(crate) fn untyped_of(image: &ImageRef<'_>, number: u32) -> UntypedEntry
+    requires { number < image.now.header.untypeds }
+    ensures there { slice_get image.now.untypeds number ≡ Some result }
+    ensures fits { UntypedFits result }
+{
+    let _ = header_of(image);
+    image.untyped(number)
+}
+
+/// An object, by its number.
+pub(crate) fn object_of(image: &ImageRef<'_>, number: u32) -> ObjectEntry
+    requires { number < image.now.header.objects }
+    ensures there { slice_get image.now.objects number ≡ Some result }
+    ensures fits { ObjectFits image.now result }
+{
+    let _ = header_of(image);
+    image.object(number)
+}

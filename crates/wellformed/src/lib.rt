@@ -1,0 +1,15 @@
+//! Well-formed images: the rules on untypeds, objects, capabilities, mappings and threads, before any program is looked at.
+#![tactic(auto)]
+
+mod capabilities;
+mod entries;
+mod mappings;
+mod number_sets;
+mod object_types;
+mod objects;
+mod reach;
+mod threads;
+mod whole;
+
+pub use model::Refusal;
+pub use whole::well_formed;

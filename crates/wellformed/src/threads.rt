@@ -1,0 +1,218 @@
+//! Threads: their objects and programs, and that none shares CNodes or an address space with an earlier one.
+
+ghost use Rattle.std.specs.Prelude.{ℕ, ◌≡◌, ◌+◌, ◌*◌, ◌/◌, ◌<◌, ◌≤◌, ◌&&◌, ◌||◌, ◌==◌, not, false, Some, IfErr, OnOk, take, slice_get};
+ghost use Rattle.std.specs.List.{list_all, list_any};
+ghost use Rattle.std.specs.Option.{option_map_or};
+ghost use Rattle.model.specs.declared.refusals.Refusal.TheVariants.{OutOfMemory};
+ghost use Rattle.model.specs.Acceptance.Rules.{first_broken};
+ghost use Rattle.model.specs.Acceptance.ThreadRules.{has_guard, holds_other_root, is_bad, is_code, is_in_use, is_member, program_end, reached, rules_of_thread, shares_cspace, shares_vspace, thread_rules};
+ghost use Rattle.model.specs.Acceptance.WellFormed.{executes, is_root_type, source_type};
+ghost use Rattle.model.specs.Images.Fills.{frame_at, program_pages};
+ghost use Rattle.model.specs.Kernel.AddressSpaces.{address_limit};
+ghost use Rattle.wellformed.specs.Answering.{AreEarlier, Answers, with_number};
+
+use crate::entries::header_of;
+use crate::mappings::{ADDRESS_LIMIT, PAGE, executes};
+use crate::number_sets::NumberSet;
+use crate::object_types::{is_guard, is_root_table, is_thread, object_at, radix_of, source_at};
+use crate::reach::reached;
+use image::{ImageRef, ThreadRef};
+use model::{CapabilityEntry, FrameEntry, Refusal, ThreadHeader};
+use std::alloc::Global;
+
+/// What the threads before one have.
+#[derive(Drop)]
+pub(crate) struct Earlier {
+    /// Their TCBs.
+    tcbs: NumberSet,
+    /// Their root tables.
+    roots: NumberSet,
+    /// The CNodes that they reach.
+    cnodes: NumberSet,
+}
+
+/// Whether the thread's root is a CNode, and its guard word is valid for it.
+fn has_guard(image: &ImageRef<'_>, thread: &ThreadRef<'_>) -> bool
+    ensures { result ≡ has_guard image.now thread.now }
+{
+    match radix_of(object_at(image, thread.header().cnode)) {
+        Some(radix) => is_guard(radix, thread.header().guard),
+        None => false,
+    }
+}
+
+/// Whether this maps the page at an address under a root table.
+fn is_at(entry: FrameEntry, root: u32, address: u32) -> bool
+    ensures { result ≡ (entry.root == root && entry.address == address) }
+{
+    entry.root == root && entry.address == address
+}
+
+/// Whether a page is mapped with execute under a root table.
+fn is_code(image: &ImageRef<'_>, root: u32, address: u32) -> bool
+    ensures { result ≡ option_map_or executes (frame_at image.now root address) false }
+{
+    for item in 0..header_of(image).frames {
+        let entry = image.frame(item);
+        if is_at(entry, root, address) {
+            return executes(entry);
+        }
+    }
+    false
+}
+
+/// Where the program ends.
+fn program_end(header: &ThreadHeader) -> u64
+    ensures { result ≡ header.now.base + 4 * header.now.words }
+{
+    u64::from(header.base) + 4 * u64::from(header.words)
+}
+
+/// Whether all pages of the program are mapped with execute.
+fn is_mapped(image: &ImageRef<'_>, thread: &ThreadRef<'_>) -> bool
+    requires { program_end thread.now ≤ address_limit }
+    ensures { result ≡ list_all (is_code image.now thread.now) (program_pages thread.now) }
+{
+    let header = thread.header();
+    for page in 0..(4 * header.words + (PAGE - 1)) / PAGE {
+        if !is_code(image, header.root, header.base + page * PAGE) {
+            return false;
+        }
+    }
+    true
+}
+
+/// Whether a thread's objects, program or entry do not fit.
+#[tactic(auto, unfolding(model::specs::Acceptance::ThreadRules::is_bad))]
+fn is_bad(image: &ImageRef<'_>, number: u32, thread: &ThreadRef<'_>, tcbs: &NumberSet) -> bool
+    requires { is_member thread.now.header.tcb tcbs.now ≡ is_in_use image.now number thread.now }
+    ensures { result ≡ is_bad image.now (record { number = number; thread = thread.now }) }
+{
+    let header = thread.header();
+    !is_thread(object_at(image, header.tcb))
+        || !is_root_table(object_at(image, header.root))
+        || tcbs.contains(header.tcb)
+        || !has_guard(image, thread)
+        || header.base % PAGE != 0
+        || program_end(&header) > u64::from(ADDRESS_LIMIT)
+        || !is_mapped(image, thread)
+        || header.words <= header.entry
+}
+
+/// Whether some number is in both sets.
+fn share_some(numbers: &NumberSet, others: &NumberSet) -> bool
+    ensures { result ≡ list_any (λ n. is_member n others.now) numbers.now }
+{
+    for place in 0..numbers.len() {
+        if others.contains(numbers.at(place)) {
+            return true;
+        }
+    }
+    false
+}
+
+/// Whether a capability puts another root table than this one into one of the CNodes.
+fn gives_other_root(
+    image: &ImageRef<'_>,
+    entry: CapabilityEntry,
+    cnodes: &NumberSet,
+    root: u32,
+) -> bool
+    ensures { result ≡ (is_member entry.cnode cnodes.now && is_root_type (source_type image.now entry.source) && not (entry.source == root)) }
+{
+    cnodes.contains(entry.cnode)
+        && is_root_table(source_at(image, entry.source))
+        && entry.source != root
+}
+
+/// Whether one of the CNodes holds another root table than this one.
+fn hold_other_root(image: &ImageRef<'_>, cnodes: &NumberSet, root: u32) -> bool
+    ensures { result ≡ list_any (λ c. is_member c.cnode cnodes.now && is_root_type (source_type image.now c.source) && not (c.source == root)) image.now.capabilities }
+{
+    for item in 0..header_of(image).capabilities {
+        if gives_other_root(image, image.capability(item), cnodes, root) {
+            return true;
+        }
+    }
+    false
+}
+
+/// Whether an earlier thread has the root table, or one of the CNodes holds another.
+fn shares_vspace(image: &ImageRef<'_>, root: u32, cnodes: &NumberSet, roots: &NumberSet) -> bool
+    ensures { result ≡ (is_member root roots.now || list_any (λ c. is_member c.cnode cnodes.now && is_root_type (source_type image.now c.source) && not (c.source == root)) image.now.capabilities) }
+{
+    roots.contains(root) || hold_other_root(image, cnodes, root)
+}
+
+/// Puts all numbers of a set into another.
+fn put_all(numbers: &NumberSet, into: &mut NumberSet) -> Result<(), Refusal>
+    ensures put { OnOk result ((n : ℕ) → is_member n into.new ≡ (is_member n into.old || is_member n numbers.now)) }
+    ensures memory { IfErr result (λ refusal. refusal ≡ OutOfMemory) }
+{
+    for place in 0..numbers.len() {
+        into.insert(numbers.at(place))?;
+    }
+    Ok(())
+}
+
+/// One earlier thread more, with the CNodes that it reaches.
+fn note_thread(
+    header: &ThreadHeader,
+    found: &NumberSet,
+    earlier: &mut Earlier,
+) -> Result<(), Refusal>
+    ensures tcbs { OnOk result (earlier.new.tcbs ≡ with_number header.now.tcb earlier.old.tcbs) }
+    ensures roots { OnOk result (earlier.new.roots ≡ with_number header.now.root earlier.old.roots) }
+    ensures cnodes { OnOk result ((n : ℕ) → is_member n earlier.new.cnodes ≡ (is_member n earlier.old.cnodes || is_member n found.now)) }
+    ensures memory { IfErr result (λ refusal. refusal ≡ OutOfMemory) }
+{
+    earlier.tcbs.insert(header.tcb)?;
+    earlier.roots.insert(header.root)?;
+    put_all(found, &mut earlier.cnodes)
+}
+
+/// The rules on one thread, and what the threads up to it have.
+fn check_thread(
+    alloc: Global,
+    image: &ImageRef<'_>,
+    number: u32,
+    thread: &ThreadRef<'_>,
+    earlier: &mut Earlier,
+) -> Result<(), Refusal>
+    requires there { slice_get image.now.threads number ≡ Some thread.now }
+    requires earlier { AreEarlier image.now (take number image.now.threads) earlier.old.tcbs earlier.old.roots earlier.old.cnodes }
+    ensures rules { Answers (first_broken (rules_of_thread image.now (record { number = number; thread = thread.now }))) result }
+    ensures earlier { OnOk result (AreEarlier image.now (take (number + 1) image.now.threads) earlier.new.tcbs earlier.new.roots earlier.new.cnodes) }
+{
+    let header = thread.header();
+    if is_bad(image, number, thread, &earlier.tcbs) {
+        return Err(Refusal::BadThread { thread: number });
+    }
+    let found = reached(alloc, image, thread)?;
+    if share_some(&found, &earlier.cnodes) {
+        return Err(Refusal::SharedCSpace { thread: number });
+    }
+    if shares_vspace(image, header.root, &found, &earlier.roots) {
+        return Err(Refusal::SharedVSpace { thread: number });
+    }
+    note_thread(&header, &found, earlier)
+}
+
+/// The threads, in their order.
+#[tactic(auto, unfolding(model::specs::Acceptance::ThreadRules::thread_rules))]
+pub(crate) fn check_threads(alloc: Global, image: &ImageRef<'_>) -> Result<(), Refusal>
+    ensures { Answers (first_broken (thread_rules image.now)) result }
+{
+    let mut earlier = Earlier {
+        tcbs: NumberSet::new(alloc),
+        roots: NumberSet::new(alloc),
+        cnodes: NumberSet::new(alloc),
+    };
+    let _ = header_of(image);
+    let mut number = 0;
+    for thread in image.threads() {
+        check_thread(alloc, image, number, &thread, &mut earlier)?;
+        number += 1;
+    }
+    Ok(())
+}
