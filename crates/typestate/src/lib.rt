@@ -1,0 +1,11 @@
+//! What a certificate notes of the slots of a thread's CNodes at a point of its program, and what a system call leaves of it.
+#![tactic(auto)]
+
+mod behind;
+mod keys;
+mod noted;
+mod plain_calls;
+
+pub use behind::{Behind, Written};
+pub use keys::{NotedSlot, SlotKey};
+pub use noted::NotedSlots;
