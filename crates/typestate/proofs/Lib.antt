@@ -1,1 +1,3 @@
 pub mod SlotLists
+pub mod Lookups
+pub mod SlotMaps

@@ -5,7 +5,11 @@ mod behind;
 mod keys;
 mod noted;
 mod plain_calls;
+mod spaces;
+mod windows;
 
 pub use behind::{Behind, Written};
 pub use keys::{NotedSlot, SlotKey};
 pub use noted::NotedSlots;
+pub use spaces::OwnSlots;
+pub use windows::{Space, Window};

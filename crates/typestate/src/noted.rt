@@ -2,6 +2,9 @@
 
 ghost use Rattle.std.specs.Prelude.{◌≡◌, if◌then◌else◌};
 ghost use Rattle.model.specs.Acceptance.NotedStates.{is_same_key, slot_at};
+ghost use Rattle.model.specs.Capabilities.CapabilityWords.{IsCapability};
+ghost use Rattle.model.specs.declared.capabilities.Cap.TheVariants.{Empty};
+ghost use Rattle.std.specs.Option.{option_map_or};
 ghost use Rattle.typestate.specs.Differences.{left_by, slots_of};
 
 use crate::{NotedSlot, SlotKey};
@@ -38,6 +41,17 @@ impl NotedSlots<'_> {
             held = behind(*change, key, held);
         }
         held
+    }
+
+    /// The capability in the slot of this key: an empty one where there is none.
+    pub fn capability(&self, key: SlotKey) -> Cap
+        ensures value { result ≡ option_map_or (λ slot. slot.capability) (slot_at (slots_of self.now) key) Empty }
+        ensures valid { IsCapability result }
+    {
+        match self.at(key) {
+            Some(slot) => slot.capability,
+            None => Cap::Empty,
+        }
     }
 }
 
