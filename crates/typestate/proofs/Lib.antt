@@ -1,3 +1,4 @@
 pub mod SlotLists
 pub mod Lookups
 pub mod SlotMaps
+pub mod CalledCaps

@@ -61,10 +61,10 @@ abbrev pub is_inside : Image → Thread → Cap → Bool
 is_inside image t capability = is_among (is_own_cnode image (reached image t)) capability
 
 -- the CNodes that the image gives the thread, and the root of its capability space
-pub record IsSpaceOf (image : Image) (t : Thread) (space : Space) : Type 0 where
-  pub windows : AreWindows image (reached image t) space.windows.now
-  pub root : space.root ≡ noted_root image t
-  pub inside : is_inside image t space.root ≡ true
+pub record IsSpace (space : Space) : Type 0 where
+  pub cnodes : AreWindows space.image.now (reached space.image.now space.thread.now) space.windows.now
+  pub root_is : space.root ≡ noted_root space.image.now space.thread.now
+  pub root_inside : is_inside space.image.now space.thread.now space.root ≡ true
   pub valid : IsCapability space.root
 
 -- no slot holds what leads outside of the thread's CNodes

@@ -6,10 +6,12 @@ mod keys;
 mod noted;
 mod plain_calls;
 mod spaces;
+mod system_calls;
 mod windows;
 
 pub use behind::{Behind, Written};
 pub use keys::{NotedSlot, SlotKey};
 pub use noted::NotedSlots;
 pub use spaces::OwnSlots;
+pub use system_calls::SystemCall;
 pub use windows::{Space, Window};

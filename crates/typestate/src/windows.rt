@@ -1,7 +1,8 @@
-//! Where a thread's CNodes stand.
+//! A thread's CNodes, and where they stand.
 
 ghost use Rattle.std.specs.Prelude.{◌≤◌};
 
+use image::{ImageRef, ThreadRef};
 use model::Cap;
 
 /// A CNode of 2^`radix` slots: its object, and its offset from the start of physical memory.
@@ -13,9 +14,11 @@ pub struct Window {
     ghost small: { radix ≤ 14 },
 }
 
-/// The CNodes that an image gives a thread, and the root of its capability space.
-#[derive(Clone, Copy, Debug)]
-pub struct Space<'s> {
+/// A thread of an image, with the CNodes that the image gives it and the root of its capability space.
+#[derive(Clone, Copy)]
+pub struct Space<'a, 's> {
+    pub image: &'s ImageRef<'a>,
+    pub thread: &'s ThreadRef<'a>,
     pub windows: &'s [Window],
     pub root: Cap,
 }
