@@ -3,6 +3,7 @@
 
 mod behind;
 mod keys;
+mod messages;
 mod noted;
 mod plain_calls;
 mod spaces;
@@ -11,6 +12,7 @@ mod windows;
 
 pub use behind::{Behind, Written};
 pub use keys::{NotedSlot, SlotKey};
+pub use messages::message_call;
 pub use noted::NotedSlots;
 pub use spaces::OwnSlots;
 pub use system_calls::SystemCall;

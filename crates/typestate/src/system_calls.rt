@@ -58,7 +58,7 @@ fn kind_of_number(number: u32) -> Option<Kind>
 }
 
 /// The value of a register that has to have one.
-fn known(at: Point, bounds: &Bounds, register: Register) -> Result<u32, Refusal>
+pub(crate) fn known(at: Point, bounds: &Bounds, register: Register) -> Result<u32, Refusal>
     requires { IsRegister register }
     ensures { (slots : List NotedSlot) (measure : Measure) → result ≡ known at (known_with bounds.now slots measure) register }
 {
