@@ -5,3 +5,4 @@ pub mod CalledCaps
 pub mod Words
 pub mod Forms
 pub mod MessageCalls
+pub mod Unpacked
