@@ -35,7 +35,7 @@ by-called space at state rule is none =
     let s = noted_slots image t state.slots in
     let own = own_slots space.windows.now state.slots in
     elim (known at state a0) as (λ r. (r >>= λ address. found_slot at (called_slot s (noted_root image t) address) >>= λ slot. rule slot (capability_at s slot))
-        ≡ ruled_by rule (r >>= λ address. slot_called at own (called_slot own space.root address))) [
+    ≡ ruled_by rule (r >>= λ address. slot_called at own (called_slot own space.root address))) [
       | Err refusal ↦ refl
       | Ok address ↦
           let calls = called-slot-same s own (is_own_cnode image (reached image t)) (slots-agree image t space.windows.now state.slots is.cnodes none) space.root address is.root_inside in

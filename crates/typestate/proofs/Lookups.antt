@@ -28,12 +28,12 @@ index-below radix guard address left =
     elim (nat_lt left size) as (λ b. IsIndexIn radix (if b then Err (GuardMismatch left) else if not (address / 2 ^ (left - size) % 2 ^ size == guard / 2 ^ 5) then Err (GuardMismatch left) else if nat_lt left (size + radix) then Err (DepthMismatch left) else Ok (address / 2 ^ rest % 2 ^ radix, rest))) [
       | true ↦ tt
       | false ↦ elim (address / 2 ^ (left - size) % 2 ^ size == guard / 2 ^ 5) as (λ b. IsIndexIn radix (if not b then Err (GuardMismatch left) else if nat_lt left (size + radix) then Err (DepthMismatch left) else Ok (address / 2 ^ rest % 2 ^ radix, rest))) [
-          | false ↦ tt
-          | true ↦ elim (nat_lt left (size + radix)) as (λ b. IsIndexIn radix (if b then Err (DepthMismatch left) else Ok (address / 2 ^ rest % 2 ^ radix, rest))) [
-              | true ↦ tt
-              | false ↦ mod-lt (address / 2 ^ rest) (pow_pos radix)
-            ]
+        | false ↦ tt
+        | true ↦ elim (nat_lt left (size + radix)) as (λ b. IsIndexIn radix (if b then Err (DepthMismatch left) else Ok (address / 2 ^ rest % 2 ^ radix, rest))) [
+          | true ↦ tt
+          | false ↦ mod-lt (address / 2 ^ rest) (pow_pos radix)
         ]
+      ]
     ]
 
 -- what is found holds the same in both maps
@@ -46,7 +46,6 @@ pub record GoesSame (s t : Slots) (a b : Result (ℕ × ℕ) LookupFailure) : Ty
   pub finds : FindsSame s t a
 
 module _ (s t : Slots) (own : ℕ → ℕ → Bool) (agree : AgreeInside s t own) (address : ℕ) where
-
   goes-on : (n offset : ℕ) (place : ℕ × ℕ) → capability_at s (offset / 16 + place.0) ≡ capability_at t (offset / 16 + place.0)
       → GoesSame s t (lookup_within n s (capability_at s (offset / 16 + place.0)) address place.1) (lookup_within n t (capability_at s (offset / 16 + place.0)) address place.1)
       → GoesSame s t (go_on s offset (λ held rest. lookup_within n s held address rest) (Ok place)) (go_on t offset (λ held rest. lookup_within n t held address rest) (Ok place))
@@ -54,7 +53,7 @@ module _ (s t : Slots) (own : ℕ → ℕ → Bool) (agree : AgreeInside s t own
       let slot = offset / 16 + place.0 in
       let held = capability_at s slot in
       let further : (if place.1 == 0 || not (is_cnode held) then Ok (slot, place.1) else lookup_within n t held address place.1) ≡ go_on t offset (λ other rest. lookup_within n t other address rest) (Ok place)
-          = ap (λ (other : Cap). if place.1 == 0 || not (is_cnode other) then Ok (slot, place.1) else lookup_within n t other address place.1) same in
+      = ap (λ (other : Cap). if place.1 == 0 || not (is_cnode other) then Ok (slot, place.1) else lookup_within n t other address place.1) same in
       record {
         result = ap (λ (found : Result (ℕ × ℕ) LookupFailure). if place.1 == 0 || not (is_cnode held) then Ok (slot, place.1) else found) behind.result ∙ further;
         finds = elim (place.1 == 0 || not (is_cnode held)) as (λ b. FindsSame s t (if b then Ok (slot, place.1) else lookup_within n s held address place.1)) [ true ↦ same | false ↦ behind.finds ];

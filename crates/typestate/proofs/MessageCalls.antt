@@ -29,7 +29,6 @@ same-error : (a b : KError) → failed a ≡ failed b → b ≡ a
 same-error a b is = cc
 
 module _ (image : Image) (t : Thread) (at : Point) (state : PointState) (call : Call) (answers : Bool) where
-
   -- behind the checks on the form
   abbrev formed : Result CallForm KError → Result AfterCall Refusal
   formed found = kernel_allows at found >>= λ form. all_known at state (take form.count word_registers) >>= λ words. invoked image t at state call (form.call words) answers

@@ -41,7 +41,7 @@ noted-at slots change key =
           let gone : is_same_key change.key key ≡ true → slot_at others key ≡ None = λ same. without ∙ ap (λ b. if b then None else slot_at slots key) same in
           put-at change others key gone
           ∙ (elim (is_same_key change.key key) as (λ b. slot_at others key ≡ (if b then None else slot_at slots key) → (if b then Some change else slot_at others key) ≡ (if b then Some change else slot_at slots key)) [
-              | true ↦ λ _. refl
-              | false ↦ λ same. same
-            ] without)
+            | true ↦ λ _. refl
+            | false ↦ λ same. same
+          ] without)
     ]

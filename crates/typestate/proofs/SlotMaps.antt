@@ -41,9 +41,9 @@ keys-same image (cnode ∷ cnodes) [] slot are = absurd are
 keys-same image (cnode ∷ cnodes) (w ∷ ws) slot are =
     ap (λ b. option_map (key_within slot) (if b then Some w else find (stands_within slot) ws)) (stands-same image cnode w slot are.0)
     ∙ (elim (stands_in image slot cnode) as (λ b. option_map (key_within slot) (if b then Some w else find (stands_within slot) ws) ≡ option_map (key_at image slot) (if b then Some cnode else find (stands_in image slot) cnodes)) [
-        | true ↦ ap (λ (key : SlotKey). Some key) (key-same image cnode w slot are.0)
-        | false ↦ keys-same image cnodes ws slot are.1
-      ])
+      | true ↦ ap (λ (key : SlotKey). Some key) (key-same image cnode w slot are.0)
+      | false ↦ keys-same image cnodes ws slot are.1
+    ])
 
 -- ---- a slot of a CNode that is the thread's has a key
 
@@ -61,8 +61,8 @@ stands-inside image cnode offset radix index place kind below =
     ∙ ap (λ (r : Option ℕ). is_within (slot_of offset 0) (option_map_or (λ own. 2 ^ own) r 0) (offset / 16 + index)) kind
     ∙ inside (offset / 16) (2 ^ radix) index below
   where
-  inside : (first count n : ℕ) → n < count → is_within (first + 0) count (first + n) ≡ true
-  inside first count n less = grind (arith, nat_tests)
+    inside : (first count n : ℕ) → n < count → is_within (first + 0) count (first + n) ≡ true
+    inside first count n less = grind (arith, nat_tests)
 
 pub own-key : (image : Image) (cnodes : List ℕ) (offset radix index : ℕ) → is_own_cnode image cnodes offset radix ≡ true → index < 2 ^ radix
     → (key : SlotKey) × (key_of image cnodes (offset / 16 + index) ≡ Some key)
@@ -72,24 +72,24 @@ own-key image (cnode ∷ cnodes) offset radix index mine below =
     let rest = is_own_cnode image cnodes offset radix in
     let behind : rest ≡ true → (key : SlotKey) × (key_of image cnodes slot ≡ Some key) = λ more. own-key image cnodes offset radix index more below in
     let at_least : (b : Bool) → (b ≡ false → rest ≡ true) → (b ≡ true → stands_in image slot cnode ≡ true) → (key : SlotKey) × (key_of image (cnode ∷ cnodes) slot ≡ Some key)
-        = λ b later here. first-or-rest image cnode cnodes slot b (λ none. behind (later none)) here in
+    = λ b later here. first-or-rest image cnode cnodes slot b (λ none. behind (later none)) here in
     elim (eqb_tells (offset_of image cnode) offset) [
       | inl same ↦ elim (option_map_or (λ own. own == radix) (radix_of (type_at image cnode)) false) as (λ b. option_map_or (λ own. own == radix) (radix_of (type_at image cnode)) false ≡ b → ((offset_of image cnode == offset) && b || rest) ≡ true → (key : SlotKey) × (key_of image (cnode ∷ cnodes) slot ≡ Some key)) [
-          | true ↦ λ is _. at_least true (λ clash. absurd (let no : true ≡ false = clash in cc)) (λ _. stands-inside image cnode offset radix index same.1 (radix-is (radix_of (type_at image cnode)) radix is) below)
-          | false ↦ λ is any. at_least false (λ _. sym (ap (λ b. b && false || rest) same.0) ∙ any) (λ clash. absurd (let no : false ≡ true = clash in cc))
-        ] refl mine
+        | true ↦ λ is _. at_least true (λ clash. absurd (let no : true ≡ false = clash in cc)) (λ _. stands-inside image cnode offset radix index same.1 (radix-is (radix_of (type_at image cnode)) radix is) below)
+        | false ↦ λ is any. at_least false (λ _. sym (ap (λ b. b && false || rest) same.0) ∙ any) (λ clash. absurd (let no : false ≡ true = clash in cc))
+      ] refl mine
       | inr other ↦ at_least false (λ _. sym (ap (λ b. b && option_map_or (λ own. own == radix) (radix_of (type_at image cnode)) false || rest) other.0) ∙ mine) (λ clash. absurd (let no : false ≡ true = clash in cc))
     ]
   where
-  first-or-rest : (image : Image) (cnode : ℕ) (cnodes : List ℕ) (slot : ℕ) (b : Bool) → (b ≡ false → (key : SlotKey) × (key_of image cnodes slot ≡ Some key))
-      → (b ≡ true → stands_in image slot cnode ≡ true) → (key : SlotKey) × (key_of image (cnode ∷ cnodes) slot ≡ Some key)
-  first-or-rest image cnode cnodes slot true later here =
-      (key_at image slot cnode, ap (λ b. option_map (key_at image slot) (if b then Some cnode else find (stands_in image slot) cnodes)) (here refl))
-  first-or-rest image cnode cnodes slot false later here =
-      elim (stands_in image slot cnode) as (λ b. (key : SlotKey) × (option_map (key_at image slot) (if b then Some cnode else find (stands_in image slot) cnodes) ≡ Some key)) [
-        | true ↦ (key_at image slot cnode, refl)
-        | false ↦ later refl
-      ]
+    first-or-rest : (image : Image) (cnode : ℕ) (cnodes : List ℕ) (slot : ℕ) (b : Bool) → (b ≡ false → (key : SlotKey) × (key_of image cnodes slot ≡ Some key))
+        → (b ≡ true → stands_in image slot cnode ≡ true) → (key : SlotKey) × (key_of image (cnode ∷ cnodes) slot ≡ Some key)
+    first-or-rest image cnode cnodes slot true later here =
+        (key_at image slot cnode, ap (λ b. option_map (key_at image slot) (if b then Some cnode else find (stands_in image slot) cnodes)) (here refl))
+    first-or-rest image cnode cnodes slot false later here =
+        elim (stands_in image slot cnode) as (λ b. (key : SlotKey) × (option_map (key_at image slot) (if b then Some cnode else find (stands_in image slot) cnodes) ≡ Some key)) [
+          | true ↦ (key_at image slot cnode, refl)
+          | false ↦ later refl
+        ]
 
 -- ---- what the slots hold
 
@@ -102,12 +102,12 @@ noted-holds image t slots slot key is =
     ap (λ (k : Option SlotKey). option_map_or (λ (held : Entry). held.capability) (option_map_or (λ (k : SlotKey). Some (noted_entry image t slots k)) k ((described image).slots slot)) Empty) is
     ∙ entry-holds image t slots key
   where
-  entry-holds : (image : Image) (t : Thread) (slots : List NotedSlot) (key : SlotKey) → (noted_entry image t slots key).capability ≡ held_at slots key
-  entry-holds image t slots key = holds (slot_at slots key)
-    where
-    holds : (found : Option NotedSlot) → (option_map_or (kernel_entry image t) found empty_entry).capability ≡ option_map_or (λ s. s.capability) found Empty
-    holds None = refl
-    holds (Some s) = refl
+    entry-holds : (image : Image) (t : Thread) (slots : List NotedSlot) (key : SlotKey) → (noted_entry image t slots key).capability ≡ held_at slots key
+    entry-holds image t slots key = holds (slot_at slots key)
+      where
+        holds : (found : Option NotedSlot) → (option_map_or (kernel_entry image t) found empty_entry).capability ≡ option_map_or (λ s. s.capability) found Empty
+        holds None = refl
+        holds (Some s) = refl
 
 own-holds : (windows : List Window) (slots : List NotedSlot) (slot : ℕ) (key : SlotKey) → key_in windows slot ≡ Some key
     → capability_at (own_slots windows slots) slot ≡ held_at slots key
@@ -123,12 +123,13 @@ found-passes test found (y ∷ ys) x none is =
       | false ↦ λ later. found-passes test found ys x (or-rest (test y) (list_any test ys) none) later
     ] is
   where
-  or-first : (a b : Bool) → (a || b) ≡ false → a ≡ false
-  or-first true b clash = clash
-  or-first false b none = refl
-  or-rest : (a b : Bool) → (a || b) ≡ false → b ≡ false
-  or-rest true b clash = absurd (let no : true ≡ false = clash in cc)
-  or-rest false b none = none
+    or-first : (a b : Bool) → (a || b) ≡ false → a ≡ false
+    or-first true b clash = clash
+    or-first false b none = refl
+
+    or-rest : (a b : Bool) → (a || b) ≡ false → b ≡ false
+    or-rest true b clash = absurd (let no : true ≡ false = clash in cc)
+    or-rest false b none = none
 
 stays-inside : (image : Image) (t : Thread) (capability : Cap) → is_foreign image t (reached image t) capability ≡ false
     → is_among (is_own_cnode image (reached image t)) capability ≡ true
@@ -138,9 +139,9 @@ stays-inside image t (Endpoint _ _ _) own = refl
 stays-inside image t (Notification _ _ _) own = refl
 stays-inside image t (CNode offset radix guard) own = not-false (is_own_cnode image (reached image t) offset radix) own
   where
-  not-false : (b : Bool) → not b ≡ false → b ≡ true
-  not-false true is = refl
-  not-false false clash = absurd (let no : true ≡ false = clash in cc)
+    not-false : (b : Bool) → not b ≡ false → b ≡ true
+    not-false true is = refl
+    not-false false clash = absurd (let no : true ≡ false = clash in cc)
 stays-inside image t (Frame _ _ _) own = refl
 stays-inside image t (PageTable _ _) own = refl
 stays-inside image t (Tcb _) own = refl

@@ -57,6 +57,6 @@ all-words at state count index words few is before =
     ∙ ap (λ (rest : List Register). prefixed (take count words) (all_known at state rest)) none
     ∙ ap (λ (front : List ℕ). Ok front) (append-nil (take count words))
   where
-  drop-all : (xs : List Register) → drop (length xs) xs ≡ []
-  drop-all [] = refl
-  drop-all (x ∷ xs) = drop-all xs
+    drop-all : (xs : List Register) → drop (length xs) xs ≡ []
+    drop-all [] = refl
+    drop-all (x ∷ xs) = drop-all xs

@@ -82,11 +82,7 @@ fn sends(
         Cap::Endpoint { rights, .. } => sends_message(at, bounds, kind, rights),
         Cap::Notification { rights, .. } => sends_signal(at, bounds, kind, rights),
         _ => {
-            return Ok(SystemCall::Invokes(
-                slot,
-                capability,
-                matches!(kind, Sending::Calling),
-            ));
+            return Ok(SystemCall::Invokes(slot, capability, matches!(kind, Sending::Calling)));
         }
     };
     match left {
