@@ -6,3 +6,4 @@ pub mod Words
 pub mod Forms
 pub mod MessageCalls
 pub mod Unpacked
+pub mod Rising

@@ -8,7 +8,7 @@ use Rattle.typestate.specs.Differences.{left_by}
 
 -- ---- a slot in a list
 
-without-at : (slots : List NotedSlot) (gone key : SlotKey) → slot_at (without_key gone slots) key ≡ (if is_same_key gone key then None else slot_at slots key)
+pub without-at : (slots : List NotedSlot) (gone key : SlotKey) → slot_at (without_key gone slots) key ≡ (if is_same_key gone key then None else slot_at slots key)
 without-at [] gone key = grind (arith, nat_tests)
 without-at (s ∷ rest) gone key = grind (arith, nat_tests, without-at rest gone key)
 
