@@ -7,3 +7,4 @@ pub mod Forms
 pub mod MessageCalls
 pub mod Unpacked
 pub mod Rising
+pub mod Compared

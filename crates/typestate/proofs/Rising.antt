@@ -41,9 +41,9 @@ same-looks (a ∷ as_) (b ∷ bs) key same =
     let parts = and_parts (is_same_slot a b) (are_same_slots as_ bs) same in
     ap (λ n. is_same_held (if n == number_of key then Some a else slot_at as_ key) (slot_at (b ∷ bs) key)) (same-keys a b parts.0)
     ∙ (elim (number_of b.key == number_of key) as (λ c. is_same_held (if c then Some a else slot_at as_ key) (if c then Some b else slot_at bs key) ≡ true) [
-        | true ↦ parts.0
-        | false ↦ same-looks as_ bs key parts.1
-      ])
+      | true ↦ parts.0
+      | false ↦ same-looks as_ bs key parts.1
+    ])
 
 -- ---- lists with the same look-ups are the same
 
@@ -55,32 +55,32 @@ looks-same (a ∷ as_) [] least low rises rise held = absurd (let clash : false 
 looks-same (a ∷ as_) (b ∷ bs) least low rises rise held = elim (eqb_tells (number_of a.key) (number_of b.key)) [
   | inl same ↦
       let one : is_same_slot a b ≡ true =
-          ap (λ found. is_same_held found (Some b)) (sym (first-found a as_ a.key refl)) ∙ ap (is_same_held (slot_at (a ∷ as_) a.key)) (sym (first-found b bs a.key (sym same.1))) ∙ held a.key in
+      ap (λ found. is_same_held found (Some b)) (sym (first-found a as_ a.key refl)) ∙ ap (is_same_held (slot_at (a ∷ as_) a.key)) (sym (first-found b bs a.key (sym same.1))) ∙ held a.key in
       let rest : are_same_slots as_ bs ≡ true = looks-same as_ bs (number_of a.key + 1) (number_of b.key + 1) rises.1 rise.1 (λ key. behind a b as_ bs key same.1 rises.1 rise.1 (held key)) in
       ap (λ c. c && are_same_slots as_ bs) one ∙ rest
   | inr other ↦ elim (cases_lt (number_of a.key) (number_of b.key)) [
-      | inl less ↦
-          let none : slot_at (b ∷ bs) a.key ≡ None = none-below (b ∷ bs) (number_of b.key) a.key (omega arith, rise.1) less in
-          absurd (let clash : false ≡ true = ap (λ found. is_same_held found None) (sym (first-found a as_ a.key refl)) ∙ ap (is_same_held (slot_at (a ∷ as_) a.key)) (sym none) ∙ held a.key in cc)
-      | inr most ↦
-          let less : number_of b.key < number_of a.key = omega (arith, most, other.1) in
-          let none : slot_at (a ∷ as_) b.key ≡ None = none-below (a ∷ as_) (number_of a.key) b.key (omega arith, rises.1) less in
-          absurd (let clash : false ≡ true = ap (is_same_held None) (sym (first-found b bs b.key refl)) ∙ ap (λ found. is_same_held found (slot_at (b ∷ bs) b.key)) (sym none) ∙ held b.key in cc)
-    ]
+    | inl less ↦
+        let none : slot_at (b ∷ bs) a.key ≡ None = none-below (b ∷ bs) (number_of b.key) a.key (omega arith, rise.1) less in
+        absurd (let clash : false ≡ true = ap (λ found. is_same_held found None) (sym (first-found a as_ a.key refl)) ∙ ap (is_same_held (slot_at (a ∷ as_) a.key)) (sym none) ∙ held a.key in cc)
+    | inr most ↦
+        let less : number_of b.key < number_of a.key = omega (arith, most, other.1) in
+        let none : slot_at (a ∷ as_) b.key ≡ None = none-below (a ∷ as_) (number_of a.key) b.key (omega arith, rises.1) less in
+        absurd (let clash : false ≡ true = ap (is_same_held None) (sym (first-found b bs b.key refl)) ∙ ap (λ found. is_same_held found (slot_at (b ∷ bs) b.key)) (sym none) ∙ held b.key in cc)
+  ]
 ]
   where
-  behind : (a b : NotedSlot) (as_ bs : List NotedSlot) (key : SlotKey) → number_of a.key ≡ number_of b.key → RiseFrom (number_of a.key + 1) as_ → RiseFrom (number_of b.key + 1) bs
-      → is_same_held (slot_at (a ∷ as_) key) (slot_at (b ∷ bs) key) ≡ true → is_same_held (slot_at as_ key) (slot_at bs key) ≡ true
-  behind a b as_ bs key same rises rise held = elim (eqb_tells (number_of a.key) (number_of key)) [
-    | inl here ↦
-        let none : slot_at as_ key ≡ None = none-below as_ (number_of a.key + 1) key rises (omega (arith, here.1)) in
-        let nothing : slot_at bs key ≡ None = none-below bs (number_of b.key + 1) key rise (omega (arith, here.1, same)) in
-        ap (λ found. is_same_held found (slot_at bs key)) none ∙ ap (is_same_held None) nothing
-    | inr other ↦
-        let first : slot_at (a ∷ as_) key ≡ slot_at as_ key = ap (λ c. if c then Some a else slot_at as_ key) other.0 in
-        let second : slot_at (b ∷ bs) key ≡ slot_at bs key = ap (λ n. if n == number_of key then Some b else slot_at bs key) (sym same) ∙ ap (λ c. if c then Some b else slot_at bs key) other.0 in
-        ap (λ found. is_same_held found (slot_at bs key)) (sym first) ∙ ap (is_same_held (slot_at (a ∷ as_) key)) (sym second) ∙ held
-  ]
+    behind : (a b : NotedSlot) (as_ bs : List NotedSlot) (key : SlotKey) → number_of a.key ≡ number_of b.key → RiseFrom (number_of a.key + 1) as_ → RiseFrom (number_of b.key + 1) bs
+        → is_same_held (slot_at (a ∷ as_) key) (slot_at (b ∷ bs) key) ≡ true → is_same_held (slot_at as_ key) (slot_at bs key) ≡ true
+    behind a b as_ bs key same rises rise held = elim (eqb_tells (number_of a.key) (number_of key)) [
+      | inl here ↦
+          let none : slot_at as_ key ≡ None = none-below as_ (number_of a.key + 1) key rises (omega (arith, here.1)) in
+          let nothing : slot_at bs key ≡ None = none-below bs (number_of b.key + 1) key rise (omega (arith, here.1, same)) in
+          ap (λ found. is_same_held found (slot_at bs key)) none ∙ ap (is_same_held None) nothing
+      | inr other ↦
+          let first : slot_at (a ∷ as_) key ≡ slot_at as_ key = ap (λ c. if c then Some a else slot_at as_ key) other.0 in
+          let second : slot_at (b ∷ bs) key ≡ slot_at bs key = ap (λ n. if n == number_of key then Some b else slot_at bs key) (sym same) ∙ ap (λ c. if c then Some b else slot_at bs key) other.0 in
+          ap (λ found. is_same_held found (slot_at bs key)) (sym first) ∙ ap (is_same_held (slot_at (a ∷ as_) key)) (sym second) ∙ held
+    ]
 
 -- ---- a slot is the same as itself
 
@@ -119,24 +119,27 @@ put-rises slot [] least rises more none = (more, tt)
 put-rises slot (o ∷ rest) least rises more none = elim (cases_lt (number_of slot.key) (number_of o.key)) [
   | inl less ↦ put-first (nat_lt (number_of slot.key) (number_of o.key)) (below-test (number_of slot.key) (number_of o.key) less) (more, (omega (arith, less), rises.1))
   | inr most ↦ elim (eqb_tells (number_of o.key) (number_of slot.key)) [
-      | inl same ↦ absurd (let clash : Some o ≡ None = sym (first-found o rest slot.key same.1) ∙ none in cc)
-      | inr other ↦
-          let apart : slot_at rest slot.key ≡ None = sym (ap (λ c. if c then Some o else slot_at rest slot.key) other.0) ∙ none in
-          put-behind (nat_lt (number_of slot.key) (number_of o.key)) (above-test (number_of slot.key) (number_of o.key) most)
-          (rises.0, put-rises slot rest (number_of o.key + 1) rises.1 (omega (arith, most, other.1)) apart)
-    ]
+    | inl same ↦ absurd (let clash : Some o ≡ None = sym (first-found o rest slot.key same.1) ∙ none in cc)
+    | inr other ↦
+        let apart : slot_at rest slot.key ≡ None = sym (ap (λ c. if c then Some o else slot_at rest slot.key) other.0) ∙ none in
+        put-behind (nat_lt (number_of slot.key) (number_of o.key)) (above-test (number_of slot.key) (number_of o.key) most)
+        (rises.0, put-rises slot rest (number_of o.key + 1) rises.1 (omega (arith, most, other.1)) apart)
+  ]
 ]
   where
-  below-test : (a b : ℕ) → a < b → nat_lt a b ≡ true
-  below-test a b less = grind (arith, nat_tests)
-  above-test : (a b : ℕ) → b ≤ a → nat_lt a b ≡ false
-  above-test a b most = grind (arith, nat_tests)
-  put-first : (c : Bool) → c ≡ true → RiseFrom least (slot ∷ o ∷ rest) → RiseFrom least (if c then slot ∷ o ∷ rest else o ∷ put_in slot rest)
-  put-first true is rises = rises
-  put-first false is rises = absurd (let clash : false ≡ true = is in cc)
-  put-behind : (c : Bool) → c ≡ false → RiseFrom least (o ∷ put_in slot rest) → RiseFrom least (if c then slot ∷ o ∷ rest else o ∷ put_in slot rest)
-  put-behind true is rises = absurd (let clash : true ≡ false = is in cc)
-  put-behind false is rises = rises
+    below-test : (a b : ℕ) → a < b → nat_lt a b ≡ true
+    below-test a b less = grind (arith, nat_tests)
+
+    above-test : (a b : ℕ) → b ≤ a → nat_lt a b ≡ false
+    above-test a b most = grind (arith, nat_tests)
+
+    put-first : (c : Bool) → c ≡ true → RiseFrom least (slot ∷ o ∷ rest) → RiseFrom least (if c then slot ∷ o ∷ rest else o ∷ put_in slot rest)
+    put-first true is rises = rises
+    put-first false is rises = absurd (let clash : false ≡ true = is in cc)
+
+    put-behind : (c : Bool) → c ≡ false → RiseFrom least (o ∷ put_in slot rest) → RiseFrom least (if c then slot ∷ o ∷ rest else o ∷ put_in slot rest)
+    put-behind true is rises = absurd (let clash : true ≡ false = is in cc)
+    put-behind false is rises = rises
 
 noted-rises : (slots : List NotedSlot) (change : NotedSlot) → RiseFrom 0 slots → RiseFrom 0 (with_noted slots change)
 noted-rises slots change rises =

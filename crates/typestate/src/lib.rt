@@ -2,6 +2,7 @@
 #![tactic(auto)]
 
 mod behind;
+mod comparisons;
 mod keys;
 mod laws;
 mod messages;
