@@ -1,9 +1,13 @@
 -- A lookup goes the same way in two maps of slots that hold the same in all CNodes that it comes to.
-use Rattle.std.proofs.Common.{ℕ, zero, suc, ◌≡◌, ◌∙◌, ◌==◌, ◌+◌, ◌-◌, ◌/◌, ◌%◌, ◌^◌, ◌<◌, ◌||◌, Bool, true, false, not, nat_lt, if◌then◌else◌, Result, Ok, Err, refl, sym, ap, mod-lt, arith}
+use Rattle.std.proofs.Common.{ℕ, zero, suc, ◌≡◌, ◌∙◌, ◌==◌, ◌+◌, ◌-◌, ◌/◌, ◌%◌, ◌^◌, ◌<◌, ◌&&◌, ◌||◌, Bool, true, false, not, nat_le, nat_lt, if◌then◌else◌, Result, Ok, Err, refl, sym, ap, mod-lt, arith}
 use Rattle.std.proofs.lemmas.Nat.{pow_pos}
 use Rattle.model.specs.Capabilities.Lookup.{called, called_slot, go_on, is_cnode, lookup, lookup_within, resolve}
 use Rattle.model.specs.Capabilities.Slots.{Slots, capability_at, is_empty, is_full}
-use Rattle.typestate.specs.Spaces.{is_among}
+use Rattle.model.specs.declared.errors.KError.{KError}
+use Rattle.model.specs.declared.errors.KError.TheVariants.{FailedLookup, RangeError}
+use Rattle.model.specs.declared.invocations.SlotName.{SlotName}
+use Rattle.model.specs.Kernel.Arguments.{◌>>=◌, argument_slot, check, whole}
+use Rattle.typestate.specs.Spaces.{is_among, with_held}
 use Rattle.model.specs.declared.capabilities.Cap.{Cap}
 use Rattle.model.specs.declared.capabilities.Cap.TheVariants.{Empty, Untyped, Endpoint, Notification, CNode, Frame, PageTable, Tcb, RootTable, InterruptControl, InterruptHandler}
 use Rattle.model.specs.declared.lookup_failures.LookupFailure.{LookupFailure}
@@ -101,3 +105,22 @@ pub called-slot-same : (s t : Slots) (own : ℕ → ℕ → Bool) → AgreeInsid
 called-slot-same s t own agree root address mine =
     let goes = looks-same s t own agree address 33 root 32 mine in
     (called-same s t (lookup s root address 32) goes.finds ∙ ap (called t) goes.result, called-finds s t (lookup s root address 32) goes.finds)
+
+-- ---- a slot that an argument names
+
+whole-held : (s t : Slots) (found : Result (ℕ × ℕ) LookupFailure) → FindsSame s t found → with_held s (whole found) ≡ with_held t (whole found)
+whole-held s t (Ok found) same =
+    elim (found.1 == 0) as (λ b. with_held s (if b then Ok found.0 else Err FailedLookup) ≡ with_held t (if b then Ok found.0 else Err FailedLookup)) [
+      | true ↦ let pair : Cap → Result (ℕ × Cap) KError = λ held. Ok (found.0, held) in ap pair same
+      | false ↦ refl
+    ]
+whole-held s t (Err failure) same = refl
+
+pub argument-same : (s t : Slots) (own : ℕ → ℕ → Bool) → AgreeInside s t own → (root : Cap) (name : SlotName) → is_among own root ≡ true
+    → with_held s (argument_slot s root name) ≡ with_held t (argument_slot t root name)
+argument-same s t own agree root name mine =
+    let goes = looks-same s t own agree name.address (suc name.depth) root name.depth mine in
+    elim (nat_lt 0 name.depth && nat_le name.depth 32) as (λ b. with_held s (check b RangeError >>= λ _. whole (lookup s root name.address name.depth)) ≡ with_held t (check b RangeError >>= λ _. whole (lookup t root name.address name.depth))) [
+      | true ↦ whole-held s t (lookup s root name.address name.depth) goes.finds ∙ ap (λ (found : Result (ℕ × ℕ) LookupFailure). with_held t (whole found)) goes.result
+      | false ↦ refl
+    ]

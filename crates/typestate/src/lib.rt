@@ -1,6 +1,7 @@
 //! What a certificate notes of the slots of a thread's CNodes at a point of its program, and what a system call leaves of it.
 #![tactic(auto)]
 
+mod arguments;
 mod behind;
 mod comparisons;
 mod keys;
