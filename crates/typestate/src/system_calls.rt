@@ -27,8 +27,8 @@ use slots::SlotMap;
 pub(crate) enum Kind {
     /// Call, Send and NBSend.
     Sends(Sending),
-    /// Recv and ReplyRecv, which wait, and NBRecv.
-    Receives(bool),
+    /// Recv and ReplyRecv, which wait, and NBRecv, which does not.
+    Receives { is_wait: bool },
     /// Reply, Yield and PutChar, which need nothing and change neither registers nor slots.
     Passes,
 }
@@ -38,8 +38,12 @@ pub(crate) enum Kind {
 pub enum SystemCall {
     /// It leaves the slots as they are, and this of the registers.
     Plain(Behind),
-    /// A call on a capability, by the slot that holds it and the capability; and whether it has an answer.
-    Invokes(Slot, Cap, bool),
+    /// A call on the capability in this slot, and whether it has an answer.
+    Invokes {
+        slot: Slot,
+        capability: Cap,
+        answers: bool,
+    },
 }
 
 /// What the system call of a number asks for.
@@ -48,10 +52,10 @@ fn kind_of_number(number: u32) -> Option<Kind>
 {
     match number {
         1 => Some(Kind::Sends(Sending::Calling)),
-        2 | 5 => Some(Kind::Receives(true)),
+        2 | 5 => Some(Kind::Receives { is_wait: true }),
         3 => Some(Kind::Sends(Sending::Waiting)),
         4 => Some(Kind::Sends(Sending::Trying)),
-        8 => Some(Kind::Receives(false)),
+        8 => Some(Kind::Receives { is_wait: false }),
         6 | 7 | 9 => Some(Kind::Passes),
         _ => None,
     }
@@ -82,7 +86,11 @@ fn sends(
         Cap::Endpoint { rights, .. } => sends_message(at, bounds, kind, rights),
         Cap::Notification { rights, .. } => sends_signal(at, bounds, kind, rights),
         _ => {
-            return Ok(SystemCall::Invokes(slot, capability, matches!(kind, Sending::Calling)));
+            return Ok(SystemCall::Invokes {
+                slot,
+                capability,
+                answers: matches!(kind, Sending::Calling),
+            });
         }
     };
     match left {
@@ -135,7 +143,7 @@ impl Space<'_, '_> {
         match kind_of_number(number) {
             None => Err(Refusal::CallRefused(at, KError::IllegalOperation)),
             Some(Kind::Passes) => Ok(SystemCall::Plain(Behind::unchanged(bounds, false))),
-            Some(Kind::Receives(is_wait)) => self.receives(slots, at, bounds, is_wait),
+            Some(Kind::Receives { is_wait }) => self.receives(slots, at, bounds, is_wait),
             Some(Kind::Sends(kind)) => self.sends(slots, at, bounds, kind),
         }
     }
