@@ -1,7 +1,7 @@
 //! From a message to the call that it makes.
 
-ghost use Rattle.std.specs.Prelude.{◌≡◌};
-ghost use Rattle.model.specs.Kernel.CallForms.{decode};
+ghost use Rattle.std.specs.Prelude.{◌≡◌, option_map};
+ghost use Rattle.model.specs.Kernel.CallForms.{decode, form_of};
 
 use crate::calls::call_of;
 use model::{Cap, Invocation, KError};
@@ -31,4 +31,14 @@ pub fn decode_call(
         return Err(KError::TruncatedMessage);
     }
     Ok(listed.call)
+}
+
+/// How many words the call of a label on a capability lists, if there is one.
+pub fn listed_words(capability: Cap, label: u32) -> Option<usize>
+    ensures { result ≡ option_map (λ form. form.count) (form_of capability label) }
+{
+    match call_of(capability, label, &[]) {
+        Some(listed) => Some(listed.count),
+        None => None,
+    }
 }

@@ -7,7 +7,7 @@ mod decoding;
 mod labels;
 mod words;
 
-pub use decoding::decode_call;
+pub use decoding::{decode_call, listed_words};
 pub use labels::{
     ACKNOWLEDGE, CLEAR, CONFIGURE, COPY, DELETE, GET_HANDLER, MAP_FRAME, MAP_TABLE, MINT, MOVE,
     MUTATE, RESUME, RETYPE, REVOKE, SET_NOTIFICATION, SET_PRIORITY, SET_REGISTER, SUSPEND,

@@ -1,0 +1,10 @@
+pub mod SlotLists
+pub mod Lookups
+pub mod SlotMaps
+pub mod CalledCaps
+pub mod Words
+pub mod Forms
+pub mod MessageCalls
+pub mod Unpacked
+pub mod Rising
+pub mod Compared

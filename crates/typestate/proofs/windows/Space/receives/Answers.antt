@@ -1,0 +1,30 @@
+-- By the capability that a0 names.
+use Rattle.std.proofs.Common.{ℕ, ◌≡◌, ◌∙◌, Result, Ok, Err, sym, ap}
+use Rattle.model.specs.declared.capabilities.Cap.{Cap}
+use Rattle.model.specs.declared.refusals.Refusal.{Refusal}
+use Rattle.model.specs.Acceptance.CallRules.{AfterCall, receive_rule}
+use Rattle.typestate.specs.Calls.{known_with, ruled_by}
+use Rattle.typestate.specs.Differences.{slots_of}
+use Rattle.typestate.proofs.CalledCaps.{by-called}
+use Rattle.typestate.proofs.windows.Space.receives.Goals as goal
+
+pub returns-in-Err : goal.returns-in-Err
+returns-in-Err c = λ measure.
+    let slots = slots_of c.args.slots.now in
+    let state = known_with c.args.bounds.now slots measure in
+    let rule : ℕ → Cap → Result AfterCall Refusal = λ _. receive_rule c.args.at state c.args.is_wait in
+    by-called c.args.self.now c.args.at state rule c.requires.space c.requires.inside ∙ ap (ruled_by rule) (sym (c.in-Err.ensures measure))
+
+pub returns-in-Ok-receive_rule : goal.returns-in-Ok-receive_rule
+returns-in-Ok-receive_rule c = λ measure.
+    let slots = slots_of c.args.slots.now in
+    let state = known_with c.args.bounds.now slots measure in
+    let rule : ℕ → Cap → Result AfterCall Refusal = λ _. receive_rule c.args.at state c.args.is_wait in
+    by-called c.args.self.now c.args.at state rule c.requires.space c.requires.inside ∙ ap (ruled_by rule) (sym (c.in-Ok.ensures measure)) ∙ sym (c.in-Ok-receive_rule.ensures slots measure)
+
+pub returns-in-Err-receive_rule : goal.returns-in-Err-receive_rule
+returns-in-Err-receive_rule c = λ measure.
+    let slots = slots_of c.args.slots.now in
+    let state = known_with c.args.bounds.now slots measure in
+    let rule : ℕ → Cap → Result AfterCall Refusal = λ _. receive_rule c.args.at state c.args.is_wait in
+    by-called c.args.self.now c.args.at state rule c.requires.space c.requires.inside ∙ ap (ruled_by rule) (sym (c.in-Ok.ensures measure)) ∙ sym (c.in-Err-receive_rule.ensures slots measure)

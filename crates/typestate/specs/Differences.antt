@@ -1,0 +1,33 @@
+-- Slots as what differs from those of the image.
+use Rattle.std.specs.Prelude.{ℕ, ◌+◌, ◌≤◌, Bool, true, false, Option, Some, None, List, [], ◌∷◌, fold, if◌then◌else◌}
+use Rattle.std.specs.List.{list_all}
+use Rattle.model.specs.Acceptance.NotedStates.{NotedSlot, is_same_slot, number_of, slot_at, with_noted}
+use Rattle.model.specs.Capabilities.Slots.{is_empty}
+use Rattle.typestate.specs.declared.noted.NotedSlots.{NotedSlots}
+
+-- the slots with each of these changes made, one after another
+abbrev pub changed : List NotedSlot → List NotedSlot → List NotedSlot
+changed slots changes = fold with_noted slots changes
+
+-- what a change leaves in its slot
+abbrev pub left_by : NotedSlot → Option NotedSlot
+left_by change = if is_empty change.capability then None else Some change
+
+abbrev pub slots_of : NotedSlots → List NotedSlot
+slots_of s = changed s.image.now s.changes.now
+
+-- keys rise from a number on
+abbrev pub RiseFrom : ℕ → List NotedSlot → Type 0
+RiseFrom least [] = Unit {0}
+RiseFrom least (s ∷ rest) = (least ≤ number_of s.key) × RiseFrom (number_of s.key + 1) rest
+
+-- whether two look-ups give the same
+abbrev pub is_same_held : Option NotedSlot → Option NotedSlot → Bool
+is_same_held None None = true
+is_same_held None (Some b) = false
+is_same_held (Some a) None = false
+is_same_held (Some a) (Some b) = is_same_slot a b
+
+-- whether look-ups of these keys give the same
+abbrev pub are_same_at : List NotedSlot → List NotedSlot → List NotedSlot → Bool
+are_same_at slots others keys = list_all (λ k. is_same_held (slot_at slots k.key) (slot_at others k.key)) keys

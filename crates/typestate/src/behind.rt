@@ -1,0 +1,83 @@
+//! What is known of the registers behind a system call.
+
+ghost use Rattle.std.specs.Prelude.{◌≡◌};
+ghost use Rattle.model.specs.Acceptance.CallRules.{with_answer, with_message};
+ghost use Rattle.typestate.specs.declared.behind.Written.TheVariants.{Nothing};
+
+use model::{Range, Register};
+use ranges::Bounds;
+
+/// The capability of a call, and the badge that a receiver gets.
+pub(crate) const A0: Register = Register(10);
+
+/// The info word of a message.
+pub(crate) const A1: Register = Register(11);
+
+/// Any badge, or any word of a notification.
+pub(crate) const BADGES: Range = Range {
+    low: 0,
+    high: 0x0fff_ffff,
+};
+
+/// Which registers a system call writes.
+#[derive(Clone, Copy, Debug)]
+pub enum Written {
+    /// None.
+    Nothing,
+    /// `a0`: the badge of a signal.
+    Badge,
+    /// `a0` and `a1`: that a call succeeded.
+    Answer,
+    /// `a0`, `a1` and the registers of the words: a message.
+    Message,
+}
+
+/// What is known of the registers behind a system call, and whether instructions are counted anew from it.
+#[derive(Clone, Copy, Debug)]
+pub struct Behind {
+    pub bounds: Bounds,
+    pub is_wait: bool,
+    pub written: Written,
+}
+
+/// Registers behind a message: this badge, and any info and words.
+#[tactic(auto, unfolding(model::specs::Kernel::Messages::word_registers))]
+pub(crate) fn with_message(bounds: &Bounds, badge: Range) -> Bounds
+    ensures { result ≡ with_message bounds.now badge }
+{
+    let mut bounds = *bounds;
+    bounds.set(A0, badge);
+    bounds.set(A1, Range::FULL);
+    bounds.set(Register(12), Range::FULL);
+    bounds.set(Register(13), Range::FULL);
+    bounds.set(Register(14), Range::FULL);
+    bounds.set(Register(15), Range::FULL);
+    bounds.set(Register(18), Range::FULL);
+    bounds.set(Register(19), Range::FULL);
+    bounds.set(Register(20), Range::FULL);
+    bounds.set(Register(21), Range::FULL);
+    bounds
+}
+
+/// Registers behind a call that succeeded.
+pub(crate) fn with_answer(bounds: &Bounds) -> Bounds
+    ensures { result ≡ with_answer bounds.now }
+{
+    let mut bounds = *bounds;
+    bounds.set(A0, Range::single(0));
+    bounds.set(A1, Range::single(0));
+    bounds
+}
+
+impl Behind {
+    /// Nothing changes.
+    pub(crate) fn unchanged(bounds: &Bounds, is_wait: bool) -> Self
+        ensures { result ≡ record { bounds = bounds.now; is_wait = is_wait; written = Nothing } }
+    {
+        Behind {
+            bounds: *bounds,
+            is_wait,
+            written: Written::Nothing,
+        }
+    }
+}

@@ -1,0 +1,78 @@
+//! Whether the slots at two points are the same.
+
+ghost use Rattle.std.specs.Prelude.{◌≡◌};
+ghost use Rattle.model.specs.Acceptance.NotedStates.{are_same_slots, is_same_parent, is_same_slot};
+ghost use Rattle.model.specs.Capabilities.CapabilityFields.{same_words};
+ghost use Rattle.model.specs.Capabilities.CapabilityWords.{IsCapability, words_of};
+ghost use Rattle.typestate.specs.Differences.{RiseFrom, are_same_at, is_same_held, slots_of};
+
+use crate::{NotedSlot, NotedSlots, SlotKey};
+use capwords::pack;
+use model::Cap;
+
+/// Whether two capabilities have the same words.
+fn are_same(a: Cap, b: Cap) -> bool
+    requires first { IsCapability a }
+    requires second { IsCapability b }
+    ensures { result ≡ same_words (words_of a) (words_of b) }
+{
+    let [a_head, a_word] = pack(a);
+    let [b_head, b_word] = pack(b);
+    a_head == b_head && a_word == b_word
+}
+
+/// Whether two slots were derived from the same.
+fn is_same_parent(a: Option<SlotKey>, b: Option<SlotKey>) -> bool
+    ensures { result ≡ is_same_parent a b }
+{
+    match (a, b) {
+        (None, None) => true,
+        (Some(a), Some(b)) => a.is_same(b),
+        _ => false,
+    }
+}
+
+/// Whether two slots are the same.
+fn is_same_slot(a: NotedSlot, b: NotedSlot) -> bool
+    ensures { result ≡ is_same_slot a b }
+{
+    a.key.is_same(b.key)
+        && are_same(a.capability, b.capability)
+        && is_same_parent(a.parent, b.parent)
+}
+
+/// Whether two look-ups give the same.
+fn is_same_held(a: Option<NotedSlot>, b: Option<NotedSlot>) -> bool
+    ensures { result ≡ is_same_held a b }
+{
+    match (a, b) {
+        (None, None) => true,
+        (Some(a), Some(b)) => is_same_slot(a, b),
+        _ => false,
+    }
+}
+
+impl NotedSlots<'_> {
+    /// Whether both hold the same at these keys.
+    fn agrees_at(&self, other: &NotedSlots<'_>, keys: &[NotedSlot]) -> bool
+        ensures { result ≡ are_same_at (slots_of self.now) (slots_of other.now) keys.now }
+    {
+        for slot in keys {
+            if !is_same_held(self.at(slot.key), other.at(slot.key)) {
+                return false;
+            }
+        }
+        true
+    }
+
+    /// Whether both are the same slots. The image's slots have to be the same, and their keys to rise.
+    pub fn is_same(&self, other: &NotedSlots<'_>) -> bool
+        requires image { other.now.image.now ≡ self.now.image.now }
+        requires rising { RiseFrom 0 self.now.image.now }
+        ensures { result ≡ are_same_slots (slots_of self.now) (slots_of other.now) }
+    {
+        let mine = self.agrees_at(other, self.changes);
+        let theirs = self.agrees_at(other, other.changes);
+        mine && theirs
+    }
+}

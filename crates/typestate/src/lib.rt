@@ -1,0 +1,25 @@
+//! What a certificate notes of the slots of a thread's CNodes at a point of its program, and what a system call leaves of it.
+#![tactic(auto)]
+
+mod arguments;
+mod behind;
+mod comparisons;
+mod keys;
+mod laws;
+mod messages;
+mod noted;
+mod plain_calls;
+mod records;
+mod spaces;
+mod system_calls;
+mod windows;
+
+pub use behind::{Behind, Written};
+pub use keys::{NotedSlot, SlotKey};
+pub use laws::{no_stray_slot_leads_outside, records_note_changes};
+pub use messages::message_call;
+pub use noted::NotedSlots;
+pub use records::note_record;
+pub use spaces::OwnSlots;
+pub use system_calls::SystemCall;
+pub use windows::{Space, Window};

@@ -1,0 +1,68 @@
+//! The slots at a point, as what differs from the image's.
+
+ghost use Rattle.std.specs.Prelude.{◌≡◌, if◌then◌else◌};
+ghost use Rattle.model.specs.Acceptance.NotedStates.{is_same_key, slot_at};
+ghost use Rattle.model.specs.Capabilities.CapabilityWords.{IsCapability};
+ghost use Rattle.model.specs.declared.capabilities.Cap.TheVariants.{Empty};
+ghost use Rattle.std.specs.Option.{option_map_or};
+ghost use Rattle.typestate.specs.Differences.{left_by, slots_of};
+
+use crate::{NotedSlot, SlotKey};
+use model::Cap;
+
+/// The full slots of a thread's CNodes at a point: those that the image lists, with changes made one after another.
+/// A change to a slot that holds nothing empties it.
+#[derive(Clone, Copy, Debug)]
+pub struct NotedSlots<'s> {
+    pub image: &'s [NotedSlot],
+    pub changes: &'s [NotedSlot],
+}
+
+/// What a slot of this key, which held this, holds behind a change.
+fn behind(change: NotedSlot, key: SlotKey, held: Option<NotedSlot>) -> Option<NotedSlot>
+    ensures { result ≡ (if is_same_key change.key key then left_by change else held) }
+{
+    if !change.key.is_same(key) {
+        held
+    } else if matches!(change.capability, Cap::Empty) {
+        None
+    } else {
+        Some(change)
+    }
+}
+
+impl NotedSlots<'_> {
+    /// The slot of this key, if it is full.
+    pub fn at(&self, key: SlotKey) -> Option<NotedSlot>
+        ensures { result ≡ slot_at (slots_of self.now) key }
+    {
+        let mut held = listed(self.image, key);
+        for change in self.changes {
+            held = behind(*change, key, held);
+        }
+        held
+    }
+
+    /// The capability in the slot of this key: an empty one where there is none.
+    pub fn capability(&self, key: SlotKey) -> Cap
+        ensures value { result ≡ option_map_or (λ slot. slot.capability) (slot_at (slots_of self.now) key) Empty }
+        ensures valid { IsCapability result }
+    {
+        match self.at(key) {
+            Some(slot) => slot.capability,
+            None => Cap::Empty,
+        }
+    }
+}
+
+/// The slot of this key in a list.
+fn listed(slots: &[NotedSlot], key: SlotKey) -> Option<NotedSlot>
+    ensures { result ≡ slot_at slots.now key }
+{
+    for slot in slots {
+        if slot.key.is_same(key) {
+            return Some(*slot);
+        }
+    }
+    None
+}

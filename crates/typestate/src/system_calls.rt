@@ -1,0 +1,189 @@
+//! System calls: what has to be known of each, and what is known behind those that are no calls on capabilities.
+//! seL4 Reference Manual, "System Calls"; which of them are accepted is this project's own.
+
+ghost use Rattle.std.specs.Prelude.{◌≡◌, List, Some};
+ghost use Rattle.model.specs.Acceptance.CallRules.{after_call, by_number, known, send_rule};
+ghost use Rattle.model.specs.Acceptance.Measures.{Measure};
+ghost use Rattle.model.specs.Acceptance.NotedStates.{NotedSlot, PointState};
+ghost use Rattle.model.specs.Images.Image.{Image, Thread};
+ghost use Rattle.model.specs.Kernel.Steps.{call_of};
+ghost use Rattle.model.specs.Machine.Instructions.{IsRegister};
+ghost use Rattle.typestate.specs.declared.system_calls.Kind.TheVariants.{Receives, Sends};
+ghost use Rattle.model.specs.declared.refusals.Point.{Point};
+ghost use Rattle.typestate.specs.Calls.{by_kind, found_call, goes_on, kind_of, known_with};
+ghost use Rattle.typestate.specs.Differences.{slots_of};
+ghost use Rattle.typestate.specs.Spaces.{IsSpace, NothingLeadsOutside, own_slots};
+
+use crate::behind::{A0, Behind};
+use crate::plain_calls::{Sending, receive_rule, sends_message, sends_signal};
+use crate::{NotedSlots, OwnSlots, Space};
+use cspace::called_slot;
+use model::{Cap, KError, Point, Refusal, Register, Slot};
+use ranges::Bounds;
+use slots::SlotMap;
+
+/// What a system call asks for.
+#[derive(Clone, Copy, Debug)]
+pub(crate) enum Kind {
+    /// Call, Send and NBSend.
+    Sends(Sending),
+    /// Recv and ReplyRecv, which wait, and NBRecv, which does not.
+    Receives { is_wait: bool },
+    /// Reply, Yield and PutChar, which need nothing and change neither registers nor slots.
+    Passes,
+}
+
+/// A system call that is not refused so far.
+#[derive(Clone, Copy, Debug)]
+pub enum SystemCall {
+    /// It leaves the slots as they are, and this of the registers.
+    Plain(Behind),
+    /// A call on the capability in this slot, and whether it has an answer.
+    Invokes {
+        slot: Slot,
+        capability: Cap,
+        answers: bool,
+    },
+}
+
+/// What the system call of a number asks for.
+fn kind_of_number(number: u32) -> Option<Kind>
+    ensures { (image : Image) (t : Thread) (at : Point) (state : PointState) → by_number image t at state (call_of number) ≡ by_kind image t at state result }
+{
+    match number {
+        1 => Some(Kind::Sends(Sending::Calling)),
+        2 | 5 => Some(Kind::Receives { is_wait: true }),
+        3 => Some(Kind::Sends(Sending::Waiting)),
+        4 => Some(Kind::Sends(Sending::Trying)),
+        8 => Some(Kind::Receives { is_wait: false }),
+        6 | 7 | 9 => Some(Kind::Passes),
+        _ => None,
+    }
+}
+
+/// The value of a register that has to have one.
+pub(crate) fn known(at: Point, bounds: &Bounds, register: Register) -> Result<u32, Refusal>
+    requires { IsRegister register }
+    ensures { (slots : List NotedSlot) (measure : Measure) → result ≡ known at (known_with bounds.now slots measure) register }
+{
+    match bounds.get(register).value() {
+        Some(value) => Ok(value),
+        None => Err(Refusal::CallNotConstant(at)),
+    }
+}
+
+/// What a send by this capability is, which stands in this slot.
+fn sends(
+    at: Point,
+    bounds: &Bounds,
+    kind: Sending,
+    slot: Slot,
+    capability: Cap,
+) -> Result<SystemCall, Refusal>
+    ensures { (image : Image) (t : Thread) (slots : List NotedSlot) (measure : Measure) → send_rule image t at (known_with bounds.now slots measure) (kind_of kind) slot capability ≡ goes_on image t at (known_with bounds.now slots measure) result }
+{
+    let left = match capability {
+        Cap::Endpoint { rights, .. } => sends_message(at, bounds, kind, rights),
+        Cap::Notification { rights, .. } => sends_signal(at, bounds, kind, rights),
+        _ => {
+            return Ok(SystemCall::Invokes {
+                slot,
+                capability,
+                answers: matches!(kind, Sending::Calling),
+            });
+        }
+    };
+    match left {
+        Ok(behind) => Ok(SystemCall::Plain(behind)),
+        Err(refusal) => Err(refusal),
+    }
+}
+
+impl Space<'_, '_> {
+    /// The slot that a system call names, and the capability in it.
+    fn called(
+        &self,
+        slots: &NotedSlots<'_>,
+        at: Point,
+        bounds: &Bounds,
+    ) -> Result<(Slot, Cap), Refusal>
+        requires { IsSpace self.now }
+        ensures { (measure : Measure) → result ≡ found_call at (known_with bounds.now (slots_of slots.now) measure) (own_slots self.now.windows.now (slots_of slots.now)) self.now.root }
+    {
+        let address = match known(at, bounds, A0) {
+            Ok(address) => address,
+            Err(refusal) => return Err(refusal),
+        };
+        let own = OwnSlots {
+            windows: self.windows,
+            slots: *slots,
+        };
+        match called_slot(&own, self.root, address) {
+            Ok(slot) => Ok((slot, own.capability(slot))),
+            Err(_) => Err(Refusal::CapNotThere(at)),
+        }
+    }
+
+    /// The system call at a point, up to where a call on a capability begins. No slot may hold what leads outside of the
+    /// thread's CNodes: such slots are refused before.
+    pub fn system_call(
+        &self,
+        slots: &NotedSlots<'_>,
+        at: Point,
+        bounds: &Bounds,
+    ) -> Result<SystemCall, Refusal>
+        requires space { IsSpace self.now }
+        requires inside { NothingLeadsOutside self.now.image.now self.now.thread.now (slots_of slots.now) }
+        ensures { (measure : Measure) → after_call self.now.image.now self.now.thread.now at (known_with bounds.now (slots_of slots.now) measure) ≡ goes_on self.now.image.now self.now.thread.now at (known_with bounds.now (slots_of slots.now) measure) result }
+    {
+        let number = match known(at, bounds, Register::A7) {
+            Ok(number) => number,
+            Err(refusal) => return Err(refusal),
+        };
+        match kind_of_number(number) {
+            None => Err(Refusal::CallRefused(at, KError::IllegalOperation)),
+            Some(Kind::Passes) => Ok(SystemCall::Plain(Behind::unchanged(bounds, false))),
+            Some(Kind::Receives { is_wait }) => self.receives(slots, at, bounds, is_wait),
+            Some(Kind::Sends(kind)) => self.sends(slots, at, bounds, kind),
+        }
+    }
+
+    /// A receive.
+    fn receives(
+        &self,
+        slots: &NotedSlots<'_>,
+        at: Point,
+        bounds: &Bounds,
+        is_wait: bool,
+    ) -> Result<SystemCall, Refusal>
+        requires space { IsSpace self.now }
+        requires inside { NothingLeadsOutside self.now.image.now self.now.thread.now (slots_of slots.now) }
+        ensures { (measure : Measure) → by_kind self.now.image.now self.now.thread.now at (known_with bounds.now (slots_of slots.now) measure) (Some (Receives is_wait)) ≡ goes_on self.now.image.now self.now.thread.now at (known_with bounds.now (slots_of slots.now) measure) result }
+    {
+        match self.called(slots, at, bounds) {
+            Err(refusal) => Err(refusal),
+            Ok((_, capability)) => match receive_rule(at, bounds, is_wait, capability) {
+                Ok(behind) => Ok(SystemCall::Plain(behind)),
+                Err(refusal) => Err(refusal),
+            },
+        }
+    }
+
+    /// A send.
+    fn sends(
+        &self,
+        slots: &NotedSlots<'_>,
+        at: Point,
+        bounds: &Bounds,
+        kind: Sending,
+    ) -> Result<SystemCall, Refusal>
+        requires space { IsSpace self.now }
+        requires inside { NothingLeadsOutside self.now.image.now self.now.thread.now (slots_of slots.now) }
+        ensures { (measure : Measure) → by_kind self.now.image.now self.now.thread.now at (known_with bounds.now (slots_of slots.now) measure) (Some (Sends kind)) ≡ goes_on self.now.image.now self.now.thread.now at (known_with bounds.now (slots_of slots.now) measure) result }
+    {
+        match self.called(slots, at, bounds) {
+            Err(refusal) => Err(refusal),
+            Ok((slot, capability)) => sends(at, bounds, kind, slot, capability),
+        }
+    }
+}
