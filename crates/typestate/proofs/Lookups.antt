@@ -1,5 +1,5 @@
 -- A lookup goes the same way in two maps of slots that hold the same in all CNodes that it comes to.
-use Rattle.std.proofs.Common.{ℕ, zero, suc, ◌≡◌, ◌∙◌, ◌==◌, ◌+◌, ◌-◌, ◌/◌, ◌%◌, ◌^◌, ◌<◌, ◌&&◌, ◌||◌, Bool, true, false, not, nat_le, nat_lt, if◌then◌else◌, Result, Ok, Err, refl, sym, ap, mod-lt, arith}
+use Rattle.std.proofs.Common.{ℕ, zero, suc, ◌≡◌, ◌∙◌, ◌==◌, ◌+◌, ◌-◌, ◌/◌, ◌%◌, ◌^◌, ◌<◌, ◌&&◌, ◌||◌, Bool, true, false, not, nat_le, nat_lt, if◌then◌else◌, Result, Ok, Err, refl, ap, mod-lt}
 use Rattle.std.proofs.lemmas.Nat.{pow_pos}
 use Rattle.model.specs.Capabilities.Lookup.{called, called_slot, go_on, is_cnode, lookup, lookup_within, resolve}
 use Rattle.model.specs.Capabilities.Slots.{Slots, capability_at, is_empty, is_full}
@@ -11,7 +11,7 @@ use Rattle.typestate.specs.Spaces.{is_among, with_held}
 use Rattle.model.specs.declared.capabilities.Cap.{Cap}
 use Rattle.model.specs.declared.capabilities.Cap.TheVariants.{Empty, Untyped, Endpoint, Notification, CNode, Frame, PageTable, Tcb, RootTable, InterruptControl, InterruptHandler}
 use Rattle.model.specs.declared.lookup_failures.LookupFailure.{LookupFailure}
-use Rattle.model.specs.declared.lookup_failures.LookupFailure.TheVariants.{InvalidRoot, MissingCapability, DepthMismatch, GuardMismatch}
+use Rattle.model.specs.declared.lookup_failures.LookupFailure.TheVariants.{MissingCapability, DepthMismatch, GuardMismatch}
 
 -- In the CNodes of these places both maps hold the same, and no capability leads to another CNode.
 pub record AgreeInside (s t : Slots) (own : ℕ → ℕ → Bool) : Type 0 where

@@ -1,5 +1,5 @@
 -- Lists of slots whose keys rise: a change keeps them so, and they are the same where every look-up is.
-use Rattle.std.proofs.Common.{ℕ, ◌≡◌, ◌≢◌, ◌∙◌, ◌==◌, ◌+◌, ◌<◌, ◌≤◌, ◌⊎◌, inl, inr, ◌&&◌, Bool, true, false, not, nat_lt, if◌then◌else◌, Option, Some, None, List, [], ◌∷◌, filter, refl, sym, ap, arith}
+use Rattle.std.proofs.Common.{ℕ, ◌≡◌, ◌∙◌, ◌==◌, ◌+◌, ◌<◌, ◌≤◌, inl, inr, ◌&&◌, Bool, true, false, not, nat_lt, if◌then◌else◌, Option, Some, None, List, [], ◌∷◌, refl, sym, ap, arith}
 use Rattle.std.specs.Prelude.{nat_eq}
 use Rattle.std.proofs.lemmas.Bool.{and_parts, cases_lt, eq-eqb, eqb-true}
 use Rattle.std.proofs.lemmas.Bool.Decides.{eqb_tells, nat_tests}
@@ -165,21 +165,21 @@ looks-equal (a ∷ as_) (b ∷ bs) least low rises rise held = elim (eqb_tells (
       let rest : as_ ≡ bs = looks-equal as_ bs (number_of a.key + 1) (number_of b.key + 1) rises.1 rise.1 (λ key. tails key same.1) in
       ap (λ (s : NotedSlot). s ∷ as_) one ∙ ap (λ (more : List NotedSlot). b ∷ more) rest
   | inr other ↦ elim (cases_lt (number_of a.key) (number_of b.key)) [
-      | inl less ↦
-          let none : slot_at (b ∷ bs) a.key ≡ None = none-below (b ∷ bs) (number_of b.key) a.key (omega arith, rise.1) less in
-          absurd (let clash : Some a ≡ None = sym (first-found a as_ a.key refl) ∙ held a.key ∙ none in cc)
-      | inr most ↦
-          let less : number_of b.key < number_of a.key = omega (arith, most, other.1) in
-          let none : slot_at (a ∷ as_) b.key ≡ None = none-below (a ∷ as_) (number_of a.key) b.key (omega arith, rises.1) less in
-          absurd (let clash : None ≡ Some b = sym none ∙ held b.key ∙ first-found b bs b.key refl in cc)
-    ]
+    | inl less ↦
+        let none : slot_at (b ∷ bs) a.key ≡ None = none-below (b ∷ bs) (number_of b.key) a.key (omega arith, rise.1) less in
+        absurd (let clash : Some a ≡ None = sym (first-found a as_ a.key refl) ∙ held a.key ∙ none in cc)
+    | inr most ↦
+        let less : number_of b.key < number_of a.key = omega (arith, most, other.1) in
+        let none : slot_at (a ∷ as_) b.key ≡ None = none-below (a ∷ as_) (number_of a.key) b.key (omega arith, rises.1) less in
+        absurd (let clash : None ≡ Some b = sym none ∙ held b.key ∙ first-found b bs b.key refl in cc)
+  ]
 ]
   where
-  tails : (key : SlotKey) → number_of a.key ≡ number_of b.key → slot_at as_ key ≡ slot_at bs key
-  tails key same = elim (eqb_tells (number_of a.key) (number_of key)) [
-    | inl here ↦
-        none-below as_ (number_of a.key + 1) key rises.1 (omega (arith, here.1)) ∙ sym (none-below bs (number_of b.key + 1) key rise.1 (omega (arith, here.1, same)))
-    | inr other ↦
-        sym (ap (λ c. if c then Some a else slot_at as_ key) other.0) ∙ held key
-        ∙ ap (λ n. if n == number_of key then Some b else slot_at bs key) (sym same) ∙ ap (λ c. if c then Some b else slot_at bs key) other.0
-  ]
+    tails : (key : SlotKey) → number_of a.key ≡ number_of b.key → slot_at as_ key ≡ slot_at bs key
+    tails key same = elim (eqb_tells (number_of a.key) (number_of key)) [
+      | inl here ↦
+          none-below as_ (number_of a.key + 1) key rises.1 (omega (arith, here.1)) ∙ sym (none-below bs (number_of b.key + 1) key rise.1 (omega (arith, here.1, same)))
+      | inr other ↦
+          sym (ap (λ c. if c then Some a else slot_at as_ key) other.0) ∙ held key
+          ∙ ap (λ n. if n == number_of key then Some b else slot_at bs key) (sym same) ∙ ap (λ c. if c then Some b else slot_at bs key) other.0
+    ]

@@ -1,6 +1,5 @@
 -- What is found in lists of noted slots.
-use Rattle.std.proofs.Common.{ℕ, ◌≡◌, ◌∙◌, ◌==◌, ◌<◌, Bool, true, false, not, cond, nat_lt, if◌then◌else◌, Option, Some, None, List, [], ◌∷◌, filter, refl, sym, ap, arith}
-use Rattle.std.specs.List.{find}
+use Rattle.std.proofs.Common.{◌≡◌, ◌∙◌, Bool, true, false, nat_lt, if◌then◌else◌, Option, Some, None, List, [], ◌∷◌, refl, ap, arith}
 use Rattle.std.proofs.lemmas.Bool.Decides.{nat_tests}
 use Rattle.model.specs.Acceptance.NotedStates.{NotedSlot, SlotKey, is_same_key, number_of, put_in, slot_at, with_noted, without_key}
 use Rattle.model.specs.Capabilities.Slots.{is_empty}

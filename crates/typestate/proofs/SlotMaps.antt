@@ -1,5 +1,5 @@
 -- The map of a thread's own slots holds what the kernel's slots hold there.
-use Rattle.std.proofs.Common.{ℕ, ◌≡◌, ◌∙◌, ◌==◌, ◌+◌, ◌-◌, ◌/◌, ◌^◌, ◌<◌, ◌&&◌, ◌||◌, Bool, true, false, not, nat_le, nat_lt, if◌then◌else◌, inl, inr, Option, Some, None, option_map, List, [], ◌∷◌, refl, sym, ap, arith}
+use Rattle.std.proofs.Common.{ℕ, ◌≡◌, ◌∙◌, ◌==◌, ◌+◌, ◌-◌, ◌/◌, ◌^◌, ◌<◌, ◌&&◌, ◌||◌, Bool, true, false, not, if◌then◌else◌, inl, inr, Option, Some, None, option_map, List, [], ◌∷◌, refl, sym, ap, arith}
 use Rattle.std.specs.Option.{option_map_or}
 use Rattle.std.specs.List.{find, list_any}
 use Rattle.std.proofs.lemmas.Bool.Decides.{eqb_tells, nat_tests}
@@ -7,7 +7,7 @@ use Rattle.model.specs.Acceptance.NotedKernel.{kernel_entry, key_of, noted_entry
 use Rattle.model.specs.Acceptance.NotedStates.{NotedSlot, SlotKey, is_foreign, is_own_cnode, is_same_key, slot_at}
 use Rattle.model.specs.Acceptance.ThreadRules.{reached}
 use Rattle.model.specs.Acceptance.WellFormed.{radix_of}
-use Rattle.model.specs.Capabilities.Slots.{Slots, capability_at, empty_entry, is_within}
+use Rattle.model.specs.Capabilities.Slots.{capability_at, empty_entry, is_within}
 use Rattle.model.specs.Images.Described.{described}
 use Rattle.model.specs.Images.Image.{Image, Thread}
 use Rattle.model.specs.Images.Places.{cnode_slot, offset_of, type_at}

@@ -1,5 +1,5 @@
 -- What is unpacked of two words is what the definition unpacks of them.
-use Rattle.std.proofs.Common.{ℕ, ◌≡◌, ◌∙◌, true, false, Option, Some, None, List, [], ◌∷◌, get_or, sym, ap, refl}
+use Rattle.std.proofs.Common.{ℕ, ◌≡◌, ◌∙◌, true, false, Option, Some, None, List, [], ◌∷◌, get_or, ap, refl}
 use Rattle.std.specs.Prelude.{IfSome, is_some}
 use Rattle.image.proofs.WordLaws.{unpacked-is, words-back}
 use Rattle.model.specs.declared.capabilities.Cap.{Cap}

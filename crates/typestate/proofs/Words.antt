@@ -1,5 +1,5 @@
 -- The words of a message, one after another.
-use Rattle.std.proofs.Common.{ℕ, suc, ◌≡◌, ◌∙◌, ◌+◌, ◌<◌, ◌≤◌, Bool, Result, Ok, Err, List, [], ◌∷◌, ◌++◌, length, take, drop, set, get_or, refl, sym, ap, append_assoc, add-one, arith}
+use Rattle.std.proofs.Common.{ℕ, ◌≡◌, ◌∙◌, ◌+◌, ◌<◌, ◌≤◌, Result, Ok, Err, List, [], ◌∷◌, ◌++◌, length, take, drop, set, get_or, refl, sym, ap, append_assoc, add-one}
 use Rattle.std.proofs.Math.Seq.{drop-cons, take-suc-set}
 use Rattle.std.proofs.lemmas.List.{append-nil, length-take-le}
 use Rattle.model.specs.declared.instructions.Register.{Register}

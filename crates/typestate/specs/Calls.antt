@@ -1,5 +1,5 @@
 -- What the code keeps of a call, in the definitions' terms.
-use Rattle.std.specs.Prelude.{ℕ, Bool, false, Option, Some, None, Result, Ok, Err, List, [], ◌∷◌}
+use Rattle.std.specs.Prelude.{ℕ, false, Option, Some, None, Result, Ok, Err, List, [], ◌∷◌}
 use Rattle.model.specs.declared.capabilities.Cap.{Cap}
 use Rattle.model.specs.declared.errors.KError.TheVariants.{IllegalOperation}
 use Rattle.model.specs.declared.ranges.Range.{Range}

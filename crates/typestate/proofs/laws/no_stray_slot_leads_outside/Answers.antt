@@ -1,7 +1,7 @@
 -- One slot after another.
-use Rattle.std.proofs.Common.{◌≡◌, ◌∙◌, ◌||◌, ◌&&◌, Bool, true, false, not, List, [], ◌∷◌, refl, sym, ap}
+use Rattle.std.proofs.Common.{◌≡◌, ◌∙◌, ◌||◌, Bool, true, false, not, List, [], ◌∷◌, refl, ap}
 use Rattle.std.specs.List.{list_any}
-use Rattle.model.specs.Acceptance.NotedStates.{NotedSlot, has_stray_slots, is_foreign, is_own, is_stray, leads_to_boot}
+use Rattle.model.specs.Acceptance.NotedStates.{NotedSlot, has_stray_slots, is_foreign, is_own, is_stray}
 use Rattle.model.specs.Acceptance.ThreadRules.{reached}
 use Rattle.typestate.proofs.laws.no_stray_slot_leads_outside.Goals as goal
 

@@ -1,8 +1,7 @@
 -- One word more, and the end.
-use Rattle.std.proofs.Common.{ℕ, ◌≡◌, ◌∙◌, ◌<◌, Result, Ok, Err, List, length, take, set, get_or, sym, ap, arith}
+use Rattle.std.proofs.Common.{◌≡◌, ◌∙◌, ◌<◌, length, take, get_or, sym, ap, arith}
 use Rattle.std.proofs.Math.ListN.{length-set}
 use Rattle.std.proofs.lemmas.List.{get_or-take}
-use Rattle.model.specs.declared.instructions.Register.{Register}
 use Rattle.model.specs.Acceptance.CallRules.{known}
 use Rattle.model.specs.Kernel.Messages.{a0, word_registers}
 use Rattle.typestate.specs.Calls.{known_with}

@@ -1,5 +1,5 @@
 -- The words so far, and then the rest, are all of them.
-use Rattle.std.proofs.Common.{ℕ, ◌≡◌, List, length, take, drop}
+use Rattle.std.proofs.Common.{◌≡◌, List, length, take, drop}
 use Rattle.model.specs.Acceptance.CallRules.{all_known}
 use Rattle.model.specs.Acceptance.Measures.{Measure}
 use Rattle.model.specs.Acceptance.NotedStates.{NotedSlot}

@@ -1,7 +1,6 @@
 -- By what is known at each step.
-use Rattle.std.proofs.Common.{ℕ, ◌≡◌, ◌∙◌, ◌≤◌, Result, Ok, Err, List, length, take, sym, ap, arith}
+use Rattle.std.proofs.Common.{◌≡◌, Ok, Err, length, take, arith}
 use Rattle.std.proofs.lemmas.List.{length-take-le}
-use Rattle.model.specs.Kernel.Messages.{label_of}
 use Rattle.typestate.specs.Calls.{known_with}
 use Rattle.typestate.proofs.MessageCalls.{calls-so, no-form, no-info, no-words}
 use Rattle.typestate.proofs.messages.message_call.Goals as goal

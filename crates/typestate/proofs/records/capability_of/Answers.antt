@@ -1,5 +1,5 @@
 -- What is unpacked is what the definition unpacks.
-use Rattle.std.proofs.Common.{◌≡◌, Option, Some, None, sym, ap}
+use Rattle.std.proofs.Common.{Option, Some, None, sym, ap}
 use Rattle.std.specs.Option.{option_map_or}
 use Rattle.model.specs.declared.capabilities.Cap.{Cap}
 use Rattle.model.specs.declared.capabilities.Cap.TheVariants.{Empty}

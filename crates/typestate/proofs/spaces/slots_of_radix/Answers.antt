@@ -1,5 +1,5 @@
 -- A power rises.
-use Rattle.std.proofs.Common.{ℕ, ◌^◌, ◌≤◌, arith}
+use Rattle.std.proofs.Common.{◌^◌, ◌≤◌, arith}
 use Rattle.std.proofs.Math.Nat.{pow-le-pow_right}
 use Rattle.typestate.proofs.spaces.slots_of_radix.Goals as goal
 

@@ -1,5 +1,5 @@
 -- By the comparison at the keys of both changes.
-use Rattle.std.proofs.Common.{◌≡◌, ◌∙◌, ◌&&◌, Bool, true, false, sym, ap}
+use Rattle.std.proofs.Common.{◌≡◌, ◌∙◌, ◌&&◌, true, false, sym, ap}
 use Rattle.typestate.specs.Differences.{are_same_at, slots_of}
 use Rattle.typestate.proofs.Compared.{compared-with}
 use Rattle.typestate.proofs.noted.NotedSlots.is_same.Goals as goal

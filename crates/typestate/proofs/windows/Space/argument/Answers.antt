@@ -1,5 +1,5 @@
 -- By the thread's own slots.
-use Rattle.std.proofs.Common.{ℕ, ◌≡◌, ◌∙◌, Result, Ok, Err, sym, ap}
+use Rattle.std.proofs.Common.{ℕ, ◌∙◌, Result, Ok, sym, ap}
 use Rattle.model.specs.declared.capabilities.Cap.{Cap}
 use Rattle.model.specs.declared.errors.KError.{KError}
 use Rattle.model.specs.Acceptance.NotedKernel.{noted_slots}

@@ -1,5 +1,5 @@
 -- By what is known of a0, and then what is found.
-use Rattle.std.proofs.Common.{ℕ, ◌≡◌, ◌∙◌, Result, Ok, Err, ap}
+use Rattle.std.proofs.Common.{ℕ, ◌∙◌, Result, Ok, ap}
 use Rattle.model.specs.declared.capabilities.Cap.{Cap}
 use Rattle.model.specs.declared.refusals.Refusal.{Refusal}
 use Rattle.model.specs.Capabilities.Lookup.{called_slot}

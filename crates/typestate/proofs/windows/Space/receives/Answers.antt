@@ -1,5 +1,5 @@
 -- By the capability that a0 names.
-use Rattle.std.proofs.Common.{ℕ, ◌≡◌, ◌∙◌, Result, Ok, Err, sym, ap}
+use Rattle.std.proofs.Common.{ℕ, ◌∙◌, Result, sym, ap}
 use Rattle.model.specs.declared.capabilities.Cap.{Cap}
 use Rattle.model.specs.declared.refusals.Refusal.{Refusal}
 use Rattle.model.specs.Acceptance.CallRules.{AfterCall, receive_rule}

@@ -1,8 +1,6 @@
 -- By the capability that a0 names.
-use Rattle.std.proofs.Common.{ℕ, ◌≡◌, ◌∙◌, Result, Ok, Err, sym, ap}
-use Rattle.model.specs.declared.capabilities.Cap.{Cap}
-use Rattle.model.specs.declared.refusals.Refusal.{Refusal}
-use Rattle.model.specs.Acceptance.CallRules.{AfterCall, send_rule}
+use Rattle.std.proofs.Common.{◌∙◌, sym, ap}
+use Rattle.model.specs.Acceptance.CallRules.{send_rule}
 use Rattle.typestate.specs.Calls.{kind_of, known_with, ruled_by}
 use Rattle.typestate.specs.Differences.{slots_of}
 use Rattle.typestate.proofs.CalledCaps.{by-called}

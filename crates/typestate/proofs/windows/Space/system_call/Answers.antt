@@ -1,5 +1,5 @@
 -- By the number in a7.
-use Rattle.std.proofs.Common.{◌≡◌, ◌∙◌, Option, Some, None, Result, Ok, sym, ap}
+use Rattle.std.proofs.Common.{◌≡◌, ◌∙◌, Some, None, Result, Ok, sym, ap}
 use Rattle.model.specs.declared.refusals.Refusal.{Refusal}
 use Rattle.model.specs.Acceptance.CallRules.{AfterCall}
 use Rattle.typestate.specs.declared.behind.Behind.{Behind}
