@@ -15,6 +15,8 @@ use Rattle.model.specs.declared.entries.UntypedEntry.{UntypedEntry}
 use Rattle.model.specs.declared.refusals.Refusal.TheVariants.{Magic, Version}
 use Rattle.model.specs.Images.Format.{Format, both, field, many_fit, number, number_or}
 use Rattle.model.specs.Images.Image.{Image, ImageContent, Thread, anything, below, between, capability_format, content_format, frame_format, header_format, image_with, interrupt_format, magic, object_format, pair_key, register_format, registers_format, sections_format, size_fits, slots_format, table_format, thread_format, thread_header_format, untyped_format, whole_image, words_format}
+use Rattle.booting.proofs.PlacesFits.{field-parts}
+use Rattle.booting.proofs.PlacesImage.{is-fitting}
 use Rattle.loader.specs.Limits.{CapabilityFits, ContentFits, FrameFits, HasSection, InterruptFits, IsLimited, IsSmall, ObjectFits, TableFits, ThreadFits, UntypedFits}
 
 -- ---- lists
@@ -139,7 +141,11 @@ frame-fits h least f is =
     let a = and_parts _ _ is in
     let b = and_parts _ _ a.1 in
     let d = and_parts _ _ b.1 in
-    record { root = below-of h.objects f.root a.0; frame = below-of h.objects f.frame d.0 }
+    record {
+      root = below-of h.objects f.root a.0;
+      frame = below-of h.objects f.frame d.0;
+      address = (field-parts (λ address. nat_le least (pair_key f.root address)) f.address b.0).0;
+    }
 
 content-fits : (h : ImageHeader) (least : ℕ) (c : ImageContent) → (content_format h.objects least).fits c ≡ true → ContentFits h c
 unfolding content_format
@@ -198,6 +204,7 @@ limited image is =
     let g = and_parts _ _ f.1 in
     let h = image.header in
     let contents = list-fits (ContentFits h) (content_format h.objects) (λ c. c.header.frame + 1) (content-fits h) 0 h.contents image.contents g.1 in
+    let fitting = is-fitting image is in
     let threads = list-fits (ThreadFits h) (λ _. thread_format (slots_format h.objects) h.objects) (λ _. 0) (thread-fits h) 0 h.threads image.threads whole.1 in
     record {
       header = header-small h a.0;
@@ -207,6 +214,7 @@ limited image is =
       interrupts = section-fits (InterruptFits h) (interrupt_format h.objects) (λ x. x.line + 1) (interrupt-fits h) 0 h.interrupts image.interrupts e.0;
       tables = section-fits (TableFits h) (table_format h.objects) (λ x. pair_key x.root x.address + 1) (table-fits h) 0 h.tables image.tables f.0;
       frames = section-fits (FrameFits h) (frame_format h.objects) (λ x. pair_key x.root x.address + 1) (frame-fits h) 0 h.frames image.frames g.0;
+      pages_rise = fitting.pages_rise;
       contents = contents.0;
       content_count = contents.1;
       threads = threads.0;

@@ -1,5 +1,6 @@
 pub mod Calls
 pub mod FillLemmas
+pub mod FrameSearches
 pub mod Fitting
 pub mod Order
 pub mod PlaceLemmas

@@ -1,4 +1,4 @@
-//! Loading a whole image into a new machine.
+//! Loading a whole image into a new machine, verified or not.
 
 ghost use Rattle.std.specs.Prelude.{◌≡◌, ◌+◌, ◌^◌, ◌≤◌, ◌⊎◌, IfOk, IfErr, Ok, Err, map};
 ghost use Rattle.kernel.specs.Setups.{state_in};
@@ -7,7 +7,7 @@ ghost use Rattle.loader.specs.Limits.{IsLimited};
 ghost use Rattle.loader.specs.Loading.{Leaves, all_performed, called, performed, placed, progress_of};
 ghost use Rattle.model.specs.Images.Boot.{booted};
 ghost use Rattle.model.specs.Images.BootCalls.{PutsControl, PutsUntyped, first_calls, last_calls, operations};
-ghost use Rattle.model.specs.Images.Described.{numbered};
+ghost use Rattle.model.specs.Images.Described.{described, numbered};
 ghost use Rattle.model.specs.Images.Places.{control_slot};
 ghost use Rattle.model.specs.declared.boot_faults.BootFault.TheVariants.{OutOfMemory};
 ghost use Rattle.model.specs.Kernel.Setup.{put_untyped};
@@ -19,7 +19,8 @@ use crate::untyped_places::misplaced;
 use image::ImageRef;
 use kernel::{Setup, System};
 use model::{BootFault, ImageHeader, UntypedEntry};
-use std::alloc::Global;
+use std::alloc::{AllocError, Global};
+use verify::Accepted;
 
 /// Loads an image into a new machine by kernel calls alone. Nothing is left of a machine that could not be loaded.
 ///
@@ -41,6 +42,19 @@ pub fn boot_unverified(alloc: Global, image: &ImageRef<'_>) -> Result<System, Bo
     let mut loader = Loader { setup, calls: 0 };
     loader.load(image, &places)?;
     Ok(loader.setup.start())
+}
+
+/// Boots an accepted image into the state that it describes. Only memory can be wanting: no call fails, and nothing lies outside.
+///
+/// seL4 Reference Manual, "System Bootstrapping".
+pub fn boot(alloc: Global, accepted: &Accepted<'_>) -> Result<System, AllocError>
+    ensures { IfOk result (λ system. state_in system ≡ described accepted.now) }
+{
+    match boot_unverified(alloc, accepted.image()) {
+        Ok(system) => Ok(system),
+        Err(BootFault::OutOfMemory) => Err(AllocError),
+        Err(_) => unreachable!(),
+    }
 }
 
 /// The header of an image. What is read keeps to its limits.

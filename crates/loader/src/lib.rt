@@ -11,4 +11,4 @@ mod object_places;
 mod programs;
 mod untyped_places;
 
-pub use boot::boot_unverified;
+pub use boot::{boot, boot_unverified};

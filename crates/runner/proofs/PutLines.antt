@@ -7,8 +7,8 @@ use Rattle.std.proofs.lemmas.List.{append-nil}
 use Rattle.model.specs.declared.events.Event.{Event}
 use Rattle.model.specs.declared.labels.Label.{Label}
 use Rattle.runner.specs.Running.{Failed, PutsFront, ended, lines_of}
-use Rattle.runner.specs.Sinks.{Grows, GrowsByBeginning, one_more}
-use Rattle.runner.proofs.SinkLemmas.{Grows-then}
+use Rattle.sinks.specs.Sinks.{Grows, GrowsByBeginning, one_more}
+use Rattle.sinks.proofs.SinkLemmas.{Grows-then}
 
 -- ---- beginnings
 
