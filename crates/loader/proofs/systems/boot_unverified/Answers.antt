@@ -5,7 +5,7 @@ use Rattle.kernel.specs.Setups.{state_in}
 use Rattle.model.specs.Images.Boot.{misplaced}
 use Rattle.model.specs.Kernel.Setup.{boot_area}
 use Rattle.loader.proofs.Order.{booted-misplaced, booted-runs, state_after}
-use Rattle.loader.proofs.boot.boot_unverified.Goals as goal
+use Rattle.loader.proofs.systems.boot_unverified.Goals as goal
 
 pub returns-in-Some-clause-fault : goal.returns-in-Some-clause-fault
 returns-in-Some-clause-fault c = inr (booted-misplaced c.args.image.now c.in-Some.number (sym c.misplaced.ensures ∙ c.in-Some.is))
