@@ -204,7 +204,7 @@ module _ (image : Image) (fitting : IsFitting image) (formed : AreFormed image) 
   states-sound : IsSound (states 0) → (k : ℕ) → k ≤ image.header.untypeds → IsSound (states k)
   states-sound sound zero less = sound
   states-sound sound (suc k) less =
-      put_untyped-whole (states k) (states (suc k)) k (untyped_at image k).offset (untyped_at image k).bits (states-sound sound k (omega (arith, less))) (λ place. refl) (put-here k less)
+      put_untyped-whole (states k) (states (suc k)) k (untyped_at image k).offset (untyped_at image k).bits (states-sound sound k (omega (arith, less))) (put-here k less)
 
   pub puts-sound : IsSound (boot_area image.header.memory_bits image.header.boot_radix) → IsSound (loaded image nothing_loaded)
   puts-sound sound =
