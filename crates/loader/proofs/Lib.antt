@@ -1,3 +1,4 @@
+pub mod AcceptedBoots
 pub mod Calls
 pub mod FillLemmas
 pub mod FrameSearches

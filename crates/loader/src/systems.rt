@@ -52,8 +52,10 @@ pub fn boot(alloc: Global, accepted: &Accepted<'_>) -> Result<System, AllocError
 {
     match boot_unverified(alloc, accepted.image()) {
         Ok(system) => Ok(system),
-        Err(BootFault::OutOfMemory) => Err(AllocError),
-        Err(_) => unreachable!(),
+        Err(fault) => match fault {
+            BootFault::OutOfMemory => Err(AllocError),
+            _ => unreachable!(),
+        },
     }
 }
 

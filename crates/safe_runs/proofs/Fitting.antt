@@ -1,13 +1,10 @@
 -- What the format of a thread gives to who runs it.
-use Rattle.std.proofs.Common.{◌≡◌, ◌≢◌, ℕ, zero, suc, ◌+◌, ◌^◌, ◌<◌, ◌≤◌, ◌&&◌, Bool, true, false, leb, ltb, List, [], ◌∷◌, length, slice_index, refl, arith}
-use Rattle.std.specs.Prelude.{All}
+use Rattle.std.proofs.Common.{◌≡◌, ℕ, zero, suc, ◌^◌, ◌<◌, ◌≤◌, ◌&&◌, Bool, true, false, leb, ltb, List, [], ◌∷◌, slice_index, arith}
 use Rattle.std.proofs.lemmas.Bool.{and_parts, leb-true, ltb-true}
-use Rattle.std.proofs.lemmas.List.Elements.{All-cons, All-nil}
-use Rattle.model.specs.declared.entries.RegisterEntry.{RegisterEntry}
 use Rattle.model.specs.declared.entries.ThreadHeader.{ThreadHeader}
 use Rattle.std.specs.Int.{w64}
 use Rattle.model.specs.Images.Format.{IsSpelling, field, many_fit, number}
-use Rattle.model.specs.Images.Image.{Thread, anything, below, between, register_format, registers_format, thread_format, thread_header_format, whole_image, words_format}
+use Rattle.model.specs.Images.Image.{Thread, anything, below, between, thread_format, thread_header_format, whole_image, words_format}
 use Rattle.programs.specs.Stage.{staged_image}
 use Rattle.programs.proofs.StagedFits.{parts_fit, slots, thread_fits}
 

@@ -1,19 +1,18 @@
 -- The bytes that an image of the form describes: its program at the code page, and 0 elsewhere in its two frames.
-use Rattle.std.proofs.Common.{◌≡◌, ℕ, ◌+◌, ◌-◌, ◌*◌, ◌/◌, ◌<◌, ◌≤◌, Bool, true, false, ◌||◌, List, [], ◌∷◌, ◌++◌, length, take, min, slice_index, Option, Some, None, refl, sym, ap, subst, ◌∙◌, arith, inl, inr, length-append}
+use Rattle.std.proofs.Common.{◌≡◌, ℕ, ◌+◌, ◌-◌, ◌*◌, ◌/◌, ◌<◌, ◌≤◌, Bool, true, false, ◌||◌, List, [], ◌++◌, length, take, min, slice_index, Option, Some, None, refl, sym, ap, ◌∙◌, arith, inl, inr}
 use Rattle.std.specs.Prelude.{filter_map, if◌then◌else◌, map}
 use Rattle.std.specs.List.{range_with_len}
 use Rattle.std.specs.Option.{option_map_or}
-use Rattle.std.proofs.lemmas.Bool.{cases_lt, le-leb, le-ltb, lt-leb, lt-ltb}
+use Rattle.std.proofs.lemmas.Bool.{cases_lt, le-leb, le-ltb, lt-ltb}
 use Rattle.std.proofs.lemmas.List.{get_or-take, get_or_past, length-take}
 use Rattle.std.proofs.Math.Nat.{mul-div-le}
 use Rattle.model.specs.Kernel.AddressSpaces.{page_size}
-use Rattle.model.specs.Shared.Bytes.{word_bytes}
 use Rattle.model.specs.Images.Described.{described}
 use Rattle.model.specs.Images.Fills.{Fill, bytes_of, described_bytes, filled_byte, fills, is_filled, page_fill}
 use Rattle.model.specs.Images.Image.{Thread}
 use Rattle.model.specs.Images.Places.{offset_of, used_by}
 use Rattle.model.specs.Capabilities.Slots.{is_within}
-use Rattle.programs.specs.Certificates.{IsOfForm, numbered_thread}
+use Rattle.programs.specs.Certificates.{numbered_thread}
 use Rattle.programs.specs.Stage.{staged_image}
 
 -- a place stands in one of the two frames

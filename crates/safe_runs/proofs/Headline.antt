@@ -1,5 +1,5 @@
 -- What is accepted, of the one form, runs safely: its trace is that of the machine, whose thread keeps the rules.
-use Rattle.std.proofs.Common.{◌≡◌, ◌∙◌, inl, inr, ℕ, zero, suc, ◌<◌, List, Option, Some, None, refl, sym, ap, subst, arith, true, false}
+use Rattle.std.proofs.Common.{◌≡◌, ◌∙◌, inl, inr, ℕ, zero, suc, ◌<◌, List, Option, Some, None, refl, sym, subst, arith, true, false}
 use Rattle.std.specs.Prelude.{All, Contains}
 use Rattle.std.proofs.lemmas.Bool.{cases_lt}
 use Rattle.model.specs.declared.events.Event.{Event}
@@ -7,10 +7,8 @@ use Rattle.model.specs.declared.labels.Label.{Label}
 use Rattle.model.specs.declared.refusals.Refusal.{Refusal}
 use Rattle.model.specs.declared.refusals.Refusal.TheVariants.{BadThread}
 use Rattle.model.specs.Acceptance.Accepted.{IsAccepted}
-use Rattle.model.specs.Images.Described.{described}
 use Rattle.model.specs.Images.Image.{Image, Thread}
 use Rattle.model.specs.Images.Places.{offset_of, used_by}
-use Rattle.model.specs.Kernel.Steps.{trace}
 use Rattle.model.specs.Kernel.Waits.{KeepsBudget, is_error, is_fault}
 use Rattle.programs.specs.Certificates.{IsOfForm, IsPlain, numbered_thread}
 use Rattle.programs.specs.Programs.{IsKept}

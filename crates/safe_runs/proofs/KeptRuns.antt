@@ -15,7 +15,7 @@ use Rattle.model.specs.declared.labels.Label.TheVariants.{Idle, Ticked, Raised, 
 use Rattle.model.specs.declared.labels.Outcome.TheVariants.{Waited, Plain}
 use Rattle.model.specs.Images.Image.{Thread}
 use Rattle.model.specs.Machine.Decoding.{decoded}
-use Rattle.model.specs.Machine.ProgramMemory.{RegisterFile, loaded, read, write}
+use Rattle.model.specs.Machine.ProgramMemory.{loaded, read, write}
 use Rattle.model.specs.Machine.Effects.{Effect, advanced, effect}
 use Rattle.model.specs.Kernel.Messages.{a0, a7}
 use Rattle.model.specs.Acceptance.PointStates.{instruction_at}

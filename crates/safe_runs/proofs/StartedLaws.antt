@@ -1,15 +1,14 @@
 -- The machine that starts stands for the state that its image describes.
-use Rattle.std.proofs.Common.{◌≡◌, ℕ, Bool, true, false, ◌&&◌, eqb, List, [], ◌∷◌, Option, Some, None, refl, sym, ap, subst, ◌∙◌, inl, inr}
+use Rattle.std.proofs.Common.{◌≡◌, ℕ, Bool, true, false, ◌&&◌, eqb, [], ◌∷◌, Option, Some, None, refl, sym, ap, subst, ◌∙◌, inl, inr}
 use Rattle.std.specs.Prelude.{if◌then◌else◌, ◌==◌, option_map}
 use Rattle.std.specs.Option.{option_map_or}
 use Rattle.std.proofs.lemmas.Bool.{cases_eq, eq-eqb, ne_eqb}
 use Rattle.model.specs.Images.Described.{described, listed_thread}
 use Rattle.model.specs.Images.Image.{Thread}
-use Rattle.model.specs.Machine.ProgramMemory.{RegisterFile}
 use Rattle.model.specs.Kernel.State.{NotificationObject, Object, ThreadObject, ThreadState}
 use Rattle.programs.specs.Certificates.{IsOfForm, numbered_thread}
 use Rattle.programs.specs.Stage.{staged_image}
-use Rattle.safe_runs.proofs.FormMachine.{started, is_ready, Machine, notification, notification_of, object_of, Ready, state_of, Status, status_of, tcb, thread_of, waiters_of}
+use Rattle.safe_runs.proofs.FormMachine.{started, Machine, notification, notification_of, object_of, state_of, tcb, thread_of}
 use Rattle.safe_runs.proofs.FormStates.{form_state, notification_there, ready_there, thread_there}
 
 abbrev thread_object : ThreadState → Option Object
