@@ -7,8 +7,8 @@ mod fills;
 mod loading;
 mod object_kinds;
 mod object_places;
-mod programs;
 mod systems;
+mod thread_starts;
 mod untyped_places;
 
 pub use systems::{boot, boot_unverified};

@@ -1,4 +1,4 @@
-//! Programs, page by page in the frames that an image maps for them.
+//! Where threads begin.
 
 ghost use Rattle.std.specs.Prelude.{◌≡◌, ◌+◌, ◌*◌, ◌%◌, ◌^◌};
 
