@@ -47,15 +47,6 @@ pub record ArePut (labels : List Label) (old : Option (List ℕ)) (rest : List L
   pub whole : lines_of labels ≡ printed ++ (held ++ lines_of rest)
   pub grown : Grows old new printed
 
-grows-none : (old : Option (List ℕ)) → Grows old old []
-grows-none None = tt
-grows-none (Some xs) = sym (append-nil xs)
-
-pub none_put : (labels : List Label) (old : Option (List ℕ)) (held : List ℕ) → held ≡ [] → ArePut labels old labels held old
-none_put labels old held none =
-    let empty : lines_of labels ≡ held ++ lines_of labels = sym (ap (λ (t : List ℕ). t ++ lines_of labels) none) in
-    record { printed = []; whole = empty; grown = grows-none old }
-
 lines-step : (label : Label) (rest : List Label) → lines_of (label ∷ rest) ≡ ended label ++ lines_of rest
 unfolding lines_of
 lines-step label rest = refl
