@@ -1,7 +1,6 @@
 -- What is accepted boots into the state that it describes, and from there its trace is safe.
-use Rattle.std.proofs.Common.{◌≡◌, List, subst}
+use Rattle.std.proofs.Common.{subst}
 use Rattle.std.proofs.lemmas.Result.{err_from_is_err_and}
-use Rattle.kernel.specs.Setups.{state_in}
 use Rattle.model.specs.Kernel.State.{State}
 use Rattle.model.specs.Kernel.Steps.{trace}
 use Rattle.runner.specs.Running.{lines_of}
