@@ -1,5 +1,7 @@
+pub mod AcceptedBoots
 pub mod Calls
 pub mod FillLemmas
+pub mod FrameSearches
 pub mod Fitting
 pub mod Order
 pub mod PlaceLemmas

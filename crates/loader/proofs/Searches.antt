@@ -1,10 +1,9 @@
 -- Searches over a list from a place on.
-use Rattle.std.proofs.Common.{◌≡◌, ◌∙◌, ℕ, ◌+◌, ◌≤◌, ◌==◌, ◌&&◌, Bool, true, false, cond, Option, Some, None, List, ◌∷◌, length, drop, ap}
+use Rattle.std.proofs.Common.{◌≡◌, ◌∙◌, ℕ, ◌+◌, ◌≤◌, Bool, true, false, cond, Option, Some, None, List, ◌∷◌, length, drop, ap}
 use Rattle.std.specs.Prelude.{find, if◌then◌else◌, slice_get}
 use Rattle.std.specs.Option.{option_map_or}
 use Rattle.std.specs.List.{enumerate_from}
 use Rattle.std.proofs.lemmas.List.{drop_all}
-use Rattle.model.specs.declared.entries.FrameEntry.{FrameEntry}
 use Rattle.model.specs.declared.entries.UntypedEntry.{UntypedEntry}
 use Rattle.model.specs.Acceptance.WellFormed.{overlaps, too_few_boot_slots}
 use Rattle.model.specs.Images.Boot.{misplaced}
@@ -16,14 +15,6 @@ find-here test xs behind x parts is = ap (find test) parts ∙ ap (λ (b : Bool)
 
 pub find-later : {A : Type 0} (test : A → Bool) (xs behind : List A) (x : A) → xs ≡ x ∷ behind → test x ≡ false → find test xs ≡ find test behind
 find-later test xs behind x parts is = ap (find test) parts ∙ ap (λ (b : Bool). cond b (Some x) (find test behind)) is
-
-pub frame-here : (root address : ℕ) (xs : List FrameEntry) (n : ℕ) (x : FrameEntry) → slice_get xs n ≡ Some x → (x.root == root && x.address == address) ≡ true
-    → find (λ f. f.root == root && f.address == address) (drop n xs) ≡ Some x
-frame-here root address xs n x at is = find-here (λ f. f.root == root && f.address == address) (drop n xs) (drop (n + 1) xs) x (rest-next xs n x at) is
-
-pub frame-later : (root address : ℕ) (xs : List FrameEntry) (n : ℕ) (x : FrameEntry) → slice_get xs n ≡ Some x → (x.root == root && x.address == address) ≡ false
-    → find (λ f. f.root == root && f.address == address) (drop n xs) ≡ find (λ f. f.root == root && f.address == address) (drop (n + 1) xs)
-frame-later root address xs n x at is = find-later (λ f. f.root == root && f.address == address) (drop n xs) (drop (n + 1) xs) x (rest-next xs n x at) is
 
 -- ---- the first untyped that is misplaced
 

@@ -1,5 +1,5 @@
 -- The limits of an image that keeps to its format: how many entries there are, and that what they name is there.
-use Rattle.std.specs.Prelude.{ℕ, ◌≡◌, ◌+◌, ◌≤◌, ◌<◌, Some, List, length, slice_get}
+use Rattle.std.specs.Prelude.{ℕ, ◌≡◌, ◌+◌, ◌^◌, ◌≤◌, ◌<◌, Some, List, length, slice_get}
 use Rattle.std.specs.List.{AllByRecursion}
 use Rattle.model.specs.declared.entries.CapabilityEntry.{CapabilityEntry}
 use Rattle.model.specs.declared.entries.FrameEntry.{FrameEntry}
@@ -8,7 +8,7 @@ use Rattle.model.specs.declared.entries.InterruptEntry.{InterruptEntry}
 use Rattle.model.specs.declared.entries.ObjectEntry.{ObjectEntry}
 use Rattle.model.specs.declared.entries.TableEntry.{TableEntry}
 use Rattle.model.specs.declared.entries.UntypedEntry.{UntypedEntry}
-use Rattle.model.specs.Images.Image.{Image, ImageContent, Thread}
+use Rattle.model.specs.Images.Image.{Image, ImageContent, Thread, pair_key}
 
 -- how many entries there are at most
 pub record IsSmall (h : ImageHeader) : Type 0 where
@@ -54,6 +54,12 @@ pub record TableFits (h : ImageHeader) (t : TableEntry) : Type 0 where
 pub record FrameFits (h : ImageHeader) (f : FrameEntry) : Type 0 where
   pub root : f.root < h.objects
   pub frame : f.frame < h.objects
+  pub address : f.address < 2 ^ 32
+
+-- each frame has a higher key than those before it
+abbrev pub DoFramesRise : List FrameEntry → Type 0
+DoFramesRise frames = (i j : ℕ) (a b : FrameEntry) → i < j → slice_get frames i ≡ Some a → slice_get frames j ≡ Some b
+    → pair_key a.root a.address < pair_key b.root b.address
 
 pub record ContentFits (h : ImageHeader) (c : ImageContent) : Type 0 where
   pub frame : c.header.frame < h.objects
@@ -76,6 +82,8 @@ pub record IsLimited (image : Image) : Type 0 where
   pub interrupts : HasSection image.header.interrupts (InterruptFits image.header) image.interrupts
   pub tables : HasSection image.header.tables (TableFits image.header) image.tables
   pub frames : HasSection image.header.frames (FrameFits image.header) image.frames
+  -- frames rise by root table and address
+  pub pages_rise : DoFramesRise image.frames
   pub contents : AllByRecursion (ContentFits image.header) image.contents
   pub content_count : length image.contents ≡ image.header.contents
   pub threads : AllByRecursion (ThreadFits image.header) image.threads

@@ -1,6 +1,6 @@
 //! Frames that begin with what an image lists, and with programs, page by page.
 
-ghost use Rattle.std.specs.Prelude.{◌≡◌, ◌==◌, ◌&&◌, ◌+◌, ◌*◌, ◌%◌, ◌^◌, ◌<◌, ◌≤◌, IfSome, None, true, false, drop, map, take};
+ghost use Rattle.std.specs.Prelude.{◌≡◌, ◌+◌, ◌*◌, ◌%◌, ◌^◌, ◌<◌, ◌≤◌, IfSome, None, true, false, drop, map, take};
 ghost use Rattle.kernel.specs.Setups.{state_in};
 ghost use Rattle.loader.specs.Filling.{ArePlaces, page_filled, pages_filled};
 ghost use Rattle.loader.specs.Limits.{ContentFits, IsLimited, ThreadFits};
@@ -8,6 +8,7 @@ ghost use Rattle.loader.specs.Loading.{Leaves, all_performed, performed, placed,
 ghost use Rattle.model.specs.Images.BootCalls.{content_operation, program_operation};
 ghost use Rattle.model.specs.Images.Described.{numbered_threads};
 ghost use Rattle.model.specs.Images.Fills.{frame_at, program_pages};
+ghost use Rattle.model.specs.Images.Image.{pair_key};
 ghost use Rattle.model.specs.Kernel.AddressSpaces.{page_size};
 ghost use Rattle.model.specs.Kernel.Setup.{fill};
 
@@ -171,27 +172,48 @@ impl Loader {
     }
 }
 
-/// The frame that the image maps at an address under a root table. This looks at one frame after another for each page of a
-/// program, of which an image has at most 64 * 64.
+/// The frame that the image maps at an address under a root table.
 fn frame_at(image: &ImageRef<'_>, root: u32, address: u64) -> Option<FrameEntry>
     requires { IsLimited image.now }
     ensures value { result ≡ frame_at image.now root address }
     ensures named { IfSome result (λ f. f.frame < image.now.header.objects) }
 {
-    for number in 0..image.header().frames {
-        let entry = image.frame(number);
-        if is_at(entry, root, address) {
+    match u32::try_from(address) {
+        Ok(address) => frame_under(image, root, address),
+        Err(_) => None,
+    }
+}
+
+/// The same of an address that a frame can have. Frames rise by root table and address, so it halves those that are left.
+fn frame_under(image: &ImageRef<'_>, root: u32, address: u32) -> Option<FrameEntry>
+    requires { IsLimited image.now }
+    ensures value { result ≡ frame_at image.now root address }
+    ensures named { IfSome result (λ f. f.frame < image.now.header.objects) }
+{
+    let key = pair_key(root, address);
+    let mut low = 0;
+    let mut high = image.header().frames;
+    while low < high {
+        let middle = low + (high - low) / 2;
+        let entry = image.frame(middle);
+        let here = pair_key(entry.root, entry.address);
+        if here == key {
             return Some(entry);
+        }
+        if here < key {
+            low = middle + 1;
+        } else {
+            high = middle;
         }
     }
     None
 }
 
-/// Whether a frame is mapped at an address under a root table.
-fn is_at(entry: FrameEntry, root: u32, address: u64) -> bool
-    ensures { result ≡ (entry.root == root && entry.address == address) }
+/// The key by which frames rise.
+fn pair_key(root: u32, address: u32) -> u64
+    ensures { result ≡ pair_key root address }
 {
-    entry.root == root && u64::from(entry.address) == address
+    u64::from(root) * (1 << 32) + u64::from(address)
 }
 
 /// The part of a program that stands in a page.

@@ -2,13 +2,13 @@
 //! seL4 Reference Manual, "System Bootstrapping".
 #![tactic(auto)]
 
-mod boot;
 mod boot_slots;
 mod fills;
 mod loading;
 mod object_kinds;
 mod object_places;
-mod programs;
+mod systems;
+mod thread_starts;
 mod untyped_places;
 
-pub use boot::boot_unverified;
+pub use systems::{boot, boot_unverified};

@@ -1,5 +1,5 @@
 -- Putting the lines of a trace, one after another.
-use Rattle.std.proofs.Common.{◌≡◌, ◌∙◌, inl, inr, ℕ, zero, suc, ◌+◌, ◌-◌, ◌<◌, ◌^◌, List, [], ◌∷◌, ◌++◌, length, take, drop, Option, Some, None, Result, Ok, Err, refl, sym, ap, subst, append_assoc, arith}
+use Rattle.std.proofs.Common.{◌≡◌, ◌∙◌, inl, inr, ℕ, zero, suc, ◌+◌, ◌-◌, ◌<◌, ◌^◌, List, [], ◌∷◌, ◌++◌, length, take, drop, Option, Result, Ok, Err, refl, sym, ap, subst, append_assoc, arith}
 use Rattle.std.specs.Prelude.{OnErr, min, slice_index_or}
 use Rattle.std.proofs.Math.Nat.{min-eq_left, min-eq_right}
 use Rattle.std.proofs.lemmas.Bool.{cases_lt}
@@ -7,8 +7,8 @@ use Rattle.std.proofs.lemmas.List.{append-nil}
 use Rattle.model.specs.declared.events.Event.{Event}
 use Rattle.model.specs.declared.labels.Label.{Label}
 use Rattle.runner.specs.Running.{Failed, PutsFront, ended, lines_of}
-use Rattle.runner.specs.Sinks.{Grows, GrowsByBeginning, one_more}
-use Rattle.runner.proofs.SinkLemmas.{Grows-then}
+use Rattle.sinks.specs.Sinks.{Grows, GrowsByBeginning, one_more}
+use Rattle.sinks.proofs.SinkLemmas.{Grows-then}
 
 -- ---- beginnings
 
@@ -46,15 +46,6 @@ pub record ArePut (labels : List Label) (old : Option (List ℕ)) (rest : List L
   pub printed : List ℕ
   pub whole : lines_of labels ≡ printed ++ (held ++ lines_of rest)
   pub grown : Grows old new printed
-
-grows-none : (old : Option (List ℕ)) → Grows old old []
-grows-none None = tt
-grows-none (Some xs) = sym (append-nil xs)
-
-pub none_put : (labels : List Label) (old : Option (List ℕ)) (held : List ℕ) → held ≡ [] → ArePut labels old labels held old
-none_put labels old held none =
-    let empty : lines_of labels ≡ held ++ lines_of labels = sym (ap (λ (t : List ℕ). t ++ lines_of labels) none) in
-    record { printed = []; whole = empty; grown = grows-none old }
 
 lines-step : (label : Label) (rest : List Label) → lines_of (label ∷ rest) ≡ ended label ++ lines_of rest
 unfolding lines_of

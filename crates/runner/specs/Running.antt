@@ -1,19 +1,15 @@
 -- What a run answers, and what it puts.
-use Rattle.std.specs.Prelude.{ℕ, ◌≡◌, ◌<◌, ◌⊎◌, ◌-◌, ◌^◌, ◌++◌, false, All, Contains, List, [], ◌∷◌, flat_map, Option}
+use Rattle.std.specs.Prelude.{ℕ, ◌≡◌, ◌<◌, ◌⊎◌, ◌-◌, ◌^◌, ◌++◌, List, [], ◌∷◌, flat_map, Option}
 use Rattle.model.specs.declared.boot_faults.BootFault.{BootFault}
 use Rattle.model.specs.declared.boot_faults.BootFault.TheVariants as boot_faults
 use Rattle.model.specs.declared.events.Event.{Event}
 use Rattle.model.specs.declared.labels.Label.{Label}
 use Rattle.model.specs.declared.refusals.Refusal.{Refusal}
 use Rattle.model.specs.declared.refusals.Refusal.TheVariants as refusals
-use Rattle.model.specs.Acceptance.Accepted.{IsAccepted}
-use Rattle.model.specs.Images.Described.{described}
-use Rattle.model.specs.Images.Image.{Image, Thread}
-use Rattle.model.specs.Images.Places.{offset_of}
-use Rattle.model.specs.Kernel.Steps.{trace}
+use Rattle.model.specs.Images.Image.{Image}
 use Rattle.model.specs.Shared.Trace.{line_of}
-use Rattle.model.specs.Kernel.Waits.{KeepsBudget, is_error, is_fault}
-use Rattle.runner.specs.Sinks.{Grows, GrowsByBeginning}
+use Rattle.safe_runs.specs.SafeRuns.{IsSafeRun, trace_of}
+use Rattle.sinks.specs.Sinks.{Grows, GrowsByBeginning}
 use Rattle.runner.specs.declared.running.RunFault.{RunFault}
 use Rattle.runner.specs.declared.running.RunFault.TheVariants.{Boot, Refused, OutOfMemory}
 
@@ -46,18 +42,6 @@ abbrev pub Failed : ℕ → ℕ → Type 0
 Failed old new = (old < new) ⊎ (new ≡ 2 ^ 64 - 1)
 
 -- ---- the promise
-
--- what the kernel does over events, from the state that an image describes
-abbrev pub trace_of : Image → List Event → List Label
-trace_of image events = trace (described image) events
-
--- The bytes are an accepted image; over the events no line of the kernel's trace is a fault or an error, and no stretch of
--- a thread is longer than its budget.
-pub record IsSafeRun (bytes : List ℕ) (image : Image) (events : List Event) : Type 0 where
-  pub accepted : IsAccepted bytes image
-  pub faults : All (λ label. is_fault label ≡ false) (trace_of image events)
-  pub errors : All (λ label. is_error label ≡ false) (trace_of image events)
-  pub budgets : (t : Thread) → Contains image.threads t → KeepsBudget (offset_of image t.header.tcb) t.header.budget (trace_of image events)
 
 -- the run is safe, and put all of its lines
 abbrev pub PutsAll : List ℕ → List Event → Option (List ℕ) → Option (List ℕ) → Type 0

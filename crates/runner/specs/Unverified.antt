@@ -8,7 +8,7 @@ use Rattle.model.specs.Images.Image.{Image, whole_image}
 use Rattle.model.specs.Kernel.State.{State}
 use Rattle.model.specs.Kernel.Steps.{trace}
 use Rattle.runner.specs.Running.{lines_of}
-use Rattle.runner.specs.Sinks.{Grows, GrowsByBeginning}
+use Rattle.sinks.specs.Sinks.{Grows, GrowsByBeginning}
 
 -- the bytes spell an image that boots into this state
 pub record BootsInto (bytes : List ℕ) (start : State) : Type 0 where

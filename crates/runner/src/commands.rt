@@ -3,17 +3,16 @@
 ghost use Rattle.std.specs.Prelude.{ℕ, ◌≡◌, ◌≢◌};
 ghost use Rattle.command_line.specs.declared.requests.WordsFault.{WordsFault};
 ghost use Rattle.runner.specs.declared.commands.Failure.{Failure};
-ghost use Rattle.runner.specs.declared.event_lists.EventsFault.{EventsFault};
+ghost use Rattle.sinks.specs.declared.event_lists.EventsFault.{EventsFault};
 ghost use Rattle.runner.specs.declared.running.RunFault.{RunFault};
 ghost use Rattle.model.specs.declared.boot_faults.BootFault.{BootFault};
 ghost use Rattle.model.specs.declared.refusals.Refusal.{Refusal};
 
-use crate::event_lists::{EventsFault, events};
 use crate::running::{RunFault, run};
-use crate::sinks::{Sink, SinkFault, put_all};
 use crate::unverified::run_unverified;
 use command_line::{Request, WordsFault, parse};
 use model::{BootFault, Refusal};
+use sinks::{EventsFault, Sink, SinkFault, events, put_all};
 use std::alloc::{AllocError, Global};
 use std::convert::AsStr;
 use std::rt::{Env, Files};

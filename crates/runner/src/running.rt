@@ -7,14 +7,12 @@ ghost use Rattle.model.specs.declared.boot_faults.BootFault.{BootFault};
 ghost use Rattle.model.specs.declared.refusals.Refusal.{Refusal};
 ghost use Rattle.verify.specs.Refusing.{IsRefused};
 ghost use Rattle.runner.specs.declared.running.RunFault.TheVariants.{Output, OutOfMemory};
-ghost use Rattle.runner.specs.Machine.{machine_of, machine_trace};
-ghost use Rattle.runner.specs.Running.{Failed, PutsAll, PutsSome, boot_fault_of, fault_of, lines_of};
-ghost use Rattle.runner.specs.Sinks.{Grows, GrowsByBeginning};
+ghost use Rattle.runner.specs.Running.{Failed, PutsAll, PutsSome, boot_fault_of, fault_of};
 
-use crate::machine::{System, boot};
-use crate::sinks::{Sink, SinkFault, put_all};
-use crate::traces::{Piece, make_room, push_line};
+use crate::traces::put_trace;
+use loader::boot;
 use model::{BootFault, Event, Refusal};
+use sinks::{Sink, SinkFault};
 use std::alloc::{AllocError, Global};
 use thiserror::Error;
 use verify::verify;
@@ -102,20 +100,5 @@ pub fn run<S: Sink>(
     let accepted = verify(alloc, bytes)?;
     let mut system = boot(alloc, &accepted)?;
     put_trace(&mut system, events, sink)?;
-    Ok(())
-}
-
-/// Puts the lines of all events, as many at once as a piece holds.
-fn put_trace<S: Sink>(system: &mut System, events: &[Event], sink: &mut S) -> Result<(), SinkFault>
-    ensures ok { OnOk result (Grows (S.contents sink.old) (S.contents sink.new) (lines_of (machine_trace (machine_of system.old) events.now))) }
-    ensures err { OnErr result (GrowsByBeginning (S.contents sink.old) (S.contents sink.new) (lines_of (machine_trace (machine_of system.old) events.now))) }
-    ensures failed { OnErr result (Failed (S.failures sink.old) (S.failures sink.new)) }
-{
-    let mut piece = Piece::new();
-    for event in events {
-        make_room(sink, &mut piece)?;
-        push_line(&mut piece, system.step(*event));
-    }
-    put_all(sink, piece.as_slice())?;
     Ok(())
 }

@@ -5,16 +5,16 @@ ghost use Rattle.arrayvec.specs.ArrayVec.{array_vec_len};
 ghost use Rattle.kernel.specs.Setups.{state_in};
 ghost use Rattle.model.specs.Kernel.Steps.{trace};
 ghost use Rattle.runner.specs.Running.{Failed, PutsFront, ended, lines_of};
-ghost use Rattle.runner.specs.Sinks.{Grows, GrowsByBeginning, one_more};
+ghost use Rattle.sinks.specs.Sinks.{Grows, GrowsByBeginning, one_more};
 
-use crate::sinks::{Sink, SinkFault, put_all};
 use arrayvec::ArrayVec;
 use kernel::System;
 use model::{Event, Label};
+use sinks::{Sink, SinkFault, put_all};
 use trace::line;
 
 /// Lines that wait to be put.
-pub(crate) type Piece = ArrayVec<u8, 8192>;
+type Piece = ArrayVec<u8, 8192>;
 
 /// How many bytes the longest line has, with its line feed.
 const LONGEST_LINE: usize = 33;
@@ -41,7 +41,7 @@ pub fn put_trace<S: Sink>(
 }
 
 /// Puts what the piece holds, if it has no room for another line.
-pub(crate) fn make_room<S: Sink>(sink: &mut S, piece: &mut Piece) -> Result<(), SinkFault>
+fn make_room<S: Sink>(sink: &mut S, piece: &mut Piece) -> Result<(), SinkFault>
     ensures ok { OnOk result (PutsFront (S.contents sink.old) (S.contents sink.new) piece.old.items piece.new.items) }
     ensures room { OnOk result (array_vec_len piece.new + 33 ≤ 8192) }
     ensures err { OnErr result (GrowsByBeginning (S.contents sink.old) (S.contents sink.new) piece.old.items) }
@@ -55,7 +55,7 @@ pub(crate) fn make_room<S: Sink>(sink: &mut S, piece: &mut Piece) -> Result<(), 
 }
 
 /// Appends the line of a label, with its line feed.
-pub(crate) fn push_line(piece: &mut Piece, label: Label)
+fn push_line(piece: &mut Piece, label: Label)
     requires { array_vec_len piece.old + 33 ≤ 8192 }
     ensures { piece.new.items ≡ piece.old.items ++ ended label }
 {

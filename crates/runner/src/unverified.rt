@@ -9,11 +9,11 @@ ghost use Rattle.runner.specs.Running.{Failed};
 ghost use Rattle.runner.specs.Unverified.{FailsToBoot, PutsTrace, PutsTraceBeginning};
 
 use crate::running::RunFault;
-use crate::sinks::Sink;
 use crate::traces::put_trace;
 use image::read;
 use loader::boot_unverified;
 use model::{BootFault, Event, Refusal};
+use sinks::Sink;
 use std::alloc::Global;
 
 /// Reads an image, boots it without verifying it, and puts one line for each event.

@@ -6,7 +6,7 @@ use Rattle.model.specs.declared.events.Event.{Event}
 use Rattle.model.specs.declared.events.Event.TheVariants.{Step}
 use Rattle.model.specs.Kernel.Steps.{trace}
 use Rattle.runner.specs.Running.{lines_of}
-use Rattle.runner.specs.Sinks.{Grows, GrowsByBeginning}
+use Rattle.sinks.specs.Sinks.{Grows, GrowsByBeginning}
 use Rattle.runner.proofs.KernelTraces.{next_label, no_label}
 use Rattle.runner.proofs.PutLines.{all_put, front_put, next_event, on_err, one_held, stopped}
 use Rattle.runner.proofs.traces.put_trace.Goals as goal
