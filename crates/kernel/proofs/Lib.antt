@@ -1,5 +1,6 @@
 pub mod Filled
 pub mod Fresh
+pub mod HeldSlots
 pub mod Roots
 pub mod Sizes
 pub mod Untypeds

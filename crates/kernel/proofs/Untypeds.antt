@@ -14,9 +14,6 @@ use Rattle.model.specs.Kernel.State.{State, boot_area_end, slot_numbers}
 use Rattle.model.specs.declared.capabilities.Cap.TheVariants.{Untyped}
 use Rattle.objects.specs.Tables.{Tables, state_of}
 
-pub boot-few : (s : State) → IsSound s → 2 ^ s.boot_radix ≤ 2 ^ 14
-boot-few s sound = pow_mono sound.shape.most_radix
-
 pub memory-few : (s : State) (memory : List ℕ) → IsSound s → Agrees s memory → length memory ≤ 2 ^ 24
 memory-few s memory sound agrees =
     let most : 2 ^ s.memory_bits ≤ 2 ^ 24 = pow_mono sound.shape.most_bits in

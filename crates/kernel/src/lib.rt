@@ -4,6 +4,7 @@
 
 mod boot_calls;
 mod fills;
+mod holders;
 mod machine;
 mod places;
 mod setup;

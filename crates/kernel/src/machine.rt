@@ -1,8 +1,8 @@
 //! All that the kernel keeps: slots and memory, and the tables of objects beside them.
 
-ghost use Rattle.std.specs.Prelude.{ℕ, ◌≡◌, ◌+◌, ◌^◌, ◌≤◌, IfOk, OnErr, Some, None, false, option_and_then, option_map};
+ghost use Rattle.std.specs.Prelude.{ℕ, ◌≡◌, ◌+◌, ◌^◌, ◌≤◌, IfOk, IfSome, OnErr, Some, None, false, option_and_then, option_map};
 ghost use Rattle.cnode_ops.specs.Outcomes.{GivesState};
-ghost use Rattle.kernel.specs.Setups.{GivesIf, register_in, slots_in, state_in};
+ghost use Rattle.kernel.specs.Setups.{GivesIf, IsPlace, register_in, seen_entry, slot_in, state_in};
 ghost use Rattle.model.specs.Capabilities.CapabilityWords.{IsCapability};
 ghost use Rattle.model.specs.Capabilities.Slots.{is_empty};
 ghost use Rattle.model.specs.Images.Boot.{made};
@@ -15,6 +15,7 @@ ghost use Rattle.vspace.specs.Agreement.{IsWithoutTables};
 
 use crate::boot_calls::make_call;
 use crate::fills::fill_frame;
+use crate::holders::{LINES, boot_slots, look_at};
 use crate::places::{is_free, may_be_untyped};
 use cnode_ops::Ends;
 use lifecycles::KernelObjects;
@@ -24,9 +25,6 @@ use rv32_exec::Regs;
 use slots::{PlainSlots, SlotMap, SlotStore};
 use std::alloc::{AllocError, Global};
 use std::marker::Model;
-
-/// How many interrupt lines there are, each with a slot behind those of the boot CNode.
-const LINES: u32 = 64;
 
 /// All that the kernel keeps, which is always whole: the state that it stands for is sound, and page tables and
 /// capabilities, slots and the bytes of frames agree. It is looked at by threads, slots and bytes.
@@ -74,14 +72,13 @@ impl Machine {
         })
     }
 
-    /// What an open slot holds, and the slot that it was derived from.
-    pub fn slot(&self, slot: Slot) -> Option<(Cap, Option<Slot>)>
-        ensures { result ≡ option_map (λ held. (held.capability, held.parent)) (slots_in self.now slot) }
+    /// What slot `index` of a holder holds, and the slot that it was derived from, as (holder, index). Holders are the boot
+    /// CNode at 0, the interrupt table behind it, CNodes and threads; all are named by their offsets.
+    pub fn slot(&self, holder: u32, index: u32) -> Option<(Cap, Option<(u32, u32)>)>
+        ensures held { option_map seen_entry result ≡ slot_in (state_in self.now) holder index }
+        ensures parent { IfSome result (λ seen. IfSome seen.1 (IsPlace (state_in self.now))) }
     {
-        if !self.store.is_open(slot) {
-            return None;
-        }
-        Some(self.store.get(slot))
+        look_at(&self.store, &self.kernel.objects, holder, index)
     }
 
     /// Puts untyped memory into an empty boot slot: 2^`bits` bytes from `offset` on, behind all that stands,
@@ -161,7 +158,7 @@ impl Machine {
         ensures value { result ≡ 2 ^ (state_in self.now).boot_radix }
         ensures most { result ≤ 2 ^ 14 }
     {
-        self.kernel.binding(0).number()
+        boot_slots(&self.kernel.objects)
     }
 
     /// Puts a capability without a parent into an empty boot slot, if it is one.

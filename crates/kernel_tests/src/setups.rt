@@ -1,11 +1,9 @@
 //! A system that is set up: its untyped memory, interrupt control, Delete and Revoke.
 //! Memory of 2^16 bytes with a boot CNode of 16 slots: the boot area ends at 0x500.
 
-ghost use Rattle.std.specs.Prelude.{◌<◌};
-
 use crate::boot_calls::{FRAME, MEMORY, delete, passes, retype, revoke};
 use kernel::Setup;
-use model::{Cap, Slot};
+use model::Cap;
 use std::alloc::Global;
 use std::process::Abort;
 use std::test::Fail;
@@ -17,11 +15,9 @@ pub(crate) fn machine(rt: &impl Abort, alloc: Global) -> Result<Setup, Fail> {
     Ok(setup)
 }
 
-// What a boot slot holds.
-pub(crate) fn held(setup: &Setup, slot: u32) -> Option<(Cap, Option<Slot>)>
-    requires { slot < 4096 }
-{
-    setup.machine().slot(Slot::new(slot))
+// What a slot of the boot CNode holds, and the holder and index of the slot that it was derived from.
+pub(crate) fn held(setup: &Setup, slot: u32) -> Option<(Cap, Option<(u32, u32)>)> {
+    setup.machine().slot(0, slot)
 }
 
 // Untyped memory is aligned, behind the boot area and all that stands, and its slot is free.
@@ -80,7 +76,18 @@ fn a_slot_is_emptied(rt: HostRuntime) -> Result<(), Fail> {
     assert!(rt; delete(&mut setup, 2).is_ok());
     assert!(rt; delete(&mut setup, 2).is_ok());
     assert_eq!(rt; held(&setup, 2), Some((Cap::Empty, None)));
-    assert_eq!(rt; held(&setup, 79), Some((Cap::Empty, None)));
-    assert_eq!(rt; held(&setup, 80), None);
+    Ok(())
+}
+
+// The boot CNode has 16 slots, and the interrupt table behind it 64.
+#[test]
+fn each_holder_has_its_slots(rt: HostRuntime) -> Result<(), Fail> {
+    let setup = Setup::new(rt.alloc(), 16, 4)?;
+    let machine = setup.machine();
+    let seen = [(0, 15), (0, 16), (0x100, 63), (0x100, 64), (0x500, 0)].map(|(
+        holder,
+        index,
+    )| machine.slot(holder, index).is_some());
+    assert_eq!(rt; seen, [true, false, true, false, false]);
     Ok(())
 }

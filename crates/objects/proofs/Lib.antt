@@ -1,3 +1,4 @@
+pub mod Alignments
 pub mod Beginning
 pub mod Endpoints
 pub mod Ends
