@@ -34,7 +34,7 @@ const WORDS: [u32; 107] = [
     2, 1, 0, 1, 4, 0,  5, 0, 9,  5, 2,
 ];
 
-pub(crate) fn object(kind: u32, size: u32) -> ObjectEntry {
+fn object(kind: u32, size: u32) -> ObjectEntry {
     ObjectEntry {
         untyped: 0,
         kind,
@@ -72,7 +72,7 @@ fn counting(
     })
 }
 
-pub(crate) fn thread(alloc: Global) -> Result<ThreadParts, AllocError> {
+fn thread(alloc: Global) -> Result<ThreadParts, AllocError> {
     let start = RecordParts {
         point: 0,
         constant: 24,
@@ -101,7 +101,7 @@ pub(crate) fn thread(alloc: Global) -> Result<ThreadParts, AllocError> {
     })
 }
 
-pub(crate) fn parts(alloc: Global) -> Result<Parts, AllocError> {
+fn parts(alloc: Global) -> Result<Parts, AllocError> {
     let objects = vec![in alloc;
         object(6, 0),
         object(8, 0),
