@@ -1,8 +1,6 @@
-//! Tests on images: what parts are written as, byte for byte, and what images are refused as.
+//! Tests on images: what parts are written as, byte for byte.
 #![tactic(auto)]
 
-#[cfg(test)]
-mod refusals;
 #[cfg(test)]
 mod solo;
 #[cfg(test)]

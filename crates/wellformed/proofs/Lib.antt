@@ -1,4 +1,5 @@
 pub mod Named
+pub mod Phases
 pub mod Rounds
 pub mod RulesLeft
 pub mod Stands

@@ -1,7 +1,7 @@
 //! Well-formed images.
 
 ghost use Rattle.std.specs.Prelude.{◌≡◌, ◌⊎◌, IfErr, OnOk, Some};
-ghost use Rattle.model.specs.Acceptance.Accepted.{IsWellFormed, first_in};
+ghost use Rattle.model.specs.Acceptance.Accepted.{IsWellFormed, first_in, phases};
 ghost use Rattle.model.specs.declared.refusals.Refusal.TheVariants.{OutOfMemory};
 ghost use Rattle.wellformed.specs.Answering.{Answers, form_rules};
 
@@ -32,6 +32,8 @@ pub fn well_formed(alloc: Global, image: &ImageRef<'_>) -> Result<(), Refusal>
     ensures formed { OnOk result (IsWellFormed image.now) }
     // What is refused is refused for the first rule that is broken, if memory is not refused.
     ensures refused { IfErr result (λ refusal. (refusal ≡ OutOfMemory) ⊎ (first_in (form_rules image.now) ≡ Some refusal)) }
+    // That is the first breach of all rules on the image, those on programs with them.
+    ensures first { IfErr result (λ refusal. (refusal ≡ OutOfMemory) ⊎ (first_in (phases image.now) ≡ Some refusal)) }
     // What is well formed is refused for want of memory alone.
     ensures complete { IsWellFormed image.now → IfErr result (λ refusal. refusal ≡ OutOfMemory) }
 {
