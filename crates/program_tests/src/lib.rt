@@ -11,11 +11,11 @@ mod files;
 #[cfg(test)]
 mod instructions;
 #[cfg(test)]
+mod outputs;
+#[cfg(test)]
 mod pairs;
 #[cfg(test)]
 mod rows;
-#[cfg(test)]
-mod sinks;
 #[cfg(test)]
 mod unverified;
 #[cfg(test)]
