@@ -2,6 +2,7 @@
 
 ghost use Rattle.std.specs.Prelude.{◌≡◌};
 ghost use Rattle.model.specs.Acceptance.CallRules.{with_answer, with_message};
+ghost use Rattle.ranges.specs.Orders.{IsOrdered};
 ghost use Rattle.typestate.specs.declared.behind.Written.TheVariants.{Nothing};
 
 use model::{Range, Register};
@@ -43,6 +44,7 @@ pub struct Behind {
 /// Registers behind a message: this badge, and any info and words.
 #[tactic(auto, unfolding(model::specs::Kernel::Messages::word_registers))]
 pub(crate) fn with_message(bounds: &Bounds, badge: Range) -> Bounds
+    requires { IsOrdered badge }
     ensures { result ≡ with_message bounds.now badge }
 {
     let mut bounds = *bounds;
