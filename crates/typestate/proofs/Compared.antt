@@ -3,8 +3,8 @@ use Rattle.std.proofs.Common.{◌≡◌, ◌∙◌, ◌==◌, ◌&&◌, ◌||◌
 use Rattle.std.specs.List.{find, list_any}
 use Rattle.std.proofs.lemmas.Bool.{and_parts, eqb-true}
 use Rattle.model.specs.Acceptance.NotedStates.{NotedSlot, SlotKey, are_same_slots, is_same_key, number_of, slot_at, with_noted}
-use Rattle.typestate.specs.Differences.{RiseFrom, are_same_at, changed, is_same_held, left_by}
-use Rattle.typestate.proofs.Rising.{changes-rise, looks-same, same-itself, same-looks}
+use Rattle.typestate.specs.Differences.{are_same_at, changed, is_same_held, left_by}
+use Rattle.typestate.proofs.Rising.{RiseFrom, changes-rise, looks-same, same-itself, same-looks}
 use Rattle.typestate.proofs.SlotLists.{noted-at}
 
 abbrev is_changed : List NotedSlot → SlotKey → Bool

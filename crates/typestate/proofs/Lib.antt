@@ -7,4 +7,5 @@ pub mod Forms
 pub mod MessageCalls
 pub mod Unpacked
 pub mod Rising
+pub mod Searched
 pub mod Compared

@@ -1,6 +1,6 @@
 -- Lists of slots whose keys rise: a change keeps them so, and they are the same where every look-up is.
-use Rattle.std.proofs.Common.{ℕ, ◌≡◌, ◌∙◌, ◌==◌, ◌+◌, ◌<◌, ◌≤◌, inl, inr, ◌&&◌, Bool, true, false, not, nat_lt, if◌then◌else◌, Option, Some, None, List, [], ◌∷◌, refl, sym, ap, arith}
-use Rattle.std.specs.Prelude.{nat_eq}
+use Rattle.std.proofs.Common.{ℕ, suc, ◌≡◌, ◌∙◌, ◌==◌, ◌+◌, ◌<◌, ◌≤◌, inl, inr, ◌&&◌, Bool, true, false, not, nat_lt, if◌then◌else◌, Option, Some, None, List, [], ◌∷◌, map, refl, sym, ap, subst, arith}
+use Rattle.std.specs.Prelude.{nat_eq, slice_index}
 use Rattle.std.proofs.lemmas.Bool.{and_parts, cases_lt, eq-eqb, eqb-true}
 use Rattle.std.proofs.lemmas.Bool.Decides.{eqb_tells, nat_tests}
 use lib.Pointwise.{pointwise}
@@ -8,8 +8,28 @@ use Rattle.model.specs.Acceptance.NotedStates.{NotedSlot, SlotKey, are_same_slot
 use Rattle.model.specs.Capabilities.CapabilityFields.{same_words}
 use Rattle.model.specs.Capabilities.CapabilityWords.{words_of}
 use Rattle.model.specs.Capabilities.Slots.{is_empty}
-use Rattle.typestate.specs.Differences.{RiseFrom, changed, is_same_held}
+use Rattle.typestate.specs.Differences.{changed, is_same_held}
+use Rattle.typestate.specs.Orders.{Rise}
 use Rattle.typestate.proofs.SlotLists.{without-at}
+
+-- keys rise from a number on
+abbrev pub RiseFrom : ℕ → List NotedSlot → Type 0
+RiseFrom least [] = Unit {0}
+RiseFrom least (s ∷ rest) = (least ≤ number_of s.key) × RiseFrom (number_of s.key + 1) rest
+
+next-rises : (s : NotedSlot) (rest : List NotedSlot) → Rise (s ∷ rest) → Rise rest
+next-rises s rest rises k below =
+    let numbers = map (λ (o : NotedSlot). number_of o.key) (s ∷ rest) in
+    let next : suc k + 1 ≡ suc (k + 1) = omega arith in
+    subst (λ i. slice_index numbers (suc k) < slice_index numbers i) next (rises (suc k) (omega (arith, below)))
+
+behind-rises : (s : NotedSlot) (rest : List NotedSlot) → Rise (s ∷ rest) → RiseFrom (number_of s.key + 1) rest
+behind-rises s [] rises = tt
+behind-rises s (r ∷ rest) rises = (omega (arith, rises 0 (omega arith)), behind-rises r rest (next-rises s (r ∷ rest) rises))
+
+pub from-first : (slots : List NotedSlot) → Rise slots → RiseFrom 0 slots
+from-first [] rises = tt
+from-first (s ∷ rest) rises = (omega arith, behind-rises s rest rises)
 
 -- ---- look-ups
 
@@ -23,7 +43,7 @@ none-below (s ∷ rest) least key rises less =
     ap (λ b. if b then Some s else slot_at rest key) (other-number (number_of s.key) (number_of key) most)
     ∙ none-below rest (number_of s.key + 1) key rises.1 (omega (arith, most))
 
-first-found : (s : NotedSlot) (rest : List NotedSlot) (key : SlotKey) → number_of s.key ≡ number_of key → slot_at (s ∷ rest) key ≡ Some s
+pub first-found : (s : NotedSlot) (rest : List NotedSlot) (key : SlotKey) → number_of s.key ≡ number_of key → slot_at (s ∷ rest) key ≡ Some s
 first-found s rest key same = ap (λ b. if b then Some s else slot_at rest key) (eq-eqb (number_of s.key) (number_of key) same)
 
 -- ---- the same lists have the same look-ups

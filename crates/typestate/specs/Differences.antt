@@ -1,9 +1,9 @@
 -- Slots as what differs from those of the image.
-use Rattle.std.specs.Prelude.{ℕ, ◌+◌, ◌≤◌, Bool, true, false, Option, Some, None, List, [], ◌∷◌, fold, if◌then◌else◌}
+use Rattle.std.specs.Prelude.{Bool, true, false, Option, Some, None, List, fold, if◌then◌else◌}
 use Rattle.std.specs.List.{list_all}
-use Rattle.model.specs.Acceptance.NotedStates.{NotedSlot, is_same_slot, number_of, slot_at, with_noted}
+use Rattle.model.specs.Acceptance.NotedStates.{NotedSlot, is_same_slot, slot_at, with_noted}
 use Rattle.model.specs.Capabilities.Slots.{is_empty}
-use Rattle.typestate.specs.declared.noted.NotedSlots.{NotedSlots}
+use Rattle.typestate.specs.declared.points.NotedSlots.{NotedSlots}
 
 -- the slots with each of these changes made, one after another
 abbrev pub changed : List NotedSlot → List NotedSlot → List NotedSlot
@@ -15,11 +15,6 @@ left_by change = if is_empty change.capability then None else Some change
 
 abbrev pub slots_of : NotedSlots → List NotedSlot
 slots_of s = changed s.image.now s.changes.now
-
--- keys rise from a number on
-abbrev pub RiseFrom : ℕ → List NotedSlot → Type 0
-RiseFrom least [] = Unit {0}
-RiseFrom least (s ∷ rest) = (least ≤ number_of s.key) × RiseFrom (number_of s.key + 1) rest
 
 -- whether two look-ups give the same
 abbrev pub is_same_held : Option NotedSlot → Option NotedSlot → Bool

@@ -1,3 +1,4 @@
+pub mod Orders
 pub mod Differences
 pub mod Calls
 pub mod Spaces

@@ -4,7 +4,7 @@ ghost use Rattle.std.specs.Prelude.{◌≡◌};
 ghost use Rattle.model.specs.Acceptance.NotedStates.{are_same_slots, is_same_parent, is_same_slot};
 ghost use Rattle.model.specs.Capabilities.CapabilityFields.{same_words};
 ghost use Rattle.model.specs.Capabilities.CapabilityWords.{IsCapability, words_of};
-ghost use Rattle.typestate.specs.Differences.{RiseFrom, are_same_at, is_same_held, slots_of};
+ghost use Rattle.typestate.specs.Differences.{are_same_at, is_same_held, slots_of};
 
 use crate::{NotedSlot, NotedSlots, SlotKey};
 use capwords::pack;
@@ -65,10 +65,9 @@ impl NotedSlots<'_> {
         true
     }
 
-    /// Whether both are the same slots. The image's slots have to be the same, and their keys to rise.
+    /// Whether both are the same slots. The image's slots have to be the same.
     pub fn is_same(&self, other: &NotedSlots<'_>) -> bool
-        requires image { other.now.image.now ≡ self.now.image.now }
-        requires rising { RiseFrom 0 self.now.image.now }
+        requires { other.now.image.now ≡ self.now.image.now }
         ensures { result ≡ are_same_slots (slots_of self.now) (slots_of other.now) }
     {
         let mine = self.agrees_at(other, self.changes);

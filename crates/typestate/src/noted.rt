@@ -1,4 +1,4 @@
-//! The slots at a point, as what differs from the image's.
+//! Look-ups in the slots at a point.
 
 ghost use Rattle.std.specs.Prelude.{◌≡◌, if◌then◌else◌};
 ghost use Rattle.model.specs.Acceptance.NotedStates.{is_same_key, slot_at};
@@ -6,17 +6,10 @@ ghost use Rattle.model.specs.Capabilities.CapabilityWords.{IsCapability};
 ghost use Rattle.model.specs.declared.capabilities.Cap.TheVariants.{Empty};
 ghost use Rattle.std.specs.Option.{option_map_or};
 ghost use Rattle.typestate.specs.Differences.{left_by, slots_of};
+ghost use Rattle.typestate.specs.Orders.{Rise};
 
-use crate::{NotedSlot, SlotKey};
+use crate::{NotedSlot, NotedSlots, SlotKey};
 use model::Cap;
-
-/// The full slots of a thread's CNodes at a point: those that the image lists, with changes made one after another.
-/// A change to a slot that holds nothing empties it.
-#[derive(Clone, Copy, Debug)]
-pub struct NotedSlots<'s> {
-    pub image: &'s [NotedSlot],
-    pub changes: &'s [NotedSlot],
-}
 
 /// What a slot of this key, which held this, holds behind a change.
 fn behind(change: NotedSlot, key: SlotKey, held: Option<NotedSlot>) -> Option<NotedSlot>
@@ -55,14 +48,13 @@ impl NotedSlots<'_> {
     }
 }
 
-/// The slot of this key in a list.
+/// The slot of this key in a list whose keys rise.
 fn listed(slots: &[NotedSlot], key: SlotKey) -> Option<NotedSlot>
+    requires { Rise slots.now }
     ensures { result ≡ slot_at slots.now key }
 {
-    for slot in slots {
-        if slot.key.is_same(key) {
-            return Some(*slot);
-        }
+    match slots.binary_search_by_key(&key.number(), |slot| slot.key.number()) {
+        Ok(place) => Some(slots[place]),
+        Err(_) => None,
     }
-    None
 }

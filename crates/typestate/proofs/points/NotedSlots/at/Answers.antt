@@ -4,7 +4,7 @@ use Rattle.std.proofs.lemmas.List.Sums.{fold_more}
 use Rattle.model.specs.Acceptance.NotedStates.{NotedSlot, is_same_key, slot_at, with_noted}
 use Rattle.typestate.specs.Differences.{changed, left_by}
 use Rattle.typestate.proofs.SlotLists.{noted-at}
-use Rattle.typestate.proofs.noted.NotedSlots.at.Goals as goal
+use Rattle.typestate.proofs.points.NotedSlots.at.Goals as goal
 
 pub loop-change-preserved : goal.loop-change-preserved
 loop-change-preserved c =

@@ -2,7 +2,8 @@
 use Rattle.std.proofs.Common.{◌≡◌, ◌∙◌, ◌&&◌, true, false, sym, ap}
 use Rattle.typestate.specs.Differences.{are_same_at, slots_of}
 use Rattle.typestate.proofs.Compared.{compared-with}
-use Rattle.typestate.proofs.noted.NotedSlots.is_same.Goals as goal
+use Rattle.typestate.proofs.Rising.{from-first}
+use Rattle.typestate.proofs.points.NotedSlots.is_same.Goals as goal
 
 pub returns-then-mine : goal.returns-then-mine
 returns-then-mine c =
@@ -11,7 +12,7 @@ returns-then-mine c =
     let more = c.args.other.now.changes.now in
     let first : are_same_at mine theirs c.args.self.now.changes.now ≡ true = sym c.agrees_at-mine.ensures ∙ c.if-mine.true in
     c.agrees_at-theirs.ensures ∙ ap (λ b. b && are_same_at mine theirs more) (sym first)
-    ∙ compared-with c.args.self.now.image.now c.args.other.now.image.now c.args.self.now.changes.now more c.requires.image c.requires.rising
+    ∙ compared-with c.args.self.now.image.now c.args.other.now.image.now c.args.self.now.changes.now more c.requires (from-first c.args.self.now.image.now c.args.self.now.rising)
 
 pub returns-else-mine : goal.returns-else-mine
 returns-else-mine c =
@@ -20,4 +21,4 @@ returns-else-mine c =
     let more = c.args.other.now.changes.now in
     let first : are_same_at mine theirs c.args.self.now.changes.now ≡ false = sym c.agrees_at-mine.ensures ∙ c.if-mine.false in
     c.if-mine.false ∙ ap (λ b. b && are_same_at mine theirs more) (sym first)
-    ∙ compared-with c.args.self.now.image.now c.args.other.now.image.now c.args.self.now.changes.now more c.requires.image c.requires.rising
+    ∙ compared-with c.args.self.now.image.now c.args.other.now.image.now c.args.self.now.changes.now more c.requires (from-first c.args.self.now.image.now c.args.self.now.rising)
