@@ -12,6 +12,7 @@ ghost use Rattle.model.specs.Kernel.AddressSpaces.{address_limit};
 ghost use Rattle.wellformed.specs.Answering.{AreEarlier, Answers, with_number};
 
 use crate::entries::header_of;
+use crate::keys::frame_place;
 use crate::mappings::{ADDRESS_LIMIT, PAGE, executes};
 use crate::number_sets::NumberSet;
 use crate::object_types::{is_guard, is_root_table, is_thread, object_at, radix_of, source_at};
@@ -52,13 +53,12 @@ fn is_at(entry: FrameEntry, root: u32, address: u32) -> bool
 fn is_code(image: &ImageRef<'_>, root: u32, address: u32) -> bool
     ensures { result ≡ option_map_or executes (frame_at image.now root address) false }
 {
-    for item in 0..header_of(image).frames {
-        let entry = image.frame(item);
-        if is_at(entry, root, address) {
-            return executes(entry);
-        }
+    let place = frame_place(image, root, address);
+    if header_of(image).frames <= place {
+        return false;
     }
-    false
+    let entry = image.frame(place);
+    is_at(entry, root, address) && executes(entry)
 }
 
 /// Where the program ends.
