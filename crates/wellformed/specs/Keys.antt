@@ -1,5 +1,6 @@
 -- Keys that rise, and the place of a number among them.
-use Rattle.std.specs.Prelude.{ℕ, ◌≡◌, ◌<◌, ◌≤◌, List, Some, length, map, slice_get}
+use Rattle.std.specs.Prelude.{ℕ, ◌≡◌, ◌==◌, ◌<◌, ◌≤◌, false, List, Some, length, map, slice_get}
+use Rattle.model.specs.declared.entries.CapabilityEntry.{CapabilityEntry}
 use Rattle.model.specs.Images.Image.{Image, pair_key}
 
 -- Each key is below those behind it.
@@ -20,3 +21,10 @@ table_keys image = map (λ t. pair_key t.root t.address) image.tables
 
 abbrev pub frame_keys : Image → List ℕ
 frame_keys image = map (λ f. pair_key f.root f.address) image.frames
+
+-- The capabilities of a CNode stand from one place on, before another.
+pub record AreListedIn (cnode : ℕ) (capabilities : List CapabilityEntry) (first end : ℕ) : Type 0 where
+  pub within : end ≤ length capabilities
+  pub before : (k : ℕ) (c : CapabilityEntry) → k < first → slice_get capabilities k ≡ Some c → (c.cnode == cnode) ≡ false
+  pub there : (k : ℕ) (c : CapabilityEntry) → first ≤ k → k < end → slice_get capabilities k ≡ Some c → c.cnode ≡ cnode
+  pub behind : (k : ℕ) (c : CapabilityEntry) → end ≤ k → slice_get capabilities k ≡ Some c → (c.cnode == cnode) ≡ false

@@ -2,7 +2,7 @@
 
 ghost use Rattle.std.specs.Prelude.{ℕ, ◌≡◌, ◌<◌, List, Some, length, slice_get};
 ghost use Rattle.model.specs.Images.Image.{pair_key};
-ghost use Rattle.wellformed.specs.Keys.{DoRise, IsPlaceOf, capability_keys, frame_keys, table_keys};
+ghost use Rattle.wellformed.specs.Keys.{AreListedIn, DoRise, IsPlaceOf, capability_keys, frame_keys, table_keys};
 
 use crate::entries::header_of;
 use image::ImageRef;
@@ -106,12 +106,34 @@ fn place_of<S: Keyed>(section: &S, number: u64) -> u32
     low
 }
 
-/// The place of a slot among those of the capabilities.
-pub(crate) fn capability_place(image: &ImageRef<'_>, cnode: u32, index: u32) -> u32
-    ensures { IsPlaceOf (pair_key cnode index) (capability_keys image.now) result }
+/// The place of a CNode's first slot among those of the capabilities.
+fn cnode_place(image: &ImageRef<'_>, cnode: u32) -> u32
+    ensures { IsPlaceOf (pair_key cnode 0) (capability_keys image.now) result }
 {
     let _ = header_of(image);
-    place_of(&Capabilities { image }, pair_key(cnode, index))
+    place_of(&Capabilities { image }, pair_key(cnode, 0))
+}
+
+/// Where the capabilities of a CNode stand.
+#[derive(Clone, Copy, Drop)]
+pub(crate) struct Listed {
+    /// The first of them.
+    pub(crate) first: u32,
+    /// The one behind the last.
+    pub(crate) end: u32,
+}
+
+/// Where the capabilities of a CNode stand.
+pub(crate) fn listed_in(image: &ImageRef<'_>, cnode: u32) -> Listed
+    ensures { AreListedIn cnode image.now.capabilities result.first result.end }
+{
+    let header = header_of(image);
+    let first = cnode_place(image, cnode);
+    let end = match cnode.checked_add(1) {
+        Some(next) => cnode_place(image, next),
+        None => header.capabilities,
+    };
+    Listed { first, end }
 }
 
 /// The place of an address under a root table among those of the tables.
