@@ -2,7 +2,7 @@ pub mod Listed
 pub mod Named
 pub mod Phases
 pub mod Places
-pub mod Rounds
+pub mod Reached
 pub mod RulesLeft
 pub mod Searches
 pub mod Stands

@@ -1,16 +1,16 @@
 -- The capabilities of one CNode, and what is found among them.
-use Rattle.std.proofs.Common.{◌≡◌, ◌∙◌, inl, inr, ℕ, zero, suc, ◌+◌, ◌*◌, ◌^◌, ◌<◌, ◌≤◌, ◌==◌, ◌||◌, ◌&&◌, Bool, true, false, List, [], ◌∷◌, Some, length, take, drop, get_or, map, refl, sym, ap, arith}
-use Rattle.std.specs.Prelude.{fold, nat_eq, slice_get}
+use Rattle.std.proofs.Common.{◌≡◌, ◌∙◌, inl, inr, ℕ, zero, suc, ◌+◌, ◌*◌, ◌^◌, ◌<◌, ◌≤◌, ◌==◌, ◌||◌, ◌&&◌, Bool, true, false, List, [], ◌∷◌, Some, length, take, drop, get_or, refl, sym, ap, arith}
+use Rattle.std.specs.Prelude.{nat_eq, slice_get}
 use Rattle.std.specs.List.{list_any}
 use Rattle.std.proofs.lemmas.Bool.{and_left, and_parts, cases_eq, eq-eqb, eqb-true, ne_eqb, or_cases, or_from, or_left, or_parts, or_right}
 use Rattle.std.proofs.lemmas.List.{length-map}
 use Rattle.std.proofs.lemmas.List.Folds.{list_any_more}
-use Rattle.std.proofs.lemmas.Option.{get_or_from_slice_get, none-some, slice_get_within}
+use Rattle.std.proofs.lemmas.Option.{get_or_from_slice_get, slice_get_within}
 use Rattle.model.specs.declared.entries.CapabilityEntry.{CapabilityEntry}
 use Rattle.model.specs.Acceptance.ThreadRules.{is_member}
 use Rattle.model.specs.Images.Image.{Image, pair_key}
 use Rattle.fitting.specs.Fitting.{IsFitting}
-use Rattle.wellformed.specs.Keys.{AreListedIn, DoRise, IsPlaceOf, capability_keys}
+use Rattle.wellformed.specs.Keys.{AreListedIn, IsPlaceOf, capability_keys}
 use Rattle.wellformed.proofs.Named.{any-here}
 use Rattle.wellformed.proofs.Places.{any-no, key-at}
 use Rattle.wellformed.proofs.RulesLeft.{rest-next}

@@ -1,7 +1,6 @@
 -- Between the place of a CNode and that of the next.
-use Rattle.std.proofs.Common.{◌≡◌, ◌+◌, ◌∙◌, ◌≤◌, length, rules, sym, ap, subst, arith}
+use Rattle.std.proofs.Common.{◌≡◌, ◌+◌, ◌∙◌, length, rules, sym, ap}
 use Rattle.model.specs.declared.entries.ImageHeader.{ImageHeader}
-use Rattle.fitting.specs.Fitting.{HeaderFits}
 use Rattle.wellformed.proofs.Listed.{listed-between, listed-last}
 use Rattle.wellformed.proofs.keys.listed_in.Goals as goal
 
