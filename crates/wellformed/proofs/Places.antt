@@ -1,5 +1,5 @@
 -- The place of a number among keys that rise, and what it says of the entries.
-use Rattle.std.proofs.Common.{◌≡◌, ◌∙◌, inl, inr, ℕ, zero, suc, ◌+◌, ◌<◌, ◌≤◌, ◌||◌, Bool, true, false, List, [], ◌∷◌, None, Option, Some, length, map, refl, sym, ap, arith}
+use Rattle.std.proofs.Common.{◌≡◌, ◌∙◌, inl, inr, ℕ, zero, suc, ◌<◌, ◌≤◌, ◌||◌, Bool, true, false, List, [], ◌∷◌, None, Option, Some, length, map, refl, sym, ap, arith}
 use Rattle.std.specs.Prelude.{find, if◌then◌else◌, option_map, slice_get}
 use Rattle.std.specs.List.{list_any}
 use Rattle.std.proofs.lemmas.Bool.{cases_lt, false≢true}
@@ -14,52 +14,6 @@ pub record AreHalved (number : ℕ) (keys : List ℕ) (low high : ℕ) : Type 0 
   pub bound : high ≤ length keys
   pub below : (k key : ℕ) → k < low → slice_get keys k ≡ Some key → key < number
   pub above : (k key : ℕ) → high ≤ k → slice_get keys k ≡ Some key → number ≤ key
-
-module _ (number : ℕ) (keys : List ℕ) where
-  pub none-halved : (count : ℕ) → count ≡ length keys → AreHalved number keys 0 count
-  none-halved count size = record {
-    ordered = omega arith;
-    bound = omega (arith, size);
-    below = λ k key less at. absurd (omega (arith, less));
-    above = λ k key most at. absurd (let within = slice_get_within keys k key at in omega (arith, within, most, size));
-  }
-
-  pub halved-below : (low high middle found : ℕ) → DoRise keys → middle < high → slice_get keys middle ≡ Some found → found < number
-      → AreHalved number keys low high → AreHalved number keys (middle + 1) high
-  halved-below low high middle found rise inside at lower halved = record {
-    ordered = omega (arith, inside);
-    bound = halved.bound;
-    below = λ k key less there. elim (cases_lt k middle) [
-      | inl before ↦ let rises = rise.rise k middle key found before there at in omega (arith, rises, lower)
-      | inr here ↦
-          let same : k ≡ middle = omega (arith, less, here) in
-          let is : key ≡ found = same_Some key found (sym there ∙ ap (slice_get keys) same ∙ at) in
-          rw is lower
-    ];
-    above = halved.above;
-  }
-
-  pub halved-above : (low high middle found : ℕ) → DoRise keys → low ≤ middle → middle < high → slice_get keys middle ≡ Some found → number ≤ found
-      → AreHalved number keys low high → AreHalved number keys low middle
-  halved-above low high middle found rise least inside at higher halved = record {
-    ordered = least;
-    bound = (let bound = halved.bound in omega (arith, inside, bound));
-    below = halved.below;
-    above = λ k key most there. elim (cases_lt middle k) [
-      | inl behind ↦ let rises = rise.rise middle k found key behind at there in omega (arith, rises, higher)
-      | inr here ↦
-          let same : k ≡ middle = omega (arith, most, here) in
-          let is : key ≡ found = same_Some key found (sym there ∙ ap (slice_get keys) same ∙ at) in
-          rw is higher
-    ];
-  }
-
-  pub place-found : (low high : ℕ) → high ≤ low → AreHalved number keys low high → IsPlaceOf number keys low
-  place-found low high met halved = record {
-    within = (let ordered = halved.ordered in let bound = halved.bound in omega (arith, ordered, bound));
-    below = halved.below;
-    above = λ k key most at. halved.above k key (omega (arith, most, met)) at;
-  }
 
 -- ---- entries
 
