@@ -2,6 +2,8 @@
 #![tactic(auto)]
 
 #[cfg(test)]
+mod refusals;
+#[cfg(test)]
 mod solo;
 #[cfg(test)]
 mod solo_parts;

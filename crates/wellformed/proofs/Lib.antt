@@ -1,6 +1,9 @@
+pub mod Listed
 pub mod Named
 pub mod Phases
-pub mod Rounds
+pub mod Places
+pub mod Reached
 pub mod RulesLeft
+pub mod Searches
 pub mod Stands
 pub mod ThreadSteps

@@ -11,7 +11,7 @@ use Rattle.std.proofs.lemmas.Option.{get_or_from_slice_get, none-some, same_Some
 use Rattle.model.specs.Acceptance.ThreadRules.{is_member}
 use Rattle.wellformed.specs.Answering.{AreNamed, AreTwice, with_number}
 
-same-number : (m n : ℕ) → (m == n) ≡ (n == m)
+pub same-number : (m n : ℕ) → (m == n) ≡ (n == m)
 same-number m n = grind (arith, nat_tests)
 
 or-false : (b : Bool) → (b || false) ≡ b

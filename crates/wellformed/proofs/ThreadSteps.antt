@@ -1,6 +1,6 @@
 -- What threads so far have, and one thread more.
-use Rattle.std.proofs.Common.{◌≡◌, ◌∙◌, inl, inr, drop-cons, map, None, Option, ◌-◌, ◌<◌, ◌≤◌, ℕ, suc, ◌+◌, ◌==◌, ◌||◌, ◌&&◌, not, Bool, true, false, List, [], ◌∷◌, ◌++◌, Some, take, drop, length, get_or, sym, ap, arith, add-one, take-suc}
-use Rattle.std.specs.Prelude.{find, flat_map, if◌then◌else◌, nat_eq, slice_get}
+use Rattle.std.proofs.Common.{◌≡◌, ◌∙◌, inl, inr, drop-cons, map, ◌-◌, ◌<◌, ◌≤◌, ℕ, suc, ◌+◌, ◌==◌, ◌||◌, ◌&&◌, not, Bool, true, false, List, [], ◌∷◌, ◌++◌, Some, take, drop, length, get_or, sym, ap, arith, add-one, take-suc}
+use Rattle.std.specs.Prelude.{flat_map, nat_eq, slice_get}
 use Rattle.std.specs.List.{list_all, list_any, range_with_len}
 use Rattle.std.proofs.lemmas.Bool.{cases_lt}
 use Rattle.std.proofs.lemmas.List.{drop_all, flat_map_more}
@@ -8,10 +8,11 @@ use Rattle.std.proofs.lemmas.List.Folds.{list_any-append}
 use Rattle.std.proofs.lemmas.Option.{get_or_from_slice_get, slice_get-get_or, slice_get_within}
 use Rattle.model.specs.Acceptance.ThreadRules.{is_member, reached, shares_cspace, shares_vspace}
 use Rattle.model.specs.Acceptance.WellFormed.{is_root_type, source_type}
+use Rattle.model.specs.declared.entries.CapabilityEntry.{CapabilityEntry}
 use Rattle.model.specs.Images.Image.{Image, Thread}
 use Rattle.wellformed.specs.Answering.{AreEarlier, with_number}
 use Rattle.wellformed.proofs.Named.{named-next, named-none}
-use Rattle.wellformed.proofs.RulesLeft.{rest-next}
+use Rattle.wellformed.proofs.Reached.{any-members}
 
 pub head-of : {A : Type 0} (n : ℕ) (xs ys : List A) (x : A) → drop n xs ≡ x ∷ ys → (slice_get xs n ≡ Some x) × (drop (n + 1) xs ≡ ys)
 head-of {A} n xs ys x is =
@@ -36,7 +37,7 @@ module _ (image : Image) where
     reach = λ n. ap (λ (s : List ℕ). is_member n s) c;
   }
 
-  one-earlier : (n : ℕ) (t : Thread) (found : List ℕ) (m : ℕ) → slice_get image.threads n ≡ Some t → found ≡ reached image t
+  one-earlier : (n : ℕ) (t : Thread) (found : List ℕ) (m : ℕ) → slice_get image.threads n ≡ Some t → ((n : ℕ) → is_member n found ≡ is_member n (reached image t))
       → is_member m (flat_map (reached image) (take (n + 1) image.threads)) ≡ (is_member m (flat_map (reached image) (take n image.threads)) || is_member m found)
   one-earlier n t found m at is =
       let here : get_or image.threads n t ≡ t = get_or_from_slice_get image.threads n t t at in
@@ -45,9 +46,9 @@ module _ (image : Image) where
       let joined = flat_map_more (reached image) [] (take n image.threads) t in
       ap (λ (ts : List Thread). is_member m (flat_map (reached image) ts)) parts ∙ ap (λ (l : List ℕ). is_member m l) (sym joined)
       ∙ list_any-append (nat_eq m) (flat_map (reached image) (take n image.threads)) (reached image t)
-      ∙ ap (λ (l : List ℕ). is_member m (flat_map (reached image) (take n image.threads)) || is_member m l) (sym is)
+      ∙ ap (λ (b : Bool). is_member m (flat_map (reached image) (take n image.threads)) || b) (sym (is m))
 
-  pub earlier-next : (n : ℕ) (t : Thread) (found tcbs roots cnodes tcbs' roots' cnodes' : List ℕ) → slice_get image.threads n ≡ Some t → found ≡ reached image t
+  pub earlier-next : (n : ℕ) (t : Thread) (found tcbs roots cnodes tcbs' roots' cnodes' : List ℕ) → slice_get image.threads n ≡ Some t → ((n : ℕ) → is_member n found ≡ is_member n (reached image t))
       → tcbs' ≡ with_number t.header.tcb tcbs → roots' ≡ with_number t.header.root roots → ((m : ℕ) → is_member m cnodes' ≡ (is_member m cnodes || is_member m found))
       → AreEarlier image (take n image.threads) tcbs roots cnodes → AreEarlier image (take (n + 1) image.threads) tcbs' roots' cnodes'
   earlier-next n t found tcbs roots cnodes tcbs' roots' cnodes' at is put_tcb put_root put_cnodes before = record {
@@ -56,35 +57,26 @@ module _ (image : Image) where
     reach = λ m. put_cnodes m ∙ ap (λ (b : Bool). b || is_member m found) (before.reach m) ∙ sym (one-earlier n t found m at is);
   }
 
-  pub shares-cspace-is : (n : ℕ) (t : Thread) (found tcbs roots cnodes : List ℕ) → found ≡ reached image t → AreEarlier image (take n image.threads) tcbs roots cnodes
+  pub shares-cspace-is : (n : ℕ) (t : Thread) (found tcbs roots cnodes : List ℕ) → ((n : ℕ) → is_member n found ≡ is_member n (reached image t)) → AreEarlier image (take n image.threads) tcbs roots cnodes
       → list_any (λ m. is_member m cnodes) found ≡ shares_cspace image (record { number = n; thread = t })
   unfolding shares_cspace
   shares-cspace-is n t found tcbs roots cnodes is before =
       let same : (λ (m : ℕ). is_member m cnodes) ≡ (λ (m : ℕ). is_member m (flat_map (reached image) (take n image.threads))) = λ i m. before.reach m i in
-      ap (λ (p : ℕ → Bool). list_any p found) same ∙ ap (λ (l : List ℕ). list_any (λ m. is_member m (flat_map (reached image) (take n image.threads))) l) is
+      ap (λ (p : ℕ → Bool). list_any p found) same ∙ any-members (λ m. is_member m (flat_map (reached image) (take n image.threads))) found (reached image t) is
 
-  pub shares-vspace-is : (n : ℕ) (t : Thread) (found tcbs roots cnodes : List ℕ) (root : ℕ) → root ≡ t.header.root → found ≡ reached image t → AreEarlier image (take n image.threads) tcbs roots cnodes
+  pub shares-vspace-is : (n : ℕ) (t : Thread) (found tcbs roots cnodes : List ℕ) (root : ℕ) → root ≡ t.header.root → ((n : ℕ) → is_member n found ≡ is_member n (reached image t)) → AreEarlier image (take n image.threads) tcbs roots cnodes
       → (is_member root roots || list_any (λ c. is_member c.cnode found && is_root_type (source_type image c.source) && not (c.source == root)) image.capabilities)
       ≡ shares_vspace image (record { number = n; thread = t })
   unfolding shares_vspace
   shares-vspace-is n t found tcbs roots cnodes root same is before =
+      let holds : (λ (c : CapabilityEntry). is_member c.cnode found && is_root_type (source_type image c.source) && not (c.source == t.header.root))
+      ≡ (λ (c : CapabilityEntry). is_member c.cnode (reached image t) && is_root_type (source_type image c.source) && not (c.source == t.header.root)) =
+      λ i c. is c.cnode i && is_root_type (source_type image c.source) && not (c.source == t.header.root) in
       ap (λ (r : ℕ). is_member r roots || list_any (λ c. is_member c.cnode found && is_root_type (source_type image c.source) && not (c.source == r)) image.capabilities) same
       ∙ ap (λ (b : Bool). b || list_any (λ c. is_member c.cnode found && is_root_type (source_type image c.source) && not (c.source == t.header.root)) image.capabilities) (before.have_roots.is t.header.root)
-      ∙ ap (λ (l : List ℕ). list_any (λ u. u.header.root == t.header.root) (take n image.threads) || list_any (λ c. is_member c.cnode l && is_root_type (source_type image c.source) && not (c.source == t.header.root)) image.capabilities) is
+      ∙ ap (λ (p : CapabilityEntry → Bool). list_any (λ u. u.header.root == t.header.root) (take n image.threads) || list_any p image.capabilities) holds
 
--- ---- searches over the mappings, and over the pages of a program
-
-module _ {A : Type 0} (test : A → Bool) (xs : List A) (n : ℕ) where
-  pub found-here : (x : A) (total : Option A) → slice_get xs n ≡ Some x → test x ≡ true → total ≡ find test (drop n xs) → total ≡ Some x
-  found-here x total at is so_far =
-      so_far ∙ ap (λ (l : List A). find test l) (rest-next xs n x at) ∙ ap (λ (b : Bool). if b then Some x else find test (drop (n + 1) xs)) is
-
-  pub found-later : (x : A) (total : Option A) → slice_get xs n ≡ Some x → test x ≡ false → total ≡ find test (drop n xs) → total ≡ find test (drop (n + 1) xs)
-  found-later x total at is so_far =
-      so_far ∙ ap (λ (l : List A). find test l) (rest-next xs n x at) ∙ ap (λ (b : Bool). if b then Some x else find test (drop (n + 1) xs)) is
-
-  pub found-none : (total : Option A) → length xs ≤ n → total ≡ find test (drop n xs) → total ≡ None
-  found-none total le so_far = so_far ∙ ap (λ (l : List A). find test l) (drop_all n xs le)
+-- ---- the pages of a program
 
 module _ (test : ℕ → Bool) (f : ℕ → ℕ) (k count : ℕ) (total : Bool) where
   abbrev pub PagesLeft : ℕ → Type 0

@@ -1,10 +1,11 @@
 -- What checks of an image answer, by the rules that they check.
-use Rattle.std.specs.Prelude.{ℕ, ◌≡◌, ◌==◌, ◌⊎◌, ◌++◌, nat_lt, count_by, flat_map, if◌then◌else◌, Option, Some, None, Result, Ok, Err, List, [], ◌∷◌}
+use Rattle.std.specs.Prelude.{ℕ, ◌≡◌, ◌==◌, ◌⊎◌, ◌++◌, ◌&&◌, nat_lt, count_by, flat_map, if◌then◌else◌, Option, Some, None, Result, Ok, Err, List, [], ◌∷◌}
 use Rattle.std.specs.List.{list_any}
+use Rattle.model.specs.declared.entries.CapabilityEntry.{CapabilityEntry}
 use Rattle.model.specs.declared.refusals.Refusal.{Refusal}
 use Rattle.model.specs.declared.refusals.Refusal.TheVariants.{OutOfMemory}
 use Rattle.model.specs.Acceptance.Rules.{Rule}
-use Rattle.model.specs.Acceptance.ThreadRules.{is_member, reached, thread_rules}
+use Rattle.model.specs.Acceptance.ThreadRules.{is_cnode_source, is_member, reached, thread_rules}
 use Rattle.model.specs.Acceptance.WellFormed.{capability_rules, mapping_rules, object_rules}
 use Rattle.model.specs.Images.Image.{Image, Thread}
 
@@ -34,3 +35,7 @@ pub record AreEarlier (image : Image) (threads : List Thread) (tcbs roots cnodes
   pub have_tcbs : AreNamed (λ t. t.header.tcb) threads tcbs
   pub have_roots : AreNamed (λ t. t.header.root) threads roots
   pub reach : (n : ℕ) → is_member n cnodes ≡ is_member n (flat_map (reached image) threads)
+
+-- one CNode more, if a capability that is listed in this CNode leads to it
+abbrev pub with_listed : Image → ℕ → List ℕ → CapabilityEntry → List ℕ
+with_listed image cnode found c = if c.cnode == cnode && is_cnode_source image c.source then with_number c.source found else found

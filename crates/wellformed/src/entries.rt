@@ -1,11 +1,11 @@
 //! Entries of an image, with what is known of them since the image fits its format.
 
-ghost use Rattle.std.specs.Prelude.{◌≡◌, ◌<◌, Some, slice_get};
+ghost use Rattle.std.specs.Prelude.{◌≡◌, ◌<◌, Some, length, slice_get};
 ghost use Rattle.fitting.specs.Fitting.{HeaderFits, IsFitting, ObjectFits, UntypedFits};
 ghost use Rattle.image.specs.Sections.{HasCounts};
 
 use image::ImageRef;
-use model::{ImageHeader, ObjectEntry, UntypedEntry};
+use model::{CapabilityEntry, ImageHeader, ObjectEntry, UntypedEntry};
 
 /// The image's fixed part.
 pub(crate) fn header_of(image: &ImageRef<'_>) -> ImageHeader
@@ -35,4 +35,13 @@ pub(crate) fn object_of(image: &ImageRef<'_>, number: u32) -> ObjectEntry
 {
     let _ = header_of(image);
     image.object(number)
+}
+
+/// A capability, by its number.
+pub(crate) fn capability_of(image: &ImageRef<'_>, number: u32) -> CapabilityEntry
+    requires { number < length image.now.capabilities }
+    ensures { slice_get image.now.capabilities number ≡ Some result }
+{
+    let _ = header_of(image);
+    image.capability(number)
 }

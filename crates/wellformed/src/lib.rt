@@ -3,6 +3,7 @@
 
 mod capabilities;
 mod entries;
+mod keys;
 mod mappings;
 mod number_sets;
 mod object_types;

@@ -11,6 +11,7 @@ ghost use Rattle.model.specs.Kernel.AddressSpaces.{region_size};
 ghost use Rattle.wellformed.specs.Answering.{Answers, AreNamed, AreTwice, with_number};
 
 use crate::entries::header_of;
+use crate::keys::table_place;
 use crate::number_sets::NumberSet;
 use crate::object_types::{is_frame, is_page_table, is_root_table, object_at};
 use image::{ContentRef, ImageRef};
@@ -68,16 +69,13 @@ fn covers(table: TableEntry, entry: FrameEntry) -> bool
     table.root == entry.root && table.address / REGION == entry.address / REGION
 }
 
-/// Whether some table covers the page of a mapping.
+/// Whether some table covers the page of a mapping. The first table from the page's region on is the only one that may.
 fn is_covered(image: &ImageRef<'_>, entry: FrameEntry) -> bool
     ensures { result ≡ is_covered image.now entry }
 {
-    for item in 0..header_of(image).tables {
-        if covers(image.table(item), entry) {
-            return true;
-        }
-    }
-    false
+    let region = entry.address - entry.address % REGION;
+    let place = table_place(image, entry.root, region);
+    place < header_of(image).tables && covers(image.table(place), entry)
 }
 
 /// Whether a frame's mapping is misplaced.

@@ -11,7 +11,8 @@ ghost use Rattle.model.specs.Images.Fills.{frame_at, program_pages};
 ghost use Rattle.model.specs.Kernel.AddressSpaces.{address_limit};
 ghost use Rattle.wellformed.specs.Answering.{AreEarlier, Answers, with_number};
 
-use crate::entries::header_of;
+use crate::entries::{capability_of, header_of};
+use crate::keys::{frame_place, listed_in};
 use crate::mappings::{ADDRESS_LIMIT, PAGE, executes};
 use crate::number_sets::NumberSet;
 use crate::object_types::{is_guard, is_root_table, is_thread, object_at, radix_of, source_at};
@@ -52,13 +53,12 @@ fn is_at(entry: FrameEntry, root: u32, address: u32) -> bool
 fn is_code(image: &ImageRef<'_>, root: u32, address: u32) -> bool
     ensures { result ≡ option_map_or executes (frame_at image.now root address) false }
 {
-    for item in 0..header_of(image).frames {
-        let entry = image.frame(item);
-        if is_at(entry, root, address) {
-            return executes(entry);
-        }
+    let place = frame_place(image, root, address);
+    if header_of(image).frames <= place {
+        return false;
     }
-    false
+    let entry = image.frame(place);
+    is_at(entry, root, address) && executes(entry)
 }
 
 /// Where the program ends.
@@ -111,26 +111,32 @@ fn share_some(numbers: &NumberSet, others: &NumberSet) -> bool
     false
 }
 
-/// Whether a capability puts another root table than this one into one of the CNodes.
-fn gives_other_root(
-    image: &ImageRef<'_>,
-    entry: CapabilityEntry,
-    cnodes: &NumberSet,
-    root: u32,
-) -> bool
-    ensures { result ≡ (is_member entry.cnode cnodes.now && is_root_type (source_type image.now entry.source) && not (entry.source == root)) }
+/// Whether a capability's source is another root table than this one.
+fn is_other_root(image: &ImageRef<'_>, entry: CapabilityEntry, root: u32) -> bool
+    ensures { result ≡ (is_root_type (source_type image.now entry.source) && not (entry.source == root)) }
 {
-    cnodes.contains(entry.cnode)
-        && is_root_table(source_at(image, entry.source))
-        && entry.source != root
+    is_root_table(source_at(image, entry.source)) && entry.source != root
+}
+
+/// Whether a CNode holds another root table than this one.
+fn holds_other_root(image: &ImageRef<'_>, cnode: u32, root: u32) -> bool
+    ensures { result ≡ list_any (λ c. c.cnode == cnode && (is_root_type (source_type image.now c.source) && not (c.source == root))) image.now.capabilities }
+{
+    let listed = listed_in(image, cnode);
+    for item in listed.first..listed.end {
+        if is_other_root(image, capability_of(image, item), root) {
+            return true;
+        }
+    }
+    false
 }
 
 /// Whether one of the CNodes holds another root table than this one.
 fn hold_other_root(image: &ImageRef<'_>, cnodes: &NumberSet, root: u32) -> bool
     ensures { result ≡ list_any (λ c. is_member c.cnode cnodes.now && is_root_type (source_type image.now c.source) && not (c.source == root)) image.now.capabilities }
 {
-    for item in 0..header_of(image).capabilities {
-        if gives_other_root(image, image.capability(item), cnodes, root) {
+    for place in 0..cnodes.len() {
+        if holds_other_root(image, cnodes.at(place), root) {
             return true;
         }
     }

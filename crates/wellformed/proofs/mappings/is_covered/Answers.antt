@@ -1,25 +1,19 @@
--- By one table more.
-use Rattle.std.proofs.Common.{◌≡◌, ◌∙◌, ◌==◌, ◌/◌, ◌&&◌, sym, ap, arith}
+-- By the table at the place.
+use Rattle.std.proofs.Common.{◌≡◌, ◌∙◌, rules, sym, ap, arith}
+use Rattle.std.proofs.lemmas.Bool.{le-ltb}
 use Rattle.model.specs.declared.entries.ImageHeader.{ImageHeader}
-use Rattle.model.specs.Kernel.AddressSpaces.{region_size}
-use Rattle.wellformed.proofs.Named.{any-here, any-next, any-none}
+use Rattle.wellformed.proofs.Searches.{covered-by, covered-none}
 use Rattle.wellformed.proofs.mappings.is_covered.Goals as goal
 
-pub returns-then-covers : goal.returns-then-covers
-returns-then-covers c =
-    let e = c.args.entry in
-    sym (any-here (λ t. t.root == e.root && (t.address / region_size == e.address / region_size)) c.args.image.now.tables c.loop-item.item c.table.result c.table.ensures
-    (sym c.covers.ensures ∙ c.if-covers.true))
+pub returns-then-place-header_of : goal.returns-then-place-header_of
+returns-then-place-header_of c =
+    c.covers.ensures
+    ∙ sym (covered-by c.args.image.now c.header_of.ensures.fitting c.args.entry c.table_place-place.result c.table.result (search rules) c.table_place-place.ensures c.table.ensures)
 
-pub loop-item-preserved : goal.loop-item-preserved
-loop-item-preserved c =
-    let e = c.args.entry in
-    any-next (λ t. t.root == e.root && (t.address / region_size == e.address / region_size)) c.args.image.now.tables c.loop-item.item c.table.result c.table.ensures
-    (sym c.covers.ensures ∙ c.if-covers.false) c.loop-item.invariant
-
-pub returns : goal.returns
-returns c =
-    let e = c.args.entry in
-    let count : c.header_of-item-end.result.tables ≡ c.args.image.now.header.tables = ap (λ (h : ImageHeader). h.tables) c.header_of-item-end.ensures.value in
-    sym (any-none (λ t. t.root == e.root && (t.address / region_size == e.address / region_size)) c.args.image.now.tables c.loop-item.item
-    (omega (arith, count, c.header_of-item-end.ensures.counts.tables, c.loop-item-test.false)) c.loop-item.invariant)
+pub returns-else-place-header_of : goal.returns-else-place-header_of
+returns-else-place-header_of c =
+    let image = c.args.image.now in
+    let count : c.header_of.result.tables ≡ image.header.tables = ap (λ (h : ImageHeader). h.tables) c.header_of.ensures.value in
+    le-ltb c.table_place-place.result c.header_of.result.tables c.if-place-header_of.false
+    ∙ sym (covered-none image c.header_of.ensures.fitting c.args.entry c.table_place-place.result (search rules) c.table_place-place.ensures
+    (omega (arith, count, c.header_of.ensures.counts.tables, c.if-place-header_of.false)))

@@ -1,7 +1,6 @@
--- What the rounds that are left reach is what all of them do.
-use Rattle.std.proofs.Common.{◌≡◌, ◌-◌, length}
-use Rattle.model.specs.Acceptance.ThreadRules.{reached, reached_within}
+-- The capabilities of so many of the CNodes that are found have been followed.
+use Rattle.wellformed.proofs.Reached.{AreFound}
 use Rattle.wellformed.proofs.reach.reached.Given as goal
 
-abbrev pub invariant-loop-round : goal.invariant-loop-round
-invariant-loop-round l = reached_within (length l.fn.image.capabilities - l._round) l.fn.image l.found ≡ reached l.fn.image l.fn.thread
+abbrev pub invariant-loop-place : goal.invariant-loop-place
+invariant-loop-place l = AreFound l.fn.image l.fn.thread.header.cnode l.place l.found
