@@ -5,3 +5,5 @@
 mod faults;
 #[cfg(test)]
 mod instructions;
+#[cfg(test)]
+mod texts;
