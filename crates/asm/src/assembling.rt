@@ -6,7 +6,6 @@ ghost use Rattle.model.specs.Images.Image.{whole_image};
 use crate::assembly::Assembly;
 use crate::faults::{Fault, SourceFault};
 use crate::labels::{Labels, labels_of};
-use crate::source_lines::without_end;
 use asm_line::parse_line;
 use image::Image;
 use std::alloc::Global;
@@ -36,9 +35,9 @@ pub fn assemble(alloc: Global, text: &str) -> Result<Image, SourceFault>
     let labels = labels_of(alloc, text)?;
     let mut assembly = Assembly::new(alloc);
     let mut number = 0u64;
-    'lines: for piece in text.split_inclusive('\n') {
+    'lines: for line in text.lines() {
         number = number.saturating_add(1);
-        if let Err(fault) = add_text(&mut assembly, without_end(piece), number, &labels) {
+        if let Err(fault) = add_text(&mut assembly, line, number, &labels) {
             return Err(fault.at(number));
         }
     }

@@ -3,7 +3,6 @@
 ghost use Rattle.std.specs.Prelude.{◌≤◌, IfErr};
 
 use crate::faults::{Fault, SourceFault};
-use crate::source_lines::without_end;
 use asm_line::{Line, Name, parse_line};
 use std::alloc::Global;
 use std::collections::HashMap;
@@ -112,10 +111,10 @@ pub(crate) fn labels_of<'a>(alloc: Global, text: &'a str) -> Result<Vec<Labels<'
         open: None,
     };
     let mut number = 0u64;
-    'lines: for piece in text.split_inclusive('\n') {
+    'lines: for line in text.lines() {
         number = number.saturating_add(1);
-        if let Ok(line) = parse_line(without_end(piece)) {
-            if let Err(fault) = search.add(alloc, line, number) {
+        if let Ok(said) = parse_line(line) {
+            if let Err(fault) = search.add(alloc, said, number) {
                 return Err(fault.at(number));
             }
         }

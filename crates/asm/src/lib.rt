@@ -9,7 +9,6 @@ mod keys;
 mod labels;
 mod names;
 mod open_threads;
-mod source_lines;
 
 pub use assembling::assemble;
 pub use faults::SourceFault;

@@ -65,235 +65,6 @@ const WORDS: [u32; 107] = [
     2, 1, 0, 1, 4, 0,  5, 0, 9,  5, 2,
 ];
 
-/// The fault of the texts one behind another, or 0 and 0 if there is none.
-fn fault_of(alloc: Global, texts: &[&str]) -> Result<(u64, u8), AllocError> {
-    let mut whole = String::new(alloc);
-    for text in texts {
-        whole.push_str(text)?;
-    }
-    match assemble(alloc, &whole) {
-        Ok(_) => Ok((0, 0)),
-        Err(SourceFault { line, kind }) => Ok((line, kind)),
-    }
-}
-
-/// Whether each text, behind `front` and before `rest`, has the fault of this kind at this line.
-fn all_fail(
-    alloc: Global,
-    front: &str,
-    rest: &str,
-    line: u64,
-    kind: u8,
-    texts: &[&str],
-) -> Result<bool, AllocError> {
-    for text in texts {
-        if fault_of(alloc, &[front, *text, "\n", rest])? != (line, kind) {
-            return Ok(false);
-        }
-    }
-    Ok(true)
-}
-
-#[test]
-fn the_sample_image_is_built(rt: HostRuntime) -> Result<(), Fail> {
-    let alloc = rt.alloc();
-    let mut text = String::new(alloc);
-    text.push_str(HEAD)?;
-    text.push_str(THREAD)?;
-    let image = assemble(alloc, &text).ok().ok_or("the text is refused")?;
-    let mut expected = Vec::new(alloc);
-    for word in WORDS {
-        expected.extend_from_slice(&word.to_le_bytes())?;
-    }
-    let bytes = write(alloc, &image)?;
-    assert_eq!(rt; bytes.as_slice(), expected.as_slice());
-    Ok(())
-}
-
-#[test]
-fn lines_may_come_in_other_orders(rt: HostRuntime) -> Result<(), Fail> {
-    let alloc = rt.alloc();
-    let text = "# the sections are sorted\r\n\r\nmemory 16 4\r
-untyped u 0x8000 15\nobject o u frame\nobject c u cnode 4\n\tirq b 5 o 1\nirq a 3,o,2
-thread o c 0 o 0 1 0 last 0\nreg x9 1\nreg x2 2\njal x0 last\nmeasure -1 x3 1 x1 -4\nrange x7 0 1\nfirst:\nrange x2 1 1
-slot c 2 0 0 boot 0\nslot c 1 0 0 boot 0\nbeq x0 x0 first\nlast:\nend
-object late u frame\ncap c 3 b 0 0\ncap c 1 a 0 0\ncap c 2 late 0 0\ndata late 7 8\ndata o 9";
-    let image = assemble(alloc, text).ok().ok_or("the text is refused")?;
-    let parts = image.parts();
-    let mut found = Vec::new(alloc);
-    for interrupt in &parts.interrupts {
-        found.push(interrupt.line)?;
-    }
-    for capability in &parts.capabilities {
-        found.push(capability.index)?;
-        found.push(capability.source)?;
-    }
-    for content in &parts.contents {
-        found.push(content.frame)?;
-        found.extend_from_slice(&content.words)?;
-    }
-    for thread in &parts.threads {
-        found.push(thread.entry)?;
-        found.extend_from_slice(&thread.words)?;
-        for register in &thread.registers {
-            found.push(register.register)?;
-        }
-        for record in &thread.records {
-            found.push(record.point)?;
-            for range in &record.ranges {
-                found.push(range.register)?;
-            }
-            for slot in &record.slots {
-                found.push(slot.index)?;
-            }
-            for term in &record.terms {
-                found.push(term.register)?;
-            }
-        }
-    }
-    // lines 3 and 5; the handler of line 3 is number 3, that of line 5 number 4, the late frame 2; `jal` by 8
-    // bytes, and `beq` by none
-    let expected = [
-        3,
-        5,
-        1,
-        3,
-        2,
-        2,
-        3,
-        4,
-        0,
-        9,
-        2,
-        7,
-        8,
-        2,
-        0x0080_006F,
-        0x63,
-        2,
-        9,
-        1,
-        2,
-        7,
-        1,
-        2,
-        1,
-        3,
-    ];
-    assert_eq!(rt; found.as_slice(), expected.as_slice());
-    Ok(())
-}
-
-#[test]
-fn texts_without_an_image(rt: HostRuntime) -> Result<(), Fail> {
-    let alloc = rt.alloc();
-    let ends = fault_of(alloc, &[""])? == (1, 1)
-        && fault_of(alloc, &["\n# nothing\n\n"])? == (3, 1)
-        && fault_of(alloc, &["memory 16"])? == (1, 1)
-        && fault_of(alloc, &["# first\nuntyped u 0 4\nmemory 16 4"])? == (2, 1)
-        && fault_of(alloc, &["memory 16 4\n", "memory 16 4\n"])? == (2, 1)
-        && fault_of(alloc, &["memory 16 4\n\n"])? == (2, 4)
-        && fault_of(alloc, &[HEAD])? == (15, 4)
-        && fault_of(alloc, &[HEAD, "\r"])? == (16, 1)
-        && fault_of(alloc, &[HEAD, THREAD, "\r\n"])? == (0, 0);
-    assert!(rt; ends);
-    let inside = fault_of(
-        alloc,
-        &[HEAD, "thread main cs 28 vs 100 24 0 l 0\nl: ecall"],
-    )? == (17, 1)
-        && fault_of(alloc, &[HEAD, "thread main cs 28 vs 100 24 0 l 0\necall\n"])? == (16, 2);
-    assert!(rt; inside);
-    Ok(())
-}
-
-#[test]
-fn faults_of_declarations(rt: HostRuntime) -> Result<(), Fail> {
-    let alloc = rt.alloc();
-    let unknown = all_fail(
-        alloc,
-        HEAD,
-        THREAD,
-        16,
-        2,
-        &[
-            "object o v frame",
-            "object o cs frame",
-            "irq i 4 u 1",
-            "irq i 4 late 1",
-            "cap u 3 bell 2 0",
-            "cap line 3 bell 2 0",
-            "cap cs 3 u 0 0",
-            "table pu 0 pt",
-            "map vs 0x3000 line 4",
-            "data u 1",
-            "thread u cs 28 vs 100 24 0 l 0",
-            "thread main cs 28 vs 100 24 0 nowhere 0",
-        ],
-    )?;
-    assert!(rt; unknown);
-    let twice = all_fail(
-        alloc,
-        HEAD,
-        THREAD,
-        16,
-        3,
-        &[
-            "untyped u 0 4",
-            "untyped cs 0 4",
-            "object line u frame",
-            "irq u 4 bell 1",
-            "object code v frame",
-        ],
-    )?;
-    assert!(rt; twice);
-    let keys = all_fail(
-        alloc,
-        HEAD,
-        THREAD,
-        16,
-        4,
-        &[
-            "irq i 3 bell 1",
-            "cap cs 1 bell 0 0",
-            "table vs 0 data",
-            "map vs 0x1000 data 4",
-        ],
-    )?;
-    assert!(rt; keys);
-    let later = all_fail(
-        alloc,
-        HEAD,
-        THREAD,
-        18,
-        4,
-        &[
-            "untyped late 0 4\nobject a late frame\nobject b u frame",
-            "data data 1\n\ndata data 2",
-            "thread main cs 28 vs 100 24 0 l 0\nl:\nend",
-        ],
-    )?;
-    assert!(rt; later);
-    let outside = all_fail(
-        alloc,
-        HEAD,
-        THREAD,
-        16,
-        1,
-        &[
-            "memory 16 4",
-            "reg x1 1",
-            "measure 1",
-            "range x1 0 1",
-            "slot cs 1 0 0 boot 0",
-            "l:",
-            "ecall",
-            "end",
-        ],
-    )?;
-    assert!(rt; outside);
-    Ok(())
-}
-
 /// The first lines of a thread, behind those of the sections.
 const BEGUN: &str = "thread main cs 28 vs 100 24 0 start 0x1000
 reg x3 1
@@ -308,156 +79,319 @@ const LATER: &str = "later: ecall
 end
 ";
 
+/// A shorter thread, without its end.
+const SHORT: &str = "thread main cs 28 vs 100 24 0 start 0x1000
+start: ecall
+";
+
+/// A text whose sections are sorted, and the same image from one whose sections are not.
+const SORTED: &str = "memory 16 4
+untyped u 0x8000 15
+object o u frame
+object c u cnode 4
+object late u frame
+irq a 3 o 2
+irq b 5 o 1
+cap c 1 a 0 0
+cap c 2 late 0 0
+cap c 3 b 0 0
+data o 9
+data late 7 8
+thread o c 0 o 0 1 0 last 0
+reg x2 2
+reg x9 1
+word 0x0080006F
+measure -1 x1 -4 x3 1
+range x2 1 1
+range x7 0 1
+slot c 1 0 0 boot 0
+slot c 2 0 0 boot 0
+word 0x63
+last:
+end
+";
+
+const UNSORTED: &str = "# the sections are sorted\r
+
+memory 16 4\r
+untyped u 0x8000 15
+object o u frame
+object c u cnode 4
+\tirq b 5 o 1
+irq a 3,o,2
+thread o c 0 o 0 1 0 last 0
+reg x9 1
+reg x2 2
+jal x0 last
+measure -1 x3 1 x1 -4
+range x7 0 1
+first:
+range x2 1 1
+slot c 2 0 0 boot 0
+slot c 1 0 0 boot 0
+beq x0 x0 first
+last:
+end
+object late u frame
+cap c 3 b 0 0
+cap c 1 a 0 0
+cap c 2 late 0 0
+data late 7 8
+data o 9";
+
+/// The bytes of the image that a text gives.
+fn bytes_of(alloc: Global, text: &str) -> Result<Vec<u8>, Fail> {
+    let image = assemble(alloc, text).ok().ok_or("the text is refused")?;
+    Ok(write(alloc, &image)?)
+}
+
+/// The fault of the sections of the sample image and three texts behind them, or 0 and 0 if there is none.
+fn fault_behind(
+    alloc: Global,
+    front: &str,
+    text: &str,
+    rest: &str,
+) -> Result<(u64, u8), AllocError> {
+    let mut whole = String::new(alloc);
+    whole.push_str(HEAD)?;
+    whole.push_str(front)?;
+    whole.push_str(text)?;
+    whole.push_str(rest)?;
+    Ok(fault_of(alloc, &whole))
+}
+
+/// The fault of a text, or 0 and 0 if there is none.
+fn fault_of(alloc: Global, text: &str) -> (u64, u8) {
+    match assemble(alloc, text) {
+        Ok(_) => (0, 0),
+        Err(SourceFault { line, kind }) => (line, kind),
+    }
+}
+
+/// Whether each text, parted by `|`, has this fault between `front` and `rest`.
+fn all_have(
+    alloc: Global,
+    front: &str,
+    rest: &str,
+    fault: (u64, u8),
+    texts: &str,
+) -> Result<bool, AllocError> {
+    for text in texts.split('|') {
+        if fault_behind(alloc, front, text, rest)? != fault {
+            return Ok(false);
+        }
+    }
+    Ok(true)
+}
+
+#[test]
+fn the_sample_image_is_built(rt: HostRuntime) -> Result<(), Fail> {
+    let alloc = rt.alloc();
+    let mut text = String::new(alloc);
+    text.push_str(HEAD)?;
+    text.push_str(THREAD)?;
+    let mut expected = Vec::new(alloc);
+    for word in WORDS {
+        expected.extend_from_slice(&word.to_le_bytes())?;
+    }
+    assert_eq!(rt; bytes_of(alloc, &text)?.as_slice(), expected.as_slice());
+    Ok(())
+}
+
+#[test]
+fn sections_are_sorted(rt: HostRuntime) -> Result<(), Fail> {
+    let alloc = rt.alloc();
+    let sorted = bytes_of(alloc, SORTED)?;
+    assert_eq!(rt; bytes_of(alloc, UNSORTED)?.as_slice(), sorted.as_slice());
+    Ok(())
+}
+
+#[test]
+fn texts_without_an_image(rt: HostRuntime) -> Result<(), Fail> {
+    let alloc = rt.alloc();
+    let alone = fault_of(alloc, "") == (1, 1)
+        && fault_of(alloc, "\n# nothing\n\n") == (3, 1)
+        && fault_of(alloc, "memory 16") == (1, 1)
+        && fault_of(alloc, "# first\nuntyped u 0 4\nmemory 16 4") == (2, 1)
+        && fault_of(alloc, "memory 16 4\nmemory 16 4\n") == (2, 1)
+        && fault_of(alloc, "memory 16 4\n\n") == (2, 4);
+    assert!(rt; alone);
+    let behind = all_have(alloc, "", "", (15, 4), "")?
+        && all_have(alloc, "", "", (16, 1), "\r")?
+        && all_have(alloc, THREAD, "", (0, 0), "|\r\n|# more|\n\t,\n")?
+        && all_have(alloc, SHORT, "", (17, 1), "")?
+        && all_have(alloc, SHORT, "", (18, 1), "# more")?
+        && all_have(
+            alloc,
+            "thread main cs 28 vs 100 24 0 l 0\n",
+            "",
+            (16, 2),
+            "ecall|ecall\nend",
+        )?;
+    assert!(rt; behind);
+    Ok(())
+}
+
+#[test]
+fn faults_of_declarations(rt: HostRuntime) -> Result<(), Fail> {
+    let alloc = rt.alloc();
+    let out_of_place = all_have(
+        alloc,
+        "",
+        "\n",
+        (16, 1),
+        "memory 16 4|reg x1 1|measure 1|range x1 0 1|slot cs 1 0 0 boot 0|l:|ecall|end",
+    )?;
+    assert!(rt; out_of_place);
+    let unknown = all_have(
+        alloc,
+        "",
+        "\n",
+        (16, 2),
+        "object o v frame|object o cs frame|irq i 4 u 1|irq i 4 late 1|cap u 3 bell 2 0|cap line 3 bell 2 0|cap cs 3 u 0 0|table pu 0 pt|map vs 0x3000 line 4|data u 1|thread u cs 28 vs 100 24 0 l 0\nl:|thread main cs 28 vs 100 24 0 l 0",
+    )?;
+    assert!(rt; unknown);
+    let twice = all_have(
+        alloc,
+        "",
+        "\n",
+        (16, 3),
+        "untyped u 0 4|untyped cs 0 4|object line u frame|irq u 4 bell 1|object code v frame",
+    )?;
+    assert!(rt; twice);
+    let keys = all_have(
+        alloc,
+        "",
+        "\n",
+        (16, 4),
+        "irq i 3 bell 1|cap cs 1 bell 0 0|table vs 0 data|map vs 0x1000 data 4",
+    )?;
+    assert!(rt; keys);
+    let later = all_have(
+        alloc,
+        "",
+        "\n",
+        (18, 4),
+        "untyped late 0 4\nobject a late frame\nobject b u frame|data data 1\n\ndata data 2|thread main cs 28 vs 100 24 0 l 0\nl:\nend",
+    )?;
+    assert!(rt; later);
+    Ok(())
+}
+
 #[test]
 fn faults_in_threads(rt: HostRuntime) -> Result<(), Fail> {
     let alloc = rt.alloc();
-    let mut front = String::new(alloc);
-    front.push_str(HEAD)?;
-    front.push_str(BEGUN)?;
-    let read = all_fail(
+    let read = all_have(
         alloc,
-        &front,
+        BEGUN,
         LATER,
-        0,
-        0,
-        &[
-            "",
-            "reg x4 1",
-            "ecall\nreg x4 1",
-            "bne x1 x2 start",
-            "here:",
-            "boot: jal x0 boot",
-            "range x6 0 1",
-        ],
+        (0, 0),
+        "|reg x4 1\n|ecall\nreg x4 1\n|bne x1 x2 start\n|here:\n|boot: jal x0 boot\n|range x6 0 1\n",
     )?;
     assert!(rt; read);
-    let syntax = all_fail(
+    let syntax = all_have(
         alloc,
-        &front,
+        BEGUN,
         LATER,
-        22,
-        1,
-        &[
-            "untyped v 0 4",
-            "memory 16 4",
-            "thread main cs 28 vs 100 24 0 start 0",
-            "nop",
-            "jal x0 4",
-        ],
+        (22, 1),
+        "untyped v 0 4\n|memory 16 4\n|thread main cs 28 vs 100 24 0 start 0\n|nop\n|jal x0 4\n",
     )?;
     assert!(rt; syntax);
-    let unknown = all_fail(
+    let unknown = all_have(
         alloc,
-        &front,
+        BEGUN,
         LATER,
-        22,
-        2,
-        &[
-            "jal x0 nowhere",
-            "beq x0 x0 u",
-            "slot u 2 0 0 boot 0",
-            "slot cs 2 3 0 line 0",
-        ],
+        (22, 2),
+        "jal x0 nowhere\n|beq x0 x0 u\n|slot u 2 0 0 boot 0\n|slot cs 2 3 0 line 0\n",
     )?;
     assert!(rt; unknown);
-    let twice = all_fail(
+    let twice = all_have(
         alloc,
-        &front,
+        BEGUN,
         LATER,
-        22,
-        3,
-        &["start:", "start: ecall", "start: jal x0 nowhere"],
+        (22, 3),
+        "start:\n|start: ecall\n|start: jal x0 nowhere\n",
     )?;
     assert!(rt; twice);
-    let range = all_fail(
+    let range = all_have(
         alloc,
-        &front,
+        BEGUN,
         LATER,
-        22,
-        4,
-        &[
-            "measure 1",
-            "reg x3 2",
-            "range x5 3 4",
-            "slot cs 1 0 0 boot 0",
-            "addi x5 x0 2048",
-        ],
+        (22, 4),
+        "measure 1\n|reg x3 2\n|range x5 3 4\n|slot cs 1 0 0 boot 0\n|addi x5 x0 2048\n",
     )?;
     assert!(rt; range);
+    let unended = all_have(alloc, BEGUN, "end\n", (18, 2), "|nop\n|end\n")?;
+    assert!(rt; unended);
     Ok(())
 }
 
 #[test]
 fn records_by_themselves(rt: HostRuntime) -> Result<(), Fail> {
     let alloc = rt.alloc();
-    let mut front = String::new(alloc);
-    front.push_str(HEAD)?;
-    front.push_str("thread main cs 28 vs 100 24 0 start 0x1000\nstart: ecall\n")?;
-    let range = all_fail(
+    let range = all_have(
         alloc,
-        &front,
-        "end\n",
-        18,
-        4,
-        &["measure 1 x5 2 x5 1", "measure 1 x1 1 x2 1 x3 1 x4 1 x5 1"],
+        SHORT,
+        "\nend\n",
+        (18, 4),
+        "measure 1 x5 2 x5 1|measure 1 x1 1 x2 1 x3 1 x4 1 x5 1",
     )?;
     assert!(rt; range);
-    let syntax = all_fail(
+    let syntax = all_have(
         alloc,
-        &front,
-        "end\n",
-        18,
-        1,
-        &["range x5 0 1", "slot cs 1 0 0 boot 0"],
+        SHORT,
+        "\nend\n",
+        (18, 1),
+        "range x5 0 1|slot cs 1 0 0 boot 0|nop",
     )?;
     assert!(rt; syntax);
-    let ended = all_fail(alloc, &front, "", 19, 1, &["measure 1\nend"])?;
+    let ended = all_have(alloc, SHORT, "\nend\n", (19, 1), "measure 1")?;
     assert!(rt; ended);
-    let read = all_fail(
+    let read = all_have(
         alloc,
-        &front,
-        "ecall\nend\n",
-        0,
-        0,
-        &["measure 1 x1 1 x2 1 x3 1 x4 1"],
+        SHORT,
+        "\necall\nend\n",
+        (0, 0),
+        "measure 1 x1 1 x2 1 x3 1 x4 1",
     )?;
     assert!(rt; read);
     Ok(())
 }
 
-/// Whether a branch over so many words is read, or which fault it is.
-fn branch_over(alloc: Global, words: usize) -> Result<(u64, u8), AllocError> {
+/// The fault of a text that has some words so many times.
+fn fault_of_many(
+    alloc: Global,
+    front: &str,
+    words: &str,
+    count: usize,
+    rest: &str,
+) -> Result<(u64, u8), AllocError> {
     let mut text = String::new(alloc);
-    text.push_str(HEAD)?;
-    text.push_str("thread main cs 28 vs 100 24 0 start 0x1000\nstart: beq x0 x0 far\n")?;
-    for _ in 0..words {
-        text.push_str("word 1\n")?;
+    for _ in 0..count {
+        text.push_str(words)?;
     }
-    fault_of(alloc, &[&text, "far: ecall\nend\n"])
+    fault_behind(alloc, front, &text, rest)
 }
 
 #[test]
 fn branches_reach_four_kilobytes(rt: HostRuntime) -> Result<(), Fail> {
     let alloc = rt.alloc();
-    assert_eq!(rt; branch_over(alloc, 1022)?, (0, 0));
-    assert_eq!(rt; branch_over(alloc, 1023)?, (17, 4));
+    let front = "thread main cs 28 vs 100 24 0 start 0x1000\nstart: beq x0 x0 far\n";
+    let rest = "far: ecall\nend\n";
+    let is_near = fault_of_many(alloc, front, "word 1\n", 1022, rest)? == (0, 0);
+    assert!(rt; is_near);
+    let is_far = fault_of_many(alloc, front, "word 1\n", 1023, rest)? == (17, 4);
+    assert!(rt; is_far);
     Ok(())
-}
-
-/// The fault of a frame's content of so many words.
-fn content_of(alloc: Global, words: usize) -> Result<(u64, u8), AllocError> {
-    let mut text = String::new(alloc);
-    text.push_str("data data")?;
-    for _ in 0..words {
-        text.push_str(" 1")?;
-    }
-    fault_of(alloc, &[HEAD, &text, "\n", THREAD])
 }
 
 #[test]
 fn contents_fill_a_frame(rt: HostRuntime) -> Result<(), Fail> {
     let alloc = rt.alloc();
-    assert_eq!(rt; content_of(alloc, 1024)?, (0, 0));
-    assert_eq!(rt; content_of(alloc, 1025)?, (16, 4));
+    let rest = "\nthread main cs 28 vs 100 24 0 l 0\nl: ecall\nend\n";
+    let is_full = fault_of_many(alloc, "data data", " 1", 1024, rest)? == (0, 0);
+    assert!(rt; is_full);
+    let is_over = fault_of_many(alloc, "data data", " 1", 1025, rest)? == (16, 4);
+    assert!(rt; is_over);
     Ok(())
 }
