@@ -5,5 +5,3 @@
 mod faults;
 #[cfg(test)]
 mod instructions;
-#[cfg(test)]
-mod texts;
