@@ -1,0 +1,211 @@
+//! An image whose lines are being read.
+
+ghost use Rattle.std.specs.Prelude.{◌≡◌, true, IfOk};
+ghost use Rattle.model.specs.Images.Image.{whole_image};
+
+use crate::declarations::Declarations;
+use crate::faults::Fault;
+use crate::labels::Labels;
+use crate::open_threads::OpenThread;
+use asm_line::{Line, ThreadLine};
+use image::{Image, Parts, ThreadParts};
+use std::alloc::Global;
+
+/// How many threads an image has at most.
+const MOST_THREADS: usize = 64;
+
+/// The version of the format of image files.
+const VERSION: u32 = 1;
+
+/// What the line `memory` says.
+#[derive(Clone, Copy)]
+struct Memory {
+    bits: u32,
+    boot_radix: u32,
+}
+
+/// What is known of an image behind some of its lines.
+#[derive(Drop)]
+pub(crate) struct Assembly<'a> {
+    alloc: Global,
+    memory: Option<Memory>,
+    declared: Declarations<'a>,
+    threads: Vec<ThreadParts>,
+    /// The thread that is not at its end.
+    open: Option<OpenThread>,
+}
+
+impl<'a> Assembly<'a> {
+    pub(crate) fn new(alloc: Global) -> Assembly<'a> {
+        Assembly {
+            alloc,
+            memory: None,
+            declared: Declarations::new(alloc),
+            threads: Vec::new(alloc),
+            open: None,
+        }
+    }
+
+    /// Adds what a line says. `number` counts the lines from 1, and `labels` are those of each thread.
+    pub(crate) fn add(
+        &mut self,
+        line: Line<'a>,
+        number: u64,
+        labels: &[Labels<'a>],
+    ) -> Result<(), Fault> {
+        if let Line::Blank = &line {
+            return Ok(());
+        }
+        if self.memory.is_none() {
+            return self.begin(line);
+        }
+        let labels = labels.get(self.threads.len());
+        match self.open.take() {
+            Some(thread) => self.add_to_thread(thread, line, number, labels),
+            None => self.declare(line, labels),
+        }
+    }
+
+    /// Adds the first line.
+    fn begin(&mut self, line: Line<'a>) -> Result<(), Fault> {
+        match line {
+            Line::Memory {
+                memory_bits: bits,
+                boot_radix,
+            } => {
+                self.memory = Some(Memory { bits, boot_radix });
+                Ok(())
+            }
+            _ => Err(Fault::Syntax),
+        }
+    }
+
+    /// Adds the first line of a thread.
+    fn begin_thread(
+        &mut self,
+        line: ThreadLine<'a>,
+        labels: Option<&Labels<'a>>,
+    ) -> Result<(), Fault> {
+        let Some(labels) = labels else {
+            return Err(Fault::UnknownName);
+        };
+        let thread = OpenThread::begin(self.alloc, line, &self.declared.names, labels)?;
+        if MOST_THREADS <= self.threads.len() {
+            return Err(Fault::Range);
+        }
+        self.open = Some(thread);
+        Ok(())
+    }
+
+    /// Adds a line that stands in no thread.
+    fn declare(&mut self, line: Line<'a>, labels: Option<&Labels<'a>>) -> Result<(), Fault> {
+        match line {
+            Line::Untyped { name, entry } => self.declared.add_untyped(name, entry),
+            Line::Object {
+                name,
+                untyped,
+                kind,
+                size,
+            } => self.declared.add_object(name, untyped, kind, size),
+            Line::Interrupt {
+                name,
+                line,
+                notification,
+                badge,
+            } => self.declared.add_interrupt(name, line, notification, badge),
+            Line::Capability {
+                cnode,
+                index,
+                source,
+                rights,
+                payload,
+            } => self
+                .declared
+                .add_capability(cnode, index, source, rights, payload),
+            Line::Table {
+                root,
+                address,
+                table,
+            } => self.declared.add_table(root, address, table),
+            Line::Frame {
+                root,
+                address,
+                frame,
+                rights,
+            } => self.declared.add_frame(root, address, frame, rights),
+            Line::Content { frame, words } => self.declared.add_content(self.alloc, frame, words),
+            Line::Thread(line) => self.begin_thread(line, labels),
+            _ => Err(Fault::Syntax),
+        }
+    }
+
+    /// Adds a line that stands in a thread.
+    fn add_to_thread(
+        &mut self,
+        mut thread: OpenThread,
+        line: Line<'a>,
+        number: u64,
+        labels: Option<&Labels<'a>>,
+    ) -> Result<(), Fault> {
+        let Some(labels) = labels else {
+            return Err(Fault::UnknownName);
+        };
+        match line {
+            Line::Register(entry) => thread.add_register(entry)?,
+            Line::Measure { constant, terms } => thread.add_measure(self.alloc, constant, terms)?,
+            Line::Range(entry) => thread.add_range(entry)?,
+            Line::Slot {
+                cnode,
+                index,
+                word0,
+                word1,
+                parent,
+            } => thread.add_slot(&self.declared.names, cnode, index, [word0, word1], parent)?,
+            Line::Label(name) => labels.check_first(&name, number)?,
+            Line::Code { label, code } => {
+                if let Some(name) = label {
+                    labels.check_first(&name, number)?;
+                }
+                thread.add_code(code, labels)?;
+            }
+            Line::End => {
+                self.threads.push(thread.end()?)?;
+                return Ok(());
+            }
+            _ => return Err(Fault::Syntax),
+        }
+        self.open = Some(thread);
+        Ok(())
+    }
+
+    /// The image behind the last line.
+    pub(crate) fn finish(self) -> Result<Image, Fault>
+        ensures { IfOk result (λ image. whole_image.fits image ≡ true) }
+    {
+        let Some(memory) = self.memory else {
+            return Err(Fault::Syntax);
+        };
+        if self.open.is_some() {
+            return Err(Fault::Syntax);
+        }
+        let capabilities = self.declared.capability_entries(self.alloc)?;
+        let declared = self.declared;
+        let parts = Parts {
+            version: VERSION,
+            memory_bits: memory.bits,
+            boot_radix: memory.boot_radix,
+            untypeds: declared.untypeds,
+            objects: declared.objects,
+            capabilities,
+            interrupts: declared.interrupts,
+            tables: declared.tables,
+            frames: declared.frames,
+            contents: declared.contents,
+            threads: self.threads,
+        };
+        match Image::checked(parts) {
+            Ok(image) => Ok(image),
+            Err(_) => Err(Fault::Range),
+        }
+    }
+}
