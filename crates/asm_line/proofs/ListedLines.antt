@@ -141,12 +141,39 @@ first-kind k words h = ap (λ r. r >>= λ kind. Ok (kind, words)) (kind-says k h
 first-size : (n : ℕ) (words : List Text) → n < 2 ^ 63 → size_first (decimal n ∷ words) ≡ Ok (pos n, words)
 first-size n words small = ap (λ r. r >>= λ size. Ok (size, words)) (number-decimal n small)
 
-pub object-says : (k untyped kind size : ℕ) → IsWord k → IsWord untyped → between 1 8 kind ≡ true → IsWord size → size_fits kind size ≡ true
-    → line_of (codes "object" ∷ object_name k ∷ untyped_name untyped ∷ kind_name kind ∷ decimal size ∷ []) ≡ Some (Ok (said.Object (object_name k) (untyped_name untyped) kind size))
+-- the words of a size, if the kind has one
+abbrev pub sizes : ℕ → ℕ → List Text
+sizes kind size = if kind == 1 || kind == 5 then decimal size ∷ [] else []
+
+pub record Sized (size : ℕ) (words : List Text) : Type 0 where
+  pub first : size_first words ≡ Ok (pos size, [])
+  pub plain : AllPlain words
+
+with-size : (size : ℕ) → IsWord size → Sized size (decimal size ∷ [])
+with-size size small = record { first = first-size size [] (wide size small); plain = (number-plain size small, tt) }
+
+without-size : (size : ℕ) → (size == 0 && true) ≡ true → Sized size []
+without-size zero h = record { first = refl; plain = tt }
+without-size (suc n) h = absurd (grind (arith, nat_tests))
+
+pub size-says : (kind size : ℕ) → between 1 8 kind ≡ true → IsWord size → size_fits kind size ≡ true → Sized size (sizes kind size)
+size-says zero size h small fits = absurd cc
+size-says (suc zero) size h small fits = with-size size small
+size-says (suc (suc zero)) size h small fits = without-size size fits
+size-says (suc (suc (suc zero))) size h small fits = without-size size fits
+size-says (suc (suc (suc (suc zero)))) size h small fits = without-size size fits
+size-says (suc (suc (suc (suc (suc zero))))) size h small fits = with-size size small
+size-says (suc (suc (suc (suc (suc (suc zero)))))) size h small fits = without-size size fits
+size-says (suc (suc (suc (suc (suc (suc (suc zero))))))) size h small fits = without-size size fits
+size-says (suc (suc (suc (suc (suc (suc (suc (suc zero)))))))) size h small fits = without-size size fits
+size-says (suc (suc (suc (suc (suc (suc (suc (suc (suc n))))))))) size h small fits = absurd (grind (arith, nat_tests))
+
+pub object-says : (k untyped kind size : ℕ) (words : List Text) → IsWord k → IsWord untyped → between 1 8 kind ≡ true → IsWord size → size_fits kind size ≡ true → Sized size words
+    → line_of (codes "object" ∷ object_name k ∷ untyped_name untyped ∷ kind_name kind ∷ words) ≡ Some (Ok (said.Object (object_name k) (untyped_name untyped) kind size))
 unfolding line_of keyword_of line_for object_of
-object-says k untyped kind size a b h small fits =
-    rw (first-object 111 k (untyped_name untyped ∷ kind_name kind ∷ decimal size ∷ []) refl refl (wide k a)) (rw (first-object 117 untyped (kind_name kind ∷ decimal size ∷ []) refl refl (wide untyped b))
-    (rw (first-kind kind (decimal size ∷ []) h) (rw (first-size size [] (wide size small)) (rw (is-word size small) (rw fits refl)))))
+object-says k untyped kind size words a b h small fits sized =
+    rw (first-object 111 k (untyped_name untyped ∷ kind_name kind ∷ words) refl refl (wide k a)) (rw (first-object 117 untyped (kind_name kind ∷ words) refl refl (wide untyped b))
+    (rw (first-kind kind words h) (rw sized.first (rw (is-word size small) (rw fits refl)))))
 
 -- ---- sources of capabilities
 

@@ -5,13 +5,13 @@ use Rattle.std.specs.Fmt.{decimal}
 use Rattle.std.specs.List.{list_all, position}
 use Rattle.std.proofs.lemmas.Bool.Decides.{nat_tests}
 use Rattle.model.specs.Images.Image.{between, no_parent}
-use Rattle.model.specs.Images.Listing.{Text, untyped_name, object_name, interrupt_name, register_name, kind_name, source_name, whole_number, term_words}
+use Rattle.model.specs.Images.Listing.{Text, untyped_name, object_name, interrupt_name, register_name, kind_name, source_name, whole_number, term_words, size_words}
 use Rattle.asm_line.specs.declared.lines.Line.{Line}
 use Rattle.asm_line.specs.Words.{words_of}
 use Rattle.asm_line.specs.Parsing.{line_of}
 use Rattle.asm_line.specs.Listed.{Lists, memory, untyped, object, interrupt, capability, table, frame, content, thread, measure, range, slot, register, label, word, end, IsWord}
 use Rattle.asm_line.proofs.PlainWords.{IsPlainWord, is_plain, decimal-plain, words-line, line-all, none-there}
-use Rattle.asm_line.proofs.ListedLines.{Reads, named-plain, named-digits, number-plain, plain-literal, memory-says, untyped-says, object-says, interrupt-says, capability-says, table-says, frame-says, content-says, thread-says, measure-says, constant-plain, terms-say, range-says, register-says, label-says, word-says, end-says, kind-says, source-says, plain-numbers, slot-reads}
+use Rattle.asm_line.proofs.ListedLines.{Reads, named-plain, named-digits, number-plain, plain-literal, memory-says, untyped-says, object-says, size-says, interrupt-says, capability-says, table-says, frame-says, content-says, thread-says, measure-says, constant-plain, terms-say, range-says, register-says, label-says, word-says, end-says, kind-says, source-says, plain-numbers, slot-reads}
 
 most : (low high n : ℕ) → between low high n ≡ true → high < 2 ^ 63 → n < 2 ^ 63
 most low high n h less = grind (arith, nat_tests)
@@ -49,12 +49,12 @@ reads _ _ (untyped k e a b h) = record {
   known = tt;
   says = untyped-says k e.offset e.bits a b h (most 4 24 e.bits h (omega arith));
 }
-reads _ _ (object k e a b h small fits) = record {
-  words = codes "object" ∷ object_name k ∷ untyped_name e.untyped ∷ kind_name e.kind ∷ decimal e.size ∷ [];
+reads _ _ (object k e a b h small fits) = let sized = size-says e.kind e.size h small fits in record {
+  words = codes "object" ∷ object_name k ∷ untyped_name e.untyped ∷ kind_name e.kind ∷ size_words e;
   spelled = refl;
-  plain = (literal (codes "object") (omega arith) refl, (named-plain 111 k refl a, (named-plain 117 e.untyped refl b, ((kind-says e.kind h).1, (number-plain e.size small, tt)))));
+  plain = (literal (codes "object") (omega arith) refl, (named-plain 111 k refl a, (named-plain 117 e.untyped refl b, ((kind-says e.kind h).1, sized.plain))));
   known = tt;
-  says = object-says k e.untyped e.kind e.size a b h small fits;
+  says = object-says k e.untyped e.kind e.size (size_words e) a b h small fits sized;
 }
 reads _ _ (interrupt k e a h b g) = let badge = badge-fits e.badge g in record {
   words = codes "irq" ∷ interrupt_name k ∷ decimal e.line ∷ object_name e.notification ∷ decimal e.badge ∷ [];

@@ -55,9 +55,9 @@ pub fn solo_takes_calls()
 #[tactic(auto, unfolding(crate::proofs::Opened::opened))]
 pub fn solo_is_listed()
     ensures { listing_lines solo_image
-        ≡ codes "memory 16 4" ∷ codes "untyped u0 32768 15" ∷ codes "object o0 u0 frame 0" ∷ codes "object o1 u0 root 0"
-        ∷ codes "object o2 u0 table 0" ∷ codes "object o3 u0 frame 0" ∷ codes "object o4 u0 tcb 0" ∷ codes "object o5 u0 cnode 4"
-        ∷ codes "object o6 u0 notification 0" ∷ codes "irq i0 3 o6 1" ∷ codes "cap o5 1 o6 2 0" ∷ codes "cap o5 2 i0 0 0"
+        ≡ codes "memory 16 4" ∷ codes "untyped u0 32768 15" ∷ codes "object o0 u0 frame" ∷ codes "object o1 u0 root"
+        ∷ codes "object o2 u0 table" ∷ codes "object o3 u0 frame" ∷ codes "object o4 u0 tcb" ∷ codes "object o5 u0 cnode 4"
+        ∷ codes "object o6 u0 notification" ∷ codes "irq i0 3 o6 1" ∷ codes "cap o5 1 o6 2 0" ∷ codes "cap o5 2 i0 0 0"
         ∷ codes "table o1 0 o2" ∷ codes "map o1 4096 o0 4" ∷ codes "map o1 8192 o3 3" ∷ codes "thread o4 o5 28 o1 100 24 0 l 4096"
         ∷ codes "l:" ∷ codes "measure 24" ∷ codes "word 10486419" ∷ codes "measure 3 x5 2" ∷ codes "range x5 1 10"
         ∷ codes "word 4294083219" ∷ codes "measure 4 x5 2" ∷ codes "range x5 0 9" ∷ codes "word 4261584611" ∷ codes "word 1049875"

@@ -1,5 +1,5 @@
 -- The text of an image: one line for each of its entries, by which it can be built again.
-use Rattle.std.specs.Prelude.{ℕ, suc, ◌==◌, ℤ, pos, negsuc, codes, decimal, List, [], ◌∷◌, ◌++◌, map, flat_map, slice_index, if◌then◌else◌}
+use Rattle.std.specs.Prelude.{ℕ, suc, ◌==◌, ◌||◌, ℤ, pos, negsuc, codes, decimal, List, [], ◌∷◌, ◌++◌, map, flat_map, slice_index, if◌then◌else◌}
 use Rattle.std.specs.List.{join_with_byte, range_with_len}
 use Rattle.std.specs.Option.{option_map_or}
 use Rattle.model.specs.declared.entries.UntypedEntry.{UntypedEntry}
@@ -66,9 +66,13 @@ memory_line image = line (codes "memory" ∷ decimal image.header.memory_bits �
 abbrev pub untyped_line : ℕ × UntypedEntry → Text
 untyped_line u = line (codes "untyped" ∷ untyped_name u.0 ∷ decimal (u.1).offset ∷ decimal (u.1).bits ∷ [])
 
+-- a size where the kind has one: the bits of untyped memory, and the radix of a CNode
+abbrev pub size_words : ObjectEntry → List Text
+size_words o = if o.kind == 1 || o.kind == 5 then decimal o.size ∷ [] else []
+
 abbrev pub object_line : ℕ × ObjectEntry → Text
 object_line o =
-    line (codes "object" ∷ object_name o.0 ∷ untyped_name (o.1).untyped ∷ kind_name (o.1).kind ∷ decimal (o.1).size ∷ [])
+    line (codes "object" ∷ object_name o.0 ∷ untyped_name (o.1).untyped ∷ kind_name (o.1).kind ∷ size_words o.1)
 
 abbrev pub interrupt_line : ℕ × InterruptEntry → Text
 interrupt_line i =
