@@ -13,7 +13,8 @@ use Rattle.model.specs.declared.errors.KError.TheVariants.{IllegalOperation, Ran
 use Rattle.model.specs.declared.invocations.SlotName.{SlotName}
 use Rattle.cnode_ops.specs.Nodes.{CNodesAreOpen, HasOpenSlots}
 use Rattle.cnode_ops.specs.Outcomes.{Gives}
-use Rattle.cnode_ops.specs.Results.{minted_copy_of, named_slots}
+use Rattle.cap_copies.specs.Copies.{minted_copy_of}
+use Rattle.cnode_ops.specs.Results.{named_slots}
 use Rattle.cnode_ops.proofs.Kept.{nodes-put}
 
 -- ---- a child

@@ -1,4 +1,4 @@
--- Copies are valid, and name what their source names.
+-- Copies name what their source names.
 use Rattle.std.proofs.Common.{ℕ, ◌≡◌, ◌∙◌, subst, ◌^◌, ◌<◌, Bool, true, false, not, Result, Ok, refl, sym, ap, arith}
 use Rattle.std.specs.Prelude.{bit_and, nat_lt}
 use Rattle.std.proofs.lemmas.Bool.Decides.{nat_tests}
@@ -10,46 +10,7 @@ use Rattle.model.specs.declared.capabilities.Cap.{Cap}
 use Rattle.model.specs.declared.capabilities.Cap.TheVariants.{Empty, Untyped, Endpoint, Notification, CNode, Frame, PageTable, Tcb, RootTable, InterruptControl, InterruptHandler}
 use Rattle.model.specs.declared.errors.KError.{KError}
 use Rattle.model.specs.declared.errors.KError.TheVariants.{IllegalOperation, RangeError}
-use Rattle.cnode_ops.specs.Results.{copy_of, minted_copy_of, mutation_of}
-
--- ---- validity
-
--- fewer rights are rights of an endpoint too
-fewer_rights : (held word : ℕ) → AreEndpointRights held → AreEndpointRights (bit_and held word)
-fewer_rights held word are =
-    and_assoc 11 held word ∙ ap (λ (n : ℕ). bit_and held n) (and_comm word 11) ∙ sym (and_assoc word held 11) ∙ ap (λ (n : ℕ). bit_and n word) are
-
-copied-valid : (held : Cap) (word : ℕ) → IsCapability held → IsCapability (copied held word)
-copied-valid Empty word valid = valid
-copied-valid (Untyped offset bits watermark) word valid = valid
-copied-valid (Endpoint offset r badge) word valid = (valid.0, fewer_rights r.0 word valid.1, valid.2)
-copied-valid (Notification offset r badge) word valid = (valid.0, fewer_rights r.0 word valid.1, valid.2)
-copied-valid (CNode offset radix guard) word valid = valid
-copied-valid (Frame offset r mapping) word valid = (valid.0, omega (arith, and_le_l r.0 word, valid.1), tt)
-copied-valid (PageTable offset mapping) word valid = valid
-copied-valid (Tcb offset) word valid = valid
-copied-valid (RootTable offset) word valid = valid
-copied-valid InterruptControl word valid = valid
-copied-valid (InterruptHandler irq_line) word valid = valid
-
-guard_word : (radix word : ℕ) → is_guard_word radix word ≡ true → IsGuardWord radix word
-guard_word radix word fits = grind (arith, nat_tests)
-
-badge : (word : ℕ) → nat_lt word (2 ^ 28) ≡ true → word < 2 ^ 28
-badge word fits = grind (arith, nat_tests)
-
-payload-valid : (held : Cap) (word payload : ℕ) → IsCapability held → badge_fits held payload ≡ true → guard_fits held payload ≡ true → IsCapability (with_payload (copied held word) payload)
-payload-valid Empty word payload valid fits guards = valid
-payload-valid (Untyped offset bits watermark) word payload valid fits guards = valid
-payload-valid (Endpoint offset r old) word payload valid fits guards = (valid.0, fewer_rights r.0 word valid.1, badge payload fits)
-payload-valid (Notification offset r old) word payload valid fits guards = (valid.0, fewer_rights r.0 word valid.1, badge payload fits)
-payload-valid (CNode offset radix old) word payload valid fits guards = (valid.0, valid.1, valid.2, guard_word radix payload guards)
-payload-valid (Frame offset r mapping) word payload valid fits guards = copied-valid (Frame offset r mapping) word valid
-payload-valid (PageTable offset mapping) word payload valid fits guards = valid
-payload-valid (Tcb offset) word payload valid fits guards = valid
-payload-valid (RootTable offset) word payload valid fits guards = valid
-payload-valid InterruptControl word payload valid fits guards = valid
-payload-valid (InterruptHandler irq_line) word payload valid fits guards = valid
+use Rattle.cap_copies.specs.Copies.{copy_of, minted_copy_of, mutation_of}
 
 -- ---- what the checks leave
 
@@ -59,9 +20,6 @@ passed false error rest made is = absurd (cc)
 
 copy-made : (held : Cap) (word : ℕ) (made : Cap) → copy_of held word ≡ Ok made → copied held word ≡ made
 copy-made held word made is = let ok = (passed (may_be_copied held) IllegalOperation (Ok (copied held word)) made is).1 in cc
-
-pub copy-valid : (held : Cap) (word : ℕ) (made : Cap) → IsCapability held → copy_of held word ≡ Ok made → IsCapability made
-copy-valid held word made valid is = subst IsCapability (copy-made held word made is) (copied-valid held word valid)
 
 -- what passes the checks of Mint
 pub record IsMinted (held : Cap) (word payload : ℕ) (made : Cap) : Type 0 where
@@ -77,11 +35,6 @@ minted-made held word payload made is =
     let four = passed (guard_fits held payload) IllegalOperation _ made three.1 in
     let ok = four.1 in
     record { fits = three.0; guards = four.0; is = cc }
-
-pub minted-valid : (held : Cap) (word payload : ℕ) (made : Cap) → IsCapability held → minted_copy_of held word payload ≡ Ok made → IsCapability made
-minted-valid held word payload made valid is =
-    let minted = minted-made held word payload made is in
-    subst IsCapability minted.is (payload-valid held word payload valid minted.fits minted.guards)
 
 -- ---- the CNodes that copies name
 

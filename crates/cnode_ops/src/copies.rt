@@ -6,8 +6,8 @@ ghost use Rattle.cnode_ops.specs.Outcomes.{GivesCopy, GivesMint};
 ghost use Rattle.model.specs.Capabilities.CapabilityWords.{IsCapability};
 ghost use Rattle.model.specs.Capabilities.Slots.{SameOutside};
 
-use crate::capabilities::{copy_of, minted_copy_of};
 use crate::named::{NodeCall, named_slots};
+use cap_copies::{copy_of, minted_copy_of};
 use derivation::insert_child;
 use model::{KError, SlotName};
 use slots::SlotStore;

@@ -3,7 +3,6 @@
 #![tactic(auto)]
 
 mod beginnings;
-mod capabilities;
 mod copies;
 mod deletions;
 mod emptying;

@@ -6,8 +6,8 @@ ghost use Rattle.cnode_ops.specs.Outcomes.{GivesMutate};
 ghost use Rattle.model.specs.Capabilities.CapabilityWords.{IsCapability};
 ghost use Rattle.model.specs.Capabilities.Slots.{SameOutside};
 
-use crate::capabilities::mutation_of;
 use crate::named::{NodeCall, named_slots};
+use cap_copies::mutation_of;
 use derivation::relocate;
 use model::{KError, SlotName};
 use slots::SlotStore;

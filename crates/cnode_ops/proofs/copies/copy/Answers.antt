@@ -4,17 +4,14 @@ use Rattle.model.specs.Capabilities.Slots.{Slots}
 use Rattle.cnode_ops.specs.Nodes.{HasOpenSlots}
 use Rattle.cnode_ops.proofs.Answered.{child-nodes}
 use Rattle.cnode_ops.proofs.Kept.{node-made}
-use Rattle.cnode_ops.proofs.Values.{copy-node, copy-valid}
+use Rattle.cnode_ops.proofs.Values.{copy-node}
 use Rattle.cnode_ops.proofs.copies.copy.Goals as goal
-
-pub insert_child-requires-clause-valid : goal.insert_child-requires-clause-valid
-insert_child-requires-clause-valid g c = copy-valid c.capability.result c.args.rights c.in_ok-capability.capability c.capability.ensures.valid (sym c.in_ok-capability.ensures)
 
 pub returns-clause-nodes : goal.returns-clause-nodes
 returns-clause-nodes g c =
     let slots : Slots = g.S.SlotMap.slots c.args.store.now in
     let from = c.in_ok-to.from in
     let made = c.in_ok-capability.capability in
-    let named = copy-node c.capability.result c.args.rights made (sym c.in_ok-capability.ensures) in
+    let named = copy-node c.capability.result c.args.rights made (sym c.in_ok-capability.ensures.value) in
     let here = node-made slots c.capability.result made named (subst (HasOpenSlots slots) (sym c.capability.ensures.value) (c.requires.nodes.nodes from)) in
     child-nodes g.S.SlotMap.slots c.args.store.now c.insert_child.new.store c.in_ok-to.to from made c.insert_child.result c.insert_child.ensures.slots c.insert_child.ensures.same c.requires.nodes here

@@ -1,7 +1,8 @@
-//! What the calls on CNodes ask about capabilities, and what they make of them.
+//! What copies and moves ask of a capability, and what they make of it.
+//! seL4 Reference Manual, "Capability-based Access Control", seL4_CNode.
 
 ghost use Rattle.std.specs.Prelude.{◌≡◌, ◌≢◌, IfOk};
-ghost use Rattle.cnode_ops.specs.Results.{copy_of, minted_copy_of, mutation_of};
+ghost use Rattle.cap_copies.specs.Copies.{copy_of, minted_copy_of, mutation_of};
 ghost use Rattle.model.specs.Capabilities.CapabilityKinds.{badge_fits, carries_messages, copied, guard_fits, is_badged, may_be_copied, with_payload};
 ghost use Rattle.model.specs.Capabilities.CapabilityWords.{IsCapability};
 
@@ -113,8 +114,9 @@ fn with_payload(capability: Cap, payload: u32) -> Cap
 }
 
 /// A copy of a capability, if it may be copied (`IllegalOperation`).
-pub(crate) fn copy_of(held: Cap, rights_word: u32) -> Result<Cap, KError>
-    ensures { result ≡ copy_of held rights_word }
+pub fn copy_of(held: Cap, rights_word: u32) -> Result<Cap, KError>
+    ensures value { result ≡ copy_of held rights_word }
+    ensures valid { IsCapability held → IfOk result IsCapability }
 {
     if !may_be_copied(held) {
         return Err(KError::IllegalOperation);
@@ -125,8 +127,9 @@ pub(crate) fn copy_of(held: Cap, rights_word: u32) -> Result<Cap, KError>
 /// A copy with a badge or a guard word. The first check that fails gives the error: the capability may
 /// not be copied or has a badge already (`IllegalOperation`), the badge is too great (`RangeError`), the
 /// guard word is none of the CNode (`IllegalOperation`).
-pub(crate) fn minted_copy_of(held: Cap, rights_word: u32, payload: u32) -> Result<Cap, KError>
-    ensures { result ≡ minted_copy_of held rights_word payload }
+pub fn minted_copy_of(held: Cap, rights_word: u32, payload: u32) -> Result<Cap, KError>
+    ensures value { result ≡ minted_copy_of held rights_word payload }
+    ensures valid { IsCapability held → IfOk result IsCapability }
 {
     if !may_be_copied(held) || is_badged(held) {
         return Err(KError::IllegalOperation);
@@ -142,7 +145,7 @@ pub(crate) fn minted_copy_of(held: Cap, rights_word: u32, payload: u32) -> Resul
 
 /// The capability with another guard word, if it names a CNode. It is an illegal operation on an
 /// endpoint and a notification, and with a guard word that is none of the CNode.
-pub(crate) fn mutation_of(held: Cap, payload: u32) -> Result<Cap, KError>
+pub fn mutation_of(held: Cap, payload: u32) -> Result<Cap, KError>
     ensures { result ≡ mutation_of held payload }
 {
     if carries_messages(held) || !guard_fits(held, payload) {
