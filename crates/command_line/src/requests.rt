@@ -19,6 +19,12 @@ pub enum Request<'a> {
         /// Whether the image runs without being verified.
         unverified: bool,
     },
+    /// To build an image from its text.
+    Build {
+        source: &'a str,
+        /// The file that gets the image.
+        image: &'a str,
+    },
 }
 
 /// Why the words are no request.
@@ -50,11 +56,15 @@ fn program<'a>(alloc: Global) -> Result<Command<'a>, AllocError> {
         .arg(file(alloc, "image"))?
         .arg(file(alloc, "events"))?
         .arg(flag(alloc, "unverified"))?;
+    let build = Command::new(alloc, "build")
+        .arg(file(alloc, "source"))?
+        .arg(file(alloc, "image"))?;
     Command::new(alloc, "microsys")
         .no_binary_name(true)
         .subcommand_required(true)
         .subcommand(verify)?
-        .subcommand(run)
+        .subcommand(run)?
+        .subcommand(build)
 }
 
 /// The name of a file, which has to be there.
@@ -78,6 +88,10 @@ fn requested<'a>(matches: &ArgMatches<'a>) -> Option<Request<'a>> {
             image: matches.get_str("image")?,
             events: matches.get_str("events")?,
             unverified: matches.get_flag("unverified"),
+        }),
+        "build" => Some(Request::Build {
+            source: matches.get_str("source")?,
+            image: matches.get_str("image")?,
         }),
         _ => None,
     }

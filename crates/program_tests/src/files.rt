@@ -66,7 +66,7 @@ pub fn bell_with(alloc: Global, at: usize, byte: u8) -> Result<Vec<u8>, Fail> {
 }
 
 /// A file's name of this test alone.
-fn name_of<R: Env + AllocGlobal>(rt: &R, name: &str) -> Result<String, Fail> {
+pub fn name_of<R: Env + AllocGlobal>(rt: &R, name: &str) -> Result<String, Fail> {
     let folder = env::temp_dir(rt)?;
     Ok(format!(in rt.alloc(); "{}/microsys-{name}", folder.as_path().as_str())?)
 }
@@ -91,6 +91,18 @@ pub struct Answer {
 }
 
 impl Answer {
+    /// The exit status.
+    pub fn status(&self) -> u8 {
+        self.status
+    }
+
+    /// What was printed.
+    pub fn lines(&self, alloc: Global) -> Result<Vec<u8>, Fail> {
+        let mut lines = Vec::new(alloc);
+        lines.extend_from_slice(self.output.bytes())?;
+        Ok(lines)
+    }
+
     /// Asserts what was answered and printed.
     pub fn is(&self, rt: &impl Abort, status: u8, output: &[u8], errors: &[u8]) {
         assert_eq!(rt; self.output.bytes(), output);

@@ -64,7 +64,7 @@ fn other_words_are_usage(rt: HostRuntime) {
         &[],
         &["verify"],
         &["run", "a.img"],
-        &["build", "a", "b"],
+        &["build", "a"],
         &["--help"],
     ];
     for words in cases {

@@ -26,7 +26,7 @@ const SOLO: [u32; 48] = [
 const ROOM: usize = 500_000;
 
 /// The image with these bytes from a place on.
-fn solo_with<R: AllocGlobal>(rt: &R, at: usize, new: &[u8]) -> Result<Vec<u8>, Fail> {
+pub fn solo_with<R: AllocGlobal>(rt: &R, at: usize, new: &[u8]) -> Result<Vec<u8>, Fail> {
     let mut bytes = image_of(rt.alloc(), &SOLO)?;
     for (place, byte) in bytes.iter_mut().skip(at).zip(new) {
         *place = *byte;

@@ -21,6 +21,14 @@ fn takes_the_words_of_the_usage(rt: HostRuntime) {
         run_of("a.img", "a.events", false),
     );
     reads(&rt, &["run", "--", "-", "--x"], run_of("-", "--x", false));
+    reads(
+        &rt,
+        &["build", "a.txt", "a.img"],
+        Ok(Request::Build {
+            source: "a.txt",
+            image: "a.img",
+        }),
+    );
 }
 
 /// The request to run.
@@ -55,7 +63,7 @@ fn takes_the_flag_in_each_place_once(rt: HostRuntime) {
 
 #[test]
 fn refuses_other_words(rt: HostRuntime) {
-    let cases: [&[&str]; 14] = [
+    let cases: [&[&str]; 16] = [
         &[],
         &["verify"],
         &["verify", "a", "b"],
@@ -63,7 +71,9 @@ fn refuses_other_words(rt: HostRuntime) {
         &["run", "a", "b", "c"],
         &["run", "a", "b", "--unverified", "--unverified"],
         &["verify", "a", "--unverified"],
-        &["build", "a", "b"],
+        &["build", "a"],
+        &["build", "a", "b", "c"],
+        &["build", "a", "b", "--unverified"],
         &["boot", "a"],
         &["--help"],
         &["help"],

@@ -1,6 +1,7 @@
 //! The program: what it answers to the words of its command line.
 
 ghost use Rattle.std.specs.Prelude.{ℕ, ◌≡◌, ◌≢◌};
+ghost use Rattle.asm.specs.declared.faults.SourceFault.{SourceFault};
 ghost use Rattle.command_line.specs.declared.requests.WordsFault.{WordsFault};
 ghost use Rattle.runner.specs.declared.commands.Failure.{Failure};
 ghost use Rattle.sinks.specs.declared.event_lists.EventsFault.{EventsFault};
@@ -8,8 +9,10 @@ ghost use Rattle.runner.specs.declared.running.RunFault.{RunFault};
 ghost use Rattle.model.specs.declared.boot_faults.BootFault.{BootFault};
 ghost use Rattle.model.specs.declared.refusals.Refusal.{Refusal};
 
+use crate::building::build;
 use crate::running::{RunFault, run};
 use crate::unverified::run_unverified;
+use asm::SourceFault;
 use command_line::{Request, WordsFault, parse};
 use model::{BootFault, Refusal};
 use sinks::{EventsFault, Sink, SinkFault, events, put_all};
@@ -32,7 +35,7 @@ const FAILED: u8 = 3;
 pub enum Failure<'a> {
     /// The words are no request.
     Usage,
-    /// This file cannot be read.
+    /// This file cannot be read, or not be written.
     File(&'a str),
     /// Standard output takes no more.
     Output,
@@ -44,6 +47,18 @@ pub enum Failure<'a> {
     Boot(BootFault),
     /// The list of events is refused at this line.
     Events(u64),
+    /// The text of an image is refused.
+    Source(SourceFault),
+}
+
+impl<'a> Failure<'a> {
+    /// The failure to read or to write a file.
+    pub(crate) fn of_file(error: io::Error, name: &'a str) -> Self {
+        match error.kind() {
+            io::ErrorKind::OutOfMemory => Failure::Memory,
+            _ => Failure::File(name),
+        }
+    }
 }
 
 impl From<SinkFault> for Failure<'_> {
@@ -81,6 +96,14 @@ impl From<EventsFault> for Failure<'_> {
             EventsFault::Line(line) => Failure::Events(line),
             EventsFault::OutOfMemory => Failure::Memory,
         }
+    }
+}
+
+impl From<SourceFault> for Failure<'_> {
+    ghost from_gives = { λ fault failure. failure ≡ Failure.Source fault };
+
+    fn from(fault: SourceFault) -> Self {
+        Failure::Source(fault)
     }
 }
 
@@ -169,6 +192,7 @@ fn answer<'a, R: Files + AllocGlobal, S: AsStr, W: Sink>(
                 run(rt.alloc(), bytes.as_slice(), events.as_slice(), output)?;
             }
         }
+        Request::Build { source, image } => build(rt, source, image)?,
     }
     Ok(())
 }
@@ -177,8 +201,7 @@ fn answer<'a, R: Files + AllocGlobal, S: AsStr, W: Sink>(
 fn read_file<'a, R: Files + AllocGlobal>(rt: &R, name: &'a str) -> Result<Vec<u8>, Failure<'a>> {
     match fs::read(rt, name) {
         Ok(bytes) => Ok(bytes),
-        Err(error) if error.kind() == io::ErrorKind::OutOfMemory => Err(Failure::Memory),
-        Err(_) => Err(Failure::File(name)),
+        Err(error) => Err(Failure::of_file(error, name)),
     }
 }
 
@@ -195,6 +218,9 @@ fn report<W: Sink, E: Sink>(alloc: Global, failure: Failure, output: &mut W, err
         Failure::Image(refusal) => refused(refusal_line(alloc, refusal), output, errors),
         Failure::Boot(fault) => refused(boot_line(alloc, fault), output, errors),
         Failure::Events(line) => refused(format!(in alloc; "events line {line}\n"), output, errors),
+        Failure::Source(SourceFault { line, kind }) => {
+            refused(format!(in alloc; "source {line} {kind}\n"), output, errors)
+        }
     }
 }
 

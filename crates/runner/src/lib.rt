@@ -2,6 +2,7 @@
 //! commands of the program stand on it.
 #![tactic(auto)]
 
+mod building;
 mod commands;
 mod running;
 mod traces;
