@@ -5,3 +5,7 @@
 mod faults;
 #[cfg(test)]
 mod instructions;
+#[cfg(test)]
+mod programs;
+#[cfg(test)]
+mod texts;
