@@ -1,7 +1,6 @@
 pub mod AcceptedBoots
 pub mod Calls
 pub mod FillLemmas
-pub mod FrameSearches
 pub mod Fitting
 pub mod Order
 pub mod PlaceLemmas
@@ -9,3 +8,4 @@ pub mod PlaceSteps
 pub mod Rests
 pub mod Searches
 pub mod Started
+pub mod FarFrames

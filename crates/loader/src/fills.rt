@@ -8,13 +8,13 @@ ghost use Rattle.loader.specs.Loading.{Leaves, all_performed, performed, placed,
 ghost use Rattle.model.specs.Images.BootCalls.{content_operation, program_operation};
 ghost use Rattle.model.specs.Images.Described.{numbered_threads};
 ghost use Rattle.model.specs.Images.Fills.{frame_at, program_pages};
-ghost use Rattle.model.specs.Images.Image.{pair_key};
 ghost use Rattle.model.specs.Kernel.AddressSpaces.{page_size};
 ghost use Rattle.model.specs.Kernel.Setup.{fill};
 
 use crate::loading::Loader;
 use crate::object_kinds::{is_frame, is_root_table};
 use image::{ContentRef, ImageRef, ThreadRef};
+use mapped_frames::frame_at;
 use model::{BootFault, FrameEntry};
 
 /// How many bytes a page has.
@@ -139,7 +139,7 @@ impl Loader {
     {
         let header = thread.header();
         let address = u64::from(header.base) + u64::from(page * PAGE);
-        match frame_at(image, header.root, address) {
+        match frame_behind(image, header.root, address) {
             Some(frame) => {
                 let bytes = page_of(thread.program(), page);
                 self.fill(number, places[frame.frame as usize], bytes)
@@ -172,48 +172,16 @@ impl Loader {
     }
 }
 
-/// The frame that the image maps at an address under a root table.
-fn frame_at(image: &ImageRef<'_>, root: u32, address: u64) -> Option<FrameEntry>
+/// The frame that the image maps at an address under a root table. None is mapped behind the last address.
+fn frame_behind(image: &ImageRef<'_>, root: u32, address: u64) -> Option<FrameEntry>
     requires { IsLimited image.now }
     ensures value { result ≡ frame_at image.now root address }
     ensures named { IfSome result (λ f. f.frame < image.now.header.objects) }
 {
     match u32::try_from(address) {
-        Ok(address) => frame_under(image, root, address),
+        Ok(address) => frame_at(image, root, address),
         Err(_) => None,
     }
-}
-
-/// The same of an address that a frame can have. Frames rise by root table and address, so it halves those that are left.
-fn frame_under(image: &ImageRef<'_>, root: u32, address: u32) -> Option<FrameEntry>
-    requires { IsLimited image.now }
-    ensures value { result ≡ frame_at image.now root address }
-    ensures named { IfSome result (λ f. f.frame < image.now.header.objects) }
-{
-    let key = pair_key(root, address);
-    let mut low = 0;
-    let mut high = image.header().frames;
-    while low < high {
-        let middle = low + (high - low) / 2;
-        let entry = image.frame(middle);
-        let here = pair_key(entry.root, entry.address);
-        if here == key {
-            return Some(entry);
-        }
-        if here < key {
-            low = middle + 1;
-        } else {
-            high = middle;
-        }
-    }
-    None
-}
-
-/// The key by which frames rise.
-fn pair_key(root: u32, address: u32) -> u64
-    ensures { result ≡ pair_key root address }
-{
-    u64::from(root) * (1 << 32) + u64::from(address)
 }
 
 /// The part of a program that stands in a page.

@@ -1,8 +1,8 @@
 -- The frame is among those that are left, if there is one.
 use Rattle.std.proofs.Common.{◌-◌, ◌≤◌}
 use Rattle.model.specs.Images.Image.{pair_key}
-use Rattle.loader.proofs.FrameSearches.{AreHalved}
-use Rattle.loader.proofs.fills.frame_under.Given as goal
+use Rattle.mapped_frames.proofs.FrameSearches.{AreHalved}
+use Rattle.mapped_frames.proofs.frames.frame_at.Given as goal
 
 abbrev pub invariant-loop-low : goal.invariant-loop-low
 invariant-loop-low l = record {

@@ -5,8 +5,11 @@ use Rattle.std.proofs.lemmas.Bool.{cases_eq, cases_lt, eq-eqb, ne_eqb}
 use Rattle.std.proofs.lemmas.Option.{none-some, same_Some, slice_get_within}
 use Rattle.model.specs.declared.entries.FrameEntry.{FrameEntry}
 use Rattle.model.specs.Images.Image.{pair_key}
-use Rattle.booting.proofs.WholeFrames.{find-no}
-use Rattle.loader.specs.Limits.{DoFramesRise}
+
+-- each frame has a higher key than those before it
+abbrev pub DoFramesRise : List FrameEntry → Type 0
+DoFramesRise frames = (i j : ℕ) (a b : FrameEntry) → i < j → slice_get frames i ≡ Some a → slice_get frames j ≡ Some b
+    → pair_key a.root a.address < pair_key b.root b.address
 
 -- the first item that passes is found
 find-first : {A : Type 0} (test : A → Bool) (xs : List A) (k : ℕ) (x : A) → slice_get xs k ≡ Some x → test x ≡ true
@@ -16,6 +19,11 @@ find-first test (y ∷ ys) zero x at is before = ap (λ b. if b then Some y else
 find-first test (y ∷ ys) (suc k) x at is before =
     ap (λ b. if b then Some y else find test ys) (before 0 y (omega arith) refl)
     ∙ find-first test ys k x at is (λ j z less there. before (suc j) z (omega (arith, less)) there)
+
+find-no : {A : Type 0} (test : A → Bool) (xs : List A) → ((j : ℕ) (x : A) → slice_get xs j ≡ Some x → test x ≡ false) → find test xs ≡ None
+find-no test [] none = refl
+find-no test (x ∷ xs) none =
+    ap (λ b. if b then Some x else find test xs) (none 0 x refl) ∙ find-no test xs (λ j y at. none (suc j) y at)
 
 -- ---- keys
 
@@ -44,12 +52,6 @@ missed root address f other = elim (cases_eq f.root root) [
     | inr apart ↦ rw (eq-eqb f.root root first, ne_eqb f.address address apart) refl
   ]
   | inr apart ↦ ap (λ (b : Bool). b && (f.address == address)) (ne_eqb f.root root apart)
-]
-
-aside : (root address : ℕ) (f : FrameEntry) → (f.address ≡ address → ⊥) → is_at root address f ≡ false
-aside root address f apart = elim (f.root == root) as (λ b. (b && (f.address == address)) ≡ false) [
-  | true ↦ ne_eqb f.address address apart
-  | false ↦ refl
 ]
 
 -- ---- halves
@@ -107,10 +109,3 @@ frame-missed frames root address low high le halved =
       | inl before ↦ let lower = halved.below k f before at in omega (arith, lower, is)
       | inr behind ↦ let higher = halved.above k f (omega (arith, le, behind)) at in omega (arith, higher, is)
     ]))
-
--- no frame is mapped behind the last address
-pub frame-far : (frames : List FrameEntry) (root address : ℕ) → ((k : ℕ) (f : FrameEntry) → slice_get frames k ≡ Some f → f.address < 2 ^ 32) → 2 ^ 32 ≤ address
-    → find (λ f. f.root == root && f.address == address) frames ≡ None
-frame-far frames root address fit far =
-    find-no (is_at root address) frames
-    (λ k f at. let low = fit k f at in let apart : f.address ≢ address = λ same. omega (arith, low, far, same) in aside root address f apart)

@@ -1,7 +1,7 @@
 -- No frame stands behind the last address.
 use Rattle.std.proofs.Common.{sym, arith}
-use Rattle.loader.proofs.FrameSearches.{frame-far}
-use Rattle.loader.proofs.fills.frame_at.Goals as goal
+use Rattle.loader.proofs.FarFrames.{frame-far}
+use Rattle.loader.proofs.fills.frame_behind.Goals as goal
 
 pub returns-in-Err-clause-value : goal.returns-in-Err-clause-value
 returns-in-Err-clause-value c =

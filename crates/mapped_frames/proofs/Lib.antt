@@ -1,0 +1,2 @@
+pub mod FrameSearches
+pub mod MappedPages
