@@ -1,3 +1,4 @@
 pub mod LinearSums
 pub mod Small
 pub mod SumSteps
+pub mod MeasuredValues

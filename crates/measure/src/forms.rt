@@ -60,7 +60,7 @@ impl<'a, S: Step> Linear for Change<'a, S> {
 }
 
 /// The constant of a measure behind a step.
-fn constant_of<S: Step>(measure: &Measure, step: &S) -> i128
+pub(crate) fn constant_of<S: Step>(measure: &Measure, step: &S) -> i128
     ensures value { result ≡ (substituted (measure_of measure.now) (S.value_of step.now)).constant }
     ensures small { IsSmall (2 ^ 98 + 2 ^ 64) result }
 {

@@ -7,9 +7,11 @@ mod forms;
 mod measures;
 mod steps;
 mod values;
+mod values_at;
 
 pub use extremes::{falls, least, stays_below};
 pub use measures::Measure;
 pub use model::TermEntry;
-pub use steps::{AfterCall, AfterInstruction, Step, Unchanged};
+pub use steps::{AfterCall, AfterInstruction, Step, Unchanged, destination};
 pub use values::Value;
+pub use values_at::value_at;

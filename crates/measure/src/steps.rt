@@ -119,7 +119,7 @@ fn written_value(instr: Instr, before: &Bounds, behind: &Bounds, register: Regis
 }
 
 /// The register that an instruction writes.
-fn destination(instr: Instr) -> Option<Register>
+pub fn destination(instr: Instr) -> Option<Register>
     ensures value { result ≡ destination instr }
     ensures register { IsInstr instr → IfSome result IsRegister }
 {
