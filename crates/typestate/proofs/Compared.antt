@@ -7,11 +7,11 @@ use Rattle.typestate.specs.Differences.{are_same_at, changed, is_same_held, left
 use Rattle.typestate.proofs.Rising.{RiseFrom, changes-rise, looks-same, same-itself, same-looks}
 use Rattle.typestate.proofs.SlotLists.{noted-at}
 
-abbrev is_changed : List NotedSlot → SlotKey → Bool
+abbrev pub is_changed : List NotedSlot → SlotKey → Bool
 is_changed changes key = list_any (λ c. is_same_key c.key key) changes
 
 -- what no change names is as it was
-unchanged : (slots changes : List NotedSlot) (key : SlotKey) → is_changed changes key ≡ false → slot_at (changed slots changes) key ≡ slot_at slots key
+pub unchanged : (slots changes : List NotedSlot) (key : SlotKey) → is_changed changes key ≡ false → slot_at (changed slots changes) key ≡ slot_at slots key
 unchanged slots [] key none = refl
 unchanged slots (c ∷ rest) key none =
     elim (is_same_key c.key key) as (λ b. (b || is_changed rest key) ≡ false → (is_same_key c.key key ≡ b) → slot_at (changed (with_noted slots c) rest) key ≡ slot_at slots key) [
@@ -19,7 +19,7 @@ unchanged slots (c ∷ rest) key none =
       | false ↦ λ later is. unchanged (with_noted slots c) rest key later ∙ noted-at slots c key ∙ ap (λ b. if b then left_by c else slot_at slots key) is
     ] none refl
 
-same-place : (slots : List NotedSlot) (a b : SlotKey) → number_of a ≡ number_of b → slot_at slots a ≡ slot_at slots b
+pub same-place : (slots : List NotedSlot) (a b : SlotKey) → number_of a ≡ number_of b → slot_at slots a ≡ slot_at slots b
 same-place slots a b same = ap (λ n. find (λ (s : NotedSlot). number_of s.key == n) slots) same
 
 -- what a change names was compared
@@ -33,6 +33,11 @@ compared-at slots others (k ∷ rest) key some same =
           ap (λ found. is_same_held found (slot_at others key)) (sym (same-place slots k.key key e)) ∙ ap (is_same_held (slot_at slots k.key)) (sym (same-place others k.key key e)) ∙ parts.0
       | false ↦ λ later _. compared-at slots others rest key later parts.1
     ] some refl
+
+pub decided : (a b : Bool) → (a ≡ true → b ≡ true) → (b ≡ true → a ≡ true) → a ≡ b
+decided true b forth back = sym (forth refl)
+decided false true forth back = back refl
+decided false false forth back = refl
 
 module _ (image changes more : List NotedSlot) where
   abbrev mine : List NotedSlot
@@ -56,11 +61,6 @@ module _ (image changes more : List NotedSlot) where
   all-held : ((key : SlotKey) → is_same_held (slot_at mine key) (slot_at theirs key) ≡ true) → (keys : List NotedSlot) → are_same_at mine theirs keys ≡ true
   all-held held [] = refl
   all-held held (k ∷ rest) = ap (λ b. b && are_same_at mine theirs rest) (held k.key) ∙ all-held held rest
-
-  decided : (a b : Bool) → (a ≡ true → b ≡ true) → (b ≡ true → a ≡ true) → a ≡ b
-  decided true b forth back = sym (forth refl)
-  decided false true forth back = back refl
-  decided false false forth back = refl
 
   pub compared : RiseFrom 0 image → (are_same_at mine theirs changes && are_same_at mine theirs more) ≡ are_same_slots mine theirs
   compared rises =

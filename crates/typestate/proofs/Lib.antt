@@ -9,3 +9,4 @@ pub mod Unpacked
 pub mod Rising
 pub mod Searched
 pub mod Compared
+pub mod SomeHeld

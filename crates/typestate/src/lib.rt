@@ -4,6 +4,7 @@
 mod arguments;
 mod behind;
 mod comparisons;
+mod holders;
 mod keys;
 mod laws;
 mod messages;
@@ -16,6 +17,7 @@ mod system_calls;
 mod windows;
 
 pub use behind::{Behind, Written};
+pub use holders::allows;
 pub use keys::{NotedSlot, SlotKey};
 pub use laws::{no_stray_slot_leads_outside, records_note_changes};
 pub use messages::message_call;

@@ -1,0 +1,66 @@
+//! What the frame capabilities in the slots at a point map.
+//! seL4 Reference Manual, "Address Spaces and Virtual Memory".
+
+ghost use Rattle.std.specs.Prelude.{◌≡◌, false};
+ghost use Rattle.std.specs.List.{list_any};
+ghost use Rattle.std.specs.Option.{option_map_or};
+ghost use Rattle.model.specs.Acceptance.NotedStates.{slot_at};
+ghost use Rattle.model.specs.Acceptance.PointRules.{holds_for};
+ghost use Rattle.model.specs.Kernel.AddressSpaces.{allows};
+ghost use Rattle.typestate.specs.Differences.{slots_of};
+
+use crate::{NotedSlot, NotedSlots, SlotKey};
+use model::{Access, Cap, Rights};
+
+/// Whether rights allow an access.
+pub fn allows(access: Access, rights: Rights) -> bool
+    ensures { result ≡ allows access rights }
+{
+    match access {
+        Access::Load => rights.may_read(),
+        Access::Store => rights.may_write(),
+        Access::Fetch => rights.0 & 4 != 0,
+    }
+}
+
+/// Whether a slot's capability maps a page under a root table for an access.
+fn holds_for(access: Access, root: u32, page: u32, slot: NotedSlot) -> bool
+    ensures { result ≡ holds_for access root page slot }
+{
+    match slot.capability {
+        Cap::Frame {
+            mapping: Some(mapping),
+            ..
+        } => mapping.root == root && mapping.page == page && allows(access, mapping.rights),
+        _ => false,
+    }
+}
+
+impl NotedSlots<'_> {
+    /// Whether the slot of this key maps a page under a root table for an access.
+    fn holds(&self, key: SlotKey, access: Access, root: u32, page: u32) -> bool
+        ensures { result ≡ option_map_or (holds_for access root page) (slot_at (slots_of self.now) key) false }
+    {
+        match self.at(key) {
+            Some(held) => holds_for(access, root, page, held),
+            None => false,
+        }
+    }
+
+    /// Whether one of the slots of these keys maps a page under a root table for an access.
+    fn one_holds(&self, keys: &[NotedSlot], access: Access, root: u32, page: u32) -> bool
+        ensures { result ≡ list_any (λ k. option_map_or (holds_for access root page) (slot_at (slots_of self.now) k.key) false) keys.now }
+    {
+        keys.iter()
+            .any(|slot| self.holds(slot.key, access, root, page))
+    }
+
+    /// Whether a frame capability in the slots maps a page for an access, under the root table at this offset.
+    pub fn maps(&self, access: Access, root: u32, page: u32) -> bool
+        ensures { result ≡ list_any (holds_for access root page) (slots_of self.now) }
+    {
+        let listed = self.one_holds(self.image, access, root, page);
+        let changed = self.one_holds(self.changes, access, root, page);
+        listed || changed
+    }
+}
