@@ -1,0 +1,2 @@
+pub mod WithinRanges
+pub mod EntryTests

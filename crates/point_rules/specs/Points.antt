@@ -1,0 +1,31 @@
+-- The states and the ways on of the rules that those of the code stand for.
+use Rattle.std.specs.Prelude.{ℕ}
+use Rattle.measure.specs.Measures.{measure_of}
+use Rattle.model.specs.Acceptance.Measures.{Form}
+use Rattle.model.specs.Acceptance.NotedStates.{PointState}
+use Rattle.model.specs.Acceptance.PointRules.{ProgramEdge}
+use Rattle.model.specs.Acceptance.PointStates.{Noted, Known, Missing, Unmeasured}
+use Rattle.point_rules.specs.declared.noted.Noted.{Noted as Found}
+use Rattle.point_rules.specs.declared.noted.Noted.TheVariants as found
+use Rattle.point_rules.specs.declared.states.PointState.{PointState as Kept}
+use Rattle.point_rules.specs.declared.ways.Way.{Way}
+use Rattle.typestate.specs.Differences.{slots_of}
+
+abbrev pub state_of : Kept → PointState
+state_of s = record { ranges = s.bounds; slots = slots_of s.slots; measure = measure_of s.measure }
+
+-- the edge to an address, behind which each register is what a form says
+abbrev pub edge_of : ℕ → (ℕ → Form) → Way → ProgramEdge
+edge_of address value_of way = record {
+  target = address;
+  before = way.before.now;
+  ranges = way.behind.now;
+  slots = slots_of way.slots;
+  value_of = value_of;
+  is_wait = way.is_wait;
+}
+
+abbrev pub noted_of : Found → Noted
+noted_of (found.Known s) = Known (state_of s)
+noted_of found.Missing = Missing
+noted_of found.Unmeasured = Unmeasured

@@ -1,0 +1,19 @@
+//! The rules at a point of a program whose state a certificate notes: its memory, its ways on, and the entry.
+#![tactic(auto)]
+
+mod calls;
+mod entries;
+mod following;
+mod noted;
+mod pages;
+mod reach;
+mod states;
+mod ways;
+
+pub use calls::{follows_call, registers_of};
+pub use entries::entered;
+pub use following::follows;
+pub use noted::Noted;
+pub use reach::Pages;
+pub use states::PointState;
+pub use ways::{Way, kept_at};

@@ -1,0 +1,61 @@
+//! The ways on from a point.
+
+ghost use Rattle.std.specs.Prelude.{ℕ, ◌≡◌, ◌↔◌, IsTrue};
+ghost use Rattle.measure.specs.Measures.{measure_of};
+ghost use Rattle.model.specs.Acceptance.PointRules.{are_ranges_within, kept_at};
+ghost use Rattle.model.specs.Acceptance.Rules.{first_broken};
+ghost use Rattle.model.specs.Images.Image.{Thread};
+ghost use Rattle.point_rules.specs.Points.{edge_of, state_of};
+
+use crate::PointState;
+use measure::{Measure, Step, falls, stays_below};
+use model::{Point, Refusal};
+use ranges::Bounds;
+use typestate::NotedSlots;
+
+/// A way on from a point: what is known of the registers before it and behind it, the slots behind it, and whether the
+/// budget is there anew.
+#[derive(Clone, Copy, Debug)]
+pub struct Way<'s> {
+    pub before: &'s Bounds,
+    pub behind: &'s Bounds,
+    pub slots: NotedSlots<'s>,
+    pub is_wait: bool,
+}
+
+/// Whether each register's range lies within that of others.
+fn are_within(bounds: &Bounds, others: &Bounds) -> bool
+    ensures { result ≡ are_ranges_within bounds.now others.now }
+{
+    bounds.is_within(others)
+}
+
+/// What a way on breaks of the point with a state that it leads to, the first of: the ranges are kept (`RangeNotKept`), the
+/// slots are the same (`CapNotThere`), and the measure falls (`MeasureNotFalling`), or is within the budget behind a wait
+/// (`OverBudget`).
+pub fn kept_at<S: Step>(
+    budget: u64,
+    at: Point,
+    measure: &Measure,
+    way: &Way<'_>,
+    step: &S,
+    target: &PointState<'_>,
+) -> Option<Refusal>
+    requires { target.now.slots.image.now ≡ way.now.slots.image.now }
+    ensures { (t : Thread) (address : ℕ) → t.header.budget ≡ budget → result ≡ first_broken (kept_at t at (measure_of measure.now) (edge_of address (S.value_of step.now) way.now) (state_of target.now)) }
+{
+    if !are_within(way.behind, &target.bounds) {
+        return Some(Refusal::RangeNotKept(at));
+    }
+    if !way.slots.is_same(&target.slots) {
+        return Some(Refusal::CapNotThere(at));
+    }
+    if way.is_wait {
+        if !stays_below(budget, &target.measure, step, way.before, way.behind) {
+            return Some(Refusal::OverBudget(at));
+        }
+    } else if !falls(measure, &target.measure, step, way.before, way.behind) {
+        return Some(Refusal::MeasureNotFalling(at));
+    }
+    None
+}
