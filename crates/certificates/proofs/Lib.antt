@@ -1,0 +1,5 @@
+pub mod Recorded
+pub mod Followed
+pub mod NextRecords
+pub mod FirstBroken
+pub mod Called
