@@ -1,5 +1,5 @@
 -- The first broken rule of lists that are put together.
-use Rattle.std.proofs.Common.{◌≡◌, Option, Some, None, List, [], ◌∷◌, ◌++◌, refl}
+use Rattle.std.proofs.Common.{◌≡◌, Some, None, List, [], ◌∷◌, ◌++◌, refl}
 use Rattle.std.specs.Option.{option_or}
 use Rattle.model.specs.Acceptance.Rules.{Rule, first_broken}
 

@@ -3,3 +3,4 @@ pub mod Followed
 pub mod NextRecords
 pub mod FirstBroken
 pub mod Called
+pub mod EachPoint

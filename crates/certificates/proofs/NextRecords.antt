@@ -1,5 +1,5 @@
 -- The records of a certificate, gone through in the order of their points.
-use Rattle.std.proofs.Common.{ℕ, zero, suc, ◌≡◌, ◌∙◌, ◌==◌, ◌+◌, ◌<◌, ◌≤◌, inl, inr, Bool, true, false, if◌then◌else◌, Option, Some, None, List, [], ◌∷◌, refl, sym, ap, subst, arith}
+use Rattle.std.proofs.Common.{ℕ, suc, ◌≡◌, ◌∙◌, ◌==◌, ◌+◌, ◌<◌, ◌≤◌, inl, inr, Bool, if◌then◌else◌, Option, Some, None, List, [], ◌∷◌, refl, sym, ap, subst, arith}
 use Rattle.std.specs.Iterator.{YieldsFirst}
 use Rattle.std.specs.Prelude.{find, slice_get}
 use Rattle.std.proofs.lemmas.Bool.Decides.{eqb_tells}
@@ -27,10 +27,12 @@ DoRise rs = (i j : ℕ) (a b : StateRecord) → i < j → slice_get rs i ≡ Som
 
 rises : (least : ℕ) (rs : List StateRecord) → ((k : ℕ) (r : StateRecord) → slice_get rs k ≡ Some r → least ≤ r.header.point) → DoRise rs → Rise least rs
 rises least [] above rise = tt
-rises least (r ∷ rs) above rise =
-    (above 0 r refl, rises (r.header.point + 1) rs
-    (λ k s at. let less : r.header.point < s.header.point = rise 0 (suc k) r s (omega arith) refl at in omega (arith, less))
-    (λ i j a b less at behind. rise (suc i) (suc j) a b (omega (arith, less)) at behind))
+rises least (r ∷ rs) above rise = (
+  above 0 r refl,
+  rises (r.header.point + 1) rs
+      (λ k s at. let less : r.header.point < s.header.point = rise 0 (suc k) r s (omega arith) refl at in omega (arith, less))
+      (λ i j a b less at behind. rise (suc i) (suc j) a b (omega (arith, less)) at behind),
+)
 
 -- these are the records of the points from here on
 pub record AreLeft (t : Thread) (point : ℕ) (rest : List StateRecord) : Type 0 where
@@ -55,21 +57,21 @@ next-record t point [] left =
     (left.same point (omega arith), record { rising = tt; same = λ other le. left.same other (omega (arith, le)); fit = left.fit })
 next-record t point (r ∷ rest) left = elim (eqb_tells r.header.point point) [
   | inl here ↦ (
-      left.same point (omega arith) ∙ ap (λ (b : Bool). if b then Some r else found point rest) here.0 ∙ sym (ap (λ (b : Bool). if b then Some r else None) here.0),
-      subst (λ (b : Bool). AreLeft t (point + 1) (if b then rest else r ∷ rest)) (sym here.0) (record {
-        rising = subst (λ (n : ℕ). Rise (n + 1) rest) here.1 left.rising.1;
-        same = λ other le. elim (eqb_tells r.header.point other) [
-          | inl again ↦ absurd (let first : r.header.point ≡ point = here.1 in let second : r.header.point ≡ other = again.1 in omega (arith, le, first, second))
-          | inr apart ↦ left.same other (omega (arith, le)) ∙ ap (λ (b : Bool). if b then Some r else found other rest) apart.0
-        ];
-        fit = λ k s at. left.fit (suc k) s at;
-      }),
-    )
+    left.same point (omega arith) ∙ ap (λ (b : Bool). if b then Some r else found point rest) here.0 ∙ sym (ap (λ (b : Bool). if b then Some r else None) here.0),
+    subst (λ (b : Bool). AreLeft t (point + 1) (if b then rest else r ∷ rest)) (sym here.0) (record {
+      rising = subst (λ (n : ℕ). Rise (n + 1) rest) here.1 left.rising.1;
+      same = λ other le. elim (eqb_tells r.header.point other) [
+        | inl again ↦ absurd (let first : r.header.point ≡ point = here.1 in let second : r.header.point ≡ other = again.1 in omega (arith, le, first, second))
+        | inr apart ↦ left.same other (omega (arith, le)) ∙ ap (λ (b : Bool). if b then Some r else found other rest) apart.0
+      ];
+      fit = λ k s at. left.fit (suc k) s at;
+    }),
+  )
   | inr apart ↦
       let above : point + 1 ≤ r.header.point = omega (arith, left.rising.0, apart.1) in (
         left.same point (omega arith) ∙ none-below (point + 1) point (r ∷ rest) (above, left.rising.1) (omega arith) ∙ sym (ap (λ (b : Bool). if b then Some r else None) apart.0),
         subst (λ (b : Bool). AreLeft t (point + 1) (if b then rest else r ∷ rest)) (sym apart.0)
-        (record { rising = (above, left.rising.1); same = λ other le. left.same other (omega (arith, le)); fit = left.fit }),
+            (record { rising = (above, left.rising.1); same = λ other le. left.same other (omega (arith, le)); fit = left.fit }),
       )
 ]
 

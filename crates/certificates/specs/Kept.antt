@@ -44,3 +44,8 @@ pub record IsKeptAt (image : Image) (t : Numbered) (slots log : List NotedSlot) 
 -- of each point
 pub record AreKept (image : Image) (t : Numbered) (slots log : List NotedSlot) (kept : List Kept) : Type 0 where
   pub each : (point : ℕ) (k : Kept) → slice_get kept point ≡ Some k → IsKeptAt image t slots log point k
+
+-- all points of the program
+pub record IsRead (image : Image) (t : Numbered) (slots log : List NotedSlot) (kept : List Kept) : Type 0 where
+  pub count : length kept ≡ t.thread.header.words
+  pub noted : AreKept image t slots log kept

@@ -1,5 +1,5 @@
 -- The records of a certificate that are left, in the order of their points.
-use Rattle.std.specs.Prelude.{ℕ, ◌==◌, Bool, false, Option, Some, None, List, [], ◌∷◌, if◌then◌else◌}
+use Rattle.std.specs.Prelude.{ℕ, ◌==◌, Option, Some, None, List, [], ◌∷◌, if◌then◌else◌}
 use Rattle.model.specs.Images.Image.{StateRecord}
 
 -- the next one, and those behind it

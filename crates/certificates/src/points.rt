@@ -1,9 +1,8 @@
 //! What is noted of all points of a program.
 
-ghost use Rattle.std.specs.Prelude.{ℕ, ◌≡◌, ◌≤◌, ◌≤ℤ◌, ◌^◌, IfOk, IfSome, length, negsuc};
-ghost use Rattle.certificates.specs.Kept.{AreKept, IsSound, noted_by};
+ghost use Rattle.std.specs.Prelude.{ℕ, ◌≡◌, ◌≤◌, ◌≤ℤ◌, ◌^◌, IfOk, IfSome, length, negsuc, option_map};
+ghost use Rattle.certificates.specs.Kept.{IsRead, IsSound, noted_by};
 ghost use Rattle.certificates.specs.Programs.{IsProgram};
-ghost use Rattle.fitting.specs.Fitting.{RecordFits};
 ghost use Rattle.model.specs.Acceptance.NotedStates.{image_slots, record_state};
 ghost use Rattle.model.specs.Acceptance.PointStates as states;
 ghost use Rattle.model.specs.Images.Image.{Image, Thread};
@@ -41,22 +40,37 @@ fn recorded(log: &mut SlotLog, noted: &RecordRef<'_>) -> Result<Kept, AllocError
     }))
 }
 
+/// What is kept of a point: the state of its record, or what the point before leaves.
+fn noted_or(
+    log: &mut SlotLog,
+    noted: Option<&RecordRef<'_>>,
+    derived: Kept,
+) -> Result<Kept, AllocError>
+    requires { IfSome noted (λ r. (length r.now.terms ≤ 4) × (negsuc (2 ^ 62) ≤ℤ r.now.header.constant)) }
+    ensures same { IfOk result (λ k. (image : Image) (t : Thread) → noted_by (image_slots image t) log.new k
+        ≡ states.noted_or image t (option_map (λ r. r.now) noted.entry) (noted_by (image_slots image t) log.old derived)) }
+    ensures sound { IfOk result (λ k. (point : ℕ) → IsSound log.old point derived → IsSound log.new point k) }
+    ensures others { IfOk result (λ _. KeepsParts log.old log.new) }
+{
+    match noted {
+        Some(record) => recorded(log, record),
+        None => Ok(derived),
+    }
+}
+
 impl Points {
     /// The points of a program: each has the state of its record, or what the point before leaves. Memory may be refused.
     pub fn of<R: ThreadRules>(program: &Program<'_, '_, R>) -> Result<Self, AllocError>
         requires { IsProgram (R.image program.now.rules.now) (R.thread program.now.rules.now) program.now.thread.now program.now.number program.now.slots.now }
-        ensures { IfOk result (λ points. AreKept (R.image program.now.rules.now) (R.thread program.now.rules.now) program.now.slots.now points.log points.kept.items) }
+        ensures { IfOk result (λ points. IsRead (R.image program.now.rules.now) (R.thread program.now.rules.now) program.now.slots.now points.log points.kept.items) }
     {
         let mut records = RecordsLeft::of(program.thread);
         let mut log = SlotLog::new(program.alloc);
         let mut kept = Vec::new(program.alloc);
         let mut derived = Kept::Missing;
-        'points: for point in 0..program.thread.header().words {
+        'points: for point in 0..program.thread.word_count() {
             let noted = records.take(point);
-            let state = match &noted {
-                Some(record) => recorded(&mut log, record)?,
-                None => derived,
-            };
+            let state = noted_or(&mut log, noted.as_ref(), derived)?;
             derived = program.following(point, noted.as_ref(), &state, &mut log)?;
             kept.push(state)?;
         }

@@ -7,7 +7,7 @@ ghost use Rattle.certificates.specs.declared.kept.Kept.TheVariants as kept;
 ghost use Rattle.certificates.specs.Programs.{IsProgram};
 ghost use Rattle.measure.specs.Measures.{measure_of};
 ghost use Rattle.model.specs.Acceptance.Edges.{after};
-ghost use Rattle.model.specs.Acceptance.Measures.{Measure};
+ghost use Rattle.model.specs.Acceptance.Measures.{Measure as NotedMeasure};
 ghost use Rattle.model.specs.Acceptance.NotedStates.{NotedSlot, record_of};
 ghost use Rattle.model.specs.Images.Image.{Thread};
 ghost use Rattle.model.specs.Acceptance.PointStates.{address_of, behind_call, call_at, follows, follows_call, follows_edge};
@@ -61,7 +61,10 @@ fn behind_instruction(pc: u32, instr: Instr, known: &Known) -> Kept
     ensures same { (slots log : List NotedSlot) → noted_by slots log result ≡ follows_edge instr (state_by slots log known.now) (after pc instr known.now.bounds).fall_through }
     ensures sound { (log : List NotedSlot) (point : ℕ) → IsSound log point (kept.Known known.now) → IsSound log (point + 1) result }
 {
-    keep(follows(pc, instr, &known.bounds, &known.measure), known.part)
+    keep(
+        follows(pc, instr, &known.bounds, &known.measure),
+        known.part,
+    )
 }
 
 /// What is kept of the point behind a system call that leaves the slots of this part.
@@ -99,7 +102,7 @@ impl<R: ThreadRules> Program<'_, '_, R> {
         requires image { slots.now.image.now ≡ self.now.slots.now }
         requires noted { option_map (λ r. r.now) noted ≡ record_of self.now.thread.now point }
         requires none { made.old.items ≡ [] }
-        ensures { IfOk result (λ called. (measure : Measure) → call_at (R.image self.now.rules.now) (R.thread self.now.rules.now) point (known_with bounds.now (slots_of slots.now) measure)
+        ensures { IfOk result (λ called. (measure : NotedMeasure) → call_at (R.image self.now.rules.now) (R.thread self.now.rules.now) point (known_with bounds.now (slots_of slots.now) measure)
             ≡ option_map (left_with (slots_of slots.now) made.new.items) called) }
     {
         if self.rules.has_stray_slots(point, noted, slots) {

@@ -26,7 +26,12 @@ pub trait ThreadRules {
 
     /// Whether some slot at a point is one that the thread may not have, or the point's record notes one outside of the
     /// thread's CNodes.
-    fn has_stray_slots(&self, point: u32, noted: Option<&RecordRef<'_>>, slots: &NotedSlots<'_>) -> bool
+    fn has_stray_slots(
+        &self,
+        point: u32,
+        noted: Option<&RecordRef<'_>>,
+        slots: &NotedSlots<'_>,
+    ) -> bool
         requires image { slots.now.image.now ≡ image_slots (image self.now) (thread self.now).thread }
         requires noted { option_map (λ r. r.now) noted ≡ record_of (thread self.now).thread point }
         ensures { (ranges : List Range) (measure : Measure) → result ≡ has_stray_slots (image self.now) (thread self.now).thread point (known_with ranges (slots_of slots.now) measure) };

@@ -25,8 +25,7 @@ record-header objects words least h is =
     let b = and_parts _ _ a.1 in
     let c = and_parts _ _ b.1 in
     let d = and_parts _ _ c.1 in
-    let point = and_parts _ _ (field-parts (λ point. nat_le least point && nat_lt point words) h.point a.0).1 in
-    (
+    let point = and_parts _ _ (field-parts (λ point. nat_le least point && nat_lt point words) h.point a.0).1 in (
       leb-true least h.point point.0,
       ltb-true h.point words point.1,
       (field-between 0 4 h.terms d.0).1,

@@ -1,4 +1,4 @@
-use Rattle.std.proofs.Common.{rules, arith, ◌≡◌, ◌≤◌, All, List, subst}
+use Rattle.std.proofs.Common.{rules, arith, ◌≤◌, All, List, subst}
 use Rattle.std.proofs.lemmas.Grind.{common_steps}
 use Rattle.std.proofs.lemmas.List.Elements.{All-tail}
 use Rattle.model.specs.declared.entries.RangeEntry.{RangeEntry}
