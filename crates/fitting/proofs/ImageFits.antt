@@ -1,15 +1,8 @@
 -- An image that fits its format: counts are lengths, numbers lie in their ranges, and keys rise.
-use Rattle.std.proofs.Common.{ℕ, ◌≡◌, ◌+◌, ◌<◌, true, length, Some, refl}
-use Rattle.std.specs.Prelude.{slice_get}
+use Rattle.std.proofs.Common.{◌≡◌, ◌+◌, true, refl}
 use Rattle.std.proofs.lemmas.Bool.{and_parts}
-use Rattle.model.specs.declared.entries.CapabilityEntry.{CapabilityEntry}
-use Rattle.model.specs.declared.entries.FrameEntry.{FrameEntry}
-use Rattle.model.specs.declared.entries.InterruptEntry.{InterruptEntry}
-use Rattle.model.specs.declared.entries.ObjectEntry.{ObjectEntry}
-use Rattle.model.specs.declared.entries.TableEntry.{TableEntry}
-use Rattle.model.specs.declared.entries.UntypedEntry.{UntypedEntry}
 use Rattle.fitting.proofs.FormatFits.{many-each, many-length, many-rises}
-use Rattle.model.specs.Images.Image.{Image, Thread, capability_format, frame_format, image_with, interrupt_format, object_format, pair_key, sections_format, slots_format, table_format, thread_format, untyped_format, whole_image}
+use Rattle.model.specs.Images.Image.{Image, capability_format, frame_format, image_with, interrupt_format, object_format, pair_key, sections_format, slots_format, table_format, thread_format, untyped_format, whole_image}
 use Rattle.fitting.specs.Fitting.{IsFitting}
 use Rattle.fitting.proofs.EntryFits.{capability-fits, frame-fits, header-fits, interrupt-fits, object-fits, table-fits, thread-fits, untyped-fits}
 

@@ -1,3 +1,4 @@
 pub mod EntryFits
 pub mod FormatFits
 pub mod ImageFits
+pub mod Certificates

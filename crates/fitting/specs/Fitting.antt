@@ -1,5 +1,5 @@
 -- What an image is that fits its format: counts are lengths, numbers lie in their ranges, and keys rise.
-use Rattle.std.specs.Prelude.{ℕ, ◌≡◌, ◌+◌, ◌^◌, ◌<◌, ◌≤◌, true, length, Some, slice_get}
+use Rattle.std.specs.Prelude.{ℕ, ◌≡◌, ◌+◌, ◌^◌, ◌<◌, ◌≤◌, ◌≤ℤ◌, negsuc, true, length, Some, slice_get}
 use Rattle.model.specs.declared.entries.CapabilityEntry.{CapabilityEntry}
 use Rattle.model.specs.declared.entries.FrameEntry.{FrameEntry}
 use Rattle.model.specs.declared.entries.ImageHeader.{ImageHeader}
@@ -8,7 +8,7 @@ use Rattle.model.specs.declared.entries.ObjectEntry.{ObjectEntry}
 use Rattle.model.specs.declared.entries.TableEntry.{TableEntry}
 use Rattle.model.specs.declared.entries.ThreadHeader.{ThreadHeader}
 use Rattle.model.specs.declared.entries.UntypedEntry.{UntypedEntry}
-use Rattle.model.specs.Images.Image.{Image, Thread, pair_key, size_fits}
+use Rattle.model.specs.Images.Image.{Image, StateRecord, Thread, pair_key, size_fits}
 
 -- ---- entries
 
@@ -97,3 +97,21 @@ pub record IsFitting (image : Image) : Type 0 where
       → pair_key a.root a.address < pair_key b.root b.address
   pub pages_rise : (i j : ℕ) (a b : FrameEntry) → i < j → slice_get image.frames i ≡ Some a → slice_get image.frames j ≡ Some b
       → pair_key a.root a.address < pair_key b.root b.address
+
+-- ---- the certificate of a thread
+
+pub record RecordFits (words : ℕ) (r : StateRecord) : Type 0 where
+  pub point : r.header.point < words
+  pub constant : negsuc (2 ^ 62) ≤ℤ r.header.constant
+  pub terms : length r.terms ≤ 4
+
+pub record CertificateFits (t : Thread) : Type 0 where
+  pub some_words : 1 ≤ t.header.words
+  pub few_words : t.header.words ≤ 65536
+  pub budget : t.header.budget ≤ 2 ^ 62
+  pub words : length t.words ≡ t.header.words
+  pub records : length t.records ≡ t.header.records
+  pub each : (k : ℕ) (r : StateRecord) → slice_get t.records k ≡ Some r → RecordFits t.header.words r
+  -- points rise
+  pub points_rise : (i j : ℕ) (a b : StateRecord) → i < j → slice_get t.records i ≡ Some a → slice_get t.records j ≡ Some b
+      → a.header.point < b.header.point

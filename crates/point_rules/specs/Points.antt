@@ -1,10 +1,12 @@
 -- The states and the ways on of the rules that those of the code stand for.
-use Rattle.std.specs.Prelude.{ℕ}
+use Rattle.std.specs.Prelude.{ℕ, ◌≡◌, List}
 use Rattle.measure.specs.Measures.{measure_of}
 use Rattle.model.specs.Acceptance.Measures.{Form}
-use Rattle.model.specs.Acceptance.NotedStates.{PointState}
+use Rattle.model.specs.Acceptance.NotedStates.{NotedSlot, PointState}
 use Rattle.model.specs.Acceptance.PointRules.{ProgramEdge}
 use Rattle.model.specs.Acceptance.PointStates.{Noted, Known, Missing, Unmeasured}
+use Rattle.point_rules.specs.declared.following.Left.{Left}
+use Rattle.point_rules.specs.declared.following.Left.TheVariants as left
 use Rattle.point_rules.specs.declared.noted.Noted.{Noted as Found}
 use Rattle.point_rules.specs.declared.noted.Noted.TheVariants as found
 use Rattle.point_rules.specs.declared.states.PointState.{PointState as Kept}
@@ -29,3 +31,15 @@ abbrev pub noted_of : Found → Noted
 noted_of (found.Known s) = Known (state_of s)
 noted_of found.Missing = Missing
 noted_of found.Unmeasured = Unmeasured
+
+-- what is left for the next point, with these slots
+abbrev pub left_with : List NotedSlot → Left → Noted
+left_with slots (left.Known bounds measure) = Known (record { ranges = bounds; slots = slots; measure = measure_of measure })
+left_with slots left.Missing = Missing
+left_with slots left.Unmeasured = Unmeasured
+
+-- a state has the slots of this image
+abbrev pub HasImage : List NotedSlot → Found → Type 0
+HasImage slots (found.Known s) = s.slots.image.now ≡ slots
+HasImage slots found.Missing = Unit {0}
+HasImage slots found.Unmeasured = Unit {0}

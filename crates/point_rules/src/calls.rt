@@ -1,19 +1,19 @@
 //! What a system call leaves for the next point.
 
-ghost use Rattle.std.specs.Prelude.{◌≡◌, ◌≤◌, ◌≤ℤ◌, ◌-◌, ◌^◌, negsuc};
+ghost use Rattle.std.specs.Prelude.{◌≡◌, ◌≤◌, ◌≤ℤ◌, ◌-◌, ◌^◌, List, negsuc};
 ghost use Rattle.std.specs.List.{list_any};
 ghost use Rattle.measure.specs.Measures.{measure_of};
 ghost use Rattle.model.specs.Acceptance.Measures.{has_term};
+ghost use Rattle.model.specs.Acceptance.NotedStates.{NotedSlot};
 ghost use Rattle.model.specs.Acceptance.PointStates.{behind_call};
 ghost use Rattle.model.specs.Images.Image.{Thread};
-ghost use Rattle.point_rules.specs.Points.{noted_of};
+ghost use Rattle.point_rules.specs.Points.{left_with};
 ghost use Rattle.typestate.specs.Calls.{behind_with, registers_of};
-ghost use Rattle.typestate.specs.Differences.{slots_of};
 
-use crate::{Noted, PointState};
+use crate::Left;
 use measure::Measure;
 use model::Register;
-use typestate::{Behind, NotedSlots, Written};
+use typestate::{Behind, Written};
 
 const BADGE: [Register; 1] = [Register(10)];
 
@@ -55,28 +55,22 @@ fn has_one(measure: &Measure, registers: &[Register]) -> bool
         .any(|register| measure.has_term(u32::from(register.0)))
 }
 
-/// What a system call leaves for the next point, with these slots behind it: the budget is there anew behind a wait, and else one
-/// instruction less is left to run.
-pub fn follows_call<'s>(
-    budget: u64,
-    state: &PointState<'_>,
-    behind: &Behind,
-    slots: NotedSlots<'s>,
-) -> Noted<'s>
+/// What a system call leaves for the next point: the budget is there anew behind a wait, and else one instruction less is left
+/// to run.
+pub fn follows_call(budget: u64, measure: &Measure, behind: &Behind) -> Left
     requires budget { budget ≤ 2 ^ 62 }
-    requires measure { negsuc (2 ^ 63 - 2) ≤ℤ (measure_of state.now.measure).constant }
-    ensures { (t : Thread) → t.header.budget ≡ budget → noted_of result ≡ behind_call t (measure_of state.now.measure) (behind_with (slots_of slots.entry) behind.now) }
+    requires measure { negsuc (2 ^ 63 - 2) ≤ℤ (measure_of measure.now).constant }
+    ensures { (t : Thread) (slots : List NotedSlot) → t.header.budget ≡ budget → left_with slots result ≡ behind_call t (measure_of measure.now) (behind_with slots behind.now) }
 {
     let measure = if behind.is_wait {
         Measure::new(budget as i64)
-    } else if has_one(&state.measure, registers_of(behind.written)) {
-        return Noted::Unmeasured;
+    } else if has_one(measure, registers_of(behind.written)) {
+        return Left::Unmeasured;
     } else {
-        state.measure.lowered()
+        measure.lowered()
     };
-    Noted::Known(PointState {
+    Left::Known {
         bounds: behind.bounds,
-        slots,
         measure,
-    })
+    }
 }

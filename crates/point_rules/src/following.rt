@@ -1,20 +1,31 @@
 //! What an instruction leaves for the next point, where no record notes that one.
 
-ghost use Rattle.std.specs.Prelude.{◌≡◌, ◌≤ℤ◌, ◌-◌, ◌^◌, false, negsuc, pos, if◌then◌else◌};
+ghost use Rattle.std.specs.Prelude.{◌≡◌, ◌≤ℤ◌, ◌-◌, ◌^◌, List, false, negsuc, pos, if◌then◌else◌};
 ghost use Rattle.std.specs.Option.{option_map_or};
 ghost use Rattle.measure.specs.Measures.{measure_of};
 ghost use Rattle.model.specs.Acceptance.Edges.{after};
 ghost use Rattle.model.specs.Acceptance.Measures.{has_term, lowered};
+ghost use Rattle.model.specs.Acceptance.NotedStates.{NotedSlot};
 ghost use Rattle.model.specs.Acceptance.PointStates.{Known, Unmeasured, follows_edge};
 ghost use Rattle.model.specs.Acceptance.RangeRules.{destination};
 ghost use Rattle.model.specs.Machine.Instructions.{IsInstr};
-ghost use Rattle.point_rules.specs.Points.{noted_of, state_of};
-ghost use Rattle.typestate.specs.Differences.{slots_of};
+ghost use Rattle.point_rules.specs.Points.{left_with};
+ghost use Rattle.typestate.specs.Calls.{known_with};
 
-use crate::{Noted, PointState};
 use measure::{Measure, destination};
 use model::Instr;
 use ranges::{Bounds, after};
+
+/// What a point leaves for the next one.
+#[derive(Clone, Copy, Debug)]
+pub enum Left {
+    /// These ranges, and this measure.
+    Known { bounds: Bounds, measure: Measure },
+    /// No state.
+    Missing,
+    /// No state, only because a register of the measure is written.
+    Unmeasured,
+}
 
 /// Whether an instruction writes a register of a measure.
 fn writes_term(instr: Instr, measure: &Measure) -> bool
@@ -26,30 +37,29 @@ fn writes_term(instr: Instr, measure: &Measure) -> bool
     }
 }
 
-/// The next point, with these ranges behind the instruction: slots stay, and one instruction less is left to run.
-fn behind<'s>(instr: Instr, state: &PointState<'s>, bounds: Bounds) -> Noted<'s>
-    requires { negsuc (2 ^ 63 - 2) ≤ℤ (measure_of state.now.measure).constant }
-    ensures { noted_of result ≡ (if option_map_or (λ rd. has_term (measure_of state.now.measure) rd.0) (destination instr) false then Unmeasured
-        else Known (record { ranges = bounds; slots = slots_of state.now.slots; measure = lowered (measure_of state.now.measure) (pos 1) })) }
+/// What is left with these ranges behind the instruction: one instruction less is left to run.
+fn behind(instr: Instr, measure: &Measure, bounds: Bounds) -> Left
+    requires { negsuc (2 ^ 63 - 2) ≤ℤ (measure_of measure.now).constant }
+    ensures { (slots : List NotedSlot) → left_with slots result ≡ (if option_map_or (λ rd. has_term (measure_of measure.now) rd.0) (destination instr) false then Unmeasured
+        else Known (record { ranges = bounds; slots = slots; measure = lowered (measure_of measure.now) (pos 1) })) }
 {
-    if writes_term(instr, &state.measure) {
-        return Noted::Unmeasured;
+    if writes_term(instr, measure) {
+        return Left::Unmeasured;
     }
-    Noted::Known(PointState {
+    Left::Known {
         bounds,
-        slots: state.slots,
-        measure: state.measure.lowered(),
-    })
+        measure: measure.lowered(),
+    }
 }
 
-/// What the instruction at a pc leaves for the next point. It is no system call.
-pub fn follows<'s>(pc: u32, instr: Instr, state: &PointState<'s>) -> Noted<'s>
+/// What the instruction at a pc leaves for the next point, whose slots are those of this one. It is no system call.
+pub fn follows(pc: u32, instr: Instr, bounds: &Bounds, measure: &Measure) -> Left
     requires instr { IsInstr instr }
-    requires measure { negsuc (2 ^ 63 - 2) ≤ℤ (measure_of state.now.measure).constant }
-    ensures { noted_of result ≡ follows_edge instr (state_of state.now) (after pc instr state.now.bounds).fall_through }
+    requires measure { negsuc (2 ^ 63 - 2) ≤ℤ (measure_of measure.now).constant }
+    ensures { (slots : List NotedSlot) → left_with slots result ≡ follows_edge instr (known_with bounds.now slots (measure_of measure.now)) (after pc instr bounds.now).fall_through }
 {
-    match after(pc, instr, &state.bounds).fall_through {
-        Some(edge) => behind(instr, state, edge.bounds),
-        None => Noted::Missing,
+    match after(pc, instr, bounds).fall_through {
+        Some(edge) => behind(instr, measure, edge.bounds),
+        None => Left::Missing,
     }
 }

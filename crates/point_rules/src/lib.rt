@@ -12,8 +12,8 @@ mod ways;
 
 pub use calls::{follows_call, registers_of};
 pub use entries::entered;
-pub use following::follows;
+pub use following::{Left, follows};
 pub use noted::Noted;
 pub use reach::Pages;
 pub use states::PointState;
-pub use ways::{Way, kept_at};
+pub use ways::{Way, kept_at, leads_to};

@@ -2,12 +2,12 @@
 
 ghost use Rattle.std.specs.Prelude.{ℕ, ◌≡◌, ◌↔◌, IsTrue};
 ghost use Rattle.measure.specs.Measures.{measure_of};
-ghost use Rattle.model.specs.Acceptance.PointRules.{are_ranges_within, kept_at};
+ghost use Rattle.model.specs.Acceptance.PointRules.{are_ranges_within, edge_rules, kept_at};
 ghost use Rattle.model.specs.Acceptance.Rules.{first_broken};
 ghost use Rattle.model.specs.Images.Image.{Thread};
-ghost use Rattle.point_rules.specs.Points.{edge_of, state_of};
+ghost use Rattle.point_rules.specs.Points.{HasImage, edge_of, noted_of, state_of};
 
-use crate::PointState;
+use crate::{Noted, PointState};
 use measure::{Measure, Step, falls, stays_below};
 use model::{Point, Refusal};
 use ranges::Bounds;
@@ -58,4 +58,24 @@ pub fn kept_at<S: Step>(
         return Some(Refusal::MeasureNotFalling(at));
     }
     None
+}
+
+/// What a way on breaks that leads to a point of which this is noted: it has a state (`BadTarget`, or `MeasureNotFalling`
+/// where it lacks only a measure), and the way keeps that.
+pub fn leads_to<S: Step>(
+    budget: u64,
+    at: Point,
+    measure: &Measure,
+    way: &Way<'_>,
+    step: &S,
+    target: &Noted<'_>,
+) -> Option<Refusal>
+    requires { HasImage way.now.slots.image.now target.now }
+    ensures { (t : Thread) (address : ℕ) → t.header.budget ≡ budget → result ≡ first_broken (edge_rules t at (measure_of measure.now) (edge_of address (S.value_of step.now) way.now) (noted_of target.now)) }
+{
+    match target {
+        Noted::Missing => Some(Refusal::BadTarget(at)),
+        Noted::Unmeasured => Some(Refusal::MeasureNotFalling(at)),
+        Noted::Known(state) => kept_at(budget, at, measure, way, step, state),
+    }
 }

@@ -10,3 +10,4 @@ pub mod Rising
 pub mod Searched
 pub mod Compared
 pub mod SomeHeld
+pub mod LogParts

@@ -3,3 +3,4 @@ pub mod Differences
 pub mod Calls
 pub mod Spaces
 pub mod Messages
+pub mod Logs

@@ -1,5 +1,5 @@
 -- The one mapping at the page decides.
-use Rattle.std.proofs.Common.{◌≡◌, ◌∙◌, ◌*◌, ◌==◌, ◌&&◌, ℕ, Bool, false, Option, Some, None, sym, ap}
+use Rattle.std.proofs.Common.{◌∙◌, ◌*◌, ◌==◌, ◌&&◌, Bool, false, Option, sym, ap}
 use Rattle.std.specs.List.{list_any}
 use Rattle.std.specs.Option.{option_map_or}
 use Rattle.model.specs.declared.entries.FrameEntry.{FrameEntry}

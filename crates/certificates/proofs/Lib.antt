@@ -1,0 +1,6 @@
+pub mod Recorded
+pub mod Followed
+pub mod NextRecords
+pub mod FirstBroken
+pub mod Called
+pub mod EachPoint

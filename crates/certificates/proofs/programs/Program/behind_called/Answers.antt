@@ -1,0 +1,29 @@
+-- By what the rule on calls says.
+use Rattle.std.proofs.Common.{◌∙◌, ◌++◌, List, Some, sym, ap}
+use Rattle.certificates.proofs.Called.{call-made}
+use Rattle.certificates.proofs.Followed.{changed-both}
+use Rattle.certificates.proofs.programs.Program.behind_called.Goals as goal
+use Rattle.measure.specs.Measures.{measure_of}
+use Rattle.model.specs.Acceptance.NotedStates.{NotedSlot}
+use Rattle.model.specs.Acceptance.PointStates.{behind_call, follows_call}
+use Rattle.typestate.specs.Calls.{behind_with}
+use Rattle.typestate.specs.Differences.{changed, slots_of}
+use Rattle.typestate.specs.Logs.{part_of}
+
+pub returns-clause-same : goal.returns-clause-same
+returns-clause-same g c =
+    let own = c.args.self.now.thread.now in
+    let slots = c.args.self.now.slots.now in
+    let m = measure_of c.args.known.now.measure in
+    let part = part_of c.args.log.now c.args.known.now.part in
+    let b = c.in-Some-Ok.behind in
+    c.behind_call.ensures.same slots c.follow.new.self own (sym (ap (λ h. h.budget) c.header.ensures))
+    ∙ ap (λ (all : List NotedSlot). behind_call own m (behind_with all b))
+    (ap (changed slots) (c.in_ok-part.ensures.part ∙ ap (λ (made : List NotedSlot). part ++ made) c.deref.ensures.value) ∙ changed-both slots part c.called.new.made.items)
+    ∙ ap (follows_call own m) (sym (call-made (g.R.ThreadRules.image c.args.self.now.rules.now) (g.R.ThreadRules.thread c.args.self.now.rules.now) c.args.point c.args.known.now.bounds m
+    (slots_of c.slots-slots.result) (changed slots part) c.called.new.made.items c.in_ok-behind.field-0 b c.slots-slots.ensures.slots
+    (c.in-Some-Ok.is ∙ ap Some c.in-Some-Ok.field-0-is) (c.in_ok-behind.ensures m)))
+
+pub returns-clause-sound : goal.returns-clause-sound
+returns-clause-sound g c =
+    c.behind_call.ensures.sound c.follow.new.self c.args.self.now.thread.now c.args.point (sym (ap (λ h. h.budget) c.header.ensures)) c.in_ok-part.ensures.held c.requires.sound.1

@@ -1,0 +1,51 @@
+-- What is kept of points, and what it says that the certificate notes of them.
+use Rattle.std.specs.Prelude.{ℕ, ◌≡◌, ◌+◌, ◌^◌, ◌≤ℤ◌, negsuc, Some, List, length, slice_get}
+use Rattle.certificates.specs.declared.kept.Kept.{Kept}
+use Rattle.certificates.specs.declared.kept.Known.{Known as State}
+use Rattle.certificates.specs.declared.kept.Kept.TheVariants as kept
+use Rattle.measure.specs.Measures.{measure_of}
+use Rattle.model.specs.Acceptance.NotedStates.{NotedSlot, PointState}
+use Rattle.model.specs.Acceptance.PointStates.{Noted, Known, Missing, Unmeasured, noted}
+use Rattle.model.specs.Images.Described.{Numbered}
+use Rattle.model.specs.Images.Image.{Image}
+use Rattle.point_rules.specs.declared.following.Left.{Left}
+use Rattle.point_rules.specs.declared.following.Left.TheVariants as left
+use Rattle.typestate.specs.declared.logs.Part.{Part}
+use Rattle.typestate.specs.Differences.{changed}
+use Rattle.typestate.specs.Logs.{Holds, part_of}
+
+-- the state, by what is kept beside the image's slots and the log of changes
+abbrev pub state_by : List NotedSlot → List NotedSlot → State → PointState
+state_by slots log k = record { ranges = k.bounds; slots = changed slots (part_of log k.part); measure = measure_of k.measure }
+
+-- what is noted
+abbrev pub noted_by : List NotedSlot → List NotedSlot → Kept → Noted
+noted_by slots log (kept.Known k) = Known (state_by slots log k)
+noted_by slots log kept.Missing = Missing
+noted_by slots log kept.Unmeasured = Unmeasured
+
+-- what is kept of what a point leaves for the next one, with the part that its slots have
+abbrev pub kept_as : Left → Part → Kept
+kept_as (left.Known bounds measure) part = kept.Known (record { bounds = bounds; measure = measure; part = part })
+kept_as left.Missing part = kept.Missing
+kept_as left.Unmeasured part = kept.Unmeasured
+
+-- its changes are in the log, and its measure can be lowered by one for each point that is left
+abbrev pub IsSound : List NotedSlot → ℕ → Kept → Type 0
+IsSound log point (kept.Known k) = Holds log k.part × (negsuc (2 ^ 62 + point) ≤ℤ (measure_of k.measure).constant)
+IsSound log point kept.Missing = Unit {0}
+IsSound log point kept.Unmeasured = Unit {0}
+
+-- what is kept of one point is what the certificate notes of it
+pub record IsKeptAt (image : Image) (t : Numbered) (slots log : List NotedSlot) (point : ℕ) (k : Kept) : Type 0 where
+  pub same : noted_by slots log k ≡ noted image t point
+  pub sound : IsSound log point k
+
+-- of each point
+pub record AreKept (image : Image) (t : Numbered) (slots log : List NotedSlot) (kept : List Kept) : Type 0 where
+  pub each : (point : ℕ) (k : Kept) → slice_get kept point ≡ Some k → IsKeptAt image t slots log point k
+
+-- all points of the program
+pub record IsRead (image : Image) (t : Numbered) (slots log : List NotedSlot) (kept : List Kept) : Type 0 where
+  pub count : length kept ≡ t.thread.header.words
+  pub noted : AreKept image t slots log kept

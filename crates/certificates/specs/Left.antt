@@ -1,0 +1,18 @@
+-- The records of a certificate that are left, in the order of their points.
+use Rattle.std.specs.Prelude.{ℕ, ◌==◌, Option, Some, None, List, [], ◌∷◌, if◌then◌else◌}
+use Rattle.model.specs.Images.Image.{StateRecord}
+
+-- the next one, and those behind it
+abbrev pub left_of : Option StateRecord → List StateRecord → List StateRecord
+left_of None records = []
+left_of (Some r) records = r ∷ records
+
+-- the next one, if it is that of a point
+abbrev pub taken : ℕ → List StateRecord → Option StateRecord
+taken point [] = None
+taken point (r ∷ rs) = if r.header.point == point then Some r else None
+
+-- what is left behind that point
+abbrev pub behind : ℕ → List StateRecord → List StateRecord
+behind point [] = []
+behind point (r ∷ rs) = if r.header.point == point then rs else r ∷ rs

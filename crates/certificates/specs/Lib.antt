@@ -1,0 +1,4 @@
+pub mod Left
+pub mod Kept
+pub mod Calls
+pub mod Programs

@@ -1,0 +1,16 @@
+-- A program with what is given of its thread.
+use Rattle.std.specs.Prelude.{ℕ, ◌≡◌, ◌+◌, ◌*◌, ◌^◌, ◌≤◌, List}
+use Rattle.fitting.specs.Fitting.{CertificateFits}
+use Rattle.model.specs.Acceptance.NotedStates.{NotedSlot, image_slots}
+use Rattle.model.specs.Images.Described.{Numbered}
+use Rattle.model.specs.Images.Image.{Image, Thread}
+use Rattle.typestate.specs.Orders.{Rise}
+
+-- this thread of the image, by its number, with the slots that the image lists in its CNodes; its words lie in memory
+pub record IsProgram (image : Image) (t : Numbered) (own : Thread) (number : ℕ) (slots : List NotedSlot) : Type 0 where
+  pub thread : t.thread ≡ own
+  pub number_is : t.number ≡ number
+  pub listed : slots ≡ image_slots image own
+  pub rising : Rise slots
+  pub fits : CertificateFits own
+  pub inside : own.header.base + 4 * own.header.words ≤ 2 ^ 31

@@ -1,0 +1,46 @@
+//! What is kept of a point.
+
+ghost use Rattle.std.specs.Prelude.{◌≡◌};
+ghost use Rattle.certificates.specs.Kept.{state_by};
+ghost use Rattle.point_rules.specs.Points.{state_of};
+ghost use Rattle.typestate.specs.Logs.{Holds};
+ghost use Rattle.typestate.specs.Orders.{Rise};
+
+use measure::Measure;
+use point_rules::PointState;
+use ranges::Bounds;
+use typestate::{NotedSlot, Part, SlotLog};
+
+/// A state: its slots are the image's with a part of a log of changes made.
+#[derive(Clone, Copy, Debug)]
+pub(crate) struct Known {
+    pub(crate) bounds: Bounds,
+    pub(crate) measure: Measure,
+    pub(crate) part: Part,
+}
+
+/// What is noted of a point.
+#[derive(Clone, Copy, Debug)]
+pub(crate) enum Kept {
+    Known(Known),
+    /// It has no state.
+    Missing,
+    /// It has none only because the instruction before writes a register of the measure.
+    Unmeasured,
+}
+
+impl Known {
+    /// The state that it stands for.
+    pub(crate) fn state<'s>(&self, slots: &'s [NotedSlot], log: &'s SlotLog) -> PointState<'s>
+        requires held { Holds log.now self.now.part }
+        requires rising { Rise slots.now }
+        ensures state { state_of result ≡ state_by slots.now log.now self.now }
+        ensures image { result.slots.image.now ≡ slots.now }
+    {
+        PointState {
+            bounds: self.bounds,
+            slots: log.slots(slots, self.part),
+            measure: self.measure,
+        }
+    }
+}

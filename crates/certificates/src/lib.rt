@@ -1,0 +1,13 @@
+//! What the certificate of a thread notes of the points of its program.
+#![tactic(auto)]
+
+mod kept;
+mod notes;
+mod points;
+mod programs;
+mod records;
+mod rules;
+
+pub use points::Points;
+pub use programs::Program;
+pub use rules::ThreadRules;

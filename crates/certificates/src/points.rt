@@ -1,0 +1,79 @@
+//! What is noted of all points of a program.
+
+ghost use Rattle.std.specs.Prelude.{ℕ, ◌≡◌, ◌≤◌, ◌≤ℤ◌, ◌^◌, IfOk, IfSome, length, negsuc, option_map};
+ghost use Rattle.certificates.specs.Kept.{IsRead, IsSound, noted_by};
+ghost use Rattle.certificates.specs.Programs.{IsProgram};
+ghost use Rattle.model.specs.Acceptance.NotedStates.{image_slots, record_state};
+ghost use Rattle.model.specs.Acceptance.PointStates as states;
+ghost use Rattle.model.specs.Images.Image.{Image, Thread};
+ghost use Rattle.typestate.specs.Logs.{KeepsParts};
+
+use crate::kept::{Kept, Known};
+use crate::notes::RecordsLeft;
+use crate::records::{bounds_of, measure_of};
+use crate::{Program, ThreadRules};
+use image::RecordRef;
+use std::alloc::AllocError;
+use typestate::SlotLog;
+
+/// What is noted of each point of a program.
+#[derive(Drop)]
+pub struct Points {
+    pub(crate) kept: Vec<Kept>,
+    pub(crate) log: SlotLog,
+}
+
+/// What is kept of a point that has a record.
+#[tactic(auto, unfolding(model::specs::Acceptance::NotedStates::record_state))]
+fn recorded(log: &mut SlotLog, noted: &RecordRef<'_>) -> Result<Kept, AllocError>
+    requires terms { length noted.now.terms ≤ 4 }
+    requires constant { negsuc (2 ^ 62) ≤ℤ noted.now.header.constant }
+    ensures same { IfOk result (λ k. (image : Image) (t : Thread) → noted_by (image_slots image t) log.new k ≡ states.Known (record_state image t noted.now)) }
+    ensures sound { IfOk result (λ k. (point : ℕ) → IsSound log.new point k) }
+    ensures others { IfOk result (λ _. KeepsParts log.old log.new) }
+{
+    let part = log.note(noted)?;
+    Ok(Kept::Known(Known {
+        bounds: bounds_of(noted),
+        measure: measure_of(noted),
+        part,
+    }))
+}
+
+/// What is kept of a point: the state of its record, or what the point before leaves.
+fn noted_or(
+    log: &mut SlotLog,
+    noted: Option<&RecordRef<'_>>,
+    derived: Kept,
+) -> Result<Kept, AllocError>
+    requires { IfSome noted (λ r. (length r.now.terms ≤ 4) × (negsuc (2 ^ 62) ≤ℤ r.now.header.constant)) }
+    ensures same { IfOk result (λ k. (image : Image) (t : Thread) → noted_by (image_slots image t) log.new k
+        ≡ states.noted_or image t (option_map (λ r. r.now) noted.entry) (noted_by (image_slots image t) log.old derived)) }
+    ensures sound { IfOk result (λ k. (point : ℕ) → IsSound log.old point derived → IsSound log.new point k) }
+    ensures others { IfOk result (λ _. KeepsParts log.old log.new) }
+{
+    match noted {
+        Some(record) => recorded(log, record),
+        None => Ok(derived),
+    }
+}
+
+impl Points {
+    /// The points of a program: each has the state of its record, or what the point before leaves. Memory may be refused.
+    pub fn of<R: ThreadRules>(program: &Program<'_, '_, R>) -> Result<Self, AllocError>
+        requires { IsProgram (R.image program.now.rules.now) (R.thread program.now.rules.now) program.now.thread.now program.now.number program.now.slots.now }
+        ensures { IfOk result (λ points. IsRead (R.image program.now.rules.now) (R.thread program.now.rules.now) program.now.slots.now points.log points.kept.items) }
+    {
+        let mut records = RecordsLeft::of(program.thread);
+        let mut log = SlotLog::new(program.alloc);
+        let mut kept = Vec::new(program.alloc);
+        let mut derived = Kept::Missing;
+        'points: for point in 0..program.thread.word_count() {
+            let noted = records.take(point);
+            let state = noted_or(&mut log, noted.as_ref(), derived)?;
+            derived = program.following(point, noted.as_ref(), &state, &mut log)?;
+            kept.push(state)?;
+        }
+        Ok(Points { kept, log })
+    }
+}

@@ -1,0 +1,169 @@
+//! The program of a thread, and what follows from the state of a point of it.
+
+ghost use Rattle.std.specs.Prelude.{ℕ, ◌≡◌, ◌+◌, ◌<◌, ◌≤ℤ◌, ◌^◌, ◌-◌, ◌≤◌, [], IfOk, List, negsuc, option_map};
+ghost use Rattle.certificates.specs.Calls.{left_with};
+ghost use Rattle.certificates.specs.Kept.{IsSound, kept_as, noted_by, state_by};
+ghost use Rattle.certificates.specs.declared.kept.Kept.TheVariants as kept;
+ghost use Rattle.certificates.specs.Programs.{IsProgram};
+ghost use Rattle.measure.specs.Measures.{measure_of};
+ghost use Rattle.model.specs.Acceptance.Edges.{after};
+ghost use Rattle.model.specs.Acceptance.Measures.{Measure as NotedMeasure};
+ghost use Rattle.model.specs.Acceptance.NotedStates.{NotedSlot, record_of};
+ghost use Rattle.model.specs.Images.Image.{Thread};
+ghost use Rattle.model.specs.Acceptance.PointStates.{address_of, behind_call, call_at, follows, follows_call, follows_edge};
+ghost use Rattle.model.specs.Machine.Instructions.{IsInstr};
+ghost use Rattle.typestate.specs.Calls.{behind_with, known_with};
+ghost use Rattle.typestate.specs.Differences.{changed, slots_of};
+ghost use Rattle.typestate.specs.Logs.{Holds, KeepsParts, part_of};
+
+use crate::ThreadRules;
+use crate::kept::{Kept, Known};
+use image::{RecordRef, ThreadRef};
+use measure::Measure;
+use model::{Instr, Point, Refusal};
+use point_rules::{Left, follows, follows_call};
+use ranges::Bounds;
+use rv32_isa::decode;
+use std::alloc::{AllocError, Global};
+use typestate::{Behind, NotedSlot, NotedSlots, Part, SlotLog};
+
+/// A thread's program with the rules on its slots and calls, and the slots that the image lists in its CNodes.
+#[derive(Clone, Copy)]
+pub struct Program<'a, 'p, R: ThreadRules> {
+    pub rules: &'p R,
+    pub thread: &'p ThreadRef<'a>,
+    /// Which of the image's threads it is, from 0 on.
+    pub number: u32,
+    pub slots: &'p [NotedSlot],
+    /// For the lists of slots that calls change.
+    pub alloc: Global,
+}
+
+/// What is kept of what a point leaves for the next one, with the part that its slots have.
+fn keep(left: Left, part: Part) -> Kept
+    ensures { result ≡ kept_as left part }
+{
+    match left {
+        Left::Known { bounds, measure } => Kept::Known(Known {
+            bounds,
+            measure,
+            part,
+        }),
+        Left::Missing => Kept::Missing,
+        Left::Unmeasured => Kept::Unmeasured,
+    }
+}
+
+/// What is kept of the point behind an instruction that is no system call: slots stay.
+fn behind_instruction(pc: u32, instr: Instr, known: &Known) -> Kept
+    requires instr { IsInstr instr }
+    requires measure { negsuc (2 ^ 63 - 2) ≤ℤ (measure_of known.now.measure).constant }
+    ensures same { (slots log : List NotedSlot) → noted_by slots log result ≡ follows_edge instr (state_by slots log known.now) (after pc instr known.now.bounds).fall_through }
+    ensures sound { (log : List NotedSlot) (point : ℕ) → IsSound log point (kept.Known known.now) → IsSound log (point + 1) result }
+{
+    keep(
+        follows(pc, instr, &known.bounds, &known.measure),
+        known.part,
+    )
+}
+
+/// What is kept of the point behind a system call that leaves the slots of this part.
+fn behind_call(budget: u64, measure: &Measure, behind: &Behind, part: Part) -> Kept
+    requires budget { budget ≤ 2 ^ 62 }
+    requires measure { negsuc (2 ^ 63 - 2) ≤ℤ (measure_of measure.now).constant }
+    ensures same { (slots log : List NotedSlot) (t : Thread) → t.header.budget ≡ budget
+        → noted_by slots log result ≡ behind_call t (measure_of measure.now) (behind_with (changed slots (part_of log part)) behind.now) }
+    ensures sound { (log : List NotedSlot) (t : Thread) (point : ℕ) → t.header.budget ≡ budget → Holds log part → negsuc (2 ^ 62 + point) ≤ℤ (measure_of measure.now).constant → IsSound log (point + 1) result }
+{
+    keep(follows_call(budget, measure, behind), part)
+}
+
+impl<R: ThreadRules> Program<'_, '_, R> {
+    /// The address of a point.
+    fn address(&self, point: u32) -> u32
+        requires program { IsProgram (R.image self.now.rules.now) (R.thread self.now.rules.now) self.now.thread.now self.now.number self.now.slots.now }
+        requires within { point < self.now.thread.now.header.words }
+        ensures { result ≡ address_of self.now.thread.now point }
+    {
+        self.thread.header().base + 4 * point
+    }
+
+    /// What the system call at a point leaves, or why it is refused; nothing, where some slot is one that the thread may not
+    /// have. The slots that it changes are put into the list, which is empty. Memory may be refused.
+    pub(crate) fn called(
+        &self,
+        point: u32,
+        noted: Option<&RecordRef<'_>>,
+        bounds: &Bounds,
+        slots: &NotedSlots<'_>,
+        made: &mut Vec<NotedSlot>,
+    ) -> Result<Option<Result<Behind, Refusal>>, AllocError>
+        requires program { IsProgram (R.image self.now.rules.now) (R.thread self.now.rules.now) self.now.thread.now self.now.number self.now.slots.now }
+        requires image { slots.now.image.now ≡ self.now.slots.now }
+        requires noted { option_map (λ r. r.now) noted ≡ record_of self.now.thread.now point }
+        requires none { made.old.items ≡ [] }
+        ensures { IfOk result (λ called. (measure : NotedMeasure) → call_at (R.image self.now.rules.now) (R.thread self.now.rules.now) point (known_with bounds.now (slots_of slots.now) measure)
+            ≡ option_map (left_with (slots_of slots.now) made.new.items) called) }
+    {
+        if self.rules.has_stray_slots(point, noted, slots) {
+            return Ok(None);
+        }
+        let at = Point {
+            thread: self.number,
+            point,
+        };
+        Ok(Some(self.rules.after_call(at, bounds, slots, made)?))
+    }
+
+    /// What is kept of the point behind a system call in this state.
+    fn behind_called(
+        &self,
+        point: u32,
+        noted: Option<&RecordRef<'_>>,
+        known: &Known,
+        log: &mut SlotLog,
+    ) -> Result<Kept, AllocError>
+        requires program { IsProgram (R.image self.now.rules.now) (R.thread self.now.rules.now) self.now.thread.now self.now.number self.now.slots.now }
+        requires noted { option_map (λ r. r.now) noted ≡ record_of self.now.thread.now point }
+        requires few { point ≤ 65536 }
+        requires sound { IsSound log.old point (kept.Known known.now) }
+        ensures same { IfOk result (λ k. noted_by self.now.slots.now log.new k
+            ≡ follows_call self.now.thread.now (measure_of known.now.measure) (call_at (R.image self.now.rules.now) (R.thread self.now.rules.now) point (state_by self.now.slots.now log.old known.now))) }
+        ensures sound { IfOk result (IsSound log.new (point + 1)) }
+        ensures others { IfOk result (λ _. KeepsParts log.old log.new) }
+    {
+        let mut made = Vec::new(self.alloc);
+        let slots = log.slots(self.slots, known.part);
+        let Some(Ok(behind)) = self.called(point, noted, &known.bounds, &slots, &mut made)? else {
+            return Ok(Kept::Missing);
+        };
+        let part = log.follow(known.part, &made)?;
+        Ok(behind_call(self.thread.header().budget, &known.measure, &behind, part))
+    }
+
+    /// What is kept of the point behind this one, where no record notes that one. Memory may be refused.
+    pub(crate) fn following(
+        &self,
+        point: u32,
+        noted: Option<&RecordRef<'_>>,
+        kept: &Kept,
+        log: &mut SlotLog,
+    ) -> Result<Kept, AllocError>
+        requires program { IsProgram (R.image self.now.rules.now) (R.thread self.now.rules.now) self.now.thread.now self.now.number self.now.slots.now }
+        requires within { point < self.now.thread.now.header.words }
+        requires noted { option_map (λ r. r.now) noted ≡ record_of self.now.thread.now point }
+        requires sound { IsSound log.old point kept.now }
+        ensures same { IfOk result (λ k. noted_by self.now.slots.now log.new k ≡ follows (R.image self.now.rules.now) (R.thread self.now.rules.now) point (noted_by self.now.slots.now log.old kept.now)) }
+        ensures sound { IfOk result (IsSound log.new (point + 1)) }
+        ensures others { IfOk result (λ _. KeepsParts log.old log.new) }
+    {
+        let Kept::Known(known) = kept else {
+            return Ok(Kept::Missing);
+        };
+        match decode(self.thread.word(point)) {
+            None => Ok(Kept::Missing),
+            Some(Instr::Ecall) => self.behind_called(point, noted, known, log),
+            Some(instr) => Ok(behind_instruction(self.address(point), instr, known)),
+        }
+    }
+}
