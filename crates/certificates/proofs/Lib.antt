@@ -4,3 +4,4 @@ pub mod NextRecords
 pub mod FirstBroken
 pub mod Called
 pub mod EachPoint
+pub mod EdgeRules
