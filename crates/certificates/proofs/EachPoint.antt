@@ -1,7 +1,7 @@
 -- What is kept of each point, as the points are gone through.
 use Rattle.std.proofs.Common.{ℕ, zero, suc, ◌≡◌, ◌∙◌, ◌⊎◌, ◌+◌, ◌++◌, inl, inr, Option, Some, None, List, [], ◌∷◌, length, refl, sym, ap, subst, arith}
 use Rattle.std.specs.Prelude.{◌<◌, slice_get, slice_index_or}
-use Rattle.certificates.specs.Kept.{AreKept, HasPart, IsKeptAt, IsSound, noted_by}
+use Rattle.certificates.specs.Kept.{AreKept, HasPart, IsKeptAt, IsRead, IsSound, noted_by}
 use Rattle.certificates.specs.declared.kept.Kept.{Kept}
 use Rattle.certificates.specs.declared.kept.Kept.TheVariants as kept
 use Rattle.measure.specs.Measures.{measure_of}
@@ -89,3 +89,7 @@ pub has-part : (log : List NotedSlot) (point : ℕ) (k : Kept) → IsSound log p
 has-part log point (kept.Known k) sound = sound.0
 has-part log point kept.Missing sound = tt
 has-part log point kept.Unmeasured sound = tt
+
+pub grown-read : (image : Image) (t : Numbered) (slots old new : List NotedSlot) (ks : List Kept) → KeepsParts old new
+    → IsRead image t slots old ks → IsRead image t slots new ks
+grown-read image t slots old new ks keeps read = record { count = read.count; noted = grown image t slots old new ks keeps read.noted }

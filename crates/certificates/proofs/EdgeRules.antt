@@ -1,14 +1,16 @@
 -- The rules on the ways on from an instruction.
-use Rattle.std.proofs.Common.{ℕ, ℤ, ◌≡◌, ◌≢◌, ◌∙◌, ◌++◌, true, false, if◌then◌else◌, Option, Some, None, List, [], ◌∷◌, refl, ap}
+use Rattle.std.proofs.Common.{ℕ, ℤ, ◌≡◌, ◌≢◌, ◌∙◌, ◌+◌, ◌++◌, true, false, Option, Some, None, Result, Ok, Err, List, [], ◌∷◌, refl, ap}
 use Rattle.std.specs.Prelude.{flat_map}
 use Rattle.std.specs.Option.{option_or}
 use Rattle.certificates.proofs.FirstBroken.{first-both}
-use Rattle.certificates.specs.PointChecks.{IsBefore, way_rules}
+use Rattle.certificates.specs.PointChecks.{IsBefore, later_rules, way_rules}
+use Rattle.model.specs.Acceptance.CallRules.{AfterCall}
+use Rattle.model.specs.declared.refusals.Refusal.{Refusal}
 use Rattle.model.specs.Acceptance.Edges.{Edge, after, behind, branch_edge, branch_ranges}
 use Rattle.model.specs.Acceptance.Measures.{Form, Measure}
 use Rattle.model.specs.Acceptance.NotedStates.{NotedSlot, PointState}
-use Rattle.model.specs.Acceptance.PointRules.{ProgramEdge, edge_rules, edges_at, edges_of, noted_at, rules_on_edges}
-use Rattle.model.specs.Acceptance.PointStates.{Noted, address_of, instruction_at, point_of}
+use Rattle.model.specs.Acceptance.PointRules.{ProgramEdge, call_edge, call_edges, edge_rules, edges_at, edges_of, noted_at, refused_call, rules_on_edges}
+use Rattle.model.specs.Acceptance.PointStates.{Noted, address_of, call_at, instruction_at, point_of}
 use Rattle.model.specs.Acceptance.Rules.{Rule, first_broken}
 use Rattle.model.specs.Images.Described.{Numbered}
 use Rattle.model.specs.Images.Image.{Image, Thread}
@@ -110,3 +112,26 @@ first-way image t point s instr plain is =
     ∙ ap (λ (edges : List ProgramEdge). first_broken (rules_on image t point s edges)) (plain-edges image t point s instr plain)
     ∙ ap first_broken (two-ways image t point s instr ways.taken ways.fall_through)
     ∙ first-both (way_rules image t point s instr ways.taken) (way_rules image t point s instr ways.fall_through)
+
+-- ---- a system call
+
+-- what is broken, by what the call leaves
+abbrev pub told_of : Image → Numbered → ℕ → PointState → Option (Result AfterCall Refusal) → Option Refusal
+told_of image t point s None = None
+told_of image t point s (Some (Err refusal)) = Some refusal
+told_of image t point s (Some (Ok a)) =
+    first_broken (edge_rules t.thread (point_of t point) s.measure (call_edge (address_of t.thread point) s.ranges a) (noted_at image t (address_of t.thread point + 4)))
+
+by-outcome : (image : Image) (t : Numbered) (point : ℕ) (s : PointState) (o : Option (Result AfterCall Refusal))
+    → first_broken (refused_call o ∷ rules_on image t point s (call_edges (address_of t.thread point) s.ranges o)) ≡ told_of image t point s o
+by-outcome image t point s None = refl
+by-outcome image t point s (Some (Err refusal)) = refl
+by-outcome image t point s (Some (Ok a)) = ap first_broken (nil-right (edge_rules t.thread (point_of t point) s.measure (call_edge (address_of t.thread point) s.ranges a) (noted_at image t (address_of t.thread point + 4))))
+
+pub call-told : (image : Image) (t : Numbered) (point : ℕ) (s : PointState) (o : Option (Result AfterCall Refusal)) → instruction_at t.thread point ≡ Some Ecall
+    → call_at image t point s ≡ o → first_broken (later_rules image t point s (Some Ecall)) ≡ told_of image t point s o
+unfolding edges_at
+call-told image t point s o is told =
+    ap (λ (i : Option Instr). first_broken (refused_call (call_at image t point s) ∷ rules_on image t point s (edges_at image t point s i))) is
+    ∙ ap (λ (o : Option (Result AfterCall Refusal)). first_broken (refused_call o ∷ rules_on image t point s (call_edges (address_of t.thread point) s.ranges o))) told
+    ∙ by-outcome image t point s o

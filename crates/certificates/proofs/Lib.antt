@@ -5,3 +5,4 @@ pub mod FirstBroken
 pub mod Called
 pub mod EachPoint
 pub mod EdgeRules
+pub mod PointLists

@@ -1,5 +1,5 @@
 -- The rules at a point, part by part.
-use Rattle.std.specs.Prelude.{ℕ, ◌≡◌, Bool, true, false, not, int_lt, pos, Option, Some, None, List, [], ◌∷◌, if◌then◌else◌}
+use Rattle.std.specs.Prelude.{ℕ, ◌≡◌, Bool, true, false, int_lt, pos, Option, Some, None, List, [], ◌∷◌, if◌then◌else◌}
 use Rattle.model.specs.Acceptance.Edges.{Edge}
 use Rattle.model.specs.Acceptance.Measures.{least_value}
 use Rattle.model.specs.Acceptance.NotedStates.{PointState, has_stray_slots}

@@ -1,5 +1,5 @@
 -- By what is kept of each point.
-use Rattle.std.proofs.Common.{ℕ, ◌≡◌, ◌∙◌, ◌<◌, Option, sym, ap, length, arith}
+use Rattle.std.proofs.Common.{ℕ, ◌∙◌, ◌<◌, Option, sym, ap, length, arith}
 use Rattle.std.specs.Option.{option_map_or}
 use Rattle.certificates.proofs.EachPoint.{has-part, kept-at}
 use Rattle.certificates.proofs.programs.Program.noted_at.Goals as goal

@@ -19,7 +19,7 @@ returns-in-Some g c =
     let here = after c.address.result c.args.instr c.args.state.now.bounds in
     let at : c.address.result ≡ address_of t.thread c.args.point = c.address.ensures ∙ ap (λ (u : Thread). address_of u c.args.point) (sym c.requires.program.thread) in
     let first : Some c.in-Some.refusal ≡ broken here.taken =
-        sym c.in-Some.is ∙ c.option_rules.ensures here.taken (ap (λ w. w.taken) (sym c.after-ways.ensures.ways)) (before-taken c.address.result c.args.instr c.args.state.now.bounds) in
+    sym c.in-Some.is ∙ c.option_rules.ensures here.taken (ap (λ w. w.taken) (sym c.after-ways.ensures.ways)) (before-taken c.address.result c.args.instr c.args.state.now.bounds) in
     sym (first-way image t c.args.point (state_of c.args.state.now) c.args.instr c.requires.plain (ap (λ (u : Thread). instruction_at u c.args.point) c.requires.program.thread ∙ c.requires.is)
     ∙ ap (λ (n : ℕ). option_or (broken (after n c.args.instr c.args.state.now.bounds).taken) (broken (after n c.args.instr c.args.state.now.bounds).fall_through)) (sym at)
     ∙ ap (λ (o : Option Refusal). option_or o (broken here.fall_through)) (sym first))
@@ -32,7 +32,7 @@ returns-in-None g c =
     let here = after c.address.result c.args.instr c.args.state.now.bounds in
     let at : c.address.result ≡ address_of t.thread c.args.point = c.address.ensures ∙ ap (λ (u : Thread). address_of u c.args.point) (sym c.requires.program.thread) in
     let first : None ≡ broken here.taken =
-        sym c.in-None.is ∙ c.option_rules.ensures here.taken (ap (λ w. w.taken) (sym c.after-ways.ensures.ways)) (before-taken c.address.result c.args.instr c.args.state.now.bounds) in
+    sym c.in-None.is ∙ c.option_rules.ensures here.taken (ap (λ w. w.taken) (sym c.after-ways.ensures.ways)) (before-taken c.address.result c.args.instr c.args.state.now.bounds) in
     c.option_rules-in-None.ensures here.fall_through (ap (λ w. w.fall_through) (sym c.after-ways.ensures.ways)) (before-fall c.address.result c.args.instr c.args.state.now.bounds)
     ∙ sym (first-way image t c.args.point (state_of c.args.state.now) c.args.instr c.requires.plain (ap (λ (u : Thread). instruction_at u c.args.point) c.requires.program.thread ∙ c.requires.is)
     ∙ ap (λ (n : ℕ). option_or (broken (after n c.args.instr c.args.state.now.bounds).taken) (broken (after n c.args.instr c.args.state.now.bounds).fall_through)) (sym at)
