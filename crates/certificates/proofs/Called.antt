@@ -1,5 +1,5 @@
 -- What the system call at a point leaves, where no slot is stray.
-use Rattle.std.proofs.Common.{ℕ, ◌≡◌, ◌∙◌, Bool, true, false, if◌then◌else◌, Option, Some, None, option_map, Result, Ok, Err, List, refl, sym, ap}
+use Rattle.std.proofs.Common.{ℕ, ◌≡◌, ◌∙◌, Bool, true, false, if◌then◌else◌, Option, Some, None, option_map, Result, Ok, Err, List, refl, sym, ap, subst}
 use Rattle.certificates.specs.Calls.{left_with}
 use Rattle.model.specs.Acceptance.CallRules.{after_call}
 use Rattle.model.specs.Acceptance.Measures.{Measure}
@@ -44,3 +44,10 @@ nothing-left image t own point bounds m given all made None same other told =
 nothing-left image t own point bounds m given all made (Some (Err refusal)) same other told =
     ap (λ (slots : List NotedSlot). follows_call own m (call_at image t point (known_with bounds slots m))) (sym same) ∙ ap (follows_call own m) told
 nothing-left image t own point bounds m given all made (Some (Ok b)) same other told = absurd (other b refl)
+
+-- the same of any outcome, for the slots that it was asked with
+pub call-any : (image : Image) (t : Numbered) (point : ℕ) (bounds : List Range) (m : Measure) (given all made : List NotedSlot) (called : Option (Result Behind Refusal))
+    → given ≡ all → call_at image t point (known_with bounds given m) ≡ option_map (left_with given made) called
+    → call_at image t point (known_with bounds all m) ≡ option_map (left_with all made) called
+call-any image t point bounds m given all made called same told =
+    subst (λ (slots : List NotedSlot). call_at image t point (known_with bounds slots m) ≡ option_map (left_with slots made) called) same told

@@ -1,7 +1,7 @@
 -- What is kept of each point, as the points are gone through.
 use Rattle.std.proofs.Common.{ℕ, zero, suc, ◌≡◌, ◌∙◌, ◌⊎◌, ◌+◌, ◌++◌, inl, inr, Option, Some, None, List, [], ◌∷◌, length, refl, sym, ap, subst, arith}
-use Rattle.std.specs.Prelude.{slice_get}
-use Rattle.certificates.specs.Kept.{AreKept, IsKeptAt, IsSound, noted_by}
+use Rattle.std.specs.Prelude.{◌<◌, slice_get, slice_index_or}
+use Rattle.certificates.specs.Kept.{AreKept, HasPart, IsKeptAt, IsRead, IsSound, noted_by}
 use Rattle.certificates.specs.declared.kept.Kept.{Kept}
 use Rattle.certificates.specs.declared.kept.Kept.TheVariants as kept
 use Rattle.measure.specs.Measures.{measure_of}
@@ -73,3 +73,23 @@ one-more image t slots log ks k are is = record {
 -- what follows from a point is what is before the next one
 pub next-before : (image : Image) (t : Numbered) (point : ℕ) → follows image t point (noted image t point) ≡ before image t (point + 1)
 next-before image t point = ap (before image t) (let next : suc point ≡ point + 1 = omega arith in next)
+
+-- ---- what is kept of one point
+
+get-some : (ks : List Kept) (point : ℕ) (k : Kept) → point < length ks → k ≡ slice_index_or ks point k → slice_get ks point ≡ Some k
+get-some [] point k less is = absurd (omega (arith, less))
+get-some (x ∷ ks) zero k less is = ap Some (sym is)
+get-some (x ∷ ks) (suc point) k less is = get-some ks point k (omega (arith, less)) is
+
+pub kept-at : (image : Image) (t : Numbered) (slots log : List NotedSlot) (ks : List Kept) (point : ℕ) (k : Kept) → AreKept image t slots log ks
+    → point < length ks → k ≡ slice_index_or ks point k → IsKeptAt image t slots log point k
+kept-at image t slots log ks point k are less is = are.each point k (get-some ks point k less is)
+
+pub has-part : (log : List NotedSlot) (point : ℕ) (k : Kept) → IsSound log point k → HasPart log k
+has-part log point (kept.Known k) sound = sound.0
+has-part log point kept.Missing sound = tt
+has-part log point kept.Unmeasured sound = tt
+
+pub grown-read : (image : Image) (t : Numbered) (slots old new : List NotedSlot) (ks : List Kept) → KeepsParts old new
+    → IsRead image t slots old ks → IsRead image t slots new ks
+grown-read image t slots old new ks keeps read = record { count = read.count; noted = grown image t slots old new ks keeps read.noted }

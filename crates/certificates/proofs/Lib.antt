@@ -4,3 +4,5 @@ pub mod NextRecords
 pub mod FirstBroken
 pub mod Called
 pub mod EachPoint
+pub mod EdgeRules
+pub mod PointLists

@@ -30,6 +30,12 @@ kept_as (left.Known bounds measure) part = kept.Known (record { bounds = bounds;
 kept_as left.Missing part = kept.Missing
 kept_as left.Unmeasured part = kept.Unmeasured
 
+-- its changes are in the log
+abbrev pub HasPart : List NotedSlot → Kept → Type 0
+HasPart log (kept.Known k) = Holds log k.part
+HasPart log kept.Missing = Unit {0}
+HasPart log kept.Unmeasured = Unit {0}
+
 -- its changes are in the log, and its measure can be lowered by one for each point that is left
 abbrev pub IsSound : List NotedSlot → ℕ → Kept → Type 0
 IsSound log point (kept.Known k) = Holds log k.part × (negsuc (2 ^ 62 + point) ≤ℤ (measure_of k.measure).constant)

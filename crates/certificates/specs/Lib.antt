@@ -2,3 +2,4 @@ pub mod Left
 pub mod Kept
 pub mod Calls
 pub mod Programs
+pub mod PointChecks

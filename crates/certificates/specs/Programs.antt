@@ -1,9 +1,10 @@
 -- A program with what is given of its thread.
-use Rattle.std.specs.Prelude.{ℕ, ◌≡◌, ◌+◌, ◌*◌, ◌^◌, ◌≤◌, List}
+use Rattle.std.specs.Prelude.{ℕ, ◌≡◌, ◌+◌, ◌*◌, ◌^◌, ◌<◌, ◌≤◌, List}
 use Rattle.fitting.specs.Fitting.{CertificateFits}
 use Rattle.model.specs.Acceptance.NotedStates.{NotedSlot, image_slots}
 use Rattle.model.specs.Images.Described.{Numbered}
 use Rattle.model.specs.Images.Image.{Image, Thread}
+use Rattle.model.specs.Images.Places.{offset_of}
 use Rattle.typestate.specs.Orders.{Rise}
 
 -- this thread of the image, by its number, with the slots that the image lists in its CNodes; its words lie in memory
@@ -14,3 +15,9 @@ pub record IsProgram (image : Image) (t : Numbered) (own : Thread) (number : ℕ
   pub rising : Rise slots
   pub fits : CertificateFits own
   pub inside : own.header.base + 4 * own.header.words ≤ 2 ^ 31
+
+-- what else the rules look at: the image itself, and where the thread's root table stands
+pub record IsShown (image : Image) (own : Thread) (shown : Image) (root : ℕ) : Type 0 where
+  pub same : shown ≡ image
+  pub rooted : root ≡ offset_of image own.header.root
+  pub entry : own.header.entry < own.header.words

@@ -1,13 +1,13 @@
 //! What is kept of a point.
 
 ghost use Rattle.std.specs.Prelude.{◌≡◌};
-ghost use Rattle.certificates.specs.Kept.{state_by};
-ghost use Rattle.point_rules.specs.Points.{state_of};
+ghost use Rattle.certificates.specs.Kept.{HasPart, noted_by, state_by};
+ghost use Rattle.point_rules.specs.Points.{HasImage, noted_of, state_of};
 ghost use Rattle.typestate.specs.Logs.{Holds};
 ghost use Rattle.typestate.specs.Orders.{Rise};
 
 use measure::Measure;
-use point_rules::PointState;
+use point_rules::{Noted, PointState};
 use ranges::Bounds;
 use typestate::{NotedSlot, Part, SlotLog};
 
@@ -41,6 +41,22 @@ impl Known {
             bounds: self.bounds,
             slots: log.slots(slots, self.part),
             measure: self.measure,
+        }
+    }
+}
+
+impl Kept {
+    /// What is noted of the point.
+    pub(crate) fn noted<'s>(&self, slots: &'s [NotedSlot], log: &'s SlotLog) -> Noted<'s>
+        requires held { HasPart log.now self.now }
+        requires rising { Rise slots.now }
+        ensures noted { noted_of result ≡ noted_by slots.now log.now self.now }
+        ensures image { HasImage slots.now result }
+    {
+        match self {
+            Kept::Known(known) => Noted::Known(known.state(slots, log)),
+            Kept::Missing => Noted::Missing,
+            Kept::Unmeasured => Noted::Unmeasured,
         }
     }
 }

@@ -18,7 +18,7 @@ ghost use Rattle.typestate.specs.Logs.{Holds, KeepsParts, part_of};
 
 use crate::ThreadRules;
 use crate::kept::{Kept, Known};
-use image::{RecordRef, ThreadRef};
+use image::{ImageRef, RecordRef, ThreadRef};
 use measure::Measure;
 use model::{Instr, Point, Refusal};
 use point_rules::{Left, follows, follows_call};
@@ -35,6 +35,9 @@ pub struct Program<'a, 'p, R: ThreadRules> {
     /// Which of the image's threads it is, from 0 on.
     pub number: u32,
     pub slots: &'p [NotedSlot],
+    pub image: &'p ImageRef<'a>,
+    /// Where the thread's root table stands.
+    pub root: u32,
     /// For the lists of slots that calls change.
     pub alloc: Global,
 }
@@ -80,7 +83,7 @@ fn behind_call(budget: u64, measure: &Measure, behind: &Behind, part: Part) -> K
 
 impl<R: ThreadRules> Program<'_, '_, R> {
     /// The address of a point.
-    fn address(&self, point: u32) -> u32
+    pub(crate) fn address(&self, point: u32) -> u32
         requires program { IsProgram (R.image self.now.rules.now) (R.thread self.now.rules.now) self.now.thread.now self.now.number self.now.slots.now }
         requires within { point < self.now.thread.now.header.words }
         ensures { result ≡ address_of self.now.thread.now point }

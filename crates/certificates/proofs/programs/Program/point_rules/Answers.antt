@@ -1,0 +1,48 @@
+-- By what is kept of the point.
+use Rattle.std.proofs.Common.{◌≡◌, ◌∙◌, ◌<◌, inl, inr, Option, IfOk, length, sym, ap, subst, arith}
+use Rattle.certificates.proofs.EachPoint.{kept-at}
+use Rattle.certificates.proofs.PointLists.{noted-rules}
+use Rattle.certificates.proofs.programs.Program.point_rules.Goals as goal
+use Rattle.certificates.specs.Kept.{IsSound, noted_by, state_by}
+use Rattle.certificates.specs.declared.kept.Kept.{Kept}
+use Rattle.model.specs.Acceptance.PointStates.{Known, Missing, Unmeasured, noted}
+use Rattle.model.specs.Images.Image.{Thread}
+use Rattle.model.specs.declared.refusals.Refusal.{Refusal}
+
+pub state_rules-requires-clause-sound : goal.state_rules-requires-clause-sound
+state_rules-requires-clause-sound g c =
+    let count = c.requires.read.count in
+    let words = ap (λ (u : Thread). u.header.words) c.requires.program.thread in
+    let within : c.args.point < length c.args.points.now.kept.items = omega (arith, count, words, c.requires.within) in
+    let is = kept-at (g.R.ThreadRules.image c.args.self.now.rules.now) (g.R.ThreadRules.thread c.args.self.now.rules.now) c.args.self.now.slots.now c.args.points.now.log c.args.points.now.kept.items
+    c.args.point c.index.result.now c.requires.read.noted within c.index.ensures in
+    subst (λ (k : Kept). IsSound c.args.points.now.log c.args.point k) c.in-Known.is is.sound
+
+pub returns-in-Known-clause-broken : goal.returns-in-Known-clause-broken
+returns-in-Known-clause-broken g c =
+    let image = g.R.ThreadRules.image c.args.self.now.rules.now in
+    let t = g.R.ThreadRules.thread c.args.self.now.rules.now in
+    let count = c.requires.read.count in
+    let words = ap (λ (u : Thread). u.header.words) c.requires.program.thread in
+    let within : c.args.point < length c.args.points.now.kept.items = omega (arith, count, words, c.requires.within) in
+    let is = kept-at image t c.args.self.now.slots.now c.args.points.now.log c.args.points.now.kept.items c.args.point c.index.result.now c.requires.read.noted within c.index.ensures in
+    let known : Known (state_by c.args.self.now.slots.now c.args.points.now.log c.in-Known.known) ≡ noted image t c.args.point =
+    ap (noted_by c.args.self.now.slots.now c.args.points.now.log) (sym c.in-Known.is) ∙ is.same in
+    subst (λ (x : Option Refusal). IfOk c.state_rules.result (λ broken. broken ≡ x))
+    (noted-rules image t c.args.point (Known (state_by c.args.self.now.slots.now c.args.points.now.log c.in-Known.known)) known) c.state_rules.ensures.broken
+
+pub returns-in-Missing : goal.returns-in-Missing
+returns-in-Missing g c =
+    let image = g.R.ThreadRules.image c.args.self.now.rules.now in
+    let t = g.R.ThreadRules.thread c.args.self.now.rules.now in
+    let count = c.requires.read.count in
+    let words = ap (λ (u : Thread). u.header.words) c.requires.program.thread in
+    let within : c.args.point < length c.args.points.now.kept.items = omega (arith, count, words, c.requires.within) in
+    let is = kept-at image t c.args.self.now.slots.now c.args.points.now.log c.args.points.now.kept.items c.args.point c.index.result.now c.requires.read.noted within c.index.ensures in
+    record {
+      broken = elim c.in-Missing.is [
+        | inl missing ↦ noted-rules image t c.args.point Missing (ap (noted_by c.args.self.now.slots.now c.args.points.now.log) (sym missing) ∙ is.same)
+        | inr unmeasured ↦ noted-rules image t c.args.point Unmeasured (ap (noted_by c.args.self.now.slots.now c.args.points.now.log) (sym unmeasured) ∙ is.same)
+      ];
+      read = c.requires.read;
+    }

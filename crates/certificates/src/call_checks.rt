@@ -1,0 +1,112 @@
+//! The rules on a point's system call, and on the way on behind it.
+
+ghost use Rattle.std.specs.Prelude.{◌≡◌, ◌+◌, ◌<◌, IfOk, Some, option_map};
+ghost use Rattle.certificates.specs.Kept.{IsRead, IsSound, state_by};
+ghost use Rattle.certificates.specs.declared.kept.Kept.TheVariants as kept;
+ghost use Rattle.certificates.specs.PointChecks.{later_rules};
+ghost use Rattle.certificates.specs.Programs.{IsProgram};
+ghost use Rattle.measure.specs.Measures.{measure_of};
+ghost use Rattle.model.specs.Acceptance.NotedStates.{record_of};
+ghost use Rattle.model.specs.Acceptance.PointRules.{call_edge, edge_rules, noted_at};
+ghost use Rattle.model.specs.Acceptance.PointStates.{address_of, instruction_at, point_of};
+ghost use Rattle.model.specs.Acceptance.Rules.{first_broken};
+ghost use Rattle.model.specs.declared.instructions.Instr.TheVariants.{Ecall};
+ghost use Rattle.typestate.specs.Calls.{behind_with};
+ghost use Rattle.typestate.specs.Differences.{changed};
+ghost use Rattle.typestate.specs.Logs.{Holds, part_of};
+
+use crate::kept::Known;
+use crate::{Points, Program, ThreadRules};
+use image::RecordRef;
+use measure::AfterCall;
+use model::Refusal;
+use point_rules::{Way, leads_to, registers_of};
+use std::alloc::AllocError;
+use typestate::{Behind, NotedSlot, Part};
+
+impl<R: ThreadRules> Program<'_, '_, R> {
+    /// What the way on behind a system call breaks that leaves this, and the slots of a part of the log.
+    fn way_behind<'n>(
+        &'n self,
+        points: &'n Points,
+        point: u32,
+        known: &'n Known,
+        behind: &'n Behind,
+        part: Part,
+    ) -> Option<Refusal>
+        requires program { IsProgram (R.image self.now.rules.now) (R.thread self.now.rules.now) self.now.thread.now self.now.number self.now.slots.now }
+        requires read { IsRead (R.image self.now.rules.now) (R.thread self.now.rules.now) self.now.slots.now points.now.log points.now.kept.items }
+        requires within { point < self.now.thread.now.header.words }
+        requires held { Holds points.now.log part }
+        ensures { result ≡ first_broken (edge_rules (R.thread self.now.rules.now).thread (point_of (R.thread self.now.rules.now) point) (measure_of known.now.measure)
+            (call_edge (address_of self.now.thread.now point) known.now.bounds (behind_with (changed self.now.slots.now (part_of points.now.log part)) behind.now))
+            (noted_at (R.image self.now.rules.now) (R.thread self.now.rules.now) (address_of self.now.thread.now point + 4))) }
+    {
+        let way = Way {
+            before: &known.bounds,
+            behind: &behind.bounds,
+            slots: points.log.slots(self.slots, part),
+            is_wait: behind.is_wait,
+        };
+        let step = AfterCall {
+            written: registers_of(behind.written),
+        };
+        let target = self.noted_at(points, self.address(point) + 4);
+        leads_to(
+            self.thread.header().budget,
+            self.at(point),
+            &known.measure,
+            &way,
+            &step,
+            &target,
+        )
+    }
+
+    /// What the way on behind a system call breaks that leaves this, and makes these changes of slots. Memory may be refused.
+    fn behind_rules(
+        &self,
+        points: &mut Points,
+        point: u32,
+        known: &Known,
+        behind: &Behind,
+        made: &[NotedSlot],
+    ) -> Result<Option<Refusal>, AllocError>
+        requires program { IsProgram (R.image self.now.rules.now) (R.thread self.now.rules.now) self.now.thread.now self.now.number self.now.slots.now }
+        requires read { IsRead (R.image self.now.rules.now) (R.thread self.now.rules.now) self.now.slots.now points.old.log points.old.kept.items }
+        requires within { point < self.now.thread.now.header.words }
+        requires sound { IsSound points.old.log point (kept.Known known.now) }
+        ensures broken { IfOk result (λ broken. broken ≡ first_broken (edge_rules (R.thread self.now.rules.now).thread (point_of (R.thread self.now.rules.now) point) (measure_of known.now.measure)
+            (call_edge (address_of self.now.thread.now point) known.now.bounds (behind_with (changed (changed self.now.slots.now (part_of points.old.log known.now.part)) made.now) behind.now))
+            (noted_at (R.image self.now.rules.now) (R.thread self.now.rules.now) (address_of self.now.thread.now point + 4)))) }
+        ensures read { IfOk result (λ _. IsRead (R.image self.now.rules.now) (R.thread self.now.rules.now) self.now.slots.now points.new.log points.new.kept.items) }
+    {
+        let part = points.log.follow(known.part, made)?;
+        Ok(self.way_behind(points, point, known, behind, part))
+    }
+
+    /// What the system call at a point breaks: it is refused, or its way on is. Memory may be refused.
+    pub(crate) fn call_rules(
+        &self,
+        points: &mut Points,
+        point: u32,
+        noted: Option<&RecordRef<'_>>,
+        known: &Known,
+    ) -> Result<Option<Refusal>, AllocError>
+        requires program { IsProgram (R.image self.now.rules.now) (R.thread self.now.rules.now) self.now.thread.now self.now.number self.now.slots.now }
+        requires read { IsRead (R.image self.now.rules.now) (R.thread self.now.rules.now) self.now.slots.now points.old.log points.old.kept.items }
+        requires within { point < self.now.thread.now.header.words }
+        requires is { instruction_at self.now.thread.now point ≡ Some Ecall }
+        requires noted { option_map (λ r. r.now) noted ≡ record_of self.now.thread.now point }
+        requires sound { IsSound points.old.log point (kept.Known known.now) }
+        ensures broken { IfOk result (λ broken. broken ≡ first_broken (later_rules (R.image self.now.rules.now) (R.thread self.now.rules.now) point (state_by self.now.slots.now points.old.log known.now) (Some Ecall))) }
+        ensures read { IfOk result (λ _. IsRead (R.image self.now.rules.now) (R.thread self.now.rules.now) self.now.slots.now points.new.log points.new.kept.items) }
+    {
+        let mut made = Vec::new(self.alloc);
+        let slots = points.log.slots(self.slots, known.part);
+        match self.called(point, noted, &known.bounds, &slots, &mut made)? {
+            None => Ok(None),
+            Some(Err(refusal)) => Ok(Some(refusal)),
+            Some(Ok(behind)) => self.behind_rules(points, point, known, &behind, &made),
+        }
+    }
+}

@@ -1,0 +1,128 @@
+//! The rules on all points of a program, and on its entry.
+
+ghost use Rattle.std.specs.Prelude.{◌≡◌, ◌<◌, IfOk, Some, flat_map, option_map};
+ghost use Rattle.std.specs.List.{range_with_len};
+ghost use Rattle.certificates.specs.Kept.{IsRead, IsSound, state_by};
+ghost use Rattle.certificates.specs.declared.kept.Kept.TheVariants as kept;
+ghost use Rattle.certificates.specs.Programs.{IsProgram, IsShown};
+ghost use Rattle.model.specs.Acceptance.NotedStates.{record_of};
+ghost use Rattle.model.specs.Acceptance.PointRules.{entry_rules, point_rules, rules_of_program, state_rules};
+ghost use Rattle.model.specs.Acceptance.PointStates.{noted};
+ghost use Rattle.model.specs.Acceptance.Rules.{first_broken};
+
+use crate::kept::{Kept, Known};
+use crate::notes::RecordsLeft;
+use crate::{Points, Program, ThreadRules};
+use image::RecordRef;
+use model::{Instr, Refusal};
+use point_rules::{Noted, entered};
+use rv32_isa::decode;
+use std::alloc::AllocError;
+use typestate::NotedSlots;
+
+impl<R: ThreadRules> Program<'_, '_, R> {
+    /// What a point with this state breaks first. Memory may be refused.
+    #[tactic(auto, unfolding(model::specs::Acceptance::PointRules::state_rules))]
+    fn state_rules(
+        &self,
+        points: &mut Points,
+        point: u32,
+        noted: Option<&RecordRef<'_>>,
+        known: &Known,
+    ) -> Result<Option<Refusal>, AllocError>
+        requires program { IsProgram (R.image self.now.rules.now) (R.thread self.now.rules.now) self.now.thread.now self.now.number self.now.slots.now }
+        requires shown { IsShown (R.image self.now.rules.now) self.now.thread.now self.now.image.now self.now.root }
+        requires read { IsRead (R.image self.now.rules.now) (R.thread self.now.rules.now) self.now.slots.now points.old.log points.old.kept.items }
+        requires within { point < self.now.thread.now.header.words }
+        requires noted { option_map (λ r. r.now) noted ≡ record_of self.now.thread.now point }
+        requires sound { IsSound points.old.log point (kept.Known known.now) }
+        ensures broken { IfOk result (λ broken. broken ≡ first_broken (state_rules (R.image self.now.rules.now) (R.thread self.now.rules.now) point (state_by self.now.slots.now points.old.log known.now))) }
+        ensures read { IfOk result (λ _. IsRead (R.image self.now.rules.now) (R.thread self.now.rules.now) self.now.slots.now points.new.log points.new.kept.items) }
+    {
+        let instr = decode(self.thread.word(point));
+        let state = known.state(self.slots, &points.log);
+        if let Some(refusal) = self.own_rules(point, instr, noted, &state) {
+            return Ok(Some(refusal));
+        }
+        match instr {
+            Some(Instr::Ecall) => self.call_rules(points, point, noted, known),
+            Some(instr) => Ok(self.ways_rules(points, point, instr, &state)),
+            None => Ok(None),
+        }
+    }
+
+    /// What a point breaks first: one without a state breaks nothing. Memory may be refused.
+    #[tactic(auto, unfolding(model::specs::Acceptance::PointRules::point_rules))]
+    fn point_rules(
+        &self,
+        points: &mut Points,
+        point: u32,
+        noted: Option<&RecordRef<'_>>,
+    ) -> Result<Option<Refusal>, AllocError>
+        requires program { IsProgram (R.image self.now.rules.now) (R.thread self.now.rules.now) self.now.thread.now self.now.number self.now.slots.now }
+        requires shown { IsShown (R.image self.now.rules.now) self.now.thread.now self.now.image.now self.now.root }
+        requires read { IsRead (R.image self.now.rules.now) (R.thread self.now.rules.now) self.now.slots.now points.old.log points.old.kept.items }
+        requires within { point < self.now.thread.now.header.words }
+        requires noted { option_map (λ r. r.now) noted ≡ record_of self.now.thread.now point }
+        ensures broken { IfOk result (λ broken. broken ≡ first_broken (point_rules (R.image self.now.rules.now) (R.thread self.now.rules.now) point)) }
+        ensures read { IfOk result (λ _. IsRead (R.image self.now.rules.now) (R.thread self.now.rules.now) self.now.slots.now points.new.log points.new.kept.items) }
+    {
+        match points.kept[point as usize] {
+            Kept::Known(known) => self.state_rules(points, point, noted, &known),
+            Kept::Missing | Kept::Unmeasured => Ok(None),
+        }
+    }
+
+    /// What the points break first, in their order. Memory may be refused.
+    fn points_rules(&self, points: &mut Points) -> Result<Option<Refusal>, AllocError>
+        requires program { IsProgram (R.image self.now.rules.now) (R.thread self.now.rules.now) self.now.thread.now self.now.number self.now.slots.now }
+        requires shown { IsShown (R.image self.now.rules.now) self.now.thread.now self.now.image.now self.now.root }
+        requires read { IsRead (R.image self.now.rules.now) (R.thread self.now.rules.now) self.now.slots.now points.old.log points.old.kept.items }
+        ensures { IfOk result (λ broken. broken ≡ first_broken (flat_map (point_rules (R.image self.now.rules.now) (R.thread self.now.rules.now)) (range_with_len 0 self.now.thread.now.header.words))) }
+    {
+        let mut records = RecordsLeft::of(self.thread);
+        'rules: for point in 0..self.thread.word_count() {
+            let noted = records.take(point);
+            let broken = self.point_rules(points, point, noted.as_ref())?;
+            if broken.is_some() {
+                return Ok(broken);
+            }
+        }
+        Ok(None)
+    }
+
+    /// What the thread breaks of the state of its entry.
+    fn entry_rules(&self, points: &Points) -> Option<Refusal>
+        requires program { IsProgram (R.image self.now.rules.now) (R.thread self.now.rules.now) self.now.thread.now self.now.number self.now.slots.now }
+        requires shown { IsShown (R.image self.now.rules.now) self.now.thread.now self.now.image.now self.now.root }
+        requires read { IsRead (R.image self.now.rules.now) (R.thread self.now.rules.now) self.now.slots.now points.now.log points.now.kept.items }
+        ensures { result ≡ first_broken (entry_rules (R.image self.now.rules.now) (R.thread self.now.rules.now)
+            (noted (R.image self.now.rules.now) (R.thread self.now.rules.now) self.now.thread.now.header.entry)) }
+    {
+        let entry = self.thread.header().entry;
+        let start = NotedSlots {
+            image: self.slots,
+            changes: &[],
+        };
+        match points.kept[entry as usize].noted(self.slots, &points.log) {
+            Noted::Known(state) => entered(self.thread, self.at(entry), &start, &state),
+            Noted::Missing | Noted::Unmeasured => Some(Refusal::RangeNotKept(self.at(entry))),
+        }
+    }
+
+    /// What the program breaks first of the rules on programs: at its entry, and then at its points in their order. Memory may be
+    /// refused.
+    #[tactic(auto, unfolding(model::specs::Acceptance::PointRules::rules_of_program))]
+    pub fn broken(&self) -> Result<Option<Refusal>, AllocError>
+        requires program { IsProgram (R.image self.now.rules.now) (R.thread self.now.rules.now) self.now.thread.now self.now.number self.now.slots.now }
+        requires shown { IsShown (R.image self.now.rules.now) self.now.thread.now self.now.image.now self.now.root }
+        ensures { IfOk result (λ broken. broken ≡ first_broken (rules_of_program (R.image self.now.rules.now) (R.thread self.now.rules.now))) }
+    {
+        let mut points = Points::of(self)?;
+        let broken = self.entry_rules(&points);
+        if broken.is_some() {
+            return Ok(broken);
+        }
+        self.points_rules(&mut points)
+    }
+}
