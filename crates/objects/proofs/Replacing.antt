@@ -7,14 +7,17 @@ use Rattle.std.proofs.lemmas.Bool.Decides.{eqb_tells}
 use Rattle.std.proofs.lemmas.List.{get_or_past}
 use Rattle.model.specs.Capabilities.Slots.{Slots}
 use Rattle.model.specs.Kernel.Kinds.{kind_at, kind_of}
+use Rattle.model.specs.Kernel.Messages.{with_registers}
 use Rattle.model.specs.Kernel.Retype.{NewThread}
 use Rattle.model.specs.Kernel.Scheduling.{at_tail, is_runnable, to_tail, unready}
 use Rattle.model.specs.Kernel.State.{EndpointObject, Object, State, ThreadObject, ThreadState, new_thread, put, thread_at, with_thread}
 use Rattle.model.specs.Kernel.ThreadCalls.{with_priority}
+use Rattle.model.specs.Machine.ProgramMemory.{RegisterFile}
 use Rattle.model.specs.Shared.Lists.{without}
 use Rattle.objects.proofs.Ends.{as-thread}
 use Rattle.objects.proofs.Kept.{put-here, put-there}
 use Rattle.objects.proofs.Lists.{receivers-by, senders-by}
+use Rattle.objects.specs.Changes.{registered}
 use Rattle.objects.specs.Tables.{Tables, kind_in, object_from, object_in, object_of, placed, record_in, sending_in, state_of, thread_in}
 use Rattle.objects.specs.Threads.{status_of, thread_state}
 use Rattle.objects.specs.declared.records.Record.{Record}
@@ -31,6 +34,28 @@ pub thread-state : (o : Tables) (offset : ℕ) (slots : Slots) (memory : List �
     → thread_at (state_of o slots memory) offset ≡ option_map_or (λ t. t) (option_map thread_state (thread_in o.threads offset)) new_thread
 unfolding state_of
 thread-state o offset slots memory = ap (λ t. option_map_or (λ t. t) t new_thread) (as-thread o offset)
+
+pub registers-of : (o : Tables) (offset : ℕ) (slots : Slots) (memory : List ℕ)
+    → (thread_at (state_of o slots memory) offset).registers
+    ≡ option_map_or (λ registers. registers) (option_map (λ t. t.registers) (thread_in o.threads offset)) new_thread.registers
+registers-of o offset slots memory =
+    ap (λ t. t.registers) (thread-state o offset slots memory)
+    ∙ elim (thread_in o.threads offset) as (λ t. (option_map_or (λ t. t) (option_map thread_state t) new_thread).registers
+    ≡ option_map_or (λ registers. registers) (option_map (λ t. t.registers) t) new_thread.registers) [
+      | Some t ↦ refl
+      | None ↦ refl
+    ]
+
+pub pc-of : (o : Tables) (offset : ℕ) (slots : Slots) (memory : List ℕ)
+    → (thread_at (state_of o slots memory) offset).registers.pc
+    ≡ option_map_or (λ pc. pc) (option_map (λ t. t.registers.pc) (thread_in o.threads offset)) 0
+pc-of o offset slots memory =
+    ap (λ t. t.registers.pc) (thread-state o offset slots memory)
+    ∙ elim (thread_in o.threads offset) as (λ t. (option_map_or (λ t. t) (option_map thread_state t) new_thread).registers.pc
+    ≡ option_map_or (λ pc. pc) (option_map (λ t. t.registers.pc) t) 0) [
+      | Some t ↦ refl
+      | None ↦ refl
+    ]
 
 no-thread-kind : (threads : List (Option Thread)) (waiting : List ℕ) (r : Option Record) → option_map kind_of (option_map (object_of threads waiting) r) ≡ Some NewThread → false ≡ true
 no-thread-kind threads waiting None is = cc
@@ -114,6 +139,24 @@ module _ (o : Tables) (threads : List (Option Thread)) (thread : ℕ) (after : T
   pub replaced-state : (slots : Slots) (memory : List ℕ) → state_of now slots memory ≡ with_thread (state_of o slots memory) thread (thread_state after)
   unfolding state_of
   replaced-state slots memory = λ i. record (state_of o slots memory) { objects = λ other. object-replaced other i }
+
+-- ---- the state with other registers of a thread
+
+pub registered-state : (o : Tables) (threads : List (Option Thread)) (offset : ℕ) (registers : RegisterFile)
+    → ((other : ℕ) → thread_in threads other ≡ put (thread_in o.threads) offset (option_map (registered registers) (thread_in o.threads offset)) other)
+    → is_some (thread_in o.threads offset) ≡ true → (slots : Slots) (memory : List ℕ)
+    → state_of (record o { threads = threads }) slots memory ≡ with_registers (state_of o slots memory) offset registers
+registered-state o threads offset registers changed there slots memory =
+    elim (thread_in o.threads offset) as (λ found. thread_in o.threads offset ≡ found → is_some found ≡ true
+    → state_of (record o { threads = threads }) slots memory ≡ with_registers (state_of o slots memory) offset registers) [
+      | Some t ↦ λ is some.
+          replaced-state o threads offset (registered registers t)
+          (λ other. changed other ∙ ap (λ found. put (thread_in o.threads) offset (option_map (registered registers) found) other) is)
+          (ap (option_and_then (λ t. t.sending)) is) slots memory
+          ∙ ap (λ t. with_thread (state_of o slots memory) offset (record t { registers = registers }))
+          (sym (thread-state o offset slots memory ∙ ap (λ found. option_map_or (λ t. t) (option_map thread_state found) new_thread) is))
+      | None ↦ λ is some. absurd (let clash : false ≡ true = some in cc)
+    ] refl there
 
 -- ---- the ready list
 

@@ -2,8 +2,9 @@
 use Rattle.std.proofs.Common.{ℕ, ◌≡◌, ◌∙◌, ◌==◌, ◌&&◌, inl, inr, true, false, not, if◌then◌else◌, Option, Some, None, option_map, List, refl, sym, ap}
 use Rattle.std.proofs.lemmas.Bool.Decides.{eqb_tells}
 use Rattle.model.specs.Kernel.State.{put}
+use Rattle.model.specs.Machine.ProgramMemory.{RegisterFile}
 use Rattle.objects.proofs.Kept.{put-there}
-use Rattle.objects.specs.Changes.{voided}
+use Rattle.objects.specs.Changes.{registered, voided}
 use Rattle.objects.specs.Rights.{AreKnown, has_right}
 use Rattle.objects.specs.Tables.{placed, thread_in}
 use Rattle.objects.specs.declared.records.Thread.{Thread}
@@ -48,3 +49,22 @@ known-noted threads old new caller thread holder known before changed free = rec
     | inr apart ↦ known.only named other kept right (sym (put-there (placed 512 old) caller (Some holder) named apart.1) ∙ sym (changed named) ∙ stands)
   ];
 }
+
+-- other registers give and take no right
+still-has : (registers : RegisterFile) (t : Option Thread) (caller : ℕ) → has_right (option_map (registered registers) t) caller ≡ has_right t caller
+still-has registers (Some t) caller = refl
+still-has registers None caller = refl
+
+pub known-registered : (threads now : List (Option Thread)) (repliers : List (Option ℕ)) (offset : ℕ) (registers : RegisterFile) → AreKnown threads repliers
+    → ((other : ℕ) → thread_in now other ≡ put (thread_in threads) offset (option_map (registered registers) (thread_in threads offset)) other) → AreKnown now repliers
+known-registered threads now repliers offset registers known changed =
+    let same : (other caller : ℕ) → has_right (thread_in now other) caller ≡ has_right (thread_in threads other) caller = λ other caller. elim (eqb_tells other offset) [
+      | inl here ↦
+          ap (λ t. has_right t caller) (changed other)
+          ∙ ap (λ b. has_right (if b then option_map (registered registers) (thread_in threads offset) else thread_in threads other) caller) here.0
+          ∙ still-has registers (thread_in threads offset) caller
+          ∙ ap (λ (n : ℕ). has_right (thread_in threads n) caller) (sym here.1)
+      | inr apart ↦
+          ap (λ t. has_right t caller) (changed other ∙ put-there (thread_in threads) offset (option_map (registered registers) (thread_in threads offset)) other apart.1)
+    ] in
+    record { only = λ caller holder thread right stands. known.only caller holder thread (sym (same holder caller) ∙ right) stands }

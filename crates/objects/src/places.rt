@@ -2,11 +2,13 @@
 
 ghost use Rattle.std.specs.Prelude.{ℕ, ◌≡◌, ◌==◌, ◌/◌, ◌%◌, ◌<◌, Some, None, IfOk, length, option_map, replicate, if◌then◌else◌};
 ghost use Rattle.model.specs.Kernel.State.{put};
-ghost use Rattle.objects.specs.Changes.{voided};
+ghost use Rattle.objects.specs.Changes.{registered, voided};
+ghost use Rattle.objects.specs.declared.records.Thread.{Thread};
 ghost use Rattle.objects.specs.Tables.{placed, thread_in};
 
 use crate::records::Thread;
 use crate::tables::THREAD_SIZE;
+use rv32_exec::Regs;
 use std::alloc::{AllocError, Global};
 use std::marker::Model;
 
@@ -65,6 +67,29 @@ impl<T: Copy> Places<T> {
 }
 
 impl Places<Thread> {
+    /// The registers of the thread at an offset, if one is there. Nothing else of it is read.
+    pub(crate) fn registers(&self, offset: u32) -> Option<Regs>
+        ensures { result ≡ option_map (λ (t : Thread). t.registers) (thread_in self.now offset) }
+    {
+        registers_at(&self.entries, offset)
+    }
+
+    /// The program counter of the thread at an offset, if one is there.
+    pub(crate) fn pc(&self, offset: u32) -> Option<u32>
+        ensures { result ≡ option_map (λ (t : Thread). t.registers.pc) (thread_in self.now offset) }
+    {
+        pc_at(&self.entries, offset)
+    }
+
+    /// Sets the registers of the thread at an offset. Nothing else of it is written.
+    pub(crate) fn set_registers(&mut self, offset: u32, registers: Regs)
+        ensures threads { (other : ℕ) → thread_in self.new other
+            ≡ put (thread_in self.old) offset (option_map (registered registers) (thread_in self.old offset)) other }
+        ensures long { length self.new ≡ length self.old }
+    {
+        set_registers_at(&mut self.entries, offset, registers);
+    }
+
     /// Takes away the right to reply to a thread from the thread at an offset, if that has it.
     pub(crate) fn void_right(&mut self, holder: u32, gone: u32)
         ensures threads { (other : ℕ) → thread_in self.new other
@@ -118,6 +143,48 @@ fn clear_entry<T: Copy>(entries: &mut [Option<T>], size: u32, offset: u32)
     let index = (offset / size) as usize;
     if offset % size == 0 && index < entries.len() {
         entries[index] = None;
+    }
+}
+
+/// The registers of the thread at an offset, if one is there.
+fn registers_at(threads: &[Option<Thread>], offset: u32) -> Option<Regs>
+    ensures { result ≡ option_map (λ (t : Thread). t.registers) (thread_in threads.now offset) }
+{
+    let index = (offset / THREAD_SIZE) as usize;
+    if offset % THREAD_SIZE != 0 || threads.len() <= index {
+        return None;
+    }
+    match &threads[index] {
+        Some(thread) => Some(thread.registers),
+        None => None,
+    }
+}
+
+/// The program counter of the thread at an offset, if one is there.
+fn pc_at(threads: &[Option<Thread>], offset: u32) -> Option<u32>
+    ensures { result ≡ option_map (λ (t : Thread). t.registers.pc) (thread_in threads.now offset) }
+{
+    let index = (offset / THREAD_SIZE) as usize;
+    if offset % THREAD_SIZE != 0 || threads.len() <= index {
+        return None;
+    }
+    match &threads[index] {
+        Some(thread) => Some(thread.registers.pc()),
+        None => None,
+    }
+}
+
+/// Sets the registers of the thread at an offset, if one is there.
+fn set_registers_at(threads: &mut [Option<Thread>], offset: u32, registers: Regs)
+    ensures threads { (other : ℕ) → thread_in threads.new other
+        ≡ put (thread_in threads.old) offset (option_map (registered registers) (thread_in threads.old offset)) other }
+    ensures long { length threads.new ≡ length threads.old }
+{
+    let index = (offset / THREAD_SIZE) as usize;
+    if offset % THREAD_SIZE == 0 && index < threads.len() {
+        if let Some(thread) = &mut threads[index] {
+            thread.registers = registers;
+        }
     }
 }
 

@@ -20,7 +20,14 @@ impl Objects {
     pub fn registers<S: SlotStore>(&self, store: &S, thread: u32) -> Regs
         ensures { result ≡ (thread_at (state_of self.now (S.slots store.now) (S.memory store.now)) thread).registers }
     {
-        self.thread_or_new(thread).registers
+        self.registers_at(thread)
+    }
+
+    /// The program counter of a thread: that of a new one, where none is.
+    pub fn pc<S: SlotStore>(&self, store: &S, thread: u32) -> u32
+        ensures { result ≡ (thread_at (state_of self.now (S.slots store.now) (S.memory store.now)) thread).registers.pc }
+    {
+        self.pc_at(thread)
     }
 
     /// Whether a thread runs, and else what it waits for.

@@ -2,13 +2,15 @@
 
 ghost use Rattle.std.specs.Prelude.{ℕ, ◌≡◌, ◌==◌, ◌&&◌, ◌/◌, ◌%◌, ◌<◌, not, Some, None, IfOk, length, option_map, replicate};
 ghost use Rattle.model.specs.Kernel.State.{put};
-ghost use Rattle.objects.specs.Changes.{voided};
+ghost use Rattle.objects.specs.Changes.{registered, voided};
 ghost use Rattle.objects.specs.Rights.{AreKnown, IsNoted, has_right};
+ghost use Rattle.objects.specs.declared.records.Thread.{Thread};
 ghost use Rattle.objects.specs.Tables.{thread_in};
 
 use crate::places::Places;
 use crate::records::Thread;
 use crate::tables::THREAD_SIZE;
+use rv32_exec::Regs;
 use std::alloc::{AllocError, Global};
 use std::marker::Model;
 
@@ -50,6 +52,29 @@ impl ThreadPlaces {
         ensures { result ≡ thread_in self.now offset }
     {
         self.entries.get(THREAD_SIZE, offset)
+    }
+
+    /// The registers of the thread at an offset.
+    pub(crate) fn registers(&self, offset: u32) -> Option<Regs>
+        ensures { result ≡ option_map (λ (t : Thread). t.registers) (thread_in self.now offset) }
+    {
+        self.entries.registers(offset)
+    }
+
+    /// The program counter of the thread at an offset.
+    pub(crate) fn pc(&self, offset: u32) -> Option<u32>
+        ensures { result ≡ option_map (λ (t : Thread). t.registers.pc) (thread_in self.now offset) }
+    {
+        self.entries.pc(offset)
+    }
+
+    /// Sets the registers of the thread at an offset.
+    pub(crate) fn set_registers(&mut self, offset: u32, registers: Regs)
+        ensures threads { (other : ℕ) → thread_in self.new other
+            ≡ put (thread_in self.old) offset (option_map (registered registers) (thread_in self.old offset)) other }
+        ensures long { length self.new ≡ length self.old }
+    {
+        self.entries.set_registers(offset, registers);
     }
 
     /// Puts a thread at an offset that the table has an entry for.

@@ -44,14 +44,27 @@ impl Objects {
         ensures { (slots : Slots) (memory : List ℕ) → state_of self.new slots memory
             ≡ with_registers (state_of self.old slots memory) offset registers }
     {
-        let thread = self.thread_or_new(offset);
-        self.replace(
-            offset,
-            Thread {
-                registers,
-                ..thread
-            },
-        );
+        self.threads.set_registers(offset, registers);
+    }
+
+    /// The registers of the thread at an offset: those of a new one where none is.
+    pub(crate) fn registers_at(&self, offset: u32) -> Regs
+        ensures { (slots : Slots) (memory : List ℕ) → result ≡ (thread_at (state_of self.now slots memory) offset).registers }
+    {
+        match self.threads.registers(offset) {
+            Some(registers) => registers,
+            None => Regs::new(),
+        }
+    }
+
+    /// The program counter of the thread at an offset: that of a new one where none is.
+    pub(crate) fn pc_at(&self, offset: u32) -> u32
+        ensures { (slots : Slots) (memory : List ℕ) → result ≡ (thread_at (state_of self.now slots memory) offset).registers.pc }
+    {
+        match self.threads.pc(offset) {
+            Some(pc) => pc,
+            None => 0,
+        }
     }
 
     /// A thread has the right to reply to this one, or no such right.

@@ -28,7 +28,7 @@ fn run_thread<S: SlotStore>(store: &mut S, kernel: &mut KernelObjects, thread: u
     ensures label { result ≡ (ran (state_of kernel.old (S.slots store.old) (S.memory store.old)) thread).1 }
     ensures whole { IsWhole (state_of kernel.new (S.slots store.new) (S.memory store.new)) (S.memory store.new) }
 {
-    let pc = kernel.objects.registers(store, thread).pc();
+    let pc = kernel.objects.pc(store, thread);
     let outcome = run(store, kernel, thread);
     Label::Ran {
         thread: MEMORY_BASE + thread,

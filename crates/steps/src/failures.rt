@@ -56,7 +56,7 @@ pub(crate) fn trap<S: SlotStore>(
     ensures outcome { result ≡ (faults (state_of objects.old (S.slots store.old) (S.memory store.old)) thread (instruction_fault (registers_of (state_of objects.old (S.slots store.old) (S.memory store.old)) thread).pc cause)).1 }
     ensures whole { IsWhole (state_of objects.new (S.slots store.new) (S.memory store.new)) (S.memory store.new) }
 {
-    let pc = objects.registers(store, thread).pc();
+    let pc = objects.pc(store, thread);
     fail(store, objects, thread, Fault::Instruction { pc, cause })
 }
 
@@ -74,6 +74,6 @@ pub(crate) fn miss<S: SlotStore>(
     ensures outcome { result ≡ (faults (state_of objects.old (S.slots store.old) (S.memory store.old)) thread (memory_fault (registers_of (state_of objects.old (S.slots store.old) (S.memory store.old)) thread).pc fault)).1 }
     ensures whole { IsWhole (state_of objects.new (S.slots store.new) (S.memory store.new)) (S.memory store.new) }
 {
-    let pc = objects.registers(store, thread).pc();
+    let pc = objects.pc(store, thread);
     fail(store, objects, thread, Fault::Memory { pc, fault })
 }

@@ -70,7 +70,7 @@ pub(crate) fn unknown_call<S: SlotStore>(
     ensures outcome { result ≡ (calls_known (state_of objects.old (S.slots store.old) (S.memory store.old)) thread number None).1 }
     ensures whole { IsWhole (state_of objects.new (S.slots store.new) (S.memory store.new)) (S.memory store.new) }
 {
-    let pc = objects.registers(store, thread).pc();
+    let pc = objects.pc(store, thread);
     raise_fault(store, objects, thread, Fault::UnknownCall { pc, number });
     Outcome::Faulted(FaultKind::UnknownCall)
 }

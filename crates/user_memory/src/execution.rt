@@ -31,7 +31,7 @@ pub fn fetch<S: SlotStore>(store: &S, objects: &Objects, thread: u32) -> Result<
     ensures { result ≡ loaded (content_of (state_of objects.now (S.slots store.now) (S.memory store.now)) thread) Fetch Word
         (thread_at (state_of objects.now (S.slots store.now) (S.memory store.now)) thread).registers.pc }
 {
-    let address = objects.registers(store, thread).pc();
+    let address = objects.pc(store, thread);
     let root = root_of(store, thread);
     let space = Space {
         store,

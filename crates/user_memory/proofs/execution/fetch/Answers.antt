@@ -1,7 +1,7 @@
 -- A sound state has usable memory.
 use Rattle.std.proofs.Common.{ℕ, ◌∙◌, ap}
 use Rattle.model.specs.Kernel.AddressSpaces.{content_of}
-use Rattle.model.specs.Machine.ProgramMemory.{RegisterFile, loaded}
+use Rattle.model.specs.Machine.ProgramMemory.{loaded}
 use Rattle.model.specs.declared.instructions.Access.TheVariants.{Fetch}
 use Rattle.model.specs.declared.instructions.AccessSize.TheVariants.{Word}
 use Rattle.objects.specs.Tables.{state_of}
@@ -26,11 +26,11 @@ unfolding state_of
 returns-then-address-eq0 g c =
     let s = state_of c.args.objects.now (g.S.SlotMap.slots c.args.store.now) (g.S.SlotStore.memory c.args.store.now) in
     c.aligned_word.ensures ∙ ap (λ root. loaded (content_under s root) Fetch Word c.pc-address.result) c.root_of-root.ensures
-    ∙ ap (λ (address : ℕ). loaded (content_of s c.args.thread) Fetch Word address) (c.pc-address.ensures ∙ ap (λ (r : RegisterFile). r.pc) c.registers.ensures)
+    ∙ ap (λ (address : ℕ). loaded (content_of s c.args.thread) Fetch Word address) c.pc-address.ensures
 
 pub returns-else-address-eq0 : goal.returns-else-address-eq0
 unfolding state_of
 returns-else-address-eq0 g c =
     let s = state_of c.args.objects.now (g.S.SlotMap.slots c.args.store.now) (g.S.SlotStore.memory c.args.store.now) in
     c.word.ensures ∙ ap (λ root. loaded (content_under s root) Fetch Word c.pc-address.result) c.root_of-root.ensures
-    ∙ ap (λ (address : ℕ). loaded (content_of s c.args.thread) Fetch Word address) (c.pc-address.ensures ∙ ap (λ (r : RegisterFile). r.pc) c.registers.ensures)
+    ∙ ap (λ (address : ℕ). loaded (content_of s c.args.thread) Fetch Word address) c.pc-address.ensures
