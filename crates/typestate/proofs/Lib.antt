@@ -10,3 +10,13 @@ pub mod Rising
 pub mod Searched
 pub mod Compared
 pub mod SomeHeld
+pub mod NamedKeys
+pub mod Standing
+pub mod SlotLines
+pub mod Inside
+pub mod KernelDepths
+pub mod Puts
+pub mod CopyCalls
+pub mod Allowed
+pub mod MoveCalls
+pub mod MoveRules

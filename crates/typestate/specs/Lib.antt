@@ -3,3 +3,5 @@ pub mod Differences
 pub mod Calls
 pub mod Spaces
 pub mod Messages
+pub mod SlotChanges
+pub mod CNodeCalls

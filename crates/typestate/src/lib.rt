@@ -3,15 +3,18 @@
 
 mod arguments;
 mod behind;
+mod cnode_calls;
 mod comparisons;
 mod holders;
 mod keys;
 mod laws;
+mod lines;
 mod messages;
 mod noted;
 mod plain_calls;
 mod points;
 mod records;
+mod slot_changes;
 mod spaces;
 mod system_calls;
 mod windows;
@@ -23,6 +26,7 @@ pub use laws::{no_stray_slot_leads_outside, records_note_changes};
 pub use messages::message_call;
 pub use points::NotedSlots;
 pub use records::note_record;
+pub use slot_changes::{Removed, SlotChange, slots_come_back, slots_decide_calls};
 pub use spaces::OwnSlots;
 pub use system_calls::SystemCall;
 pub use windows::{Space, Window};
