@@ -1,15 +1,15 @@
 -- Copy and Mint: an empty destination, a full source, and a child of it.
-use Rattle.std.proofs.Common.{ℕ, ◌≡◌, ◌∙◌, ◌&&◌, Bool, true, false, not, nat_lt, if◌then◌else◌, Option, Some, None, Result, Ok, Err, List, refl, sym, ap}
+use Rattle.std.proofs.Common.{ℕ, ◌≡◌, ◌∙◌, Bool, true, false, not, nat_lt, Some, Result, Ok, Err, List, refl, sym, ap}
 use Rattle.std.specs.Prelude.{IfOk}
 use Rattle.cap_copies.specs.Copies.{copy_of, minted_copy_of}
 use Rattle.model.specs.Acceptance.CallRules.{may_travel, names_such}
-use Rattle.model.specs.Acceptance.NotedKernel.{key_of, noted_after, noted_kernel, noted_root, noted_slots, slot_of_key}
-use Rattle.model.specs.Acceptance.NotedStates.{NotedSlot, SlotKey, is_own, slot_at, with_noted}
+use Rattle.model.specs.Acceptance.NotedKernel.{noted_after, noted_kernel, noted_root, noted_slots, slot_of_key}
+use Rattle.model.specs.Acceptance.NotedStates.{NotedSlot, with_noted}
 use Rattle.model.specs.Acceptance.ThreadRules.{reached}
 use Rattle.model.specs.Capabilities.CapabilityKinds.{badge_fits, copied, guard_fits, is_badged, may_be_copied, with_payload}
 use Rattle.model.specs.Capabilities.Slots.{Slots, capability_at, depth_of, inserted, is_empty}
 use Rattle.model.specs.Images.Image.{Image, Thread}
-use Rattle.model.specs.Kernel.Arguments.{◌>>=◌, Call, argument_slot, check, destination_slot, may_have_child, source_slot}
+use Rattle.model.specs.Kernel.Arguments.{◌>>=◌, argument_slot, check, destination_slot, may_have_child, source_slot}
 use Rattle.model.specs.Kernel.CNodeCalls.{copy, mint}
 use Rattle.model.specs.Kernel.State.{State, with_slots}
 use Rattle.model.specs.declared.capabilities.Cap.{Cap}
@@ -22,9 +22,9 @@ use Rattle.model.specs.declared.refusals.Point.{Point}
 use Rattle.model.specs.declared.refusals.Refusal.{Refusal}
 use Rattle.model.specs.declared.refusals.Refusal.TheVariants.{CallRefused}
 use Rattle.typestate.specs.declared.cnode_calls.Ends.{Ends}
-use Rattle.typestate.specs.CNodeCalls.{AreEnds, NamesEnds, NamesSlot, allowed_slots, cnode_after, ends_of, with_child}
+use Rattle.typestate.specs.CNodeCalls.{AreEnds, NamesEnds, allowed_slots, cnode_after, ends_of, with_child}
 use Rattle.typestate.specs.SlotChanges.{noted_depth}
-use Rattle.typestate.specs.Spaces.{AreOwn, IsSpace, StandsApart}
+use Rattle.typestate.specs.Spaces.{AreOwn, StandsApart}
 use Rattle.typestate.specs.Calls.{call_on}
 use Rattle.typestate.proofs.Allowed.{allowed-state, slots_allowed}
 use Rattle.typestate.proofs.KernelDepths.{depth-is}

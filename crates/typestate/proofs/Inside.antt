@@ -1,5 +1,5 @@
 -- What an argument names stands in one of the thread's CNodes.
-use Rattle.std.proofs.Common.{ℕ, zero, suc, ◌≡◌, ◌∙◌, ◌==◌, ◌+◌, ◌/◌, ◌^◌, ◌<◌, ◌&&◌, ◌||◌, Bool, true, false, not, nat_le, nat_lt, if◌then◌else◌, Option, Some, None, Result, Ok, Err, List, refl, sym, ap, subst}
+use Rattle.std.proofs.Common.{ℕ, zero, suc, ◌≡◌, ◌∙◌, ◌==◌, ◌+◌, ◌/◌, ◌^◌, ◌<◌, ◌&&◌, ◌||◌, Bool, true, false, not, nat_le, nat_lt, if◌then◌else◌, Some, None, Result, Ok, Err, List, refl, sym, ap, subst}
 use Rattle.model.specs.Acceptance.NotedKernel.{key_of, noted_slots}
 use Rattle.model.specs.Acceptance.NotedStates.{NotedSlot, SlotKey, is_own_cnode}
 use Rattle.model.specs.Acceptance.ThreadRules.{reached}
@@ -15,9 +15,9 @@ use Rattle.model.specs.declared.invocations.SlotName.{SlotName}
 use Rattle.model.specs.declared.lookup_failures.LookupFailure.{LookupFailure}
 use Rattle.typestate.specs.declared.windows.Window.{Window}
 use Rattle.typestate.specs.CNodeCalls.{NamesSlot}
-use Rattle.typestate.specs.Spaces.{AreWindows, IsSpace, NothingLeadsOutside, is_among, key_in, own_slots, with_held}
+use Rattle.typestate.specs.Spaces.{AreWindows, NothingLeadsOutside, is_among, key_in, own_slots, with_held}
 use Rattle.typestate.proofs.Lookups.{AgreeInside, IsIndexIn, argument-same, index-below}
-use Rattle.typestate.proofs.SlotMaps.{held_at, keys-same, noted-holds, own-holds, own-key, slots-agree}
+use Rattle.typestate.proofs.SlotMaps.{held_at, keys-same, noted-holds, own-key, slots-agree}
 
 -- a slot of a CNode that is the thread's
 pub record StandsInside (own : ℕ → ℕ → Bool) (slot : ℕ) : Type 0 where

@@ -1,21 +1,18 @@
 -- Lines of parents in the kernel's slots are those of the noted ones, and then of boot slots.
-use Rattle.std.proofs.Common.{ℕ, zero, suc, ◌≡◌, ◌∙◌, ◌==◌, ◌+◌, ◌<◌, ◌||◌, Bool, true, false, if◌then◌else◌, Option, Some, None, option_and_then, List, inl, inr, refl, sym, ap, subst, arith}
+use Rattle.std.proofs.Common.{ℕ, zero, suc, ◌≡◌, ◌∙◌, ◌+◌, Bool, true, false, if◌then◌else◌, Option, Some, None, List, refl, sym, ap, arith}
 use Rattle.std.specs.Option.{option_map_or}
-use Rattle.std.proofs.lemmas.Bool.{eq-eqb, ne_eqb}
-use Rattle.std.proofs.lemmas.Bool.Decides.{eqb_tells}
-use Rattle.model.specs.Acceptance.NotedKernel.{boot_parent, kernel_entry, key_of, noted_entry, noted_slots, slot_of_key}
-use Rattle.model.specs.Acceptance.NotedStates.{NotedSlot, SlotKey, is_own, is_same_key, number_of, slot_at}
+use Rattle.model.specs.Acceptance.NotedKernel.{boot_parent, kernel_entry, key_of, noted_slots, slot_of_key}
+use Rattle.model.specs.Acceptance.NotedStates.{NotedSlot, SlotKey, is_own, slot_at}
 use Rattle.model.specs.Acceptance.ThreadRules.{reached}
 use Rattle.model.specs.Capabilities.CapabilityKinds.{is_untyped}
-use Rattle.model.specs.Capabilities.Slots.{Slots, depth_within, descends_within, empty_entry, parent_at}
+use Rattle.model.specs.Capabilities.Slots.{Slots, depth_within, empty_entry, parent_at}
 use Rattle.model.specs.Images.Described.{described}
 use Rattle.model.specs.Images.Image.{Image, Thread}
 use Rattle.model.specs.declared.capabilities.Cap.{Cap}
 use Rattle.model.specs.declared.capabilities.Cap.TheVariants.{Empty, Untyped, Endpoint, Notification, CNode, Frame, PageTable, Tcb, RootTable, InterruptControl, InterruptHandler}
 use Rattle.model.specs.declared.slot_entries.Entry.{Entry}
-use Rattle.typestate.specs.SlotChanges.{boot_depth, noted_depth, noted_descends, noted_parent}
+use Rattle.typestate.specs.SlotChanges.{boot_depth, noted_depth}
 use Rattle.typestate.specs.Spaces.{AreOwn, StandsApart}
-use Rattle.typestate.proofs.NamedKeys.{own-named}
 use Rattle.typestate.proofs.Standing.{IsOwnSlot, found-own, noted-here, noted-there}
 
 module _ (image : Image) (t : Thread) (stand : StandsApart image t) (slots : List NotedSlot) (are : AreOwn image t slots) where

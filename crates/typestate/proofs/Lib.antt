@@ -20,3 +20,8 @@ pub mod CopyCalls
 pub mod Allowed
 pub mod MoveCalls
 pub mod MoveRules
+pub mod RemovedOwn
+pub mod RemovedNoted
+pub mod RemovedSlots
+pub mod RemoveRules
+pub mod Decided

@@ -1,16 +1,15 @@
 -- Move: what a slot held stands in another one, and its children hang below that.
-use Rattle.std.proofs.Common.{ℕ, ◌≡◌, ◌∙◌, ◌==◌, ◌+◌, ◌≤◌, ◌≢◌, Bool, true, false, if◌then◌else◌, inl, inr, Option, Some, None, option_map, option_and_then, List, [], ◌∷◌, map, refl, sym, ap, subst}
+use Rattle.std.proofs.Common.{ℕ, ◌≡◌, ◌∙◌, ◌==◌, ◌+◌, ◌≤◌, ◌≢◌, true, false, if◌then◌else◌, inl, inr, Option, Some, None, option_map, List, [], ◌∷◌, map, refl, sym, ap, subst}
 use Rattle.std.specs.Option.{option_map_or}
-use Rattle.std.proofs.lemmas.Bool.{eq-eqb, eqb-true, ne_eqb}
+use Rattle.std.proofs.lemmas.Bool.{eq-eqb, ne_eqb}
 use Rattle.std.proofs.lemmas.Bool.Decides.{eqb_tells}
 use Rattle.model.specs.Acceptance.NotedKernel.{boot_parent, kernel_entry, key_of, noted_after, noted_entry, noted_of, noted_slots, slot_of_key}
 use Rattle.model.specs.Acceptance.NotedStates.{NotedSlot, SlotKey, is_own, is_same_key, number_of, slot_at, with_noted}
 use Rattle.model.specs.Acceptance.ThreadRules.{reached}
-use Rattle.model.specs.Capabilities.Slots.{Slots, adopted, empty_entry, is_empty, relocated, with_entry, with_parent}
+use Rattle.model.specs.Capabilities.Slots.{Slots, adopted, empty_entry, relocated, with_entry, with_parent}
 use Rattle.model.specs.Images.Image.{Image, Thread}
-use Rattle.model.specs.declared.capabilities.Cap.TheVariants.{Empty}
 use Rattle.model.specs.declared.slot_entries.Entry.{Entry}
-use Rattle.typestate.specs.Differences.{changed, left_by}
+use Rattle.typestate.specs.Differences.{left_by}
 use Rattle.typestate.specs.SlotChanges.{emptied, followed, is_parent, moved}
 use Rattle.typestate.specs.Spaces.{AreOwn, StandsApart}
 use Rattle.typestate.proofs.Compared.{same-place}

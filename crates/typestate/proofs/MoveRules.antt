@@ -1,12 +1,12 @@
 -- Move and Mutate by their ends.
-use Rattle.std.proofs.Common.{ℕ, ◌≡◌, ◌∙◌, ◌&&◌, Bool, true, false, not, if◌then◌else◌, Option, Some, None, option_and_then, Result, Ok, Err, List, refl, sym, ap}
+use Rattle.std.proofs.Common.{ℕ, ◌≡◌, ◌∙◌, Bool, true, false, not, Option, Some, None, option_and_then, Result, Ok, Err, List, refl, sym, ap}
 use Rattle.std.specs.Option.{option_map_or}
 use Rattle.model.specs.Acceptance.CallRules.{may_travel, names_such}
-use Rattle.model.specs.Acceptance.NotedKernel.{key_of, noted_after, noted_kernel, noted_root, noted_slots, slot_of_key}
-use Rattle.model.specs.Acceptance.NotedStates.{NotedSlot, SlotKey, is_own, slot_at}
+use Rattle.model.specs.Acceptance.NotedKernel.{noted_after, noted_kernel, noted_root, noted_slots, slot_of_key}
+use Rattle.model.specs.Acceptance.NotedStates.{NotedSlot, SlotKey, slot_at}
 use Rattle.model.specs.Acceptance.ThreadRules.{reached}
 use Rattle.model.specs.Capabilities.CapabilityKinds.{carries_messages, guard_fits, is_untyped, with_payload}
-use Rattle.model.specs.Capabilities.Slots.{Slots, capability_at, is_empty, is_full, recapped, relocated}
+use Rattle.model.specs.Capabilities.Slots.{Slots, capability_at, is_empty, recapped, relocated}
 use Rattle.model.specs.Images.Image.{Image, Thread}
 use Rattle.model.specs.Kernel.Arguments.{◌>>=◌, argument_slot, check, destination_slot, source_slot}
 use Rattle.model.specs.Kernel.CNodeCalls.{move, mutate}

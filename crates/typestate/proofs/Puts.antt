@@ -1,6 +1,5 @@
 -- An entry put into a slot of a thread is a change of its noted slots.
-use Rattle.std.proofs.Common.{ℕ, ◌≡◌, ◌≢◌, ◌∙◌, ◌==◌, Bool, true, false, if◌then◌else◌, inl, inr, Option, Some, None, List, [], ◌∷◌, refl, sym, ap, subst}
-use Rattle.std.specs.Option.{option_map_or}
+use Rattle.std.proofs.Common.{ℕ, ◌≡◌, ◌≢◌, ◌∙◌, ◌==◌, Bool, true, false, if◌then◌else◌, inl, inr, Some, None, List, [], ◌∷◌, refl, sym, ap, subst}
 use Rattle.std.proofs.lemmas.Bool.{eq-eqb, ne_eqb}
 use Rattle.std.proofs.lemmas.Bool.Decides.{eqb_tells}
 use Rattle.model.specs.Acceptance.NotedKernel.{kernel_entry, key_of, noted_after, noted_entry, noted_of, noted_slots, slot_of_key}
@@ -8,7 +7,6 @@ use Rattle.model.specs.Acceptance.NotedStates.{NotedSlot, SlotKey, is_own, is_sa
 use Rattle.model.specs.Acceptance.ThreadRules.{reached}
 use Rattle.model.specs.Capabilities.Slots.{Slots, is_empty, with_entry}
 use Rattle.model.specs.Images.Image.{Image, Thread}
-use Rattle.model.specs.declared.slot_entries.Entry.{Entry}
 use Rattle.typestate.specs.Differences.{left_by}
 use Rattle.typestate.specs.Spaces.{AreOwn, StandsApart}
 use Rattle.typestate.proofs.NamedKeys.{own-named, same-own-key}

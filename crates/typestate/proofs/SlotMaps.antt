@@ -115,7 +115,7 @@ own-holds windows slots slot key is = ap (λ (k : Option SlotKey). option_map_or
 
 -- ---- no slot leads outside
 
-found-passes : {A : Type 0} (test found : A → Bool) (xs : List A) (x : A) → list_any test xs ≡ false → find found xs ≡ Some x → test x ≡ false
+pub found-passes : {A : Type 0} (test found : A → Bool) (xs : List A) (x : A) → list_any test xs ≡ false → find found xs ≡ Some x → test x ≡ false
 found-passes test found [] x none is = absurd (let clash : None ≡ Some x = is in cc)
 found-passes test found (y ∷ ys) x none is =
     elim (found y) as (λ b. (if b then Some y else find found ys) ≡ Some x → test x ≡ false) [

@@ -1,6 +1,6 @@
 -- Slots of a thread as the kernel's, and back.
 use Rattle.std.proofs.Common.{ℕ, ◌≡◌, ◌∙◌, ◌+◌, ◌*◌, ◌^◌, ◌&&◌, Bool, true, false, not, if◌then◌else◌, Option, Some, None, option_and_then, List, [], ◌∷◌, refl, sym, ap, subst, arith}
-use Rattle.std.specs.List.{filter_map, list_all}
+use Rattle.std.specs.List.{list_all}
 use Rattle.std.specs.Option.{option_map_or}
 use Rattle.std.proofs.lemmas.Bool.{and_parts, eqb-true}
 use Rattle.model.specs.Acceptance.NotedKernel.{boot_parent, kernel_entry, key_of, keys_of, noted_after, noted_entry, noted_of, noted_slots, slot_of_key}
@@ -14,7 +14,7 @@ use Rattle.model.specs.declared.slot_entries.Entry.{Entry}
 use Rattle.typestate.specs.Orders.{Rise}
 use Rattle.typestate.specs.Spaces.{AreOwn, StandsApart, is_own_slot}
 use Rattle.typestate.proofs.Compared.{same-place}
-use Rattle.typestate.proofs.NamedKeys.{IsNamed, KeepsKeys, each-own, kept-at, kept-each, kept-rise, key-named, keys-rise, own-among, own-named, same-own-key}
+use Rattle.typestate.proofs.NamedKeys.{KeepsKeys, each-own, kept-at, kept-each, kept-rise, keys-rise, own-among, own-named, same-own-key}
 use Rattle.typestate.proofs.Rising.{RiseFrom, from-first, looks-equal}
 
 -- ---- what is known of a slot that is found
@@ -141,6 +141,9 @@ module _ (image : Image) (t : Thread) (stand : StandsApart image t) where
             subst (λ (k : SlotKey). back_of k (kernel_entry image t s) ≡ Some s) place (entry-back s mine)
       ] refl)
 
+  pub come-back-from : (slots : List NotedSlot) → RiseFrom 0 slots → AreOwn image t slots → noted_after image t (noted_slots image t slots) ≡ slots
+  come-back-from slots rises are =
+      after-is (noted_slots image t slots) slots rises (λ key s found. (found-own image t slots key s are found).key) (λ key own. noted-back slots key are own)
+
   pub come-back : (slots : List NotedSlot) → Rise slots → AreOwn image t slots → noted_after image t (noted_slots image t slots) ≡ slots
-  come-back slots rises are =
-      after-is (noted_slots image t slots) slots (from-first slots rises) (λ key s found. (found-own image t slots key s are found).key) (λ key own. noted-back slots key are own)
+  come-back slots rises are = come-back-from slots (from-first slots rises) are

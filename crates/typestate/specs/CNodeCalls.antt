@@ -1,5 +1,5 @@
 -- Calls on CNodes, step by step.
-use Rattle.std.specs.Prelude.{ℕ, ◌≡◌, Bool, true, false, not, Option, Some, None, Result, Ok, Err, List, if◌then◌else◌}
+use Rattle.std.specs.Prelude.{ℕ, ◌≡◌, Bool, false, Some, Result, Ok, Err, List, if◌then◌else◌}
 use Rattle.model.specs.declared.capabilities.Cap.{Cap}
 use Rattle.model.specs.declared.errors.KError.{KError}
 use Rattle.model.specs.declared.errors.KError.TheVariants.{IllegalOperation}

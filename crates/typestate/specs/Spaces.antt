@@ -110,7 +110,7 @@ pub record StandsApart (image : Image) (t : Thread) : Type 0 where
       → (above : ℕ) × (parent_at (described image).slots (boot_parent image t capability) ≡ Some above) × (parent_at (described image).slots above ≡ None)
   -- capabilities in the boot CNode
   pub objects : (offset : ℕ) → (slot_count ((described image).objects offset) ≡ 0) ⊎ HeldInBoot image (names_object offset)
-  pub lines : (line : ℕ) → (capability_at (described image).slots (line_slot image.header.boot_radix line) ≡ Empty) ⊎ HeldInBoot image (is_handler_of line)
+  pub lines : (line : ℕ) → line < 64 → (capability_at (described image).slots (line_slot image.header.boot_radix line) ≡ Empty) ⊎ HeldInBoot image (is_handler_of line)
   pub root : HeldInBoot image (is_root_at (offset_of image t.header.root))
 
 -- a full slot of the thread's CNodes, and what it was derived from is one too, or none of them

@@ -18,10 +18,10 @@ ghost use Rattle.typestate.specs.SlotChanges.{left_or_refused};
 ghost use Rattle.typestate.specs.Spaces.{AreOwn, IsSpace, NothingLeadsOutside, StandsApart, is_inside};
 
 use crate::spaces::key_in;
-use crate::{NotedSlot, NotedSlots, OwnSlots, SlotChange, SlotKey, Space};
+use crate::{NotedSlot, NotedSlots, OwnSlots, Removed, SlotChange, SlotKey, Space};
 use cap_copies::{copy_of, minted_copy_of};
 use cspace::argument_slot;
-use model::{Cap, KError, Point, Refusal, SlotName};
+use model::{CNodeCall, Cap, KError, Point, Refusal, SlotName};
 
 /// An empty slot, and a full one with what it holds.
 #[derive(Clone, Copy, Debug)]
@@ -196,7 +196,12 @@ impl Space<'_, '_> {
             Ok(ends) => ends,
             Err(error) => return Err(Refusal::CallRefused(at, error)),
         };
-        put_copy(slots, at, ends, minted_copy_of(ends.held, rights_word, payload))
+        put_copy(
+            slots,
+            at,
+            ends,
+            minted_copy_of(ends.held, rights_word, payload),
+        )
     }
 
     /// Move: a program may not lose sight of its pools.
@@ -254,6 +259,101 @@ impl Space<'_, '_> {
         match self.ends(slots, capability, destination, source) {
             Ok(_) => Refusal::CallRefused(at, KError::IllegalOperation),
             Err(error) => Refusal::CallRefused(at, error),
+        }
+    }
+
+    /// Delete: a program may not lose its pools. Nothing happens to an empty slot.
+    fn delete(
+        &self,
+        slots: &NotedSlots<'_>,
+        at: Point,
+        capability: Cap,
+        name: SlotName,
+    ) -> Result<SlotChange, Refusal>
+        requires space { IsSpace self.now }
+        requires apart { StandsApart self.now.image.now self.now.thread.now }
+        requires inside { NothingLeadsOutside self.now.image.now self.now.thread.now (slots_of slots.now) }
+        requires own { AreOwn self.now.image.now self.now.thread.now (slots_of slots.now) }
+        requires root { is_inside self.now.image.now self.now.thread.now capability ≡ true }
+        requires valid { IsCapability capability }
+        ensures { cnode_after self.now.image.now self.now.thread.now at (slots_of slots.now) capability (calls.Delete name) ≡ left_or_refused (slots_of slots.now) result }
+    {
+        let (key, held) = match self.named(slots, capability, name) {
+            Ok(found) => found,
+            Err(error) => return Err(Refusal::CallRefused(at, error)),
+        };
+        if is_pool(held) {
+            return Err(Refusal::PoolLost(at));
+        }
+        if is_vacant(held) {
+            return Ok(SlotChange::Nothing);
+        }
+        Ok(SlotChange::Removes(Removed::One(key)))
+    }
+
+    /// Revoke: what descends from a slot goes.
+    fn revoke(
+        &self,
+        slots: &NotedSlots<'_>,
+        at: Point,
+        capability: Cap,
+        name: SlotName,
+    ) -> Result<SlotChange, Refusal>
+        requires space { IsSpace self.now }
+        requires apart { StandsApart self.now.image.now self.now.thread.now }
+        requires inside { NothingLeadsOutside self.now.image.now self.now.thread.now (slots_of slots.now) }
+        requires own { AreOwn self.now.image.now self.now.thread.now (slots_of slots.now) }
+        requires root { is_inside self.now.image.now self.now.thread.now capability ≡ true }
+        requires valid { IsCapability capability }
+        ensures { cnode_after self.now.image.now self.now.thread.now at (slots_of slots.now) capability (calls.Revoke name) ≡ left_or_refused (slots_of slots.now) result }
+    {
+        let (key, _) = match self.named(slots, capability, name) {
+            Ok(found) => found,
+            Err(error) => return Err(Refusal::CallRefused(at, error)),
+        };
+        Ok(SlotChange::Removes(Removed::Below(key)))
+    }
+
+    /// What a call on a CNode of the thread leaves of the slots, or why it is refused: the kernel's error comes first, then
+    /// that a pool is lost, and then that a program may not move or copy what its source holds.
+    pub fn cnode_call(
+        &self,
+        slots: &NotedSlots<'_>,
+        at: Point,
+        capability: Cap,
+        call: CNodeCall,
+    ) -> Result<SlotChange, Refusal>
+        requires space { IsSpace self.now }
+        requires apart { StandsApart self.now.image.now self.now.thread.now }
+        requires inside { NothingLeadsOutside self.now.image.now self.now.thread.now (slots_of slots.now) }
+        requires own { AreOwn self.now.image.now self.now.thread.now (slots_of slots.now) }
+        requires root { is_inside self.now.image.now self.now.thread.now capability ≡ true }
+        requires valid { IsCapability capability }
+        ensures { cnode_after self.now.image.now self.now.thread.now at (slots_of slots.now) capability call ≡ left_or_refused (slots_of slots.now) result }
+    {
+        match call {
+            CNodeCall::Copy {
+                destination,
+                source,
+                rights,
+            } => self.copy(slots, at, capability, destination, source, rights),
+            CNodeCall::Mint {
+                destination,
+                source,
+                rights,
+                payload,
+            } => self.mint(slots, at, capability, destination, source, rights, payload),
+            CNodeCall::Move {
+                destination,
+                source,
+            } => self.moves(slots, at, capability, destination, source),
+            CNodeCall::Mutate {
+                destination,
+                source,
+                ..
+            } => Err(self.mutate(slots, at, capability, destination, source)),
+            CNodeCall::Delete { slot } => self.delete(slots, at, capability, slot),
+            CNodeCall::Revoke { slot } => self.revoke(slots, at, capability, slot),
         }
     }
 }

@@ -26,7 +26,9 @@ pub use laws::{no_stray_slot_leads_outside, records_note_changes};
 pub use messages::message_call;
 pub use points::NotedSlots;
 pub use records::note_record;
-pub use slot_changes::{Removed, SlotChange, slots_come_back, slots_decide_calls};
+pub use slot_changes::{
+    Removed, SlotChange, slots_come_back, slots_decide_calls, slots_decide_cnode_calls,
+};
 pub use spaces::OwnSlots;
 pub use system_calls::SystemCall;
 pub use windows::{Space, Window};

@@ -1,5 +1,5 @@
 -- One parent more, and the end.
-use Rattle.std.proofs.Common.{◌≡◌, sym, arith}
+use Rattle.std.proofs.Common.{sym, arith}
 use Rattle.typestate.specs.Differences.{slots_of}
 use Rattle.typestate.specs.SlotChanges.{noted_descends}
 use Rattle.typestate.proofs.SlotLines.{descends-end, descends-here, descends-more, descends-top}

@@ -1,5 +1,5 @@
 -- One parent more, and the slot without one.
-use Rattle.std.proofs.Common.{◌≡◌, ◌∙◌, ◌+◌, nat_lt, if◌then◌else◌, ap, sym}
+use Rattle.std.proofs.Common.{◌∙◌, ◌+◌, nat_lt, if◌then◌else◌, ap, sym}
 use Rattle.model.specs.Acceptance.NotedStates.{NotedSlot}
 use Rattle.model.specs.Capabilities.CapabilityKinds.{is_untyped}
 use Rattle.typestate.specs.Differences.{slots_of}

@@ -1,5 +1,5 @@
 -- One parent more, and the end.
-use Rattle.std.proofs.Common.{◌≡◌, ◌∙◌, ◌+◌, ◌-◌, ap, sym, arith}
+use Rattle.std.proofs.Common.{◌∙◌, ◌+◌, ◌-◌, ap, sym, arith}
 use Rattle.typestate.specs.Differences.{slots_of}
 use Rattle.typestate.specs.SlotChanges.{is_removed, noted_outside}
 use Rattle.typestate.proofs.SlotLines.{outside-end, outside-here, outside-more, outside-none}

@@ -1,6 +1,5 @@
 -- By the ends, and then by what is put.
 use Rattle.std.proofs.Common.{◌∙◌, Ok, Err, ap, subst, sym}
-use Rattle.cap_copies.specs.Copies.{copy_of}
 use Rattle.model.specs.Acceptance.CallRules.{may_travel}
 use Rattle.model.specs.Acceptance.NotedKernel.{noted_root, noted_slots}
 use Rattle.model.specs.declared.capabilities.Cap.{Cap}
