@@ -21,11 +21,11 @@ pub record AgreeInside (s t : Slots) (own : ℕ → ℕ → Bool) : Type 0 where
       → is_among own (capability_at s (offset / 16 + index)) ≡ true
 
 -- the index that a CNode resolves is one of its slots
-abbrev IsIndexIn : ℕ → Result (ℕ × ℕ) LookupFailure → Type 0
+abbrev pub IsIndexIn : ℕ → Result (ℕ × ℕ) LookupFailure → Type 0
 IsIndexIn radix (Ok place) = place.0 < 2 ^ radix
 IsIndexIn radix (Err failure) = Unit {0}
 
-index-below : (radix guard address left : ℕ) → IsIndexIn radix (resolve radix guard address left)
+pub index-below : (radix guard address left : ℕ) → IsIndexIn radix (resolve radix guard address left)
 index-below radix guard address left =
     let size = guard % 2 ^ 5 in
     let rest = left - (size + radix) in

@@ -93,10 +93,10 @@ own-key image (cnode ∷ cnodes) offset radix index mine below =
 
 -- ---- what the slots hold
 
-abbrev held_at : List NotedSlot → SlotKey → Cap
+abbrev pub held_at : List NotedSlot → SlotKey → Cap
 held_at slots key = option_map_or (λ s. s.capability) (slot_at slots key) Empty
 
-noted-holds : (image : Image) (t : Thread) (slots : List NotedSlot) (slot : ℕ) (key : SlotKey) → key_of image (reached image t) slot ≡ Some key
+pub noted-holds : (image : Image) (t : Thread) (slots : List NotedSlot) (slot : ℕ) (key : SlotKey) → key_of image (reached image t) slot ≡ Some key
     → capability_at (noted_slots image t slots) slot ≡ held_at slots key
 noted-holds image t slots slot key is =
     ap (λ (k : Option SlotKey). option_map_or (λ (held : Entry). held.capability) (option_map_or (λ (k : SlotKey). Some (noted_entry image t slots k)) k ((described image).slots slot)) Empty) is
@@ -109,13 +109,13 @@ noted-holds image t slots slot key is =
         holds None = refl
         holds (Some s) = refl
 
-own-holds : (windows : List Window) (slots : List NotedSlot) (slot : ℕ) (key : SlotKey) → key_in windows slot ≡ Some key
+pub own-holds : (windows : List Window) (slots : List NotedSlot) (slot : ℕ) (key : SlotKey) → key_in windows slot ≡ Some key
     → capability_at (own_slots windows slots) slot ≡ held_at slots key
 own-holds windows slots slot key is = ap (λ (k : Option SlotKey). option_map_or (λ (held : Entry). held.capability) (option_map (entry_in slots) k) Empty) is
 
 -- ---- no slot leads outside
 
-found-passes : {A : Type 0} (test found : A → Bool) (xs : List A) (x : A) → list_any test xs ≡ false → find found xs ≡ Some x → test x ≡ false
+pub found-passes : {A : Type 0} (test found : A → Bool) (xs : List A) (x : A) → list_any test xs ≡ false → find found xs ≡ Some x → test x ≡ false
 found-passes test found [] x none is = absurd (let clash : None ≡ Some x = is in cc)
 found-passes test found (y ∷ ys) x none is =
     elim (found y) as (λ b. (if b then Some y else find found ys) ≡ Some x → test x ≡ false) [

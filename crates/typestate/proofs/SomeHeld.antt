@@ -1,5 +1,5 @@
 -- A slot of some kind is found at the keys of the image's slots and of the changes.
-use Rattle.std.proofs.Common.{◌≡◌, ◌∙◌, ◌==◌, ◌||◌, ℕ, ◌+◌, ◌≤◌, Bool, true, false, if◌then◌else◌, Option, Some, None, List, [], ◌∷◌, refl, sym, ap, subst, arith}
+use Rattle.std.proofs.Common.{◌≡◌, ◌∙◌, ◌||◌, ℕ, ◌+◌, ◌≤◌, Bool, true, false, if◌then◌else◌, Option, Some, List, [], ◌∷◌, refl, sym, ap, arith}
 use Rattle.std.specs.List.{list_any}
 use Rattle.std.specs.Option.{option_map_or}
 use Rattle.std.proofs.lemmas.Bool.{eqb-true, ne_eqb}
@@ -13,25 +13,25 @@ or-second true b is = refl
 or-second false b is = is
 
 module _ (test : NotedSlot → Bool) where
-  abbrev holds : Option NotedSlot → Bool
+  abbrev pub holds : Option NotedSlot → Bool
   holds found = option_map_or test found false
 
   abbrev pub holds_at : List NotedSlot → NotedSlot → Bool
   holds_at slots k = holds (slot_at slots k.key)
 
-  held-any : (slots : List NotedSlot) (key : SlotKey) → holds (slot_at slots key) ≡ true → list_any test slots ≡ true
+  pub held-any : (slots : List NotedSlot) (key : SlotKey) → holds (slot_at slots key) ≡ true → list_any test slots ≡ true
   held-any [] key is = absurd (let clash : false ≡ true = is in cc)
   held-any (s ∷ rest) key is = elim (is_same_key s.key key) as (λ b. holds (if b then Some s else slot_at rest key) ≡ true → (test s || list_any test rest) ≡ true) [
     | true ↦ λ here. ap (λ b. b || list_any test rest) here
     | false ↦ λ later. or-second (test s) (list_any test rest) (held-any rest key later)
   ] is
 
-  record HeldFrom (least : ℕ) (slots : List NotedSlot) : Type 0 where
-    key : SlotKey
-    from : least ≤ number_of key
-    holding : holds (slot_at slots key) ≡ true
+  pub record HeldFrom (least : ℕ) (slots : List NotedSlot) : Type 0 where
+    pub key : SlotKey
+    pub from : least ≤ number_of key
+    pub holding : holds (slot_at slots key) ≡ true
 
-  any-held : (slots : List NotedSlot) (least : ℕ) → RiseFrom least slots → list_any test slots ≡ true → HeldFrom least slots
+  pub any-held : (slots : List NotedSlot) (least : ℕ) → RiseFrom least slots → list_any test slots ≡ true → HeldFrom least slots
   any-held [] least rises some = absurd (let clash : false ≡ true = some in cc)
   any-held (s ∷ rest) least rises some = elim (test s) as (λ b. test s ≡ b → (b || list_any test rest) ≡ true → HeldFrom least (s ∷ rest)) [
     | true ↦ λ is _. record { key = s.key; from = rises.0; holding = ap holds (first-found s rest s.key refl) ∙ is }

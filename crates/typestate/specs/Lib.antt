@@ -4,3 +4,5 @@ pub mod Calls
 pub mod Spaces
 pub mod Messages
 pub mod Logs
+pub mod SlotChanges
+pub mod CNodeCalls

@@ -3,16 +3,19 @@
 
 mod arguments;
 mod behind;
+mod cnode_calls;
 mod comparisons;
 mod holders;
 mod keys;
 mod laws;
 mod logs;
+mod lines;
 mod messages;
 mod noted;
 mod plain_calls;
 mod points;
 mod records;
+mod slot_changes;
 mod spaces;
 mod system_calls;
 mod windows;
@@ -25,6 +28,9 @@ pub use logs::{Part, SlotLog};
 pub use messages::message_call;
 pub use points::NotedSlots;
 pub use records::note_record;
+pub use slot_changes::{
+    Removed, SlotChange, slots_come_back, slots_decide_calls, slots_decide_cnode_calls,
+};
 pub use spaces::OwnSlots;
 pub use system_calls::SystemCall;
 pub use windows::{Space, Window};

@@ -45,7 +45,7 @@ impl Window {
 }
 
 /// The CNode and the index of a slot, if it stands in one of these.
-fn key_in(windows: &[Window], slot: u32) -> Option<SlotKey>
+pub(crate) fn key_in(windows: &[Window], slot: u32) -> Option<SlotKey>
     ensures { result ≡ key_in windows.now slot }
 {
     for window in windows {

@@ -1,0 +1,21 @@
+-- By the thread's own slots.
+use Rattle.std.proofs.Common.{◌∙◌, sym, ap}
+use Rattle.typestate.specs.Differences.{slots_of}
+use Rattle.typestate.specs.Spaces.{key_in}
+use Rattle.typestate.proofs.Inside.{found-names, has-key, refused-names}
+use Rattle.typestate.proofs.windows.Space.named.Goals as goal
+
+pub returns-in-Err-clause-value : goal.returns-in-Err-clause-value
+returns-in-Err-clause-value c =
+    refused-names c.args.self.now.image.now c.args.self.now.thread.now c.args.self.now.windows.now (slots_of c.args.slots.now) c.args.root c.args.name c.requires.space.cnodes c.requires.inside c.requires.root
+    c.in-Err.error (sym c.in-Err.ensures)
+
+pub unreachable-requires : goal.unreachable-requires
+unreachable-requires c =
+    has-key c.args.self.now.image.now c.args.self.now.thread.now c.args.self.now.windows.now (slots_of c.args.slots.now) c.args.root c.args.name c.requires.space.cnodes c.requires.inside c.requires.root
+    c.in-Ok.slot (sym c.in-Ok.ensures) (ap (key_in c.args.self.now.windows.now) (sym c.number.ensures.value) ∙ sym c.in-None.ensures)
+
+pub returns-clause-value : goal.returns-clause-value
+returns-clause-value c =
+    found-names c.args.self.now.image.now c.args.self.now.thread.now c.args.self.now.windows.now (slots_of c.args.slots.now) c.args.root c.args.name c.requires.space.cnodes c.requires.inside c.requires.root
+    c.in-Ok.slot c.in-Some.key c.capability.result (sym c.in-Ok.ensures) (ap (key_in c.args.self.now.windows.now) (sym c.number.ensures.value) ∙ sym c.in-Some.ensures) c.capability.ensures.value

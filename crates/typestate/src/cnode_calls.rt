@@ -1,0 +1,359 @@
+//! Calls on CNodes at a point: the slots that they name, the kernel's checks, and what they leave of the slots.
+//! seL4 Reference Manual, "Capability-based Access Control", seL4_CNode.
+
+ghost use Rattle.std.specs.Prelude.{ℕ, ◌≡◌, true, false, Err, IfOk};
+ghost use Rattle.model.specs.Acceptance.CallRules.{may_travel};
+ghost use Rattle.model.specs.Acceptance.NotedKernel.{noted_slots};
+ghost use Rattle.model.specs.Capabilities.CapabilityKinds.{is_untyped};
+ghost use Rattle.model.specs.Capabilities.CapabilityWords.{IsCapability};
+ghost use Rattle.model.specs.Capabilities.Slots.{is_empty};
+ghost use Rattle.model.specs.Kernel.Arguments.{argument_slot};
+ghost use Rattle.model.specs.Images.Image.{Image, Thread};
+ghost use Rattle.model.specs.declared.capabilities.Cap.{Cap};
+ghost use Rattle.model.specs.declared.invocations.CNodeCall.TheVariants as calls;
+ghost use Rattle.model.specs.declared.invocations.SlotName.{SlotName};
+ghost use Rattle.typestate.specs.CNodeCalls.{AreEnds, NamesEnds, NamesSlot, allowed_slots, cnode_after, ends_of, with_child};
+ghost use Rattle.typestate.specs.Differences.{slots_of};
+ghost use Rattle.typestate.specs.SlotChanges.{left_or_refused};
+ghost use Rattle.typestate.specs.Spaces.{AreOwn, IsSpace, NothingLeadsOutside, StandsApart, is_inside};
+
+use crate::spaces::key_in;
+use crate::{NotedSlot, NotedSlots, OwnSlots, Removed, SlotChange, SlotKey, Space};
+use cap_copies::{copy_of, minted_copy_of};
+use cspace::argument_slot;
+use model::{CNodeCall, Cap, KError, Point, Refusal, SlotName};
+
+/// An empty slot, and a full one with what it holds.
+#[derive(Clone, Copy, Debug)]
+struct Ends {
+    to: SlotKey,
+    from: SlotKey,
+    held: Cap,
+}
+
+/// Whether a slot with this capability is empty.
+fn is_vacant(capability: Cap) -> bool
+    ensures { result ≡ is_empty capability }
+{
+    matches!(capability, Cap::Empty)
+}
+
+/// Endpoints, notifications and frames are what a program may copy and move.
+fn may_travel(capability: Cap) -> bool
+    ensures { result ≡ may_travel capability }
+{
+    matches!(
+        capability,
+        Cap::Endpoint { .. } | Cap::Notification { .. } | Cap::Frame { .. }
+    )
+}
+
+/// Whether a capability is to untyped memory.
+fn is_pool(capability: Cap) -> bool
+    ensures { result ≡ is_untyped capability }
+{
+    matches!(capability, Cap::Untyped { .. })
+}
+
+/// A call that puts a copy beside its source: the kernel's checks of the copy and of the source's depth, and then whether
+/// the source may travel.
+fn put_copy(
+    slots: &NotedSlots<'_>,
+    at: Point,
+    ends: Ends,
+    made: Result<Cap, KError>,
+) -> Result<SlotChange, Refusal>
+    requires valid { IfOk made IsCapability }
+    requires made { IfOk made (λ capability. is_empty capability ≡ false) }
+    ensures { (image : Image) (t : Thread) (root : Cap) (name : SlotName) (destination source : ℕ) → StandsApart image t → AreOwn image t (slots_of slots.now) → AreEnds image t (noted_slots image t (slots_of slots.now)) root name destination source ends
+        → allowed_slots image t at (may_travel ends.held) (with_child (noted_slots image t (slots_of slots.now)) destination source made) ≡ left_or_refused (slots_of slots.now) result }
+{
+    let capability = match made {
+        Ok(capability) => capability,
+        Err(error) => return Err(Refusal::CallRefused(at, error)),
+    };
+    if !slots.may_have_child(ends.from) {
+        return Err(Refusal::CallRefused(at, KError::IllegalOperation));
+    }
+    if !may_travel(ends.held) {
+        return Err(Refusal::CallRefused(at, KError::IllegalOperation));
+    }
+    Ok(SlotChange::Puts(NotedSlot {
+        key: ends.to,
+        capability,
+        parent: Some(ends.from),
+    }))
+}
+
+impl Space<'_, '_> {
+    /// The slot of this name under a CNode of the thread, with the capability in it, or the kernel's error.
+    fn named(
+        &self,
+        slots: &NotedSlots<'_>,
+        root: Cap,
+        name: SlotName,
+    ) -> Result<(SlotKey, Cap), KError>
+        requires space { IsSpace self.now }
+        requires inside { NothingLeadsOutside self.now.image.now self.now.thread.now (slots_of slots.now) }
+        requires root { is_inside self.now.image.now self.now.thread.now root ≡ true }
+        requires valid { IsCapability root }
+        ensures value { let all = noted_slots self.now.image.now self.now.thread.now (slots_of slots.now) in
+            NamesSlot self.now.image.now self.now.thread.now all (argument_slot all root name) result }
+        ensures valid { IfOk result (λ found. IsCapability found.1) }
+    {
+        let own = OwnSlots {
+            windows: self.windows,
+            slots: *slots,
+        };
+        let slot = match argument_slot(&own, root, name) {
+            Ok(slot) => slot,
+            Err(error) => return Err(error),
+        };
+        match key_in(self.windows, slot.number()) {
+            Some(key) => Ok((key, slots.capability(key))),
+            None => unreachable!(),
+        }
+    }
+
+    /// The empty slot and the full one that a call names, or the kernel's error.
+    fn ends(
+        &self,
+        slots: &NotedSlots<'_>,
+        capability: Cap,
+        destination: SlotName,
+        source: SlotName,
+    ) -> Result<Ends, KError>
+        requires space { IsSpace self.now }
+        requires inside { NothingLeadsOutside self.now.image.now self.now.thread.now (slots_of slots.now) }
+        requires root { is_inside self.now.image.now self.now.thread.now capability ≡ true }
+        requires valid { IsCapability capability }
+        ensures value { let all = noted_slots self.now.image.now self.now.thread.now (slots_of slots.now) in
+            NamesEnds self.now.image.now self.now.thread.now all self.now.root source (ends_of all capability self.now.root destination source) result }
+        ensures valid { IfOk result (λ ends. IsCapability ends.held) }
+    {
+        let (to, there) = match self.named(slots, capability, destination) {
+            Ok(found) => found,
+            Err(error) => return Err(error),
+        };
+        if !is_vacant(there) {
+            return Err(KError::DeleteFirst);
+        }
+        let (from, held) = match self.named(slots, self.root, source) {
+            Ok(found) => found,
+            Err(error) => return Err(error),
+        };
+        if is_vacant(held) {
+            return Err(KError::FailedLookup);
+        }
+        Ok(Ends { to, from, held })
+    }
+
+    /// Copy.
+    fn copy(
+        &self,
+        slots: &NotedSlots<'_>,
+        at: Point,
+        capability: Cap,
+        destination: SlotName,
+        source: SlotName,
+        rights_word: u32,
+    ) -> Result<SlotChange, Refusal>
+        requires space { IsSpace self.now }
+        requires apart { StandsApart self.now.image.now self.now.thread.now }
+        requires inside { NothingLeadsOutside self.now.image.now self.now.thread.now (slots_of slots.now) }
+        requires own { AreOwn self.now.image.now self.now.thread.now (slots_of slots.now) }
+        requires root { is_inside self.now.image.now self.now.thread.now capability ≡ true }
+        requires valid { IsCapability capability }
+        ensures { cnode_after self.now.image.now self.now.thread.now at (slots_of slots.now) capability (calls.Copy destination source rights_word) ≡ left_or_refused (slots_of slots.now) result }
+    {
+        let ends = match self.ends(slots, capability, destination, source) {
+            Ok(ends) => ends,
+            Err(error) => return Err(Refusal::CallRefused(at, error)),
+        };
+        put_copy(slots, at, ends, copy_of(ends.held, rights_word))
+    }
+
+    /// Mint: a copy with a badge or a guard word.
+    fn mint(
+        &self,
+        slots: &NotedSlots<'_>,
+        at: Point,
+        capability: Cap,
+        destination: SlotName,
+        source: SlotName,
+        rights_word: u32,
+        payload: u32,
+    ) -> Result<SlotChange, Refusal>
+        requires space { IsSpace self.now }
+        requires apart { StandsApart self.now.image.now self.now.thread.now }
+        requires inside { NothingLeadsOutside self.now.image.now self.now.thread.now (slots_of slots.now) }
+        requires own { AreOwn self.now.image.now self.now.thread.now (slots_of slots.now) }
+        requires root { is_inside self.now.image.now self.now.thread.now capability ≡ true }
+        requires valid { IsCapability capability }
+        ensures { cnode_after self.now.image.now self.now.thread.now at (slots_of slots.now) capability (calls.Mint destination source rights_word payload) ≡ left_or_refused (slots_of slots.now) result }
+    {
+        let ends = match self.ends(slots, capability, destination, source) {
+            Ok(ends) => ends,
+            Err(error) => return Err(Refusal::CallRefused(at, error)),
+        };
+        put_copy(
+            slots,
+            at,
+            ends,
+            minted_copy_of(ends.held, rights_word, payload),
+        )
+    }
+
+    /// Move: a program may not lose sight of its pools.
+    fn moves(
+        &self,
+        slots: &NotedSlots<'_>,
+        at: Point,
+        capability: Cap,
+        destination: SlotName,
+        source: SlotName,
+    ) -> Result<SlotChange, Refusal>
+        requires space { IsSpace self.now }
+        requires apart { StandsApart self.now.image.now self.now.thread.now }
+        requires inside { NothingLeadsOutside self.now.image.now self.now.thread.now (slots_of slots.now) }
+        requires own { AreOwn self.now.image.now self.now.thread.now (slots_of slots.now) }
+        requires root { is_inside self.now.image.now self.now.thread.now capability ≡ true }
+        requires valid { IsCapability capability }
+        ensures { cnode_after self.now.image.now self.now.thread.now at (slots_of slots.now) capability (calls.Move destination source) ≡ left_or_refused (slots_of slots.now) result }
+    {
+        let ends = match self.ends(slots, capability, destination, source) {
+            Ok(ends) => ends,
+            Err(error) => return Err(Refusal::CallRefused(at, error)),
+        };
+        if is_pool(ends.held) {
+            return Err(Refusal::PoolLost(at));
+        }
+        if !may_travel(ends.held) {
+            return Err(Refusal::CallRefused(at, KError::IllegalOperation));
+        }
+        Ok(SlotChange::Moves {
+            from: ends.from,
+            to: NotedSlot {
+                key: ends.to,
+                capability: ends.held,
+                parent: slots.parent(ends.from),
+            },
+        })
+    }
+
+    /// Mutate, which is none of a program's calls: the kernel's errors come first.
+    fn mutate(
+        &self,
+        slots: &NotedSlots<'_>,
+        at: Point,
+        capability: Cap,
+        destination: SlotName,
+        source: SlotName,
+    ) -> Refusal
+        requires space { IsSpace self.now }
+        requires inside { NothingLeadsOutside self.now.image.now self.now.thread.now (slots_of slots.now) }
+        requires root { is_inside self.now.image.now self.now.thread.now capability ≡ true }
+        requires valid { IsCapability capability }
+        ensures { (payload : ℕ) → cnode_after self.now.image.now self.now.thread.now at (slots_of slots.now) capability (calls.Mutate destination source payload) ≡ Err result }
+    {
+        match self.ends(slots, capability, destination, source) {
+            Ok(_) => Refusal::CallRefused(at, KError::IllegalOperation),
+            Err(error) => Refusal::CallRefused(at, error),
+        }
+    }
+
+    /// Delete: a program may not lose its pools. Nothing happens to an empty slot.
+    fn delete(
+        &self,
+        slots: &NotedSlots<'_>,
+        at: Point,
+        capability: Cap,
+        name: SlotName,
+    ) -> Result<SlotChange, Refusal>
+        requires space { IsSpace self.now }
+        requires apart { StandsApart self.now.image.now self.now.thread.now }
+        requires inside { NothingLeadsOutside self.now.image.now self.now.thread.now (slots_of slots.now) }
+        requires own { AreOwn self.now.image.now self.now.thread.now (slots_of slots.now) }
+        requires root { is_inside self.now.image.now self.now.thread.now capability ≡ true }
+        requires valid { IsCapability capability }
+        ensures { cnode_after self.now.image.now self.now.thread.now at (slots_of slots.now) capability (calls.Delete name) ≡ left_or_refused (slots_of slots.now) result }
+    {
+        let (key, held) = match self.named(slots, capability, name) {
+            Ok(found) => found,
+            Err(error) => return Err(Refusal::CallRefused(at, error)),
+        };
+        if is_pool(held) {
+            return Err(Refusal::PoolLost(at));
+        }
+        if is_vacant(held) {
+            return Ok(SlotChange::Nothing);
+        }
+        Ok(SlotChange::Removes(Removed::One(key)))
+    }
+
+    /// Revoke: what descends from a slot goes.
+    fn revoke(
+        &self,
+        slots: &NotedSlots<'_>,
+        at: Point,
+        capability: Cap,
+        name: SlotName,
+    ) -> Result<SlotChange, Refusal>
+        requires space { IsSpace self.now }
+        requires apart { StandsApart self.now.image.now self.now.thread.now }
+        requires inside { NothingLeadsOutside self.now.image.now self.now.thread.now (slots_of slots.now) }
+        requires own { AreOwn self.now.image.now self.now.thread.now (slots_of slots.now) }
+        requires root { is_inside self.now.image.now self.now.thread.now capability ≡ true }
+        requires valid { IsCapability capability }
+        ensures { cnode_after self.now.image.now self.now.thread.now at (slots_of slots.now) capability (calls.Revoke name) ≡ left_or_refused (slots_of slots.now) result }
+    {
+        let (key, _) = match self.named(slots, capability, name) {
+            Ok(found) => found,
+            Err(error) => return Err(Refusal::CallRefused(at, error)),
+        };
+        Ok(SlotChange::Removes(Removed::Below(key)))
+    }
+
+    /// What a call on a CNode of the thread leaves of the slots, or why it is refused: the kernel's error comes first, then
+    /// that a pool is lost, and then that a program may not move or copy what its source holds.
+    pub fn cnode_call(
+        &self,
+        slots: &NotedSlots<'_>,
+        at: Point,
+        capability: Cap,
+        call: CNodeCall,
+    ) -> Result<SlotChange, Refusal>
+        requires space { IsSpace self.now }
+        requires apart { StandsApart self.now.image.now self.now.thread.now }
+        requires inside { NothingLeadsOutside self.now.image.now self.now.thread.now (slots_of slots.now) }
+        requires own { AreOwn self.now.image.now self.now.thread.now (slots_of slots.now) }
+        requires root { is_inside self.now.image.now self.now.thread.now capability ≡ true }
+        requires valid { IsCapability capability }
+        ensures { cnode_after self.now.image.now self.now.thread.now at (slots_of slots.now) capability call ≡ left_or_refused (slots_of slots.now) result }
+    {
+        match call {
+            CNodeCall::Copy {
+                destination,
+                source,
+                rights,
+            } => self.copy(slots, at, capability, destination, source, rights),
+            CNodeCall::Mint {
+                destination,
+                source,
+                rights,
+                payload,
+            } => self.mint(slots, at, capability, destination, source, rights, payload),
+            CNodeCall::Move {
+                destination,
+                source,
+            } => self.moves(slots, at, capability, destination, source),
+            CNodeCall::Mutate {
+                destination,
+                source,
+                ..
+            } => Err(self.mutate(slots, at, capability, destination, source)),
+            CNodeCall::Delete { slot } => self.delete(slots, at, capability, slot),
+            CNodeCall::Revoke { slot } => self.revoke(slots, at, capability, slot),
+        }
+    }
+}
