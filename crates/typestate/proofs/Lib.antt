@@ -10,3 +10,6 @@ pub mod Rising
 pub mod Searched
 pub mod Compared
 pub mod SomeHeld
+pub mod OwnKeys
+pub mod ParentLines
+pub mod StraySlots

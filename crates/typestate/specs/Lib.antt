@@ -2,4 +2,5 @@ pub mod Orders
 pub mod Differences
 pub mod Calls
 pub mod Spaces
+pub mod Strays
 pub mod Messages

@@ -13,6 +13,7 @@ mod plain_calls;
 mod points;
 mod records;
 mod spaces;
+mod strays;
 mod system_calls;
 mod windows;
 
