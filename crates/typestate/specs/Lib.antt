@@ -3,4 +3,5 @@ pub mod Differences
 pub mod Calls
 pub mod Spaces
 pub mod Strays
+pub mod Mappings
 pub mod Messages
