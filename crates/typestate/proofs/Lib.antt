@@ -26,3 +26,6 @@ pub mod RemovedNoted
 pub mod RemovedSlots
 pub mod RemoveRules
 pub mod Decided
+pub mod OwnKeys
+pub mod ParentLines
+pub mod StraySlots

@@ -2,6 +2,8 @@ pub mod Orders
 pub mod Differences
 pub mod Calls
 pub mod Spaces
+pub mod Strays
+pub mod Mappings
 pub mod Messages
 pub mod Logs
 pub mod SlotChanges

@@ -70,6 +70,7 @@ pub record IsSpace (space : Space) : Type 0 where
   pub root_is : space.root ≡ noted_root space.image.now space.thread.now
   pub root_inside : is_inside space.image.now space.thread.now space.root ≡ true
   pub valid : IsCapability space.root
+  pub table_is : space.table ≡ offset_of space.image.now space.thread.now.header.root
 
 -- no slot holds what leads outside of the thread's CNodes
 abbrev pub NothingLeadsOutside : Image → Thread → List NotedSlot → Type 0

@@ -17,6 +17,7 @@ mod points;
 mod records;
 mod slot_changes;
 mod spaces;
+mod strays;
 mod system_calls;
 mod windows;
 

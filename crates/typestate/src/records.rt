@@ -2,7 +2,7 @@
 
 ghost use Rattle.std.specs.Prelude.{◌≡◌, ◌++◌, IfOk, map};
 ghost use Rattle.std.specs.Option.{option_map_or};
-ghost use Rattle.model.specs.Acceptance.NotedStates.{entry_parent, entry_slot};
+ghost use Rattle.model.specs.Acceptance.NotedStates.{entry_key, entry_parent, entry_slot};
 ghost use Rattle.model.specs.Capabilities.CapabilityFields.{unpacked};
 ghost use Rattle.model.specs.Capabilities.CapabilityWords.{IsCapability};
 ghost use Rattle.model.specs.declared.capabilities.Cap.TheVariants.{Empty};
@@ -37,16 +37,22 @@ fn parent_of(entry: &SlotEntry) -> Option<SlotKey>
     })
 }
 
+/// The key of the slot that an entry of a record notes.
+pub(crate) fn key_of(entry: &SlotEntry) -> SlotKey
+    ensures { result ≡ entry_key entry.now }
+{
+    SlotKey {
+        cnode: entry.cnode,
+        index: entry.index,
+    }
+}
+
 /// The slot that an entry of a record notes.
 fn noted_slot(entry: &SlotEntry) -> NotedSlot
     ensures { result ≡ entry_slot entry.now }
 {
-    let key = SlotKey {
-        cnode: entry.cnode,
-        index: entry.index,
-    };
     NotedSlot {
-        key,
+        key: key_of(entry),
         capability: capability_of(entry.word0, entry.word1),
         parent: parent_of(entry),
     }

@@ -16,7 +16,7 @@ pub struct OwnSlots<'s> {
 }
 
 /// How many slots a CNode of this radix has.
-fn slots_of_radix(radix: u8) -> u32
+pub(crate) fn slots_of_radix(radix: u8) -> u32
     requires { radix ≤ 14 }
     ensures value { result ≡ 2 ^ radix }
     ensures few { result ≤ 2 ^ 14 }

@@ -14,11 +14,13 @@ pub struct Window {
     ghost small: { radix ≤ 14 },
 }
 
-/// A thread of an image, with the CNodes that the image gives it and the root of its capability space.
+/// A thread of an image, with the CNodes that the image gives it, the root of its capability space, and the
+/// offset of its root table.
 #[derive(Clone, Copy)]
 pub struct Space<'a, 's> {
     pub image: &'s ImageRef<'a>,
     pub thread: &'s ThreadRef<'a>,
     pub windows: &'s [Window],
     pub root: Cap,
+    pub table: u32,
 }

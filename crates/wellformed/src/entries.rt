@@ -8,7 +8,7 @@ use image::ImageRef;
 use model::{CapabilityEntry, ImageHeader, ObjectEntry, UntypedEntry};
 
 /// The image's fixed part.
-pub(crate) fn header_of(image: &ImageRef<'_>) -> ImageHeader
+pub fn header_of(image: &ImageRef<'_>) -> ImageHeader
     ensures value { result ≡ image.now.header }
     ensures small { HeaderFits result }
     ensures fitting { IsFitting image.now }
@@ -18,7 +18,7 @@ pub(crate) fn header_of(image: &ImageRef<'_>) -> ImageHeader
 }
 
 /// An untyped, by its number.
-pub(crate) fn untyped_of(image: &ImageRef<'_>, number: u32) -> UntypedEntry
+pub fn untyped_of(image: &ImageRef<'_>, number: u32) -> UntypedEntry
     requires { number < image.now.header.untypeds }
     ensures there { slice_get image.now.untypeds number ≡ Some result }
     ensures fits { UntypedFits result }
@@ -28,7 +28,7 @@ pub(crate) fn untyped_of(image: &ImageRef<'_>, number: u32) -> UntypedEntry
 }
 
 /// An object, by its number.
-pub(crate) fn object_of(image: &ImageRef<'_>, number: u32) -> ObjectEntry
+pub fn object_of(image: &ImageRef<'_>, number: u32) -> ObjectEntry
     requires { number < image.now.header.objects }
     ensures there { slice_get image.now.objects number ≡ Some result }
     ensures fits { ObjectFits image.now result }
@@ -38,7 +38,7 @@ pub(crate) fn object_of(image: &ImageRef<'_>, number: u32) -> ObjectEntry
 }
 
 /// A capability, by its number.
-pub(crate) fn capability_of(image: &ImageRef<'_>, number: u32) -> CapabilityEntry
+pub fn capability_of(image: &ImageRef<'_>, number: u32) -> CapabilityEntry
     requires { number < length image.now.capabilities }
     ensures { slice_get image.now.capabilities number ≡ Some result }
 {

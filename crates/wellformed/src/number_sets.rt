@@ -10,7 +10,7 @@ use std::marker::Model;
 
 /// A set of numbers, in the order in which they were put in. It keeps a mark for each number up to the greatest.
 #[derive(Drop)]
-pub(crate) struct NumberSet {
+pub struct NumberSet {
     numbers: Vec<u32>,
     marks: Vec<bool>,
 }
@@ -28,7 +28,7 @@ impl Model for NumberSet {
 
 impl NumberSet {
     /// A set of no numbers.
-    pub(crate) fn new(alloc: Global) -> NumberSet
+    pub fn new(alloc: Global) -> NumberSet
         ensures { result ≡ [] }
     {
         NumberSet {
@@ -38,14 +38,14 @@ impl NumberSet {
     }
 
     /// How many numbers there are.
-    pub(crate) fn len(&self) -> usize
+    pub fn len(&self) -> usize
         ensures { result ≡ length self.now }
     {
         self.numbers.len()
     }
 
     /// A number by its place in the order.
-    pub(crate) fn at(&self, place: usize) -> u32
+    pub fn at(&self, place: usize) -> u32
         requires { place < length self.now }
         ensures { slice_get self.now place ≡ Some result }
     {
@@ -53,7 +53,7 @@ impl NumberSet {
     }
 
     /// Whether the number is in the set.
-    pub(crate) fn contains(&self, number: u32) -> bool
+    pub fn contains(&self, number: u32) -> bool
         ensures { result ≡ is_member number self.now }
     {
         let _ = &self.numbers;
@@ -64,7 +64,7 @@ impl NumberSet {
     }
 
     /// Puts a number in, behind the others, if it is not there.
-    pub(crate) fn insert(&mut self, number: u32) -> Result<(), Refusal>
+    pub fn insert(&mut self, number: u32) -> Result<(), Refusal>
         ensures put { OnOk result (self.new ≡ (if is_member number self.old then self.old else self.old ++ number ∷ [])) }
         ensures memory { IfErr result (λ refusal. refusal ≡ OutOfMemory) }
     {

@@ -37,7 +37,7 @@ const NO_OBJECT: ObjectEntry = ObjectEntry {
 };
 
 /// An object, by its number, or one of no type where the image has none of this number.
-pub(crate) fn object_at(image: &ImageRef<'_>, number: u32) -> ObjectEntry
+pub fn object_at(image: &ImageRef<'_>, number: u32) -> ObjectEntry
     ensures { result ≡ object_at image.now number }
 {
     if number < image.header().objects {
@@ -101,7 +101,7 @@ pub(crate) fn is_root_table(object: ObjectEntry) -> bool
 }
 
 /// The radix of a CNode.
-pub(crate) fn radix_of(object: ObjectEntry) -> Option<u32>
+pub fn radix_of(object: ObjectEntry) -> Option<u32>
     ensures { result ≡ radix_of (type_of object.kind object.size) }
 {
     if object.kind == CNODE {
@@ -112,14 +112,14 @@ pub(crate) fn radix_of(object: ObjectEntry) -> Option<u32>
 }
 
 /// Whether the source of a capability is a CNode.
-pub(crate) fn is_cnode_source(image: &ImageRef<'_>, source: u32) -> bool
+pub fn is_cnode_source(image: &ImageRef<'_>, source: u32) -> bool
     ensures { result ≡ is_cnode_source image.now source }
 {
     radix_of(source_at(image, source)).is_some()
 }
 
 /// An object has 2 to the power of so many bytes.
-pub(crate) fn bits_of(object: ObjectEntry) -> u32
+pub fn bits_of(object: ObjectEntry) -> u32
     requires { size_fits object.kind object.size ≡ true }
     ensures value { result ≡ bits_of object }
     ensures most { result ≤ 24 }
@@ -135,7 +135,7 @@ pub(crate) fn bits_of(object: ObjectEntry) -> u32
 }
 
 /// So many bytes have 2 to the power of `bits`.
-pub(crate) fn power(bits: u32) -> u64
+pub fn power(bits: u32) -> u64
     requires { bits ≤ 32 }
     ensures value { result ≡ 2 ^ bits }
     ensures most { result ≤ 2 ^ 32 }

@@ -1,0 +1,160 @@
+//! Slots that a thread may not have.
+
+ghost use Rattle.std.specs.Prelude.{ℕ, ◌≡◌, length, option_map};
+ghost use Rattle.std.specs.List.{list_any};
+ghost use Rattle.model.specs.Acceptance.NotedStates.{PointState, has_stray_slots, is_foreign, is_own, leads_to_boot, notes_outside, record_of};
+ghost use Rattle.typestate.specs.Differences.{slots_of};
+ghost use Rattle.typestate.specs.Spaces.{IsSpace};
+ghost use Rattle.typestate.specs.Strays.{cnodes_of, has_key, is_at, is_stray_at, is_stray_in};
+
+use crate::records::key_of;
+use crate::spaces::slots_of_radix;
+use crate::{NotedSlot, NotedSlots, SlotKey, Space, Window};
+use image::RecordRef;
+use model::Cap;
+
+impl Window {
+    /// Whether a slot of this key stands in the CNode.
+    fn has_key(&self, key: SlotKey) -> bool
+        ensures { result ≡ has_key key self.now }
+    {
+        key.cnode == self.cnode && key.index < slots_of_radix(self.radix)
+    }
+
+    /// Whether this is the CNode of an offset and a radix.
+    fn is_at(&self, offset: u32, radix: u8) -> bool
+        ensures { result ≡ is_at offset radix self.now }
+    {
+        self.offset == offset && self.radix == radix
+    }
+}
+
+/// Whether a slot of this key stands in one of these CNodes.
+fn have_key(windows: &[Window], key: SlotKey) -> bool
+    ensures { result ≡ list_any (has_key key) windows.now }
+{
+    windows.iter().any(|window| window.has_key(key))
+}
+
+/// Whether one of these is the CNode of an offset and a radix.
+fn are_at(windows: &[Window], offset: u32, radix: u8) -> bool
+    ensures { result ≡ list_any (is_at offset radix) windows.now }
+{
+    windows.iter().any(|window| window.is_at(offset, radix))
+}
+
+impl NotedSlots<'_> {
+    /// Whether parents lead from a slot to the boot CNode. They may go round: no line is longer than there are slots.
+    fn leads_to_boot(&self, parent: Option<SlotKey>) -> bool
+        ensures { result ≡ leads_to_boot (length (slots_of self.now)) (slots_of self.now) parent }
+    {
+        let mut place = parent;
+        'line: for _ in 0..self.image.len() + self.changes.len() {
+            let Some(key) = place else {
+                return true;
+            };
+            let Some(slot) = self.at(key) else {
+                return false;
+            };
+            place = slot.parent;
+        }
+        place.is_none()
+    }
+}
+
+impl Space<'_, '_> {
+    /// Whether a slot of this key stands in one of the thread's CNodes.
+    pub fn is_own(&self, key: SlotKey) -> bool
+        requires { IsSpace self.now }
+        ensures { result ≡ is_own self.now.image.now (cnodes_of self.now) key }
+    {
+        have_key(self.windows, key)
+    }
+
+    /// Whether a capability is none that the thread may have: one to a thread, a page table or interrupt control, or one
+    /// to a CNode or a root table that is not the thread's.
+    fn is_foreign(&self, capability: Cap) -> bool
+        requires { IsSpace self.now }
+        ensures { result ≡ is_foreign self.now.image.now self.now.thread.now (cnodes_of self.now) capability }
+    {
+        match capability {
+            Cap::Tcb { .. } | Cap::PageTable { .. } | Cap::InterruptControl => true,
+            Cap::CNode { offset, radix, .. } => !are_at(self.windows, offset, radix),
+            Cap::RootTable { offset } => offset != self.table,
+            _ => false,
+        }
+    }
+
+    /// Whether a slot is one that the thread may not have.
+    fn is_stray(&self, slots: &NotedSlots<'_>, slot: NotedSlot) -> bool
+        requires { IsSpace self.now }
+        ensures { result ≡ is_stray_in self.now (slots_of slots.now) slot }
+    {
+        !self.is_own(slot.key)
+            || self.is_foreign(slot.capability)
+            || !slots.leads_to_boot(slot.parent)
+    }
+
+    /// Whether the slot of this key is one that the thread may not have. What a later change took away is none.
+    fn holds_stray(&self, slots: &NotedSlots<'_>, key: SlotKey) -> bool
+        requires { IsSpace self.now }
+        ensures { result ≡ is_stray_at self.now (slots_of slots.now) key }
+    {
+        match slots.at(key) {
+            Some(held) => self.is_stray(slots, held),
+            None => false,
+        }
+    }
+
+    /// Whether one of the slots of these keys is one that the thread may not have.
+    fn one_stray(&self, slots: &NotedSlots<'_>, keys: &[NotedSlot]) -> bool
+        requires { IsSpace self.now }
+        ensures { result ≡ list_any (λ k. is_stray_at self.now (slots_of slots.now) k.key) keys.now }
+    {
+        for slot in keys {
+            if self.holds_stray(slots, slot.key) {
+                return true;
+            }
+        }
+        false
+    }
+
+    /// Whether some slot is one that the thread may not have.
+    fn has_stray(&self, slots: &NotedSlots<'_>) -> bool
+        requires { IsSpace self.now }
+        ensures { result ≡ list_any (is_stray_in self.now (slots_of slots.now)) (slots_of slots.now) }
+    {
+        let listed = self.one_stray(slots, slots.image);
+        let changed = self.one_stray(slots, slots.changes);
+        listed || changed
+    }
+
+    /// Whether a record notes a slot outside of the thread's CNodes, be it full or empty.
+    fn notes_outside(&self, noted: &RecordRef<'_>) -> bool
+        requires { IsSpace self.now }
+        ensures { result ≡ notes_outside self.now.image.now (cnodes_of self.now) noted.now }
+    {
+        for entry in noted.slots() {
+            if !self.is_own(key_of(&entry)) {
+                return true;
+            }
+        }
+        false
+    }
+
+    /// Whether some noted slot of a point is one that the thread may not have, or the point's record, if it has one, notes a
+    /// slot outside of the thread's CNodes.
+    pub fn has_stray_slots(&self, slots: &NotedSlots<'_>, noted: Option<&RecordRef<'_>>) -> bool
+        requires { IsSpace self.now }
+        ensures { (point : ℕ) (state : PointState) → state.slots ≡ slots_of slots.now → record_of self.now.thread.now point ≡ option_map (λ r. r.now) noted.entry
+            → result ≡ has_stray_slots self.now.image.now self.now.thread.now point state }
+    {
+        if self.has_stray(slots) {
+            return true;
+        }
+        match noted {
+            Some(noted) => self.notes_outside(noted),
+            None => false,
+        }
+    }
+}
