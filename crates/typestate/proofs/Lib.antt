@@ -29,3 +29,4 @@ pub mod Decided
 pub mod OwnKeys
 pub mod ParentLines
 pub mod StraySlots
+pub mod ChangesMake

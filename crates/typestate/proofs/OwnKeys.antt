@@ -1,5 +1,5 @@
 -- What the places of a thread's CNodes tell is what the image says of them.
-use Rattle.std.proofs.Common.{ℕ, ◌≡◌, ◌∙◌, ◌==◌, ◌^◌, ◌&&◌, ◌||◌, inl, inr, Bool, true, false, nat_lt, Option, Some, None, List, [], ◌∷◌, refl, sym, ap}
+use Rattle.std.proofs.Common.{ℕ, ◌≡◌, ◌∙◌, ◌==◌, ◌^◌, ◌&&◌, ◌||◌, inl, inr, Bool, true, false, nat_lt, Option, List, [], ◌∷◌, refl, sym, ap}
 use Rattle.std.specs.Option.{option_map_or}
 use Rattle.std.specs.List.{list_any}
 use Rattle.std.proofs.lemmas.Bool.Decides.{eqb_tells}
@@ -8,7 +8,7 @@ use Rattle.model.specs.Acceptance.ThreadRules.{is_member}
 use Rattle.model.specs.Acceptance.WellFormed.{has_slot, radix_of}
 use Rattle.model.specs.Images.Image.{Image}
 use Rattle.model.specs.Images.Places.{offset_of, type_at}
-use Rattle.typestate.specs.Spaces.{AreWindows, IsWindow}
+use Rattle.typestate.specs.Spaces.{AreWindows}
 use Rattle.typestate.specs.Strays.{has_key, is_at}
 use Rattle.typestate.specs.declared.windows.Window.{Window}
 

@@ -1,5 +1,5 @@
 -- Stray slots, from the slots and the record of a point.
-use Rattle.std.proofs.Common.{ℕ, ◌≡◌, ◌∙◌, ◌||◌, Bool, true, false, Option, Some, None, List, refl, sym, ap}
+use Rattle.std.proofs.Common.{ℕ, ◌≡◌, ◌∙◌, ◌||◌, Bool, true, false, Option, List, sym, ap}
 use Rattle.std.specs.List.{list_any}
 use Rattle.std.specs.Option.{option_map_or}
 use Rattle.model.specs.Acceptance.NotedStates.{NotedSlot, PointState, has_stray_slots, is_stray, notes_outside, record_of}

@@ -8,3 +8,4 @@ pub mod Messages
 pub mod Logs
 pub mod SlotChanges
 pub mod CNodeCalls
+pub mod ChangeLists

@@ -3,13 +3,14 @@
 
 mod arguments;
 mod behind;
+mod change_lists;
 mod cnode_calls;
 mod comparisons;
 mod holders;
 mod keys;
 mod laws;
-mod logs;
 mod lines;
+mod logs;
 mod messages;
 mod noted;
 mod plain_calls;
@@ -30,7 +31,8 @@ pub use messages::message_call;
 pub use points::NotedSlots;
 pub use records::note_record;
 pub use slot_changes::{
-    Removed, SlotChange, slots_come_back, slots_decide_calls, slots_decide_cnode_calls,
+    Removed, SlotChange, changes_make_slots, slots_come_back, slots_decide_calls,
+    slots_decide_cnode_calls,
 };
 pub use spaces::OwnSlots;
 pub use system_calls::SystemCall;

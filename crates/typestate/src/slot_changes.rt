@@ -14,8 +14,12 @@ ghost use Rattle.model.specs.declared.invocations.Invocation.TheVariants.{OnCNod
 ghost use Rattle.model.specs.declared.refusals.Point.{Point};
 ghost use Rattle.typestate.specs.Calls.{call_on};
 ghost use Rattle.typestate.specs.CNodeCalls.{cnode_after};
+ghost use Rattle.typestate.specs.ChangeLists.{changes_of};
+ghost use Rattle.typestate.specs.Differences.{changed, slots_of};
 ghost use Rattle.typestate.specs.Orders.{Rise};
-ghost use Rattle.typestate.specs.SlotChanges.{leaves, slots_after};
+ghost use Rattle.typestate.specs.declared.points.NotedSlots.{NotedSlots};
+ghost use Rattle.typestate.specs.declared.slot_changes.SlotChange.{SlotChange};
+ghost use Rattle.typestate.specs.SlotChanges.{leaves, slots_after, slots_left};
 ghost use Rattle.typestate.specs.Spaces.{AreOwn, StandsApart};
 
 use crate::{NotedSlot, SlotKey};
@@ -50,6 +54,11 @@ pub fn slots_decide_calls()
 /// The same of a call on a CNode, wherever its capability stands.
 pub fn slots_decide_cnode_calls()
     ensures { (image : Image) (t : Thread) (at : Point) (state : PointState) (slot : ℕ) (capability : Cap) (call : CNodeCall) (answers : Bool) → invoked image t at state (call_on image t slot capability) (OnCNode call) answers ≡ leaves state answers (cnode_after image t at state.slots capability call) }
+{}
+
+/// What a call makes of the slots of a thread is made by the changes that it appends.
+pub fn changes_make_slots()
+    ensures { (image : Image) (t : Thread) (slots : NotedSlots) (change : SlotChange) → AreOwn image t (slots_of slots) → changed (slots_of slots) (changes_of slots change) ≡ slots_left (slots_of slots) change }
 {}
 
 /// Slots of a thread as the kernel's, and back.

@@ -1,5 +1,5 @@
 -- By the steps that are left.
-use Rattle.std.proofs.Common.{◌≡◌, ◌∙◌, ◌+◌, Some, Option, sym, ap, subst, arith, rules}
+use Rattle.std.proofs.Common.{◌∙◌, ◌+◌, Option, sym, ap, subst, rules}
 use Rattle.model.specs.Acceptance.NotedStates.{NotedSlot, SlotKey}
 use Rattle.typestate.proofs.ParentLines.{Leaves, line-breaks, line-ends, line-goes-on, line-left}
 use Rattle.typestate.proofs.points.NotedSlots.leads_to_boot.Goals as goal

@@ -1,5 +1,5 @@
 -- By the slots and by the record.
-use Rattle.std.proofs.Common.{◌∙◌, Option, option_map, false, sym, ap}
+use Rattle.std.proofs.Common.{◌∙◌, option_map, false, sym, ap}
 use Rattle.std.specs.Option.{option_map_or}
 use Rattle.model.specs.Acceptance.NotedStates.{notes_outside}
 use Rattle.typestate.specs.Differences.{slots_of}

@@ -1,0 +1,38 @@
+-- What a call makes of the slots, as changes one after another.
+use Rattle.std.specs.Prelude.{◌||◌, ◌&&◌, Bool, false, not, List, [], ◌∷◌, ◌++◌, flat_map, if◌then◌else◌}
+use Rattle.std.specs.Option.{option_map_or}
+use Rattle.model.specs.Acceptance.NotedStates.{NotedSlot, SlotKey, slot_at}
+use Rattle.model.specs.Capabilities.CapabilityKinds.{is_untyped}
+use Rattle.typestate.specs.declared.points.NotedSlots.{NotedSlots}
+use Rattle.typestate.specs.declared.slot_changes.Removed.{Removed}
+use Rattle.typestate.specs.declared.slot_changes.SlotChange.{SlotChange}
+use Rattle.typestate.specs.declared.slot_changes.SlotChange.TheVariants.{Nothing, Puts, Moves, Removes}
+use Rattle.typestate.specs.Differences.{slots_of}
+use Rattle.typestate.specs.SlotChanges.{emptied, followed, heir, is_parent, is_removed, slot_left}
+
+-- a slot that stays, and is then a child of the slot of a key
+unfoldable pub kept_child : List NotedSlot → Removed → SlotKey → NotedSlot → Bool
+kept_child slots which key s = not (is_removed slots which s.key) && is_parent key (heir (is_removed slots which) slots s)
+
+-- what is told of the slot at a key, if it is full
+abbrev pub told_at : (NotedSlot → List NotedSlot) → List NotedSlot → NotedSlot → List NotedSlot
+told_at tell slots k = option_map_or tell (slot_at slots k.key) []
+
+-- a slot that goes is emptied; of the others only children of what goes and pools may change
+abbrev pub removal_change : (SlotKey → Bool) → List NotedSlot → NotedSlot → List NotedSlot
+removal_change gone slots s =
+    if gone s.key then emptied s.key ∷ []
+    else if option_map_or gone s.parent false || is_untyped s.capability then slot_left gone slots s ∷ [] else []
+
+-- a child of what moves follows it
+abbrev pub child_change : SlotKey → SlotKey → NotedSlot → List NotedSlot
+child_change from to s = if is_parent from s.parent then followed from to s ∷ [] else []
+
+abbrev pub changes_told : (NotedSlot → List NotedSlot) → NotedSlots → List NotedSlot
+changes_told tell n = flat_map (told_at tell (slots_of n)) n.image.now ++ flat_map (told_at tell (slots_of n)) n.changes.now
+
+abbrev pub changes_of : NotedSlots → SlotChange → List NotedSlot
+changes_of n Nothing = []
+changes_of n (Puts s) = s ∷ []
+changes_of n (Moves from s) = changes_told (child_change from s.key) n ++ s ∷ emptied from ∷ []
+changes_of n (Removes which) = changes_told (removal_change (is_removed (slots_of n) which) (slots_of n)) n
