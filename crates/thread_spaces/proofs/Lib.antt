@@ -1,0 +1,17 @@
+pub mod Rounds
+pub mod GivenCNodes
+pub mod WindowLists
+pub mod PlaceSteps
+pub mod OwnPlaces
+pub mod EachHolding
+pub mod ListedSlots
+pub mod DescribedSlots
+pub mod ListedCapabilities
+pub mod BootParents
+pub mod ParentsInBoot
+pub mod OriginalNames
+pub mod LinesHeld
+pub mod ListedMappings
+pub mod RootRadix
+pub mod GivenRoots
+pub mod StandingApart
