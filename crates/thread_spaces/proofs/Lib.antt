@@ -15,3 +15,4 @@ pub mod ListedMappings
 pub mod RootRadix
 pub mod GivenRoots
 pub mod StandingApart
+pub mod NoStraySlots
