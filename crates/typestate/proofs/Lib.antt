@@ -30,3 +30,6 @@ pub mod OwnKeys
 pub mod ParentLines
 pub mod StraySlots
 pub mod ChangesMake
+pub mod HeldCaps
+pub mod FrameRules
+pub mod HandlerRules

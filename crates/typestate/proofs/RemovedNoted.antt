@@ -181,7 +181,7 @@ module _ (image : Image) (t : Thread) (stand : StandsApart image t) (slots : Lis
     ]
 
     -- a test of all slots is one of the noted ones
-    found-noted : RiseFrom 0 slots → (passes : ℕ → Bool) (f : NotedSlot → Bool)
+    pub found-noted : RiseFrom 0 slots → (passes : ℕ → Bool) (f : NotedSlot → Bool)
         → ((child : ℕ) → key_at child ≡ None → passes child ≡ false)
         → ((k : SlotKey) → is_own image cnodes k ≡ true → slot_at slots k ≡ None → passes (slot_of_key image k) ≡ false)
         → ((k : SlotKey) (r : NotedSlot) → is_own image cnodes k ≡ true → slot_at slots k ≡ Some r → passes (slot_of_key image k) ≡ f r)

@@ -43,7 +43,7 @@ root-own image t cnodes root (RootTable offset) own is = sym (eqb-true offset ro
 root-own image t cnodes root InterruptControl own is = absurd (let clash : false ≡ true = is in cc)
 root-own image t cnodes root (InterruptHandler _) own is = absurd (let clash : false ≡ true = is in cc)
 
-no-table : (image : Image) (t : Thread) (cnodes : List ℕ) (root region : ℕ) (c : Cap) → is_foreign image t cnodes c ≡ false → maps_region root region c ≡ false
+pub no-table : (image : Image) (t : Thread) (cnodes : List ℕ) (root region : ℕ) (c : Cap) → is_foreign image t cnodes c ≡ false → maps_region root region c ≡ false
 no-table image t cnodes root region Empty own = refl
 no-table image t cnodes root region (Untyped _ _ _) own = refl
 no-table image t cnodes root region (Endpoint _ _ _) own = refl

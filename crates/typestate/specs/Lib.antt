@@ -9,3 +9,4 @@ pub mod Logs
 pub mod SlotChanges
 pub mod CNodeCalls
 pub mod ChangeLists
+pub mod Invocations

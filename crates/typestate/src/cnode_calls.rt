@@ -32,7 +32,7 @@ struct Ends {
 }
 
 /// Whether a slot with this capability is empty.
-fn is_vacant(capability: Cap) -> bool
+pub(crate) fn is_vacant(capability: Cap) -> bool
     ensures { result ≡ is_empty capability }
 {
     matches!(capability, Cap::Empty)
@@ -87,7 +87,7 @@ fn put_copy(
 
 impl Space<'_, '_> {
     /// The slot of this name under a CNode of the thread, with the capability in it, or the kernel's error.
-    fn named(
+    pub(crate) fn named(
         &self,
         slots: &NotedSlots<'_>,
         root: Cap,

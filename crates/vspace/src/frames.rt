@@ -32,7 +32,7 @@ pub struct FrameCap {
 
 /// The rights of a mapping by the rights word of a call: those that the frame's capability allows. A
 /// frame that may be read may be executed, and nothing is written where it is not read.
-fn mapping_rights(frame: Rights, word: u32) -> Rights
+pub fn mapping_rights(frame: Rights, word: u32) -> Rights
     ensures value { result ≡ mapping_rights frame word }
     ensures kinds { (result.0 ≡ 0) ⊎ AreMappingRights result.0 }
 {
@@ -50,14 +50,15 @@ fn mapping_rights(frame: Rights, word: u32) -> Rights
 
 /// Whether rights let memory be read or executed.
 #[tactic(auto, using(crate::proofs::RightsBits::read_tested, crate::proofs::RightsBits::execute_tested))]
-fn may_be_mapped(rights: Rights) -> bool
+pub fn may_be_mapped(rights: Rights) -> bool
     ensures { result ≡ (may_read rights || may_execute rights) }
 {
     rights.contains(Rights::READ) || rights.contains(Rights::EXECUTE)
 }
 
-/// The number of the page at an address that can be mapped: a multiple of 4096 in the lower half.
-fn page_named(address: u32) -> Result<u32, KError>
+/// The number of the page at an address that can be mapped: a multiple of 4096 (else `AlignmentError`) in the lower half (else
+/// `InvalidArgument`).
+pub fn page_named(address: u32) -> Result<u32, KError>
     ensures value { result ≡ page_named address }
     ensures near { IfOk result (λ page. page < 2 ^ 19) }
 {

@@ -1,0 +1,322 @@
+//! Calls on frames at a point.
+//! seL4 Reference Manual, "Address Spaces and Virtual Memory"; ours maps a capability once.
+
+ghost use Rattle.std.specs.Prelude.{◌≡◌, ◌==◌, ◌||◌, ◌/◌, ◌%◌, ◌<◌, ◌^◌, ◌⊎◌, false, Some, IfOk};
+ghost use Rattle.std.specs.List.{list_any};
+ghost use Rattle.std.specs.Option.{option_map_or};
+ghost use Rattle.model.specs.Acceptance.NotedKernel.{noted_kernel, noted_root, noted_slots};
+ghost use Rattle.model.specs.Acceptance.NotedStates.{slot_at};
+ghost use Rattle.model.specs.Capabilities.CapabilityKinds.{frame_mapping, with_frame_mapping};
+ghost use Rattle.model.specs.Capabilities.CapabilityWords.{AreMappingRights, IsCapability, IsFrameMapping, IsPlace};
+ghost use Rattle.model.specs.Images.Image.{Thread};
+ghost use Rattle.model.specs.Kernel.AddressSpaces.{is_page_taken, is_region_taken, maps_page};
+ghost use Rattle.model.specs.Kernel.MappingCalls.{root_named};
+ghost use Rattle.model.specs.declared.invocations.FrameCall.TheVariants.{MapFrame, UnmapFrame};
+ghost use Rattle.model.specs.declared.invocations.Invocation.TheVariants.{OnFrame};
+ghost use Rattle.typestate.specs.Differences.{slots_of};
+ghost use Rattle.typestate.specs.Invocations.{IsCallOn, held_after, mapped_at, mapping_made, with_root};
+ghost use Rattle.typestate.specs.Mappings.{MappingsAreListed, lists_page, lists_region};
+ghost use Rattle.typestate.specs.SlotChanges.{left_or_refused};
+ghost use Rattle.typestate.specs.declared.slot_changes.SlotChange.TheVariants.{Puts};
+ghost use Rattle.typestate.specs.Spaces.{AreOwn, IsSpace, NothingLeadsOutside, StandsApart};
+
+use crate::{NotedSlot, NotedSlots, SlotChange, SlotKey, Space};
+use model::{Cap, FrameCall, FrameEntry, FrameMapping, KError, Point, Refusal, Rights, SlotName, TableEntry};
+use vspace::{mapping_rights, may_be_mapped, page_named};
+
+/// Bytes of a page.
+const PAGE_SIZE: u32 = 0x1000;
+
+/// Pages of a region, which one page table maps.
+const REGION_PAGES: u32 = 0x400;
+
+/// Whether an entry maps a page table for a region under a root table.
+fn maps_region(entry: TableEntry, root: u32, region: u32) -> bool
+    ensures { (t : Thread) → t.header.root ≡ root → result ≡ lists_region t region entry }
+{
+    entry.root == root && entry.address / PAGE_SIZE / REGION_PAGES == region
+}
+
+/// Whether an entry maps a frame at a page under a root table.
+fn maps_frame(entry: FrameEntry, root: u32, page: u32) -> bool
+    ensures { (t : Thread) → t.header.root ≡ root → result ≡ lists_page t page entry }
+{
+    entry.root == root && entry.address / PAGE_SIZE == page
+}
+
+/// Whether a capability maps a page under the root table at an offset.
+fn maps_page(capability: Cap, root: u32, page: u32) -> bool
+    ensures { result ≡ maps_page root page capability }
+{
+    match capability {
+        Cap::Frame {
+            mapping: Some(mapping),
+            ..
+        } => mapping.root == root && mapping.page == page,
+        _ => false,
+    }
+}
+
+/// Whether a rights word asks for no execution.
+fn is_data(word: u32) -> bool
+    ensures { result ≡ (word / 4 % 2 == 0) }
+{
+    word / 4 % 2 == 0
+}
+
+/// The mapping of a frame's capability.
+fn mapping_of(capability: Cap) -> Option<FrameMapping>
+    ensures { result ≡ frame_mapping capability }
+{
+    match capability {
+        Cap::Frame { mapping, .. } => mapping,
+        _ => None,
+    }
+}
+
+/// A frame's capability with another mapping.
+fn with_mapping(capability: Cap, mapping: Option<FrameMapping>) -> Cap
+    requires valid { IsCapability capability }
+    requires mapping { IsFrameMapping mapping }
+    ensures value { result ≡ with_frame_mapping capability mapping }
+    ensures valid { IsCapability result }
+{
+    match capability {
+        Cap::Frame { offset, rights, .. } => Cap::Frame {
+            offset,
+            rights,
+            mapping,
+        },
+        other => other,
+    }
+}
+
+/// A slot with another capability.
+fn recapped(held: NotedSlot, capability: Cap) -> SlotChange
+    requires { IsCapability capability }
+    ensures { result ≡ Puts (record { key = held.key; capability = capability; parent = held.parent }) }
+{
+    SlotChange::Puts(NotedSlot {
+        key: held.key,
+        capability,
+        parent: held.parent,
+    })
+}
+
+impl NotedSlots<'_> {
+    /// Whether the slot of this key maps a page under the root table at an offset.
+    fn takes(&self, key: SlotKey, root: u32, page: u32) -> bool
+        ensures { result ≡ option_map_or (λ s. maps_page root page s.capability) (slot_at (slots_of self.now) key) false }
+    {
+        match self.at(key) {
+            Some(held) => maps_page(held.capability, root, page),
+            None => false,
+        }
+    }
+
+    /// Whether one of the slots of these keys maps a page under the root table at an offset.
+    fn one_takes(&self, keys: &[NotedSlot], root: u32, page: u32) -> bool
+        ensures { result ≡ list_any (λ k. option_map_or (λ s. maps_page root page s.capability) (slot_at (slots_of self.now) k.key) false) keys.now }
+    {
+        keys.iter().any(|slot| self.takes(slot.key, root, page))
+    }
+
+    /// Whether a frame capability in the slots maps a page, under the root table at an offset.
+    fn takes_page(&self, root: u32, page: u32) -> bool
+        ensures { result ≡ list_any (λ s. maps_page root page s.capability) (slots_of self.now) }
+    {
+        let listed = self.one_takes(self.image, root, page);
+        let changed = self.one_takes(self.changes, root, page);
+        listed || changed
+    }
+}
+
+impl Space<'_, '_> {
+    /// Whether the image maps a page table for a region under the thread's root table.
+    fn lists_region(&self, region: u32) -> bool
+        ensures { result ≡ list_any (lists_region self.now.thread.now region) self.now.image.now.tables }
+    {
+        for entry in self.image.tables() {
+            if maps_region(entry, self.thread.header().root, region) {
+                return true;
+            }
+        }
+        false
+    }
+
+    /// Whether the image maps a frame at a page under the thread's root table.
+    fn lists_page(&self, page: u32) -> bool
+        ensures { result ≡ list_any (lists_page self.now.thread.now page) self.now.image.now.frames }
+    {
+        for entry in self.image.frames() {
+            if maps_frame(entry, self.thread.header().root, page) {
+                return true;
+            }
+        }
+        false
+    }
+
+    /// Whether a region of the thread's address space has a page table. No program can map or unmap one.
+    fn is_region_taken(&self, slots: &NotedSlots<'_>, region: u32) -> bool
+        requires space { IsSpace self.now }
+        requires apart { StandsApart self.now.image.now self.now.thread.now }
+        requires listed { MappingsAreListed self.now.image.now self.now.thread.now }
+        requires inside { NothingLeadsOutside self.now.image.now self.now.thread.now (slots_of slots.now) }
+        requires own { AreOwn self.now.image.now self.now.thread.now (slots_of slots.now) }
+        ensures { result ≡ is_region_taken (noted_kernel self.now.image.now self.now.thread.now (slots_of slots.now)) self.now.table region }
+    {
+        self.lists_region(region)
+    }
+
+    /// Whether a frame is mapped at a page of the thread's address space.
+    fn is_page_taken(&self, slots: &NotedSlots<'_>, page: u32) -> bool
+        requires space { IsSpace self.now }
+        requires apart { StandsApart self.now.image.now self.now.thread.now }
+        requires listed { MappingsAreListed self.now.image.now self.now.thread.now }
+        requires own { AreOwn self.now.image.now self.now.thread.now (slots_of slots.now) }
+        ensures { result ≡ is_page_taken (noted_kernel self.now.image.now self.now.thread.now (slots_of slots.now)) self.now.table page }
+    {
+        let listed = self.lists_page(page);
+        let held = slots.takes_page(self.table, page);
+        listed || held
+    }
+
+    /// Whether a slot of this name holds the thread's root table, or the kernel's error: no other one can be there.
+    fn names_root(&self, slots: &NotedSlots<'_>, name: SlotName) -> Result<(), KError>
+        requires space { IsSpace self.now }
+        requires inside { NothingLeadsOutside self.now.image.now self.now.thread.now (slots_of slots.now) }
+        ensures value { root_named (noted_slots self.now.image.now self.now.thread.now (slots_of slots.now)) (noted_root self.now.image.now self.now.thread.now) name ≡ with_root self.now.table result }
+        ensures placed { IfOk result (λ _. IsPlace self.now.table 12) }
+    {
+        let (_, held) = match self.named(slots, self.root, name) {
+            Ok(found) => found,
+            Err(error) => return Err(error),
+        };
+        match held {
+            Cap::Empty => Err(KError::FailedLookup),
+            Cap::RootTable { .. } => Ok(()),
+            _ => Err(KError::InvalidCapability),
+        }
+    }
+
+    /// The mapping of a frame at a page with these rights, or the kernel's error.
+    fn mapping_at(&self, slots: &NotedSlots<'_>, allowed: Rights, page: u32) -> Result<FrameMapping, KError>
+        requires space { IsSpace self.now }
+        requires apart { StandsApart self.now.image.now self.now.thread.now }
+        requires listed { MappingsAreListed self.now.image.now self.now.thread.now }
+        requires inside { NothingLeadsOutside self.now.image.now self.now.thread.now (slots_of slots.now) }
+        requires own { AreOwn self.now.image.now self.now.thread.now (slots_of slots.now) }
+        requires placed { IsPlace self.now.table 12 }
+        requires near { page < 2 ^ 19 }
+        requires kinds { (allowed.0 ≡ 0) ⊎ AreMappingRights allowed.0 }
+        ensures value { result ≡ mapped_at self.now.image.now self.now.thread.now (slots_of slots.now) allowed self.now.table page }
+        ensures valid { IfOk result (λ made. IsFrameMapping (Some made)) }
+    {
+        if !self.is_region_taken(slots, page / REGION_PAGES) {
+            return Err(KError::FailedLookup);
+        }
+        if self.is_page_taken(slots, page) {
+            return Err(KError::DeleteFirst);
+        }
+        if !may_be_mapped(allowed) {
+            return Err(KError::InvalidArgument);
+        }
+        Ok(FrameMapping {
+            root: self.table,
+            page,
+            rights: allowed,
+        })
+    }
+
+    /// The mapping that Map makes of a frame's capability with these rights and this mapping, or the kernel's error.
+    fn mapping_for(
+        &self,
+        slots: &NotedSlots<'_>,
+        mapping: Option<FrameMapping>,
+        held: Rights,
+        root: SlotName,
+        address: u32,
+        rights: u32,
+    ) -> Result<FrameMapping, KError>
+        requires space { IsSpace self.now }
+        requires apart { StandsApart self.now.image.now self.now.thread.now }
+        requires listed { MappingsAreListed self.now.image.now self.now.thread.now }
+        requires inside { NothingLeadsOutside self.now.image.now self.now.thread.now (slots_of slots.now) }
+        requires own { AreOwn self.now.image.now self.now.thread.now (slots_of slots.now) }
+        ensures value { result ≡ mapping_made self.now.image.now self.now.thread.now (slots_of slots.now) mapping held root address rights }
+        ensures valid { IfOk result (λ made. IsFrameMapping (Some made)) }
+    {
+        if mapping.is_some() {
+            return Err(KError::InvalidCapability);
+        }
+        match self.names_root(slots, root) {
+            Ok(()) => {}
+            Err(error) => return Err(error),
+        }
+        let page = match page_named(address) {
+            Ok(page) => page,
+            Err(error) => return Err(error),
+        };
+        self.mapping_at(slots, mapping_rights(held, rights), page)
+    }
+
+    /// Map of the frame whose capability a slot holds: no program may make what it can execute.
+    fn map(
+        &self,
+        slots: &NotedSlots<'_>,
+        at: Point,
+        held: NotedSlot,
+        allowed: Rights,
+        root: SlotName,
+        address: u32,
+        rights: u32,
+    ) -> Result<SlotChange, Refusal>
+        requires space { IsSpace self.now }
+        requires apart { StandsApart self.now.image.now self.now.thread.now }
+        requires listed { MappingsAreListed self.now.image.now self.now.thread.now }
+        requires inside { NothingLeadsOutside self.now.image.now self.now.thread.now (slots_of slots.now) }
+        requires own { AreOwn self.now.image.now self.now.thread.now (slots_of slots.now) }
+        requires held { slot_at (slots_of slots.now) held.key ≡ Some held }
+        requires frame { IsCallOn held.capability (OnFrame allowed (MapFrame root address rights)) }
+        ensures { held_after self.now.image.now self.now.thread.now at (slots_of slots.now) held (OnFrame allowed (MapFrame root address rights)) ≡ left_or_refused (slots_of slots.now) result }
+    {
+        let mapping = mapping_of(held.capability);
+        match self.mapping_for(slots, mapping, allowed, root, address, rights) {
+            Err(error) => Err(Refusal::CallRefused(at, error)),
+            Ok(mapping) => {
+                if !is_data(rights) {
+                    return Err(Refusal::CallRefused(at, KError::IllegalOperation));
+                }
+                Ok(recapped(held, with_mapping(held.capability, Some(mapping))))
+            }
+        }
+    }
+
+    /// Map and Unmap of the frame whose capability a slot holds, with these rights.
+    pub(crate) fn frame_call(
+        &self,
+        slots: &NotedSlots<'_>,
+        at: Point,
+        held: NotedSlot,
+        allowed: Rights,
+        call: FrameCall,
+    ) -> Result<SlotChange, Refusal>
+        requires space { IsSpace self.now }
+        requires apart { StandsApart self.now.image.now self.now.thread.now }
+        requires listed { MappingsAreListed self.now.image.now self.now.thread.now }
+        requires inside { NothingLeadsOutside self.now.image.now self.now.thread.now (slots_of slots.now) }
+        requires own { AreOwn self.now.image.now self.now.thread.now (slots_of slots.now) }
+        requires held { slot_at (slots_of slots.now) held.key ≡ Some held }
+        requires frame { IsCallOn held.capability (OnFrame allowed call) }
+        ensures { held_after self.now.image.now self.now.thread.now at (slots_of slots.now) held (OnFrame allowed call) ≡ left_or_refused (slots_of slots.now) result }
+    {
+        match call {
+            FrameCall::MapFrame {
+                root,
+                address,
+                rights,
+            } => self.map(slots, at, held, allowed, root, address, rights),
+            FrameCall::UnmapFrame => Ok(recapped(held, with_mapping(held.capability, None))),
+        }
+    }
+}

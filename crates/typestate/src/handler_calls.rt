@@ -1,0 +1,73 @@
+//! Calls on handlers of interrupt lines at a point: a program may acknowledge interrupts, and nothing else.
+//! seL4 Reference Manual, "Hardware I/O", seL4_IRQHandler.
+
+ghost use Rattle.std.specs.Prelude.{◌≡◌, ◌<◌, Err, Some};
+ghost use Rattle.model.specs.Kernel.InterruptCalls.{may_be_bound};
+ghost use Rattle.model.specs.Acceptance.NotedStates.{NotedSlot};
+ghost use Rattle.model.specs.declared.invocations.HandlerCall.TheVariants.{SetNotification};
+ghost use Rattle.model.specs.declared.invocations.Invocation.TheVariants.{OnHandler};
+ghost use Rattle.typestate.specs.Differences.{slots_of};
+ghost use Rattle.typestate.specs.Invocations.{held_after};
+ghost use Rattle.typestate.specs.SlotChanges.{left_or_refused};
+ghost use Rattle.typestate.specs.Spaces.{AreOwn, IsSpace, NothingLeadsOutside, StandsApart};
+
+use crate::cnode_calls::is_vacant;
+use crate::{NotedSlots, SlotChange, Space};
+use model::{Cap, HandlerCall, KError, Point, Refusal, SlotName};
+
+/// Whether a line may signal by a capability.
+fn may_be_bound(capability: Cap) -> bool
+    ensures { result ≡ may_be_bound capability }
+{
+    match capability {
+        Cap::Notification { rights, .. } => rights.may_write(),
+        _ => false,
+    }
+}
+
+impl Space<'_, '_> {
+    /// Why a line gets no notification of this name: the kernel's error comes first. A depth of 255 has the same error.
+    fn binds(&self, slots: &NotedSlots<'_>, at: Point, line: u32, name: SlotName) -> Refusal
+        requires space { IsSpace self.now }
+        requires apart { StandsApart self.now.image.now self.now.thread.now }
+        requires inside { NothingLeadsOutside self.now.image.now self.now.thread.now (slots_of slots.now) }
+        requires line { line < 64 }
+        ensures { (held : NotedSlot) → held_after self.now.image.now self.now.thread.now at (slots_of slots.now) held (OnHandler line (SetNotification name)) ≡ Err result }
+    {
+        let (_, source) = match self.named(slots, self.root, name) {
+            Ok(found) => found,
+            Err(error) => return Refusal::CallRefused(at, error),
+        };
+        if is_vacant(source) {
+            return Refusal::CallRefused(at, KError::FailedLookup);
+        }
+        if !may_be_bound(source) {
+            return Refusal::CallRefused(at, KError::InvalidCapability);
+        }
+        Refusal::CallRefused(at, KError::IllegalOperation)
+    }
+
+    /// What a call on a line's handler leaves of the slots: an acknowledgement changes none.
+    pub(crate) fn handler_call(
+        &self,
+        slots: &NotedSlots<'_>,
+        at: Point,
+        line: u32,
+        call: HandlerCall,
+    ) -> Result<SlotChange, Refusal>
+        requires space { IsSpace self.now }
+        requires apart { StandsApart self.now.image.now self.now.thread.now }
+        requires inside { NothingLeadsOutside self.now.image.now self.now.thread.now (slots_of slots.now) }
+        requires own { AreOwn self.now.image.now self.now.thread.now (slots_of slots.now) }
+        requires line { line < 64 }
+        ensures { (held : NotedSlot) → held_after self.now.image.now self.now.thread.now at (slots_of slots.now) held (OnHandler line call) ≡ left_or_refused (slots_of slots.now) result }
+    {
+        match call {
+            HandlerCall::Acknowledge => Ok(SlotChange::Nothing),
+            HandlerCall::Clear => Err(Refusal::CallRefused(at, KError::IllegalOperation)),
+            HandlerCall::SetNotification { notification } => {
+                Err(self.binds(slots, at, line, notification))
+            }
+        }
+    }
+}
