@@ -16,3 +16,4 @@ pub mod RootRadix
 pub mod GivenRoots
 pub mod StandingApart
 pub mod NoStraySlots
+pub mod RootPlaces

@@ -2,7 +2,9 @@
 
 ghost use Rattle.std.specs.Prelude.{◌≡◌, true};
 ghost use Rattle.model.specs.Acceptance.Accepted.{IsWellFormed};
+ghost use Rattle.model.specs.Capabilities.CapabilityWords.{IsPlace};
 ghost use Rattle.model.specs.Images.Image.{Image, Thread, whole_image};
+ghost use Rattle.model.specs.Images.Places.{offset_of};
 ghost use Rattle.thread_spaces.specs.Given.{IsListed};
 ghost use Rattle.typestate.specs.Mappings.{MappingsAreListed};
 ghost use Rattle.typestate.specs.Spaces.{StandsApart};
@@ -15,4 +17,9 @@ pub fn mappings_are_listed()
 /// A thread's CNodes stand apart from one another and from all other slots, and what stands in the boot CNode is known.
 pub fn threads_stand_apart()
     ensures { (image : Image) (t : Thread) → whole_image.fits image ≡ true → IsWellFormed image → IsListed image t → StandsApart image t }
+{}
+
+/// A thread's root table stands at a page, as its capability asks.
+pub fn root_tables_are_placed()
+    ensures { (image : Image) (t : Thread) → whole_image.fits image ≡ true → IsWellFormed image → IsListed image t → IsPlace (offset_of image t.header.root) 12 }
 {}
