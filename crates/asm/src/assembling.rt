@@ -1,7 +1,16 @@
 //! Whole texts.
 
-ghost use Rattle.std.specs.Prelude.{◌≡◌, ◌≤◌, true, IfOk, IfErr};
+ghost use Rattle.std.specs.Prelude.{◌≡◌, ◌≤◌, true, IfOk, IfErr, List, MatchResult};
+ghost use Rattle.std.specs.List.{AllZip};
+ghost use Rattle.std.specs.Str.Lines.{lines};
+ghost use Rattle.model.specs.Images.Image as described;
 ghost use Rattle.model.specs.Images.Image.{whole_image};
+ghost use Rattle.asm_line.specs.Listed.{Lists};
+ghost use Rattle.asm_line.specs.declared.lines.Line.{Line};
+ghost use Rattle.asm.specs.Drafts.{draft_of, nothing_read};
+ghost use Rattle.asm.specs.Labels.{labels_in};
+ghost use Rattle.asm.specs.Outcomes.{Gives};
+ghost use Rattle.asm.specs.Reading.{AreInPlace, IsInPlace, with_line, with_lines};
 
 use crate::assembly::Assembly;
 use crate::faults::{Fault, SourceFault};
@@ -16,7 +25,9 @@ fn add_text<'a>(
     text: &'a str,
     number: u64,
     labels: &[Labels<'a>],
-) -> Result<(), Fault> {
+) -> Result<(), Fault>
+    ensures { (said : Line) → Lists said text.now → IsInPlace labels.now number assembly.old said → Gives result (λ _. assembly.new ≡ with_line labels.now assembly.old said) }
+{
     let line = parse_line(text)?;
     assembly.add(line, number, labels)
 }
@@ -31,6 +42,7 @@ fn add_text<'a>(
 pub fn assemble(alloc: Global, text: &str) -> Result<Image, SourceFault>
     ensures image { IfOk result (λ image. whole_image.fits image ≡ true) }
     ensures fault { IfErr result (λ fault. (1 ≤ fault.line) × (1 ≤ fault.kind) × (fault.kind ≤ 5)) }
+    ensures listed { (listed : described.Image) (said : List Line) → whole_image.fits listed ≡ true → AllZip Lists said (lines text.now) → AreInPlace (labels_in said) 0 nothing_read said → with_lines (labels_in said) nothing_read said ≡ draft_of listed → MatchResult result (λ image. image ≡ listed) (λ fault. fault.kind ≡ 5) }
 {
     let labels = labels_of(alloc, text)?;
     let mut assembly = Assembly::new(alloc);

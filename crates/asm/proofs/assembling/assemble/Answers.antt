@@ -1,0 +1,43 @@
+use Rattle.std.proofs.Common.{◌≡◌, List, ap, sym, subst, ◌∙◌}
+use Rattle.std.specs.List.{AllZip}
+use Rattle.std.specs.Str.Iter.{lines_rest}
+use Rattle.std.specs.Str.Lines.{lines}
+use Rattle.asm_line.specs.Listed.{Lists}
+use Rattle.asm_line.specs.declared.lines.Line.{Line}
+use Rattle.asm.specs.declared.faults.Fault.{Fault}
+use Rattle.asm.specs.declared.faults.Fault.TheVariants.{Memory}
+use Rattle.asm.specs.Drafts.{nothing_read}
+use Rattle.asm.specs.Labels.{FoundLabels, labels_in}
+use Rattle.asm.specs.Reading.{IsInPlace, with_line}
+use Rattle.asm.proofs.DraftLeft.{all-to-read, behind-all, behind-line, line-here}
+use Rattle.asm.proofs.assembling.assemble.Goals as goal
+
+pub lines-init : goal.lines-init
+lines-init c said listed placed =
+    all-to-read c.args.text.now _ _ (labels_in said) said (ap lines_rest c.into_iter-line-iterator.ensures.into_iter_gives ∙ c.lines-line-items.ensures.rest) c.new-assembly.ensures listed placed
+
+pub returns-in-Err-clause-listed : goal.returns-in-Err-clause-listed
+returns-in-Err-clause-listed c listed said is zip placed whole =
+    let labels : c.deref.result.now ≡ labels_in said = c.deref.ensures.value ∙ c.in_ok-labels.ensures.listed said zip in
+    let now = c.lines.invariant said zip placed in
+    let here = line-here _ c.next.new.self c.in-Some.line c.lines.number c.saturating_add-number.result c.lines.assembly (labels_in said) said now c.in-Some.ensures.steps c.saturating_add-number.ensures in
+    c.at.ensures.memory (c.in-Err.ensures here.said here.lists (subst (λ (ls : List FoundLabels). IsInPlace ls c.saturating_add-number.result c.lines.assembly here.said) (sym labels) here.placed))
+
+pub lines-preserved : goal.lines-preserved
+lines-preserved c said zip placed =
+    let labels : c.deref.result.now ≡ labels_in said = c.deref.ensures.value ∙ c.in_ok-labels.ensures.listed said zip in
+    let now = c.lines.invariant said zip placed in
+    behind-line _ c.next.new.self c.in-Some.line c.lines.number c.saturating_add-number.result c.lines.assembly (labels_in said) said now c.in-Some.ensures.steps c.saturating_add-number.ensures
+    c.add_text.new.assembly
+    (λ line lists there. c.in_default.ensures line lists (subst (λ (ls : List FoundLabels). IsInPlace ls c.saturating_add-number.result c.lines.assembly line) (sym labels) there)
+        ∙ ap (λ (ls : List FoundLabels). with_line ls c.lines.assembly line) labels)
+
+pub returns-in-Ok-clause-listed : goal.returns-in-Ok-clause-listed
+returns-in-Ok-clause-listed c listed said is zip placed whole =
+    let read = behind-all _ c.next.new.self c.lines.number c.lines.assembly (labels_in said) said (c.lines.invariant said zip placed) c.in-None.ensures.steps in
+    c.in-Ok.ensures.listed listed is (read ∙ whole)
+
+pub returns-clause-listed : goal.returns-clause-listed
+returns-clause-listed c listed said is zip placed whole =
+    let read = behind-all _ c.next.new.self c.lines.number c.lines.assembly (labels_in said) said (c.lines.invariant said zip placed) c.in-None.ensures.steps in
+    c.at-in-Err-finish.ensures.memory (c.in-Err-finish.ensures.listed listed is (read ∙ whole))
