@@ -3,6 +3,8 @@ pub mod DraftLeft
 pub mod EntryLines
 pub mod Finished
 pub mod Joins
+pub mod LabelLines
+pub mod LabelSearch
 pub mod LabelsLeft
 pub mod LinesLeft
 pub mod ListedImages
@@ -11,11 +13,15 @@ pub mod NameLines
 pub mod NumberedNames
 pub mod Orders
 pub mod PlaceLines
+pub mod PointLines
+pub mod ReadBack
 pub mod RecordLines
 pub mod RecordTerms
+pub mod Said
 pub mod SectionFits
 pub mod Shown
 pub mod Stages
 pub mod Steps
 pub mod TextLines
+pub mod ThreadLines
 pub mod ThreadParts

@@ -17,7 +17,7 @@ use Rattle.asm_line.specs.declared.lines.Code.TheVariants as code
 use Rattle.asm_line.specs.Listed.{Lists, memory, thread, measure, label, word, end, IsWord}
 use Rattle.fitting.specs.Fitting.{IsFitting}
 use Rattle.fitting.proofs.FormatFits.{many-length}
-use Rattle.asm.specs.Said.{capability_said, content_said, frame_said, interrupt_said, label_said, listed_lines, memory_said, object_said, point_said, record_said, slot_said, table_said, thread_line_said, thread_said, untyped_said}
+use Rattle.asm.proofs.Said.{capability_said, content_said, frame_said, interrupt_said, label_said, listed_lines, memory_said, object_said, point_said, record_said, slot_said, table_said, thread_line_said, thread_said, untyped_said}
 use Rattle.asm.proofs.EntryLines.{capability-lists, content-lists, frame-lists, interrupt-lists, object-lists, table-lists, untyped-lists, words-fit}
 use Rattle.asm.proofs.RecordLines.{terms-fit}
 use Rattle.asm.proofs.SectionFits.{SectionsFit}

@@ -10,7 +10,7 @@ use Rattle.model.specs.Images.Listing.{interrupt_name, object_name, untyped_name
 use Rattle.fitting.specs.Fitting.{IsFitting}
 use Rattle.asm.specs.Labels.{FoundLabels}
 use Rattle.asm.specs.Names.{is_taken}
-use Rattle.asm.specs.Said.{untyped_said, object_said, interrupt_said}
+use Rattle.asm.proofs.Said.{untyped_said, object_said, interrupt_said}
 use Rattle.asm.specs.Sections.{is_in_order}
 use Rattle.asm.specs.Keys.{is_behind}
 use Rattle.asm.proofs.EntryLines.{interrupt-parts, object-parts}

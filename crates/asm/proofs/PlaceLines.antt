@@ -27,7 +27,7 @@ use Rattle.asm.specs.declared.names.Source.TheVariants.{Object, Handler}
 use Rattle.asm.specs.Drafts.{capability_of, line_of_interrupt, names_of, source_said}
 use Rattle.asm.specs.Labels.{FoundLabels}
 use Rattle.asm.specs.Names.{HasSource, IsNamed, number_of, source_of}
-use Rattle.asm.specs.Said.{capability_said, content_said, frame_said, table_said}
+use Rattle.asm.proofs.Said.{capability_said, content_said, frame_said, table_said}
 use Rattle.asm.specs.Sections.{value_of}
 use Rattle.asm.specs.Keys.{is_behind}
 use Rattle.asm.proofs.EntryLines.{capability-parts, content-parts, frame-parts, table-parts}

@@ -24,7 +24,7 @@ use Rattle.fitting.proofs.FormatFits.{many-length}
 use Rattle.asm.specs.Drafts.{Draft, declared_of, names_of}
 use Rattle.asm.specs.Labels.{FoundLabels, next_number}
 use Rattle.asm.specs.Names.{IsNamed, number_of}
-use Rattle.asm.specs.Said.{measure_said, record_said, slot_said}
+use Rattle.asm.proofs.Said.{measure_said, record_said, slot_said}
 use Rattle.asm.specs.Threads.{AreBehind, HasParent, OpenDraft, parent_numbers, term_or_zero, terms_of}
 use Rattle.asm.specs.Keys.{is_behind}
 use Rattle.asm.proofs.Joins.{Adds, Goes, join, nothing-more, number_behind, one-more, plain-section}

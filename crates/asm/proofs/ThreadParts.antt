@@ -21,7 +21,7 @@ use Rattle.image.proofs.WordLaws.{words-only}
 use Rattle.asm_line.specs.declared.lines.Line.TheVariants as line
 use Rattle.asm_line.specs.Listed.{Lists, range, register, slot, IsTerm, IsWord}
 use Rattle.fitting.proofs.FormatFits.{between-bounds, field-between, field-parts}
-use Rattle.asm.specs.Said.{slot_said}
+use Rattle.asm.proofs.Said.{slot_said}
 use Rattle.asm.proofs.Orders.{least_behind}
 
 -- ---- threads

@@ -4,6 +4,5 @@ pub mod Labels
 pub mod Names
 pub mod Outcomes
 pub mod Reading
-pub mod Said
 pub mod Sections
 pub mod Threads

@@ -7,6 +7,7 @@ mod declarations;
 mod faults;
 mod keys;
 mod labels;
+mod listings;
 mod names;
 mod open_threads;
 

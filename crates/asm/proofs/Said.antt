@@ -1,6 +1,6 @@
 -- What the lines of an image's listing say, and what it is to be read back from them.
 use Rattle.std.specs.Prelude.{◌≡◌, ℕ, ◌<◌, None, codes, decimal, List, [], ◌∷◌, ◌++◌, map, flat_map, slice_index, if◌then◌else◌, ◌==◌}
-use Rattle.std.specs.List.{AllByRecursion, range_with_len}
+use Rattle.std.specs.List.{AllByRecursion, AllZip, range_with_len}
 use Rattle.std.specs.Option.{option_map_or}
 use Rattle.std.specs.Str.Lines.{lines}
 use Rattle.model.specs.declared.entries.UntypedEntry.{UntypedEntry}
@@ -94,12 +94,6 @@ listed_lines image =
     ++ map table_said image.tables ++ map frame_said image.frames ++ map content_said image.contents
     ++ flat_map thread_said image.threads
 
--- the lines say this, one by one
-abbrev pub AreListed : List Line → List Text → Type 0
-AreListed [] [] = Unit {0}
-AreListed (said ∷ others) (text ∷ texts) = Lists said text × AreListed others texts
-AreListed _ _ = ⊥
-
 -- each thread begins in its program
 abbrev pub EntriesAreInside : Image → Type 0
 EntriesAreInside image = AllByRecursion (λ t. t.header.entry < t.header.words) image.threads
@@ -107,6 +101,6 @@ EntriesAreInside image = AllByRecursion (λ t. t.header.entry < t.header.words) 
 -- the listing has the lines that say this, and reading them gives the image's draft
 pub record IsReadBack (image : Image) : Type 0 where
   pub parted : lines (listing image) ≡ listing_lines image
-  pub listed : AreListed (listed_lines image) (listing_lines image)
+  pub listed : AllZip Lists (listed_lines image) (listing_lines image)
   pub placed : AreInPlace (labels_in (listed_lines image)) 0 nothing_read (listed_lines image)
   pub reads : with_lines (labels_in (listed_lines image)) nothing_read (listed_lines image) ≡ draft_of image
