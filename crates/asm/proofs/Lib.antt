@@ -3,7 +3,6 @@ pub mod DraftLeft
 pub mod EntryLines
 pub mod Finished
 pub mod Joins
-pub mod LabelLines
 pub mod LabelSearch
 pub mod LabelsLeft
 pub mod LinesLeft

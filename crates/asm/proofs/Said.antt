@@ -1,8 +1,7 @@
--- What the lines of an image's listing say, and what it is to be read back from them.
-use Rattle.std.specs.Prelude.{◌≡◌, ℕ, ◌<◌, None, codes, decimal, List, [], ◌∷◌, ◌++◌, map, flat_map, slice_index, if◌then◌else◌, ◌==◌}
-use Rattle.std.specs.List.{AllByRecursion, AllZip, range_with_len}
+-- What the lines of an image's listing say.
+use Rattle.std.specs.Prelude.{ℕ, None, codes, decimal, List, [], ◌∷◌, ◌++◌, map, flat_map, slice_index, if◌then◌else◌, ◌==◌}
+use Rattle.std.specs.List.{range_with_len}
 use Rattle.std.specs.Option.{option_map_or}
-use Rattle.std.specs.Str.Lines.{lines}
 use Rattle.model.specs.declared.entries.UntypedEntry.{UntypedEntry}
 use Rattle.model.specs.declared.entries.ObjectEntry.{ObjectEntry}
 use Rattle.model.specs.declared.entries.CapabilityEntry.{CapabilityEntry}
@@ -13,15 +12,12 @@ use Rattle.model.specs.declared.entries.SlotEntry.{SlotEntry}
 use Rattle.model.specs.Acceptance.NotedStates.{record_of}
 use Rattle.model.specs.Images.Described.{numbered}
 use Rattle.model.specs.Images.Image.{Image, Thread, ImageContent, StateRecord}
-use Rattle.model.specs.Images.Listing.{Text, listing, listing_lines, untyped_name, object_name, interrupt_name, source_name, term_words}
+use Rattle.model.specs.Images.Listing.{untyped_name, object_name, interrupt_name, source_name, term_words}
 use Rattle.asm_line.specs.declared.lines.Line.{Line}
 use Rattle.asm_line.specs.declared.lines.Line.TheVariants as line
 use Rattle.asm_line.specs.declared.lines.ThreadLine.{ThreadLine}
 use Rattle.asm_line.specs.declared.lines.Code.TheVariants as code
-use Rattle.asm_line.specs.Listed.{Lists, parent_said}
-use Rattle.asm.specs.Drafts.{nothing_read, draft_of}
-use Rattle.asm.specs.Labels.{labels_in}
-use Rattle.asm.specs.Reading.{AreInPlace, with_lines}
+use Rattle.asm_line.specs.Listed.{parent_said}
 
 -- ---- the sections
 
@@ -93,14 +89,3 @@ listed_lines image =
     ++ map interrupt_said (numbered image.interrupts) ++ map (capability_said image) image.capabilities
     ++ map table_said image.tables ++ map frame_said image.frames ++ map content_said image.contents
     ++ flat_map thread_said image.threads
-
--- each thread begins in its program
-abbrev pub EntriesAreInside : Image → Type 0
-EntriesAreInside image = AllByRecursion (λ t. t.header.entry < t.header.words) image.threads
-
--- the listing has the lines that say this, and reading them gives the image's draft
-pub record IsReadBack (image : Image) : Type 0 where
-  pub parted : lines (listing image) ≡ listing_lines image
-  pub listed : AllZip Lists (listed_lines image) (listing_lines image)
-  pub placed : AreInPlace (labels_in (listed_lines image)) 0 nothing_read (listed_lines image)
-  pub reads : with_lines (labels_in (listed_lines image)) nothing_read (listed_lines image) ≡ draft_of image

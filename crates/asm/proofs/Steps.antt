@@ -7,6 +7,7 @@ use Rattle.model.specs.Images.Image.{Thread}
 use Rattle.asm_line.specs.declared.lines.Line.{Line}
 use Rattle.asm.specs.declared.assembly.Memory.{Memory}
 use Rattle.asm.specs.declared.faults.Fault.{Fault}
+use Rattle.asm.specs.declared.faults.SourceFault.{SourceFault}
 use Rattle.asm.specs.declared.faults.Fault.TheVariants.{Memory as WantOfMemory}
 use Rattle.asm.specs.Drafts.{Draft}
 use Rattle.asm.specs.Labels.{FoundLabels}
@@ -25,6 +26,11 @@ gives-then (Err f) P Q h is = is
 pub refused-by : {T : Type 0} (r : Result T Fault) (f : Fault) (P : T → Type 0) → IsErr r × IsErrAnd r (λ g. g ≡ f) → f ≡ WantOfMemory → Gives r P
 refused-by (Ok x) f P h e = absurd h.1
 refused-by (Err g) f P h e = h.1 ∙ e
+
+-- the same of a fault with its line
+pub told-by : {T : Type 0} (r : Result T SourceFault) (f : SourceFault) (P : T → Type 0) → IsErr r × IsErrAnd r (λ g. g ≡ f) → f.kind ≡ 5 → MatchResult r P (λ g. g.kind ≡ 5)
+told-by (Ok x) f P h e = absurd h.1
+told-by (Err g) f P h e = ap (λ (x : SourceFault). x.kind) h.1 ∙ e
 
 -- ---- a line of a thread
 

@@ -1,16 +1,14 @@
 //! Whole texts.
 
-ghost use Rattle.std.specs.Prelude.{◌≡◌, ◌≤◌, true, IfOk, IfErr, List, MatchResult};
-ghost use Rattle.std.specs.List.{AllZip};
-ghost use Rattle.std.specs.Str.Lines.{lines};
+ghost use Rattle.std.specs.Prelude.{◌≡◌, ◌≤◌, ◌<◌, true, IfOk, IfErr, MatchResult};
+ghost use Rattle.std.specs.List.{All};
 ghost use Rattle.model.specs.Images.Image as described;
 ghost use Rattle.model.specs.Images.Image.{whole_image};
+ghost use Rattle.model.specs.Images.Listing.{listing};
 ghost use Rattle.asm_line.specs.Listed.{Lists};
 ghost use Rattle.asm_line.specs.declared.lines.Line.{Line};
-ghost use Rattle.asm.specs.Drafts.{draft_of, nothing_read};
-ghost use Rattle.asm.specs.Labels.{labels_in};
 ghost use Rattle.asm.specs.Outcomes.{Gives};
-ghost use Rattle.asm.specs.Reading.{AreInPlace, IsInPlace, with_line, with_lines};
+ghost use Rattle.asm.specs.Reading.{IsInPlace, with_line};
 
 use crate::assembly::Assembly;
 use crate::faults::{Fault, SourceFault};
@@ -33,7 +31,8 @@ fn add_text<'a>(
 }
 
 /// The image that a text describes, line by line. A line ends with a line feed, or a carriage return
-/// and a line feed; the last may end with the text.
+/// and a line feed; the last may end with the text. The listing of an image whose threads begin in
+/// their programs gives that image, or is refused for want of memory.
 ///
 /// # Errors
 ///
@@ -42,7 +41,7 @@ fn add_text<'a>(
 pub fn assemble(alloc: Global, text: &str) -> Result<Image, SourceFault>
     ensures image { IfOk result (λ image. whole_image.fits image ≡ true) }
     ensures fault { IfErr result (λ fault. (1 ≤ fault.line) × (1 ≤ fault.kind) × (fault.kind ≤ 5)) }
-    ensures listed { (listed : described.Image) (said : List Line) → whole_image.fits listed ≡ true → AllZip Lists said (lines text.now) → AreInPlace (labels_in said) 0 nothing_read said → with_lines (labels_in said) nothing_read said ≡ draft_of listed → MatchResult result (λ image. image ≡ listed) (λ fault. fault.kind ≡ 5) }
+    ensures listed { (listed : described.Image) → whole_image.fits listed ≡ true → All (λ (t : described.Thread). t.header.entry < t.header.words) listed.threads → text.now ≡ listing listed → MatchResult result (λ image. image ≡ listed) (λ fault. fault.kind ≡ 5) }
 {
     let labels = labels_of(alloc, text)?;
     let mut assembly = Assembly::new(alloc);

@@ -7,7 +7,6 @@ mod declarations;
 mod faults;
 mod keys;
 mod labels;
-mod listings;
 mod names;
 mod open_threads;
 
