@@ -1,5 +1,5 @@
 -- What the lines of entries say stands in the texts that listings have for them.
-use Rattle.std.proofs.Common.{ℕ, ◌≡◌, ◌==◌, ◌+◌, ◌-◌, ◌^◌, ◌<◌, ◌≤◌, ◌&&◌, true, min, zero, suc, false, List, [], ◌∷◌, length, arith, refl, ap}
+use Rattle.std.proofs.Common.{ℕ, ◌≡◌, ◌+◌, ◌^◌, ◌<◌, ◌≤◌, ◌&&◌, true, zero, suc, false, List, [], ◌∷◌, length, arith}
 use Rattle.std.specs.Prelude.{nat_le, nat_lt}
 use Rattle.std.specs.List.{AllByRecursion}
 use Rattle.std.proofs.lemmas.Bool.{and_parts, ltb-true, leb-true}
@@ -67,8 +67,7 @@ capability-parts objects interrupts least c is =
     let b = and_parts _ _ a.1 in
     let d = and_parts _ _ b.1 in
     let e = and_parts _ _ d.1 in
-    let index = field-parts (λ index. nat_le least (pair_key c.cnode index)) c.index b.0 in
-    (
+    let index = field-parts (λ index. nat_le least (pair_key c.cnode index)) c.index b.0 in (
       leb-true least (pair_key c.cnode c.index) index.1,
       ltb-true c.cnode objects (field-parts (below objects) c.cnode a.0).1,
       index.0,
@@ -91,8 +90,7 @@ unfolding table_format
 table-parts objects least t is =
     let a = and_parts _ _ is in
     let b = and_parts _ _ a.1 in
-    let address = field-parts (λ address. nat_le least (pair_key t.root address)) t.address b.0 in
-    (
+    let address = field-parts (λ address. nat_le least (pair_key t.root address)) t.address b.0 in (
       leb-true least (pair_key t.root t.address) address.1,
       ltb-true t.root objects (field-parts (below objects) t.root a.0).1,
       address.0,
@@ -113,8 +111,7 @@ frame-parts objects least f is =
     let a = and_parts _ _ is in
     let b = and_parts _ _ a.1 in
     let d = and_parts _ _ b.1 in
-    let address = field-parts (λ address. nat_le least (pair_key f.root address)) f.address b.0 in
-    (
+    let address = field-parts (λ address. nat_le least (pair_key f.root address)) f.address b.0 in (
       leb-true least (pair_key f.root f.address) address.1,
       ltb-true f.root objects (field-parts (below objects) f.root a.0).1,
       address.0,

@@ -1,6 +1,6 @@
 -- Behind the last line of a listing, what is read is the image.
-use Rattle.std.specs.Prelude.{map, slice_get, slice_index_or, if◌then◌else◌, Option}
-use Rattle.std.proofs.Common.{◌≡◌, ◌==◌, ℕ, suc, zero, ◌+◌, ◌-◌, ◌*◌, ◌^◌, ◌<◌, ◌≤◌, Bool, true, false, List, [], ◌∷◌, length, Some, None, refl, sym, ap, subst, ◌∙◌, arith, eq-eqb, ne_eqb}
+use Rattle.std.specs.Prelude.{map, slice_get, slice_index_or, if◌then◌else◌}
+use Rattle.std.proofs.Common.{◌≡◌, ℕ, suc, ◌+◌, ◌-◌, ◌<◌, ◌≤◌, Bool, true, false, List, [], ◌∷◌, length, Some, refl, sym, ap, subst, ◌∙◌, arith, eq-eqb, ne_eqb}
 use Rattle.std.specs.List.{All, position_or_len}
 use Rattle.std.proofs.lemmas.Bool.{leb-true}
 use Rattle.std.proofs.lemmas.List.Elements.{All-map}
@@ -11,7 +11,7 @@ use Rattle.model.specs.declared.entries.ImageHeader.{ImageHeader}
 use Rattle.model.specs.declared.entries.InterruptEntry.{InterruptEntry}
 use Rattle.model.specs.Images.Image.{Image, Thread, content_format, whole_image}
 use Rattle.model.specs.Images.Places.{is_handler, interrupt_of}
-use Rattle.fitting.specs.Fitting.{IsFitting, CapabilityFits}
+use Rattle.fitting.specs.Fitting.{IsFitting}
 use Rattle.fitting.proofs.FormatFits.{many-length}
 use Rattle.fitting.proofs.ImageFits.{is-fitting}
 use Rattle.asm.specs.declared.assembly.Memory.{Memory}
@@ -34,8 +34,8 @@ found-on-line image fits j inside =
     let xs = image.interrupts in
     position_or_len_is (on_line (line_of_interrupt image j)) xs j no_interrupt (omega arith)
     (λ k less.
-        let below = fits.lines_rise k j (slice_index_or xs k no_interrupt) (slice_index_or xs j no_interrupt) less (slice_get-get_or xs k no_interrupt (omega arith)) (slice_get-get_or xs j no_interrupt inside) in
-        ne_eqb _ _ (λ e. omega (arith, e, below)))
+    let below = fits.lines_rise k j (slice_index_or xs k no_interrupt) (slice_index_or xs j no_interrupt) less (slice_get-get_or xs k no_interrupt (omega arith)) (slice_get-get_or xs j no_interrupt inside) in
+    ne_eqb _ _ (λ e. omega (arith, e, below)))
     (λ _. eq-eqb _ _ refl)
 
 abbrev pub IsTold : Image → ℕ → Source → Type 0
@@ -119,9 +119,9 @@ pub is-listed : (image : Image) → whole_image.fits image ≡ true → (draft :
 is-listed image is draft same m here cs told =
     let limits = is-fitting image is in
     let memory : m ≡ record { bits = image.header.memory_bits; boot_radix = image.header.boot_radix } =
-        same_Some m (record { bits = image.header.memory_bits; boot_radix = image.header.boot_radix }) (sym here ∙ ap (λ (d : Draft). d.memory) same) in
+    same_Some m (record { bits = image.header.memory_bits; boot_radix = image.header.boot_radix }) (sym here ∙ ap (λ (d : Draft). d.memory) same) in
     let entries : cs ≡ image.capabilities =
-        told ∙ ap (λ (d : Draft). map (entry_of d.declared) d.declared.capabilities) same ∙ capabilities-again image limits in
+    told ∙ ap (λ (d : Draft). map (entry_of d.declared) d.declared.capabilities) same ∙ capabilities-again image limits in
     (λ i. assembled (memory i) (same i).declared (entries i) (same i).threads)
     ∙ ap (λ h. record image { header = h }) (same-header image limits (sections-fit image is))
 

@@ -1,5 +1,5 @@
 -- Lines read one after the other: what stands behind all of them, and sections of lines.
-use Rattle.std.proofs.Common.{◌≡◌, ℕ, ◌+◌, zero, suc, List, [], ◌∷◌, ◌++◌, length, refl, ap, sym, ◌∙◌, subst, arith}
+use Rattle.std.proofs.Common.{◌≡◌, ℕ, ◌+◌, List, [], ◌∷◌, ◌++◌, length, refl, ap, sym, ◌∙◌, subst, arith}
 use Rattle.std.specs.Prelude.{map}
 use Rattle.std.specs.List.{enumerate_from}
 use Rattle.std.proofs.lemmas.List.{append-nil, append_assoc, length-append}
@@ -50,7 +50,7 @@ pub record Adds (labels : List FoundLabels) (number : ℕ) (before : Draft) (sai
 
 module _ {E : Type 0} (labels : List FoundLabels) (line_of : ℕ → E → Line) (draft : List E → Draft) (whole : List E)
     (step : (number : ℕ) (front : List E) (e : E) (rest : List E) → whole ≡ front ++ e ∷ rest
-      → Adds labels number (draft front) (line_of (length front) e) (draft (front ++ e ∷ []))) where
+    → Adds labels number (draft front) (line_of (length front) e) (draft (front ++ e ∷ []))) where
   pub section-from : (number place : ℕ) (front rest : List E) → place ≡ length front → whole ≡ front ++ rest
       → Goes labels number (draft front) (map (λ x. line_of x.0 x.1) (enumerate_from place rest)) (draft whole)
   section-from number place front [] long same = nothing-more labels number (draft front) (draft whole) (ap draft (sym (same ∙ append-nil front)))

@@ -1,16 +1,15 @@
 -- The labels that the first way over a listing finds: each thread has its entry's.
-use Rattle.std.proofs.Common.{ℕ, ◌≡◌, ◌==◌, ◌+◌, ◌-◌, ◌^◌, ◌<◌, ◌≤◌, zero, suc, Bool, true, false, List, [], ◌∷◌, ◌++◌, length, Option, Some, None, min, refl, ap, sym, ◌∙◌, arith, append_assoc, ne_eqb, eq-eqb}
-use Rattle.std.specs.Prelude.{map, flat_map, codes, find, slice_index, if◌then◌else◌}
-use Rattle.std.specs.List.{enumerate_from, range_with_len}
+use Rattle.std.proofs.Common.{ℕ, ◌≡◌, ◌+◌, ◌-◌, ◌^◌, ◌<◌, ◌≤◌, zero, suc, List, [], ◌∷◌, ◌++◌, Option, Some, None, min, refl, ap, sym, ◌∙◌, arith, append_assoc, ne_eqb, eq-eqb}
+use Rattle.std.specs.Prelude.{map, flat_map, codes, slice_index, if◌then◌else◌}
+use Rattle.std.specs.List.{range_with_len}
 use Rattle.std.specs.Option.{option_map_or}
-use Rattle.std.proofs.lemmas.List.{append-nil}
 use Rattle.model.specs.Acceptance.NotedStates.{record_of}
 use Rattle.model.specs.Images.Image.{StateRecord, Thread}
 use Rattle.asm_line.specs.declared.lines.Line.{Line}
 use Rattle.asm_line.specs.declared.lines.Line.TheVariants as line
 use Rattle.asm_line.specs.declared.lines.Code.TheVariants as code
 use Rattle.asm.specs.Labels.{FoundLabels, Searched, next_number, no_labels, searched_from, searched_line}
-use Rattle.asm.proofs.Said.{label_said, point_said, record_said, slot_said, thread_line_said, thread_said}
+use Rattle.asm.proofs.Said.{point_said, record_said, slot_said, thread_line_said, thread_said}
 use Rattle.asm.proofs.Joins.{number_behind}
 
 pub searched-append : (number : ℕ) (s : Searched) (xs ys : List Line) → searched_from number s (xs ++ ys) ≡ searched_from (number_behind number xs) (searched_from number s xs) ys
@@ -127,11 +126,11 @@ thread-split t inside =
     let one : List Line = flat_map (point_said t) (range_with_len 0 e) in
     let two : List Line = flat_map (point_said t) (range_with_len (e + 1) rest) in
     let points : flat_map (point_said t) (range_with_len 0 t.header.words) ≡ one ++ point_said t e ++ two =
-        ap (λ n. flat_map (point_said t) (range_with_len 0 n)) count
-        ∙ (ap (flat_map (point_said t)) (range-append 0 e (suc rest))
-        ∙ (ap (λ k. flat_map (point_said t) (range_with_len 0 e ++ range_with_len k (suc rest))) none
-        ∙ (flat-append (point_said t) (range_with_len 0 e) (e ∷ range_with_len (e + 1) rest)
-        ∙ sym (append_assoc one (point_said t e) two)))) in
+    ap (λ n. flat_map (point_said t) (range_with_len 0 n)) count
+    ∙ (ap (flat_map (point_said t)) (range-append 0 e (suc rest))
+    ∙ (ap (λ k. flat_map (point_said t) (range_with_len 0 e ++ range_with_len k (suc rest))) none
+    ∙ (flat-append (point_said t) (range_with_len 0 e) (e ∷ range_with_len (e + 1) rest)
+    ∙ sym (append_assoc one (point_said t e) two)))) in
     ap (λ (ls : List Line). (start ++ ls) ++ line.End ∷ []) points
     ∙ (five-lists start one (point_said t e) two (line.End ∷ [])
     ∙ ap (λ (ls : List Line). first_said t ++ (ls ++ last_said t)) (point-entry t))
@@ -152,10 +151,10 @@ thread-found t number found inside few =
     let count : e + 1 + rest ≡ t.header.words = omega (arith, inside) in
     let none : 0 + e ≡ e = omega arith in
     let first : searched_from number (between_threads found) (first_said t) ≡ record { threads = found; open_labels = Some behind_first } =
-        searched-append number (between_threads found) start one
-        ∙ (ap (λ s. searched_from (number_behind number start) s one) (silent line.Register open_first (λ n r. refl) (next_number number) t.registers)
-        ∙ plain-found t found no_labels (number_behind number start) 0 e refl (omega (arith, inside, few)) (λ k low high same. omega (arith, high, same))
-        ∙ ap (λ (k : ℕ). record { threads = found; open_labels = Some (record { places = []; points = k }) }) none) in
+    searched-append number (between_threads found) start one
+    ∙ (ap (λ s. searched_from (number_behind number start) s one) (silent line.Register open_first (λ n r. refl) (next_number number) t.registers)
+    ∙ plain-found t found no_labels (number_behind number start) 0 e refl (omega (arith, inside, few)) (λ k low high same. omega (arith, high, same))
+    ∙ ap (λ (k : ℕ). record { threads = found; open_labels = Some (record { places = []; points = k }) }) none) in
     ap (searched_from number (between_threads found)) (thread-split t inside)
     ∙ (searched-append number (between_threads found) (first_said t) (from_label t)
     ∙ (ap (λ s. searched_from n1 s (from_label t)) first

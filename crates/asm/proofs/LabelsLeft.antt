@@ -1,5 +1,5 @@
 -- The first way over a text: what is left to search finds what searching all lines would.
-use Rattle.std.proofs.Common.{◌≡◌, ℕ, List, ◌∷◌, Some, None, sym, ap, ◌∙◌}
+use Rattle.std.proofs.Common.{◌≡◌, ℕ, List, Some, None, sym, ap, ◌∙◌}
 use Rattle.std.specs.List.{AllZip}
 use Rattle.std.specs.Str.Iter.{lines_steps, lines_rest}
 use Rattle.std.specs.Str.Lines.{lines}

@@ -1,6 +1,5 @@
 -- The lines of a text that are left to be read, by what they say.
-use Rattle.std.proofs.Common.{◌≡◌, ℕ, List, [], ◌∷◌, Some, None, refl, sym, ap, subst, ◌∙◌}
-use Rattle.std.specs.Iterator.{AlwaysYields}
+use Rattle.std.proofs.Common.{◌≡◌, List, [], ◌∷◌, Some, None, refl, sym, subst}
 use Rattle.std.specs.List.{AllZip}
 use Rattle.std.specs.Str.Iter.{lines_steps, lines_rest}
 use Rattle.std.specs.Str.Lines.{lines}

@@ -1,5 +1,5 @@
 -- Each line of an image's listing says what stands for it: the whole.
-use Rattle.std.proofs.Common.{ℕ, ◌≡◌, ◌+◌, ◌^◌, ◌<◌, ◌≤◌, true, List, [], ◌∷◌, ◌++◌, length, refl, arith}
+use Rattle.std.proofs.Common.{◌+◌, ◌∷◌, ◌++◌, arith}
 use Rattle.std.specs.Prelude.{map, flat_map}
 use Rattle.model.specs.Images.Described.{numbered}
 use Rattle.model.specs.Images.Image.{Image, capability_format, content_format, frame_format, interrupt_format, object_format, pair_key, table_format, untyped_format}
@@ -25,13 +25,13 @@ image-listed i fits limits =
     let objects = numbered-listed (object_format h.untypeds) (λ o. o.untyped) object_said object_line (λ k l e small is. object-lists h.untypeds l k e (omega (arith, untypeds)) small is) 0 0 h.objects i.objects (omega (arith, few, all_objects)) fits.objects in
     let interrupts = numbered-listed (interrupt_format h.objects) (λ x. x.line + 1) interrupt_said interrupt_line (λ k l e small is. interrupt-lists h.objects l k e (omega (arith, few)) small is) 0 0 h.interrupts i.interrupts (omega (arith, lines, all_interrupts)) fits.interrupts in
     let capabilities = entries-listed 0 (capability_format h.objects h.interrupts) (λ x. pair_key x.cnode x.index + 1) (capability_said i) (capability_line i) (λ e. omega arith)
-        (λ l e low is. capability-lists i h.objects h.interrupts l e (omega (arith, few)) (omega (arith, lines)) is) 0 h.capabilities i.capabilities (omega arith) fits.capabilities in
+    (λ l e low is. capability-lists i h.objects h.interrupts l e (omega (arith, few)) (omega (arith, lines)) is) 0 h.capabilities i.capabilities (omega arith) fits.capabilities in
     let tables = entries-listed 0 (table_format h.objects) (λ x. pair_key x.root x.address + 1) table_said table_line (λ e. omega arith)
-        (λ l e low is. table-lists h.objects l e (omega (arith, few)) is) 0 h.tables i.tables (omega arith) fits.tables in
+    (λ l e low is. table-lists h.objects l e (omega (arith, few)) is) 0 h.tables i.tables (omega arith) fits.tables in
     let frames = entries-listed 0 (frame_format h.objects) (λ x. pair_key x.root x.address + 1) frame_said frame_line (λ e. omega arith)
-        (λ l e low is. frame-lists h.objects l e (omega (arith, few)) is) 0 h.frames i.frames (omega arith) fits.frames in
+    (λ l e low is. frame-lists h.objects l e (omega (arith, few)) is) 0 h.frames i.frames (omega arith) fits.frames in
     let contents = entries-listed 0 (content_format h.objects) (λ c. c.header.frame + 1) content_said content_line (λ e. omega arith)
-        (λ l e low is. content-lists h.objects l e (omega (arith, few)) is) 0 h.contents i.contents (omega arith) fits.contents in
+    (λ l e low is. content-lists h.objects l e (omega (arith, few)) is) 0 h.contents i.contents (omega arith) fits.contents in
     let said_a = memory_said i ∷ map untyped_said (numbered i.untypeds) in
     let text_a = memory_line i ∷ map untyped_line (numbered i.untypeds) in
     let said_b = said_a ++ map object_said (numbered i.objects) in

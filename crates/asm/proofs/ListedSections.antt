@@ -1,27 +1,22 @@
 -- Each line of an image's listing says what stands for it: the sections and the threads.
-use Rattle.std.proofs.Common.{ℕ, ◌≡◌, ◌==◌, ◌+◌, ◌^◌, ◌<◌, ◌≤◌, zero, suc, Bool, true, false, List, [], ◌∷◌, ◌++◌, length, Option, Some, None, refl, ap, sym, ◌∙◌, arith}
+use Rattle.std.proofs.Common.{ℕ, ◌≡◌, ◌==◌, ◌+◌, ◌^◌, ◌<◌, ◌≤◌, zero, suc, Bool, true, false, List, [], ◌∷◌, ◌++◌, length, None, refl, arith}
 use Rattle.std.specs.Prelude.{map, flat_map, find, codes, decimal, slice_index, if◌then◌else◌}
 use Rattle.std.specs.List.{AllByRecursion, AllZip, enumerate_from, range_with_len}
 use Rattle.std.specs.Option.{option_map_or}
 use Rattle.std.proofs.lemmas.Bool.{and_parts}
-use Rattle.model.specs.declared.entries.RangeEntry.{RangeEntry}
-use Rattle.model.specs.declared.entries.RegisterEntry.{RegisterEntry}
-use Rattle.model.specs.declared.entries.SlotEntry.{SlotEntry}
 use Rattle.model.specs.Acceptance.NotedStates.{record_of}
 use Rattle.model.specs.Images.Format.{Format, field, many_fit}
-use Rattle.model.specs.Images.Image.{Image, StateRecord, Thread, anything, content_format, pair_key, range_format, record_format, register_format, slot_format, slots_format, term_format, thread_format}
-use Rattle.model.specs.Images.Listing.{Text, capability_line, content_line, frame_line, interrupt_line, label_lines, line, memory_line, object_line, point_lines, range_line, record_lines, register_line, slot_line, table_line, thread_line, thread_lines, untyped_line, listing_lines}
+use Rattle.model.specs.Images.Image.{StateRecord, Thread, anything, pair_key, range_format, record_format, register_format, slot_format, slots_format, thread_format}
+use Rattle.model.specs.Images.Listing.{Text, label_lines, line, point_lines, range_line, record_lines, register_line, slot_line, thread_line, thread_lines}
 use Rattle.asm_line.specs.declared.lines.Line.{Line}
 use Rattle.asm_line.specs.declared.lines.Line.TheVariants as said
 use Rattle.asm_line.specs.declared.lines.Code.TheVariants as code
-use Rattle.asm_line.specs.Listed.{Lists, memory, thread, measure, label, word, end, IsWord}
-use Rattle.fitting.specs.Fitting.{IsFitting}
+use Rattle.asm_line.specs.Listed.{Lists, thread, measure, label, word, end, IsWord}
 use Rattle.fitting.proofs.FormatFits.{many-length}
-use Rattle.asm.proofs.Said.{capability_said, content_said, frame_said, interrupt_said, label_said, listed_lines, memory_said, object_said, point_said, record_said, slot_said, table_said, thread_line_said, thread_said, untyped_said}
-use Rattle.asm.proofs.EntryLines.{capability-lists, content-lists, frame-lists, interrupt-lists, object-lists, table-lists, untyped-lists, words-fit}
+use Rattle.asm.proofs.Said.{label_said, point_said, record_said, slot_said, thread_line_said, thread_said}
+use Rattle.asm.proofs.EntryLines.{words-fit}
 use Rattle.asm.proofs.RecordLines.{terms-fit}
-use Rattle.asm.proofs.SectionFits.{SectionsFit}
-use Rattle.asm.proofs.ThreadParts.{HeaderFits, RecordFits, ThreadFits, range-parts, record-parts, register-parts, slot-parts, thread-parts}
+use Rattle.asm.proofs.ThreadParts.{RecordFits, ThreadFits, range-parts, record-parts, register-parts, slot-parts, thread-parts}
 
 abbrev pub AreListed : List Line → List Text → Type 0
 AreListed said texts = AllZip Lists said texts
@@ -64,13 +59,12 @@ abbrev IsListedRecord : StateRecord → Type 0
 IsListedRecord r = AreListed (record_said r) (record_lines r)
 
 record-listed : (objects words least : ℕ) (r : StateRecord) → objects ≤ 2 ^ 32 → RecordFits objects words least r → IsListedRecord r
-record-listed objects words least r few fits =
-    (
-      measure r fits.constant (terms-fit 1 r.header.terms r.terms (omega arith) fits.terms),
-      listed-append (map said.Range r.ranges) (map range_line r.ranges) (map slot_said r.slots) (map slot_line r.slots)
+record-listed objects words least r few fits = (
+  measure r fits.constant (terms-fit 1 r.header.terms r.terms (omega arith) fits.terms),
+  listed-append (map said.Range r.ranges) (map range_line r.ranges) (map slot_said r.slots) (map slot_line r.slots)
       (entries-listed 1 range_format (λ e. e.register + 1) said.Range range_line (λ e. omega arith) (λ l e low is. (range-parts l e low is).1) 1 r.header.ranges r.ranges (omega arith) fits.ranges)
       (entries-listed 0 (slot_format objects) (λ e. pair_key e.cnode e.index + 1) slot_said slot_line (λ e. omega arith) (λ l e low is. (slot-parts objects l e few is).lists) 0 r.header.slots r.slots (omega arith) fits.slots),
-    )
+)
 
 records-listed : (objects words least count : ℕ) (rs : List StateRecord) → objects ≤ 2 ^ 32
     → many_fit (record_format (slots_format objects) words) (λ r. r.header.point + 1) least count rs ≡ true → AllByRecursion IsListedRecord rs
@@ -135,7 +129,7 @@ thread-listed objects t few fits =
     let root = h.root in
     let long = many-length (λ _. field anything) (λ _. 0) 0 t.header.words t.words fits.words in
     let first : Lists (said.Thread (thread_line_said t)) (thread_line t) =
-        thread t (omega (arith, few, tcb)) (omega (arith, few, cnode)) h.guard (omega (arith, few, root)) h.priority h.budget h.fault h.base in
+    thread t (omega (arith, few, tcb)) (omega (arith, few, cnode)) h.guard (omega (arith, few, root)) h.priority h.budget h.fault h.base in
     let registers = entries-listed 1 register_format (λ e. e.register + 1) said.Register register_line (λ e. omega arith) (λ l e low is. (register-parts l e low is).1) 1 t.header.registers t.registers (omega arith) fits.registers in
     listed-append ((said.Thread (thread_line_said t) ∷ map said.Register t.registers) ++ flat_map (point_said t) (range_with_len 0 t.header.words))
     ((thread_line t ∷ map register_line t.registers) ++ flat_map (point_lines t) (range_with_len 0 t.header.words)) (said.End ∷ []) (codes "end" ∷ [])

@@ -1,21 +1,19 @@
 -- Lines of untypeds, objects and interrupts: each declares one entry and its name.
-use Rattle.std.proofs.Common.{ℕ, ◌≡◌, ◌+◌, ◌-◌, ◌^◌, ◌<◌, ◌≤◌, true, false, List, [], ◌∷◌, ◌++◌, length, Some, None, refl, ap, sym, ◌∙◌, arith}
-use Rattle.std.specs.Prelude.{map, nat_le}
+use Rattle.std.proofs.Common.{ℕ, ◌≡◌, ◌+◌, ◌≤◌, true, List, [], ◌∷◌, ◌++◌, length, refl, ap, sym, ◌∙◌, arith}
+use Rattle.std.specs.Prelude.{nat_le}
 use Rattle.std.proofs.lemmas.Bool.Decides.{nat_tests}
 use Rattle.model.specs.declared.entries.InterruptEntry.{InterruptEntry}
 use Rattle.model.specs.declared.entries.ObjectEntry.{ObjectEntry}
 use Rattle.model.specs.declared.entries.UntypedEntry.{UntypedEntry}
 use Rattle.model.specs.Images.Image.{Image, interrupt_format, object_format}
-use Rattle.model.specs.Images.Listing.{interrupt_name, object_name, untyped_name}
+use Rattle.model.specs.Images.Listing.{interrupt_name, object_name}
 use Rattle.fitting.specs.Fitting.{IsFitting}
 use Rattle.asm.specs.Labels.{FoundLabels}
-use Rattle.asm.specs.Names.{is_taken}
 use Rattle.asm.proofs.Said.{untyped_said, object_said, interrupt_said}
 use Rattle.asm.specs.Sections.{is_in_order}
-use Rattle.asm.specs.Keys.{is_behind}
 use Rattle.asm.proofs.EntryLines.{interrupt-parts, object-parts}
 use Rattle.asm.proofs.Joins.{Adds}
-use Rattle.asm.proofs.NumberedNames.{interrupt-absent, interrupt-fresh, interrupts-longer, interrupts_from, is-named, name-absent, name-fresh, names_from, number-named}
+use Rattle.asm.proofs.NumberedNames.{interrupt-fresh, interrupts-longer, interrupts_from, is-named, name-absent, name-fresh, names_from, number-named}
 use Rattle.asm.proofs.Orders.{is-behind, last-passes, least_behind}
 use Rattle.asm.proofs.SectionFits.{SectionsFit, fits-at}
 use Rattle.asm.proofs.Stages.{declaring, front-shorter, names-next, with_interrupts, with_objects, with_untypeds}
@@ -45,7 +43,7 @@ module _ (image : Image) (labels : List FoundLabels) (fits : SectionsFit image) 
       let few = limits.header.untypeds in
       let all = limits.untypeds in
       let one = object-parts image.header.untypeds (least_behind (λ x. x.untyped) 0 front) o
-          (fits-at (object_format image.header.untypeds) (λ x. x.untyped) 0 image.header.objects image.objects front o rest fits.objects same) in
+      (fits-at (object_format image.header.untypeds) (λ x. x.untyped) 0 image.header.objects image.objects front o rest fits.objects same) in
       let inside = one.1 in
       let number = number-named 117 (length image.untypeds) o.untyped (omega (arith, inside, all)) (omega (arith, few, all)) in
       let other = name-absent 111 117 0 (length image.untypeds) (length front) refl in
@@ -59,11 +57,11 @@ module _ (image : Image) (labels : List FoundLabels) (fits : SectionsFit image) 
           room = omega (arith, less, most, long);
         };
         reads = ap (λ n. declaring image (record (with_objects image []) {
-            names = record { untypeds = names_from 117 0 (length image.untypeds); objects = names_from 111 0 (length front) ++ object_name (length front) ∷ []; interrupts = [] };
-            objects = front ++ (record { untyped = n; kind = o.kind; size = o.size }) ∷ [];
-          })) number
-          ∙ ap (λ ns. declaring image (record (with_objects image (front ++ o ∷ [])) { names = record { untypeds = names_from 117 0 (length image.untypeds); objects = ns; interrupts = [] } }))
-          (names-next 111 front o);
+          names = record { untypeds = names_from 117 0 (length image.untypeds); objects = names_from 111 0 (length front) ++ object_name (length front) ∷ []; interrupts = [] };
+          objects = front ++ (record { untyped = n; kind = o.kind; size = o.size }) ∷ [];
+        })) number
+            ∙ ap (λ ns. declaring image (record (with_objects image (front ++ o ∷ [])) { names = record { untypeds = names_from 117 0 (length image.untypeds); objects = ns; interrupts = [] } }))
+            (names-next 111 front o);
       }
 
   pub interrupt-adds : (number : ℕ) (front : List InterruptEntry) (i : InterruptEntry) (rest : List InterruptEntry) → image.interrupts ≡ front ++ i ∷ rest
@@ -75,7 +73,7 @@ module _ (image : Image) (labels : List FoundLabels) (fits : SectionsFit image) 
       let few = limits.header.objects in
       let all = limits.objects in
       let one = interrupt-parts image.header.objects (least_behind (λ x. x.line + 1) 0 front) i
-          (fits-at (interrupt_format image.header.objects) (λ x. x.line + 1) 0 image.header.interrupts image.interrupts front i rest fits.interrupts same) in
+      (fits-at (interrupt_format image.header.objects) (λ x. x.line + 1) 0 image.header.interrupts image.interrupts front i rest fits.interrupts same) in
       let inside = one.2 in
       let number = number-named 111 (length image.objects) i.notification (omega (arith, inside, all)) (omega (arith, few, all)) in
       let other = name-absent 105 117 0 (length image.untypeds) (length front) refl in
@@ -90,10 +88,10 @@ module _ (image : Image) (labels : List FoundLabels) (fits : SectionsFit image) 
           room = omega (arith, less, most, long);
         };
         reads = ap (λ n. declaring image (record (with_interrupts image []) {
-            names = record { untypeds = names_from 117 0 (length image.untypeds); objects = names_from 111 0 (length image.objects); interrupts = interrupts_from 0 front ++ (interrupt_name (length front), i.line) ∷ [] };
-            interrupts = front ++ (record { line = i.line; notification = n; badge = i.badge }) ∷ [];
-          })) number
-          ∙ ap (λ ns. declaring image (record (with_interrupts image (front ++ i ∷ [])) {
-            names = record { untypeds = names_from 117 0 (length image.untypeds); objects = names_from 111 0 (length image.objects); interrupts = ns };
-          })) (ap (λ k. interrupts_from 0 front ++ (interrupt_name k, i.line) ∷ []) (sym at) ∙ sym (interrupts-longer 0 front i));
+          names = record { untypeds = names_from 117 0 (length image.untypeds); objects = names_from 111 0 (length image.objects); interrupts = interrupts_from 0 front ++ (interrupt_name (length front), i.line) ∷ [] };
+          interrupts = front ++ (record { line = i.line; notification = n; badge = i.badge }) ∷ [];
+        })) number
+            ∙ ap (λ ns. declaring image (record (with_interrupts image (front ++ i ∷ [])) {
+              names = record { untypeds = names_from 117 0 (length image.untypeds); objects = names_from 111 0 (length image.objects); interrupts = ns };
+            })) (ap (λ k. interrupts_from 0 front ++ (interrupt_name k, i.line) ∷ []) (sym at) ∙ sym (interrupts-longer 0 front i));
       }

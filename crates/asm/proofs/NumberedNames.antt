@@ -1,6 +1,6 @@
 -- The names that listings give: each stands for its own number, and no name stands for two.
-use Rattle.std.proofs.Common.{◌≡◌, ℕ, ◌+◌, ◌-◌, ◌^◌, ◌<◌, ◌≤◌, zero, suc, Bool, true, false, cond, not, ◌||◌, List, [], ◌∷◌, ◌++◌, length, get_or, Option, Some, None, unwrap_or, refl, ap, sym, ◌∙◌, arith, ltb, lt-ltb, decimal}
-use Rattle.std.specs.Prelude.{map, nat_lt, position, is_some, ◌==◌, slice_index_or, if◌then◌else◌}
+use Rattle.std.proofs.Common.{◌≡◌, ℕ, ◌+◌, ◌-◌, ◌^◌, ◌<◌, ◌≤◌, zero, suc, Bool, true, false, cond, not, List, [], ◌∷◌, ◌++◌, length, Some, None, unwrap_or, refl, ap, sym, ◌∙◌, arith, ltb, lt-ltb, decimal}
+use Rattle.std.specs.Prelude.{map, nat_lt, position, ◌==◌, slice_index_or}
 use Rattle.std.specs.List.{enumerate_from, list_any, position_or_len, range_with_len}
 use Rattle.std.specs.Map.{lookup}
 use Rattle.std.specs.Str.{bytes_eq}

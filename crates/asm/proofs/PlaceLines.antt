@@ -1,24 +1,22 @@
 -- Lines of capabilities, tables, frames and contents: each declares one entry behind the others.
-use Rattle.std.proofs.Common.{ℕ, ◌≡◌, ◌+◌, ◌-◌, ◌^◌, ◌<◌, ◌≤◌, Bool, true, false, List, [], ◌∷◌, ◌++◌, length, Option, Some, None, Result, Ok, Err, refl, ap, sym, ◌∙◌, subst, arith, decimal, pos, ltb, leb}
-use Rattle.std.specs.Prelude.{map, nat_le, nat_lt, slice_get, slice_index_or, option_map, if◌then◌else◌, MatchOption}
+use Rattle.std.proofs.Common.{ℕ, ◌≡◌, ◌+◌, ◌-◌, ◌^◌, ◌<◌, ◌≤◌, Bool, true, false, List, [], ◌∷◌, ◌++◌, length, Option, Some, None, Ok, refl, ap, sym, ◌∙◌, subst, arith, decimal}
+use Rattle.std.specs.Prelude.{map, nat_lt, slice_get, slice_index_or, option_map, if◌then◌else◌, MatchOption}
 use Rattle.std.specs.List.{AllByRecursion}
 use Rattle.std.specs.Option.{option_map_or}
 use Rattle.std.specs.Map.{lookup}
 use Rattle.std.specs.Str.{bytes_eq}
 use Rattle.std.proofs.lemmas.Bool.{leb-true}
 use Rattle.std.proofs.lemmas.Bool.Decides.{nat_tests}
-use Rattle.std.proofs.lemmas.List.{length-append, map-append, length-map}
+use Rattle.std.proofs.lemmas.List.{map-append, length-map}
 use Rattle.std.proofs.lemmas.Option.{slice_get-map}
 use Rattle.model.specs.declared.entries.CapabilityEntry.{CapabilityEntry}
 use Rattle.model.specs.declared.entries.FrameEntry.{FrameEntry}
-use Rattle.model.specs.declared.entries.InterruptEntry.{InterruptEntry}
 use Rattle.model.specs.declared.entries.TableEntry.{TableEntry}
 use Rattle.model.specs.Images.Image.{Image, ImageContent, between, capability_format, content_format, frame_format, pair_key, table_format}
 use Rattle.model.specs.Images.Listing.{Text, interrupt_name, object_name, source_name}
 use Rattle.model.specs.Images.Places.{interrupt_of, is_handler}
 use Rattle.asm_line.specs.Listed.{IsWord}
-use Rattle.asm_line.specs.Lines.{all_words, word}
-use Rattle.asm_line.specs.Words.{◌>>=◌, number_of as number_in}
+use Rattle.asm_line.specs.Lines.{all_words}
 use Rattle.asm_line.proofs.NumberLaws.{number-decimal}
 use Rattle.fitting.specs.Fitting.{IsFitting}
 use Rattle.asm.specs.declared.declarations.Capability.{Capability}
@@ -32,8 +30,8 @@ use Rattle.asm.specs.Sections.{value_of}
 use Rattle.asm.specs.Keys.{is_behind}
 use Rattle.asm.proofs.EntryLines.{capability-parts, content-parts, frame-parts, table-parts}
 use Rattle.asm.proofs.Joins.{Adds}
-use Rattle.asm.proofs.NumberedNames.{interrupt-absent, interrupt-found, interrupts_from, is-named, names_from, number-named}
-use Rattle.asm.proofs.Orders.{is-behind, last-passes, least_behind}
+use Rattle.asm.proofs.NumberedNames.{interrupt-absent, interrupt-found, interrupts_from, is-named, number-named}
+use Rattle.asm.proofs.Orders.{is-behind, least_behind}
 use Rattle.asm.proofs.SectionFits.{SectionsFit, fits-at}
 use Rattle.asm.proofs.Stages.{declaring, front-shorter, with_capabilities, with_contents, with_frames, with_tables}
 
@@ -128,7 +126,7 @@ module _ (image : Image) (labels : List FoundLabels) (fits : SectionsFit image) 
       let long = limits.capabilities in
       let count = length-map front (capability_of image) in
       let one = capability-parts image.header.objects image.header.interrupts (least_behind (λ x. pair_key x.cnode x.index + 1) 0 front) c
-          (fits-at (capability_format image.header.objects image.header.interrupts) (λ x. pair_key x.cnode x.index + 1) 0 image.header.capabilities image.capabilities front c rest fits.capabilities same) in
+      (fits-at (capability_format image.header.objects image.header.interrupts) (λ x. pair_key x.cnode x.index + 1) 0 image.header.capabilities image.capabilities front c rest fits.capabilities same) in
       let cnode = object-number image limits c.cnode one.1 in
       let source = sourced image limits c.source one.3 in
       record {
@@ -141,12 +139,12 @@ module _ (image : Image) (labels : List FoundLabels) (fits : SectionsFit image) 
           room = omega (arith, less, most, long, count);
         };
         reads = ap (λ n. declaring image (record (with_capabilities image []) {
-            capabilities = map (capability_of image) front ++ (record { cnode = n; index = c.index; source = source_of (names_of image) (source_name image c.source); rights = c.rights; payload = c.payload }) ∷ [];
-          })) cnode
-          ∙ (ap (λ s. declaring image (record (with_capabilities image []) {
-            capabilities = map (capability_of image) front ++ (record { cnode = c.cnode; index = c.index; source = s; rights = c.rights; payload = c.payload }) ∷ [];
-          })) source.same
-          ∙ ap (λ cs. declaring image (record (with_capabilities image []) { capabilities = cs })) (sym (map-append (capability_of image) front (c ∷ []))));
+          capabilities = map (capability_of image) front ++ (record { cnode = n; index = c.index; source = source_of (names_of image) (source_name image c.source); rights = c.rights; payload = c.payload }) ∷ [];
+        })) cnode
+            ∙ (ap (λ s. declaring image (record (with_capabilities image []) {
+              capabilities = map (capability_of image) front ++ (record { cnode = c.cnode; index = c.index; source = s; rights = c.rights; payload = c.payload }) ∷ [];
+            })) source.same
+            ∙ ap (λ cs. declaring image (record (with_capabilities image []) { capabilities = cs })) (sym (map-append (capability_of image) front (c ∷ []))));
       }
 
   pub table-adds : (number : ℕ) (front : List TableEntry) (t : TableEntry) (rest : List TableEntry) → image.tables ≡ front ++ t ∷ rest
@@ -156,7 +154,7 @@ module _ (image : Image) (labels : List FoundLabels) (fits : SectionsFit image) 
       let most = limits.header.tables in
       let long = limits.tables in
       let one = table-parts image.header.objects (least_behind (λ x. pair_key x.root x.address + 1) 0 front) t
-          (fits-at (table_format image.header.objects) (λ x. pair_key x.root x.address + 1) 0 image.header.tables image.tables front t rest fits.tables same) in
+      (fits-at (table_format image.header.objects) (λ x. pair_key x.root x.address + 1) 0 image.header.tables image.tables front t rest fits.tables same) in
       let root = object-number image limits t.root one.1 in
       let under = object-number image limits t.table one.3 in
       record {
@@ -168,9 +166,9 @@ module _ (image : Image) (labels : List FoundLabels) (fits : SectionsFit image) 
           room = omega (arith, less, most, long);
         };
         reads = ap (λ n. declaring image (record (with_tables image []) {
-            tables = front ++ (record { root = n; address = t.address; table = number_of (names_of image).objects (object_name t.table) }) ∷ [];
-          })) root
-          ∙ ap (λ n. declaring image (record (with_tables image []) { tables = front ++ (record { root = t.root; address = t.address; table = n }) ∷ [] })) under;
+          tables = front ++ (record { root = n; address = t.address; table = number_of (names_of image).objects (object_name t.table) }) ∷ [];
+        })) root
+            ∙ ap (λ n. declaring image (record (with_tables image []) { tables = front ++ (record { root = t.root; address = t.address; table = n }) ∷ [] })) under;
       }
 
   pub frame-adds : (number : ℕ) (front : List FrameEntry) (f : FrameEntry) (rest : List FrameEntry) → image.frames ≡ front ++ f ∷ rest
@@ -180,7 +178,7 @@ module _ (image : Image) (labels : List FoundLabels) (fits : SectionsFit image) 
       let most = limits.header.frames in
       let long = limits.frames in
       let one = frame-parts image.header.objects (least_behind (λ x. pair_key x.root x.address + 1) 0 front) f
-          (fits-at (frame_format image.header.objects) (λ x. pair_key x.root x.address + 1) 0 image.header.frames image.frames front f rest fits.frames same) in
+      (fits-at (frame_format image.header.objects) (λ x. pair_key x.root x.address + 1) 0 image.header.frames image.frames front f rest fits.frames same) in
       let root = object-number image limits f.root one.1 in
       let under = object-number image limits f.frame one.3 in
       record {
@@ -192,9 +190,9 @@ module _ (image : Image) (labels : List FoundLabels) (fits : SectionsFit image) 
           room = omega (arith, less, most, long);
         };
         reads = ap (λ n. declaring image (record (with_frames image []) {
-            frames = front ++ (record { root = n; address = f.address; frame = number_of (names_of image).objects (object_name f.frame); rights = f.rights }) ∷ [];
-          })) root
-          ∙ ap (λ n. declaring image (record (with_frames image []) { frames = front ++ (record { root = f.root; address = f.address; frame = n; rights = f.rights }) ∷ [] })) under;
+          frames = front ++ (record { root = n; address = f.address; frame = number_of (names_of image).objects (object_name f.frame); rights = f.rights }) ∷ [];
+        })) root
+            ∙ ap (λ n. declaring image (record (with_frames image []) { frames = front ++ (record { root = f.root; address = f.address; frame = n; rights = f.rights }) ∷ [] })) under;
       }
 
   pub content-adds : length image.contents ≤ 4096 → (number : ℕ) (front : List ImageContent) (c : ImageContent) (rest : List ImageContent) → image.contents ≡ front ++ c ∷ rest
@@ -202,7 +200,7 @@ module _ (image : Image) (labels : List FoundLabels) (fits : SectionsFit image) 
   content-adds most number front c rest same =
       let less = front-shorter image.contents front c rest same in
       let one = content-parts image.header.objects (least_behind (λ x. x.header.frame + 1) 0 front) c
-          (fits-at (content_format image.header.objects) (λ x. x.header.frame + 1) 0 image.header.contents image.contents front c rest fits.contents same) in
+      (fits-at (content_format image.header.objects) (λ x. x.header.frame + 1) 0 image.header.contents image.contents front c rest fits.contents same) in
       let frame = object-number image limits c.header.frame one.frame in
       let count = length-map c.words decimal in
       let short = one.short in
@@ -216,8 +214,8 @@ module _ (image : Image) (labels : List FoundLabels) (fits : SectionsFit image) 
           room = omega (arith, less, most);
         };
         reads = ap (λ n. declaring image (record (with_contents image []) {
-            contents = front ++ (record { header = record { frame = n; words = length (map value_of (map decimal c.words)) }; words = map value_of (map decimal c.words) }) ∷ [];
-          })) frame
-          ∙ (ap (λ ws. declaring image (record (with_contents image []) { contents = front ++ (record { header = record { frame = c.header.frame; words = length ws }; words = ws }) ∷ [] })) words
-          ∙ ap (λ k. declaring image (record (with_contents image []) { contents = front ++ (record { header = record { frame = c.header.frame; words = k }; words = c.words }) ∷ [] })) one.long);
+          contents = front ++ (record { header = record { frame = n; words = length (map value_of (map decimal c.words)) }; words = map value_of (map decimal c.words) }) ∷ [];
+        })) frame
+            ∙ (ap (λ ws. declaring image (record (with_contents image []) { contents = front ++ (record { header = record { frame = c.header.frame; words = length ws }; words = ws }) ∷ [] })) words
+            ∙ ap (λ k. declaring image (record (with_contents image []) { contents = front ++ (record { header = record { frame = c.header.frame; words = k }; words = c.words }) ∷ [] })) one.long);
       }

@@ -1,6 +1,6 @@
 -- Lines of a thread's points: each leads from what is known before the point to what is known behind it.
-use Rattle.std.proofs.Common.{ℕ, ◌≡◌, ◌==◌, ◌+◌, ◌-◌, ◌^◌, ◌<◌, ◌≤◌, zero, suc, Bool, true, false, List, [], ◌∷◌, ◌++◌, length, Option, Some, None, refl, ap, sym, ◌∙◌, subst, arith, ne_eqb, eq-eqb, eqb-true}
-use Rattle.std.specs.Prelude.{flat_map, find, slice_index, option_to_list, if◌then◌else◌}
+use Rattle.std.proofs.Common.{ℕ, ◌≡◌, ◌==◌, ◌+◌, ◌<◌, ◌≤◌, zero, suc, Bool, true, false, List, [], ◌∷◌, ◌++◌, length, Option, Some, None, refl, ap, sym, ◌∙◌, subst, arith, ne_eqb, eq-eqb, eqb-true}
+use Rattle.std.specs.Prelude.{flat_map, find, slice_index, option_to_list}
 use Rattle.std.specs.List.{range_with_len}
 use Rattle.std.specs.Option.{option_map_or}
 use Rattle.std.proofs.lemmas.Bool.Decides.{nat_tests}
@@ -8,20 +8,18 @@ use Rattle.std.proofs.lemmas.List.{append_assoc, append-nil, length-append}
 use Rattle.model.specs.Acceptance.NotedStates.{record_of}
 use Rattle.model.specs.Images.Image.{Image, StateRecord, Thread, record_format, slots_format}
 use Rattle.model.specs.Images.Format.{many_fit}
-use Rattle.asm_line.specs.declared.lines.Line.{Line}
 use Rattle.asm_line.specs.declared.lines.Line.TheVariants as line
 use Rattle.asm_line.specs.declared.lines.Code.TheVariants as code
 use Rattle.fitting.specs.Fitting.{IsFitting}
 use Rattle.asm.specs.Drafts.{Draft}
 use Rattle.asm.specs.Labels.{FoundLabels, next_number}
-use Rattle.asm.specs.Reading.{IsInPlace}
 use Rattle.asm.proofs.Said.{point_said, record_said}
 use Rattle.asm.proofs.Joins.{Goes, join, nothing-more, number_behind, one-more}
 use Rattle.asm.proofs.LabelSearch.{body_said, point-plain}
 use Rattle.asm.proofs.Orders.{least_behind}
 use Rattle.asm.proofs.RecordLines.{inside, opened, record-goes}
 use Rattle.asm.proofs.SectionFits.{fits-at}
-use Rattle.asm.proofs.ThreadParts.{RecordFits, record-parts}
+use Rattle.asm.proofs.ThreadParts.{record-parts}
 
 -- ---- records in the order of their points
 
@@ -165,12 +163,12 @@ module _ (image : Image) (labels : List FoundLabels) (limits : IsFitting image) 
         let words : t.words ≡ left.words ++ w ∷ rest = left.all_words ∙ ap (λ xs. left.words ++ xs) here in
         let long : length t.words ≡ length left.words + length (w ∷ rest) = ap length words ∙ length-append left.words (w ∷ rest) in
         let parts = record-parts image.header.objects t.header.words (least_behind (λ (x : StateRecord). x.header.point + 1) 0 left.records) r
-            (fits-at (record_format (slots_format image.header.objects) t.header.words) (λ x. x.header.point + 1) 0 count t.records left.records r rs fits all) in
+        (fits-at (record_format (slots_format image.header.objects) t.header.words) (λ x. x.header.point + 1) 0 count t.records left.records r rs fits all) in
         let noted = record-goes image labels limits ts searched t left.words left.records r t.header.words (least_behind (λ (x : StateRecord). x.header.point + 1) 0 left.records) parts
-            (left.reached ∙ sym at) (omega (arith, long, few)) number in
+        (left.reached ∙ sym at) (omega (arith, long, few)) number in
         let word = word-goes (number_behind number (record_said r)) left.words w rest left.records (Some r) words in
         let both = join labels number (standing left.words left.records None) (standing left.words left.records (Some r)) (standing (left.words ++ w ∷ []) (left.records ++ r ∷ []) None)
-            (record_said r) (line.Code None (code.Word (slice_index t.words (length left.words))) ∷ []) noted word in
+        (record_said r) (line.Code None (code.Word (slice_index t.words (length left.words))) ∷ []) noted word in
         record {
           next = record {
             words = left.words ++ w ∷ [];

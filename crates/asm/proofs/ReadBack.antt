@@ -1,18 +1,18 @@
 -- The lines of an image's listing, read one after the other, give the image.
-use Rattle.std.proofs.Common.{ℕ, ◌≡◌, ◌+◌, ◌<◌, ◌≤◌, suc, true, List, [], ◌∷◌, ◌++◌, length, Some, None, refl, ap, sym, ◌∙◌, subst, arith}
+use Rattle.std.proofs.Common.{ℕ, ◌≡◌, ◌+◌, ◌<◌, ◌≤◌, suc, true, List, [], ◌∷◌, ◌++◌, length, refl, ap, sym, ◌∙◌, subst, arith}
 use Rattle.std.specs.Prelude.{map, flat_map}
 use Rattle.std.specs.List.{All, AllByRecursion, AllZip}
 use Rattle.std.specs.Str.Lines.{lines}
 use Rattle.model.specs.Images.Described.{numbered}
 use Rattle.model.specs.Images.Image.{Image, Thread, content_format, whole_image}
-use Rattle.model.specs.Images.Listing.{Text, listing, listing_lines}
+use Rattle.model.specs.Images.Listing.{listing, listing_lines}
 use Rattle.asm_line.specs.declared.lines.Line.{Line}
 use Rattle.asm_line.specs.Listed.{Lists}
 use Rattle.fitting.specs.Fitting.{IsFitting}
 use Rattle.fitting.proofs.FormatFits.{many-length}
 use Rattle.fitting.proofs.ImageFits.{is-fitting}
-use Rattle.asm.specs.Drafts.{Draft, draft_of, nothing_read}
-use Rattle.asm.specs.Labels.{FoundLabels, Searched, closed, labels_in, next_number, nothing_searched, searched_from, searched_line}
+use Rattle.asm.specs.Drafts.{draft_of, nothing_read}
+use Rattle.asm.specs.Labels.{FoundLabels, closed, labels_in, next_number, nothing_searched, searched_from, searched_line}
 use Rattle.asm.specs.Reading.{AreInPlace, with_lines}
 use Rattle.asm.proofs.Said.{capability_said, content_said, frame_said, interrupt_said, listed_lines, memory_said, object_said, table_said, thread_said, untyped_said}
 use Rattle.asm.proofs.Joins.{Goes, join, nothing-more, number_behind, one-more, plain-section, section}
@@ -82,17 +82,17 @@ module _ (i : Image) (labels : List FoundLabels) (fits : SectionsFit i) (limits 
   sections-go : Goes labels 0 nothing_read (sections_said i) (after i [])
   sections-go =
       let untypeds = join labels 0 nothing_read (declaring i (with_untypeds [])) (declaring i (with_untypeds i.untypeds)) (memory_said i ∷ []) (map untyped_said (numbered i.untypeds))
-          memory-goes (section labels (λ k e. untyped_said (k, e)) (λ us. declaring i (with_untypeds us)) i.untypeds (untyped-adds i labels fits limits) (next_number 0)) in
+      memory-goes (section labels (λ k e. untyped_said (k, e)) (λ us. declaring i (with_untypeds us)) i.untypeds (untyped-adds i labels fits limits) (next_number 0)) in
       let objects = join labels 0 nothing_read (declaring i (with_untypeds i.untypeds)) (declaring i (with_objects i i.objects)) (untypeds_said i) (map object_said (numbered i.objects))
-          untypeds (section labels (λ k e. object_said (k, e)) (λ os. declaring i (with_objects i os)) i.objects (object-adds i labels fits limits) (number_behind 0 (untypeds_said i))) in
+      untypeds (section labels (λ k e. object_said (k, e)) (λ os. declaring i (with_objects i os)) i.objects (object-adds i labels fits limits) (number_behind 0 (untypeds_said i))) in
       let interrupts = join labels 0 nothing_read (declaring i (with_objects i i.objects)) (declaring i (with_interrupts i i.interrupts)) (objects_said i) (map interrupt_said (numbered i.interrupts))
-          objects (section labels (λ k e. interrupt_said (k, e)) (λ xs. declaring i (with_interrupts i xs)) i.interrupts (interrupt-adds i labels fits limits) (number_behind 0 (objects_said i))) in
+      objects (section labels (λ k e. interrupt_said (k, e)) (λ xs. declaring i (with_interrupts i xs)) i.interrupts (interrupt-adds i labels fits limits) (number_behind 0 (objects_said i))) in
       let capabilities = join labels 0 nothing_read (declaring i (with_interrupts i i.interrupts)) (declaring i (with_capabilities i i.capabilities)) (interrupts_said i) (map (capability_said i) i.capabilities)
-          interrupts (plain-section labels (capability_said i) (λ xs. declaring i (with_capabilities i xs)) i.capabilities (capability-adds i labels fits limits) (number_behind 0 (interrupts_said i))) in
+      interrupts (plain-section labels (capability_said i) (λ xs. declaring i (with_capabilities i xs)) i.capabilities (capability-adds i labels fits limits) (number_behind 0 (interrupts_said i))) in
       let tables = join labels 0 nothing_read (declaring i (with_capabilities i i.capabilities)) (declaring i (with_tables i i.tables)) (capabilities_said i) (map table_said i.tables)
-          capabilities (plain-section labels table_said (λ xs. declaring i (with_tables i xs)) i.tables (table-adds i labels fits limits) (number_behind 0 (capabilities_said i))) in
+      capabilities (plain-section labels table_said (λ xs. declaring i (with_tables i xs)) i.tables (table-adds i labels fits limits) (number_behind 0 (capabilities_said i))) in
       let frames = join labels 0 nothing_read (declaring i (with_tables i i.tables)) (declaring i (with_frames i i.frames)) (tables_said i) (map frame_said i.frames)
-          tables (plain-section labels frame_said (λ xs. declaring i (with_frames i xs)) i.frames (frame-adds i labels fits limits) (number_behind 0 (tables_said i))) in
+      tables (plain-section labels frame_said (λ xs. declaring i (with_frames i xs)) i.frames (frame-adds i labels fits limits) (number_behind 0 (tables_said i))) in
       join labels 0 nothing_read (declaring i (with_frames i i.frames)) (declaring i (with_contents i i.contents)) (frames_said i) (map content_said i.contents)
       frames (plain-section labels content_said (λ xs. declaring i (with_contents i xs)) i.contents (content-adds i labels fits limits few-contents) (number_behind 0 (frames_said i)))
 
@@ -113,9 +113,9 @@ labels-found : (i : Image) → SectionsFit i → All IsEntered i.threads → lab
 unfolding listed_lines
 labels-found i fits entered =
     let found : searched_from 0 nothing_searched (listed_lines i) ≡ between_threads (all_labels (number_behind 0 (sections_said i)) i.threads) =
-        searched-append 0 nothing_searched (sections_said i) (flat_map thread_said i.threads)
-        ∙ (ap (λ s. searched_from (number_behind 0 (sections_said i)) s (flat_map thread_said i.threads)) (sections-quiet i)
-        ∙ threads-found i.header.objects 0 i.header.threads (number_behind 0 (sections_said i)) i.threads [] fits.threads (entered-each i.threads entered)) in
+    searched-append 0 nothing_searched (sections_said i) (flat_map thread_said i.threads)
+    ∙ (ap (λ s. searched_from (number_behind 0 (sections_said i)) s (flat_map thread_said i.threads)) (sections-quiet i)
+    ∙ threads-found i.header.objects 0 i.header.threads (number_behind 0 (sections_said i)) i.threads [] fits.threads (entered-each i.threads entered)) in
     ap (λ s. (closed s).threads) found
 
 whole-goes : (i : Image) → SectionsFit i → IsFitting i → All IsEntered i.threads → Goes (labels_in (listed_lines i)) 0 nothing_read (listed_lines i) (draft_of i)

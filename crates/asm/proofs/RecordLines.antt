@@ -1,21 +1,19 @@
 -- Lines of a thread's registers and of what its certificate notes of a point.
-use Rattle.std.proofs.Common.{ℕ, ◌≡◌, ◌==◌, ◌+◌, ◌-◌, ◌^◌, ◌<◌, ◌≤◌, ◌&&◌, ◌||◌, zero, suc, Bool, true, false, not, List, [], ◌∷◌, ◌++◌, length, Option, Some, None, Result, Ok, Err, refl, ap, sym, ◌∙◌, subst, arith, eqb-true}
+use Rattle.std.proofs.Common.{ℕ, ◌≡◌, ◌==◌, ◌+◌, ◌^◌, ◌<◌, ◌≤◌, ◌&&◌, ◌||◌, zero, suc, Bool, true, false, not, List, [], ◌∷◌, ◌++◌, length, Option, Some, None, Result, Ok, Err, refl, ap, sym, ◌∙◌, subst, arith, eqb-true}
 use Rattle.std.specs.Prelude.{map, flat_map, nat_lt, if◌then◌else◌}
 use Rattle.std.specs.List.{AllByRecursion}
 use Rattle.std.proofs.lemmas.Bool.{and_parts, ltb-true}
-use Rattle.std.proofs.lemmas.Bool.Decides.{nat_tests}
-use Rattle.std.proofs.lemmas.List.{append_assoc, append-nil}
+use Rattle.std.proofs.lemmas.List.{append_assoc}
 use Rattle.model.specs.declared.entries.RangeEntry.{RangeEntry}
 use Rattle.model.specs.declared.entries.RegisterEntry.{RegisterEntry}
 use Rattle.model.specs.declared.entries.SlotEntry.{SlotEntry}
 use Rattle.model.specs.declared.entries.TermEntry.{TermEntry}
 use Rattle.model.specs.Images.Format.{many_fit}
-use Rattle.model.specs.Images.Image.{Image, StateRecord, Thread, names_parent, no_parent, pair_key, range_format, register_format, slot_format, term_format}
+use Rattle.model.specs.Images.Image.{Image, StateRecord, Thread, no_parent, pair_key, range_format, register_format, slot_format, term_format}
 use Rattle.model.specs.Images.Listing.{Text, object_name, term_words}
 use Rattle.asm_line.specs.declared.lines.Line.TheVariants as line
 use Rattle.asm_line.specs.declared.lines.Parent.{Parent}
 use Rattle.asm_line.specs.declared.lines.Parent.TheVariants as parent
-use Rattle.asm_line.specs.Lines.{term_first, term_of}
 use Rattle.asm_line.specs.Listed.{IsTerm, parent_said}
 use Rattle.asm_line.specs.Words.{◌>>=◌}
 use Rattle.asm_line.proofs.ListedLines.{next-term, terms-say}
@@ -23,11 +21,10 @@ use Rattle.fitting.specs.Fitting.{IsFitting}
 use Rattle.fitting.proofs.FormatFits.{many-length}
 use Rattle.asm.specs.Drafts.{Draft, declared_of, names_of}
 use Rattle.asm.specs.Labels.{FoundLabels, next_number}
-use Rattle.asm.specs.Names.{IsNamed, number_of}
 use Rattle.asm.proofs.Said.{measure_said, record_said, slot_said}
 use Rattle.asm.specs.Threads.{AreBehind, HasParent, OpenDraft, parent_numbers, term_or_zero, terms_of}
 use Rattle.asm.specs.Keys.{is_behind}
-use Rattle.asm.proofs.Joins.{Adds, Goes, join, nothing-more, number_behind, one-more, plain-section}
+use Rattle.asm.proofs.Joins.{Adds, Goes, join, number_behind, one-more, plain-section}
 use Rattle.asm.proofs.Orders.{is-behind, least_behind}
 use Rattle.asm.proofs.PlaceLines.{object-named, object-number}
 use Rattle.asm.proofs.SectionFits.{fits-at}
@@ -130,7 +127,7 @@ module _ (image : Image) (labels : List FoundLabels) (limits : IsFitting image) 
       let less = front-shorter t.registers front e rest same in
       let long = many-length register_format (λ x. x.register + 1) 1 count t.registers is in
       let one = register-parts (least_behind (λ (x : RegisterEntry). x.register + 1) 1 front) e (least-some (λ (x : RegisterEntry). x.register) 1 front (omega arith))
-          (fits-at register_format (λ x. x.register + 1) 1 count t.registers front e rest is same) in
+      (fits-at register_format (λ x. x.register + 1) 1 count t.registers front e rest is same) in
       record {
         placed = (searched, record { behind = is-behind (λ (x : RegisterEntry). x.register) e.register 1 front one.0; room = omega (arith, less, long, few) });
         reads = refl;
@@ -149,25 +146,28 @@ module _ (image : Image) (labels : List FoundLabels) (limits : IsFitting image) 
         let most = fits.few_terms in
         let say = terms-say r.terms each in
         record {
-          placed = (searched, record {
-            fresh = refl;
-            words = few;
-            said = say.terms;
-            behind = subst (AreBehind (λ (x : TermEntry). x.register) []) (sym back) (terms-rise r.header.terms r.terms [] r.terms fits.terms refl);
-            short = omega (arith, same, long, most);
-          });
+          placed = (
+            searched,
+            record {
+              fresh = refl;
+              words = few;
+              said = say.terms;
+              behind = subst (AreBehind (λ (x : TermEntry). x.register) []) (sym back) (terms-rise r.header.terms r.terms [] r.terms fits.terms refl);
+              short = omega (arith, same, long, most);
+            },
+          );
           reads = ap (λ n. at (Some (record {
-              header = record { point = n; ranges = 0; slots = 0; terms = length (terms_of (flat_map term_words r.terms)); constant = r.header.constant };
-              ranges = [];
-              slots = [];
-              terms = terms_of (flat_map term_words r.terms);
-            }))) here
-            ∙ ap (λ us. at (Some (record {
-              header = record { point = r.header.point; ranges = 0; slots = 0; terms = length us; constant = r.header.constant };
-              ranges = [];
-              slots = [];
-              terms = us;
-            }))) back;
+            header = record { point = n; ranges = 0; slots = 0; terms = length (terms_of (flat_map term_words r.terms)); constant = r.header.constant };
+            ranges = [];
+            slots = [];
+            terms = terms_of (flat_map term_words r.terms);
+          }))) here
+              ∙ ap (λ us. at (Some (record {
+                header = record { point = r.header.point; ranges = 0; slots = 0; terms = length us; constant = r.header.constant };
+                ranges = [];
+                slots = [];
+                terms = us;
+              }))) back;
         }
 
     range-adds : (number : ℕ) (front : List RangeEntry) (e : RangeEntry) (rest : List RangeEntry) → r.ranges ≡ front ++ e ∷ rest
@@ -177,7 +177,7 @@ module _ (image : Image) (labels : List FoundLabels) (limits : IsFitting image) 
         let long = many-length range_format (λ x. x.register + 1) 1 r.header.ranges r.ranges fits.ranges in
         let few = fits.few_ranges in
         let one = range-parts (least_behind (λ (x : RangeEntry). x.register + 1) 1 front) e (least-some (λ (x : RangeEntry). x.register) 1 front (omega arith))
-            (fits-at range_format (λ x. x.register + 1) 1 r.header.ranges r.ranges front e rest fits.ranges same) in
+        (fits-at range_format (λ x. x.register + 1) 1 r.header.ranges r.ranges front e rest fits.ranges same) in
         record {
           placed = (searched, record { behind = is-behind (λ (x : RangeEntry). x.register) e.register 1 front one.0; room = omega (arith, less, long, few) });
           reads = refl;
@@ -191,28 +191,31 @@ module _ (image : Image) (labels : List FoundLabels) (limits : IsFitting image) 
         let few = fits.few_slots in
         let most = limits.header.objects in
         let one = slot-parts image.header.objects (least_behind (λ (x : SlotEntry). pair_key x.cnode x.index + 1) 0 front) e (omega (arith, most))
-            (fits-at (slot_format image.header.objects) (λ x. pair_key x.cnode x.index + 1) 0 r.header.slots r.slots front e rest fits.slots same) in
+        (fits-at (slot_format image.header.objects) (λ x. pair_key x.cnode x.index + 1) 0 r.header.slots r.slots front e rest fits.slots same) in
         let cnode = object-number image limits e.cnode one.cnode in
         let own = parented image limits e (e.parent_cnode == no_parent) refl one.parent one.named in
         record {
-          placed = (searched, record {
-            named = object-named image limits e.cnode one.cnode;
-            parented = own.has;
-            room = record {
-              behind = ap (λ n. is_behind (λ (x : SlotEntry). pair_key x.cnode x.index) (pair_key n e.index) front) cnode
-                  ∙ is-behind (λ (x : SlotEntry). pair_key x.cnode x.index) (pair_key e.cnode e.index) 0 front one.behind;
-              room = omega (arith, less, long, few);
-            };
-          });
+          placed = (
+            searched,
+            record {
+              named = object-named image limits e.cnode one.cnode;
+              parented = own.has;
+              room = record {
+                behind = ap (λ n. is_behind (λ (x : SlotEntry). pair_key x.cnode x.index) (pair_key n e.index) front) cnode
+                    ∙ is-behind (λ (x : SlotEntry). pair_key x.cnode x.index) (pair_key e.cnode e.index) 0 front one.behind;
+                room = omega (arith, less, long, few);
+              };
+            },
+          );
           reads = ap (λ n. at (noted r r.ranges (front ++ (record {
-              cnode = n;
-              index = e.index;
-              word0 = e.word0;
-              word1 = e.word1;
-              parent_cnode = (parent_numbers (names_of image) (parent_said e)).0;
-              parent_index = (parent_numbers (names_of image) (parent_said e)).1;
-            }) ∷ []))) cnode
-            ∙ ap (λ p. at (noted r r.ranges (front ++ (record { cnode = e.cnode; index = e.index; word0 = e.word0; word1 = e.word1; parent_cnode = p.0; parent_index = p.1 }) ∷ []))) own.same;
+            cnode = n;
+            index = e.index;
+            word0 = e.word0;
+            word1 = e.word1;
+            parent_cnode = (parent_numbers (names_of image) (parent_said e)).0;
+            parent_index = (parent_numbers (names_of image) (parent_said e)).1;
+          }) ∷ []))) cnode
+              ∙ ap (λ p. at (noted r r.ranges (front ++ (record { cnode = e.cnode; index = e.index; word0 = e.word0; word1 = e.word1; parent_cnode = p.0; parent_index = p.1 }) ∷ []))) own.same;
         }
 
     all-noted : noted r r.ranges r.slots ≡ Some r

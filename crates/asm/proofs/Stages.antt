@@ -1,5 +1,5 @@
 -- What is known of an image behind each section of its listing.
-use Rattle.std.proofs.Common.{ℕ, ◌≡◌, ◌+◌, ◌<◌, List, [], ◌∷◌, ◌++◌, length, Some, None, refl, ap, sym, ◌∙◌, arith}
+use Rattle.std.proofs.Common.{ℕ, ◌≡◌, ◌+◌, ◌<◌, List, [], ◌∷◌, ◌++◌, length, Some, None, ap, sym, ◌∙◌, arith}
 use Rattle.std.specs.Prelude.{map}
 use Rattle.std.proofs.lemmas.List.{length-append}
 use Rattle.model.specs.declared.entries.CapabilityEntry.{CapabilityEntry}
@@ -8,7 +8,7 @@ use Rattle.model.specs.declared.entries.InterruptEntry.{InterruptEntry}
 use Rattle.model.specs.declared.entries.ObjectEntry.{ObjectEntry}
 use Rattle.model.specs.declared.entries.TableEntry.{TableEntry}
 use Rattle.model.specs.declared.entries.UntypedEntry.{UntypedEntry}
-use Rattle.model.specs.Images.Image.{Image, ImageContent, Thread}
+use Rattle.model.specs.Images.Image.{Image, ImageContent}
 use Rattle.asm.specs.Drafts.{Draft, capability_of}
 use Rattle.asm.specs.Sections.{Declared}
 use Rattle.asm.proofs.NumberedNames.{names_from, names-longer, interrupts_from}

@@ -1,16 +1,15 @@
 -- Lines of threads: each thread's lines add it to those before it.
-use Rattle.std.proofs.Common.{ℕ, ◌≡◌, ◌==◌, ◌+◌, ◌-◌, ◌^◌, ◌<◌, ◌≤◌, zero, suc, Bool, true, false, List, [], ◌∷◌, ◌++◌, length, Option, Some, None, refl, ap, sym, ◌∙◌, subst, arith, eq-eqb}
+use Rattle.std.proofs.Common.{ℕ, ◌≡◌, ◌+◌, ◌-◌, ◌<◌, ◌≤◌, zero, suc, true, false, List, [], ◌∷◌, ◌++◌, length, Some, None, refl, ap, sym, ◌∙◌, subst, arith, eq-eqb}
 use Rattle.std.specs.Prelude.{map, flat_map, codes, is_some}
 use Rattle.std.specs.List.{AllByRecursion, range_with_len}
 use Rattle.std.proofs.lemmas.Bool.{and_parts}
 use Rattle.std.proofs.lemmas.List.{append_assoc, append-nil, length-append}
 use Rattle.model.specs.Images.Image.{Image, StateRecord, Thread, anything, record_format, register_format, slots_format, thread_format}
 use Rattle.model.specs.Images.Format.{field, many_fit}
-use Rattle.asm_line.specs.declared.lines.Line.{Line}
 use Rattle.asm_line.specs.declared.lines.Line.TheVariants as line
 use Rattle.fitting.specs.Fitting.{IsFitting}
 use Rattle.fitting.proofs.FormatFits.{many-length}
-use Rattle.asm.specs.Drafts.{Draft, declared_of, names_of}
+use Rattle.asm.specs.Drafts.{Draft, declared_of}
 use Rattle.asm.specs.Labels.{FoundLabels, is_first_on, next_number, place_named, point_of, searched_from}
 use Rattle.asm.specs.Reading.{labels_at}
 use Rattle.asm.proofs.Said.{point_said, thread_line_said, thread_said}
@@ -18,7 +17,7 @@ use Rattle.asm.proofs.Joins.{Goes, join, nothing-more, number_behind, one-more, 
 use Rattle.asm.proofs.LabelSearch.{all_labels, between_threads, body_said, first_said, from_label, label_number, last_said, searched-append, thread-found, thread-split, thread_labels}
 use Rattle.asm.proofs.Orders.{least_behind}
 use Rattle.asm.proofs.PlaceLines.{object-named, object-number}
-use Rattle.asm.proofs.PointLines.{AreBefore, Left, RiseFrom, body-goes, moved, points-go, standing}
+use Rattle.asm.proofs.PointLines.{Left, RiseFrom, body-goes, moved, points-go, standing}
 use Rattle.asm.proofs.RecordLines.{inside, opened, register-adds}
 use Rattle.asm.proofs.SectionFits.{fits-at}
 use Rattle.asm.proofs.ThreadParts.{ThreadFits, record-parts, thread-parts}
@@ -48,7 +47,6 @@ none-long (x ∷ xs) e = absurd (omega (arith, e))
 module _ (image : Image) (labels : List FoundLabels) (limits : IsFitting image) (ts : List Thread) (searched : length ts < length labels) (few_threads : length ts < 64)
     (t : Thread) (fits : ThreadFits image.header.objects t) (entered : t.header.entry < t.header.words)
     (number : ℕ) (known : labels_at labels (length ts) ≡ thread_labels t number) where
-
   abbrev there : List ℕ → List StateRecord → Draft
   there ws records = standing image labels limits ts searched t ws records None
 
@@ -67,7 +65,7 @@ module _ (image : Image) (labels : List FoundLabels) (limits : IsFitting image) 
       by (r ∷ rs) e rise =
           let all : t.records ≡ left.records ++ r ∷ rs = left.all_records ∙ ap (λ xs. left.records ++ xs) e in
           let parts = record-parts image.header.objects t.header.words (least_behind (λ (x : StateRecord). x.header.point + 1) 0 left.records) r
-              (fits-at (record_format (slots_format image.header.objects) t.header.words) (λ x. x.header.point + 1) 0 t.header.records t.records left.records r rs fits.records all) in
+          (fits-at (record_format (slots_format image.header.objects) t.header.words) (λ x. x.header.point + 1) 0 t.header.records t.records left.records r rs fits.records all) in
           let low = rise.0 in
           let high = parts.inside in
           absurd (omega (arith, low, high))
@@ -175,9 +173,9 @@ module _ (image : Image) (labels : List FoundLabels) (limits : IsFitting image) 
       let long = long-words in
       let start = line.Thread (thread_line_said t) ∷ map line.Register t.registers in
       let registers = join labels number (after image ts) (inside image ts (opened t [] [] [] None)) (there [] []) (line.Thread (thread_line_said t) ∷ []) (map line.Register t.registers)
-          begin-goes (registers-go (next_number number)) in
+      begin-goes (registers-go (next_number number)) in
       let points = points-go image labels limits ts searched t t.header.records fits.records few-words 0 t.header.entry (number_behind number start) at_start
-          (omega (arith, long, entered)) (λ k low high same. omega (arith, high, same)) in
+      (omega (arith, long, entered)) (λ k low high same. omega (arith, high, same)) in
       let none : 0 + t.header.entry ≡ t.header.entry = omega arith in
       record {
         left = moved t (0 + t.header.entry) t.header.entry none points.next;
@@ -190,7 +188,7 @@ module _ (image : Image) (labels : List FoundLabels) (limits : IsFitting image) 
       let rest = t.header.words - (t.header.entry + 1) in
       let count : t.header.entry + 1 + rest ≡ t.header.words = omega (arith, entered) in
       let points = points-go image labels limits ts searched t t.header.records fits.records few-words (t.header.entry + 1) rest from left
-          (omega (arith, long, count)) (λ k low high same. omega (arith, low, same)) in
+      (omega (arith, long, count)) (λ k low high same. omega (arith, low, same)) in
       let two = flat_map (point_said t) (range_with_len (t.header.entry + 1) rest) in
       let last = moved t (t.header.entry + 1 + rest) t.header.words count points.next in
       join labels from (there left.words left.records) (there points.next.words points.next.records) (after image (ts ++ t ∷ [])) two (line.End ∷ []) points.goes
@@ -203,9 +201,9 @@ module _ (image : Image) (labels : List FoundLabels) (limits : IsFitting image) 
       let n = number_behind number (first_said t) in
       let body = body-goes image labels limits ts searched t t.header.records fits.records few-words t.header.entry (next_number n) first.left (omega (arith, long, entered)) in
       let rest = join labels (next_number n) (there first.left.words first.left.records) (there body.next.words body.next.records) (after image (ts ++ t ∷ []))
-          (body_said t t.header.entry) (last_said t) body.goes (behind-entry (number_behind (next_number n) (body_said t t.header.entry)) body.next) in
+      (body_said t t.header.entry) (last_said t) body.goes (behind-entry (number_behind (next_number n) (body_said t t.header.entry)) body.next) in
       let labelled = join labels n (there first.left.words first.left.records) (there first.left.words first.left.records) (after image (ts ++ t ∷ []))
-          (line.Label (codes "l") ∷ []) (body_said t t.header.entry ++ last_said t) (label-goes first.left.words first.left.records) rest in
+      (line.Label (codes "l") ∷ []) (body_said t t.header.entry ++ last_said t) (label-goes first.left.words first.left.records) rest in
       subst (λ ls. Goes labels number (after image ts) ls (after image (ts ++ t ∷ []))) (sym (thread-split t entered))
       (join labels number (after image ts) (there first.left.words first.left.records) (after image (ts ++ t ∷ [])) (first_said t) (from_label t) first.goes labelled)
 
@@ -237,7 +235,7 @@ module _ (image : Image) (labels : List FoundLabels) (limits : IsFitting image) 
       let more = length-append ts (t ∷ []) in
       let one = thread-goes image labels limits ts (omega (arith, count, long)) (omega (arith, few)) t (thread-parts image.header.objects t both.0) inside_all.0 number known in
       let behind = threads-go 0 n (number_behind number (thread_said t)) (ts ++ t ∷ []) rest (front ++ own ∷ []) both.1 inside_all.1 (omega (arith, few, more)) longer
-          (same ∙ sym (append_assoc front (own ∷ []) others)) in
+      (same ∙ sym (append_assoc front (own ∷ []) others)) in
       subst (λ us. Goes labels number (after image ts) (flat_map thread_said (t ∷ rest)) (after image us)) (append_assoc ts (t ∷ []) rest)
       (join labels number (after image ts) (after image (ts ++ t ∷ [])) (after image ((ts ++ t ∷ []) ++ rest)) (thread_said t) (flat_map thread_said rest) one behind)
 

@@ -1,5 +1,5 @@
 -- Threads of an image that fits its format, and what their certificates note.
-use Rattle.std.proofs.Common.{ℕ, ◌≡◌, ◌==◌, ◌+◌, ◌-◌, ◌^◌, ◌<◌, ◌≤◌, ◌&&◌, ◌||◌, zero, suc, Bool, true, false, List, [], ◌∷◌, ◌++◌, length, Option, Some, None, is_some, refl, ap, sym, ◌∙◌, arith, eqb-true}
+use Rattle.std.proofs.Common.{ℕ, ◌≡◌, ◌==◌, ◌+◌, ◌-◌, ◌^◌, ◌<◌, ◌≤◌, ◌&&◌, ◌||◌, true, false, List, [], ◌∷◌, Option, Some, None, is_some, refl, sym, arith}
 use Rattle.std.specs.Prelude.{nat_le, nat_lt}
 use Rattle.std.specs.Int.{w32, w64}
 use mir.Val.{bits}
@@ -13,7 +13,6 @@ use Rattle.model.specs.declared.entries.SlotEntry.{SlotEntry}
 use Rattle.model.specs.declared.entries.TermEntry.{TermEntry}
 use Rattle.model.specs.declared.entries.ThreadHeader.{ThreadHeader}
 use Rattle.model.specs.Capabilities.CapabilityFields.{unpacked}
-use Rattle.model.specs.Capabilities.CapabilityWords.{IsCapability, words_of}
 use Rattle.model.specs.Images.Format.{field, fits_signed, many_fit, number}
 use Rattle.model.specs.Images.Image.{StateRecord, Thread, anything, below, between, is_constant, names_parent, no_parent, not_zero, pair_key, range_format, ranges_format, record_format, record_header_format, records_format, register_format, registers_format, slot_format, slots_format, term_format, terms_format, thread_format, thread_header_format, words_format}
 use Rattle.model.specs.Images.Listing.{range_line, register_line, slot_line}
@@ -103,8 +102,7 @@ record-header objects words least h is =
     let b = and_parts _ _ a.1 in
     let c = and_parts _ _ b.1 in
     let d = and_parts _ _ c.1 in
-    let point = and_parts _ _ (field-parts (λ point. nat_le least point && nat_lt point words) h.point a.0).1 in
-    (
+    let point = and_parts _ _ (field-parts (λ point. nat_le least point && nat_lt point words) h.point a.0).1 in (
       leb-true least h.point point.0,
       ltb-true h.point words point.1,
       (field-between 0 31 h.ranges b.0).1,

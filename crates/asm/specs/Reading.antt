@@ -1,5 +1,5 @@
 -- Lines as listings have them: where each may stand, and what is known behind it.
-use Rattle.std.specs.Prelude.{◌≡◌, ℕ, ◌<◌, true, List, [], ◌∷◌, ◌++◌, length, Option, Some, None, MatchOption, slice_index_or}
+use Rattle.std.specs.Prelude.{◌≡◌, ℕ, ◌<◌, true, List, [], ◌∷◌, ◌++◌, length, Some, None, MatchOption, slice_index_or}
 use Rattle.std.specs.Option.{option_map_or}
 use Rattle.asm_line.specs.declared.lines.Line.{Line}
 use Rattle.asm_line.specs.declared.lines.ThreadLine.{ThreadLine}

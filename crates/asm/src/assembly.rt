@@ -100,11 +100,7 @@ impl<'a> Assembly<'a> {
     }
 
     /// Adds the first line of a thread.
-    fn begin_thread(
-        &mut self,
-        line: ThreadLine<'a>,
-        labels: &[Labels<'a>],
-    ) -> Result<(), Fault>
+    fn begin_thread(&mut self, line: ThreadLine<'a>, labels: &[Labels<'a>]) -> Result<(), Fault>
         ensures { MayBeginThread labels.now self.old line.entry → Gives result (λ _. self.new ≡ record self.old { open_thread = Some (thread_begun self.old.declared.names (labels_at labels.now (length self.old.threads)) line.entry) }) }
     {
         let Some(labels) = labels.get(self.threads.len()) else {

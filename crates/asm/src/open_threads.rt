@@ -228,11 +228,7 @@ impl OpenThread {
         insert(&mut record.slots, MOST_SLOTS, entry)
     }
 
-    pub(crate) fn add_code<'a>(
-        &mut self,
-        code: Code<'a>,
-        labels: &Labels<'a>,
-    ) -> Result<(), Fault>
+    pub(crate) fn add_code<'a>(&mut self, code: Code<'a>, labels: &Labels<'a>) -> Result<(), Fault>
         ensures { MayAddCode self.old code.entry → Gives result (λ _. self.new ≡ with_word self.old (plain_word code.entry)) }
     {
         let word = word_at(self.point()?, code, labels)?;

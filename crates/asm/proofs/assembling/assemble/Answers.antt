@@ -5,10 +5,6 @@ use Rattle.std.specs.Str.Lines.{lines}
 use Rattle.model.specs.Images.Image.{Image}
 use Rattle.model.specs.Images.Listing.{Text, listing}
 use Rattle.asm_line.specs.Listed.{Lists}
-use Rattle.asm_line.specs.declared.lines.Line.{Line}
-use Rattle.asm.specs.declared.faults.Fault.{Fault}
-use Rattle.asm.specs.declared.faults.Fault.TheVariants.{Memory}
-use Rattle.asm.specs.Drafts.{nothing_read}
 use Rattle.asm.specs.Labels.{FoundLabels, labels_in}
 use Rattle.asm.specs.Reading.{IsInPlace, with_line}
 use Rattle.asm.proofs.DraftLeft.{all-to-read, behind-all, behind-line, line-here}
@@ -48,7 +44,7 @@ lines-preserved c said zip placed =
     behind-line _ c.next.new.self c.in-Some.line c.lines.number c.saturating_add-number.result c.lines.assembly (labels_in said) said now c.in-Some.ensures.steps c.saturating_add-number.ensures
     c.add_text.new.assembly
     (λ line lists there. c.in_default.ensures line lists (subst (λ (ls : List FoundLabels). IsInPlace ls c.saturating_add-number.result c.lines.assembly line) (sym labels) there)
-        ∙ ap (λ (ls : List FoundLabels). with_line ls c.lines.assembly line) labels)
+    ∙ ap (λ (ls : List FoundLabels). with_line ls c.lines.assembly line) labels)
 
 pub returns-in-Ok-clause-listed : goal.returns-in-Ok-clause-listed
 returns-in-Ok-clause-listed c listed is entered same =

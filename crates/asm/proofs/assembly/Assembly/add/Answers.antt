@@ -1,4 +1,4 @@
-use Rattle.std.proofs.Common.{◌≡◌, Option, Some, None, ap, sym, subst, ◌∙◌}
+use Rattle.std.proofs.Common.{Option, ap, sym, subst, ◌∙◌}
 use Rattle.asm.specs.Drafts.{Draft}
 use Rattle.asm.specs.Reading.{IsInPlace, with_line, with_thread_line}
 use Rattle.asm.specs.Threads.{OpenDraft}
@@ -11,5 +11,5 @@ returns-in-Some c h =
     let placed : IsInPlace c.args.labels.now c.args.number draft c.args.line = subst (λ (d : Draft). IsInPlace c.args.labels.now c.args.number d c.args.line) (sym c.self.view_is) h in
     let here = line-in-thread c.args.labels.now c.args.number draft c.in-Some.thread c.args.line c.if-is_none.ensures (sym c.take.ensures.value ∙ c.in-Some.is) placed in
     let leads = ap (λ (o : Option OpenDraft). with_thread_line (record draft { open_thread = o }) c.in-Some.thread c.args.line) c.take.ensures.after
-        ∙ here.leads ∙ ap (λ (d : Draft). with_line c.args.labels.now d c.args.line) c.self.view_is in
+    ∙ here.leads ∙ ap (λ (d : Draft). with_line c.args.labels.now d c.args.line) c.self.view_is in
     gives-then c.add_to_thread.result _ _ (λ _ same. same ∙ leads) (c.add_to_thread.ensures here.searched here.placed)

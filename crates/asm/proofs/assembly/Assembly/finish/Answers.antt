@@ -1,5 +1,4 @@
 use Rattle.std.proofs.Common.{◌≡◌, true, false, ap, sym, ◌∙◌}
-use Rattle.std.specs.Prelude.{map}
 use Rattle.model.specs.Images.Image.{whole_image}
 use Rattle.asm.specs.Drafts.{Draft, draft_of}
 use Rattle.asm.specs.Sections.{Declared}
@@ -28,6 +27,6 @@ returns-clause-listed c listed is same =
     let said : draft ≡ draft_of listed = c.self.view_is ∙ same in
     let entries = c.in_ok-capabilities.ensures (sources-here listed is draft said) in
     let whole = ap (λ (d : Declared). assembled c.in-Some.memory d c.in_ok-capabilities.capabilities.items draft.threads) c.declared.view_is
-        ∙ is-listed listed is draft said c.in-Some.memory c.in-Some.is c.in_ok-capabilities.capabilities.items entries in
+    ∙ is-listed listed is draft said c.in-Some.memory c.in-Some.is c.in_ok-capabilities.capabilities.items entries in
     let clash : false ≡ true = sym c.in-Err.ensures.err.1 ∙ ap (λ i. whole_image.fits i) whole ∙ is in
     absurd (cc)

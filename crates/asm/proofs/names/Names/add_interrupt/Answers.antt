@@ -14,8 +14,8 @@ returns c h =
     let name = c.args.name.now in
     let free = none-of-three (list_any (bytes_eq name) old.untypeds) (list_any (bytes_eq name) old.objects) (is_some (line_of_name old name)) h in
     let added : map with_text c.insert.new.self.entries ≡ old.interrupts ++ (name, c.args.line) ∷ [] =
-        ap (map with_text) c.in_ok-insert.ensures.entries
-        ∙ insert-shown c.text.result c.args.line c.self.inside.interrupts.entries
-            ((λ i. lookup (bytes_eq (c.text.ensures i)) (c.self.view_is i).interrupts) ∙ is-none (line_of_name old name) free.2)
-        ∙ (λ i. (c.self.view_is i).interrupts ++ (c.text.ensures i, c.args.line) ∷ []) in
+    ap (map with_text) c.in_ok-insert.ensures.entries
+    ∙ insert-shown c.text.result c.args.line c.self.inside.interrupts.entries
+    ((λ i. lookup (bytes_eq (c.text.ensures i)) (c.self.view_is i).interrupts) ∙ is-none (line_of_name old name) free.2)
+    ∙ (λ i. (c.self.view_is i).interrupts ++ (c.text.ensures i, c.args.line) ∷ []) in
     λ i. record (c.self.view_is i) { interrupts = added i }

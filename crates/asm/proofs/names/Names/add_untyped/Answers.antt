@@ -13,7 +13,7 @@ returns c h =
     let name = c.args.name.now in
     let free = none-of-three (list_any (bytes_eq name) old.untypeds) (list_any (bytes_eq name) old.objects) (is_some (line_of_name old name)) h in
     let added : map text_of c.insert.new.self.keys ≡ old.untypeds ++ name ∷ [] =
-        ap (map text_of) c.in_ok-insert.ensures.keys
-        ∙ insert-key-shown c.text.result c.self.inside.untypeds.keys ((λ i. list_any (bytes_eq (c.text.ensures i)) (c.self.view_is i).untypeds) ∙ free.0)
-        ∙ (λ i. (c.self.view_is i).untypeds ++ c.text.ensures i ∷ []) in
+    ap (map text_of) c.in_ok-insert.ensures.keys
+    ∙ insert-key-shown c.text.result c.self.inside.untypeds.keys ((λ i. list_any (bytes_eq (c.text.ensures i)) (c.self.view_is i).untypeds) ∙ free.0)
+    ∙ (λ i. (c.self.view_is i).untypeds ++ c.text.ensures i ∷ []) in
     λ i. record (c.self.view_is i) { untypeds = added i }
