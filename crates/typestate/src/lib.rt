@@ -18,6 +18,7 @@ mod messages;
 mod noted;
 mod plain_calls;
 mod points;
+mod pool_calls;
 mod records;
 mod slot_changes;
 mod spaces;
