@@ -36,3 +36,4 @@ pub mod HandlerRules
 pub mod PoolRules
 pub mod MadeSlots
 pub mod PoolPlaces
+pub mod CallsOn
