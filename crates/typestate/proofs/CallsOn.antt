@@ -6,9 +6,20 @@ use Rattle.model.specs.declared.errors.KError.{KError}
 use Rattle.model.specs.declared.errors.KError.TheVariants.{IllegalOperation, TruncatedMessage}
 use Rattle.model.specs.declared.invocations.Invocation.{Invocation}
 use Rattle.model.specs.declared.invocations.UntypedMemory.{UntypedMemory}
+use Rattle.std.specs.Prelude.{IfOk}
+use Rattle.model.specs.declared.invocations.CNodeCall.{CNodeCall}
+use Rattle.model.specs.declared.invocations.CNodeCall.TheVariants.{Copy, Mint, Move, Mutate, Delete, Revoke}
+use Rattle.model.specs.declared.invocations.Invocation.TheVariants.{OnThread, OnCNode, OnTable, OnControl}
+use Rattle.model.specs.declared.invocations.SlotName.{SlotName}
+use Rattle.model.specs.declared.invocations.TableCall.{TableCall}
+use Rattle.model.specs.declared.invocations.ThreadCall.{ThreadCall}
+use Rattle.model.specs.declared.refusals.Point.{Point}
+use Rattle.model.specs.Acceptance.NotedStates.{NotedSlot, is_foreign}
+use Rattle.model.specs.Images.Image.{Image, Thread}
 use Rattle.model.specs.Kernel.Arguments.{◌>>=◌, check, wanted}
 use Rattle.model.specs.Kernel.CallForms.{CallForm, acknowledge_label, clear_label, configure_label, copy_label, decode, delete_label, form_called, form_of, get_handler_label, map_frame_label, map_table_label, mint_label, move_label, mutate_label, resume_label, retype_label, revoke_label, set_notification_label, set_priority_label, set_register_label, suspend_label, unmap_frame_label, unmap_table_label}
-use Rattle.typestate.specs.Invocations.{IsCallOn}
+use Rattle.typestate.specs.CNodeCalls.{cnode_after}
+use Rattle.typestate.specs.Invocations.{IsCallOn, held_after}
 
 -- whatever the words are
 abbrev MakesCalls : Cap → Option CallForm → Type 0
@@ -67,3 +78,59 @@ from-form c true (Some form) count words call makes is =
 pub decoded-on : (c : Cap) (label extra : ℕ) (words : List ℕ) (call : Invocation) → decode c label extra words ≡ Ok call → IsCallOn c call
 unfolding decode
 decoded-on c label extra words call is = from-form c (extra == 0) (form_of c label) (length words) words call (forms-on c label) is
+
+-- ---- calls that no program makes
+
+module _ (image : Image) (t : Thread) (cnodes : List ℕ) where
+  pub no-thread : (c : Cap) (thread : ℕ) (call : ThreadCall) → is_foreign image t cnodes c ≡ false → IsCallOn c (OnThread thread call) → ⊥
+  no-thread Empty thread call own is = absurd is
+  no-thread (Untyped _ _ _) thread call own is = absurd is
+  no-thread (Endpoint _ _ _) thread call own is = absurd is
+  no-thread (Notification _ _ _) thread call own is = absurd is
+  no-thread (CNode _ _ _) thread call own is = absurd is
+  no-thread (Frame _ _ _) thread call own is = absurd is
+  no-thread (PageTable _ _) thread call own is = absurd is
+  no-thread (Tcb _) thread call own is = absurd (let clash : true ≡ false = own in cc)
+  no-thread (RootTable _) thread call own is = absurd is
+  no-thread InterruptControl thread call own is = absurd is
+  no-thread (InterruptHandler _) thread call own is = absurd is
+
+  pub no-table-call : (c : Cap) (call : TableCall) → is_foreign image t cnodes c ≡ false → IsCallOn c (OnTable call) → ⊥
+  no-table-call Empty call own is = absurd is
+  no-table-call (Untyped _ _ _) call own is = absurd is
+  no-table-call (Endpoint _ _ _) call own is = absurd is
+  no-table-call (Notification _ _ _) call own is = absurd is
+  no-table-call (CNode _ _ _) call own is = absurd is
+  no-table-call (Frame _ _ _) call own is = absurd is
+  no-table-call (PageTable _ _) call own is = absurd (let clash : true ≡ false = own in cc)
+  no-table-call (Tcb _) call own is = absurd is
+  no-table-call (RootTable _) call own is = absurd is
+  no-table-call InterruptControl call own is = absurd is
+  no-table-call (InterruptHandler _) call own is = absurd is
+
+  pub no-control : (c : Cap) (line : ℕ) (name : SlotName) → is_foreign image t cnodes c ≡ false → IsCallOn c (OnControl line name) → ⊥
+  no-control Empty line name own is = absurd is
+  no-control (Untyped _ _ _) line name own is = absurd is
+  no-control (Endpoint _ _ _) line name own is = absurd is
+  no-control (Notification _ _ _) line name own is = absurd is
+  no-control (CNode _ _ _) line name own is = absurd is
+  no-control (Frame _ _ _) line name own is = absurd is
+  no-control (PageTable _ _) line name own is = absurd is
+  no-control (Tcb _) line name own is = absurd is
+  no-control (RootTable _) line name own is = absurd is
+  no-control InterruptControl line name own is = absurd (let clash : true ≡ false = own in cc)
+  no-control (InterruptHandler _) line name own is = absurd is
+
+-- a CNode's own slot does not count
+pub cnode-anywhere : (image : Image) (t : Thread) (at : Point) (slots : List NotedSlot) (held : NotedSlot) (c : CNodeCall)
+    → held_after image t at slots held (OnCNode c) ≡ cnode_after image t at slots held.capability c
+cnode-anywhere image t at slots held (Copy destination source word) = refl
+cnode-anywhere image t at slots held (Mint destination source word payload) = refl
+cnode-anywhere image t at slots held (Move destination source) = refl
+cnode-anywhere image t at slots held (Mutate destination source payload) = refl
+cnode-anywhere image t at slots held (Delete name) = refl
+cnode-anywhere image t at slots held (Revoke name) = refl
+
+pub done-as : {A E : Type 0} (r : Result A E) (P Q : A → Type 0) → ((x : A) → P x → Q x) → IfOk r P → IfOk r Q
+done-as (Ok x) P Q each is = each x is
+done-as (Err error) P Q each is = tt
