@@ -1,7 +1,7 @@
 //! The program of a thread, and what follows from the state of a point of it.
 
 ghost use Rattle.std.specs.Prelude.{ℕ, ◌≡◌, ◌+◌, ◌<◌, ◌≤ℤ◌, ◌^◌, ◌-◌, ◌≤◌, [], IfOk, List, negsuc, option_map};
-ghost use Rattle.certificates.specs.Calls.{left_with};
+ghost use Rattle.typestate.specs.Calls.{left_with};
 ghost use Rattle.certificates.specs.Kept.{IsSound, kept_as, noted_by, state_by};
 ghost use Rattle.certificates.specs.declared.kept.Kept.TheVariants as kept;
 ghost use Rattle.certificates.specs.Programs.{IsProgram};

@@ -1,7 +1,7 @@
 //! What is asked of a thread's slots and of its system calls.
 
 ghost use Rattle.std.specs.Prelude.{◌≡◌, [], IfOk, List, false, option_map};
-ghost use Rattle.certificates.specs.Calls.{left_with};
+ghost use Rattle.typestate.specs.Calls.{left_with};
 ghost use Rattle.model.specs.Acceptance.CallRules.{after_call};
 ghost use Rattle.model.specs.Acceptance.Measures.{Measure};
 ghost use Rattle.model.specs.Acceptance.NotedStates.{has_stray_slots, image_slots, record_of};

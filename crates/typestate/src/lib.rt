@@ -3,6 +3,7 @@
 
 mod arguments;
 mod behind;
+mod calls_at_points;
 mod change_lists;
 mod cnode_calls;
 mod comparisons;
