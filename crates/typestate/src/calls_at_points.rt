@@ -11,7 +11,7 @@ ghost use Rattle.typestate.specs.Mappings.{MappingsAreListed};
 ghost use Rattle.typestate.specs.Spaces.{AreOwn, IsSpace, NothingLeadsOutside, StandsApart, own_slots};
 
 use crate::{Behind, NotedSlot, NotedSlots, Space, SystemCall, message_call};
-use model::{Cap, Point, Refusal, Slot};
+use model::{Cap, Point, Refusal};
 use ranges::Bounds;
 use std::alloc::AllocError;
 
@@ -23,7 +23,7 @@ impl Space<'_, '_> {
         slots: &NotedSlots<'_>,
         at: Point,
         bounds: &Bounds,
-        slot: Slot,
+        slot: u32,
         capability: Cap,
         answers: bool,
         made: &mut Vec<NotedSlot>,

@@ -13,7 +13,7 @@ ghost use Rattle.typestate.specs.Spaces.{AreOwn, IsSpace, NothingLeadsOutside, S
 
 use crate::spaces::key_in;
 use crate::{NotedSlot, NotedSlots, SlotChange, Space};
-use model::{Invocation, Point, Refusal, Slot};
+use model::{Invocation, Point, Refusal};
 use std::alloc::AllocError;
 
 /// Puts what a call makes of the slots into a list, which is empty.
@@ -36,7 +36,7 @@ fn note_left(
 
 impl Space<'_, '_> {
     /// The full slot of the thread's that has a number.
-    pub fn held(&self, slots: &NotedSlots<'_>, slot: Slot) -> NotedSlot
+    pub fn held(&self, slots: &NotedSlots<'_>, slot: u32) -> NotedSlot
         requires space { IsSpace self.now }
         requires apart { StandsApart self.now.image.now self.now.thread.now }
         requires own { AreOwn self.now.image.now self.now.thread.now (slots_of slots.now) }
@@ -45,7 +45,7 @@ impl Space<'_, '_> {
         ensures held { slot_at (slots_of slots.now) result.key ≡ Some result }
         ensures capability { result.capability ≡ capability_at (own_slots self.now.windows.now (slots_of slots.now)) slot }
     {
-        let Some(key) = key_in(self.windows, slot.number()) else {
+        let Some(key) = key_in(self.windows, slot) else {
             unreachable!()
         };
         let Some(held) = slots.at(key) else {

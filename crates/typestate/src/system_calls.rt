@@ -39,9 +39,9 @@ pub(crate) enum Kind {
 pub enum SystemCall {
     /// It leaves the slots as they are, and this of the registers.
     Plain(Behind),
-    /// A call on the capability in this slot, and whether it has an answer.
+    /// A call on the capability in the slot of this number, and whether it has an answer.
     Invokes {
-        slot: Slot,
+        slot: u32,
         capability: Cap,
         answers: bool,
     },
@@ -89,7 +89,7 @@ fn sends(
         Cap::Notification { rights, .. } => sends_signal(at, bounds, kind, rights),
         _ => {
             return Ok(SystemCall::Invokes {
-                slot,
+                slot: slot.number(),
                 capability,
                 answers: matches!(kind, Sending::Calling),
             });
