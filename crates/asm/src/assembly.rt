@@ -1,7 +1,12 @@
 //! An image whose lines are being read.
 
-ghost use Rattle.std.specs.Prelude.{◌≡◌, true, IfOk};
+ghost use Rattle.std.specs.Prelude.{◌≡◌, ◌<◌, true, length, IfOk, Some};
+ghost use Rattle.model.specs.Images.Image as described;
 ghost use Rattle.model.specs.Images.Image.{whole_image};
+ghost use Rattle.asm.specs.Drafts.{draft_of, nothing_read};
+ghost use Rattle.asm.specs.Outcomes.{Gives};
+ghost use Rattle.asm.specs.Reading.{IsDeclaration, IsFirst, IsInPlace, IsThreadLine, MayBeginThread, labels_at, with_declaration, with_first, with_line, with_thread_line};
+ghost use Rattle.asm.specs.Threads.{thread_begun};
 
 use crate::declarations::Declarations;
 use crate::faults::Fault;
@@ -10,6 +15,7 @@ use crate::open_threads::OpenThread;
 use asm_line::{Line, ThreadLine};
 use image::{Image, Parts, ThreadParts};
 use std::alloc::Global;
+use std::marker::Model;
 
 /// How many threads an image has at most.
 const MOST_THREADS: usize = 64;
@@ -35,8 +41,18 @@ pub(crate) struct Assembly<'a> {
     open: Option<OpenThread>,
 }
 
+impl<'a> Model for Assembly<'a> {
+    ghost use Rattle.asm.specs.Drafts.{Draft};
+
+    ghost Value = { Draft };
+
+    ghost view = { λ a. record { memory = a.memory; declared = a.declared; threads = a.threads.items; open_thread = a.open } };
+}
+
 impl<'a> Assembly<'a> {
-    pub(crate) fn new(alloc: Global) -> Assembly<'a> {
+    pub(crate) fn new(alloc: Global) -> Assembly<'a>
+        ensures { result ≡ nothing_read }
+    {
         Assembly {
             alloc,
             memory: None,
@@ -52,14 +68,15 @@ impl<'a> Assembly<'a> {
         line: Line<'a>,
         number: u64,
         labels: &[Labels<'a>],
-    ) -> Result<(), Fault> {
+    ) -> Result<(), Fault>
+        ensures { IsInPlace labels.now number self.old line.entry → Gives result (λ _. self.new ≡ with_line labels.now self.old line.entry) }
+    {
         if let Line::Blank = &line {
             return Ok(());
         }
         if self.memory.is_none() {
             return self.begin(line);
         }
-        let labels = labels.get(self.threads.len());
         match self.open.take() {
             Some(thread) => self.add_to_thread(thread, line, number, labels),
             None => self.declare(line, labels),
@@ -67,7 +84,9 @@ impl<'a> Assembly<'a> {
     }
 
     /// Adds the first line.
-    fn begin(&mut self, line: Line<'a>) -> Result<(), Fault> {
+    fn begin(&mut self, line: Line<'a>) -> Result<(), Fault>
+        ensures { IsFirst line.entry → Gives result (λ _. self.new ≡ with_first self.old line.entry) }
+    {
         match line {
             Line::Memory {
                 memory_bits: bits,
@@ -81,12 +100,10 @@ impl<'a> Assembly<'a> {
     }
 
     /// Adds the first line of a thread.
-    fn begin_thread(
-        &mut self,
-        line: ThreadLine<'a>,
-        labels: Option<&Labels<'a>>,
-    ) -> Result<(), Fault> {
-        let Some(labels) = labels else {
+    fn begin_thread(&mut self, line: ThreadLine<'a>, labels: &[Labels<'a>]) -> Result<(), Fault>
+        ensures { MayBeginThread labels.now self.old line.entry → Gives result (λ _. self.new ≡ record self.old { open_thread = Some (thread_begun self.old.declared.names (labels_at labels.now (length self.old.threads)) line.entry) }) }
+    {
+        let Some(labels) = labels.get(self.threads.len()) else {
             return Err(Fault::UnknownName);
         };
         let thread = OpenThread::begin(self.alloc, line, &self.declared.names, labels)?;
@@ -98,7 +115,9 @@ impl<'a> Assembly<'a> {
     }
 
     /// Adds a line that stands in no thread.
-    fn declare(&mut self, line: Line<'a>, labels: Option<&Labels<'a>>) -> Result<(), Fault> {
+    fn declare(&mut self, line: Line<'a>, labels: &[Labels<'a>]) -> Result<(), Fault>
+        ensures { IsDeclaration labels.now self.old line.entry → Gives result (λ _. self.new ≡ with_declaration labels.now self.old line.entry) }
+    {
         match line {
             Line::Untyped { name, entry } => self.declared.add_untyped(name, entry),
             Line::Object {
@@ -145,9 +164,11 @@ impl<'a> Assembly<'a> {
         mut thread: OpenThread,
         line: Line<'a>,
         number: u64,
-        labels: Option<&Labels<'a>>,
-    ) -> Result<(), Fault> {
-        let Some(labels) = labels else {
+        labels: &[Labels<'a>],
+    ) -> Result<(), Fault>
+        ensures { length self.old.threads < length labels.now → IsThreadLine (labels_at labels.now (length self.old.threads)) number self.old.declared.names thread line.entry → Gives result (λ _. self.new ≡ with_thread_line self.old thread line.entry) }
+    {
+        let Some(labels) = labels.get(self.threads.len()) else {
             return Err(Fault::UnknownName);
         };
         match line {
@@ -180,7 +201,8 @@ impl<'a> Assembly<'a> {
 
     /// The image behind the last line.
     pub(crate) fn finish(self) -> Result<Image, Fault>
-        ensures { IfOk result (λ image. whole_image.fits image ≡ true) }
+        ensures fits { IfOk result (λ image. whole_image.fits image ≡ true) }
+        ensures listed { (listed : described.Image) → whole_image.fits listed ≡ true → self.entry ≡ draft_of listed → Gives result (λ image. image ≡ listed) }
     {
         let Some(memory) = self.memory else {
             return Err(Fault::Syntax);

@@ -36,6 +36,7 @@ impl Fault {
     pub(crate) fn at(self, line: u64) -> SourceFault
         ensures line { result.line ≡ line }
         ensures kind { (1 ≤ result.kind) × (result.kind ≤ 5) }
+        ensures memory { self ≡ Fault.Memory → result.kind ≡ 5 }
     {
         let kind = match self {
             Fault::Syntax => 1,

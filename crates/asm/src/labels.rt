@@ -1,11 +1,19 @@
 //! The labels of each thread, which may stand anywhere in it.
 
-ghost use Rattle.std.specs.Prelude.{◌≤◌, IfErr};
+ghost use Rattle.std.specs.Prelude.{◌≡◌, ◌≤◌, IfErr, List, MatchResult, Ok, Err, true, is_some, if◌then◌else◌};
+ghost use Rattle.std.specs.List.{AllZip};
+ghost use Rattle.std.specs.Str.Lines.{lines};
+ghost use Rattle.asm_line.specs.Listed.{Lists};
+ghost use Rattle.asm_line.specs.declared.lines.Line.{Line};
+ghost use Rattle.asm.specs.declared.faults.Fault.{Fault};
+ghost use Rattle.asm.specs.Labels.{closed, is_first_on, labels_in, no_labels, place_named, point_of, searched_line, with_label};
+ghost use Rattle.asm.specs.Outcomes.{Gives};
 
 use crate::faults::{Fault, SourceFault};
 use asm_line::{Line, Name, parse_line};
+use indexmap::IndexMap;
 use std::alloc::Global;
-use std::collections::HashMap;
+use std::marker::Model;
 
 /// Where a label stands.
 #[derive(Clone, Copy)]
@@ -18,42 +26,80 @@ struct Place {
 /// The labels of a thread, each where it stands first.
 #[derive(Drop)]
 pub(crate) struct Labels<'a> {
-    places: HashMap<&'a str, Place>,
+    places: IndexMap<&'a str, Place>,
     /// How many words the program has.
     points: u32,
 }
 
+impl<'a> Model for Labels<'a> {
+    ghost use Rattle.std.specs.Prelude.{map};
+    ghost use Rattle.asm.specs.Labels.{FoundLabels};
+
+    ghost Value = { FoundLabels };
+
+    ghost view = { λ l. record { places = map (λ e. (e.0.now, e.1)) l.places.entries; points = l.points } };
+}
+
 impl<'a> Labels<'a> {
-    fn new(alloc: Global) -> Labels<'a> {
+    fn new(alloc: Global) -> Labels<'a>
+        ensures { result ≡ no_labels }
+    {
         Labels {
-            places: HashMap::new(alloc),
+            places: IndexMap::new(alloc),
             points: 0,
         }
     }
 
+    /// Where a label stands.
+    fn place(&self, name: &str) -> Option<Place>
+        ensures { result ≡ place_named self.now name.now }
+    {
+        self.places.get(name).copied()
+    }
+
     /// Notes a label, unless it is there already.
-    fn note(&mut self, name: &Name<'a>, line: u64) -> Result<(), Fault> {
+    fn note(&mut self, name: &Name<'a>, line: u64) -> Result<(), Fault>
+        ensures { Gives result (λ _. self.new ≡ with_label self.old name.now line) }
+    {
         let text = name.text();
-        if !self.places.contains_key(text) {
-            let point = self.points;
-            self.places.insert(text, Place { line, point })?;
+        match self.place(text) {
+            Some(_) => Ok(()),
+            None => {
+                let point = self.points;
+                self.places.insert(text, Place { line, point })?;
+                Ok(())
+            }
         }
-        Ok(())
     }
 
     /// The point that a label names.
-    pub(crate) fn point(&self, name: &Name<'a>) -> Result<u32, Fault> {
-        match self.places.get(name.text()) {
+    pub(crate) fn point(&self, name: &Name<'a>) -> Result<u32, Fault>
+        ensures { is_some (place_named self.now name.now) ≡ true → result ≡ Ok (point_of self.now name.now) }
+    {
+        match self.place(name.text()) {
             Some(place) => Ok(place.point),
             None => Err(Fault::UnknownName),
         }
     }
 
+    /// Whether the label on this line is the first of its name.
+    fn is_first(&self, name: &Name<'a>, line: u64) -> bool
+        ensures { result ≡ is_first_on self.now name.now line }
+    {
+        match self.place(name.text()) {
+            Some(place) => place.line == line,
+            None => false,
+        }
+    }
+
     /// The label on this line is to be the first of its name.
-    pub(crate) fn check_first(&self, name: &Name<'a>, line: u64) -> Result<(), Fault> {
-        match self.places.get(name.text()) {
-            Some(place) if place.line == line => Ok(()),
-            _ => Err(Fault::Duplicate),
+    pub(crate) fn check_first(&self, name: &Name<'a>, line: u64) -> Result<(), Fault>
+        ensures { result ≡ (if is_first_on self.now name.now line then Ok tt else Err Fault.Duplicate) }
+    {
+        if self.is_first(name, line) {
+            Ok(())
+        } else {
+            Err(Fault::Duplicate)
         }
     }
 }
@@ -66,15 +112,27 @@ struct Search<'a> {
     open: Option<Labels<'a>>,
 }
 
+impl<'a> Model for Search<'a> {
+    ghost use Rattle.asm.specs.Labels.{Searched};
+
+    ghost Value = { Searched };
+
+    ghost view = { λ s. record { threads = s.threads.items; open_labels = s.open } };
+}
+
 impl<'a> Search<'a> {
-    fn close(&mut self) -> Result<(), Fault> {
+    fn close(&mut self) -> Result<(), Fault>
+        ensures { Gives result (λ _. self.new ≡ closed self.old) }
+    {
         if let Some(labels) = self.open.take() {
             self.threads.push(labels)?;
         }
         Ok(())
     }
 
-    fn add(&mut self, alloc: Global, line: Line<'a>, number: u64) -> Result<(), Fault> {
+    fn add(&mut self, alloc: Global, line: Line<'a>, number: u64) -> Result<(), Fault>
+        ensures { Gives result (λ _. self.new ≡ searched_line self.old number line.entry) }
+    {
         match line {
             Line::Thread(_) => {
                 if self.open.is_none() {
@@ -102,9 +160,25 @@ impl<'a> Search<'a> {
     }
 }
 
-/// The labels of each thread of a text, up to its line `end`. Lines that are none are passed over.
+/// Adds the labels on a line. One that is none of the text form is passed over.
+fn search_line<'a>(
+    search: &mut Search<'a>,
+    alloc: Global,
+    text: &'a str,
+    number: u64,
+) -> Result<(), Fault>
+    ensures { (said : Line) → Lists said text.now → Gives result (λ _. search.new ≡ searched_line search.old number said) }
+{
+    match parse_line(text) {
+        Ok(said) => search.add(alloc, said, number),
+        Err(_) => Ok(()),
+    }
+}
+
+/// The labels of each thread of a text, up to its line `end`.
 pub(crate) fn labels_of<'a>(alloc: Global, text: &'a str) -> Result<Vec<Labels<'a>>, SourceFault>
-    ensures { IfErr result (λ fault. (1 ≤ fault.line) × (1 ≤ fault.kind) × (fault.kind ≤ 5)) }
+    ensures fault { IfErr result (λ fault. (1 ≤ fault.line) × (1 ≤ fault.kind) × (fault.kind ≤ 5)) }
+    ensures listed { (said : List Line) → AllZip Lists said (lines text.now) → MatchResult result (λ labels. labels.items ≡ labels_in said) (λ fault. fault.kind ≡ 5) }
 {
     let mut search = Search {
         threads: Vec::new(alloc),
@@ -113,10 +187,8 @@ pub(crate) fn labels_of<'a>(alloc: Global, text: &'a str) -> Result<Vec<Labels<'
     let mut number = 0u64;
     'lines: for line in text.lines() {
         number = number.saturating_add(1);
-        if let Ok(said) = parse_line(line) {
-            if let Err(fault) = search.add(alloc, said, number) {
-                return Err(fault.at(number));
-            }
+        if let Err(fault) = search_line(&mut search, alloc, line, number) {
+            return Err(fault.at(number));
         }
     }
     match search.close() {

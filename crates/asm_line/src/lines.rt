@@ -1,8 +1,10 @@
 //! What a line says.
 
 ghost use Rattle.std.specs.Prelude.{◌≡◌, ◌<◌, ◌^◌, ◌∷◌, ◌++◌, ℕ, List, Some, decimal};
+ghost use Rattle.std.specs.Result.{result_ok};
 ghost use Rattle.model.specs.declared.entries.TermEntry.{TermEntry};
 ghost use Rattle.model.specs.Images.Listing.{Text, term_words};
+ghost use Rattle.asm_line.specs.Lines.{term_first, word_first};
 ghost use Rattle.asm_line.specs.Listed.{IsTerm};
 
 use crate::names::Name;
@@ -100,14 +102,16 @@ pub enum Line<'a> {
 impl<'a> Words<'a> {
     /// The first of the words of a `data` line that are left, and those behind it.
     pub fn next_word(self) -> Option<(u32, Words<'a>)>
-        ensures { (word : ℕ) (rest : List Text) → word < 2 ^ 32 → self.entry ≡ decimal word ∷ rest → result ≡ Some (word, rest) }
+        ensures exact { result ≡ result_ok (word_first self.entry) }
+        ensures listed { (word : ℕ) (rest : List Text) → word < 2 ^ 32 → self.entry ≡ decimal word ∷ rest → result ≡ Some (word, rest) }
     {
         word_and_rest(self).ok()
     }
 
     /// The first of the terms of a `measure` line that are left, and the words behind it.
     pub fn next_term(self) -> Option<(TermEntry, Words<'a>)>
-        ensures { (term : TermEntry) (rest : List Text) → IsTerm term → self.entry ≡ term_words term ++ rest → result ≡ Some (term, rest) }
+        ensures exact { result ≡ result_ok (term_first self.entry) }
+        ensures listed { (term : TermEntry) (rest : List Text) → IsTerm term → self.entry ≡ term_words term ++ rest → result ≡ Some (term, rest) }
     {
         term_and_rest(self).ok()
     }

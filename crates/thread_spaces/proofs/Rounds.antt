@@ -1,0 +1,166 @@
+-- Rounds over the listed capabilities: each finds CNodes behind those that are found, and what finds none is the last.
+use Rattle.std.proofs.Common.{ℕ, zero, suc, ◌≡◌, ◌∙◌, ◌+◌, ◌-◌, ◌<◌, ◌≤◌, ◌⊎◌, inl, inr, ◌&&◌, ◌||◌, drop, Bool, true, false, not, if◌then◌else◌, Some, None, List, [], ◌∷◌, ◌++◌, length, refl, sym, ap, subst, arith, length-append}
+use Rattle.std.specs.Prelude.{fold, is_some, nat_eq, slice_get}
+use Rattle.std.proofs.lemmas.Option.{none-some, same_Some}
+use Rattle.std.proofs.lemmas.Bool.{eqb-true, or_cases}
+use Rattle.model.specs.declared.entries.CapabilityEntry.{CapabilityEntry}
+use Rattle.model.specs.Acceptance.ThreadRules.{is_cnode_source, is_member, reached, reached_within, with_named}
+use Rattle.model.specs.Acceptance.WellFormed.{radix_of}
+use Rattle.model.specs.Images.Image.{Image, Thread}
+use Rattle.model.specs.Images.Places.{is_handler, type_at}
+
+-- ---- what is found stays, and stands in front
+
+record IsGrown (found after : List ℕ) : Type 0 where
+  pub longer : length found ≤ length after
+  pub same : length after ≡ length found → after ≡ found
+
+grown-none : (found : List ℕ) → IsGrown found found
+grown-none found = record { longer = omega arith; same = λ _. refl }
+
+module _ (image : Image) where
+  grown-one : (found : List ℕ) (c : CapabilityEntry) → IsGrown found (with_named image found c)
+  grown-one found c =
+      elim (is_member c.cnode found && is_cnode_source image c.source && not (is_member c.source found)) as (λ b. IsGrown found (if b then found ++ c.source ∷ [] else found)) [
+        | true ↦
+            let long = length-append found (c.source ∷ []) in
+            record { longer = omega (arith, long); same = λ is. absurd (omega (arith, long, is)) }
+        | false ↦ grown-none found
+      ]
+
+  grown-all : (capabilities : List CapabilityEntry) (found : List ℕ) → IsGrown found (fold (with_named image) found capabilities)
+  grown-all [] found = grown-none found
+  grown-all (c ∷ rest) found =
+      let one = grown-one found c in
+      let more = grown-all rest (with_named image found c) in
+      record {
+        longer = omega (arith, one.longer, more.longer);
+        same = λ is.
+            let first = one.same (omega (arith, one.longer, more.longer, is)) in
+            more.same (omega (arith, one.longer, more.longer, is)) ∙ first;
+      }
+
+  -- a round that finds none changes nothing
+  pub none-found : (found after : List ℕ) → after ≡ fold (with_named image) found image.capabilities → length after ≡ length found → fold (with_named image) found image.capabilities ≡ found
+  none-found found after is same = (grown-all image.capabilities found).same (ap (λ (xs : List ℕ). length xs) (sym is) ∙ same)
+
+  pub last-round : (rounds : ℕ) (found : List ℕ) → fold (with_named image) found image.capabilities ≡ found → reached_within rounds image found ≡ found
+  unfolding reached_within
+  last-round zero found same = refl
+  last-round (suc rounds) found same = ap (reached_within rounds image) same ∙ last-round rounds found same
+
+  pub one-round : (rounds : ℕ) (found : List ℕ) → reached_within (suc rounds) image found ≡ reached_within rounds image (fold (with_named image) found image.capabilities)
+  unfolding reached_within
+  one-round rounds found = refl
+
+  pub no-round : (found : List ℕ) → reached_within 0 image found ≡ found
+  unfolding reached_within
+  no-round found = refl
+
+  -- ---- what is found are CNodes
+
+  abbrev pub IsRadixed : ℕ → Type 0
+  IsRadixed number = is_some (radix_of (type_at image number)) ≡ true
+
+  abbrev AreCNodes : List ℕ → Type 0
+  AreCNodes found = (number : ℕ) → is_member number found ≡ true → IsRadixed number
+
+  member-cases : (number : ℕ) (found : List ℕ) (more : ℕ) → is_member number (found ++ more ∷ []) ≡ true → (is_member number found ≡ true) ⊎ (number ≡ more)
+  member-cases number [] more is = elim (or_cases (nat_eq number more) false is) [
+    | inl same ↦ inr (eqb-true number more same)
+    | inr none ↦ absurd (let clash : false ≡ true = none in cc)
+  ]
+  member-cases number (x ∷ rest) more is = elim (or_cases (nat_eq number x) (is_member number (rest ++ more ∷ [])) is) [
+    | inl same ↦ inl (ap (λ b. b || is_member number rest) same)
+    | inr later ↦ elim (member-cases number rest more later) [
+      | inl before ↦ inl (or-second (nat_eq number x) (is_member number rest) before)
+      | inr last ↦ inr last
+    ]
+  ]
+    where
+      or-second : (a b : Bool) → b ≡ true → (a || b) ≡ true
+      or-second true b is = refl
+      or-second false b is = is
+
+  source-radixed : (source : ℕ) → is_cnode_source image source ≡ true → IsRadixed source
+  source-radixed source is =
+      elim (is_handler image source) as (λ b. is_some (radix_of (if b then None else type_at image source)) ≡ true → IsRadixed source) [
+        | true ↦ λ clash. absurd (let no : false ≡ true = clash in cc)
+        | false ↦ λ there. there
+      ] is
+
+  cnodes-one : (found : List ℕ) (c : CapabilityEntry) → AreCNodes found → AreCNodes (with_named image found c)
+  cnodes-one found c are =
+      elim (is_member c.cnode found && is_cnode_source image c.source && not (is_member c.source found)) as
+      (λ b. (is_member c.cnode found && is_cnode_source image c.source && not (is_member c.source found)) ≡ b → AreCNodes (if b then found ++ c.source ∷ [] else found)) [
+        | true ↦ λ is number there. elim (member-cases number found c.source there) [
+          | inl before ↦ are number before
+          | inr same ↦ subst IsRadixed (sym same) (source-radixed c.source (second-of (is_member c.cnode found) (is_cnode_source image c.source) (not (is_member c.source found)) is))
+        ]
+        | false ↦ λ _. are
+      ] refl
+    where
+      second-of : (a b c : Bool) → (a && b && c) ≡ true → b ≡ true
+      second-of true true c is = refl
+      second-of true false c is = is
+      second-of false b c is = absurd (let no : false ≡ true = is in cc)
+
+  cnodes-all : (capabilities : List CapabilityEntry) (found : List ℕ) → AreCNodes found → AreCNodes (fold (with_named image) found capabilities)
+  cnodes-all [] found are = are
+  cnodes-all (c ∷ rest) found are = cnodes-all rest (with_named image found c) (cnodes-one found c are)
+
+  cnodes-within : (rounds : ℕ) (found : List ℕ) → AreCNodes found → AreCNodes (reached_within rounds image found)
+  unfolding reached_within
+  cnodes-within zero found are = are
+  cnodes-within (suc rounds) found are = cnodes-within rounds (fold (with_named image) found image.capabilities) (cnodes-all image.capabilities found are)
+
+  pub reached-radixed : (t : Thread) → IsRadixed t.header.cnode → (number : ℕ) → is_member number (reached image t) ≡ true → IsRadixed number
+  unfolding reached
+  reached-radixed t root = cnodes-within (length image.capabilities) (t.header.cnode ∷ []) (λ number is. only number is)
+    where
+      only : (number : ℕ) → is_member number (t.header.cnode ∷ []) ≡ true → IsRadixed number
+      only number is = elim (or_cases (nat_eq number t.header.cnode) false is) [
+        | inl same ↦ subst IsRadixed (sym (eqb-true number t.header.cnode same)) root
+        | inr none ↦ absurd (let clash : false ≡ true = none in cc)
+      ]
+
+-- ---- step by step
+
+pub drop-next : {A : Type 0} (xs : List A) (n : ℕ) (x : A) → slice_get xs n ≡ Some x → drop n xs ≡ x ∷ drop (n + 1) xs
+drop-next [] n x at = absurd (none-some x at)
+drop-next (y ∷ ys) zero x at = ap (λ z. z ∷ ys) (same_Some y x at)
+drop-next (y ∷ ys) (suc n) x at = drop-next ys n x at ∙ ap (λ (m : ℕ). x ∷ drop m (y ∷ ys)) (let next : suc (n + 1) ≡ suc n + 1 = omega arith in next)
+
+pub followed : (image : Image) (number : ℕ) (c : CapabilityEntry) (found after whole : List ℕ) → slice_get image.capabilities number ≡ Some c → after ≡ with_named image found c
+    → fold (with_named image) found (drop number image.capabilities) ≡ whole → fold (with_named image) after (drop (number + 1) image.capabilities) ≡ whole
+followed image number c found after whole at is so_far =
+    ap (λ (xs : List ℕ). fold (with_named image) xs (drop (number + 1) image.capabilities)) is
+    ∙ sym (ap (fold (with_named image) found) (drop-next image.capabilities number c at)) ∙ so_far
+
+module _ (image : Image) (t : Thread) where
+  abbrev pub IsLeft : ℕ → List ℕ → Type 0
+  IsLeft i found = reached_within (length image.capabilities - i) image found ≡ reached image t
+
+  pub round-first : (root : ℕ) (before found : List ℕ) → root ≡ t.header.cnode → before ≡ [] → found ≡ (if is_member root before then before else before ++ root ∷ []) → IsLeft 0 found
+  unfolding reached
+  round-first root before found root_is none is =
+      let all : length image.capabilities - 0 ≡ length image.capabilities = omega arith in
+      ap (λ (n : ℕ). reached_within n image found) all
+      ∙ ap (reached_within (length image.capabilities) image)
+      (is ∙ ap (λ (xs : List ℕ). if is_member root xs then xs else xs ++ root ∷ []) none ∙ ap (λ (n : ℕ). let one : List ℕ = n ∷ [] in one) root_is)
+
+  pub round-next : (i : ℕ) (found after : List ℕ) → i < length image.capabilities → after ≡ fold (with_named image) found image.capabilities → IsLeft i found → IsLeft (i + 1) after
+  round-next i found after less is left =
+      let more : length image.capabilities - i ≡ suc (length image.capabilities - (i + 1)) = omega (arith, less) in
+      ap (reached_within (length image.capabilities - (i + 1)) image) is ∙ sym (one-round image (length image.capabilities - (i + 1)) found)
+      ∙ ap (λ (n : ℕ). reached_within n image found) (sym more) ∙ left
+
+  pub round-last : (i : ℕ) (found after : List ℕ) → after ≡ fold (with_named image) found image.capabilities → length after ≡ length found → IsLeft i found → after ≡ reached image t
+  round-last i found after is same left =
+      let fixed = none-found image found after is same in
+      is ∙ fixed ∙ sym (last-round image (length image.capabilities - i) found fixed) ∙ left
+
+  pub rounds-end : (i : ℕ) (found : List ℕ) → length image.capabilities ≤ i → IsLeft i found → found ≡ reached image t
+  rounds-end i found most left =
+      let none : length image.capabilities - i ≡ 0 = omega (arith, most) in
+      sym (no-round image found) ∙ ap (λ (n : ℕ). reached_within n image found) (sym none) ∙ left

@@ -1,0 +1,15 @@
+-- What is reached are CNodes.
+use Rattle.std.proofs.Common.{◌+◌, take, sym, subst}
+use Rattle.typestate.specs.Spaces.{AreWindows}
+use Rattle.thread_spaces.proofs.GivenCNodes.{cnode-at}
+use Rattle.thread_spaces.proofs.WindowLists.{windows-more}
+use Rattle.thread_spaces.proofs.windows.windows_of.Goals as goal
+
+pub window_of-requires-clause-cnode : goal.window_of-requires-clause-cnode
+window_of-requires-clause-cnode c =
+    cnode-at c.args.image.now c.args.thread.now c.cnodes.place c.at.result c.args.cnodes.now c.header.ensures.fits c.requires.formed c.requires.listed c.requires.cnodes c.at.ensures
+
+pub cnodes-preserved : goal.cnodes-preserved
+cnodes-preserved c =
+    subst (AreWindows c.args.image.now (take (c.cnodes.place + 1) c.args.cnodes.now)) (sym c.in_ok-push.ensures.items)
+    (windows-more c.args.image.now c.args.cnodes.now c.cnodes.windows.items c.cnodes.place c.at.result c.window_of.result c.at.ensures c.cnodes.invariant c.window_of.ensures)

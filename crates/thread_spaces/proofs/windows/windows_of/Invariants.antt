@@ -1,0 +1,7 @@
+-- The CNodes so far have their places.
+use Rattle.std.proofs.Common.{take}
+use Rattle.typestate.specs.Spaces.{AreWindows}
+use Rattle.thread_spaces.proofs.windows.windows_of.Given as goal
+
+abbrev pub invariant-cnodes : goal.invariant-cnodes
+invariant-cnodes l = AreWindows l.image (take l.place l.cnodes) l.windows.items

@@ -1,0 +1,19 @@
+//! The CNodes that a well-formed image gives a thread: where they stand, and what its capabilities put into them.
+#![tactic(auto)]
+
+mod capabilities;
+mod given_slots;
+mod laws;
+mod offsets;
+mod own_slots;
+mod reach;
+mod spaces;
+mod windows;
+
+pub use given_slots::slots_of;
+pub use laws::{mappings_are_listed, root_tables_are_placed, threads_stand_apart};
+pub use offsets::offsets_of;
+pub use own_slots::slots_are_own;
+pub use reach::reached_of;
+pub use spaces::given_space;
+pub use windows::windows_of;

@@ -1,0 +1,70 @@
+//! A thread's capability space, as a well-formed image gives it.
+
+ghost use Rattle.std.specs.Prelude.{◌≡◌};
+ghost use Rattle.model.specs.Acceptance.Accepted.{IsWellFormed};
+ghost use Rattle.model.specs.Acceptance.NotedKernel.{noted_root};
+ghost use Rattle.model.specs.Acceptance.ThreadRules.{reached};
+ghost use Rattle.model.specs.Capabilities.CapabilityWords.{IsCapability};
+ghost use Rattle.model.specs.Images.Places.{offset_of};
+ghost use Rattle.thread_spaces.specs.Given.{AreOffsets, IsListed};
+ghost use Rattle.typestate.specs.Spaces.{AreWindows, IsSpace};
+
+use image::{ImageRef, ThreadRef};
+use model::Cap;
+use typestate::{Space, Window};
+use wellformed::{object_at, radix_of};
+
+/// The root of a thread's capability space: its CNode, with its guard word.
+fn root_of(image: &ImageRef<'_>, thread: &ThreadRef<'_>, offsets: &[u32]) -> Cap
+    requires formed { IsWellFormed image.now }
+    requires listed { IsListed image.now thread.now }
+    requires offsets { AreOffsets image.now image.now.header.objects offsets.now }
+    ensures value { result ≡ noted_root image.now thread.now }
+    ensures valid { IsCapability result }
+{
+    let _ = image.header();
+    let header = thread.header();
+    let Some(radix) = radix_of(object_at(image, header.cnode)) else {
+        unreachable!()
+    };
+    Cap::CNode {
+        offset: offsets[header.cnode as usize],
+        radix: radix as u8,
+        guard: header.guard,
+    }
+}
+
+/// The offset of a thread's root table.
+fn table_of(image: &ImageRef<'_>, thread: &ThreadRef<'_>, offsets: &[u32]) -> u32
+    requires listed { IsListed image.now thread.now }
+    requires offsets { AreOffsets image.now image.now.header.objects offsets.now }
+    ensures { result ≡ offset_of image.now thread.now.header.root }
+{
+    let _ = image.header();
+    offsets[thread.header().root as usize]
+}
+
+/// A thread of a well-formed image with the CNodes that it reaches.
+pub fn given_space<'a, 's>(
+    image: &'s ImageRef<'a>,
+    thread: &'s ThreadRef<'a>,
+    offsets: &[u32],
+    windows: &'s [Window],
+) -> Space<'a, 's>
+    requires formed { IsWellFormed image.now }
+    requires listed { IsListed image.now thread.now }
+    requires offsets { AreOffsets image.now image.now.header.objects offsets.now }
+    requires windows { AreWindows image.now (reached image.now thread.now) windows.now }
+    ensures space { IsSpace result }
+    ensures image { result.image.now ≡ image.now }
+    ensures thread { result.thread.now ≡ thread.now }
+    ensures windows { result.windows.now ≡ windows.now }
+{
+    Space {
+        image,
+        thread,
+        windows,
+        root: root_of(image, thread, offsets),
+        table: table_of(image, thread, offsets),
+    }
+}

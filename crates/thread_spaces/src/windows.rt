@@ -1,0 +1,50 @@
+//! Where the CNodes of a thread stand.
+
+ghost use Rattle.std.specs.Prelude.{◌≡◌, IfOk};
+ghost use Rattle.model.specs.Acceptance.Accepted.{IsWellFormed};
+ghost use Rattle.model.specs.Acceptance.ThreadRules.{reached};
+ghost use Rattle.thread_spaces.specs.Given.{AreOffsets, IsCNode, IsListed};
+ghost use Rattle.typestate.specs.Spaces.{AreWindows, IsWindow};
+
+use image::{ImageRef, ThreadRef};
+use std::alloc::{AllocError, Global};
+use typestate::Window;
+use wellformed::{NumberSet, object_at, radix_of};
+
+/// Where a CNode stands.
+fn window_of(image: &ImageRef<'_>, offsets: &[u32], cnode: u32) -> Window
+    requires offsets { AreOffsets image.now image.now.header.objects offsets.now }
+    requires cnode { IsCNode image.now cnode }
+    ensures { IsWindow image.now cnode result }
+{
+    let Some(radix) = radix_of(object_at(image, cnode)) else {
+        unreachable!()
+    };
+    Window {
+        cnode,
+        offset: offsets[cnode as usize],
+        radix: radix as u8,
+    }
+}
+
+/// Where the CNodes stand that a thread of a well-formed image reaches, in the order in which they are found.
+pub fn windows_of(
+    alloc: Global,
+    image: &ImageRef<'_>,
+    thread: &ThreadRef<'_>,
+    offsets: &[u32],
+    cnodes: &NumberSet,
+) -> Result<Vec<Window>, AllocError>
+    requires formed { IsWellFormed image.now }
+    requires listed { IsListed image.now thread.now }
+    requires offsets { AreOffsets image.now image.now.header.objects offsets.now }
+    requires cnodes { cnodes.now ≡ reached image.now thread.now }
+    ensures { IfOk result (λ windows. AreWindows image.now (reached image.now thread.now) windows.items) }
+{
+    let _ = image.header();
+    let mut windows = Vec::new(alloc);
+    'cnodes: for place in 0..cnodes.len() {
+        windows.push(window_of(image, offsets, cnodes.at(place)))?;
+    }
+    Ok(windows)
+}
