@@ -1,5 +1,5 @@
 -- The rules on the programs of the threads that are left.
-use Rattle.std.proofs.Common.{ℕ, suc, ◌≡◌, ◌∙◌, ◌+◌, inl, inr, Some, None, Option, List, [], ◌∷◌, ◌++◌, add-one, drop, drop-cons, get_or, length, map, refl, sym, ap, arith}
+use Rattle.std.proofs.Common.{ℕ, suc, ◌≡◌, ◌∙◌, ◌+◌, inl, inr, true, false, Some, None, is_some, Option, List, [], ◌∷◌, ◌++◌, add-one, drop, drop-cons, get_or, length, map, refl, sym, ap, arith}
 use Rattle.std.specs.Prelude.{flat_map, slice_get}
 use Rattle.std.specs.Option.{option_or}
 use Rattle.std.specs.List.{enumerate_from}
@@ -24,11 +24,19 @@ module _ (image : Image) (n : ℕ) (t : Thread) (rest : List Thread) where
   abbrev own : List Rule
   own = rules_of_program image (record { number = n; thread = t })
 
-  pub next-kept : (total : Option Refusal) → None ≡ first_broken own → first_broken (rules_from image n (t ∷ rest)) ≡ total → first_broken (rules_from image (n + 1) rest) ≡ total
-  next-kept total kept so = ap (λ o. option_or o (first_broken (rules_from image (n + 1) rest))) kept ∙ sym (first-both own (rules_from image (n + 1) rest)) ∙ so
+  abbrev later : Option Refusal
+  later = first_broken (rules_from image (n + 1) rest)
 
-  pub one-broken : (total : Option Refusal) (refusal : Refusal) → Some refusal ≡ first_broken own → first_broken (rules_from image n (t ∷ rest)) ≡ total → Some refusal ≡ total
-  one-broken total refusal broken so = ap (λ o. option_or o (first_broken (rules_from image (n + 1) rest))) broken ∙ sym (first-both own (rules_from image (n + 1) rest)) ∙ so
+  parted : (total broken : Option Refusal) → broken ≡ first_broken own → first_broken (rules_from image n (t ∷ rest)) ≡ total → option_or broken later ≡ total
+  parted total broken is so = ap (λ o. option_or o later) is ∙ sym (first-both own (rules_from image (n + 1) rest)) ∙ so
+
+  pub next-kept : (total broken : Option Refusal) → is_some broken ≡ false → broken ≡ first_broken own → first_broken (rules_from image n (t ∷ rest)) ≡ total → later ≡ total
+  next-kept total (Some refusal) none is so = absurd (let clash : true ≡ false = none in cc)
+  next-kept total None none is so = parted total None is so
+
+  pub one-broken : (total broken : Option Refusal) → is_some broken ≡ true → broken ≡ first_broken own → first_broken (rules_from image n (t ∷ rest)) ≡ total → broken ≡ total
+  one-broken total None some is so = absurd (let clash : false ≡ true = some in cc)
+  one-broken total (Some refusal) some is so = parted total (Some refusal) is so
 
 -- the thread at hand, and those behind it
 pub head-of : {A : Type 0} (n : ℕ) (xs ys : List A) (x : A) → drop n xs ≡ x ∷ ys → (slice_get xs n ≡ Some x) × (drop (n + 1) xs ≡ ys)

@@ -8,7 +8,7 @@ ghost use Rattle.thread_spaces.specs.Given.{AreOffsets, IsListed};
 
 use crate::space_rules::SpaceRules;
 use certificates::Program;
-use fitting::certificates_that_fit_keep_their_limits;
+use fitting::{certificates_that_fit_keep_their_limits, images_that_fit_keep_their_limits};
 use image::{ImageRef, ThreadRef};
 use model::Refusal;
 use std::alloc::{AllocError, Global};
@@ -32,7 +32,10 @@ fn broken_by(
     let _ = image.header();
     certificates_that_fit_keep_their_limits();
     programs_have_their_places();
-    let cnodes = reached_of(alloc, image, thread)?;
+    let cnodes = match reached_of(alloc, image, thread) {
+        Ok(cnodes) => cnodes,
+        Err(_) => return Err(AllocError),
+    };
     let windows = windows_of(alloc, image, thread, offsets, &cnodes)?;
     let slots = slots_of(alloc, image, thread, offsets, &cnodes)?;
     let space = given_space(image, thread, offsets, &windows);
@@ -53,9 +56,11 @@ fn broken_by(
 /// be refused.
 #[tactic(auto, unfolding(model::specs::Acceptance::PointRules::program_rules))]
 pub fn broken(alloc: Global, image: &ImageRef<'_>) -> Result<Option<Refusal>, AllocError>
-    requires { IsWellFormed image.now }
+    requires formed { IsWellFormed image.now }
     ensures { IfOk result (λ broken. broken ≡ first_broken (program_rules image.now)) }
 {
+    let _ = image.header();
+    images_that_fit_keep_their_limits();
     let offsets = offsets_of(alloc, image)?;
     let mut number = 0;
     'threads: for thread in image.threads() {
