@@ -1,6 +1,6 @@
 -- What the system call at a point leaves, where no slot is stray.
 use Rattle.std.proofs.Common.{ℕ, ◌≡◌, ◌∙◌, Bool, true, false, if◌then◌else◌, Option, Some, None, option_map, Result, Ok, Err, List, refl, sym, ap, subst}
-use Rattle.certificates.specs.Calls.{left_with}
+use Rattle.typestate.specs.Calls.{left_with}
 use Rattle.model.specs.Acceptance.CallRules.{after_call}
 use Rattle.model.specs.Acceptance.Measures.{Measure}
 use Rattle.model.specs.Acceptance.NotedStates.{NotedSlot, PointState, has_stray_slots}

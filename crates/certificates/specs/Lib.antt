@@ -1,5 +1,4 @@
 pub mod Left
 pub mod Kept
-pub mod Calls
 pub mod Programs
 pub mod PointChecks

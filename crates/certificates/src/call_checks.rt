@@ -93,6 +93,7 @@ impl<R: ThreadRules> Program<'_, '_, R> {
         known: &Known,
     ) -> Result<Option<Refusal>, AllocError>
         requires program { IsProgram (R.image self.now.rules.now) (R.thread self.now.rules.now) self.now.thread.now self.now.number self.now.slots.now }
+        requires rules { R.holds self.now.rules.now }
         requires read { IsRead (R.image self.now.rules.now) (R.thread self.now.rules.now) self.now.slots.now points.old.log points.old.kept.items }
         requires within { point < self.now.thread.now.header.words }
         requires is { instruction_at self.now.thread.now point ≡ Some Ecall }

@@ -74,6 +74,7 @@ impl<R: ThreadRules> Program<'_, '_, R> {
         state: &PointState<'_>,
     ) -> Option<Refusal>
         requires program { IsProgram (R.image self.now.rules.now) (R.thread self.now.rules.now) self.now.thread.now self.now.number self.now.slots.now }
+        requires rules { R.holds self.now.rules.now }
         requires shown { IsShown (R.image self.now.rules.now) self.now.thread.now self.now.image.now self.now.root }
         requires instr { IfSome instr IsInstr }
         requires noted { option_map (λ r. r.now) noted ≡ record_of self.now.thread.now point }

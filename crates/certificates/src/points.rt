@@ -61,7 +61,8 @@ fn noted_or(
 impl Points {
     /// The points of a program: each has the state of its record, or what the point before leaves. Memory may be refused.
     pub fn of<R: ThreadRules>(program: &Program<'_, '_, R>) -> Result<Self, AllocError>
-        requires { IsProgram (R.image program.now.rules.now) (R.thread program.now.rules.now) program.now.thread.now program.now.number program.now.slots.now }
+        requires program { IsProgram (R.image program.now.rules.now) (R.thread program.now.rules.now) program.now.thread.now program.now.number program.now.slots.now }
+        requires rules { R.holds program.now.rules.now }
         ensures { IfOk result (λ points. IsRead (R.image program.now.rules.now) (R.thread program.now.rules.now) program.now.slots.now points.log points.kept.items) }
     {
         let mut records = RecordsLeft::of(program.thread);

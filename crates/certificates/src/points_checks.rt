@@ -31,6 +31,7 @@ impl<R: ThreadRules> Program<'_, '_, R> {
         known: &Known,
     ) -> Result<Option<Refusal>, AllocError>
         requires program { IsProgram (R.image self.now.rules.now) (R.thread self.now.rules.now) self.now.thread.now self.now.number self.now.slots.now }
+        requires rules { R.holds self.now.rules.now }
         requires shown { IsShown (R.image self.now.rules.now) self.now.thread.now self.now.image.now self.now.root }
         requires read { IsRead (R.image self.now.rules.now) (R.thread self.now.rules.now) self.now.slots.now points.old.log points.old.kept.items }
         requires within { point < self.now.thread.now.header.words }
@@ -60,6 +61,7 @@ impl<R: ThreadRules> Program<'_, '_, R> {
         noted: Option<&RecordRef<'_>>,
     ) -> Result<Option<Refusal>, AllocError>
         requires program { IsProgram (R.image self.now.rules.now) (R.thread self.now.rules.now) self.now.thread.now self.now.number self.now.slots.now }
+        requires rules { R.holds self.now.rules.now }
         requires shown { IsShown (R.image self.now.rules.now) self.now.thread.now self.now.image.now self.now.root }
         requires read { IsRead (R.image self.now.rules.now) (R.thread self.now.rules.now) self.now.slots.now points.old.log points.old.kept.items }
         requires within { point < self.now.thread.now.header.words }
@@ -76,6 +78,7 @@ impl<R: ThreadRules> Program<'_, '_, R> {
     /// What the points break first, in their order. Memory may be refused.
     fn points_rules(&self, points: &mut Points) -> Result<Option<Refusal>, AllocError>
         requires program { IsProgram (R.image self.now.rules.now) (R.thread self.now.rules.now) self.now.thread.now self.now.number self.now.slots.now }
+        requires rules { R.holds self.now.rules.now }
         requires shown { IsShown (R.image self.now.rules.now) self.now.thread.now self.now.image.now self.now.root }
         requires read { IsRead (R.image self.now.rules.now) (R.thread self.now.rules.now) self.now.slots.now points.old.log points.old.kept.items }
         ensures { IfOk result (λ broken. broken ≡ first_broken (flat_map (point_rules (R.image self.now.rules.now) (R.thread self.now.rules.now)) (range_with_len 0 self.now.thread.now.header.words))) }
@@ -115,6 +118,7 @@ impl<R: ThreadRules> Program<'_, '_, R> {
     #[tactic(auto, unfolding(model::specs::Acceptance::PointRules::rules_of_program))]
     pub fn broken(&self) -> Result<Option<Refusal>, AllocError>
         requires program { IsProgram (R.image self.now.rules.now) (R.thread self.now.rules.now) self.now.thread.now self.now.number self.now.slots.now }
+        requires rules { R.holds self.now.rules.now }
         requires shown { IsShown (R.image self.now.rules.now) self.now.thread.now self.now.image.now self.now.root }
         ensures { IfOk result (λ broken. broken ≡ first_broken (rules_of_program (R.image self.now.rules.now) (R.thread self.now.rules.now))) }
     {

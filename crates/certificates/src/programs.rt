@@ -1,7 +1,7 @@
 //! The program of a thread, and what follows from the state of a point of it.
 
 ghost use Rattle.std.specs.Prelude.{ℕ, ◌≡◌, ◌+◌, ◌<◌, ◌≤ℤ◌, ◌^◌, ◌-◌, ◌≤◌, [], IfOk, List, negsuc, option_map};
-ghost use Rattle.certificates.specs.Calls.{left_with};
+ghost use Rattle.typestate.specs.Calls.{left_with};
 ghost use Rattle.certificates.specs.Kept.{IsSound, kept_as, noted_by, state_by};
 ghost use Rattle.certificates.specs.declared.kept.Kept.TheVariants as kept;
 ghost use Rattle.certificates.specs.Programs.{IsProgram};
@@ -102,6 +102,7 @@ impl<R: ThreadRules> Program<'_, '_, R> {
         made: &mut Vec<NotedSlot>,
     ) -> Result<Option<Result<Behind, Refusal>>, AllocError>
         requires program { IsProgram (R.image self.now.rules.now) (R.thread self.now.rules.now) self.now.thread.now self.now.number self.now.slots.now }
+        requires rules { R.holds self.now.rules.now }
         requires image { slots.now.image.now ≡ self.now.slots.now }
         requires noted { option_map (λ r. r.now) noted ≡ record_of self.now.thread.now point }
         requires none { made.old.items ≡ [] }
@@ -127,6 +128,7 @@ impl<R: ThreadRules> Program<'_, '_, R> {
         log: &mut SlotLog,
     ) -> Result<Kept, AllocError>
         requires program { IsProgram (R.image self.now.rules.now) (R.thread self.now.rules.now) self.now.thread.now self.now.number self.now.slots.now }
+        requires rules { R.holds self.now.rules.now }
         requires noted { option_map (λ r. r.now) noted ≡ record_of self.now.thread.now point }
         requires few { point ≤ 65536 }
         requires sound { IsSound log.old point (kept.Known known.now) }
@@ -153,6 +155,7 @@ impl<R: ThreadRules> Program<'_, '_, R> {
         log: &mut SlotLog,
     ) -> Result<Kept, AllocError>
         requires program { IsProgram (R.image self.now.rules.now) (R.thread self.now.rules.now) self.now.thread.now self.now.number self.now.slots.now }
+        requires rules { R.holds self.now.rules.now }
         requires within { point < self.now.thread.now.header.words }
         requires noted { option_map (λ r. r.now) noted ≡ record_of self.now.thread.now point }
         requires sound { IsSound log.old point kept.now }

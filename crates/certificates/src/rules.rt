@@ -1,7 +1,7 @@
 //! What is asked of a thread's slots and of its system calls.
 
 ghost use Rattle.std.specs.Prelude.{◌≡◌, [], IfOk, List, false, option_map};
-ghost use Rattle.certificates.specs.Calls.{left_with};
+ghost use Rattle.typestate.specs.Calls.{left_with};
 ghost use Rattle.model.specs.Acceptance.CallRules.{after_call};
 ghost use Rattle.model.specs.Acceptance.Measures.{Measure};
 ghost use Rattle.model.specs.Acceptance.NotedStates.{has_stray_slots, image_slots, record_of};
@@ -24,6 +24,9 @@ pub trait ThreadRules {
 
     ghost thread: { Self → Numbered };
 
+    // What the rules stand on.
+    ghost holds: { Self → Type 0 };
+
     /// Whether some slot at a point is one that the thread may not have, or the point's record notes one outside of the
     /// thread's CNodes.
     fn has_stray_slots(
@@ -32,6 +35,7 @@ pub trait ThreadRules {
         noted: Option<&RecordRef<'_>>,
         slots: &NotedSlots<'_>,
     ) -> bool
+        requires holds { holds self.now }
         requires image { slots.now.image.now ≡ image_slots (image self.now) (thread self.now).thread }
         requires noted { option_map (λ r. r.now) noted ≡ record_of (thread self.now).thread point }
         ensures { (ranges : List Range) (measure : Measure) → result ≡ has_stray_slots (image self.now) (thread self.now).thread point (known_with ranges (slots_of slots.now) measure) };
@@ -45,6 +49,7 @@ pub trait ThreadRules {
         slots: &NotedSlots<'_>,
         made: &mut Vec<NotedSlot>,
     ) -> Result<Result<Behind, Refusal>, AllocError>
+        requires holds { holds self.now }
         requires place { at ≡ point_of (thread self.now) at.point }
         requires image { slots.now.image.now ≡ image_slots (image self.now) (thread self.now).thread }
         requires own { (measure : Measure) → has_stray_slots (image self.now) (thread self.now).thread at.point (known_with bounds.now (slots_of slots.now) measure) ≡ false }

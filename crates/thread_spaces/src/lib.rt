@@ -11,7 +11,9 @@ mod spaces;
 mod windows;
 
 pub use given_slots::slots_of;
-pub use laws::{mappings_are_listed, root_tables_are_placed, threads_stand_apart};
+pub use laws::{
+    mappings_are_listed, programs_have_their_places, root_tables_are_placed, threads_stand_apart,
+};
 pub use offsets::offsets_of;
 pub use own_slots::slots_are_own;
 pub use reach::reached_of;

@@ -33,3 +33,7 @@ pub mod ChangesMake
 pub mod HeldCaps
 pub mod FrameRules
 pub mod HandlerRules
+pub mod PoolRules
+pub mod MadeSlots
+pub mod PoolPlaces
+pub mod CallsOn

@@ -149,7 +149,7 @@ stays-inside image t (RootTable _) own = refl
 stays-inside image t InterruptControl own = refl
 stays-inside image t (InterruptHandler _) own = refl
 
-held-inside : (image : Image) (t : Thread) (slots : List NotedSlot) (key : SlotKey) → NothingLeadsOutside image t slots
+pub held-inside : (image : Image) (t : Thread) (slots : List NotedSlot) (key : SlotKey) → NothingLeadsOutside image t slots
     → is_among (is_own_cnode image (reached image t)) (held_at slots key) ≡ true
 held-inside image t slots key none =
     elim (slot_at slots key) as (λ found. slot_at slots key ≡ found → is_among (is_own_cnode image (reached image t)) (option_map_or (λ s. s.capability) found Empty) ≡ true) [

@@ -20,6 +20,7 @@ use Rattle.model.specs.Acceptance.Measures.{Measure}
 use Rattle.model.specs.Acceptance.NotedStates.{NotedSlot, PointState}
 use Rattle.model.specs.Kernel.Messages.{a0, a1}
 use Rattle.model.specs.Kernel.Steps as steps
+use Rattle.typestate.specs.Differences.{changed}
 use Rattle.typestate.specs.declared.behind.Behind.{Behind}
 use Rattle.typestate.specs.declared.behind.Written.{Written}
 use Rattle.typestate.specs.declared.behind.Written.TheVariants.{Nothing, Badge, Answer, Message}
@@ -84,3 +85,8 @@ abbrev pub goes_on : Image → Thread → Point → PointState → Result System
 goes_on image t at state (Ok (Plain b)) = Ok (behind_with state.slots b)
 goes_on image t at state (Ok (Invokes slot capability answers)) = invocation image t at state (call_on image t slot capability) answers
 goes_on image t at state (Err refusal) = Err refusal
+
+-- what is known behind a call that made these changes of the slots
+abbrev pub left_with : List NotedSlot → List NotedSlot → Result Behind Refusal → Result AfterCall Refusal
+left_with slots made (Ok b) = Ok (behind_with (changed slots made) b)
+left_with slots made (Err refusal) = Err refusal

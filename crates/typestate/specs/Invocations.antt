@@ -23,6 +23,7 @@ use Rattle.model.specs.Kernel.MappingCalls.{is_mapped, root_named}
 use Rattle.typestate.specs.declared.system_calls.SystemCall.{SystemCall}
 use Rattle.typestate.specs.declared.system_calls.SystemCall.TheVariants.{Plain, Invokes}
 use Rattle.typestate.specs.Calls.{call_on}
+use Rattle.typestate.specs.Differences.{changed}
 use Rattle.typestate.specs.SlotChanges.{slots_after}
 use Rattle.vspace.specs.Answers.{page_named}
 
@@ -51,6 +52,11 @@ pub record HoldsFull (slots : Slots) (slot : ℕ) (capability : Cap) : Type 0 wh
 -- what a call on what a slot holds leaves of the slots
 abbrev pub held_after : Image → Thread → Point → List NotedSlot → NotedSlot → Invocation → Result (List NotedSlot) Refusal
 held_after image t at slots held call = slots_after image t at slots (call_on image t (slot_of_key image held.key) held.capability) call
+
+-- the slots with these changes, if the call is not refused
+abbrev pub made_or_refused : List NotedSlot → List NotedSlot → Result (Unit {0}) Refusal → Result (List NotedSlot) Refusal
+made_or_refused slots made (Ok _) = Ok (changed slots made)
+made_or_refused slots made (Err refusal) = Err refusal
 
 -- ---- frames
 

@@ -10,3 +10,4 @@ pub mod SlotChanges
 pub mod CNodeCalls
 pub mod ChangeLists
 pub mod Invocations
+pub mod Pools

@@ -1,8 +1,12 @@
 //! What is known of the registers behind a system call.
 
-ghost use Rattle.std.specs.Prelude.{◌≡◌};
+ghost use Rattle.std.specs.Prelude.{◌≡◌, List};
+ghost use Rattle.model.specs.Acceptance.Measures.{Measure};
+ghost use Rattle.model.specs.Acceptance.NotedStates.{NotedSlot};
 ghost use Rattle.model.specs.Acceptance.CallRules.{with_answer, with_message};
 ghost use Rattle.ranges.specs.Orders.{IsOrdered};
+ghost use Rattle.typestate.specs.Calls.{behind_with, known_with};
+ghost use Rattle.typestate.specs.SlotChanges.{behind_call};
 ghost use Rattle.typestate.specs.declared.behind.Written.TheVariants.{Nothing};
 
 use model::{Range, Register};
@@ -80,6 +84,21 @@ impl Behind {
             bounds: *bounds,
             is_wait,
             written: Written::Nothing,
+        }
+    }
+
+    /// A call on a capability, with or without an answer.
+    pub(crate) fn called(bounds: &Bounds, answers: bool) -> Self
+        ensures { (before slots : List NotedSlot) (measure : Measure) → behind_with slots result ≡ behind_call (known_with bounds.now before measure) answers slots }
+    {
+        if answers {
+            Behind {
+                bounds: with_answer(bounds),
+                is_wait: false,
+                written: Written::Answer,
+            }
+        } else {
+            Behind::unchanged(bounds, false)
         }
     }
 }

@@ -27,7 +27,7 @@ fn may_be_bound(capability: Cap) -> bool
 
 impl Space<'_, '_> {
     /// Why a line gets no notification of this name: the kernel's error comes first. A depth of 255 has the same error.
-    fn binds(&self, slots: &NotedSlots<'_>, at: Point, line: u32, name: SlotName) -> Refusal
+    fn binds(&self, slots: &NotedSlots<'_>, at: Point, line: u8, name: SlotName) -> Refusal
         requires space { IsSpace self.now }
         requires apart { StandsApart self.now.image.now self.now.thread.now }
         requires inside { NothingLeadsOutside self.now.image.now self.now.thread.now (slots_of slots.now) }
@@ -52,7 +52,7 @@ impl Space<'_, '_> {
         &self,
         slots: &NotedSlots<'_>,
         at: Point,
-        line: u32,
+        line: u8,
         call: HandlerCall,
     ) -> Result<SlotChange, Refusal>
         requires space { IsSpace self.now }

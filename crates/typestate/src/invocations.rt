@@ -1,19 +1,42 @@
 //! Calls on what a slot of the thread's holds.
 
-ghost use Rattle.std.specs.Prelude.{◌≡◌, Some};
+ghost use Rattle.std.specs.Prelude.{◌≡◌, [], IfOk, Some};
 ghost use Rattle.model.specs.Acceptance.NotedKernel.{slot_of_key};
 ghost use Rattle.model.specs.Acceptance.NotedStates.{slot_at};
 ghost use Rattle.model.specs.Capabilities.Slots.{IsFull, capability_at};
+ghost use Rattle.model.specs.Images.Image.{Image, Thread};
 ghost use Rattle.typestate.specs.Differences.{slots_of};
-ghost use Rattle.typestate.specs.Spaces.{AreOwn, IsSpace, StandsApart, own_slots};
+ghost use Rattle.typestate.specs.Invocations.{IsCallOn, held_after, made_or_refused};
+ghost use Rattle.typestate.specs.Mappings.{MappingsAreListed};
+ghost use Rattle.typestate.specs.SlotChanges.{left_or_refused};
+ghost use Rattle.typestate.specs.Spaces.{AreOwn, IsSpace, NothingLeadsOutside, StandsApart, own_slots};
 
 use crate::spaces::key_in;
-use crate::{NotedSlot, NotedSlots, Space};
-use model::Slot;
+use crate::{NotedSlot, NotedSlots, SlotChange, Space};
+use model::{Invocation, Point, Refusal};
+use std::alloc::AllocError;
+
+/// Puts what a call makes of the slots into a list, which is empty.
+fn note_left(
+    slots: &NotedSlots<'_>,
+    left: Result<SlotChange, Refusal>,
+    made: &mut Vec<NotedSlot>,
+) -> Result<Result<(), Refusal>, AllocError>
+    requires none { made.old.items ≡ [] }
+    ensures { IfOk result (λ done. (image : Image) (t : Thread) → AreOwn image t (slots_of slots.now) → left_or_refused (slots_of slots.now) left ≡ made_or_refused (slots_of slots.now) made.new.items done) }
+{
+    match left {
+        Ok(change) => {
+            slots.note_change(&change, made)?;
+            Ok(Ok(()))
+        }
+        Err(refusal) => Ok(Err(refusal)),
+    }
+}
 
 impl Space<'_, '_> {
     /// The full slot of the thread's that has a number.
-    pub fn held(&self, slots: &NotedSlots<'_>, slot: Slot) -> NotedSlot
+    pub fn held(&self, slots: &NotedSlots<'_>, slot: u32) -> NotedSlot
         requires space { IsSpace self.now }
         requires apart { StandsApart self.now.image.now self.now.thread.now }
         requires own { AreOwn self.now.image.now self.now.thread.now (slots_of slots.now) }
@@ -22,12 +45,59 @@ impl Space<'_, '_> {
         ensures held { slot_at (slots_of slots.now) result.key ≡ Some result }
         ensures capability { result.capability ≡ capability_at (own_slots self.now.windows.now (slots_of slots.now)) slot }
     {
-        let Some(key) = key_in(self.windows, slot.number()) else {
+        let Some(key) = key_in(self.windows, slot) else {
             unreachable!()
         };
         let Some(held) = slots.at(key) else {
             unreachable!()
         };
         held
+    }
+
+    /// What a call leaves of the slots on what one of them holds: the slots that it changes are put into the list, which is
+    /// empty. The kernel's error comes first, then that a pool is lost, and then that a program may make no such call. Memory
+    /// may be refused.
+    pub fn invoked(
+        &self,
+        slots: &NotedSlots<'_>,
+        at: Point,
+        held: NotedSlot,
+        call: Invocation,
+        made: &mut Vec<NotedSlot>,
+    ) -> Result<Result<(), Refusal>, AllocError>
+        requires space { IsSpace self.now }
+        requires apart { StandsApart self.now.image.now self.now.thread.now }
+        requires listed { MappingsAreListed self.now.image.now self.now.thread.now }
+        requires inside { NothingLeadsOutside self.now.image.now self.now.thread.now (slots_of slots.now) }
+        requires own { AreOwn self.now.image.now self.now.thread.now (slots_of slots.now) }
+        requires held { slot_at (slots_of slots.now) held.key ≡ Some held }
+        requires fits { IsCallOn held.capability call }
+        requires none { made.old.items ≡ [] }
+        ensures { IfOk result (λ done. held_after self.now.image.now self.now.thread.now at (slots_of slots.now) held call ≡ made_or_refused (slots_of slots.now) made.new.items done) }
+    {
+        match call {
+            Invocation::OnUntyped { memory, call } => {
+                self.pool_call(slots, at, held, memory, call, made)
+            }
+            Invocation::OnCNode { call } => {
+                let left = self.cnode_call(slots, at, held.capability, call);
+                note_left(slots, left, made)
+            }
+            Invocation::OnFrame {
+                held: allowed,
+                call,
+            } => {
+                let left = self.frame_call(slots, at, held, allowed, call);
+                note_left(slots, left, made)
+            }
+            Invocation::OnHandler { line, call } => {
+                let left = self.handler_call(slots, at, line, call);
+                note_left(slots, left, made)
+            }
+            // No thread has such a capability: it is a stray one.
+            Invocation::OnThread { .. }
+            | Invocation::OnTable { .. }
+            | Invocation::OnControl { .. } => unreachable!(),
+        }
     }
 }

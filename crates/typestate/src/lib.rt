@@ -3,6 +3,7 @@
 
 mod arguments;
 mod behind;
+mod calls_at_points;
 mod change_lists;
 mod cnode_calls;
 mod comparisons;
@@ -18,6 +19,7 @@ mod messages;
 mod noted;
 mod plain_calls;
 mod points;
+mod pool_calls;
 mod records;
 mod slot_changes;
 mod spaces;

@@ -11,6 +11,7 @@ ghost use Rattle.model.specs.Kernel.CallForms.{form_called};
 ghost use Rattle.model.specs.Kernel.Messages.{a0, extra_capabilities_of, label_of, length_of, word_registers};
 ghost use Rattle.model.specs.Machine.Instructions.{IsRegister};
 ghost use Rattle.typestate.specs.Calls.{known_with};
+ghost use Rattle.typestate.specs.Invocations.{IsCallOn};
 ghost use Rattle.typestate.specs.Messages.{are_words, called_with, count_of};
 
 use crate::behind::A1;
@@ -77,8 +78,9 @@ fn known_words(at: Point, bounds: &Bounds, count: usize) -> Result<[u32; 8], Ref
 /// The call that the message in the registers makes on a capability. What of it has to be known is asked in its order: the
 /// info word, the checks that the kernel makes of it, and then the words.
 pub fn message_call(at: Point, bounds: &Bounds, capability: Cap) -> Result<Invocation, Refusal>
-    ensures { (image : Image) (t : Thread) (slots : List NotedSlot) (measure : Measure) (call : Call) (answers : Bool) → call.capability ≡ capability
+    ensures value { (image : Image) (t : Thread) (slots : List NotedSlot) (measure : Measure) (call : Call) (answers : Bool) → call.capability ≡ capability
         → invocation image t at (known_with bounds.now slots measure) call answers ≡ called_with image t at (known_with bounds.now slots measure) call answers result }
+    ensures fits { IfOk result (IsCallOn capability) }
 {
     let info = match known(at, bounds, A1) {
         Ok(info) => info,

@@ -22,7 +22,7 @@ impl Window {
     }
 
     /// Whether this is the CNode of an offset and a radix.
-    fn is_at(&self, offset: u32, radix: u8) -> bool
+    pub(crate) fn is_at(&self, offset: u32, radix: u8) -> bool
         ensures { result ≡ is_at offset radix self.now }
     {
         self.offset == offset && self.radix == radix

@@ -1,7 +1,7 @@
 //! System calls: what has to be known of each, and what is known behind those that are no calls on capabilities.
 //! seL4 Reference Manual, "System Calls"; which of them are accepted is this project's own.
 
-ghost use Rattle.std.specs.Prelude.{◌≡◌, List, Some};
+ghost use Rattle.std.specs.Prelude.{◌≡◌, IfOk, List, Some};
 ghost use Rattle.model.specs.Acceptance.CallRules.{after_call, by_number, known, send_rule};
 ghost use Rattle.model.specs.Acceptance.Measures.{Measure};
 ghost use Rattle.model.specs.Acceptance.NotedStates.{NotedSlot, PointState};
@@ -12,6 +12,7 @@ ghost use Rattle.typestate.specs.declared.system_calls.Kind.TheVariants.{Receive
 ghost use Rattle.model.specs.declared.refusals.Point.{Point};
 ghost use Rattle.typestate.specs.Calls.{by_kind, found_call, goes_on, kind_of, known_with};
 ghost use Rattle.typestate.specs.Differences.{slots_of};
+ghost use Rattle.typestate.specs.Invocations.{CalledOf, HoldsFull};
 ghost use Rattle.typestate.specs.Spaces.{IsSpace, NothingLeadsOutside, own_slots};
 
 use crate::behind::{A0, Behind};
@@ -38,9 +39,9 @@ pub(crate) enum Kind {
 pub enum SystemCall {
     /// It leaves the slots as they are, and this of the registers.
     Plain(Behind),
-    /// A call on the capability in this slot, and whether it has an answer.
+    /// A call on the capability in the slot of this number, and whether it has an answer.
     Invokes {
-        slot: Slot,
+        slot: u32,
         capability: Cap,
         answers: bool,
     },
@@ -80,14 +81,15 @@ fn sends(
     slot: Slot,
     capability: Cap,
 ) -> Result<SystemCall, Refusal>
-    ensures { (image : Image) (t : Thread) (slots : List NotedSlot) (measure : Measure) → send_rule image t at (known_with bounds.now slots measure) (kind_of kind) slot capability ≡ goes_on image t at (known_with bounds.now slots measure) result }
+    ensures value { (image : Image) (t : Thread) (slots : List NotedSlot) (measure : Measure) → send_rule image t at (known_with bounds.now slots measure) (kind_of kind) slot capability ≡ goes_on image t at (known_with bounds.now slots measure) result }
+    ensures named { CalledOf (λ called held. (called ≡ slot) × (held ≡ capability)) result }
 {
     let left = match capability {
         Cap::Endpoint { rights, .. } => sends_message(at, bounds, kind, rights),
         Cap::Notification { rights, .. } => sends_signal(at, bounds, kind, rights),
         _ => {
             return Ok(SystemCall::Invokes {
-                slot,
+                slot: slot.number(),
                 capability,
                 answers: matches!(kind, Sending::Calling),
             });
@@ -108,7 +110,8 @@ impl Space<'_, '_> {
         bounds: &Bounds,
     ) -> Result<(Slot, Cap), Refusal>
         requires { IsSpace self.now }
-        ensures { (measure : Measure) → result ≡ found_call at (known_with bounds.now (slots_of slots.now) measure) (own_slots self.now.windows.now (slots_of slots.now)) self.now.root }
+        ensures value { (measure : Measure) → result ≡ found_call at (known_with bounds.now (slots_of slots.now) measure) (own_slots self.now.windows.now (slots_of slots.now)) self.now.root }
+        ensures held { IfOk result (λ found. HoldsFull (own_slots self.now.windows.now (slots_of slots.now)) found.0 found.1) }
     {
         let address = match known(at, bounds, A0) {
             Ok(address) => address,
@@ -134,7 +137,8 @@ impl Space<'_, '_> {
     ) -> Result<SystemCall, Refusal>
         requires space { IsSpace self.now }
         requires inside { NothingLeadsOutside self.now.image.now self.now.thread.now (slots_of slots.now) }
-        ensures { (measure : Measure) → after_call self.now.image.now self.now.thread.now at (known_with bounds.now (slots_of slots.now) measure) ≡ goes_on self.now.image.now self.now.thread.now at (known_with bounds.now (slots_of slots.now) measure) result }
+        ensures value { (measure : Measure) → after_call self.now.image.now self.now.thread.now at (known_with bounds.now (slots_of slots.now) measure) ≡ goes_on self.now.image.now self.now.thread.now at (known_with bounds.now (slots_of slots.now) measure) result }
+        ensures held { CalledOf (HoldsFull (own_slots self.now.windows.now (slots_of slots.now))) result }
     {
         let number = match known(at, bounds, Register::A7) {
             Ok(number) => number,
@@ -158,7 +162,8 @@ impl Space<'_, '_> {
     ) -> Result<SystemCall, Refusal>
         requires space { IsSpace self.now }
         requires inside { NothingLeadsOutside self.now.image.now self.now.thread.now (slots_of slots.now) }
-        ensures { (measure : Measure) → by_kind self.now.image.now self.now.thread.now at (known_with bounds.now (slots_of slots.now) measure) (Some (Receives is_wait)) ≡ goes_on self.now.image.now self.now.thread.now at (known_with bounds.now (slots_of slots.now) measure) result }
+        ensures value { (measure : Measure) → by_kind self.now.image.now self.now.thread.now at (known_with bounds.now (slots_of slots.now) measure) (Some (Receives is_wait)) ≡ goes_on self.now.image.now self.now.thread.now at (known_with bounds.now (slots_of slots.now) measure) result }
+        ensures held { CalledOf (HoldsFull (own_slots self.now.windows.now (slots_of slots.now))) result }
     {
         match self.called(slots, at, bounds) {
             Err(refusal) => Err(refusal),
@@ -179,7 +184,8 @@ impl Space<'_, '_> {
     ) -> Result<SystemCall, Refusal>
         requires space { IsSpace self.now }
         requires inside { NothingLeadsOutside self.now.image.now self.now.thread.now (slots_of slots.now) }
-        ensures { (measure : Measure) → by_kind self.now.image.now self.now.thread.now at (known_with bounds.now (slots_of slots.now) measure) (Some (Sends kind)) ≡ goes_on self.now.image.now self.now.thread.now at (known_with bounds.now (slots_of slots.now) measure) result }
+        ensures value { (measure : Measure) → by_kind self.now.image.now self.now.thread.now at (known_with bounds.now (slots_of slots.now) measure) (Some (Sends kind)) ≡ goes_on self.now.image.now self.now.thread.now at (known_with bounds.now (slots_of slots.now) measure) result }
+        ensures held { CalledOf (HoldsFull (own_slots self.now.windows.now (slots_of slots.now))) result }
     {
         match self.called(slots, at, bounds) {
             Err(refusal) => Err(refusal),

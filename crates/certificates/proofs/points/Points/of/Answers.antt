@@ -19,7 +19,7 @@ points-init g c =
     let own = c.args.program.now.thread.now in (
       ap length c.new-kept.ensures.items,
       subst (λ (ks : List Kept). AreKept image t c.args.program.now.slots.now c.new-log.result ks) (sym c.new-kept.ensures.items) (none-yet image t c.args.program.now.slots.now c.new-log.result),
-      subst (λ (rs : List StateRecord). AreLeft own 0 rs) (sym c.of-records.ensures) (all-left own c.requires.fits),
+      subst (λ (rs : List StateRecord). AreLeft own 0 rs) (sym c.of-records.ensures) (all-left own c.requires.program.fits),
       refl,
       tt,
     )
@@ -54,12 +54,12 @@ points-preserved g c =
     let state = c.in_ok-state.state in
     let next = next-record own point c.points.records inv.2 in
     let same : noted_by slots log state ≡ noted image t point =
-    ap (λ (all : List NotedSlot). noted_by all log state) c.requires.listed
+    ap (λ (all : List NotedSlot). noted_by all log state) c.requires.program.listed
     ∙ c.in_ok-state.ensures.same image own
     ∙ ap (λ (r : Option StateRecord). noted_or image own r (noted_by (image_slots image own) old c.points.derived)) (c.as_ref.ensures.value ∙ c.take-noted.ensures.record ∙ sym next.0)
-    ∙ ap (λ (all : List NotedSlot). noted_or image own (record_of own point) (noted_by all old c.points.derived)) (sym c.requires.listed)
+    ∙ ap (λ (all : List NotedSlot). noted_or image own (record_of own point) (noted_by all old c.points.derived)) (sym c.requires.program.listed)
     ∙ ap (noted_or image own (record_of own point)) inv.3
-    ∙ ap (λ (u : Thread). noted_or image u (record_of u point) (before image t point)) (sym c.requires.thread)
+    ∙ ap (λ (u : Thread). noted_or image u (record_of u point) (before image t point)) (sym c.requires.program.thread)
     ∙ sym (noted-is image t point) in
     let is : IsKeptAt image t slots log point state = record { same = same; sound = c.in_ok-state.ensures.sound point inv.4 } in
     let items = c.in_ok-push.ensures.items in

@@ -3,7 +3,7 @@ use Rattle.std.proofs.Common.{◌≡◌, ◌∙◌, ◌+◌, Option, Some, None,
 use Rattle.certificates.proofs.Called.{call-any}
 use Rattle.certificates.proofs.EdgeRules.{call-told}
 use Rattle.certificates.proofs.programs.Program.call_rules.Goals as goal
-use Rattle.certificates.specs.Calls.{left_with}
+use Rattle.typestate.specs.Calls.{left_with}
 use Rattle.certificates.specs.Kept.{state_by}
 use Rattle.measure.specs.Measures.{measure_of}
 use Rattle.model.specs.Acceptance.NotedStates.{NotedSlot}

@@ -9,21 +9,21 @@ use Rattle.typestate.specs.Differences.{slots_of}
 use Rattle.typestate.specs.Spaces.{own_slots}
 use Rattle.typestate.proofs.windows.Space.called.Goals as goal
 
-pub returns-in-Err : goal.returns-in-Err
-returns-in-Err c = λ measure.
+pub returns-in-Err-clause-value : goal.returns-in-Err-clause-value
+returns-in-Err-clause-value c = λ measure.
     let own = own_slots c.args.self.now.windows.now (slots_of c.args.slots.now) in
     ap (λ (r : Result ℕ Refusal). r >>= λ address. slot_called c.args.at own (called_slot own c.args.self.now.root address)) (c.in-Err.ensures (slots_of c.args.slots.now) measure)
 
-pub returns-in-Ok-called_slot : goal.returns-in-Ok-called_slot
-returns-in-Ok-called_slot c = λ measure.
+pub returns-in-Ok-called_slot-clause-value : goal.returns-in-Ok-called_slot-clause-value
+returns-in-Ok-called_slot-clause-value c = λ measure.
     let own = own_slots c.args.self.now.windows.now (slots_of c.args.slots.now) in
     let pair : Cap → Result (ℕ × Cap) Refusal = λ capability. Ok (c.in-Ok-called_slot.slot, capability) in
     ap pair c.capability.ensures.value
     ∙ ap (slot_called c.args.at own) c.in-Ok-called_slot.ensures.value
     ∙ ap (λ (r : Result ℕ Refusal). r >>= λ address. slot_called c.args.at own (called_slot own c.args.self.now.root address)) (c.in-Ok.ensures (slots_of c.args.slots.now) measure)
 
-pub returns-in-Err-called_slot : goal.returns-in-Err-called_slot
-returns-in-Err-called_slot c = λ measure.
+pub returns-in-Err-called_slot-clause-value : goal.returns-in-Err-called_slot-clause-value
+returns-in-Err-called_slot-clause-value c = λ measure.
     let own = own_slots c.args.self.now.windows.now (slots_of c.args.slots.now) in
     ap (slot_called c.args.at own) c.in-Err-called_slot.ensures.value
     ∙ ap (λ (r : Result ℕ Refusal). r >>= λ address. slot_called c.args.at own (called_slot own c.args.self.now.root address)) (c.in-Ok.ensures (slots_of c.args.slots.now) measure)

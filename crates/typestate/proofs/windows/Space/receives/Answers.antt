@@ -8,23 +8,23 @@ use Rattle.typestate.specs.Differences.{slots_of}
 use Rattle.typestate.proofs.CalledCaps.{by-called}
 use Rattle.typestate.proofs.windows.Space.receives.Goals as goal
 
-pub returns-in-Err : goal.returns-in-Err
-returns-in-Err c = λ measure.
+pub returns-in-Err-clause-value : goal.returns-in-Err-clause-value
+returns-in-Err-clause-value c = λ measure.
     let slots = slots_of c.args.slots.now in
     let state = known_with c.args.bounds.now slots measure in
     let rule : ℕ → Cap → Result AfterCall Refusal = λ _. receive_rule c.args.at state c.args.is_wait in
-    by-called c.args.self.now c.args.at state rule c.requires.space c.requires.inside ∙ ap (ruled_by rule) (sym (c.in-Err.ensures measure))
+    by-called c.args.self.now c.args.at state rule c.requires.space c.requires.inside ∙ ap (ruled_by rule) (sym (c.in-Err.ensures.value measure))
 
-pub returns-in-Ok-receive_rule : goal.returns-in-Ok-receive_rule
-returns-in-Ok-receive_rule c = λ measure.
+pub returns-in-Ok-receive_rule-clause-value : goal.returns-in-Ok-receive_rule-clause-value
+returns-in-Ok-receive_rule-clause-value c = λ measure.
     let slots = slots_of c.args.slots.now in
     let state = known_with c.args.bounds.now slots measure in
     let rule : ℕ → Cap → Result AfterCall Refusal = λ _. receive_rule c.args.at state c.args.is_wait in
-    by-called c.args.self.now c.args.at state rule c.requires.space c.requires.inside ∙ ap (ruled_by rule) (sym (c.in-Ok.ensures measure)) ∙ sym (c.in-Ok-receive_rule.ensures slots measure)
+    by-called c.args.self.now c.args.at state rule c.requires.space c.requires.inside ∙ ap (ruled_by rule) (sym (c.in-Ok.ensures.value measure)) ∙ sym (c.in-Ok-receive_rule.ensures slots measure)
 
-pub returns-in-Err-receive_rule : goal.returns-in-Err-receive_rule
-returns-in-Err-receive_rule c = λ measure.
+pub returns-in-Err-receive_rule-clause-value : goal.returns-in-Err-receive_rule-clause-value
+returns-in-Err-receive_rule-clause-value c = λ measure.
     let slots = slots_of c.args.slots.now in
     let state = known_with c.args.bounds.now slots measure in
     let rule : ℕ → Cap → Result AfterCall Refusal = λ _. receive_rule c.args.at state c.args.is_wait in
-    by-called c.args.self.now c.args.at state rule c.requires.space c.requires.inside ∙ ap (ruled_by rule) (sym (c.in-Ok.ensures measure)) ∙ sym (c.in-Err-receive_rule.ensures slots measure)
+    by-called c.args.self.now c.args.at state rule c.requires.space c.requires.inside ∙ ap (ruled_by rule) (sym (c.in-Ok.ensures.value measure)) ∙ sym (c.in-Err-receive_rule.ensures slots measure)

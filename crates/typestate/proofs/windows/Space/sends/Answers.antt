@@ -6,20 +6,20 @@ use Rattle.typestate.specs.Differences.{slots_of}
 use Rattle.typestate.proofs.CalledCaps.{by-called}
 use Rattle.typestate.proofs.windows.Space.sends.Goals as goal
 
-pub returns-in-Err : goal.returns-in-Err
-returns-in-Err c = λ measure.
+pub returns-in-Err-clause-value : goal.returns-in-Err-clause-value
+returns-in-Err-clause-value c = λ measure.
     let image = c.args.self.now.image.now in
     let t = c.args.self.now.thread.now in
     let slots = slots_of c.args.slots.now in
     let state = known_with c.args.bounds.now slots measure in
     let rule = send_rule image t c.args.at state (kind_of c.args.kind) in
-    by-called c.args.self.now c.args.at state rule c.requires.space c.requires.inside ∙ ap (ruled_by rule) (sym (c.in-Err.ensures measure))
+    by-called c.args.self.now c.args.at state rule c.requires.space c.requires.inside ∙ ap (ruled_by rule) (sym (c.in-Err.ensures.value measure))
 
-pub returns-in-Ok : goal.returns-in-Ok
-returns-in-Ok c = λ measure.
+pub returns-in-Ok-clause-value : goal.returns-in-Ok-clause-value
+returns-in-Ok-clause-value c = λ measure.
     let image = c.args.self.now.image.now in
     let t = c.args.self.now.thread.now in
     let slots = slots_of c.args.slots.now in
     let state = known_with c.args.bounds.now slots measure in
     let rule = send_rule image t c.args.at state (kind_of c.args.kind) in
-    by-called c.args.self.now c.args.at state rule c.requires.space c.requires.inside ∙ ap (ruled_by rule) (sym (c.in-Ok.ensures measure)) ∙ c.sends.ensures image t slots measure
+    by-called c.args.self.now c.args.at state rule c.requires.space c.requires.inside ∙ ap (ruled_by rule) (sym (c.in-Ok.ensures.value measure)) ∙ c.sends.ensures.value image t slots measure

@@ -10,21 +10,21 @@ use Rattle.typestate.specs.Differences.{slots_of}
 use Rattle.typestate.proofs.CalledCaps.{after-known, after-unknown}
 use Rattle.typestate.proofs.windows.Space.system_call.Goals as goal
 
-pub returns-in-Err : goal.returns-in-Err
-returns-in-Err c = λ measure.
+pub returns-in-Err-clause-value : goal.returns-in-Err-clause-value
+returns-in-Err-clause-value c = λ measure.
     let slots = slots_of c.args.slots.now in
     after-unknown c.args.self.now.image.now c.args.self.now.thread.now c.args.at (known_with c.args.bounds.now slots measure) c.in-Err.refusal (c.in-Err.ensures slots measure)
 
-pub returns-in-None : goal.returns-in-None
-returns-in-None c = λ measure.
+pub returns-in-None-clause-value : goal.returns-in-None-clause-value
+returns-in-None-clause-value c = λ measure.
     let image = c.args.self.now.image.now in
     let t = c.args.self.now.thread.now in
     let slots = slots_of c.args.slots.now in
     let state = known_with c.args.bounds.now slots measure in
     after-known image t c.args.at state c.in-Ok.number None (c.in-Ok.ensures slots measure) (c.kind_of_number.ensures image t c.args.at state ∙ ap (by_kind image t c.args.at state) c.in-None.is)
 
-pub returns-in-Some-Passes : goal.returns-in-Some-Passes
-returns-in-Some-Passes c = λ measure.
+pub returns-in-Some-Passes-clause-value : goal.returns-in-Some-Passes-clause-value
+returns-in-Some-Passes-clause-value c = λ measure.
     let image = c.args.self.now.image.now in
     let t = c.args.self.now.thread.now in
     let slots = slots_of c.args.slots.now in
@@ -34,22 +34,22 @@ returns-in-Some-Passes c = λ measure.
     after-known image t c.args.at state c.in-Ok.number (Some Passes) (c.in-Ok.ensures slots measure) (c.kind_of_number.ensures image t c.args.at state ∙ ap (by_kind image t c.args.at state) kind)
     ∙ ap done (sym c.unchanged.ensures)
 
-pub returns-in-Some-Receives : goal.returns-in-Some-Receives
-returns-in-Some-Receives c = λ measure.
+pub returns-in-Some-Receives-clause-value : goal.returns-in-Some-Receives-clause-value
+returns-in-Some-Receives-clause-value c = λ measure.
     let image = c.args.self.now.image.now in
     let t = c.args.self.now.thread.now in
     let slots = slots_of c.args.slots.now in
     let state = known_with c.args.bounds.now slots measure in
     let is : c.kind_of_number.result ≡ Some (Receives c.in-Some-Receives.is_wait) = c.in-Some-Receives.is ∙ ap (λ (k : Kind). Some k) c.in-Some-Receives.field-0-is in
     after-known image t c.args.at state c.in-Ok.number (Some (Receives c.in-Some-Receives.is_wait)) (c.in-Ok.ensures slots measure) (c.kind_of_number.ensures image t c.args.at state ∙ ap (by_kind image t c.args.at state) is)
-    ∙ c.receives.ensures measure
+    ∙ c.receives.ensures.value measure
 
-pub returns-in-Some-Sends : goal.returns-in-Some-Sends
-returns-in-Some-Sends c = λ measure.
+pub returns-in-Some-Sends-clause-value : goal.returns-in-Some-Sends-clause-value
+returns-in-Some-Sends-clause-value c = λ measure.
     let image = c.args.self.now.image.now in
     let t = c.args.self.now.thread.now in
     let slots = slots_of c.args.slots.now in
     let state = known_with c.args.bounds.now slots measure in
     let is : c.kind_of_number.result ≡ Some (Sends c.in-Some-Sends.kind) = c.in-Some-Sends.is ∙ ap (λ (k : Kind). Some k) c.in-Some-Sends.field-0-is in
     after-known image t c.args.at state c.in-Ok.number (Some (Sends c.in-Some-Sends.kind)) (c.in-Ok.ensures slots measure) (c.kind_of_number.ensures image t c.args.at state ∙ ap (by_kind image t c.args.at state) is)
-    ∙ c.sends.ensures measure
+    ∙ c.sends.ensures.value measure

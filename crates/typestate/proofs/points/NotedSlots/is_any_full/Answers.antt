@@ -1,0 +1,19 @@
+-- None so far is full, and so the rest decides.
+use Rattle.std.proofs.Common.{ℕ, suc, ◌≡◌, ◌∙◌, ◌+◌, ◌-◌, ◌<◌, ◌||◌, ◌∷◌, Bool, is_some, List, sym, ap, arith}
+use Rattle.std.specs.List.{list_any, range_with_len}
+use Rattle.model.specs.Acceptance.NotedStates.{slot_at}
+use Rattle.typestate.specs.Differences.{slots_of}
+use Rattle.typestate.proofs.points.NotedSlots.is_any_full.Goals as goal
+
+range-next : (a n : ℕ) → a < n → range_with_len a (n - a) ≡ a ∷ range_with_len (a + 1) (n - (a + 1))
+range-next a n less = ap (range_with_len a) (let one : n - a ≡ suc (n - (a + 1)) = omega (arith, less) in one)
+
+pub loop-i-preserved : goal.loop-i-preserved
+loop-i-preserved c =
+    let f : ℕ → Bool = λ i. is_some (slot_at (slots_of c.args.self.now) (record { cnode = c.args.first.cnode; index = c.args.first.index + i })) in
+    let i = c.loop-i.i in
+    record {
+      within = omega (arith, c.loop-i-test.true);
+      left = ap (λ b. b || list_any f (range_with_len (i + 1) (c.args.count - (i + 1)))) (sym c.if-is_full_at.false ∙ c.is_full_at.ensures)
+          ∙ ap (list_any f) (sym (range-next i c.args.count c.loop-i-test.true)) ∙ c.loop-i.invariant.left;
+    }

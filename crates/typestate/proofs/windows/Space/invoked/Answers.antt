@@ -1,0 +1,59 @@
+-- By the kind of the call.
+use Rattle.std.proofs.Common.{◌≡◌, ◌∙◌, inl, inr, false, Option, Some, Result, Ok, sym, ap, subst}
+use Rattle.std.specs.Option.{option_map_or}
+use Rattle.model.specs.declared.capabilities.Cap.{Cap}
+use Rattle.model.specs.declared.capabilities.Cap.TheVariants.{Empty}
+use Rattle.model.specs.declared.invocations.Invocation.{Invocation}
+use Rattle.model.specs.declared.invocations.Invocation.TheVariants.{OnCNode, OnHandler}
+use Rattle.model.specs.Acceptance.NotedStates.{NotedSlot, is_foreign}
+use Rattle.model.specs.Acceptance.ThreadRules.{reached}
+use Rattle.typestate.specs.CNodeCalls.{cnode_after}
+use Rattle.typestate.specs.Differences.{slots_of}
+use Rattle.typestate.specs.Invocations.{IsCallOn, held_after, made_or_refused}
+use Rattle.typestate.specs.SlotChanges.{left_or_refused}
+use Rattle.typestate.specs.Spaces.{AreOwn, is_inside}
+use Rattle.typestate.proofs.CallsOn.{cnode-anywhere, done-as, no-control, no-table-call, no-thread}
+use Rattle.typestate.proofs.HeldCaps.{held-near}
+use Rattle.typestate.proofs.SlotMaps.{held-inside, held_at}
+use Rattle.typestate.proofs.windows.Space.invoked.Goals as goal
+
+pub cnode_call-left-requires-clause-root : goal.cnode_call-left-requires-clause-root
+cnode_call-left-requires-clause-root c =
+    let image = c.args.self.now.image.now in
+    let t = c.args.self.now.thread.now in
+    let slots = slots_of c.args.slots.now in
+    let here : held_at slots c.args.held.key ≡ c.args.held.capability = ap (λ (o : Option NotedSlot). option_map_or (λ s. s.capability) o Empty) c.requires.held in
+    ap (is_inside image t) (ap (λ (h : NotedSlot). h.capability) c.held.view_is ∙ sym here) ∙ held-inside image t slots c.args.held.key c.requires.inside
+
+pub unreachable-requires : goal.unreachable-requires
+unreachable-requires c =
+    let image = c.args.self.now.image.now in
+    let t = c.args.self.now.thread.now in
+    let slots = slots_of c.args.slots.now in
+    let here : held_at slots c.args.held.key ≡ c.args.held.capability = ap (λ (o : Option NotedSlot). option_map_or (λ s. s.capability) o Empty) c.requires.held in
+    let near : is_foreign image t (reached image t) c.args.held.capability ≡ false = ap (is_foreign image t (reached image t)) (sym here) ∙ held-near image t slots c.args.held.key c.requires.inside in
+    elim c.in-OnThread.is [
+      | inl a ↦ no-thread image t (reached image t) c.args.held.capability a.0 a.1 near (subst (IsCallOn c.args.held.capability) a.2 c.requires.fits)
+      | inr b ↦ elim b [
+        | inl a ↦ no-table-call image t (reached image t) c.args.held.capability a.0 near (subst (IsCallOn c.args.held.capability) a.1 c.requires.fits)
+        | inr a ↦ no-control image t (reached image t) c.args.held.capability a.0 a.1 near (subst (IsCallOn c.args.held.capability) a.2 c.requires.fits)
+      ]
+    ]
+
+pub returns-in-OnCNode : goal.returns-in-OnCNode
+returns-in-OnCNode c =
+    let image = c.args.self.now.image.now in
+    let t = c.args.self.now.thread.now in
+    let slots = slots_of c.args.slots.now in
+    done-as c.note_left.result _ _ (λ done noted.
+    ap (held_after image t c.args.at slots c.args.held) c.in-OnCNode.is ∙ cnode-anywhere image t c.args.at slots c.args.held c.in-OnCNode.call
+    ∙ ap (λ (h : NotedSlot). cnode_after image t c.args.at slots h.capability c.in-OnCNode.call) (sym c.held.view_is)
+    ∙ c.cnode_call-left.ensures ∙ noted image t c.requires.own) c.note_left.ensures
+
+pub returns-in-OnHandler : goal.returns-in-OnHandler
+returns-in-OnHandler c =
+    let image = c.args.self.now.image.now in
+    let t = c.args.self.now.thread.now in
+    let slots = slots_of c.args.slots.now in
+    done-as c.note_left-in-OnHandler.result _ _ (λ done noted.
+    ap (held_after image t c.args.at slots c.args.held) c.in-OnHandler.is ∙ c.handler_call-left.ensures c.args.held ∙ noted image t c.requires.own) c.note_left-in-OnHandler.ensures
