@@ -1,11 +1,10 @@
 -- What is decoded of a capability is a call on it.
-use Rattle.std.proofs.Common.{ℕ, ◌≡◌, ◌==◌, Bool, true, false, nat_le, if◌then◌else◌, Option, Some, None, Result, Ok, Err, List, length, refl, sym, ap, subst}
+use Rattle.std.proofs.Common.{ℕ, ◌≡◌, ◌==◌, Bool, true, false, nat_le, if◌then◌else◌, Option, Some, None, Result, Ok, Err, List, length, refl, subst}
 use Rattle.model.specs.declared.capabilities.Cap.{Cap}
 use Rattle.model.specs.declared.capabilities.Cap.TheVariants.{Empty, Untyped, Endpoint, Notification, CNode, Frame, PageTable, Tcb, RootTable, InterruptControl, InterruptHandler}
 use Rattle.model.specs.declared.errors.KError.{KError}
 use Rattle.model.specs.declared.errors.KError.TheVariants.{IllegalOperation, TruncatedMessage}
 use Rattle.model.specs.declared.invocations.Invocation.{Invocation}
-use Rattle.model.specs.declared.invocations.UntypedMemory.{UntypedMemory}
 use Rattle.std.specs.Prelude.{IfOk}
 use Rattle.model.specs.declared.invocations.CNodeCall.{CNodeCall}
 use Rattle.model.specs.declared.invocations.CNodeCall.TheVariants.{Copy, Mint, Move, Mutate, Delete, Revoke}
@@ -17,7 +16,7 @@ use Rattle.model.specs.declared.refusals.Point.{Point}
 use Rattle.model.specs.Acceptance.NotedStates.{NotedSlot, is_foreign}
 use Rattle.model.specs.Images.Image.{Image, Thread}
 use Rattle.model.specs.Kernel.Arguments.{◌>>=◌, check, wanted}
-use Rattle.model.specs.Kernel.CallForms.{CallForm, acknowledge_label, clear_label, configure_label, copy_label, decode, delete_label, form_called, form_of, get_handler_label, map_frame_label, map_table_label, mint_label, move_label, mutate_label, resume_label, retype_label, revoke_label, set_notification_label, set_priority_label, set_register_label, suspend_label, unmap_frame_label, unmap_table_label}
+use Rattle.model.specs.Kernel.CallForms.{CallForm, acknowledge_label, clear_label, configure_label, copy_label, decode, delete_label, form_of, get_handler_label, map_frame_label, map_table_label, mint_label, move_label, mutate_label, resume_label, retype_label, revoke_label, set_notification_label, set_priority_label, set_register_label, suspend_label, unmap_frame_label, unmap_table_label}
 use Rattle.typestate.specs.CNodeCalls.{cnode_after}
 use Rattle.typestate.specs.Invocations.{IsCallOn, held_after}
 

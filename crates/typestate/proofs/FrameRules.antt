@@ -1,5 +1,5 @@
 -- Map and Unmap by what their checks answer.
-use Rattle.std.proofs.Common.{ℕ, ◌≡◌, ◌∙◌, ◌==◌, ◌/◌, ◌%◌, ◌||◌, Bool, true, false, not, nat_lt, Option, Some, None, Result, Ok, Err, List, refl, sym, ap}
+use Rattle.std.proofs.Common.{ℕ, ◌≡◌, ◌∙◌, ◌==◌, ◌/◌, ◌%◌, ◌||◌, Bool, true, false, not, nat_lt, Option, Some, None, Result, Ok, Err, List, refl, ap}
 use Rattle.model.specs.declared.capabilities.Cap.{Cap}
 use Rattle.model.specs.declared.capabilities.Cap.TheVariants.{Empty, Untyped, Endpoint, Notification, CNode, Frame, PageTable, Tcb, RootTable, InterruptControl, InterruptHandler}
 use Rattle.model.specs.declared.capabilities.FrameMapping.{FrameMapping}
@@ -12,7 +12,7 @@ use Rattle.model.specs.declared.refusals.Point.{Point}
 use Rattle.model.specs.declared.refusals.Refusal.{Refusal}
 use Rattle.model.specs.declared.refusals.Refusal.TheVariants.{CallRefused}
 use Rattle.model.specs.declared.rights.Rights.{Rights}
-use Rattle.model.specs.Acceptance.NotedKernel.{boot_parent, noted_after, noted_kernel, noted_root, noted_slots, slot_of_key}
+use Rattle.model.specs.Acceptance.NotedKernel.{boot_parent, noted_kernel, noted_root, noted_slots, slot_of_key}
 use Rattle.model.specs.Acceptance.NotedStates.{NotedSlot, slot_at, with_noted}
 use Rattle.model.specs.Capabilities.CapabilityKinds.{frame_mapping, unmapped, with_frame_mapping}
 use Rattle.model.specs.Capabilities.Rights.{mapping_rights, may_execute, may_read}

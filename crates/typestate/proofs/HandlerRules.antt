@@ -6,17 +6,16 @@ use Rattle.std.proofs.lemmas.Bool.{ne_eqb}
 use Rattle.std.proofs.lemmas.Bool.Decides.{nat_tests}
 use Rattle.std.proofs.lemmas.List.Folds.{list_any_none}
 use Rattle.std.proofs.lemmas.List.FromFn.{get_or-range_with_len, length-range_with_len}
-use Rattle.model.specs.Acceptance.NotedKernel.{key_of, noted_after, noted_kernel, noted_root, noted_slots, slot_of_key}
+use Rattle.model.specs.Acceptance.NotedKernel.{noted_kernel, noted_root, noted_slots, slot_of_key}
 use Rattle.model.specs.Acceptance.NotedStates.{NotedSlot}
-use Rattle.model.specs.Acceptance.ThreadRules.{reached}
 use Rattle.model.specs.Capabilities.CapabilityKinds.{is_handler_of, names_object, object_of}
 use Rattle.model.specs.Capabilities.Slots.{Slots, capability_at, depth_of, inserted, is_empty, is_full, is_within}
 use Rattle.model.specs.declared.slot_entries.Entry.{Entry}
 use Rattle.model.specs.Images.Described.{described}
 use Rattle.model.specs.Images.Image.{Image, Thread}
 use Rattle.model.specs.Kernel.Arguments.{◌>>=◌, argument_slot, check}
-use Rattle.model.specs.Kernel.InterruptCalls.{bind, may_be_bound, on_handler}
-use Rattle.model.specs.Kernel.Removal.{SlotSet, delete, ends, ends_filled, is_slot_of, remove, slot_count, some_inside, some_outside, takes_last, wants_revoke_first, with_bindings, without_slots}
+use Rattle.model.specs.Kernel.InterruptCalls.{bind, may_be_bound}
+use Rattle.model.specs.Kernel.Removal.{SlotSet, delete, ends, ends_filled, is_slot_of, remove, some_inside, some_outside, takes_last, wants_revoke_first, with_bindings, without_slots}
 use Rattle.model.specs.Kernel.State.{State, binding_slot, slots_of, with_slots}
 use Rattle.model.specs.declared.capabilities.Cap.{Cap}
 use Rattle.model.specs.declared.capabilities.Cap.TheVariants.{Empty}

@@ -1,5 +1,5 @@
 -- What a thread's slots hold: nothing leads outside, and a slot with another capability is a change of the noted ones.
-use Rattle.std.proofs.Common.{ℕ, ◌≡◌, ◌∙◌, ◌==◌, ◌&&◌, ◌||◌, true, false, not, if◌then◌else◌, Bool, Option, Some, None, is_none, is_some, Result, Ok, Err, List, [], ◌∷◌, refl, sym, ap, subst}
+use Rattle.std.proofs.Common.{ℕ, ◌≡◌, ◌∙◌, ◌==◌, ◌&&◌, ◌||◌, true, false, not, Bool, Option, Some, None, is_none, is_some, Result, Ok, List, [], ◌∷◌, refl, sym, ap, subst}
 use Rattle.std.specs.List.{list_any}
 use Rattle.std.specs.Option.{option_map_or}
 use Rattle.std.proofs.lemmas.Bool.{eqb-true}
@@ -9,8 +9,8 @@ use Rattle.model.specs.declared.errors.KError.{KError}
 use Rattle.model.specs.declared.errors.KError.TheVariants.{FailedLookup, InvalidCapability}
 use Rattle.model.specs.declared.invocations.SlotName.{SlotName}
 use Rattle.model.specs.declared.slot_entries.Entry.{Entry}
-use Rattle.model.specs.Acceptance.NotedKernel.{boot_parent, kernel_entry, key_of, noted_after, noted_kernel, noted_slots, slot_of_key}
-use Rattle.model.specs.Acceptance.NotedStates.{NotedSlot, SlotKey, is_foreign, is_own, is_same_key, slot_at, with_noted}
+use Rattle.model.specs.Acceptance.NotedKernel.{boot_parent, key_of, noted_after, noted_kernel, noted_slots, slot_of_key}
+use Rattle.model.specs.Acceptance.NotedStates.{NotedSlot, SlotKey, is_foreign, is_same_key, slot_at, with_noted}
 use Rattle.model.specs.Acceptance.ThreadRules.{reached}
 use Rattle.model.specs.Capabilities.Slots.{Slots, capability_at, is_empty, is_full, parent_at, recapped, with_entry}
 use Rattle.model.specs.Images.Described.{described}
@@ -29,7 +29,7 @@ use Rattle.typestate.proofs.Puts.{put-back}
 use Rattle.typestate.proofs.RemovedNoted.{found-noted}
 use Rattle.typestate.proofs.Rising.{RiseFrom}
 use Rattle.typestate.proofs.SlotMaps.{found-passes, held_at, noted-holds}
-use Rattle.typestate.proofs.Standing.{IsOwnSlot, found-key, found-own, noted-there}
+use Rattle.typestate.proofs.Standing.{IsOwnSlot, found-own, noted-there}
 
 -- what a slot holds is none that the thread may not have
 pub held-near : (image : Image) (t : Thread) (slots : List NotedSlot) (key : SlotKey) → NothingLeadsOutside image t slots → is_foreign image t (reached image t) (held_at slots key) ≡ false
@@ -54,10 +54,11 @@ root-found image t slots root name slot offset key held none found keyed holds i
     let all = noted_slots image t slots in
     let here : capability_at all slot ≡ RootTable offset = holds ∙ is in
     let there : held_at slots key ≡ RootTable offset = sym (noted-holds image t slots slot key keyed) ∙ here in
-    let give : Cap → Result ℕ KError = λ c. wanted (root_of c) InvalidCapability in
-    (ap (λ (r : Result ℕ KError). (r >>= λ slot. check (is_full all slot) FailedLookup >>= λ _. Ok slot) >>= λ slot. give (capability_at all slot)) found
-    ∙ ap (λ (c : Cap). (check (not (is_empty c)) FailedLookup >>= λ _. Ok slot) >>= λ slot. give (capability_at all slot)) here ∙ ap give here,
-    root-near image t (reached image t) offset (subst (λ (c : Cap). is_foreign image t (reached image t) c ≡ false) there (held-near image t slots key none)))
+    let give : Cap → Result ℕ KError = λ c. wanted (root_of c) InvalidCapability in (
+      ap (λ (r : Result ℕ KError). (r >>= λ slot. check (is_full all slot) FailedLookup >>= λ _. Ok slot) >>= λ slot. give (capability_at all slot)) found
+          ∙ ap (λ (c : Cap). (check (not (is_empty c)) FailedLookup >>= λ _. Ok slot) >>= λ slot. give (capability_at all slot)) here ∙ ap give here,
+      root-near image t (reached image t) offset (subst (λ (c : Cap). is_foreign image t (reached image t) c ≡ false) there (held-near image t slots key none)),
+    )
 
 -- no page table is among the thread's slots
 pub none-among : (f g : NotedSlot → Bool) → ((s : NotedSlot) → f s ≡ false → g s ≡ false) → (slots : List NotedSlot) → list_any f slots ≡ false → list_any g slots ≡ false

@@ -1,23 +1,21 @@
 -- New capabilities in empty slots of a thread's CNode are changes of its noted slots.
-use Rattle.std.proofs.Common.{get_or, ℕ, zero, suc, ◌≡◌, ◌≢◌, ◌∙◌, ◌==◌, ◌+◌, ◌-◌, ◌*◌, ◌/◌, ◌^◌, ◌<◌, ◌≤◌, ◌&&◌, ◌||◌, inl, inr, Bool, true, false, not, nat_le, nat_lt, if◌then◌else◌, Option, Some, None, is_some, option_and_then, List, [], ◌∷◌, map, refl, sym, ap, subst, arith}
+use Rattle.std.proofs.Common.{get_or, ℕ, zero, suc, ◌≡◌, ◌∙◌, ◌+◌, ◌-◌, ◌/◌, ◌^◌, ◌<◌, ◌≤◌, ◌&&◌, inl, inr, true, false, not, nat_lt, if◌then◌else◌, Option, Some, None, option_and_then, List, ◌∷◌, map, refl, sym, ap, subst, arith}
 use Rattle.std.specs.Option.{option_map_or}
-use Rattle.std.specs.List.{list_any, range_with_len}
-use Rattle.std.proofs.lemmas.Bool.{and_parts, eq-eqb, ne_eqb}
+use Rattle.std.specs.List.{range_with_len}
+use Rattle.std.proofs.lemmas.Bool.{eq-eqb, ne_eqb}
 use Rattle.std.proofs.lemmas.Bool.Decides.{eqb_tells, nat_tests}
 use Rattle.std.proofs.lemmas.List.Folds.{list_any_none}
-use Rattle.model.specs.declared.capabilities.Cap.{Cap}
 use Rattle.model.specs.declared.capabilities.Cap.TheVariants.{Empty, Untyped}
 use Rattle.model.specs.declared.invocations.UntypedMemory.{UntypedMemory}
 use Rattle.model.specs.declared.slot_entries.Entry.{Entry}
 use Rattle.model.specs.Acceptance.NotedKernel.{boot_parent, key_of, noted_after, noted_of, noted_slots, slot_of_key}
 use Rattle.model.specs.Acceptance.NotedStates.{NotedSlot, SlotKey, is_own, is_same_key, number_of, slot_at, with_noted}
-use Rattle.model.specs.Acceptance.ThreadRules.{is_member, reached}
+use Rattle.model.specs.Acceptance.ThreadRules.{reached}
 use Rattle.model.specs.Acceptance.WellFormed.{has_slot}
-use Rattle.model.specs.Capabilities.Slots.{Slots, capability_at, empty_entry, is_empty, is_full, is_within, parent_at, recapped}
+use Rattle.model.specs.Capabilities.Slots.{Slots, empty_entry, is_empty, is_within, recapped}
 use Rattle.model.specs.Images.Image.{Image, Thread}
-use Rattle.model.specs.Images.Places.{offset_of}
 use Rattle.model.specs.Kernel.Removal.{slot_count}
-use Rattle.model.specs.Kernel.Retype.{NewObject, NewObjects, first_capability, object, object_bits, place_of_new, some_new, with_first_capabilities, with_new_slots}
+use Rattle.model.specs.Kernel.Retype.{NewObjects, first_capability, object, place_of_new, with_first_capabilities, with_new_slots}
 use Rattle.model.specs.Kernel.State.{slot_of}
 use Rattle.typestate.specs.declared.pool_calls.Makeable.{Makeable}
 use Rattle.typestate.specs.declared.pool_calls.Makeable.TheVariants.{Endpoint, Notification, Frame}
@@ -30,7 +28,7 @@ use Rattle.typestate.proofs.NamedKeys.{own-named, same-own-key}
 use Rattle.typestate.proofs.Puts.{put-own}
 use Rattle.typestate.proofs.Rising.{RiseFrom, changes-rise}
 use Rattle.typestate.proofs.SlotLists.{noted-at}
-use Rattle.typestate.proofs.Standing.{after-at, after-is, back-of, back_of, found-own}
+use Rattle.typestate.proofs.Standing.{after-at, after-is, back-of, found-own}
 
 -- ---- a list of changes with keys of their own
 

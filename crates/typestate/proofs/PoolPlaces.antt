@@ -7,7 +7,6 @@ use Rattle.std.proofs.Math.Pow.{mod-mod-pow, pow_mono}
 use Rattle.std.proofs.lemmas.Bool.{and_parts, cases_lt, eq-eqb, eqb-true}
 use Rattle.std.proofs.lemmas.Bool.Decides.{nat_tests}
 use Rattle.std.proofs.lemmas.Nat.{pow-add}
-use Rattle.model.specs.declared.capabilities.Cap.{Cap}
 use Rattle.model.specs.declared.capabilities.Cap.TheVariants.{Empty, Untyped}
 use Rattle.model.specs.declared.errors.KError.{KError}
 use Rattle.model.specs.declared.errors.KError.TheVariants.{DeleteFirst, IllegalOperation, NotEnoughMemory, RangeError}
@@ -24,8 +23,8 @@ use Rattle.model.specs.Acceptance.ThreadRules.{is_member, reached}
 use Rattle.model.specs.Acceptance.WellFormed.{has_slot}
 use Rattle.model.specs.Capabilities.CapabilityKinds.{Node}
 use Rattle.model.specs.Capabilities.CapabilityWords.{IsCapability, IsPlace}
-use Rattle.model.specs.Capabilities.Placement.{align, placement}
-use Rattle.model.specs.Capabilities.Slots.{Slots, capability_at, depth_of, is_empty, is_full, recapped}
+use Rattle.model.specs.Capabilities.Placement.{placement}
+use Rattle.model.specs.Capabilities.Slots.{Slots, depth_of, is_empty, is_full, recapped}
 use Rattle.model.specs.Images.Image.{Image, Thread}
 use Rattle.model.specs.Kernel.Arguments.{◌>>=◌, check, wanted}
 use Rattle.model.specs.Kernel.Retype.{NewObject, NewUntyped, NewThread, NewEndpoint, NewNotification, NewCNode, NewFrame, NewPageTable, NewRootTable, NewObjects, any_full, object_bits, type_of, with_first_capabilities, with_new_slots}
@@ -36,7 +35,7 @@ use Rattle.typestate.specs.declared.pool_calls.Makeable.TheVariants as makeable
 use Rattle.typestate.specs.declared.windows.Window.{Window}
 use Rattle.typestate.specs.Differences.{changed}
 use Rattle.typestate.specs.Invocations.{held_after}
-use Rattle.typestate.specs.Pools.{IsOwnWindow, Makes, NamesNode, PlacedNew, fits_node, new_of, pool_used, room_in, slots_made, some_full}
+use Rattle.typestate.specs.Pools.{IsOwnWindow, Makes, NamesNode, PlacedNew, fits_node, new_of, pool_used, room_in, slots_made}
 use Rattle.typestate.specs.SlotChanges.{noted_depth}
 use Rattle.typestate.specs.Spaces.{AreOwn, AreWindows, IsWindow, StandsApart}
 use Rattle.typestate.specs.Strays.{is_at}
@@ -45,7 +44,7 @@ use Rattle.typestate.proofs.NamedKeys.{own-named}
 use Rattle.typestate.proofs.MadeSlots.{made-back}
 use Rattle.typestate.proofs.PoolRules.{Placing, asked-type, placed-so, pool-goes, pool-never, room_of}
 use Rattle.typestate.proofs.Rising.{RiseFrom}
-use Rattle.typestate.proofs.SlotMaps.{held_at, noted-holds}
+use Rattle.typestate.proofs.SlotMaps.{noted-holds}
 use Rattle.typestate.proofs.Standing.{found-own}
 
 -- ---- the CNode
@@ -261,9 +260,10 @@ place-valid memory power count place mark i valid so less =
     let end = so.end in
     let below = so.below in
     let smaller : power ≤ memory.bits = bits-less power memory.bits (omega (arith, upto, next, end, below)) in
-    let block : memory.offset + 2 ^ memory.bits ≤ 2 ^ 24 = block-below memory.offset memory.bits 24 valid.2 valid.0.0 valid.0.1 in
-    (ap (λ n. (memory.offset + n + i * size) % size) (sym start) ∙ add-mul-mod_self_right (memory.offset + rounds * size) i size ∙ add-mul-mod_self_right memory.offset rounds size ∙ multiple memory.offset memory.bits power smaller valid.0.0,
-    (let positive = pow_pos power in omega (arith, upto, next, end, below, block, positive)))
+    let block : memory.offset + 2 ^ memory.bits ≤ 2 ^ 24 = block-below memory.offset memory.bits 24 valid.2 valid.0.0 valid.0.1 in (
+      ap (λ n. (memory.offset + n + i * size) % size) (sym start) ∙ add-mul-mod_self_right (memory.offset + rounds * size) i size ∙ add-mul-mod_self_right memory.offset rounds size ∙ multiple memory.offset memory.bits power smaller valid.0.0,
+      (let positive = pow_pos power in omega (arith, upto, next, end, below, block, positive)),
+    )
 
 pub place-small : (memory : UntypedMemory) (power count place mark : ℕ) → IsCapability (Untyped memory.offset memory.bits memory.watermark) → Placing memory.bits memory.watermark power count place mark
     → memory.offset + place ≤ 2 ^ 24

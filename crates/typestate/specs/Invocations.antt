@@ -1,5 +1,5 @@
 -- Calls on capabilities in the slots of a thread.
-use Rattle.std.specs.Prelude.{ℕ, ◌≡◌, ◌/◌, ◌==◌, ◌||◌, not, Bool, Some, None, Option, Result, Ok, Err, List}
+use Rattle.std.specs.Prelude.{ℕ, ◌≡◌, ◌/◌, ◌||◌, not, Option, Result, Ok, Err, List}
 use Rattle.model.specs.declared.capabilities.Cap.{Cap}
 use Rattle.model.specs.declared.capabilities.Cap.TheVariants.{Untyped, CNode, Frame, PageTable, Tcb, InterruptControl, InterruptHandler}
 use Rattle.model.specs.declared.capabilities.FrameMapping.{FrameMapping}
@@ -13,12 +13,11 @@ use Rattle.model.specs.declared.refusals.Refusal.{Refusal}
 use Rattle.model.specs.declared.rights.Rights.{Rights}
 use Rattle.model.specs.Acceptance.NotedKernel.{noted_kernel, noted_root, noted_slots, slot_of_key}
 use Rattle.model.specs.Acceptance.NotedStates.{NotedSlot}
-use Rattle.model.specs.Capabilities.CapabilityKinds.{frame_mapping}
 use Rattle.model.specs.Capabilities.Rights.{mapping_rights, may_execute, may_read}
 use Rattle.model.specs.Capabilities.Slots.{IsFull, Slots, capability_at}
 use Rattle.model.specs.Images.Image.{Image, Thread}
-use Rattle.model.specs.Kernel.AddressSpaces.{is_page_taken, is_region_taken, page_size, region_pages}
-use Rattle.model.specs.Kernel.Arguments.{◌>>=◌, Call, check}
+use Rattle.model.specs.Kernel.AddressSpaces.{is_page_taken, is_region_taken, region_pages}
+use Rattle.model.specs.Kernel.Arguments.{◌>>=◌, check}
 use Rattle.model.specs.Kernel.MappingCalls.{is_mapped, root_named}
 use Rattle.typestate.specs.declared.system_calls.SystemCall.{SystemCall}
 use Rattle.typestate.specs.declared.system_calls.SystemCall.TheVariants.{Plain, Invokes}

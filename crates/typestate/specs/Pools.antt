@@ -1,7 +1,6 @@
 -- Retype at a point, step by step.
-use Rattle.std.specs.Prelude.{ℕ, ◌≡◌, ◌+◌, ◌*◌, ◌^◌, ◌&&◌, not, nat_le, nat_lt, is_some, true, Bool, Option, Some, None, Result, Ok, Err, List, ◌∷◌, map}
+use Rattle.std.specs.Prelude.{ℕ, ◌≡◌, ◌+◌, ◌*◌, ◌^◌, ◌&&◌, not, nat_le, nat_lt, is_some, true, Bool, Option, Some, None, Result, Ok, Err, List, map}
 use Rattle.std.specs.List.{list_any, range_with_len}
-use Rattle.model.specs.declared.capabilities.Cap.{Cap}
 use Rattle.model.specs.declared.capabilities.Cap.TheVariants.{Untyped}
 use Rattle.model.specs.declared.errors.KError.{KError}
 use Rattle.model.specs.declared.errors.KError.TheVariants.{DeleteFirst, IllegalOperation, InvalidArgument, NotEnoughMemory, RangeError}
@@ -17,7 +16,7 @@ use Rattle.model.specs.Capabilities.CapabilityKinds.{Node}
 use Rattle.model.specs.Capabilities.Placement.{placement}
 use Rattle.model.specs.Images.Image.{Image, Thread}
 use Rattle.model.specs.Kernel.Arguments.{◌>>=◌, check, wanted}
-use Rattle.model.specs.Kernel.Retype.{NewObject, NewUntyped, NewThread, NewEndpoint, NewNotification, NewCNode, NewFrame, NewPageTable, NewRootTable, any_full, first_capability, is_large_enough, is_small_enough, node, object_bits, type_of}
+use Rattle.model.specs.Kernel.Retype.{NewObject, NewEndpoint, NewNotification, NewFrame, any_full, first_capability, is_large_enough, is_small_enough, node, object_bits, type_of}
 use Rattle.model.specs.Kernel.State.{slot_of}
 use Rattle.typestate.specs.declared.pool_calls.Makeable.{Makeable}
 use Rattle.typestate.specs.declared.pool_calls.Makeable.TheVariants.{Endpoint, Notification, Frame}

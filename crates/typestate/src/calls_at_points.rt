@@ -69,11 +69,13 @@ impl Space<'_, '_> {
         match self.system_call(slots, at, bounds) {
             Err(refusal) => Ok(Err(refusal)),
             Ok(SystemCall::Plain(behind)) => Ok(Ok(behind)),
-            Ok(SystemCall::Invokes {
-                slot,
-                capability,
-                answers,
-            }) => self.called_on(slots, at, bounds, slot, capability, answers, made),
+            Ok(
+                SystemCall::Invokes {
+                    slot,
+                    capability,
+                    answers,
+                },
+            ) => self.called_on(slots, at, bounds, slot, capability, answers, made),
         }
     }
 }

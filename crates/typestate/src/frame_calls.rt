@@ -21,7 +21,9 @@ ghost use Rattle.typestate.specs.declared.slot_changes.SlotChange.TheVariants.{P
 ghost use Rattle.typestate.specs.Spaces.{AreOwn, IsSpace, NothingLeadsOutside, StandsApart};
 
 use crate::{NotedSlot, NotedSlots, SlotChange, SlotKey, Space};
-use model::{Cap, FrameCall, FrameEntry, FrameMapping, KError, Point, Refusal, Rights, SlotName, TableEntry};
+use model::{
+    Cap, FrameCall, FrameEntry, FrameMapping, KError, Point, Refusal, Rights, SlotName, TableEntry,
+};
 use vspace::{mapping_rights, may_be_mapped, page_named};
 
 /// Bytes of a page.
@@ -200,7 +202,12 @@ impl Space<'_, '_> {
     }
 
     /// The mapping of a frame at a page with these rights, or the kernel's error.
-    fn mapping_at(&self, slots: &NotedSlots<'_>, allowed: Rights, page: u32) -> Result<FrameMapping, KError>
+    fn mapping_at(
+        &self,
+        slots: &NotedSlots<'_>,
+        allowed: Rights,
+        page: u32,
+    ) -> Result<FrameMapping, KError>
         requires space { IsSpace self.now }
         requires apart { StandsApart self.now.image.now self.now.thread.now }
         requires listed { MappingsAreListed self.now.image.now self.now.thread.now }

@@ -1,5 +1,5 @@
 -- By one thread more.
-use Rattle.std.proofs.Common.{ℕ, ◌≡◌, ◌∙◌, ◌<◌, List, length, sym, ap, arith}
+use Rattle.std.proofs.Common.{◌≡◌, ◌∙◌, ◌<◌, List, length, sym, ap, arith}
 use Rattle.std.proofs.lemmas.Option.{slice_get_within}
 use Rattle.model.specs.Acceptance.PointRules.{program_rules}
 use Rattle.model.specs.Acceptance.Rules.{first_broken}

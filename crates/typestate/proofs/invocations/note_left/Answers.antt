@@ -1,8 +1,7 @@
 -- What is put is what the call makes.
-use Rattle.std.proofs.Common.{◌≡◌, ◌∙◌, ◌++◌, Result, Ok, List, sym, ap}
+use Rattle.std.proofs.Common.{◌∙◌, ◌++◌, Result, Ok, List, sym, ap}
 use Rattle.model.specs.declared.refusals.Refusal.{Refusal}
 use Rattle.model.specs.Acceptance.NotedStates.{NotedSlot}
-use Rattle.typestate.specs.declared.slot_changes.SlotChange.{SlotChange}
 use Rattle.typestate.specs.ChangeLists.{changes_of}
 use Rattle.typestate.specs.Differences.{changed, slots_of}
 use Rattle.typestate.specs.SlotChanges.{left_or_refused}

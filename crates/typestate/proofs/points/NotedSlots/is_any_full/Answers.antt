@@ -1,5 +1,5 @@
 -- None so far is full, and so the rest decides.
-use Rattle.std.proofs.Common.{ℕ, suc, ◌≡◌, ◌∙◌, ◌+◌, ◌-◌, ◌<◌, ◌||◌, ◌∷◌, Bool, is_some, List, sym, ap, arith}
+use Rattle.std.proofs.Common.{ℕ, suc, ◌≡◌, ◌∙◌, ◌+◌, ◌-◌, ◌<◌, ◌||◌, ◌∷◌, Bool, is_some, sym, ap, arith}
 use Rattle.std.specs.List.{list_any, range_with_len}
 use Rattle.model.specs.Acceptance.NotedStates.{slot_at}
 use Rattle.typestate.specs.Differences.{slots_of}

@@ -1,5 +1,5 @@
 -- By the call.
-use Rattle.std.proofs.Common.{◌≡◌, ◌∙◌, None, Result, Ok, List, sym, ap, subst}
+use Rattle.std.proofs.Common.{◌∙◌, None, Result, Ok, List, sym, ap, subst}
 use Rattle.model.specs.declared.capabilities.Cap.{Cap}
 use Rattle.model.specs.declared.invocations.FrameCall.{FrameCall}
 use Rattle.model.specs.declared.invocations.Invocation.TheVariants.{OnFrame}

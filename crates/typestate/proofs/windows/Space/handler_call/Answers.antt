@@ -1,6 +1,5 @@
 -- By the call.
 use Rattle.std.proofs.Common.{◌∙◌, ap}
-use Rattle.model.specs.Acceptance.NotedStates.{NotedSlot}
 use Rattle.model.specs.declared.invocations.HandlerCall.{HandlerCall}
 use Rattle.model.specs.declared.invocations.Invocation.TheVariants.{OnHandler}
 use Rattle.typestate.specs.Differences.{slots_of}

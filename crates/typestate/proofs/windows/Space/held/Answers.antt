@@ -1,6 +1,6 @@
 -- The slot's key is that of its place.
 use Rattle.std.proofs.Common.{◌≡◌, ◌∙◌, Some, sym, ap}
-use Rattle.model.specs.Acceptance.NotedKernel.{key_of, slot_of_key}
+use Rattle.model.specs.Acceptance.NotedKernel.{slot_of_key}
 use Rattle.model.specs.Acceptance.NotedStates.{slot_at}
 use Rattle.model.specs.Acceptance.ThreadRules.{reached}
 use Rattle.typestate.specs.Differences.{slots_of}

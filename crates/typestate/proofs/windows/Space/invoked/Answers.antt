@@ -1,17 +1,13 @@
 -- By the kind of the call.
-use Rattle.std.proofs.Common.{◌≡◌, ◌∙◌, inl, inr, false, Option, Some, Result, Ok, sym, ap, subst}
+use Rattle.std.proofs.Common.{◌≡◌, ◌∙◌, inl, inr, false, Option, sym, ap, subst}
 use Rattle.std.specs.Option.{option_map_or}
-use Rattle.model.specs.declared.capabilities.Cap.{Cap}
 use Rattle.model.specs.declared.capabilities.Cap.TheVariants.{Empty}
-use Rattle.model.specs.declared.invocations.Invocation.{Invocation}
-use Rattle.model.specs.declared.invocations.Invocation.TheVariants.{OnCNode, OnHandler}
 use Rattle.model.specs.Acceptance.NotedStates.{NotedSlot, is_foreign}
 use Rattle.model.specs.Acceptance.ThreadRules.{reached}
 use Rattle.typestate.specs.CNodeCalls.{cnode_after}
 use Rattle.typestate.specs.Differences.{slots_of}
-use Rattle.typestate.specs.Invocations.{IsCallOn, held_after, made_or_refused}
-use Rattle.typestate.specs.SlotChanges.{left_or_refused}
-use Rattle.typestate.specs.Spaces.{AreOwn, is_inside}
+use Rattle.typestate.specs.Invocations.{IsCallOn, held_after}
+use Rattle.typestate.specs.Spaces.{is_inside}
 use Rattle.typestate.proofs.CallsOn.{cnode-anywhere, done-as, no-control, no-table-call, no-thread}
 use Rattle.typestate.proofs.HeldCaps.{held-near}
 use Rattle.typestate.proofs.SlotMaps.{held-inside, held_at}

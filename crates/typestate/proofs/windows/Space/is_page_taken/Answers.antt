@@ -1,5 +1,5 @@
 -- A page is taken by a slot of the thread's, or by a mapping that the image lists.
-use Rattle.std.proofs.Common.{◌≡◌, ◌∙◌, ◌||◌, Bool, refl, sym, ap}
+use Rattle.std.proofs.Common.{◌≡◌, ◌∙◌, ◌||◌, refl, sym, ap}
 use Rattle.std.specs.List.{list_any}
 use Rattle.model.specs.Acceptance.NotedKernel.{noted_kernel}
 use Rattle.model.specs.Acceptance.NotedStates.{NotedSlot}

@@ -1,8 +1,7 @@
 -- By the mapping that is made, and then by the rights that are asked.
-use Rattle.std.proofs.Common.{◌≡◌, ◌∙◌, Option, Some, Result, Ok, List, sym, ap}
+use Rattle.std.proofs.Common.{◌∙◌, Option, Some, Result, Ok, List, sym, ap}
 use Rattle.model.specs.declared.capabilities.Cap.{Cap}
 use Rattle.model.specs.declared.capabilities.FrameMapping.{FrameMapping}
-use Rattle.model.specs.declared.errors.KError.{KError}
 use Rattle.model.specs.Acceptance.NotedStates.{NotedSlot, with_noted}
 use Rattle.model.specs.Capabilities.CapabilityKinds.{frame_mapping, with_frame_mapping}
 use Rattle.model.specs.declared.refusals.Refusal.{Refusal}

@@ -1,11 +1,10 @@
 -- By the place, and then by the type.
-use Rattle.std.proofs.Common.{ℕ, ◌≡◌, ◌∙◌, ◌++◌, ◌∷◌, [], true, Some, Result, Ok, Err, List, sym, ap, subst, arith}
+use Rattle.std.proofs.Common.{◌≡◌, ◌∙◌, ◌++◌, ◌∷◌, [], true, Result, Ok, List, sym, ap, subst}
 use Rattle.model.specs.declared.capabilities.Cap.TheVariants.{Untyped}
 use Rattle.model.specs.declared.refusals.Refusal.{Refusal}
 use Rattle.model.specs.Acceptance.NotedStates.{NotedSlot, SlotKey, is_own}
 use Rattle.model.specs.Acceptance.ThreadRules.{reached}
 use Rattle.model.specs.Capabilities.CapabilityWords.{IsCapability}
-use Rattle.model.specs.Kernel.Retype.{type_of}
 use Rattle.typestate.specs.Differences.{changed, slots_of}
 use Rattle.typestate.specs.Pools.{PlacedNew, new_of, pool_used, slots_made}
 use Rattle.typestate.proofs.PoolPlaces.{made-all, never-made, places-valid, placing}
