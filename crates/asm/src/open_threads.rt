@@ -1,6 +1,6 @@
 //! A thread whose lines are being read.
 
-ghost use Rattle.std.specs.Prelude.{◌≡◌, ◌<◌, ◌≤◌, [], ◌++◌, length, Ok, slice_index};
+ghost use Rattle.std.specs.Prelude.{◌≡◌, ◌-ℤ◌, ◌*ℤ◌, pos, IfOk, ◌<◌, ◌≤◌, [], ◌++◌, length, Ok, slice_index};
 ghost use Rattle.asm_line.specs.Lines.{all_terms};
 ghost use Rattle.asm.specs.Outcomes.{Gives};
 ghost use Rattle.asm.specs.Threads.{AreBehind, HasParent, IsPlain, MayAddCode, MayAddMeasure, MayAddRange, MayAddRegister, MayAddSlot, MayBegin, MayEnd, parent_numbers, plain_word, record_begun, slot_entry, term_key, terms_of, thread_begun, with_measure, with_range, with_register, with_slot, with_word};
@@ -47,7 +47,9 @@ impl Model for OpenThread {
 }
 
 /// How far it is from one point to another, in bytes, if an instruction may reach as far.
-fn distance(from: u32, to: u32) -> Result<i32, Fault> {
+fn distance(from: u32, to: u32) -> Result<i32, Fault>
+    ensures { IfOk result (λ bytes. bytes ≡ (pos to -ℤ pos from) *ℤ pos 4) }
+{
     let bytes = (i64::from(to) - i64::from(from)) * 4;
     if -(1 << 20) <= bytes && bytes < 1 << 20 {
         Ok(bytes as i32)
