@@ -21,9 +21,7 @@ pub use agreement::{
     slots_may_be_opened, what_may_be_put_stays_so,
 };
 pub use endings::end_tables;
-pub use frames::{
-    FrameCap, map_frame, mapping_rights, may_be_mapped, page_named, unmap_frame,
-};
+pub use frames::{FrameCap, map_frame, mapping_rights, may_be_mapped, page_named, unmap_frame};
 pub use model::SlotName;
 pub use page_tables::{PageTableCap, map_table, unmap_table};
 pub use slot_mappings::unmap_cap;
