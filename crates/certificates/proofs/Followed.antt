@@ -1,16 +1,15 @@
 -- What follows from a point, as it is kept.
-use Rattle.std.proofs.Common.{ℕ, ℤ, pos, negsuc, ◌≡◌, ◌+◌, ◌^◌, ◌-ℤ◌, ◌++◌, if◌then◌else◌, Bool, true, false, Option, Some, None, List, refl}
+use Rattle.std.proofs.Common.{ℕ, ℤ, pos, negsuc, ◌≡◌, ◌+◌, ◌^◌, ◌-ℤ◌, if◌then◌else◌, Bool, true, false, Option, Some, None, List, refl}
 use Rattle.std.specs.Prelude.{◌≤ℤ◌}
 use Rattle.std.specs.List.{list_any}
 use Rattle.std.specs.Option.{option_map_or}
 use Rattle.std.proofs.lemmas.Int.{ints}
 use Rattle.std.proofs.Common.{arith}
-use Rattle.std.proofs.lemmas.List.Sums.{fold-append}
 use Rattle.certificates.specs.Kept.{IsSound, kept_as, noted_by}
 use Rattle.model.specs.Acceptance.CallRules.{AfterCall}
 use Rattle.model.specs.Acceptance.Edges.{Edge}
 use Rattle.model.specs.Acceptance.Measures.{Measure, has_term, lowered}
-use Rattle.model.specs.Acceptance.NotedStates.{NotedSlot, PointState, with_noted}
+use Rattle.model.specs.Acceptance.NotedStates.{NotedSlot, PointState}
 use Rattle.model.specs.Acceptance.PointStates.{Noted, Known, Missing, Unmeasured, behind_call, follows_edge, with_measure, whole_budget}
 use Rattle.model.specs.Acceptance.RangeRules.{destination}
 use Rattle.model.specs.Images.Image.{Thread}
@@ -65,5 +64,3 @@ pub call-least : (t : Thread) (m : Measure) (a : AfterCall) (point : ℕ) → ne
 call-least t m a point low = call-low t m a point a.is_wait (list_any (λ x. has_term m x.0) a.written) low
 
 -- changes that follow others
-pub changed-both : (slots first second : List NotedSlot) → changed slots (first ++ second) ≡ changed (changed slots first) second
-changed-both slots first second = fold-append with_noted slots first second

@@ -6,6 +6,7 @@ use Rattle.model.specs.Images.Described.{Numbered}
 use Rattle.model.specs.Images.Image.{Image, Thread}
 use Rattle.model.specs.Images.Places.{offset_of}
 use Rattle.typestate.specs.Orders.{Rise}
+use Rattle.typestate.specs.Unlinked.{AreUnlinked}
 
 -- this thread of the image, by its number, with the slots that the image lists in its CNodes; its words lie in memory
 pub record IsProgram (image : Image) (t : Numbered) (own : Thread) (number : ℕ) (slots : List NotedSlot) : Type 0 where
@@ -13,6 +14,7 @@ pub record IsProgram (image : Image) (t : Numbered) (own : Thread) (number : ℕ
   pub number_is : t.number ≡ number
   pub listed : slots ≡ image_slots image own
   pub rising : Rise slots
+  pub unlinked : AreUnlinked slots
   pub fits : CertificateFits own
   pub inside : own.header.base + 4 * own.header.words ≤ 2 ^ 31
 

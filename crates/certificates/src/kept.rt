@@ -5,6 +5,7 @@ ghost use Rattle.certificates.specs.Kept.{HasPart, noted_by, state_by};
 ghost use Rattle.point_rules.specs.Points.{HasImage, noted_of, state_of};
 ghost use Rattle.typestate.specs.Logs.{Holds};
 ghost use Rattle.typestate.specs.Orders.{Rise};
+ghost use Rattle.typestate.specs.Unlinked.{AreUnlinked};
 
 use measure::Measure;
 use point_rules::{Noted, PointState};
@@ -34,6 +35,7 @@ impl Known {
     pub(crate) fn state<'s>(&self, slots: &'s [NotedSlot], log: &'s SlotLog) -> PointState<'s>
         requires held { Holds log.now self.now.part }
         requires rising { Rise slots.now }
+        requires unlinked { AreUnlinked slots.now }
         ensures state { state_of result ≡ state_by slots.now log.now self.now }
         ensures image { result.slots.image.now ≡ slots.now }
     {
@@ -50,6 +52,7 @@ impl Kept {
     pub(crate) fn noted<'s>(&self, slots: &'s [NotedSlot], log: &'s SlotLog) -> Noted<'s>
         requires held { HasPart log.now self.now }
         requires rising { Rise slots.now }
+        requires unlinked { AreUnlinked slots.now }
         ensures noted { noted_of result ≡ noted_by slots.now log.now self.now }
         ensures image { HasImage slots.now result }
     {

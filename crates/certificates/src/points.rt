@@ -7,6 +7,7 @@ ghost use Rattle.model.specs.Acceptance.NotedStates.{image_slots, record_state};
 ghost use Rattle.model.specs.Acceptance.PointStates as states;
 ghost use Rattle.model.specs.Images.Image.{Image, Thread};
 ghost use Rattle.typestate.specs.Logs.{KeepsParts};
+ghost use Rattle.typestate.specs.Orders.{Rise};
 
 use crate::kept::{Kept, Known};
 use crate::notes::RecordsLeft;
@@ -28,7 +29,7 @@ pub struct Points {
 fn recorded(log: &mut SlotLog, noted: &RecordRef<'_>) -> Result<Kept, AllocError>
     requires terms { length noted.now.terms ≤ 4 }
     requires constant { negsuc (2 ^ 62) ≤ℤ noted.now.header.constant }
-    ensures same { IfOk result (λ k. (image : Image) (t : Thread) → noted_by (image_slots image t) log.new k ≡ states.Known (record_state image t noted.now)) }
+    ensures same { IfOk result (λ k. (image : Image) (t : Thread) → Rise (image_slots image t) → noted_by (image_slots image t) log.new k ≡ states.Known (record_state image t noted.now)) }
     ensures sound { IfOk result (λ k. (point : ℕ) → IsSound log.new point k) }
     ensures others { IfOk result (λ _. KeepsParts log.old log.new) }
 {
@@ -47,7 +48,7 @@ fn noted_or(
     derived: Kept,
 ) -> Result<Kept, AllocError>
     requires { IfSome noted (λ r. (length r.now.terms ≤ 4) × (negsuc (2 ^ 62) ≤ℤ r.now.header.constant)) }
-    ensures same { IfOk result (λ k. (image : Image) (t : Thread) → noted_by (image_slots image t) log.new k
+    ensures same { IfOk result (λ k. (image : Image) (t : Thread) → Rise (image_slots image t) → noted_by (image_slots image t) log.new k
         ≡ states.noted_or image t (option_map (λ r. r.now) noted.entry) (noted_by (image_slots image t) log.old derived)) }
     ensures sound { IfOk result (λ k. (point : ℕ) → IsSound log.old point derived → IsSound log.new point k) }
     ensures others { IfOk result (λ _. KeepsParts log.old log.new) }

@@ -39,7 +39,12 @@ fn broken_by(
     let windows = windows_of(alloc, image, thread, offsets, &cnodes)?;
     let slots = slots_of(alloc, image, thread, offsets, &cnodes)?;
     let space = given_space(image, thread, offsets, &windows);
-    let rules = SpaceRules { space, number };
+    let lists_stray = space.lists_stray(&slots);
+    let rules = SpaceRules {
+        space,
+        number,
+        lists_stray,
+    };
     let program = Program {
         rules: &rules,
         thread,

@@ -10,11 +10,13 @@ use std::alloc::AllocError;
 use thread_spaces::{mappings_are_listed, slots_are_own, threads_stand_apart};
 use typestate::{Behind, NotedSlot, NotedSlots, Space, no_stray_slot_leads_outside};
 
-/// A thread of an image, by its number, with the CNodes that the image gives it.
+/// A thread of an image, by its number, with the CNodes that the image gives it, and whether the slots that the image lists in
+/// them hold what the thread may not have. Those are the same at each point, so this is told once.
 #[derive(Clone, Copy)]
 pub(crate) struct SpaceRules<'a, 's> {
     pub(crate) space: Space<'a, 's>,
     pub(crate) number: u32,
+    pub(crate) lists_stray: bool,
 }
 
 impl ThreadRules for SpaceRules<'_, '_> {
@@ -24,7 +26,7 @@ impl ThreadRules for SpaceRules<'_, '_> {
 
     ghost thread = { λ rules. record { number = rules.number; thread = rules.space.thread.now } };
 
-    ghost holds = { λ rules. IsGiven rules.space };
+    ghost holds = { λ rules. IsGiven rules.space rules.lists_stray };
 
     fn has_stray_slots(
         &self,
@@ -32,7 +34,7 @@ impl ThreadRules for SpaceRules<'_, '_> {
         noted: Option<&RecordRef<'_>>,
         slots: &NotedSlots<'_>,
     ) -> bool {
-        self.space.has_stray_slots(slots, noted)
+        self.space.has_stray_slots(slots, noted, self.lists_stray)
     }
 
     fn after_call(

@@ -16,6 +16,7 @@ use Rattle.model.specs.declared.entries.CapabilityEntry.{CapabilityEntry}
 use Rattle.model.specs.declared.entries.InterruptEntry.{InterruptEntry}
 use Rattle.model.specs.declared.entries.TableEntry.{TableEntry}
 use Rattle.model.specs.Acceptance.Accepted.{IsWellFormed}
+use Rattle.model.specs.Capabilities.CapabilityFields.{is_capability}
 use Rattle.model.specs.Acceptance.NotedStates.{NotedSlot, PointState, SlotKey, has_stray_slots, image_slots, is_foreign, is_own, is_stray, leads_to_boot, listed_slot, notes_outside, number_of, put_in, record_of, slot_at, with_noted, without_key}
 use Rattle.model.specs.Acceptance.ThreadRules.{is_member, reached}
 use Rattle.model.specs.Acceptance.WellFormed.{has_slot}
@@ -205,8 +206,9 @@ module _ (image : Image) (t : Thread) (fits : whole_image.fits image ≡ true) (
     slots-own (s ∷ rest) none kept_all =
         let now = or_parts (is_stray image t (reached image t) all s) (list_any (is_stray image t (reached image t) all) rest) none in
         let held = and_parts (kept s) (list_all kept rest) kept_all in
-        let outer = or_parts (not (is-own s.key) || is_foreign image t (reached image t) s.capability) (not (leads_to_boot (length all) all s.parent)) now.0 in
-        let inner = or_parts (not (is-own s.key)) (is_foreign image t (reached image t) s.capability) outer.0 in
+        let outer = or_parts (not (is-own s.key) || is_foreign image t (reached image t) s.capability || not (is_capability s.capability)) (not (leads_to_boot (length all) all s.parent)) now.0 in
+        let valid = or_parts (not (is-own s.key) || is_foreign image t (reached image t) s.capability) (not (is_capability s.capability)) outer.0 in
+        let inner = or_parts (not (is-own s.key)) (is_foreign image t (reached image t) s.capability) valid.0 in
         let full = and_parts (not (is_empty s.capability)) (is_narrow s) held.0 in
         let own : is-own s.key ≡ true = kept-one (is-own s.key) inner.0 in
         let parent : option_map_or is-own s.parent true ≡ true = parent-own s.parent full.1 (kept-one (leads_to_boot (length all) all s.parent) outer.1) in
@@ -223,8 +225,9 @@ module _ (image : Image) (t : Thread) (fits : whole_image.fits image ≡ true) (
   keys-own [] none = refl
   keys-own (s ∷ rest) none =
       let now = or_parts (is_stray image t (reached image t) all s) (list_any (is_stray image t (reached image t) all) rest) none in
-      let outer = or_parts (not (is-own s.key) || is_foreign image t (reached image t) s.capability) (not (leads_to_boot (length all) all s.parent)) now.0 in
-      let inner = or_parts (not (is-own s.key)) (is_foreign image t (reached image t) s.capability) outer.0 in
+      let outer = or_parts (not (is-own s.key) || is_foreign image t (reached image t) s.capability || not (is_capability s.capability)) (not (leads_to_boot (length all) all s.parent)) now.0 in
+      let valid = or_parts (not (is-own s.key) || is_foreign image t (reached image t) s.capability) (not (is_capability s.capability)) outer.0 in
+      let inner = or_parts (not (is-own s.key)) (is_foreign image t (reached image t) s.capability) valid.0 in
       ap (λ b. b && list_all (λ r. is-own r.key) rest) (kept-one (is-own s.key) inner.0) ∙ keys-own rest now.1
     where
       kept-one : (b : Bool) → not b ≡ false → b ≡ true

@@ -10,12 +10,15 @@ pub mod Rising
 pub mod Searched
 pub mod Compared
 pub mod SomeHeld
+pub mod ListedStrays
+pub mod UnlinkedSlots
 pub mod LogParts
 pub mod NamedKeys
 pub mod Standing
 pub mod SlotLines
 pub mod Inside
 pub mod KernelDepths
+pub mod PutPlaces
 pub mod Puts
 pub mod CopyCalls
 pub mod Allowed
@@ -26,6 +29,7 @@ pub mod RemovedNoted
 pub mod RemovedSlots
 pub mod RemoveRules
 pub mod Decided
+pub mod OrderedChanges
 pub mod OwnKeys
 pub mod ParentLines
 pub mod StraySlots

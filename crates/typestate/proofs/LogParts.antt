@@ -1,27 +1,28 @@
 -- Parts of a log, where it grows.
-use Rattle.std.proofs.Common.{ℕ, ◌≡◌, ◌∙◌, ◌-◌, ◌++◌, List, drop, length, take, ap, arith}
+use Rattle.std.proofs.Common.{ℕ, ◌≡◌, ◌∙◌, ◌-◌, ◌++◌, List, drop, length, take, sym, ap, subst, arith}
 use Rattle.std.proofs.lemmas.List.{drop-append-le, length-append, length-drop, take-append-le, take_all}
 use Rattle.std.proofs.Math.Seq.{drop-append_seam}
 use Rattle.model.specs.Acceptance.NotedStates.{NotedSlot}
 use Rattle.typestate.specs.declared.logs.Part.{Part}
 use Rattle.typestate.specs.Logs.{Holds, KeepsParts, part_of}
+use Rattle.typestate.specs.Orders.{Rise}
 
 -- a part of a log that grows is still there
 pub keeps : (old more : List NotedSlot) → KeepsParts old (old ++ more)
 keeps old more part held =
     let long = length-append old more in
-    let left = length-drop part.first old in (
-      (held.0, omega (arith, held.1, long)),
-      ap (take (part.end - part.first)) (drop-append-le part.first old more (omega (arith, held.0, held.1)))
-          ∙ take-append-le (part.end - part.first) (drop part.first old) more (omega (arith, held.0, held.1, left)),
-    )
+    let left = length-drop part.first old in
+    let same : part_of (old ++ more) part ≡ part_of old part =
+    ap (take (part.end - part.first)) (drop-append-le part.first old more (omega (arith, held.0, held.1)))
+    ∙ take-append-le (part.end - part.first) (drop part.first old) more (omega (arith, held.0, held.1, left)) in
+    ((held.0, omega (arith, held.1, long), subst Rise (sym same) held.2), same)
 
 -- what is added is the part behind what was there
-pub added : (old more : List NotedSlot) (part : Part) → part.first ≡ length old → part.end ≡ length (old ++ more)
+pub added : (old more : List NotedSlot) (part : Part) → Rise more → part.first ≡ length old → part.end ≡ length (old ++ more)
     → Holds (old ++ more) part × (part_of (old ++ more) part ≡ more)
-added old more part first end =
-    let long = length-append old more in (
-      (omega (arith, first, end, long), omega (arith, end)),
-      ap (λ (n : ℕ). take (part.end - n) (drop n (old ++ more))) first ∙ ap (take (part.end - length old)) (drop-append_seam old more)
-          ∙ take_all (part.end - length old) more (omega (arith, end, long)),
-    )
+added old more part rises first end =
+    let long = length-append old more in
+    let same : part_of (old ++ more) part ≡ more =
+    ap (λ (n : ℕ). take (part.end - n) (drop n (old ++ more))) first ∙ ap (take (part.end - length old)) (drop-append_seam old more)
+    ∙ take_all (part.end - length old) more (omega (arith, end, long)) in
+    ((omega (arith, first, end, long), omega (arith, end), subst Rise (sym same) rises), same)

@@ -10,10 +10,10 @@ use Rattle.model.specs.Acceptance.NotedStates.{NotedSlot, SlotKey, number_of, sl
 use Rattle.typestate.specs.Orders.{Rise}
 use Rattle.typestate.proofs.Rising.{RiseFrom, first-found, from-first}
 
-abbrev number_at : List NotedSlot → ℕ → NotedSlot → ℕ
+abbrev pub number_at : List NotedSlot → ℕ → NotedSlot → ℕ
 number_at slots i default = number_of (get_or slots i default).key
 
-at-least : (slots : List NotedSlot) (least i : ℕ) (d : NotedSlot) → RiseFrom least slots → i < length slots → least ≤ number_at slots i d
+pub at-least : (slots : List NotedSlot) (least i : ℕ) (d : NotedSlot) → RiseFrom least slots → i < length slots → least ≤ number_at slots i d
 at-least [] least i d rises below = absurd (omega (arith, below))
 at-least (s ∷ rest) least zero d rises below = rises.0
 at-least (s ∷ rest) least (suc i) d rises below = omega (arith, rises.0, at-least rest (number_of s.key + 1) i d rises.1 (omega (arith, below)))
@@ -44,7 +44,7 @@ absent : (slots : List NotedSlot) (key : SlotKey) → ((i : ℕ) (d : NotedSlot)
 absent [] key none = refl
 absent (s ∷ rest) key none = ap (λ b. if b then Some s else slot_at rest key) (none 0 s (omega arith)) ∙ absent rest key (λ i d below. none (suc i) d (omega (arith, below)))
 
-comparisons-rise : (slots : List NotedSlot) (key : SlotKey) → Rise slots → IsNonDecreasingBy (λ s. ordering_index (nat_cmp (number_of s.key) (number_of key))) slots
+pub comparisons-rise : (slots : List NotedSlot) (key : SlotKey) → Rise slots → IsNonDecreasingBy (λ s. ordering_index (nat_cmp (number_of s.key) (number_of key))) slots
 comparisons-rise slots key rises i j d order below = later (number_at slots i d) (number_at slots j d) (number_of key) (ordered slots 0 i j d (from-first slots rises) order below)
   where
     later : (a b x : ℕ) → a ≤ b → ordering_index (nat_cmp a x) ≤ ordering_index (nat_cmp b x)

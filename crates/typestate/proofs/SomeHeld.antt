@@ -87,6 +87,21 @@ module _ (test : NotedSlot → Bool) where
             ap (λ b. b || more) (any-at slots image found.key (found-among image found.key here) found.holding)
       ] refl)
 
+  -- where the image lists none, the changes are enough
+  pub changes-held : (image changes : List NotedSlot) → RiseFrom 0 image → list_any test image ≡ false
+      → list_any (holds_at (changed image changes)) changes ≡ list_any test (changed image changes)
+  changes-held image changes rises none =
+      let slots = changed image changes in
+      decided (list_any (holds_at slots) changes) (list_any test slots) (back slots changes)
+      (λ some.
+      let found = any-held slots 0 (changes-rise image changes rises) some in
+      elim (is_changed changes found.key) as (λ b. is_changed changes found.key ≡ b → list_any (holds_at slots) changes ≡ true) [
+        | true ↦ λ is. any-at slots changes found.key is found.holding
+        | false ↦ λ unmade.
+            let here = ap holds (sym (unchanged image changes found.key unmade)) ∙ found.holding in
+            absurd (let clash : true ≡ false = sym (held-any image found.key here) ∙ none in cc)
+      ] refl)
+
 pub first-of : (a b c : Bool) → (a || b) ≡ c → a ≡ true → a ≡ c
 first-of true b c both is = both
 first-of false b c both is = absurd (let clash : false ≡ true = is in cc)

@@ -1,4 +1,5 @@
 pub mod Orders
+pub mod Unlinked
 pub mod Differences
 pub mod Calls
 pub mod Spaces

@@ -76,22 +76,18 @@ impl NotedSlots<'_> {
             .any(|slot| self.stays_below(slot.key, which, key))
     }
 
-    /// Whether a child of the slot of this key goes.
+    /// Whether a child of the slot of this key goes. What the image lists is no child.
     fn has_lost(&self, which: &Removed, key: SlotKey) -> bool
         ensures { result ≡ list_any (λ s. is_removed (slots_of self.now) which.now s.key && is_parent key s.parent) (slots_of self.now) }
     {
-        let listed = self.one_goes(self.image, which, key);
-        let changed = self.one_goes(self.changes, which, key);
-        listed || changed
+        self.one_goes(self.changes, which, key)
     }
 
-    /// Whether a child of the slot of this key stays.
+    /// Whether a child of the slot of this key stays. What the image lists is no child.
     fn has_kept(&self, which: &Removed, key: SlotKey) -> bool
         ensures { result ≡ list_any (kept_child (slots_of self.now) which.now key) (slots_of self.now) }
     {
-        let listed = self.one_stays(self.image, which, key);
-        let changed = self.one_stays(self.changes, which, key);
-        listed || changed
+        self.one_stays(self.changes, which, key)
     }
 
     /// Whether a child of the slot of this key goes, and none is left.

@@ -123,13 +123,12 @@ impl NotedSlots<'_> {
         keys.iter().any(|slot| self.takes(slot.key, root, page))
     }
 
-    /// Whether a frame capability in the slots maps a page, under the root table at an offset.
+    /// Whether a frame capability in the slots maps a page, under the root table at an offset. Those that the image
+    /// lists map none.
     fn takes_page(&self, root: u32, page: u32) -> bool
         ensures { result ≡ list_any (λ s. maps_page root page s.capability) (slots_of self.now) }
     {
-        let listed = self.one_takes(self.image, root, page);
-        let changed = self.one_takes(self.changes, root, page);
-        listed || changed
+        self.one_takes(self.changes, root, page)
     }
 }
 

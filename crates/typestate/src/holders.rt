@@ -55,12 +55,11 @@ impl NotedSlots<'_> {
             .any(|slot| self.holds(slot.key, access, root, page))
     }
 
-    /// Whether a frame capability in the slots maps a page for an access, under the root table at this offset.
+    /// Whether a frame capability in the slots maps a page for an access, under the root table at this offset. Those that
+    /// the image lists map none.
     pub fn maps(&self, access: Access, root: u32, page: u32) -> bool
         ensures { result ≡ list_any (holds_for access root page) (slots_of self.now) }
     {
-        let listed = self.one_holds(self.image, access, root, page);
-        let changed = self.one_holds(self.changes, access, root, page);
-        listed || changed
+        self.one_holds(self.changes, access, root, page)
     }
 }

@@ -1,10 +1,11 @@
 //! A log of changes to slots. The slots at each point of a program are the image's with a part of it made.
 
-ghost use Rattle.std.specs.Prelude.{◌≡◌, ◌++◌, [], IfOk, map};
-ghost use Rattle.model.specs.Acceptance.NotedStates.{entry_slot};
+ghost use Rattle.std.specs.Prelude.{◌≡◌, [], IfOk, Some, List, map, if◌then◌else◌};
+ghost use Rattle.model.specs.Acceptance.NotedStates.{NotedSlot, SlotKey, entry_slot, is_same_key, slot_at};
 ghost use Rattle.typestate.specs.Differences.{changed, slots_of};
 ghost use Rattle.typestate.specs.Logs.{Holds, KeepsParts, part_of};
 ghost use Rattle.typestate.specs.Orders.{Rise};
+ghost use Rattle.typestate.specs.Unlinked.{AreUnlinked};
 
 use crate::records::note_record;
 use crate::{NotedSlot, NotedSlots};
@@ -19,10 +20,42 @@ pub struct Part {
     pub end: usize,
 }
 
-/// Changes to slots in the order in which they were noted. A clause sees their list.
+/// Changes to slots, part after part. In a part the keys rise. A clause sees their list.
 #[derive(Drop)]
 pub struct SlotLog {
+    alloc: Global,
     changes: Vec<NotedSlot>,
+}
+
+/// Puts a change among changes whose keys rise, in place of one to the same slot. Memory may be refused.
+fn put(changes: &mut Vec<NotedSlot>, change: NotedSlot) -> Result<(), AllocError>
+    requires { Rise changes.old.items }
+    ensures rising { IfOk result (λ _. Rise changes.new.items) }
+    ensures same { IfOk result (λ _. (key : SlotKey) → slot_at changes.new.items key ≡ (if is_same_key change.key key then Some change else slot_at changes.old.items key)) }
+{
+    match changes.binary_search_by_key(&change.key.number(), |slot| slot.key.number()) {
+        Ok(place) => changes[place] = change,
+        Err(place) => changes.insert(place, change)?,
+    }
+    Ok(())
+}
+
+/// Changes whose keys rise, with others made behind them. Memory may be refused.
+fn joined(
+    alloc: Global,
+    changes: &[NotedSlot],
+    made: &[NotedSlot],
+) -> Result<Vec<NotedSlot>, AllocError>
+    requires { Rise changes.now }
+    ensures rising { IfOk result (λ both. Rise both.items) }
+    ensures same { IfOk result (λ both. (slots : List NotedSlot) → Rise slots → changed slots both.items ≡ changed (changed slots changes.now) made.now) }
+{
+    let mut both = Vec::new(alloc);
+    both.extend_from_slice(changes)?;
+    for change in made {
+        put(&mut both, *change)?;
+    }
+    Ok(both)
 }
 
 impl Model for SlotLog {
@@ -40,40 +73,56 @@ impl SlotLog {
         ensures { result ≡ [] }
     {
         SlotLog {
+            alloc,
             changes: Vec::new(alloc),
         }
     }
 
-    /// Notes the slots of a record: its part is their list. Memory may be refused.
-    pub fn note(&mut self, noted: &RecordRef<'_>) -> Result<Part, AllocError>
+    /// Appends changes as a part of their own. Memory may be refused.
+    fn append(&mut self, changes: &[NotedSlot]) -> Result<Part, AllocError>
+        requires { Rise changes.now }
         ensures held { IfOk result (Holds self.new) }
-        ensures part { IfOk result (λ part. part_of self.new part ≡ map entry_slot noted.now.slots) }
+        ensures part { IfOk result (λ part. part_of self.new part ≡ changes.now) }
         ensures others { IfOk result (λ _. KeepsParts self.old self.new) }
     {
         let first = self.changes.len();
-        note_record(&mut self.changes, noted)?;
+        self.changes.extend_from_slice(changes)?;
         let end = self.changes.len();
         Ok(Part { first, end })
     }
 
-    /// Notes changes that follow those of a part: the new part has both. Memory may be refused.
+    /// Notes the slots of a record: its part leaves what they leave. Memory may be refused.
+    pub fn note(&mut self, noted: &RecordRef<'_>) -> Result<Part, AllocError>
+        ensures held { IfOk result (Holds self.new) }
+        ensures same { IfOk result (λ part. (slots : List NotedSlot) → Rise slots → changed slots (part_of self.new part) ≡ changed slots (map entry_slot noted.now.slots)) }
+        ensures others { IfOk result (λ _. KeepsParts self.old self.new) }
+    {
+        let mut made = Vec::new(self.alloc);
+        note_record(&mut made, noted)?;
+        let both = joined(self.alloc, &[], &made)?;
+        self.append(&both)
+    }
+
+    /// Notes changes that follow those of a part: the new part leaves what both leave. Where nothing follows it is that part
+    /// itself. Memory may be refused.
     pub fn follow(&mut self, part: Part, made: &[NotedSlot]) -> Result<Part, AllocError>
         requires { Holds self.old part }
         ensures held { IfOk result (Holds self.new) }
-        ensures part { IfOk result (λ both. part_of self.new both ≡ part_of self.old part ++ made.now) }
+        ensures same { IfOk result (λ both. (slots : List NotedSlot) → Rise slots → changed slots (part_of self.new both) ≡ changed (changed slots (part_of self.old part)) made.now) }
         ensures others { IfOk result (λ _. KeepsParts self.old self.new) }
     {
-        let first = self.changes.len();
-        self.changes.extend_from_within(part.first..part.end)?;
-        self.changes.extend_from_slice(made)?;
-        let end = self.changes.len();
-        Ok(Part { first, end })
+        if made.is_empty() {
+            return Ok(part);
+        }
+        let both = joined(self.alloc, &self.changes[part.first..part.end], made)?;
+        self.append(&both)
     }
 
     /// The slots with the changes of a part made to those of the image.
     pub fn slots<'s>(&'s self, image: &'s [NotedSlot], part: Part) -> NotedSlots<'s>
         requires held { Holds self.now part }
         requires rising { Rise image.now }
+        requires unlinked { AreUnlinked image.now }
         ensures slots { slots_of result ≡ changed image.now (part_of self.now part) }
         ensures image { result.image.now ≡ image.now }
     {

@@ -1,7 +1,7 @@
 //! Look-ups in the slots at a point.
 
-ghost use Rattle.std.specs.Prelude.{◌≡◌, if◌then◌else◌};
-ghost use Rattle.model.specs.Acceptance.NotedStates.{is_same_key, slot_at};
+ghost use Rattle.std.specs.Prelude.{◌≡◌};
+ghost use Rattle.model.specs.Acceptance.NotedStates.{slot_at};
 ghost use Rattle.model.specs.Capabilities.CapabilityWords.{IsCapability};
 ghost use Rattle.model.specs.declared.capabilities.Cap.TheVariants.{Empty};
 ghost use Rattle.std.specs.Option.{option_map_or};
@@ -11,16 +11,13 @@ ghost use Rattle.typestate.specs.Orders.{Rise};
 use crate::{NotedSlot, NotedSlots, SlotKey};
 use model::Cap;
 
-/// What a slot of this key, which held this, holds behind a change.
-fn behind(change: NotedSlot, key: SlotKey, held: Option<NotedSlot>) -> Option<NotedSlot>
-    ensures { result ≡ (if is_same_key change.key key then left_by change else held) }
+/// What a change leaves in its slot.
+fn left(change: NotedSlot) -> Option<NotedSlot>
+    ensures { result ≡ left_by change }
 {
-    if !change.key.is_same(key) {
-        held
-    } else if matches!(change.capability, Cap::Empty) {
-        None
-    } else {
-        Some(change)
+    match change.capability {
+        Cap::Empty => None,
+        _ => Some(change),
     }
 }
 
@@ -29,11 +26,10 @@ impl NotedSlots<'_> {
     pub fn at(&self, key: SlotKey) -> Option<NotedSlot>
         ensures { result ≡ slot_at (slots_of self.now) key }
     {
-        let mut held = listed(self.image, key);
-        for change in self.changes {
-            held = behind(*change, key, held);
+        match listed(self.changes, key) {
+            Some(change) => left(change),
+            None => listed(self.image, key),
         }
-        held
     }
 
     /// The capability in the slot of this key: an empty one where there is none.

@@ -1,15 +1,18 @@
 //! The slots at a point, as what differs from the image's.
 
 ghost use Rattle.typestate.specs.Orders.{Rise};
+ghost use Rattle.typestate.specs.Unlinked.{AreUnlinked};
 
 use crate::NotedSlot;
 
-/// The full slots of a thread's CNodes at a point: those that the image lists, their keys rising, with changes made
-/// one after another.
+/// The full slots of a thread's CNodes at a point: those that the image lists, with changes made. The keys of both rise. What the
+/// image lists has no parents and no mappings: only changes bring them.
 /// A change to a slot that holds nothing empties it.
 #[derive(Clone, Copy, Debug)]
 pub struct NotedSlots<'s> {
     pub image: &'s [NotedSlot],
     pub changes: &'s [NotedSlot],
     ghost rising: { Rise image.now },
+    ghost ordered: { Rise changes.now },
+    ghost unlinked: { AreUnlinked image.now },
 }

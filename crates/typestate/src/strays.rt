@@ -1,6 +1,6 @@
 //! Slots that a thread may not have.
 
-ghost use Rattle.std.specs.Prelude.{ℕ, ◌≡◌, length, option_map};
+ghost use Rattle.std.specs.Prelude.{ℕ, ◌≡◌, ◌||◌, [], length, option_map};
 ghost use Rattle.std.specs.List.{list_any};
 ghost use Rattle.model.specs.Acceptance.NotedStates.{PointState, has_stray_slots, is_foreign, is_own, leads_to_boot, notes_outside, record_of};
 ghost use Rattle.typestate.specs.Differences.{slots_of};
@@ -119,12 +119,44 @@ impl Space<'_, '_> {
         false
     }
 
-    /// Whether some slot is one that the thread may not have.
-    fn has_stray(&self, slots: &NotedSlots<'_>) -> bool
+    /// Whether one of these is a slot that the thread may not have, where no other slot is full: what has a parent is one.
+    pub fn lists_stray(&self, listed: &[NotedSlot]) -> bool
         requires { IsSpace self.now }
+        ensures { result ≡ list_any (is_stray_in self.now []) listed.now }
+    {
+        let none = NotedSlots {
+            image: &[],
+            changes: &[],
+        };
+        for slot in listed {
+            if self.is_stray(&none, *slot) {
+                return true;
+            }
+        }
+        false
+    }
+
+    /// Whether a slot that the image lists is one that the thread may not have. Where none is by itself, none is beside others
+    /// either: what was told of them once is not asked again.
+    fn keeps_stray(&self, slots: &NotedSlots<'_>, lists_stray: bool) -> bool
+        requires space { IsSpace self.now }
+        requires listed { lists_stray ≡ list_any (is_stray_in self.now []) slots.now.image.now }
+        ensures { (result || list_any (λ k. is_stray_at self.now (slots_of slots.now) k.key) slots.now.changes.now) ≡ list_any (is_stray_in self.now (slots_of slots.now)) (slots_of slots.now) }
+    {
+        if lists_stray {
+            self.one_stray(slots, slots.image)
+        } else {
+            false
+        }
+    }
+
+    /// Whether some slot is one that the thread may not have.
+    fn has_stray(&self, slots: &NotedSlots<'_>, lists_stray: bool) -> bool
+        requires space { IsSpace self.now }
+        requires listed { lists_stray ≡ list_any (is_stray_in self.now []) slots.now.image.now }
         ensures { result ≡ list_any (is_stray_in self.now (slots_of slots.now)) (slots_of slots.now) }
     {
-        let listed = self.one_stray(slots, slots.image);
+        let listed = self.keeps_stray(slots, lists_stray);
         let changed = self.one_stray(slots, slots.changes);
         listed || changed
     }
@@ -143,13 +175,19 @@ impl Space<'_, '_> {
     }
 
     /// Whether some noted slot of a point is one that the thread may not have, or the point's record, if it has one, notes a
-    /// slot outside of the thread's CNodes.
-    pub fn has_stray_slots(&self, slots: &NotedSlots<'_>, noted: Option<&RecordRef<'_>>) -> bool
-        requires { IsSpace self.now }
+    /// slot outside of the thread's CNodes. Of the slots that the image lists it is told beforehand.
+    pub fn has_stray_slots(
+        &self,
+        slots: &NotedSlots<'_>,
+        noted: Option<&RecordRef<'_>>,
+        lists_stray: bool,
+    ) -> bool
+        requires space { IsSpace self.now }
+        requires listed { lists_stray ≡ list_any (is_stray_in self.now []) slots.now.image.now }
         ensures { (point : ℕ) (state : PointState) → state.slots ≡ slots_of slots.now → record_of self.now.thread.now point ≡ option_map (λ r. r.now) noted.entry
             → result ≡ has_stray_slots self.now.image.now self.now.thread.now point state }
     {
-        if self.has_stray(slots) {
+        if self.has_stray(slots, lists_stray) {
             return true;
         }
         match noted {

@@ -8,7 +8,7 @@ use Rattle.model.specs.declared.capabilities.Cap.TheVariants.{Empty, CNode, Page
 use Rattle.model.specs.declared.entries.CapabilityEntry.{CapabilityEntry}
 use Rattle.model.specs.declared.entries.SlotEntry.{SlotEntry}
 use Rattle.model.specs.declared.ranges.Range.{Range}
-use Rattle.model.specs.Capabilities.CapabilityFields.{same_words, unpacked}
+use Rattle.model.specs.Capabilities.CapabilityFields.{is_capability, same_words, unpacked}
 use Rattle.model.specs.Capabilities.CapabilityWords.{words_of}
 use Rattle.model.specs.Images.Described.{listed_capability}
 use Rattle.model.specs.Images.Image.{Image, Thread, StateRecord, pair_key, no_parent}
@@ -152,9 +152,12 @@ leads_to_boot n slots None = true
 leads_to_boot zero slots (Some key) = false
 leads_to_boot (suc n) slots (Some key) = option_map_or (λ s. leads_to_boot n slots s.parent) (slot_at slots key) false
 
+-- What no two words spell is no capability. A record cannot note it, and no call makes it: that is said here, so that slots with the
+-- same words are the same slots.
 abbrev pub is_stray : Image → Thread → List ℕ → List NotedSlot → NotedSlot → Bool
 is_stray image t cnodes slots s =
-    not (is_own image cnodes s.key) || is_foreign image t cnodes s.capability || not (leads_to_boot (length slots) slots s.parent)
+    not (is_own image cnodes s.key) || is_foreign image t cnodes s.capability || not (is_capability s.capability)
+    || not (leads_to_boot (length slots) slots s.parent)
 
 -- whether a record notes a slot, full or empty, outside the thread's CNodes
 abbrev pub notes_outside : Image → List ℕ → StateRecord → Bool

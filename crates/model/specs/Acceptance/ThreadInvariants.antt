@@ -1,7 +1,8 @@
 -- What stays true of a thread of an accepted image: it stands where its certificate says, with what that notes, and its
 -- instructions since the last wait and its measure together stay within its budget.
-use Rattle.std.specs.Prelude.{ℕ, ◌≡◌, ◌*◌, ◌^◌, ◌<◌, ◌≤◌, ◌⊎◌, ◌↔◌, ◌+ℤ◌, ◌≤ℤ◌, pos, true, Some, None, Ok, List, Contains, slice_index}
+use Rattle.std.specs.Prelude.{ℕ, ◌≡◌, ◌*◌, ◌^◌, ◌<◌, ◌≤◌, ◌⊎◌, ◌↔◌, ◌+ℤ◌, ◌≤ℤ◌, pos, true, Option, Some, None, Ok, List, Contains, slice_index}
 use Rattle.model.specs.declared.capabilities.Cap.TheVariants.{Frame}
+use Rattle.model.specs.declared.capabilities.FrameMapping.{FrameMapping}
 use Rattle.model.specs.declared.entries.FrameEntry.{FrameEntry}
 use Rattle.model.specs.declared.instructions.Access.TheVariants.{Fetch}
 use Rattle.model.specs.declared.instructions.AccessSize.TheVariants.{Word}
@@ -21,6 +22,7 @@ use Rattle.model.specs.Images.Places.{offset_of}
 use Rattle.model.specs.Acceptance.PointStates.{Known, address_of, call_at, instruction_at, noted}
 use Rattle.model.specs.Acceptance.Ranges.{range_of}
 use Rattle.model.specs.Capabilities.Rights.{mapping_rights, frame_rights}
+use Rattle.model.specs.Acceptance.WellFormed.{executes}
 use Rattle.model.specs.Capabilities.Slots.{capability_at, parent_at}
 use Rattle.model.specs.Kernel.State.{State, Status, Inactive, Runnable, Blocked, AwaitsReply, AwaitsHandler, ThreadObject, ThreadState, cspace_slot, vspace_slot}
 use Rattle.model.specs.Kernel.Waits.{open_count}
@@ -68,6 +70,21 @@ MapsAreNoted image t s slots =
     → Maps s.slots (root_table_of image t) page frame allowed
     ↔ (ImageMaps image t page frame allowed ⊎ NotedMaps image t slots page frame allowed)
 
+-- ---- code
+
+-- a frame that the image maps with execute
+pub record IsCode (image : Image) (frame : ℕ) : Type 0 where
+  pub entry : FrameEntry
+  pub listed : Contains image.frames entry
+  pub place : frame ≡ offset_of image entry.frame
+  pub executes : executes entry ≡ true
+
+-- no slot names a frame of code, so that none can be mapped and written
+abbrev pub NamesNoCode : Image → List NotedSlot → Type 0
+NamesNoCode image slots =
+    (slot : NotedSlot) (frame : ℕ) (held : Rights) (mapping : Option FrameMapping) → Contains slots slot
+    → slot.capability ≡ Frame frame held mapping → IsCode image frame → ⊥
+
 -- ---- parents
 
 pub record HasBootParent (s : State) (slot : ℕ) : Type 0 where
@@ -89,6 +106,7 @@ pub record StandsAt (image : Image) (t : Numbered) (s : State) (own : ThreadStat
       → HasBootParent s (slot_of_key image slot.key)
   pub program : ProgramStands image t s
   pub maps : MapsAreNoted image t s state.slots
+  pub code : NamesNoCode image state.slots
   -- the thread's own two slots hold what the image gives it
   pub cspace : capability_at s.slots (cspace_slot (tcb_of image t)) ≡ noted_root image t.thread
   pub vspace : capability_at s.slots (vspace_slot (tcb_of image t)) ≡ original image t.thread.header.root

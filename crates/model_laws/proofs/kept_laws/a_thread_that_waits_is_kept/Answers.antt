@@ -10,7 +10,7 @@ use Rattle.model.specs.Acceptance.PointStates.{Noted, Known, Missing, Unmeasured
 use Rattle.model.specs.Acceptance.Rules.{first_broken}
 use Rattle.programs.specs.Certificates.{IsBare, IsWait, OnlyWaits, Rise, known_of, sole}
 use Rattle.programs.specs.Stage.{staged_image}
-use Rattle.programs.proofs.Acceptance.{none-broken}
+use Rattle.wellformed.proofs.Acceptance.{none-broken}
 use Rattle.model_laws.specs.Waiter.{waiter}
 use Rattle.model_laws.proofs.Opened.{opened}
 use Rattle.model_laws.proofs.kept_laws.a_thread_that_waits_is_kept.Goals as goal

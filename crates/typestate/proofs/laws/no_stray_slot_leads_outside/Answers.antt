@@ -2,6 +2,7 @@
 use Rattle.std.proofs.Common.{◌≡◌, ◌∙◌, ◌||◌, Bool, true, false, not, List, [], ◌∷◌, refl, ap}
 use Rattle.std.specs.List.{list_any}
 use Rattle.model.specs.Acceptance.NotedStates.{NotedSlot, has_stray_slots, is_foreign, is_own, is_stray}
+use Rattle.model.specs.Capabilities.CapabilityFields.{is_capability}
 use Rattle.model.specs.Acceptance.ThreadRules.{reached}
 use Rattle.typestate.proofs.laws.no_stray_slot_leads_outside.Goals as goal
 
@@ -23,5 +24,7 @@ unfolding has_stray_slots
 returns c = λ image t point state none.
     let cnodes = reached image t in
     less-passes (λ (s : NotedSlot). is_foreign image t cnodes s.capability) (is_stray image t cnodes state.slots)
-    (λ s kept. none-behind (not (is_own image cnodes s.key)) (is_foreign image t cnodes s.capability) (none-first (not (is_own image cnodes s.key) || is_foreign image t cnodes s.capability) _ kept))
+    (λ s kept. none-behind (not (is_own image cnodes s.key)) (is_foreign image t cnodes s.capability)
+    (none-first (not (is_own image cnodes s.key) || is_foreign image t cnodes s.capability) (not (is_capability s.capability))
+    (none-first (not (is_own image cnodes s.key) || is_foreign image t cnodes s.capability || not (is_capability s.capability)) _ kept)))
     state.slots (none-first (list_any (is_stray image t cnodes state.slots) state.slots) _ none)

@@ -11,6 +11,7 @@ use Rattle.model.specs.Acceptance.NotedStates.{NotedSlot, image_slots, record_of
 use Rattle.model.specs.Acceptance.PointStates.{follows, noted, noted_or}
 use Rattle.model.specs.Images.Image.{StateRecord, Thread}
 use Rattle.certificates.specs.Left.{taken}
+use Rattle.typestate.specs.Orders.{Rise}
 
 pub points-init : goal.points-init
 points-init g c =
@@ -55,7 +56,7 @@ points-preserved g c =
     let next = next-record own point c.points.records inv.2 in
     let same : noted_by slots log state ≡ noted image t point =
     ap (λ (all : List NotedSlot). noted_by all log state) c.requires.program.listed
-    ∙ c.in_ok-state.ensures.same image own
+    ∙ c.in_ok-state.ensures.same image own (subst Rise c.requires.program.listed c.requires.program.rising)
     ∙ ap (λ (r : Option StateRecord). noted_or image own r (noted_by (image_slots image own) old c.points.derived)) (c.as_ref.ensures.value ∙ c.take-noted.ensures.record ∙ sym next.0)
     ∙ ap (λ (all : List NotedSlot). noted_or image own (record_of own point) (noted_by all old c.points.derived)) (sym c.requires.program.listed)
     ∙ ap (noted_or image own (record_of own point)) inv.3

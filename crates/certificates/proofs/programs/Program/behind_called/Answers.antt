@@ -1,7 +1,6 @@
 -- By what the rule on calls says.
-use Rattle.std.proofs.Common.{◌∙◌, ◌++◌, List, Some, sym, ap}
+use Rattle.std.proofs.Common.{◌∙◌, List, Some, sym, ap}
 use Rattle.certificates.proofs.Called.{call-made}
-use Rattle.certificates.proofs.Followed.{changed-both}
 use Rattle.certificates.proofs.programs.Program.behind_called.Goals as goal
 use Rattle.measure.specs.Measures.{measure_of}
 use Rattle.model.specs.Acceptance.NotedStates.{NotedSlot}
@@ -19,7 +18,7 @@ returns-clause-same g c =
     let b = c.in-Some-Ok.behind in
     c.behind_call.ensures.same slots c.follow.new.self own (sym (ap (λ h. h.budget) c.header.ensures))
     ∙ ap (λ (all : List NotedSlot). behind_call own m (behind_with all b))
-    (ap (changed slots) (c.in_ok-part.ensures.part ∙ ap (λ (made : List NotedSlot). part ++ made) c.deref.ensures.value) ∙ changed-both slots part c.called.new.made.items)
+    (c.in_ok-part.ensures.same slots c.requires.program.rising ∙ ap (changed (changed slots part)) c.deref.ensures.value)
     ∙ ap (follows_call own m) (sym (call-made (g.R.ThreadRules.image c.args.self.now.rules.now) (g.R.ThreadRules.thread c.args.self.now.rules.now) c.args.point c.args.known.now.bounds m
     (slots_of c.slots-slots.result) (changed slots part) c.called.new.made.items c.in_ok-behind.field-0 b c.slots-slots.ensures.slots
     (c.in-Some-Ok.is ∙ ap Some c.in-Some-Ok.field-0-is) (c.in_ok-behind.ensures m)))

@@ -1,7 +1,6 @@
 -- A log that grows keeps what is noted.
 use Rattle.std.proofs.Common.{◌∙◌, ◌+◌, List, ap}
 use Rattle.certificates.proofs.EachPoint.{grown-read}
-use Rattle.certificates.proofs.Followed.{changed-both}
 use Rattle.certificates.proofs.programs.Program.behind_rules.Goals as goal
 use Rattle.measure.specs.Measures.{measure_of}
 use Rattle.model.specs.Acceptance.NotedStates.{NotedSlot}
@@ -9,8 +8,6 @@ use Rattle.model.specs.Acceptance.PointRules.{call_edge, edge_rules, noted_at}
 use Rattle.model.specs.Acceptance.PointStates.{address_of, point_of}
 use Rattle.model.specs.Acceptance.Rules.{first_broken}
 use Rattle.typestate.specs.Calls.{behind_with}
-use Rattle.typestate.specs.Differences.{changed}
-use Rattle.typestate.specs.Logs.{part_of}
 
 pub way_behind-requires-clause-read : goal.way_behind-requires-clause-read
 way_behind-requires-clause-read g c =
@@ -31,4 +28,4 @@ returns-clause-broken g c =
     c.way_behind.ensures
     ∙ ap (λ (all : List NotedSlot). first_broken (edge_rules t.thread (point_of t c.args.point) (measure_of c.args.known.now.measure)
     (call_edge address c.args.known.now.bounds (behind_with all c.args.behind.now)) (noted_at image t (address + 4))))
-    (ap (changed slots) c.in_ok-part.ensures.part ∙ changed-both slots (part_of c.args.points.now.log c.args.known.now.part) c.args.made.now)
+    (c.in_ok-part.ensures.same slots c.requires.program.rising)

@@ -1,5 +1,5 @@
 -- None so far is full, and so the rest decides.
-use Rattle.std.proofs.Common.{ℕ, suc, ◌≡◌, ◌∙◌, ◌+◌, ◌-◌, ◌<◌, ◌||◌, ◌∷◌, Bool, is_some, sym, ap, arith}
+use Rattle.std.proofs.Common.{ℕ, suc, ◌≡◌, ◌∙◌, ◌+◌, ◌-◌, ◌<◌, ◌||◌, ◌∷◌, Bool, true, is_some, sym, ap, arith}
 use Rattle.std.specs.List.{list_any, range_with_len}
 use Rattle.model.specs.Acceptance.NotedStates.{slot_at}
 use Rattle.typestate.specs.Differences.{slots_of}
@@ -17,3 +17,11 @@ loop-i-preserved c =
       left = ap (λ b. b || list_any f (range_with_len (i + 1) (c.args.count - (i + 1)))) (sym c.if-is_full_at.false ∙ c.is_full_at.ensures)
           ∙ ap (list_any f) (sym (range-next i c.args.count c.loop-i-test.true)) ∙ c.loop-i.invariant.left;
     }
+
+pub returns-then-is_full_at : goal.returns-then-is_full_at
+returns-then-is_full_at c =
+    let f : ℕ → Bool = λ i. is_some (slot_at (slots_of c.args.self.now) (record { cnode = c.args.first.cnode; index = c.args.first.index + i })) in
+    let i = c.loop-i.i in
+    let full : f i ≡ true = sym c.is_full_at.ensures ∙ c.if-is_full_at.true in
+    sym (ap (λ b. b || list_any f (range_with_len (i + 1) (c.args.count - (i + 1)))) full)
+    ∙ ap (list_any f) (sym (range-next i c.args.count c.loop-i-test.true)) ∙ c.loop-i.invariant.left

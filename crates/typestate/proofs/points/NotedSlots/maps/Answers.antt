@@ -1,27 +1,15 @@
--- The keys of the image's slots and of the changes are all.
-use Rattle.std.proofs.Common.{◌≡◌, ◌∙◌, ◌||◌, Bool, ap}
-use Rattle.std.specs.List.{list_any}
+-- What maps a page or is a child has its key among the changes.
+use Rattle.std.proofs.Common.{◌∙◌, Bool}
 use Rattle.model.specs.Acceptance.NotedStates.{NotedSlot}
 use Rattle.model.specs.Acceptance.PointRules.{holds_for}
-use Rattle.typestate.specs.Differences.{slots_of}
+use Rattle.typestate.specs.declared.points.NotedSlots.{NotedSlots}
 use Rattle.typestate.proofs.Rising.{from-first}
-use Rattle.typestate.proofs.SomeHeld.{first-of, holds_at, second-of, some-held}
+use Rattle.typestate.proofs.SomeHeld.{changes-held}
+use Rattle.typestate.proofs.UnlinkedSlots.{none-maps}
 use Rattle.typestate.proofs.points.NotedSlots.maps.Goals as goal
 
-pub returns-then-listed : goal.returns-then-listed
-returns-then-listed c =
+pub returns : goal.returns
+returns c =
+    let n : NotedSlots = c.args.self.now in
     let test : NotedSlot → Bool = holds_for c.args.access c.args.root c.args.page in
-    let slots = slots_of c.args.self.now in
-    let both : (c.one_holds-listed.result || c.one_holds-changed.result) ≡ list_any test slots =
-    ap (λ b. b || c.one_holds-changed.result) c.one_holds-listed.ensures ∙ ap (λ b. list_any (holds_at test slots) c.args.self.now.image.now || b) c.one_holds-changed.ensures
-    ∙ some-held test c.args.self.now.image.now c.args.self.now.changes.now (from-first c.args.self.now.image.now c.args.self.now.rising) in
-    first-of c.one_holds-listed.result c.one_holds-changed.result (list_any test slots) both c.if-listed.true
-
-pub returns-else-listed : goal.returns-else-listed
-returns-else-listed c =
-    let test : NotedSlot → Bool = holds_for c.args.access c.args.root c.args.page in
-    let slots = slots_of c.args.self.now in
-    let both : (c.one_holds-listed.result || c.one_holds-changed.result) ≡ list_any test slots =
-    ap (λ b. b || c.one_holds-changed.result) c.one_holds-listed.ensures ∙ ap (λ b. list_any (holds_at test slots) c.args.self.now.image.now || b) c.one_holds-changed.ensures
-    ∙ some-held test c.args.self.now.image.now c.args.self.now.changes.now (from-first c.args.self.now.image.now c.args.self.now.rising) in
-    second-of c.one_holds-listed.result c.one_holds-changed.result (list_any test slots) both c.if-listed.false
+    c.one_holds.ensures ∙ changes-held test n.image.now n.changes.now (from-first n.image.now n.rising) (none-maps c.args.access c.args.root c.args.page n.image.now n.unlinked)
