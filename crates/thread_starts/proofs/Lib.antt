@@ -1,0 +1,12 @@
+pub mod EntryRules
+pub mod FilledCode
+pub mod GivenSlots
+pub mod LastFills
+pub mod ListFacts
+pub mod ProgramWords
+pub mod SameSlots
+pub mod StartMaps
+pub mod StartObjects
+pub mod StartPlaces
+pub mod StartPrograms
+pub mod ThreadStarts

@@ -1,0 +1,126 @@
+-- What is known of a thread of an accepted image, whatever its state is.
+use Rattle.std.proofs.Common.{ℕ, zero, suc, ◌≡◌, ◌∙◌, ◌==◌, ◌+◌, ◌*◌, ◌/◌, ◌%◌, ◌^◌, ◌<◌, ◌≤◌, inl, inr, true, false, List, [], ◌∷◌, length, get_or, map, find, Option, Some, None, pow_pos, refl, ap, arith}
+use Rattle.std.specs.Prelude.{Contains, slice_get}
+use Rattle.std.specs.Option.{option_map_or}
+use Rattle.std.specs.List.{enumerate_from, list_all}
+use Rattle.std.proofs.lemmas.Bool.{cases_eq, eqb-true, ltb-false}
+use Rattle.fitting.specs.Fitting.{IsFitting}
+use Rattle.fitting.proofs.ImageFits.{is-fitting}
+use Rattle.booting.specs.Standing.{StandApart}
+use Rattle.booting.proofs.PlacesApart.{stand-apart}
+use Rattle.booting.proofs.PlacesRules.{AreFormed, are-formed}
+use Rattle.falling.specs.Terms.{NamesRegisters}
+use Rattle.model.specs.declared.capabilities.Cap.{Cap}
+use Rattle.model.specs.declared.capabilities.Cap.TheVariants.{Empty, RootTable}
+use Rattle.model.specs.declared.entries.TableEntry.{TableEntry}
+use Rattle.model.specs.Acceptance.Accepted.{IsAccepted}
+use Rattle.model.specs.Acceptance.NotedStates.{PointState}
+use Rattle.model.specs.Acceptance.PointStates.{Known, noted}
+use Rattle.model.specs.Acceptance.ThreadInvariants.{root_table_of}
+use Rattle.model.specs.Acceptance.ThreadRules.{is_code, program_end}
+use Rattle.model.specs.Acceptance.WellFormed.{is_root_type}
+use Rattle.model.specs.Capabilities.CapabilityKinds.{root_of, with_table_mapping}
+use Rattle.model.specs.Images.Described.{Numbered, numbered_threads, original}
+use Rattle.model.specs.Images.Fills.{program_pages}
+use Rattle.model.specs.Images.Image.{Image, Thread}
+use Rattle.model.specs.Images.Places.{bits_of, object_at, offset_of, type_at}
+use Rattle.model.specs.Kernel.AddressSpaces.{address_limit, page_size, region_pages}
+use Rattle.model.specs.Kernel.Retype.{NewObject, NewUntyped, NewThread, NewEndpoint, NewNotification, NewCNode, NewFrame, NewPageTable, NewRootTable, first_capability}
+use Rattle.thread_steps.specs.Formed.{HasForm}
+use Rattle.thread_steps.specs.Frames.{FramesAreKept}
+use Rattle.thread_steps.specs.Points.{IsPoint}
+use Rattle.thread_steps.proofs.KeptRules.{point-kept}
+use Rattle.thread_steps.proofs.PointForms.{known-form}
+
+pub record IsGiven (image : Image) (t : Numbered) : Type 0 where
+  pub fitting : IsFitting image
+  pub frames : FramesAreKept image
+  pub pages : list_all (is_code image t.thread) (program_pages t.thread) ≡ true
+  pub base : t.thread.header.base % page_size ≡ 0
+  pub ends : t.thread.header.base + 4 * t.thread.header.words ≤ 2 ^ 31
+  pub root : root_of (original image t.thread.header.root) ≡ Some (root_table_of image t)
+  pub points : (point : ℕ) (state : PointState) → point < t.thread.header.words → noted image t point ≡ Known state → IsPoint image t point state
+  pub forms : (point : ℕ) (state : PointState) → noted image t point ≡ Known state → HasForm state
+  pub names : (point : ℕ) (state : PointState) → noted image t point ≡ Known state → NamesRegisters state.measure
+
+-- ---- the thread's entry
+
+abbrev with_number : ℕ × Thread → Numbered
+with_number t = record { number = t.0; thread = t.1 }
+
+entry-from : (n : ℕ) (threads : List Thread) (k : ℕ) (t : Numbered) → k < length (map with_number (enumerate_from n threads)) → get_or (map with_number (enumerate_from n threads)) k t ≡ t
+    → slice_get threads k ≡ Some t.thread
+entry-from n [] k t inside is = absurd (omega (arith, inside))
+entry-from n (x ∷ rest) zero t inside is = ap (λ (u : Numbered). Some u.thread) is
+entry-from n (x ∷ rest) (suc k) t inside is = entry-from (n + 1) rest k t (omega (arith, inside)) is
+
+pub thread-entry : (image : Image) (t : Numbered) → (listed : Contains (numbered_threads image) t) → slice_get image.threads listed.0 ≡ Some t.thread
+thread-entry image t listed = entry-from 0 image.threads listed.0 t listed.1 listed.2
+
+-- ---- its root table
+
+mapped-root : (image : Image) (found : Option TableEntry) (offset : ℕ)
+    → option_map_or (λ t. with_table_mapping (RootTable offset) (Some (record { root = offset_of image t.root; region = t.address / page_size / region_pages }))) found (RootTable offset) ≡ RootTable offset
+mapped-root image None offset = refl
+mapped-root image (Some t) offset = refl
+
+first-root : (kind : Option NewObject) (offset : ℕ) → is_root_type kind ≡ true → option_map_or (λ k. first_capability k offset) kind Empty ≡ RootTable offset
+first-root None offset is = absurd (let clash : false ≡ true = is in cc)
+first-root (Some (NewUntyped bits)) offset is = absurd (let clash : false ≡ true = is in cc)
+first-root (Some NewThread) offset is = absurd (let clash : false ≡ true = is in cc)
+first-root (Some NewEndpoint) offset is = absurd (let clash : false ≡ true = is in cc)
+first-root (Some NewNotification) offset is = absurd (let clash : false ≡ true = is in cc)
+first-root (Some (NewCNode radix)) offset is = absurd (let clash : false ≡ true = is in cc)
+first-root (Some NewFrame) offset is = absurd (let clash : false ≡ true = is in cc)
+first-root (Some NewPageTable) offset is = absurd (let clash : false ≡ true = is in cc)
+first-root (Some NewRootTable) offset is = refl
+
+root-original : (image : Image) (number : ℕ) → is_root_type (type_at image number) ≡ true → original image number ≡ RootTable (offset_of image number)
+root-original image number is =
+    ap (λ (c : Cap). option_map_or (λ t. with_table_mapping c (Some (record { root = offset_of image t.root; region = t.address / page_size / region_pages }))) (find (λ t. t.table == number) image.tables) c)
+    (first-root (type_at image number) (offset_of image number) is)
+    ∙ mapped-root image (find (λ t. t.table == number) image.tables) (offset_of image number)
+
+-- ---- frames
+
+frames-kept : (image : Image) → IsFitting image → AreFormed image → StandApart image → FramesAreKept image
+frames-kept image fitting formed apart = record {
+  each = λ item f at.
+      let fits = fitting.frame item f at in
+      let kept = formed.frame item f at in
+      record { rights = kept.rights; fits = fits.rights; code = kept.code; object = fits.frame; frame = kept.frame };
+  apart = λ i j less few first second same. elim (cases_eq i j) [
+    | inl here ↦ here
+    | inr other ↦
+        let one : 0 < 2 ^ bits_of (object_at image i) = pow_pos (bits_of (object_at image i)) in
+        let two : 0 < 2 ^ bits_of (object_at image j) = pow_pos (bits_of (object_at image j)) in
+        elim (apart.apart i j less few other) [
+          | inl before ↦ absurd (omega (arith, before, same, one))
+          | inr behind ↦ absurd (omega (arith, behind, same, two))
+        ]
+  ];
+}
+
+-- ---- the whole
+
+pub given : (bytes : List ℕ) (image : Image) (t : Numbered) → ((k : ℕ) (point : ℕ) (state : PointState) → slice_get image.threads k ≡ Some t.thread → noted image t point ≡ Known state → NamesRegisters state.measure)
+    → IsAccepted bytes image → Contains (numbered_threads image) t → IsGiven image t
+given bytes image t names accepted listed =
+    let fits = accepted.spelled.fits in
+    let fitting = is-fitting image fits in
+    let formed = are-formed image accepted.formed in
+    let at = thread-entry image t listed in
+    let kept = formed.thread listed.0 t.thread at in
+    let base : t.thread.header.base % page_size ≡ 0 = eqb-true (t.thread.header.base % page_size) 0 kept.base in
+    let base_four : t.thread.header.base % 4 ≡ 0 = omega (arith, base) in
+    record {
+      fitting = fitting;
+      frames = frames-kept image fitting formed (stand-apart image fits accepted.formed);
+      pages = kept.code;
+      base = base;
+      ends = ltb-false address_limit (program_end t.thread) kept.end;
+      root = ap root_of (root-original image t.thread.header.root kept.root);
+      points = λ point state inside known. point-kept image t point state accepted.programs listed base_four inside known;
+      forms = known-form image t fits fitting listed.0 at;
+      names = λ point state known. names listed.0 point state at known;
+    }

@@ -1,0 +1,4 @@
+pub mod Formed
+pub mod Frames
+pub mod Points
+pub mod Taken
