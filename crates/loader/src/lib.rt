@@ -3,12 +3,12 @@
 #![tactic(auto)]
 
 mod boot_slots;
+mod entry_addresses;
 mod fills;
 mod loading;
 mod object_kinds;
 mod object_places;
 mod systems;
-mod thread_starts;
 mod untyped_places;
 
 pub use systems::{boot, boot_unverified};

@@ -11,8 +11,8 @@ ghost use Rattle.model.specs.Kernel.CallForms.{resume_label};
 use crate::boot_slots::{
     control_slot, frame_copy_slot, handler_slot, notification_copy_slot, original_slot, source_slot,
 };
+use crate::entry_addresses::start_of;
 use crate::object_kinds::is_untyped_source;
-use crate::thread_starts::start_of;
 use image::{ImageRef, ThreadRef};
 use invoke::{
     CONFIGURE, COPY, GET_HANDLER, MAP_FRAME, MAP_TABLE, MINT, MOVE, RESUME, RETYPE,

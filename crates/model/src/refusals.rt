@@ -69,8 +69,6 @@ pub enum Refusal {
     PoolLost(Point),
     /// Memory for the verification was refused.
     OutOfMemory,
-    /// The image is outside what this release verifies yet.
-    Stage(Point),
 }
 
 impl Refusal {
@@ -105,7 +103,6 @@ impl Refusal {
             Refusal::CallRefused(..) => 24,
             Refusal::PoolLost(_) => 25,
             Refusal::OutOfMemory => 26,
-            Refusal::Stage(_) => 27,
         }
     }
 
@@ -140,7 +137,6 @@ impl Refusal {
             Refusal::CallRefused(..) => "CallRefused",
             Refusal::PoolLost(_) => "PoolLost",
             Refusal::OutOfMemory => "OutOfMemory",
-            Refusal::Stage(_) => "Stage",
         }
     }
 
@@ -172,8 +168,7 @@ impl Refusal {
             | Refusal::CallNotConstant(at)
             | Refusal::CapNotThere(at)
             | Refusal::CallRefused(at, _)
-            | Refusal::PoolLost(at)
-            | Refusal::Stage(at) => (u64::from(at.thread), u64::from(at.point)),
+            | Refusal::PoolLost(at) => (u64::from(at.thread), u64::from(at.point)),
         }
     }
 }

@@ -5,12 +5,6 @@ use model::{Point, Refusal};
 use std::test::Fail;
 use verify::verify;
 
-/// The refusal of what is outside the one form.
-const LATER: Refusal = Refusal::Stage(Point {
-    thread: 0,
-    point: 0,
-});
-
 /// The fields behind the front, each with its length: twelve of the thread, four words of program,
 /// and the five of its record. The budget and the constant have eight bytes.
 const FIELDS: [u64; 21] = [
@@ -95,23 +89,25 @@ fn the_fields_of_the_front_have_their_ranges(rt: HostRuntime) -> Result<(), Fail
         let want = Refusal::Limit { offset: at as u64 };
         assert_eq!(rt; refusal_with(&rt, at, word)?, Some(want), "at {at}");
     }
-    let others: [(usize, u32, Refusal); 6] = [
-        (0, 0x5359_534E, Refusal::Magic),
-        (4, 2, Refusal::Version),
-        // What can be read, and is of another form: memory, an untyped memory, a badge, rights.
-        (8, 17, LATER),
-        (52, 14, LATER),
-        (188, 2, LATER),
-        (232, 1, LATER),
+    let others: [(usize, u32, Option<Refusal>); 6] = [
+        (0, 0x5359_534E, Some(Refusal::Magic)),
+        (4, 2, Some(Refusal::Version)),
+        // More memory, and another badge.
+        (8, 17, None),
+        (188, 2, None),
+        // Half of the untyped memory holds the four pages, and nothing more.
+        (52, 14, Some(Refusal::NoRoom { object: 4 })),
+        // A page to write alone: the second mapping, behind the table.
+        (232, 1, Some(Refusal::BadMapping { item: 2 })),
     ];
     for (at, word, want) in others {
-        assert_eq!(rt; refusal_with(&rt, at, word)?, Some(want), "at {at}");
+        assert_eq!(rt; refusal_with(&rt, at, word)?, want, "at {at}");
     }
     Ok(())
 }
 
 #[test]
-fn a_record_that_notes_a_slot_is_a_later_stage(rt: HostRuntime) -> Result<(), Fail> {
+fn a_record_may_note_an_empty_slot(rt: HostRuntime) -> Result<(), Fail> {
     let mut image = bell(rt.alloc())?;
     if let Some(slots) = image.get_mut(312) {
         *slots = 1;
@@ -121,7 +117,7 @@ fn a_record_that_notes_a_slot_is_a_later_stage(rt: HostRuntime) -> Result<(), Fa
         image.extend_from_slice(&word.to_le_bytes())?;
     }
     let found = verify(rt.alloc(), image.as_slice()).err();
-    assert_eq!(rt; found, Some(LATER));
+    assert_eq!(rt; found, None);
     Ok(())
 }
 
@@ -148,16 +144,21 @@ fn the_fields_of_the_thread_have_their_ranges(rt: HostRuntime) -> Result<(), Fai
         };
         assert_eq!(rt; refusal_with(&rt, at, word)?, Some(want), "at {at}");
     }
-    let later: [(usize, u32); 6] = [
-        (236, 3),
-        (240, 0),
-        (244, 0),
-        (248, 0),
-        (264, 1),
-        (272, 0x2000),
+    let bad = Some(Refusal::BadThread { thread: 0 });
+    let point = |point: u32| Point { thread: 0, point };
+    let others: [(usize, u32, Option<Refusal>); 6] = [
+        // A frame as TCB, as CNode and as root table, and a program at a page of data.
+        (236, 3, bad),
+        (240, 0, bad),
+        (248, 0, bad),
+        (272, 0x2000, bad),
+        // Without a guard the address 1 names slot 0, with bits left.
+        (244, 0, Some(Refusal::CapNotThere(point(2)))),
+        // A fault address: no accepted thread faults.
+        (264, 1, None),
     ];
-    for (at, word) in later {
-        assert_eq!(rt; refusal_with(&rt, at, word)?, Some(LATER), "at {at}");
+    for (at, word, want) in others {
+        assert_eq!(rt; refusal_with(&rt, at, word)?, want, "at {at}");
     }
     // Up to 256 slots would stand behind the record.
     let slots = [
@@ -176,14 +177,14 @@ fn the_program_is_checked_point_by_point(rt: HostRuntime) -> Result<(), Fail> {
     let cases: [(usize, u32, Refusal); 8] = [
         // The entry is no point.
         (268, 4, Refusal::BadThread { thread: 0 }),
-        // EBREAK is no instruction of this release.
-        (292, 0x0010_0073, Refusal::Stage(point(1))),
+        // EBREAK.
+        (292, 0x0010_0073, Refusal::IllegalInstruction(point(1))),
         // The entry has no state without a record.
         (304, 1, Refusal::RangeNotKept(point(0))),
-        // Another call: a7 is 7.
-        (292, 0x0070_0893, Refusal::Stage(point(2))),
-        // Another capability: a0 is 2.
-        (288, 0x0020_0513, Refusal::Stage(point(2))),
+        // Yield is no wait: a7 is 7.
+        (292, 0x0070_0893, Refusal::MeasureNotFalling(point(3))),
+        // The handler is no notification: a0 is 2.
+        (288, 0x0020_0513, Refusal::CapNotThere(point(2))),
         // The last point falls out of the program.
         (300, 0x0010_0513, Refusal::BadTarget(point(3))),
         // A jump out of the program.

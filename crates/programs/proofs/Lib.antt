@@ -1,4 +1,3 @@
-pub mod Acceptance
 pub mod Arrivals
 pub mod BareRecords
 pub mod Calm

@@ -15,6 +15,7 @@ use Rattle.model.specs.Capabilities.Lookup.{called_slot, lookup_within}
 use Rattle.model.specs.Acceptance.Measures.{Measure}
 use Rattle.model.specs.Kernel.Messages.{a0, a7}
 use Rattle.model.specs.Acceptance.NotedKernel.{noted_kernel, noted_root}
+use Rattle.model.specs.Capabilities.CapabilityFields.{is_capability}
 use Rattle.model.specs.Acceptance.NotedStates.{PointState, entry_key, has_stray_slots, image_slots, is_own, is_stray, leads_to_boot, notes_outside, record_of}
 use Rattle.model.specs.Images.Places.{offset_of, used_by}
 use Rattle.model.specs.Acceptance.PointStates.{call_at, point_of}
@@ -57,7 +58,7 @@ waits_numbered t at ranges m number address =
 slots_own : (t : Thread)
     → list_any (is_stray (staged_image (numbered_thread t)) (numbered_thread t) (reached (staged_image (numbered_thread t)) (numbered_thread t)) (image_slots (staged_image (numbered_thread t)) (numbered_thread t)))
     (image_slots (staged_image (numbered_thread t)) (numbered_thread t)) ≡ false
-unfolding image_slots reached reached_within offset_of used_by leads_to_boot
+unfolding image_slots reached reached_within offset_of used_by leads_to_boot is_capability
 slots_own t = refl
 
 none_outside : (image : Image) (cnodes : List ℕ) (o : Option StateRecord) → IfSome o IsBare → option_map_or (notes_outside image cnodes) o false ≡ false

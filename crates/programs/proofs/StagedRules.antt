@@ -19,7 +19,7 @@ use Rattle.model.specs.Acceptance.ThreadRules.{is_bad, is_code, reached, reached
 use Rattle.model.specs.Acceptance.WellFormed.{capability_rules, does_not_fit, has_no_room, has_writable_code, mapping_rules, misplaces_frame, misplaces_table, object_rules, overlaps}
 use Rattle.programs.specs.Certificates.{numbered_thread, sole}
 use Rattle.programs.specs.Stage.{IsStaged, any_thread, has_no_slots, has_no_terms, is_staged, staged_image}
-use Rattle.programs.proofs.Acceptance.{kept-none, none-broken}
+use Rattle.wellformed.proofs.Acceptance.{kept-none, none-broken}
 
 -- ---- the rules before those on threads do not look at the thread
 

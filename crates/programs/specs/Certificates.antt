@@ -6,7 +6,7 @@ use Rattle.model.specs.declared.instructions.Instr.{Instr}
 use Rattle.model.specs.declared.instructions.Instr.TheVariants.{Ecall}
 use Rattle.model.specs.declared.ranges.Range.{Range}
 use Rattle.model.specs.Acceptance.CallRules.{AfterCall, badges}
-use Rattle.model.specs.Images.Image.{Thread}
+use Rattle.model.specs.Images.Image.{Image, Thread}
 use Rattle.model.specs.Acceptance.Measures.{Measure}
 use Rattle.model.specs.Kernel.Messages.{a0, a7}
 use Rattle.model.specs.Acceptance.NotedStates.{PointState, image_slots}
@@ -67,7 +67,7 @@ abbrev pub is_ecall : Instr → Bool
 is_ecall Ecall = true
 is_ecall _ = false
 
--- an instruction that this release knows
+-- an ADDI, a JAL or a system call
 abbrev pub known_of : Option Instr → Option Instr
 known_of None = None
 known_of (Some i) = if is_ecall i || is_ranged i then Some i else None
@@ -81,7 +81,14 @@ abbrev pub OnlyWaits : Thread → ℕ → Type 0
 OnlyWaits t point =
     (state : PointState) → noted (staged_image t) (sole t) point ≡ Known state → instruction_at t point ≡ Some Ecall → IsWait state.ranges
 
--- a program of the instructions that this release knows, with no other system call than the wait
+-- a program of ADDI, JAL and ECALL, with no other system call than the wait
 pub record IsPlain (t : Thread) : Type 0 where
   pub words : (point : ℕ) → point < t.header.words → known_of (instruction_at t point) ≢ None
   pub waits : (point : ℕ) → point < t.header.words → OnlyWaits t point
+
+-- an image of the one form whose program makes no other call than the wait
+pub record IsPlainImage (image : Image) : Type 0 where
+  pub thread : Thread
+  pub form : image ≡ staged_image thread
+  pub thread_form : IsOfForm thread
+  pub plain : IsPlain thread

@@ -1,13 +1,7 @@
--- The one form of images whose programs this release knows. The rest is refused as a later stage.
+-- The one form of images for which the promise of a run is proved whole.
 use Rattle.std.specs.Prelude.{◌≡◌, ◌==◌, Bool, true, ◌&&◌, nat_le, List, [], ◌∷◌}
 use Rattle.std.specs.List.{list_all}
-use Rattle.model.specs.declared.refusals.Refusal.{Refusal}
-use Rattle.model.specs.declared.refusals.Refusal.TheVariants.{Stage}
 use Rattle.model.specs.Images.Image.{Image, Thread, StateRecord}
-
--- the refusal of what is a later stage as a whole
-abbrev pub later : Refusal
-later = Stage (record { thread = 0; point = 0 })
 
 -- the image of the form with this thread: a code page, a data page, a page table, a TCB, a CNode and a notification
 -- bound to line 3, which the thread's CNode holds with its interrupt handler

@@ -1,11 +1,11 @@
 //! A run: an image is verified and booted, and each event puts a line.
 
-ghost use Rattle.std.specs.Prelude.{◌≡◌, ◌≢◌, Err, IfErr, OnErr, OnOk};
+ghost use Rattle.std.specs.Prelude.{◌≡◌, ◌≢◌, Err, IfErr, OnErr, OnOk, Some};
+ghost use Rattle.model.specs.Acceptance.Accepted.{first_breach};
 ghost use Rattle.model.specs.Images.Format.{reading};
 ghost use Rattle.model.specs.Images.Image.{whole_image};
 ghost use Rattle.model.specs.declared.boot_faults.BootFault.{BootFault};
 ghost use Rattle.model.specs.declared.refusals.Refusal.{Refusal};
-ghost use Rattle.verify.specs.Refusing.{IsRefused};
 ghost use Rattle.runner.specs.declared.running.RunFault.TheVariants.{Output, OutOfMemory};
 ghost use Rattle.runner.specs.Running.{Failed, PutsAll, PutsSome, boot_fault_of, fault_of};
 
@@ -81,11 +81,11 @@ pub fn run<S: Sink>(
     events: &[Event],
     sink: &mut S,
 ) -> Result<(), RunFault>
-    // The image is accepted, and the lines of the kernel's trace are put, in which nothing is a fault or an
-    // error and each thread keeps its budget.
+    // The image is accepted, and the lines of the kernel's trace from the state that it describes are put. For an image of the
+    // one form nothing in it is a fault or an error, and each thread keeps its budget.
     ensures ok { OnOk result (PutsAll bytes.now events.now (S.contents sink.old) (S.contents sink.new)) }
-    // A refusal is the first breach, or that of a later stage, and nothing is put.
-    ensures refused { (refusal : Refusal) → result ≡ Err (RunFault.Refused refusal) → IsRefused bytes.now refusal × (sink.new ≡ sink.old) }
+    // A refusal is the first breach, and nothing is put.
+    ensures refused { (refusal : Refusal) → result ≡ Err (RunFault.Refused refusal) → (first_breach bytes.now ≡ Some refusal) × (sink.new ≡ sink.old) }
     // An image that cannot be read is refused for the first reason, and nothing is put.
     ensures unread { IfErr (reading whole_image bytes.now) (λ refusal. (result ≡ Err (RunFault.Refused refusal)) × (sink.new ≡ sink.old)) }
     // Where memory is refused, nothing is put.

@@ -13,12 +13,12 @@ use Rattle.model.specs.Kernel.Waits.{KeepsBudget, is_error, is_fault}
 use Rattle.programs.specs.Certificates.{IsOfForm, IsPlain, numbered_thread}
 use Rattle.programs.specs.Programs.{IsKept}
 use Rattle.programs.specs.Stage.{IsStaged, is_staged, staged_image}
-use Rattle.programs.proofs.Acceptance.{accepted-no_breach}
+use Rattle.wellformed.proofs.Acceptance.{accepted-no_breach}
 use Rattle.programs.proofs.KeptImages.{spelled_kept}
 use Rattle.programs.proofs.StagedRules.{bad_entry_first, thread_staged}
 use Rattle.image.proofs.WholeImage.{spelled-reading}
-use Rattle.verify.specs.Refusing.{IsPlainImage}
-use Rattle.safe_runs.specs.SafeRuns.{IsSafeRun, trace_of}
+use Rattle.programs.specs.Certificates.{IsPlainImage}
+use Rattle.safe_runs.specs.SafeRuns.{IsAcceptedRun, IsSafeRun, trace_of}
 use Rattle.safe_runs.proofs.FormMachine.{Machine, machine_trace, started, tcb}
 use Rattle.safe_runs.proofs.Standing.{Stands}
 use Rattle.safe_runs.proofs.Fitting.{priority_fits, spelled_fits, words_fit}
@@ -111,3 +111,6 @@ is_safe bytes image events accepted staged plain =
       plain = plain.plain;
     } in
     subst (λ (i : Image). IsSafeRun bytes i events) (sym is) (thread_safe bytes t events v)
+
+pub is_run : (bytes : List ℕ) (image : Image) (events : List Event) → IsAccepted bytes image → IsAcceptedRun bytes image events
+is_run bytes image events accepted = record { accepted = accepted; safe = λ staged plain. is_safe bytes image events accepted staged plain }

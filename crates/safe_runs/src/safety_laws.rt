@@ -4,12 +4,13 @@ ghost use Rattle.std.specs.Prelude.{ℕ, List};
 ghost use Rattle.model.specs.Acceptance.Accepted.{IsAccepted};
 ghost use Rattle.model.specs.declared.events.Event.{Event};
 ghost use Rattle.model.specs.Images.Image.{Image};
+ghost use Rattle.programs.specs.Certificates.{IsPlainImage};
 ghost use Rattle.programs.specs.Stage.{IsStaged};
-ghost use Rattle.safe_runs.specs.SafeRuns.{IsSafeRun};
-ghost use Rattle.verify.specs.Refusing.{IsPlainImage};
+ghost use Rattle.safe_runs.specs.SafeRuns.{IsAcceptedRun, IsSafeRun};
 
 /// Over any events the kernel's trace from the state that an accepted image of the one form describes has no fault and no error, if
 /// its program makes no other call than the wait, and each thread waits again within its budget.
 pub fn accepted_images_run_safely()
-    ensures { (bytes : List ℕ) (image : Image) (events : List Event) → IsAccepted bytes image → IsStaged image → IsPlainImage image → IsSafeRun bytes image events }
+    ensures safe { (bytes : List ℕ) (image : Image) (events : List Event) → IsAccepted bytes image → IsStaged image → IsPlainImage image → IsSafeRun bytes image events }
+    ensures accepted { (bytes : List ℕ) (image : Image) (events : List Event) → IsAccepted bytes image → IsAcceptedRun bytes image events }
 {}

@@ -1,10 +1,1 @@
-pub mod Behind
-pub mod Entry
-pub mod Fronts
-pub mod KeptEdges
-pub mod Points
-pub mod Recorded
-pub mod Records
-pub mod RuleLists
-pub mod StateRules
 pub mod Verdicts

@@ -1,5 +1,1 @@
-pub mod Front
-pub mod Checking
-pub mod Matching
-pub mod Refusing
-pub mod States
+pub mod Threads

@@ -1,11 +1,7 @@
-//! The verifier: an image is accepted, or refused for the first rule that it breaks.
+//! The verifier: whether the bytes of an image keep every rule of acceptance, and which rule they break first.
 #![tactic(auto)]
 
 mod accepted;
-mod checks;
-mod stage;
-mod states;
 
 pub use accepted::{Accepted, verify};
 pub use model::Refusal;
-pub use stage::NOTIFICATION;

@@ -1,3 +1,4 @@
+pub mod Acceptance
 pub mod Listed
 pub mod Named
 pub mod Phases

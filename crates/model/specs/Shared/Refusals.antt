@@ -1,7 +1,7 @@
 -- The numbers, names and items of refusals.
 use Rattle.std.specs.Prelude.{ℕ, List, codes}
 use Rattle.model.specs.declared.refusals.Refusal.{Refusal}
-use Rattle.model.specs.declared.refusals.Refusal.TheVariants.{Magic, Version, Truncated, Trailing, Limit, UntypedOverlap, NoRoom, BadObject, BadCap, SharedCSpace, SharedVSpace, BadMapping, WritableCode, BadThread, IllegalInstruction, ComputedJump, BadTarget, RangeNotKept, NotMapped, MeasureNotFalling, OverBudget, CallNotConstant, CapNotThere, CallRefused, PoolLost, OutOfMemory, Stage}
+use Rattle.model.specs.declared.refusals.Refusal.TheVariants.{Magic, Version, Truncated, Trailing, Limit, UntypedOverlap, NoRoom, BadObject, BadCap, SharedCSpace, SharedVSpace, BadMapping, WritableCode, BadThread, IllegalInstruction, ComputedJump, BadTarget, RangeNotKept, NotMapped, MeasureNotFalling, OverBudget, CallNotConstant, CapNotThere, CallRefused, PoolLost, OutOfMemory}
 
 abbrev pub refusal_number : Refusal → ℕ
 refusal_number Magic = 1
@@ -30,7 +30,6 @@ refusal_number (CapNotThere at) = 23
 refusal_number (CallRefused at error) = 24
 refusal_number (PoolLost at) = 25
 refusal_number OutOfMemory = 26
-refusal_number (Stage at) = 27
 
 abbrev pub refusal_name : Refusal → List ℕ
 refusal_name Magic = codes "Magic"
@@ -59,7 +58,6 @@ refusal_name (CapNotThere at) = codes "CapNotThere"
 refusal_name (CallRefused at error) = codes "CallRefused"
 refusal_name (PoolLost at) = codes "PoolLost"
 refusal_name OutOfMemory = codes "OutOfMemory"
-refusal_name (Stage at) = codes "Stage"
 
 -- where: the offset in the file and 0, the item and 0, or the thread and the point
 abbrev pub refusal_items : Refusal → ℕ × ℕ
@@ -89,4 +87,3 @@ refusal_items (CapNotThere at) = (at.thread, at.point)
 refusal_items (CallRefused at error) = (at.thread, at.point)
 refusal_items (PoolLost at) = (at.thread, at.point)
 refusal_items OutOfMemory = (0, 0)
-refusal_items (Stage at) = (at.thread, at.point)

@@ -1,0 +1,31 @@
+-- What is true of the threads of an accepted image.
+use Rattle.std.specs.Prelude.{◌≡◌, ◌++◌, false, List, [], ◌∷◌, Some, Contains}
+use Rattle.model.specs.Acceptance.ThreadInvariants.{ThreadInvariant, tcb_of}
+use Rattle.model.specs.Images.Described.{Numbered, described, numbered_threads}
+use Rattle.model.specs.Images.Image.{Image}
+use Rattle.model.specs.Kernel.Scheduling.{current}
+use Rattle.model.specs.Kernel.Steps.{state_after, step, trace}
+use Rattle.model.specs.Kernel.Waits.{is_fault}
+use Rattle.model.specs.declared.events.Event.{Event}
+use Rattle.model.specs.declared.events.Event.TheVariants.{Step}
+use Rattle.thread_steps.specs.Points.{ReachesNoCall}
+
+-- behind events a thread stands as its certificate says
+abbrev pub StandsBehind : Image → Numbered → List Event → Type 0
+StandsBehind image t events = ThreadInvariant image t (state_after (described image) events) (trace (described image) events)
+
+-- in the state that the image describes each thread stands as its certificate says
+abbrev pub ThreadsStart : Image → Type 0
+ThreadsStart image = (t : Numbered) → Contains (numbered_threads image) t → ThreadInvariant image t (described image) []
+
+-- Where a thread stands as its certificate says, whatever happened before, its next step does not fault if it reaches no system call,
+-- and behind it the thread stands as its certificate says.
+pub record PlainStepIsKept (image : Image) (t : Numbered) (events : List Event) : Type 0 where
+  pub faults : is_fault (step (state_after (described image) events) Step).1 ≡ false
+  pub stands : StandsBehind image t (events ++ Step ∷ [])
+
+abbrev pub PlainStepsAreKept : Image → Type 0
+PlainStepsAreKept image =
+    (t : Numbered) (events : List Event) → Contains (numbered_threads image) t → StandsBehind image t events
+    → current (state_after (described image) events) ≡ Some (tcb_of image t) → ReachesNoCall (state_after (described image) events) (tcb_of image t)
+    → PlainStepIsKept image t events
