@@ -8,6 +8,11 @@ To be booted: the same counts in memory of 2^24 bytes, but for the contents, whi
 the threads have no records, share one address space and one CNode, and each fills the same 64 pages.
 
 `make.py count 1 FILE` writes an image of one thread that counts in a register, in memory of 2^16 bytes.
+
+`make.py verify SHARE FILE` writes an image that the verifier accepts: 58 threads of 65536 words divided by the share, which are as many as
+4096 objects and 2^24 bytes of memory hold, each with a CNode, a notification, a page of data and its own address space. Each sixteen words
+wait, load, add, store, branch and count, and begin with a record that notes a range. SHARE is 1, 16 (some 1.5 MiB) or 232 (some 100 KiB): with
+232 there is one thread of 16384 words, with 16 there are 15 of 16384.
 """
 
 import struct
@@ -42,16 +47,15 @@ def read_image(share):
         yield registers + program + records
 
 
-def boot_image(share):
-    small, capabilities, interrupts, tables, mappings, threads = (
-        it // share for it in (59, 16384, 64, 1024, 4096, 64)
-    )
-    untypeds = [(0x41000 + 0x1000 * i, 12) for i in range(small)] + [(1 << bits, bits) for bits in range(19, 24)]
-    objects = [(i, 6, 0) for i in range(small)]
-    room = [1 << bits for _, bits in untypeds]
+def untypeds_of(small):
+    return [(0x41000 + 0x1000 * i, 12) for i in range(small)] + [(1 << bits, bits) for bits in range(19, 24)]
 
-    # Puts an object into the last untyped, or one behind it, that still has room; sizes never rise, so none is lost.
-    at = [small]
+
+# What puts an object into the untyped of a number, or the next one behind it that still has room (where sizes never rise, none is lost),
+# and answers the object's number; the room that is left in each; and the untyped of the last object.
+def placing(untypeds, objects, first):
+    room = [1 << bits for _, bits in untypeds]
+    at = [first]
 
     def put(kind, size, bits):
         while room[at[0]] < 1 << bits:
@@ -60,6 +64,16 @@ def boot_image(share):
         objects.append((at[0], kind, size))
         return len(objects) - 1
 
+    return put, room, at
+
+
+def boot_image(share):
+    small, capabilities, interrupts, tables, mappings, threads = (
+        it // share for it in (59, 16384, 64, 1024, 4096, 64)
+    )
+    untypeds = untypeds_of(small)
+    objects = [(i, 6, 0) for i in range(small)]
+    put, room, at = placing(untypeds, objects, small)
     cnode = put(5, 14, 18)
     roots = [put(8, 0, 12), put(8, 0, 12)]
     page_tables = [put(7, 0, 12) for _ in range(tables)]
@@ -107,7 +121,66 @@ def counting_image(_share):
     yield words(0x00128293, 0xFFDFF06F)  # addi x5, x5, 1; jal x0, -4
 
 
-make = {"read": read_image, "boot": boot_image, "count": counting_image}[sys.argv[1]]
+def immediate(funct, rd, rs1, number, opcode=0x13):
+    return (number & 0xFFF) << 20 | rs1 << 15 | funct << 12 | rd << 7 | opcode
+
+
+def jump_back(distance):
+    back = -distance
+    return (back >> 20 & 1) << 31 | (back >> 1 & 0x3FF) << 21 | (back >> 11 & 1) << 20 | (back >> 12 & 0xFF) << 12 | 0x6F
+
+
+# Sixteen instructions: three up to the wait, and the rest behind it.
+BLOCK = (
+    immediate(0, 10, 0, 1),  # addi x10, x0, 1
+    immediate(0, 17, 0, 5),  # addi x17, x0, 5
+    0x73,  # ecall
+    0x100 << 12 | 6 << 7 | 0x37,  # lui x6, 0x100: the page of data
+    immediate(2, 7, 6, 0, 0x03),  # lw x7, 0(x6)
+    immediate(0, 7, 7, 1),  # addi x7, x7, 1
+    7 << 20 | 6 << 15 | 2 << 12 | 0x23,  # sw x7, 0(x6)
+    immediate(7, 8, 7, 15),  # andi x8, x7, 15
+    8 << 20 | 8 << 15 | 9 << 7 | 0x33,  # add x9, x8, x8
+    immediate(0, 8, 8, 0),  # addi x8, x8, 0
+    9 << 20 | 7 << 15 | 4 << 12 | 8 << 7 | 0x63,  # blt x7, x9, 8
+    immediate(0, 0, 9, 1),  # addi x0, x9, 1
+    immediate(1, 9, 9, 1),  # slli x9, x9, 1
+    8 << 20 | 9 << 15 | 4 << 12 | 9 << 7 | 0x33,  # xor x9, x9, x8
+    immediate(0, 5, 0, 3),  # addi x5, x0, 3
+    immediate(0, 5, 5, -1),  # addi x5, x5, -1
+)
+
+
+def verified_image(share):
+    threads, count = {1: (58, 65536), 16: (15, 16384), 232: (1, 16384)}[share]
+    untypeds = untypeds_of(59)
+    objects = []
+    put, _, _ = placing(untypeds, objects, 0)
+    pages_each = count // 1024
+    kinds = [(8, 0, 12), (7, 0, 12), (6, 0, 12)] + [(6, 0, 12)] * pages_each
+    parts = [[put(*kind) for kind in kinds] for _ in range(threads)]
+    tcbs = [put(2, 0, 9) for _ in range(threads)]
+    cnodes = [put(5, 1, 5) for _ in range(threads)]
+    bells = [put(4, 0, 4) for _ in range(threads)]
+    maps = []
+    for root, _, data, *code in parts:
+        maps += [(root, 0x1000 * (i + 1), frame, 4) for i, frame in enumerate(code)] + [(root, 0x100000, data, 3)]
+    yield header(24, 14, (len(untypeds), len(objects), threads, 0, threads, len(maps), 0, threads))
+    yield b"".join(words(*it) for it in untypeds)
+    yield b"".join(words(*it) for it in objects)
+    yield b"".join(words(cnode, 1, bell, 2, 0) for cnode, bell in zip(cnodes, bells))
+    yield b"".join(words(root, 0, table) for root, table, *_ in parts)
+    yield b"".join(words(*it) for it in sorted(maps))
+    # The last of the words leads back to the first.
+    program = words(*BLOCK * (count // 16 - 1), *BLOCK[:-1], jump_back(4 * (count - 1)))
+    records = b"".join(words(i, 1, 0, 0) + struct.pack("<q", 3) + words(5, 0, 3) for i in range(0, count, 16))
+    for number in range(threads):
+        root = parts[number][0]
+        yield words(tcbs[number], cnodes[number], 31, root, 100) + struct.pack("<Q", 16) + words(0, 0, 0x1000, 0, count, count // 16)
+        yield program + records
+
+
+make = {"verify": verified_image, "read": read_image, "boot": boot_image, "count": counting_image}[sys.argv[1]]
 with open(sys.argv[3], "wb") as file:
     for piece in make(int(sys.argv[2])):
         file.write(piece)

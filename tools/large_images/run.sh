@@ -1,6 +1,6 @@
 #!/usr/bin/env bash
-# Times reading and booting at a sixteenth, a quarter and all of the format's limits (make.py says which), and a run of a
-# million steps of a thread that counts, all to files. Asks for `make build` before. The reader is proved and built in a copy
+# Times reading and booting at a sixteenth, a quarter and all of the format's limits (make.py says which), verifying images of
+# some 100 KiB, 1.5 MiB and 23 MiB, and a run of a million steps of a thread that counts, all to files. Asks for `make build` before. The reader is proved and built in a copy
 # of the crates that it needs, so that the gate knows nothing of it.
 set -euo pipefail
 here="$(cd "$(dirname "$0")" && pwd)"
@@ -35,6 +35,13 @@ timed() {
     { time -p "$@" >"$copy/printed"; } 2>&1 | paste -sd' '
 }
 
+# Ten runs of the verifier over one image.
+ten_times() {
+    for _ in 1 2 3 4 5 6 7 8 9 10; do
+        "$program" verify "$1"
+    done
+}
+
 for share in 16 4 1; do
     size="$(stat -c %s "$copy/read$share.img")"
     timed "reading all sections of $size bytes:" "$copy/crates/read_all/out/read_all" "$copy/read$share.img"
@@ -42,6 +49,11 @@ done
 for share in 16 4 1; do
     size="$(stat -c %s "$copy/boot$share.img")"
     timed "booting $size bytes:" "$program" run --unverified "$copy/boot$share.img" "$copy/none.events"
+done
+for share in 232 16 1; do
+    python3 "$here/make.py" verify "$share" "$copy/verify$share.img"
+    size="$(stat -c %s "$copy/verify$share.img")"
+    timed "verifying $size bytes ten times:" ten_times "$copy/verify$share.img"
 done
 timed "a million steps:" "$program" run --unverified "$copy/count.img" "$copy/million.events"
 wc -lc "$copy/printed"
