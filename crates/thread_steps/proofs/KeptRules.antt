@@ -7,9 +7,9 @@ use Rattle.std.proofs.lemmas.Bool.{and_parts, cases_eq, eqb-true, leb-true, ltb-
 use Rattle.std.proofs.lemmas.List.Elements.{All-cons, All-head, All-tail, All-nil}
 use Rattle.model.specs.declared.refusals.Point.{Point}
 use Rattle.model.specs.declared.refusals.Refusal.{Refusal}
-use Rattle.model.specs.declared.refusals.Refusal.TheVariants.{BadTarget, CapNotThere, ComputedJump, IllegalInstruction, MeasureNotFalling, NotMapped, RangeNotKept}
+use Rattle.model.specs.declared.refusals.Refusal.TheVariants.{BadTarget, CapNotThere, ComputedJump, IllegalInstruction, MeasureNotFalling, NotMapped, OverBudget, RangeNotKept}
 use Rattle.model.specs.Acceptance.Accepted.{AreKept}
-use Rattle.model.specs.Acceptance.Measures.{Measure, falls, least_value}
+use Rattle.model.specs.Acceptance.Measures.{Measure, falls, least_value, stays_below}
 use Rattle.model.specs.Acceptance.NotedStates.{PointState, are_same_slots, has_stray_slots}
 use Rattle.model.specs.Acceptance.PointRules.{ProgramEdge, are_ranges_within, edge_rules, edges_at, entry_rules, is_computed_jump, is_illegal, is_unmapped, kept_at, noted_at, point_at, point_rules, program_rules, rules_of_noted, rules_of_program, rules_on_edges, state_rules}
 use Rattle.model.specs.Acceptance.PointStates.{Noted, Known, Missing, Unmeasured, address_of, instruction_at, noted, point_of}
@@ -96,6 +96,7 @@ module _ (image : Image) (t : Numbered) (base : t.thread.header.base % 4 ≡ 0) 
         within = not-false (are_ranges_within edge.ranges state.ranges) (not-refused (not (are_ranges_within edge.ranges state.ranges)) (RangeNotKept at) (kept 0 None (omega arith)));
         slots = not-false (are_same_slots edge.slots state.slots) (not-refused (not (are_same_slots edge.slots state.slots)) (CapNotThere at) (kept 1 None (omega arith)));
         falling = λ plain. holds-where (not edge.is_wait) (falls from state.measure edge.value_of edge.before edge.ranges) (not-refused (not edge.is_wait && not (falls from state.measure edge.value_of edge.before edge.ranges)) (MeasureNotFalling at) (kept 2 None (omega arith))) (ap (λ (c : Bool). not c) plain);
+        covered = λ wait. holds-where edge.is_wait (stays_below t.thread.header.budget state.measure edge.value_of edge.before edge.ranges) (not-refused (edge.is_wait && not (stays_below t.thread.header.budget state.measure edge.value_of edge.before edge.ranges)) (OverBudget at) (kept 3 None (omega arith))) wait;
       }
 
   leads-noted : (point : ℕ) (n : Noted) → point_at t.thread edge.target ≡ Some point → noted image t point ≡ n → AreKept (edge_rules t.thread at from edge n) → LeadsOn image t from edge

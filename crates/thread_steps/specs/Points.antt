@@ -3,7 +3,7 @@ use Rattle.std.specs.Prelude.{ℕ, ◌≡◌, ◌<◌, ◌%◌, true, false, Som
 use Rattle.model.specs.declared.instructions.Access.TheVariants.{Fetch}
 use Rattle.model.specs.declared.instructions.AccessSize.TheVariants.{Word}
 use Rattle.model.specs.declared.instructions.Instr.TheVariants.{Ecall}
-use Rattle.model.specs.Acceptance.Measures.{Measure, falls, least_value}
+use Rattle.model.specs.Acceptance.Measures.{Measure, falls, least_value, stays_below}
 use Rattle.model.specs.Acceptance.NotedStates.{PointState, are_same_slots, has_stray_slots}
 use Rattle.model.specs.Acceptance.PointRules.{ProgramEdge, are_ranges_within, edges_at, is_computed_jump, is_illegal, is_unmapped}
 use Rattle.model.specs.Acceptance.PointStates.{Known, address_of, instruction_at, noted}
@@ -20,7 +20,7 @@ abbrev pub ReachesNoCall : State → ℕ → Type 0
 ReachesNoCall s thread =
     (word : ℕ) → loaded (content_of s thread) Fetch Word (registers_of s thread).pc ≡ Ok word → decoded word ≡ Some Ecall → ⊥
 
--- An edge without a wait leads to a point with a state: its ranges and slots are kept there, and the measure falls.
+-- An edge leads to a point with a state: its ranges and slots are kept there. The measure falls, or after a wait is within the budget.
 pub record LeadsOn (image : Image) (t : Numbered) (from : Measure) (edge : ProgramEdge) : Type 0 where
   pub point : ℕ
   pub state : PointState
@@ -31,6 +31,7 @@ pub record LeadsOn (image : Image) (t : Numbered) (from : Measure) (edge : Progr
   pub within : are_ranges_within edge.ranges state.ranges ≡ true
   pub slots : are_same_slots edge.slots state.slots ≡ true
   pub falling : edge.is_wait ≡ false → falls from state.measure edge.value_of edge.before edge.ranges ≡ true
+  pub covered : edge.is_wait ≡ true → stays_below t.thread.header.budget state.measure edge.value_of edge.before edge.ranges ≡ true
 
 -- A point with a state whose rules are kept.
 pub record IsPoint (image : Image) (t : Numbered) (point : ℕ) (state : PointState) : Type 0 where
