@@ -1,0 +1,8 @@
+pub mod ThreadKeys
+pub mod NotedAfter
+pub mod OwnSlots
+pub mod ListedThreads
+pub mod RootCNode
+pub mod TwoLookups
+pub mod NotedLookups
+pub mod NotedParents

@@ -1,0 +1,162 @@
+-- The root of the capability space of a thread of a well-formed image is one of the thread's CNodes.
+use Rattle.std.proofs.Common.{ℕ, zero, suc, ◌≡◌, ◌∙◌, ◌==◌, ◌/◌, ◌%◌, ◌<◌, ◌&&◌, ◌||◌, Bool, true, false, not, nat_eq, nat_le, nat_lt, if◌then◌else◌, Option, Some, None, List, [], ◌∷◌, ◌++◌, length, get_or, refl, sym, ap, subst, arith}
+use Rattle.std.specs.Prelude.{Contains, flat_map, fold}
+use Rattle.std.specs.Option.{option_map_or}
+use Rattle.std.specs.List.{find, list_all, list_any}
+use Rattle.std.proofs.lemmas.Bool.{eq-eqb, eqb-true, false≢true, not-false, or_parts}
+use Rattle.std.proofs.lemmas.Option.{none-some}
+use Rattle.model.specs.declared.capabilities.Cap.{Cap}
+use Rattle.model.specs.declared.capabilities.Cap.TheVariants.{Empty, CNode}
+use Rattle.model.specs.declared.entries.CapabilityEntry.{CapabilityEntry}
+use Rattle.model.specs.declared.entries.TableEntry.{TableEntry}
+use Rattle.model.specs.declared.refusals.Refusal.{Refusal}
+use Rattle.model.specs.declared.refusals.Refusal.TheVariants.{BadThread}
+use Rattle.model.specs.Acceptance.Accepted.{AreKept, IsWellFormed}
+use Rattle.model.specs.Acceptance.NotedKernel.{noted_root}
+use Rattle.model.specs.Acceptance.NotedStates.{is_own_cnode}
+use Rattle.model.specs.Acceptance.Rules.{Rule, refuse_if}
+use Rattle.model.specs.Acceptance.ThreadRules.{has_guard, is_bad, is_cnode_source, is_code, is_in_use, is_member, program_end, reached, reached_within, rules_of_thread, thread_rules, with_named}
+use Rattle.model.specs.Acceptance.WellFormed.{is_root_type, is_thread_type, radix_of}
+use Rattle.model.specs.Capabilities.CapabilityKinds.{is_guard_word, with_payload, with_table_mapping}
+use Rattle.model.specs.Images.Described.{Numbered, numbered_threads}
+use Rattle.model.specs.Images.Fills.{program_pages}
+use Rattle.model.specs.Images.Image.{Image, Thread}
+use Rattle.model.specs.Images.Places.{offset_of, type_at}
+use Rattle.model.specs.Kernel.AddressSpaces.{address_limit, page_size, region_pages}
+use Rattle.model.specs.Kernel.Retype.{NewObject, NewUntyped, NewThread, NewEndpoint, NewNotification, NewCNode, NewFrame, NewPageTable, NewRootTable, first_capability}
+use Rattle.typestate.specs.Spaces.{is_among}
+use Rattle.thread_lookups.proofs.ThreadKeys.{or-second}
+
+-- ---- the rules on the thread are kept
+
+kept-before : (first rest : List Rule) → AreKept (first ++ rest) → AreKept first
+kept-before [] rest kept = λ k none less. absurd (omega (arith, less))
+kept-before (rule ∷ first) rest kept = both (kept 0 None (omega arith)) (kept-before first rest (λ k none less. kept (suc k) none (omega (arith, less)))) where
+  both : rule ≡ None → AreKept first → AreKept (rule ∷ first)
+  both one others zero none less = one
+  both one others (suc k) none less = others k none (omega (arith, less))
+
+kept-behind : (first rest : List Rule) → AreKept (first ++ rest) → AreKept rest
+kept-behind [] rest kept = kept
+kept-behind (rule ∷ first) rest kept = kept-behind first rest (λ k none less. kept (suc k) none (omega (arith, less)))
+
+kept-of : (rules : Numbered → List Rule) (threads : List Numbered) (t : Numbered) (k : ℕ) → AreKept (flat_map rules threads) → k < length threads → get_or threads k t ≡ t
+    → AreKept (rules t)
+kept-of rules [] t k kept inside is = absurd (omega (arith, inside))
+kept-of rules (x ∷ rest) t zero kept inside is = subst (λ (u : Numbered). AreKept (rules u)) is (kept-before (rules x) (flat_map rules rest) kept)
+kept-of rules (x ∷ rest) t (suc k) kept inside is = kept-of rules rest t k (kept-behind (rules x) (flat_map rules rest) kept) (omega (arith, inside)) is
+
+not-refused : (broken : Bool) (refusal : Refusal) → refuse_if broken refusal ≡ None → broken ≡ false
+not-refused true refusal is = absurd (none-some refusal (sym is))
+not-refused false refusal is = refl
+
+thread-good : (image : Image) (t : Numbered) → IsWellFormed image → Contains (numbered_threads image) t → is_bad image t ≡ false
+unfolding thread_rules
+thread-good image t formed listed =
+    not-refused (is_bad image t) (BadThread t.number)
+    (kept-of (rules_of_thread image) (numbered_threads image) t listed.0 formed.threads listed.1 listed.2 0 None (omega arith))
+
+-- the fourth of the tests on a thread; the others are of no matter here
+guard-kept : (image : Image) (t : Numbered) → is_bad image t ≡ false → has_guard image t.thread ≡ true
+unfolding is_bad
+guard-kept image t good =
+    let header = t.thread.header in
+    let first = not (is_thread_type (type_at image header.tcb)) || not (is_root_type (type_at image header.root)) || is_in_use image t.number t.thread in
+    let guard = not (has_guard image t.thread) in
+    let base = not (header.base % page_size == 0) in
+    let ends = nat_lt address_limit (program_end t.thread) in
+    let code = not (list_all (is_code image t.thread) (program_pages t.thread)) in
+    let a = or_parts (first || guard || base || ends || code) (nat_le header.words header.entry) good in
+    let b = or_parts (first || guard || base || ends) code a.0 in
+    let c = or_parts (first || guard || base) ends b.0 in
+    let d = or_parts (first || guard) base c.0 in
+    not-false (has_guard image t.thread) (or_parts first guard d.0).1
+
+-- ---- the thread's CNode
+
+record HasRadix (kind : Option NewObject) : Type 0 where
+  pub radix : ℕ
+  pub is : kind ≡ Some (NewCNode radix)
+
+has-radix : (kind : Option NewObject) (guard : ℕ) → option_map_or (λ radix. is_guard_word radix guard) (radix_of kind) false ≡ true → HasRadix kind
+has-radix None guard is = absurd (false≢true is)
+has-radix (Some (NewUntyped bits)) guard is = absurd (false≢true is)
+has-radix (Some NewThread) guard is = absurd (false≢true is)
+has-radix (Some NewEndpoint) guard is = absurd (false≢true is)
+has-radix (Some NewNotification) guard is = absurd (false≢true is)
+has-radix (Some (NewCNode radix)) guard is = record { radix = radix; is = refl }
+has-radix (Some NewFrame) guard is = absurd (false≢true is)
+has-radix (Some NewPageTable) guard is = absurd (false≢true is)
+has-radix (Some NewRootTable) guard is = absurd (false≢true is)
+
+-- nothing maps a CNode
+abbrev with_found : Image → Option TableEntry → Cap → Cap
+with_found image found capability =
+    option_map_or (λ t. with_table_mapping capability (Some (record { root = offset_of image t.root; region = t.address / page_size / region_pages }))) found capability
+
+unmapped-cnode : (image : Image) (found : Option TableEntry) (offset radix guard : ℕ)
+    → with_payload (with_found image found (first_capability (NewCNode radix) offset)) guard ≡ CNode offset radix guard
+unmapped-cnode image None offset radix guard = refl
+unmapped-cnode image (Some t) offset radix guard = refl
+
+root-is : (image : Image) (t : Thread) (radix : ℕ) → type_at image t.header.cnode ≡ Some (NewCNode radix)
+    → noted_root image t ≡ CNode (offset_of image t.header.cnode) radix t.header.guard
+root-is image t radix is =
+    let found = find (λ u. u.table == t.header.cnode) image.tables in
+    let offset = offset_of image t.header.cnode in
+    ap (λ (kind : Option NewObject). with_payload (with_found image found (option_map_or (λ k. first_capability k offset) kind Empty)) t.header.guard) is
+    ∙ unmapped-cnode image found offset radix t.header.guard
+
+-- ---- it is reached
+
+module _ (image : Image) (number : ℕ) where
+  stays-before : (found : List ℕ) (more : ℕ) → is_member number found ≡ true → is_member number (found ++ more ∷ []) ≡ true
+  stays-before [] more there = absurd (false≢true there)
+  stays-before (x ∷ rest) more there = elim (nat_eq number x) as (λ b. (b || is_member number rest) ≡ true → (b || is_member number (rest ++ more ∷ [])) ≡ true) [
+    | true ↦ λ _. refl
+    | false ↦ λ later. stays-before rest more later
+  ] there
+
+  stays-named : (found : List ℕ) (c : CapabilityEntry) → is_member number found ≡ true → is_member number (with_named image found c) ≡ true
+  stays-named found c there =
+      let more = is_member c.cnode found && is_cnode_source image c.source && not (is_member c.source found) in
+      elim more as (λ b. is_member number (if b then found ++ c.source ∷ [] else found) ≡ true) [
+        | true ↦ stays-before found c.source there
+        | false ↦ there
+      ]
+
+  stays-all : (capabilities : List CapabilityEntry) (found : List ℕ) → is_member number found ≡ true → is_member number (fold (with_named image) found capabilities) ≡ true
+  stays-all [] found there = there
+  stays-all (c ∷ rest) found there = stays-all rest (with_named image found c) (stays-named found c there)
+
+  stays-within : (rounds : ℕ) (found : List ℕ) → is_member number found ≡ true → is_member number (reached_within rounds image found) ≡ true
+  unfolding reached_within
+  stays-within zero found there = there
+  stays-within (suc rounds) found there = stays-within rounds (fold (with_named image) found image.capabilities) (stays-all image.capabilities found there)
+
+root-reached : (image : Image) (t : Thread) → is_member t.header.cnode (reached image t) ≡ true
+unfolding reached
+root-reached image t =
+    stays-within image t.header.cnode (length image.capabilities) (t.header.cnode ∷ []) (ap (λ b. b || false) (eq-eqb t.header.cnode t.header.cnode refl))
+
+any-member : (test : ℕ → Bool) (numbers : List ℕ) (number : ℕ) → is_member number numbers ≡ true → test number ≡ true → list_any test numbers ≡ true
+any-member test [] number there is = absurd (false≢true there)
+any-member test (x ∷ rest) number there is = elim (nat_eq number x) as (λ b. nat_eq number x ≡ b → (b || is_member number rest) ≡ true → (test x || list_any test rest) ≡ true) [
+  | true ↦ λ same _. ap (λ b. b || list_any test rest) (ap test (sym (eqb-true number x same)) ∙ is)
+  | false ↦ λ _ later. or-second (test x) (list_any test rest) (any-member test rest number later is)
+] refl there
+
+-- ---- together
+
+pub root-own : (image : Image) (t : Numbered) → IsWellFormed image → Contains (numbered_threads image) t
+    → is_among (is_own_cnode image (reached image t.thread)) (noted_root image t.thread) ≡ true
+root-own image t formed listed =
+    let cnode = t.thread.header.cnode in
+    let offset = offset_of image cnode in
+    let of = has-radix (type_at image cnode) t.thread.header.guard (guard-kept image t (thread-good image t formed listed)) in
+    let is_it : ℕ → Bool = λ c. (offset_of image c == offset) && option_map_or (λ own. own == of.radix) (radix_of (type_at image c)) false in
+    let passes : is_it cnode ≡ true =
+    ap (λ b. b && option_map_or (λ own. own == of.radix) (radix_of (type_at image cnode)) false) (eq-eqb offset offset refl)
+    ∙ ap (λ (kind : Option NewObject). option_map_or (λ own. own == of.radix) (radix_of kind) false) of.is ∙ eq-eqb of.radix of.radix refl in
+    ap (is_among (is_own_cnode image (reached image t.thread))) (root-is image t.thread of.radix of.is)
+    ∙ any-member is_it (reached image t.thread) cnode (root-reached image t.thread) passes

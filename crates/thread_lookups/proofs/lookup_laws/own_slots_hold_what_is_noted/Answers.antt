@@ -1,0 +1,9 @@
+-- By the key of the slot, among what is noted.
+use Rattle.thread_spaces.proofs.StandingApart.{stands-apart}
+use Rattle.thread_lookups.proofs.OwnSlots.{own-same}
+use Rattle.thread_lookups.proofs.ListedThreads.{is-listed}
+use Rattle.thread_lookups.proofs.lookup_laws.own_slots_hold_what_is_noted.Goals as goal
+
+pub returns : goal.returns
+returns c = λ bytes image t s state accepted listed same slot own.
+    own-same image t (stands-apart image t.thread accepted.spelled.fits accepted.formed (is-listed image t listed)) s.slots state.slots same slot own
