@@ -1,0 +1,8 @@
+pub mod AllowedCalls
+pub mod CallsBehind
+pub mod GivenThreads
+pub mod KnownCalls
+pub mod MessageRules
+pub mod WiderRanges
+pub mod WrittenMessages
+pub mod WrittenRegisters

@@ -1,0 +1,69 @@
+-- What the rules on receives, on Call, Send and NBSend, and on the calls that need nothing say of those that they allow.
+use Rattle.std.specs.Prelude.{ℕ, ◌≡◌, true, false, Bool, if◌then◌else◌, ⊤, Some, Ok, [], ◌∷◌}
+use Rattle.model.specs.declared.capabilities.Cap.{Cap}
+use Rattle.model.specs.declared.capabilities.Cap.TheVariants.{Empty, Untyped, Endpoint, Notification, CNode, Frame, PageTable, Tcb, RootTable, InterruptControl, InterruptHandler}
+use Rattle.model.specs.declared.refusals.Point.{Point}
+use Rattle.model.specs.declared.rights.Rights.{Rights}
+use Rattle.model.specs.Acceptance.CallRules.{AfterCall, answers, badges, changes_nothing, invocation, known_behind, message_registers, with_answer, with_message}
+use Rattle.model.specs.Acceptance.NotedKernel.{noted_root}
+use Rattle.model.specs.Acceptance.NotedStates.{PointState}
+use Rattle.model.specs.Acceptance.Ranges.{single, with_range}
+use Rattle.model.specs.Capabilities.Rights.{may_grant_reply, may_read, may_write}
+use Rattle.model.specs.Images.Image.{Image, Thread}
+use Rattle.model.specs.Images.Places.{offset_of}
+use Rattle.model.specs.Kernel.Arguments.{Call}
+use Rattle.model.specs.Kernel.Messages.{a0, a1}
+use Rattle.model.specs.Kernel.Steps.{SendCall, Calling, Sending, Trying, SystemCall, Sends, Receives, RepliesAndReceives, Replies, Yields, PutsCharacter}
+
+-- ---- receives
+
+-- a message of any sender, or any word of a notification, by a capability that may read
+pub data ReceivesBy (state : PointState) (is_wait : Bool) (capability : Cap) (left : AfterCall) : Type 0 where
+  on_endpoint : (offset : ℕ) (r : Rights) (badge : ℕ) → capability ≡ Endpoint offset r badge → may_read r ≡ true
+      → left ≡ known_behind state (with_message state.ranges badges) is_wait message_registers → ReceivesBy state is_wait capability left
+  on_notification : (offset : ℕ) (r : Rights) (badge : ℕ) → capability ≡ Notification offset r badge → may_read r ≡ true
+      → left ≡ known_behind state (with_range state.ranges a0 badges) is_wait (a0 ∷ []) → ReceivesBy state is_wait capability left
+
+-- ---- Call, Send and NBSend
+
+-- neither an endpoint nor a notification: a call on such a capability is an invocation
+abbrev pub IsInvoked : Cap → Type 0
+IsInvoked Empty = ⊤
+IsInvoked (Untyped offset bits watermark) = ⊤
+IsInvoked (Endpoint offset r badge) = ⊥
+IsInvoked (Notification offset r badge) = ⊥
+IsInvoked (CNode offset radix guard) = ⊤
+IsInvoked (Frame offset r mapping) = ⊤
+IsInvoked (PageTable offset mapping) = ⊤
+IsInvoked (Tcb offset) = ⊤
+IsInvoked (RootTable offset) = ⊤
+IsInvoked InterruptControl = ⊤
+IsInvoked (InterruptHandler irq_line) = ⊤
+
+-- the call of a thread on the capability in a slot
+abbrev pub call_on : Image → Thread → ℕ → Cap → Call
+call_on image t slot capability = record { root = noted_root image t; caller = Some (offset_of image t.header.tcb); slot = slot; capability = capability }
+
+-- a message or a signal, by a capability that may write, or an invocation
+pub data SendsBy (image : Image) (t : Thread) (at : Point) (state : PointState) (kind : SendCall) (slot : ℕ) (capability : Cap) (left : AfterCall) : Type 0 where
+  calls : (offset : ℕ) (r : Rights) (badge : ℕ) → kind ≡ Calling → capability ≡ Endpoint offset r badge → may_write r ≡ true → may_grant_reply r ≡ true
+      → left ≡ known_behind state (with_message state.ranges (single 0)) true message_registers → SendsBy image t at state kind slot capability left
+  sends : (offset : ℕ) (r : Rights) (badge : ℕ) → kind ≡ Sending → capability ≡ Endpoint offset r badge → may_write r ≡ true
+      → left ≡ changes_nothing state true → SendsBy image t at state kind slot capability left
+  tries : (offset : ℕ) (r : Rights) (badge : ℕ) → kind ≡ Trying → capability ≡ Endpoint offset r badge → may_write r ≡ true
+      → left ≡ changes_nothing state false → SendsBy image t at state kind slot capability left
+  signals : (offset : ℕ) (r : Rights) (badge : ℕ) → capability ≡ Notification offset r badge → may_write r ≡ true
+      → left ≡ (if answers kind then known_behind state (with_answer state.ranges) false (a0 ∷ a1 ∷ []) else changes_nothing state false)
+      → SendsBy image t at state kind slot capability left
+  invokes : IsInvoked capability → invocation image t at state (call_on image t slot capability) (answers kind) ≡ Ok left
+      → SendsBy image t at state kind slot capability left
+
+-- ---- calls that need nothing
+
+abbrev pub NeedsNothing : SystemCall → Type 0
+NeedsNothing (Sends kind) = ⊥
+NeedsNothing (Receives kind) = ⊥
+NeedsNothing RepliesAndReceives = ⊥
+NeedsNothing Replies = ⊤
+NeedsNothing Yields = ⊤
+NeedsNothing PutsCharacter = ⊤
