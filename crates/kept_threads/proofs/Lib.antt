@@ -1,0 +1,13 @@
+pub mod EachOf
+pub mod OwnKeys
+pub mod ThreadsGiven
+pub mod SlotsNear
+pub mod MappedOnce
+pub mod CodePages
+pub mod KeptCode
+pub mod StandingOn
+pub mod StartObjects
+pub mod OwnBlocks
+pub mod FrameRules
+pub mod FramePlaces
+pub mod StoredPlaces

@@ -1,0 +1,66 @@
+-- What a thread waits for is what its system call asks: a message that reaches it finds what its certificate notes behind the call.
+use Rattle.std.specs.Prelude.{ℕ, ◌≡◌, ◌⊎◌, ◌<◌, true, ⊤, Contains, Some, Ok, [], ◌∷◌}
+use Rattle.model.specs.declared.capabilities.Cap.{Cap}
+use Rattle.model.specs.Acceptance.Authority.{Holds}
+use Rattle.model.specs.Acceptance.CallRules.{AfterCall, badges, changes_nothing, known_behind, message_registers, with_message}
+use Rattle.model.specs.Acceptance.NotedStates.{PointState}
+use Rattle.model.specs.Acceptance.PointStates.{Known, address_of, call_at, noted}
+use Rattle.model.specs.Acceptance.Ranges.{single, with_range}
+use Rattle.model.specs.Acceptance.ThreadInvariants.{tcb_of}
+use Rattle.model.specs.Images.Described.{Numbered}
+use Rattle.model.specs.Images.Image.{Image}
+use Rattle.model.specs.Kernel.Kinds.{Names}
+use Rattle.model.specs.Kernel.Messages.{a0}
+use Rattle.model.specs.Kernel.Retype.{NewEndpoint, NewNotification}
+use Rattle.model.specs.Kernel.State.{State, Status, Inactive, Runnable, Blocked, AwaitsReply, AwaitsHandler, Sender, BySend, ByCall, EndpointObject, EndpointState, NotificationObject, NotificationState, ThreadObject, ThreadState}
+
+-- ---- what is known behind a call that waits
+
+-- a message of any sender
+abbrev pub behind_receive : PointState → AfterCall
+behind_receive state = known_behind state (with_message state.ranges badges) true message_registers
+
+-- any word of a notification
+abbrev pub behind_signal : PointState → AfterCall
+behind_signal state = known_behind state (with_range state.ranges a0 badges) true (a0 ∷ [])
+
+-- the answer of whom it called
+abbrev pub behind_reply : PointState → AfterCall
+behind_reply state = known_behind state (with_message state.ranges (single 0)) true message_registers
+
+-- ---- queues
+
+-- a capability to the endpoint or notification
+abbrev pub NamesQueue : ℕ → Cap → Type 0
+NamesQueue queue capability = Names NewEndpoint queue capability ⊎ Names NewNotification queue capability
+
+-- it sends, or calls with the right to get an answer
+pub data SendsSo (state : PointState) (left : AfterCall) (x : Sender) : Type 0 where
+  by_send : x.sent ≡ BySend → left ≡ changes_nothing state true → SendsSo state left x
+  by_call : x.sent ≡ ByCall → x.grant_reply ≡ true → left ≡ behind_reply state → SendsSo state left x
+
+pub record QueuesSo (image : Image) (t : Numbered) (s : State) (state : PointState) (left : AfterCall) (queue : ℕ) : Type 0 where
+  pub held : Holds image t.thread s (NamesQueue queue)
+  pub sends : (e : EndpointState) (x : Sender) → s.objects queue ≡ Some (EndpointObject e) → Contains e.senders x → x.thread ≡ tcb_of image t
+      → SendsSo state left x
+  pub receives : (e : EndpointState) → s.objects queue ≡ Some (EndpointObject e) → Contains e.receivers (tcb_of image t)
+      → left ≡ behind_receive state
+  pub waits : (n : NotificationState) → s.objects queue ≡ Some (NotificationObject n) → Contains n.waiters (tcb_of image t)
+      → left ≡ behind_signal state
+
+-- ---- threads
+
+-- no thread of the image is stopped or handled
+abbrev pub WaitsSo : Image → Numbered → State → PointState → AfterCall → Status → Type 0
+WaitsSo image t s state left Inactive = ⊥
+WaitsSo image t s state left Runnable = ⊤
+WaitsSo image t s state left (Blocked queue) = QueuesSo image t s state left queue
+WaitsSo image t s state left AwaitsReply = left ≡ behind_reply state
+WaitsSo image t s state left AwaitsHandler = ⊥
+
+-- whatever call the thread stands at, it waits for what that asks
+abbrev pub WaitsAsAsked : Image → Numbered → State → Type 0
+WaitsAsAsked image t s =
+    (own : ThreadState) (point : ℕ) (state : PointState) (left : AfterCall) → s.objects (tcb_of image t) ≡ Some (ThreadObject own)
+    → point < t.thread.header.words → own.registers.pc ≡ address_of t.thread point → noted image t point ≡ Known state
+    → call_at image t point state ≡ Some (Ok left) → WaitsSo image t s state left own.status
