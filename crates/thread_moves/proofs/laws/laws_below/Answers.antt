@@ -1,0 +1,28 @@
+-- Each law as it is told.
+use Rattle.thread_moves.proofs.ListedThreads.{is-listed}
+use Rattle.thread_moves.proofs.laws.laws_below.Goals as goal
+
+pub returns : goal.returns
+returns c = record {
+  stand_on = c.untouched_threads_stand_on.ensures;
+  own_blocks = c.threads_have_their_own_blocks.ensures;
+  is_long = c.points_note_all_ranges.ensures;
+  lead = c.calls_lead_behind.ensures;
+  ends = λ bytes image t accepted listed. (c.programs_have_their_places.ensures image t.thread accepted.formed (is-listed image t listed)).0;
+  keeps = c.events_keep_soundness.ensures;
+  replies = c.reply_keeps_soundness.ensures;
+  signals = c.signal_keeps_soundness.ensures;
+  holds = c.own_slots_hold_what_is_noted.ensures;
+  finds = c.lookups_find_what_is_noted.ensures;
+  allowed = c.allowed_calls_are_known.ensures.allowed;
+  number = c.allowed_calls_are_known.ensures.number;
+  named = c.allowed_calls_are_known.ensures.named;
+  message = λ registers ranges badge message fine small words. c.messages_fit_behind.ensures.message registers ranges fine.count fine.words fine.long fine.within badge message small words.words words.few words.info;
+  answer = λ registers ranges message fine words. c.messages_fit_behind.ensures.answer registers ranges fine.count fine.words fine.long fine.within message words.words words.few words.info;
+  signal = λ registers ranges word fine small. c.messages_fit_behind.ensures.signal registers ranges fine.count fine.words fine.long fine.within word small;
+  result = λ registers ranges fine. c.messages_fit_behind.ensures.result registers ranges fine.count fine.words fine.long fine.within;
+  nothing = λ registers ranges fine. c.messages_fit_behind.ensures.nothing registers ranges fine.count fine.words fine.long fine.within;
+  receives = c.rules_on_messages_are_known.ensures.receives;
+  sends = c.rules_on_messages_are_known.ensures.sends;
+  others = c.rules_on_messages_are_known.ensures.others;
+}

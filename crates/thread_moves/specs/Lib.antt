@@ -1,0 +1,4 @@
+pub mod Laws
+pub mod Moving
+pub mod Resting
+pub mod Steps
