@@ -1,0 +1,104 @@
+#!/usr/bin/env python3
+"""Builds the repository's libraries side by side, as the gate does: what stands above a library loads its statements alone.
+
+  tools/checks/libraries.py NAME ..     at the top of the repository: these crates and all below them (none named: all)
+  tools/checks/libraries.py rt WORD ..  in a crate's folder: the toolchain's command over libraries that were built so
+
+A library is built again only where its text, or that of one below it, has changed. Logs: /tmp/libraries/NAME.log.
+"""
+import hashlib
+import importlib.machinery
+import importlib.util
+import os
+import shutil
+import sys
+import time
+from concurrent.futures import FIRST_COMPLETED, ThreadPoolExecutor, wait
+
+KIT = os.path.dirname(os.path.dirname(os.path.realpath(shutil.which("rt"))))
+LOGS = "/tmp/libraries"
+sys.dont_write_bytecode = True
+
+
+def toolchain():
+    """The toolchain's own command as a module."""
+    loader = importlib.machinery.SourceFileLoader("toolchain_rt", f"{KIT}/bin/rt")
+    made = importlib.util.module_from_spec(importlib.util.spec_from_loader("toolchain_rt", loader))
+    sys.modules["toolchain_rt"] = made
+    loader.exec_module(made)
+    return made
+
+
+RT = toolchain()
+SUMS = {}
+
+
+def sum_of(crate):
+    """A sum of the crate's texts and of those below it, each read once."""
+    if crate.folder not in SUMS:
+        total = hashlib.sha256(repr(crate.said).encode())
+        with open(f"{KIT}/WHAT", "rb") as kit:
+            total.update(kit.read())
+        for file in RT.rtlib.files_of(crate.folder):
+            with open(file, "rb") as text:
+                total.update(repr((file.replace(crate.folder, ""), text.read())).encode())
+        total.update(repr([sum_of(it) for it in crate.deps]).encode())
+        SUMS[crate.folder] = f"statements {total.hexdigest()}"
+    return SUMS[crate.folder]
+
+
+def build(crate, flags, anew):
+    """Builds the crate's library with its statements alone, unless it stands already."""
+    if crate.is_built():
+        return 0
+    folder = os.path.dirname(crate.rlib)
+    shutil.rmtree(folder, ignore_errors=True)
+    os.makedirs(folder)
+    words = [*crate.words(flags, keeps=False), "--statements", "--empty-contracts", "-o", crate.rlib]
+    status = crate.call(RT.rtlib.RATTLE, "build", *words)
+    if status == 0:
+        with open(f"{folder}/stamp", "w", encoding="utf-8") as kept:
+            kept.write(sum_of(crate))
+    return status
+
+
+RT.rtlib.Crate.stamp = sum_of
+RT.rtlib.Crate.build_rlib = build
+
+
+def build_logged(crate, jobs):
+    began = time.time()
+    with open(f"{LOGS}/{crate.name}.log", "w", encoding="utf-8") as crate.out:
+        held = RT.rtlib.lock([crate])
+        status = crate.build_rlib(["--jobs", str(jobs)], False)
+        del held
+    print(f"{time.strftime('%H:%M:%S')} {crate.name} {'built' if status == 0 else 'FAILED'} {time.time() - began:.0f}s", flush=True)
+    return crate.name, status
+
+
+def build_all(names):
+    """Builds each library once those below it stand, first those with the most work behind them."""
+    crates = [it for it in RT.rtlib.crates_below(os.getcwd()) if not names or it.name in names]
+    left = list({it.name: it for crate in crates for it in [*crate.below(), crate] if it.makes_rlib()}.values())
+    behind = {it.name: sum(above.count(rb"\n") for above in left if it in above.below()) for it in left}
+    os.makedirs(LOGS, exist_ok=True)
+    RT.rtlib.guarded()
+    lanes, built, running = os.cpu_count() or 1, set(), {}
+    with ThreadPoolExecutor(lanes) as pool:
+        while left or running:
+            ready = sorted((it for it in left if built.issuperset(below.name for below in it.below())), key=lambda it: -behind[it.name])
+            for at, crate in enumerate(ready[: lanes - len(running)]):
+                jobs = max(1, (lanes - sum(running.values())) // (len(ready) - at))
+                left.remove(crate)
+                running[pool.submit(build_logged, crate, jobs)] = jobs
+            if not running:
+                break
+            for done in wait(running, return_when=FIRST_COMPLETED).done:
+                running.pop(done)
+                name, status = done.result()
+                built |= {name} if status == 0 else set()
+    return 1 if left else 0
+
+
+if __name__ == "__main__":
+    sys.exit(RT.main(sys.argv[2:]) if sys.argv[1:2] == ["rt"] else build_all(sys.argv[1:]))
