@@ -1,5 +1,7 @@
 -- Whole lines, but for instructions.
-use Rattle.std.specs.Prelude.{◌≡◌, ℕ, ◌-◌, ◌==◌, if◌then◌else◌, List, [], ◌∷◌, length, take, slice_index_or, Option, Some, None, Result, Ok}
+use Rattle.std.specs.Prelude.{◌≡◌, ℕ, ◌-◌, ◌==◌, if◌then◌else◌, List, [], ◌∷◌, length, take, slice_index_or, position, option_and_then, Option, Some, None, Result, Ok}
+use Rattle.std.specs.Option.{option_map_or}
+use Rattle.std.specs.Result.{result_ok}
 use Rattle.model.specs.declared.capabilities.Cap.{Cap}
 use Rattle.model.specs.Capabilities.CapabilityWords.{IsCapability, words_of}
 use Rattle.model.specs.Images.Listing.{Text}
@@ -39,6 +41,15 @@ line_for End words = ends words >>= λ last. Ok line.End
 -- what stands before the colon with which a label ends
 abbrev pub label_of : Text → Option Text
 label_of word = if slice_index_or word (length word - 1) 0 == 58 then Some (take (length word - 1) word) else None
+
+-- the text before a comment
+abbrev pub before_comment : Text → Text
+before_comment text = option_map_or (λ end. take end text) (position (λ byte. byte == 35) text) text
+
+-- the label with which a line begins, whatever stands behind it
+unfoldable pub label_declared : List Text → Option Text
+label_declared [] = None
+label_declared (word ∷ words) = option_and_then (λ name. result_ok (name_of name)) (label_of word)
 
 -- a line that is a label alone
 abbrev pub label_line : Option Text → List Text → Option (Result Line ℕ)

@@ -17,5 +17,5 @@ mod words;
 pub use faults::{RANGE, SYNTAX};
 pub use lines::{Code, Line, Parent, ThreadLine};
 pub use names::Name;
-pub use parsing::parse_line;
+pub use parsing::{declared_label, parse_line};
 pub use words::Words;

@@ -1,16 +1,17 @@
 //! Whole lines.
 
-ghost use Rattle.std.specs.Prelude.{◌≡◌, ◌==◌, Ok, Some, None, nat_lt, option_map, position};
+ghost use Rattle.std.specs.Prelude.{◌≡◌, ◌⊎◌, ◌==◌, IfErr, Ok, Some, None, nat_lt, option_map, position};
 ghost use Rattle.std.specs.List.{list_all};
 ghost use Rattle.asm_line.specs.Listed.{Lists};
 ghost use Rattle.asm_line.specs.declared.lines.Line.{Line};
-ghost use Rattle.asm_line.specs.Parsing.{IsKnown, label_line, label_of, line_for, line_of, plain_word_of};
+ghost use Rattle.asm_line.specs.Words.{words_of};
+ghost use Rattle.asm_line.specs.Parsing.{IsKnown, before_comment, label_declared, label_line, label_of, line_for, line_of, plain_word_of};
 
-use crate::faults::SYNTAX;
+use crate::faults::{RANGE, SYNTAX};
 use crate::instructions::instruction;
 use crate::keywords::{Keyword, is, keyword_in};
 use crate::lines::{Code, Line};
-use crate::names::name_in;
+use crate::names::{Name, name_in};
 use crate::numbers::word;
 use crate::words::Words;
 use crate::{sections, thread_lines};
@@ -124,7 +125,7 @@ fn is_ascii(text: &[u8]) -> bool
 
 /// The text before a comment.
 fn without_comment(text: &[u8]) -> &[u8]
-    ensures { position (λ byte. byte == 35) text.now ≡ None → result.now ≡ text.now }
+    ensures { result.now ≡ before_comment text.now }
 {
     match comment_start(text) {
         Some(end) => text.split_at(end).0,
@@ -139,11 +140,40 @@ fn without_comment(text: &[u8]) -> &[u8]
 /// `SYNTAX` if the line is none of the text form, and else `RANGE` if a number of it is out of the
 /// range that the line by itself can tell.
 pub fn parse_line(text: &str) -> Result<Line<'_>, u8>
-    ensures { (line : Line) → Lists line text.now → result ≡ Ok line }
+    ensures listed { (line : Line) → Lists line text.now → result ≡ Ok line }
+    ensures kind { IfErr result (λ kind. (kind ≡ 1) ⊎ (kind ≡ 4)) }
 {
     let bytes = text.as_bytes();
     if !is_ascii(bytes) {
         return Err(SYNTAX);
     }
-    line_in(Words::of(without_comment(bytes)))
+    told(line_in(Words::of(without_comment(bytes))))
+}
+
+/// The line, or its fault as one of the two.
+fn told(read: Result<Line<'_>, u8>) -> Result<Line<'_>, u8>
+    ensures line { (line : Line) → read.entry ≡ Ok line → result ≡ Ok line }
+    ensures kind { IfErr result (λ kind. (kind ≡ 1) ⊎ (kind ≡ 4)) }
+{
+    match read {
+        Ok(line) => Ok(line),
+        Err(kind) => Err(fault_in(kind)),
+    }
+}
+
+/// The kind of a fault: syntax, if it is none of the two.
+fn fault_in(kind: u8) -> u8
+    ensures { (result ≡ 1) ⊎ (result ≡ 4) }
+{
+    if kind == RANGE { RANGE } else { SYNTAX }
+}
+
+/// The label with which a line of an image's text begins, a name and a colon, whatever stands behind it: a line that is at fault
+/// declares its label too.
+#[tactic(auto, unfolding(crate::specs::Parsing::label_declared))]
+pub fn declared_label(text: &str) -> Option<Name<'_>>
+    ensures { result ≡ label_declared (words_of (before_comment text.now)) }
+{
+    let (word, _) = Words::of(without_comment(text.as_bytes())).first()?;
+    name_in(label_in(word)?).ok()
 }
