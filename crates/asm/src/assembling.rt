@@ -7,13 +7,14 @@ ghost use Rattle.model.specs.Images.Image.{whole_image};
 ghost use Rattle.model.specs.Images.Listing.{listing};
 ghost use Rattle.asm_line.specs.Listed.{Lists};
 ghost use Rattle.asm_line.specs.declared.lines.Line.{Line};
+ghost use Rattle.asm.specs.declared.faults.Fault.{Fault};
 ghost use Rattle.asm.specs.Outcomes.{Gives};
 ghost use Rattle.asm.specs.Reading.{IsInPlace, with_line};
 
 use crate::assembly::Assembly;
 use crate::faults::{Fault, SourceFault};
 use crate::labels::{Labels, labels_of};
-use asm_line::parse_line;
+use asm_line::{Line, parse_line};
 use image::Image;
 use std::alloc::Global;
 
@@ -28,6 +29,21 @@ fn add_text<'a>(
 {
     let line = parse_line(text)?;
     assembly.add(line, number, labels)
+}
+
+/// Whether a line begins a thread.
+fn begins_thread(text: &str) -> bool {
+    matches!(parse_line(text), Ok(Line::Thread(_)))
+}
+
+/// The fault of a line as it is told. A text that ends where a thread begins is at fault for that, whatever names stand there.
+fn told(fault: Fault, text: &str, is_last: bool) -> Fault
+    ensures { fault ≡ Fault.Memory → result ≡ Fault.Memory }
+{
+    match fault {
+        Fault::UnknownName | Fault::Range if is_last && begins_thread(text) => Fault::Syntax,
+        _ => fault,
+    }
 }
 
 /// The image that a text describes, line by line. A line ends with a line feed, or a carriage return
@@ -45,11 +61,12 @@ pub fn assemble(alloc: Global, text: &str) -> Result<Image, SourceFault>
 {
     let labels = labels_of(alloc, text)?;
     let mut assembly = Assembly::new(alloc);
+    let last = text.lines().count() as u64;
     let mut number = 0u64;
     'lines: for line in text.lines() {
         number = number.saturating_add(1);
         if let Err(fault) = add_text(&mut assembly, line, number, &labels) {
-            return Err(fault.at(number));
+            return Err(told(fault, line, number == last).at(number));
         }
     }
     match assembly.finish() {

@@ -10,7 +10,7 @@ ghost use Rattle.asm.specs.Labels.{closed, is_first_on, labels_in, no_labels, pl
 ghost use Rattle.asm.specs.Outcomes.{Gives};
 
 use crate::faults::{Fault, SourceFault};
-use asm_line::{Line, Name, parse_line};
+use asm_line::{Line, Name, declared_label, parse_line};
 use indexmap::IndexMap;
 use std::alloc::Global;
 use std::marker::Model;
@@ -130,6 +130,14 @@ impl<'a> Search<'a> {
         Ok(())
     }
 
+    /// Notes a label of the thread that is not at its end.
+    fn note(&mut self, name: &Name<'a>, line: u64) -> Result<(), Fault> {
+        match &mut self.open {
+            Some(labels) => labels.note(name, line),
+            None => Ok(()),
+        }
+    }
+
     fn add(&mut self, alloc: Global, line: Line<'a>, number: u64) -> Result<(), Fault>
         ensures { Gives result (λ _. self.new ≡ searched_line self.old number line.entry) }
     {
@@ -160,7 +168,7 @@ impl<'a> Search<'a> {
     }
 }
 
-/// Adds the labels on a line. One that is none of the text form is passed over.
+/// Adds the labels on a line, also where the line is at fault otherwise: the fault is told there, and not where the label is used.
 fn search_line<'a>(
     search: &mut Search<'a>,
     alloc: Global,
@@ -171,7 +179,10 @@ fn search_line<'a>(
 {
     match parse_line(text) {
         Ok(said) => search.add(alloc, said, number),
-        Err(_) => Ok(()),
+        Err(_) => match declared_label(text) {
+            Some(name) => search.note(&name, number),
+            None => Ok(()),
+        },
     }
 }
 

@@ -324,3 +324,51 @@ fn instructions_and_labels(rt: HostRuntime) -> Result<(), Fail> {
         ],
     )
 }
+
+#[test]
+fn a_label_on_a_faulty_line_counts(rt: HostRuntime) -> Result<(), Fail> {
+    are_at_fault(
+        &rt,
+        &[
+            (18, "start: addi x5 x0 4096", 4),
+            (18, "start: addi a0 x0 1", 1),
+            (18, "start: nop # caf\u{e9}", 1),
+            (21, "loop: nop", 1),
+            (25, "again: range x5 0 9", 1),
+        ],
+    )?;
+    let text = text_with(rt.alloc(), 18, "start:nop", "\n")?;
+    assert_eq!(rt; fault_of(rt.alloc(), text.as_str()), (16, 2), "no blank");
+    Ok(())
+}
+
+/// The first lines of the text, and another one behind them.
+fn text_up_to(alloc: Global, lines: usize, last: &str) -> Result<String, Fail> {
+    let mut text = String::new(alloc);
+    for line in SOLO.iter().take(lines) {
+        text.push_str(line)?;
+        text.push_str("\n")?;
+    }
+    text.push_str(last)?;
+    Ok(text)
+}
+
+#[test]
+fn texts_that_end_inside_a_thread(rt: HostRuntime) -> Result<(), Fail> {
+    let cases = [
+        ("thread main cs 28 vs 100 24 0 start 0x1000", (16, 1)),
+        ("thread main cs 28 vs 100 24 0 nowhere 0x1000\n", (16, 1)),
+        ("thread none cs 28 vs 100 24 0 nowhere 0x1000", (16, 1)),
+        ("thread main cs 28 vs 256 24 0 start 0x1000", (16, 4)),
+        ("thread main cs 28 vs 100 24 0 nowhere 0x1000\n\n", (16, 2)),
+        (
+            "thread main cs 28 vs 100 24 0 start 0x1000\nstart: ecall",
+            (17, 1),
+        ),
+    ];
+    for (last, fault) in cases {
+        let text = text_up_to(rt.alloc(), 15, last)?;
+        assert_eq!(rt; fault_of(rt.alloc(), text.as_str()), fault, "for {last}");
+    }
+    Ok(())
+}

@@ -35,7 +35,7 @@ returns-in-Err-clause-listed c listed is entered same =
     let labels : c.deref.result.now ≡ labels_in said = c.deref.ensures.value ∙ c.in_ok-labels.ensures.listed said zip in
     let now = c.lines.invariant said zip back.placed in
     let here = line-here _ c.next.new.self c.in-Some.line c.lines.number c.saturating_add-number.result c.lines.assembly (labels_in said) said now c.in-Some.ensures.steps c.saturating_add-number.ensures in
-    c.at.ensures.memory (c.in-Err.ensures here.said here.lists (subst (λ (ls : List FoundLabels). IsInPlace ls c.saturating_add-number.result c.lines.assembly here.said) (sym labels) here.placed))
+    c.at.ensures.memory (c.told.ensures (c.in-Err.ensures here.said here.lists (subst (λ (ls : List FoundLabels). IsInPlace ls c.saturating_add-number.result c.lines.assembly here.said) (sym labels) here.placed)))
 
 pub lines-preserved : goal.lines-preserved
 lines-preserved c said zip placed =
