@@ -1,7 +1,7 @@
 -- The rule on system calls is kept at each point with a state, so what is known behind the call is there.
 use Rattle.std.proofs.Common.{ℕ, ◌≡◌, ◌<◌, Bool, false, if◌then◌else◌, List, Option, Some, None, Result, Ok, Err, refl, ap, subst, arith}
-use Rattle.std.specs.Prelude.{Contains, flat_map}
-use Rattle.std.specs.List.{range_with_len}
+use Rattle.std.specs.Prelude.{Contains}
+use Rattle.thread_facts.proofs.RulesKept.{state-kept}
 use Rattle.call_points.specs.Known.{IsAllowed}
 use Rattle.model.specs.declared.instructions.Instr.{Instr}
 use Rattle.model.specs.declared.instructions.Instr.TheVariants.{Ecall}
@@ -9,26 +9,12 @@ use Rattle.model.specs.declared.refusals.Refusal.{Refusal}
 use Rattle.model.specs.Acceptance.Accepted.{AreKept, IsAccepted}
 use Rattle.model.specs.Acceptance.CallRules.{AfterCall, after_call}
 use Rattle.model.specs.Acceptance.NotedStates.{PointState, has_stray_slots}
-use Rattle.model.specs.Acceptance.PointRules.{call_rule, entry_rules, point_rules, program_rules, refused_call, rules_of_noted, rules_of_program, state_rules}
-use Rattle.model.specs.Acceptance.PointStates.{Noted, Known, call_at, instruction_at, noted, point_of}
+use Rattle.model.specs.Acceptance.PointRules.{call_rule, refused_call, state_rules}
+use Rattle.model.specs.Acceptance.PointStates.{Known, call_at, instruction_at, noted, point_of}
 use Rattle.model.specs.Acceptance.Rules.{Rule}
 use Rattle.model.specs.Images.Described.{Numbered, numbered_threads}
 use Rattle.model.specs.Images.Image.{Image}
 use Rattle.call_points.proofs.CallsBehind.{point-at}
-use Rattle.call_points.proofs.GivenThreads.{kept-among, kept-of, kept-right}
-
-program-kept : (image : Image) (t : Numbered) → AreKept (program_rules image) → Contains (numbered_threads image) t → AreKept (rules_of_program image t)
-unfolding program_rules
-program-kept image t h listed = kept-among (rules_of_program image) (numbered_threads image) t listed.0 h listed.1 listed.2
-
-state-kept : (image : Image) (t : Numbered) (point : ℕ) (state : PointState) → AreKept (program_rules image) → Contains (numbered_threads image) t
-    → point < t.thread.header.words → noted image t point ≡ Known state → AreKept (state_rules image t point state)
-unfolding rules_of_program point_rules
-state-kept image t point state h listed inside known =
-    let entry : List Rule = entry_rules image t (noted image t t.thread.header.entry) in
-    let each = kept-right entry (flat_map (point_rules image t) (range_with_len 0 t.thread.header.words)) (program-kept image t h listed) in
-    let here = kept-of (point_rules image t) 0 t.thread.header.words point each (omega arith) (omega (arith, inside)) in
-    subst (λ (n : Noted). AreKept (rules_of_noted image t point n)) known here
 
 call-kept : (image : Image) (t : Numbered) (point : ℕ) (state : PointState) → AreKept (state_rules image t point state)
     → call_rule image t point state (instruction_at t.thread point) ≡ None

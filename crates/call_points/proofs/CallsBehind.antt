@@ -1,6 +1,8 @@
 -- The one edge of a system call leads to the next point, and what it has to keep there is what is known behind the call.
 use Rattle.std.proofs.Common.{ℕ, ◌≡◌, ◌∙◌, ◌+◌, ◌*◌, ◌<◌, ◌<ℤ◌, ◌≤ℤ◌, pos, true, false, List, [], ◌∷◌, Option, Some, Ok, refl, sym, ap, subst, arith}
 use Rattle.std.specs.Prelude.{Contains}
+use Rattle.thread_facts.proofs.ListedThreads.{thread-entry}
+use Rattle.thread_facts.proofs.WiderRanges.{within-wider}
 use Rattle.call_points.specs.Behind.{LeadsBehind}
 use Rattle.falling.proofs.FallsOverCalls.{falls-over, stays-within}
 use Rattle.falling.proofs.NotedTerms.{noted-named}
@@ -24,8 +26,7 @@ use Rattle.thread_steps.proofs.PointForms.{known-form}
 use Rattle.thread_steps.proofs.SameSlots.{not-stray-formed, slots-back}
 use Rattle.thread_steps.specs.Formed.{AreFormed, HasForm}
 use Rattle.thread_steps.specs.Points.{IsPoint, LeadsOn}
-use Rattle.call_points.proofs.GivenThreads.{base-aligned, thread-entry}
-use Rattle.call_points.proofs.WiderRanges.{within-wider}
+use Rattle.call_points.proofs.GivenThreads.{base-aligned}
 
 edges-are : (image : Image) (t : Numbered) (point : ℕ) (state : PointState) (o : Option Instr) → o ≡ Some Ecall
     → edges_at image t point state o ≡ call_edges (address_of t.thread point) state.ranges (call_at image t point state)

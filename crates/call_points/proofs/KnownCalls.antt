@@ -29,12 +29,12 @@ use Rattle.model.specs.Machine.ProgramMemory.{RegisterFile, read}
 -- ---- results
 
 -- what comes before an Ok, and what makes the Ok of it
-record Passes {A B : Type 0} (m : Result A Refusal) (f : A → Result B Refusal) (end : B) : Type 0 where
-  value : A
-  is : m ≡ Ok value
-  goes : f value ≡ Ok end
+pub record Passes {A B : Type 0} (m : Result A Refusal) (f : A → Result B Refusal) (end : B) : Type 0 where
+  pub value : A
+  pub is : m ≡ Ok value
+  pub goes : f value ≡ Ok end
 
-passes : {A B : Type 0} (m : Result A Refusal) (f : A → Result B Refusal) (end : B) → (m >>= f) ≡ Ok end → Passes m f end
+pub passes : {A B : Type 0} (m : Result A Refusal) (f : A → Result B Refusal) (end : B) → (m >>= f) ≡ Ok end → Passes m f end
 passes (Ok x) f end h = record { value = x; is = refl; goes = h }
 passes {B = B} (Err refusal) f end h = absurd (let clash : ◌≡◌ {A = Result B Refusal} (Err refusal) (Ok end) = h in cc)
 

@@ -3,6 +3,5 @@ pub mod CallsBehind
 pub mod GivenThreads
 pub mod KnownCalls
 pub mod MessageRules
-pub mod WiderRanges
 pub mod WrittenMessages
 pub mod WrittenRegisters

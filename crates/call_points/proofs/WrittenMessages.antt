@@ -13,7 +13,8 @@ use Rattle.model.specs.Acceptance.Ranges.{full, single, with_range}
 use Rattle.model.specs.Acceptance.ThreadInvariants.{LieWithin}
 use Rattle.model.specs.Kernel.Messages.{Message, a0, a1, delivered, info_word, word_registers, write_words}
 use Rattle.model.specs.Machine.ProgramMemory.{RegisterFile, read, write}
-use Rattle.call_points.proofs.WrittenRegisters.{Fits, Inside, IsWritable, below-full, widened, writes-more, writes-none, wrote}
+use Rattle.ranges.specs.Inside.{LiesIn}
+use Rattle.call_points.proofs.WrittenRegisters.{Fits, IsWritable, below-full, widened, writes-more, writes-none, wrote}
 
 abbrev is_writable : Register → Bool
 is_writable x = nat_le 1 x.0 && nat_lt x.0 32
@@ -73,7 +74,7 @@ module _ (registers : RegisterFile) (ranges : List Range) (count : length regist
   start : Fits registers ranges
   start = record { count = count; small = words-small; long = long; within = within }
 
-  pub message-fits : (badge : ℕ) (out : Range) (message : Message) → badge < 2 ^ 32 → Inside badge out → All IsSmall message.words
+  pub message-fits : (badge : ℕ) (out : Range) (message : Message) → badge < 2 ^ 32 → LiesIn badge out → All IsSmall message.words
       → info_word message.label (length message.words) < 2 ^ 32
       → LieWithin (delivered registers badge message) (with_message ranges out) × WritesOnly registers (delivered registers badge message) message_registers
   message-fits badge out message low inside words info =

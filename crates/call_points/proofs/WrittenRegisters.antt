@@ -1,8 +1,8 @@
 -- A register that is written, or that may have any value from here on, and the ranges behind that.
-use Rattle.std.proofs.Common.{ℕ, ◌≡◌, ◌≢◌, ◌∙◌, ◌==◌, ◌-◌, ◌^◌, ◌<◌, ◌≤◌, Bool, true, false, if◌then◌else◌, inl, inr, List, ◌∷◌, length, get_or, refl, sym, ap, subst, arith}
+use Rattle.std.proofs.Common.{ℕ, ◌≡◌, ◌≢◌, ◌∙◌, ◌==◌, ◌-◌, ◌^◌, ◌<◌, ◌≤◌, Bool, false, if◌then◌else◌, inl, inr, List, ◌∷◌, length, get_or, refl, sym, ap, subst, arith}
 use Rattle.std.specs.Prelude.{slice_set}
 use Rattle.std.specs.List.{list_any}
-use Rattle.std.proofs.lemmas.Bool.{ne_eqb, or_parts}
+use Rattle.std.proofs.lemmas.Bool.{ne_eqb, or_parts, eqb-false}
 use Rattle.std.proofs.lemmas.Bool.Decides.{eqb_tells}
 use Rattle.std.proofs.lemmas.List.{get_or-set_same, get_or-set_other, length-set}
 use Rattle.falling.specs.Terms.{WritesOnly}
@@ -12,19 +12,11 @@ use Rattle.model.specs.Acceptance.Measures.{register_numbered}
 use Rattle.model.specs.Acceptance.Ranges.{full, range_of, single, with_range}
 use Rattle.model.specs.Acceptance.ThreadInvariants.{LieWithin}
 use Rattle.model.specs.Machine.ProgramMemory.{RegisterFile, read, write}
-
-abbrev pub Inside : ℕ → Range → Type 0
-Inside n r = (r.low ≤ n) × (n ≤ r.high)
+use Rattle.ranges.specs.Inside.{LiesIn}
 
 -- a register that can be written
 abbrev pub IsWritable : Register → Type 0
 IsWritable x = (1 ≤ x.0) × (x.0 < 32)
-
-differ : (a b : ℕ) → (a == b) ≡ false → a ≢ b
-differ a b is = elim (eqb_tells a b) [
-  | inl here ↦ absurd (let clash : true ≡ false = sym here.0 ∙ is in cc)
-  | inr other ↦ other.1
-]
 
 -- ---- what is read behind a write
 
@@ -32,7 +24,7 @@ other-read : (r : RegisterFile) (x : Register) (v k : ℕ) → IsWritable x → 
 other-read r x v k fits other =
     let after : RegisterFile = record r { words = slice_set r.words x.0 v } in
     let written : write r x v ≡ after = ap (λ (b : Bool). if b then r else after) (ne_eqb x.0 0 (λ none. omega (arith, none, fits.0))) in
-    let apart : k ≢ x.0 = λ same. differ x.0 k other (sym same) in
+    let apart : k ≢ x.0 = λ same. eqb-false x.0 k other (sym same) in
     ap (λ (s : RegisterFile). read s (register_numbered k)) written
     ∙ ap (λ (n : ℕ). if k == 0 then 0 else n) (get_or-set_other r.words x.0 k v 0 apart)
 
@@ -71,7 +63,7 @@ other-range ranges x out k fits other =
       | inl none ↦ ap (λ (b : Bool). if b then single 0 else get_or (slice_set ranges (x.0 - 1) out) (k - 1) full) none.0
           ∙ sym (ap (λ (b : Bool). if b then single 0 else get_or ranges (k - 1) full) none.0)
       | inr counted ↦
-          let apart : k - 1 ≢ x.0 - 1 = λ same. differ x.0 k other (omega (arith, same, counted.1, fits.0)) in
+          let apart : k - 1 ≢ x.0 - 1 = λ same. eqb-false x.0 k other (omega (arith, same, counted.1, fits.0)) in
           ap (λ (n : Range). if k == 0 then single 0 else n) (get_or-set_other ranges (x.0 - 1) (k - 1) out full apart)
     ]
 
@@ -89,21 +81,21 @@ pub record Fits (r : RegisterFile) (ranges : List Range) : Type 0 where
   pub within : LieWithin r ranges
 
 abbrev LiesAt : RegisterFile → List Range → ℕ → Type 0
-LiesAt r ranges k = Inside (read r (register_numbered k)) (range_of ranges (register_numbered k))
+LiesAt r ranges k = LiesIn (read r (register_numbered k)) (range_of ranges (register_numbered k))
 
 -- all but one register are as they were, and that one lies in its new range
 one-differs : (r s : RegisterFile) (ranges : List Range) (x : Register) (out : Range) → length ranges ≡ 31 → IsWritable x
-    → ((k : ℕ) → k < 32 → (x.0 == k) ≡ false → read s (register_numbered k) ≡ read r (register_numbered k)) → Inside (read s (register_numbered x.0)) out
+    → ((k : ℕ) → k < 32 → (x.0 == k) ≡ false → read s (register_numbered k) ≡ read r (register_numbered k)) → LiesIn (read s (register_numbered x.0)) out
     → LieWithin r ranges → LieWithin s (with_range ranges x out)
 one-differs r s ranges x out long fits same inside within k less = elim (eqb_tells x.0 k) [
   | inl here ↦ subst (λ (n : ℕ). LiesAt s (with_range ranges x out) n) here.1
-      (subst (λ (y : Range). Inside (read s (register_numbered x.0)) y) (sym (own-range ranges x out long fits)) inside)
+      (subst (λ (y : Range). LiesIn (read s (register_numbered x.0)) y) (sym (own-range ranges x out long fits)) inside)
   | inr other ↦
-      subst (λ (y : Range). Inside (read s (register_numbered k)) y) (sym (other-range ranges x out k fits other.0))
-      (subst (λ (n : ℕ). Inside n (range_of ranges (register_numbered k))) (sym (same k less other.0)) (within k less))
+      subst (λ (y : Range). LiesIn (read s (register_numbered k)) y) (sym (other-range ranges x out k fits other.0))
+      (subst (λ (n : ℕ). LiesIn n (range_of ranges (register_numbered k))) (sym (same k less other.0)) (within k less))
 ]
 
-pub below-full : (n : ℕ) → n < 2 ^ 32 → Inside n full
+pub below-full : (n : ℕ) → n < 2 ^ 32 → LiesIn n full
 below-full n small = (omega arith, omega (arith, small))
 
 -- a register may have any value from here on
@@ -116,7 +108,7 @@ widened r ranges x fits have = record {
 }
 
 -- a register is written with a value of a range
-pub wrote : (r : RegisterFile) (ranges : List Range) (x : Register) (v : ℕ) (out : Range) → IsWritable x → v < 2 ^ 32 → Inside v out → Fits r ranges
+pub wrote : (r : RegisterFile) (ranges : List Range) (x : Register) (v : ℕ) (out : Range) → IsWritable x → v < 2 ^ 32 → LiesIn v out → Fits r ranges
     → Fits (write r x v) (with_range ranges x out)
 wrote r ranges x v out fits small inside have = record {
   count = written-long r x v have.count fits;
@@ -126,7 +118,7 @@ wrote r ranges x v out fits small inside have = record {
   ];
   long = given-long ranges x out have.long fits;
   within = one-differs r (write r x v) ranges x out have.long fits (λ k less other. other-read r x v k fits other)
-      (subst (λ (n : ℕ). Inside n out) (sym (own-read r x v have.count fits)) inside) have.within;
+      (subst (λ (n : ℕ). LiesIn n out) (sym (own-read r x v have.count fits)) inside) have.within;
 }
 
 -- ---- which registers are written

@@ -1,19 +1,17 @@
 -- What the rules on receives, on Call, Send and NBSend, and on the calls that need nothing say of those that they allow.
-use Rattle.std.specs.Prelude.{ℕ, ◌≡◌, true, false, Bool, if◌then◌else◌, ⊤, Some, Ok, [], ◌∷◌}
+use Rattle.std.specs.Prelude.{ℕ, ◌≡◌, true, false, Bool, if◌then◌else◌, ⊤, Ok, [], ◌∷◌}
 use Rattle.model.specs.declared.capabilities.Cap.{Cap}
 use Rattle.model.specs.declared.capabilities.Cap.TheVariants.{Empty, Untyped, Endpoint, Notification, CNode, Frame, PageTable, Tcb, RootTable, InterruptControl, InterruptHandler}
 use Rattle.model.specs.declared.refusals.Point.{Point}
 use Rattle.model.specs.declared.rights.Rights.{Rights}
 use Rattle.model.specs.Acceptance.CallRules.{AfterCall, answers, badges, changes_nothing, invocation, known_behind, message_registers, with_answer, with_message}
-use Rattle.model.specs.Acceptance.NotedKernel.{noted_root}
 use Rattle.model.specs.Acceptance.NotedStates.{PointState}
 use Rattle.model.specs.Acceptance.Ranges.{single, with_range}
 use Rattle.model.specs.Capabilities.Rights.{may_grant_reply, may_read, may_write}
 use Rattle.model.specs.Images.Image.{Image, Thread}
-use Rattle.model.specs.Images.Places.{offset_of}
-use Rattle.model.specs.Kernel.Arguments.{Call}
 use Rattle.model.specs.Kernel.Messages.{a0, a1}
 use Rattle.model.specs.Kernel.Steps.{SendCall, Calling, Sending, Trying, SystemCall, Sends, Receives, RepliesAndReceives, Replies, Yields, PutsCharacter}
+use Rattle.typestate.specs.Calls.{call_on}
 
 -- ---- receives
 
@@ -39,10 +37,6 @@ IsInvoked (Tcb offset) = ⊤
 IsInvoked (RootTable offset) = ⊤
 IsInvoked InterruptControl = ⊤
 IsInvoked (InterruptHandler irq_line) = ⊤
-
--- the call of a thread on the capability in a slot
-abbrev pub call_on : Image → Thread → ℕ → Cap → Call
-call_on image t slot capability = record { root = noted_root image t; caller = Some (offset_of image t.header.tcb); slot = slot; capability = capability }
 
 -- a message or a signal, by a capability that may write, or an invocation
 pub data SendsBy (image : Image) (t : Thread) (at : Point) (state : PointState) (kind : SendCall) (slot : ℕ) (capability : Cap) (left : AfterCall) : Type 0 where

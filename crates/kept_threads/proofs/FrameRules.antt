@@ -1,13 +1,13 @@
 -- What the rules on a well-formed image say of each of its untypeds and mapped frames.
-use Rattle.std.proofs.Common.{ℕ, zero, suc, ◌≡◌, ◌+◌, ◌%◌, ◌^◌, Bool, true, false, List, [], ◌∷◌, ◌++◌, map, Some, None, refl, subst, arith}
+use Rattle.std.proofs.Common.{ℕ, zero, suc, ◌≡◌, ◌+◌, ◌%◌, ◌^◌, false, List, [], ◌∷◌, ◌++◌, map, Some, None, subst, arith}
 use Rattle.std.specs.Prelude.{flat_map, slice_get}
 use Rattle.std.specs.List.{enumerate_from, range_with_len}
 use Rattle.std.proofs.lemmas.Bool.{eqb-true, not-false, or_parts}
+use Rattle.thread_facts.proofs.RulesKept.{kept-right, kept-left, not-refused}
 use Rattle.booting.specs.Standing.{StandApart}
 use Rattle.fitting.specs.Fitting.{IsFitting}
 use Rattle.model.specs.declared.entries.FrameEntry.{FrameEntry}
 use Rattle.model.specs.declared.entries.UntypedEntry.{UntypedEntry}
-use Rattle.model.specs.declared.refusals.Refusal.{Refusal}
 use Rattle.model.specs.declared.refusals.Refusal.TheVariants.{BadMapping, BadObject, NoRoom, UntypedOverlap}
 use Rattle.model.specs.Acceptance.Accepted.{AreKept, IsWellFormed}
 use Rattle.model.specs.Acceptance.Rules.{Rule, refuse_if}
@@ -19,17 +19,6 @@ use Rattle.thread_steps.specs.Frames.{FrameIsKept, FramesAreKept}
 
 -- ---- parts of a list of rules
 
-rules-behind : (first rest : List Rule) → AreKept (first ++ rest) → AreKept rest
-rules-behind [] rest kept = kept
-rules-behind (rule ∷ first) rest kept = rules-behind first rest (λ k d less. kept (suc k) d (omega (arith, less)))
-
-rules-before : (first rest : List Rule) → AreKept (first ++ rest) → AreKept first
-rules-before [] rest kept = λ k d less. absurd (omega (arith, less))
-rules-before (rule ∷ first) rest kept = both-kept (kept 0 None (omega arith)) (rules-before first rest (λ k d less. kept (suc k) d (omega (arith, less)))) where
-  both-kept : rule ≡ None → AreKept first → AreKept (rule ∷ first)
-  both-kept one others zero d less = one
-  both-kept one others (suc k) d less = others k d (omega (arith, less))
-
 -- the rules of the entry at a place, which has the place's number
 rules-of : {A : Type 0} (f : ℕ × A → List Rule) (from : ℕ) (xs : List A) → AreKept (flat_map f (enumerate_from from xs)) → (k : ℕ) (x : A) → slice_get xs k ≡ Some x
     → AreKept (f (from + k, x))
@@ -37,10 +26,10 @@ rules-of f from [] kept k x at = absurd (let clash : None ≡ Some x = at in cc)
 rules-of f from (y ∷ ys) kept zero x at =
     let same : y ≡ x = cc in
     let first : from ≡ from + 0 = omega arith in
-    subst (λ n. AreKept (f (n, x))) first (subst (λ z. AreKept (f (from, z))) same (rules-before (f (from, y)) (flat_map f (enumerate_from (from + 1) ys)) kept))
+    subst (λ n. AreKept (f (n, x))) first (subst (λ z. AreKept (f (from, z))) same (kept-left (f (from, y)) (flat_map f (enumerate_from (from + 1) ys)) kept))
 rules-of f from (y ∷ ys) kept (suc k) x at =
     let next : from + 1 + k ≡ from + suc k = omega arith in
-    subst (λ n. AreKept (f (n, x))) next (rules-of f (from + 1) ys (rules-behind (f (from, y)) (flat_map f (enumerate_from (from + 1) ys)) kept) k x at)
+    subst (λ n. AreKept (f (n, x))) next (rules-of f (from + 1) ys (kept-right (f (from, y)) (flat_map f (enumerate_from (from + 1) ys)) kept) k x at)
 
 rule-of : {A : Type 0} (f : ℕ × A → Rule) (from : ℕ) (xs : List A) → AreKept (map f (enumerate_from from xs)) → (k : ℕ) (x : A) → slice_get xs k ≡ Some x
     → f (from + k, x) ≡ None
@@ -52,10 +41,6 @@ rule-of f from (y ∷ ys) kept zero x at =
 rule-of f from (y ∷ ys) kept (suc k) x at =
     let next : from + 1 + k ≡ from + suc k = omega arith in
     subst (λ n. f (n, x) ≡ None) next (rule-of f (from + 1) ys (λ k d less. kept (suc k) d (omega (arith, less))) k x at)
-
-not-refused : (b : Bool) (refusal : Refusal) → refuse_if b refusal ≡ None → b ≡ false
-not-refused false refusal h = refl
-not-refused true refusal h = absurd (let clash : ◌≡◌ {A = Rule} (Some refusal) None = h in cc)
 
 -- ---- untypeds
 
@@ -73,7 +58,7 @@ untyped-aligned image k u formed at =
     let untypeds = map (λ u. refuse_if (overlaps image u) (UntypedOverlap u.0)) (numbered image.untypeds) in
     let rooms = map (λ number. refuse_if (has_no_room image number) (NoRoom number)) (range_with_len 0 image.header.objects) in
     let few : List Rule = refuse_if (too_few_boot_slots image) (BadObject image.header.objects) ∷ [] in
-    let kept = rules-before untypeds rooms (rules-before (untypeds ++ rooms) few formed.objects) in
+    let kept = kept-left untypeds rooms (kept-left (untypeds ++ rooms) few formed.objects) in
     by-overlap image (0 + k) u (not-refused _ _ (rule-of (λ u. refuse_if (overlaps image u) (UntypedOverlap u.0)) 0 image.untypeds kept k u at))
 
 -- ---- frames
@@ -96,7 +81,7 @@ frame-kept image item f fitting formed at =
     let frames = flat_map (frame_rules image) (numbered image.frames) in
     let contents = map (content_rule image) (numbered image.contents) in
     let start : 0 + item ≡ item = omega arith in
-    let all = rules-behind tables frames (rules-before (tables ++ frames) contents formed.mappings) in
+    let all = kept-right tables frames (kept-left (tables ++ frames) contents formed.mappings) in
     let kept = subst (λ n. AreKept (frame_rules image (n, f))) start (rules-of (frame_rules image) 0 image.frames all item f at) in
     by-rules image item f fitting at (not-refused _ _ (kept 0 None (omega arith))) (not-refused _ _ (kept 1 None (omega arith)))
 

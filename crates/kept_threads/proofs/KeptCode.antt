@@ -1,4 +1,4 @@
--- A thread's program stays where the pages that it stands in stay mapped, and their bytes stay.
+-- A thread's program stays where the mappings of code under its root table stay, and the bytes of code.
 use Rattle.std.proofs.Common.{ℕ, zero, suc, ◌≡◌, ◌∙◌, ◌+◌, ◌*◌, ◌/◌, ◌^◌, ◌<◌, ◌≤◌, inl, List, [], ◌∷◌, map, Option, Some, None, Result, Ok, Err, refl, sym, ap, subst, arith}
 use Rattle.std.specs.Prelude.{slice_index}
 use Rattle.std.specs.Int.{byte_len, from_le_bytes}
@@ -7,6 +7,7 @@ use Rattle.model.specs.declared.instructions.Access.{Access}
 use Rattle.model.specs.declared.instructions.Access.TheVariants as accesses
 use Rattle.model.specs.declared.instructions.AccessSize.TheVariants.{Word}
 use Rattle.model.specs.declared.instructions.MemoryFault.{MemoryFault}
+use Rattle.model.specs.declared.rights.Rights.{Rights}
 use Rattle.model.specs.Acceptance.NotedStates.{NotedSlot}
 use Rattle.model.specs.Acceptance.PointStates.{address_of}
 use Rattle.model.specs.Acceptance.ThreadInvariants.{ImageMaps, IsCode, MapsAreNoted, ProgramStands, root_table_of, tcb_of}
@@ -18,8 +19,8 @@ use Rattle.model.specs.Kernel.AddressSpaces.{Maps, content_of, page_size, vspace
 use Rattle.model.specs.Kernel.Soundness.{IsSound}
 use Rattle.model.specs.Kernel.State.{State}
 use Rattle.model.specs.Machine.ProgramMemory.{Content, ◌>>=◌, loaded, named, next_address, places_from, width_of}
-use Rattle.kept_threads.specs.Untouched.{IsUntouched}
-use Rattle.kept_threads.proofs.CodePages.{IsProgramPage, NamesFrame, frame-named, names-frame, one-frame, program-page}
+use Rattle.thread_facts.specs.Untouched.{IsUntouched}
+use Rattle.thread_facts.proofs.CodePages.{IsProgramPage, NamesFrame, frame-named, names-frame, one-frame, program-page}
 use Rattle.kept_threads.proofs.ThreadsGiven.{IsGiven}
 
 -- ---- what is loaded
@@ -89,7 +90,9 @@ same-word c d access address word inside same is = by-places (places_from c acce
 -- ---- code
 
 module _ (image : Image) (t : Numbered) (s after : State) (slots : List NotedSlot) (facts : IsGiven image t) (sound : IsSound s) (sound_after : IsSound after)
-    (same : IsUntouched image t s after)
+    (mapped : (page frame : ℕ) (allowed : Rights) → IsCode image frame → Maps s.slots (root_table_of image t) page frame allowed
+    → Maps after.slots (root_table_of image t) page frame allowed)
+    (bytes : (frame place : ℕ) → IsCode image frame → frame ≤ place → place < frame + page_size → after.bytes place ≡ s.bytes place)
     (maps : MapsAreNoted image t s slots) (vspace : vspace_of s (tcb_of image t) ≡ Some (root_table_of image t))
     (vspace_after : vspace_of after (tcb_of image t) ≡ Some (root_table_of image t)) where
   -- the frame that stands at a page of the program is the image's
@@ -121,10 +124,10 @@ module _ (image : Image) (t : Numbered) (s after : State) (slots : List NotedSlo
       let one = one-frame s root page frame (offset_of image f.frame) allowed (mapping_rights frame_rights f.rights) sound (NamesFrame.maps n) (code-maps address p) in
       let code = is-code address frame p one in
       let place_is = NamesFrame.place_is n in
-      let maps_after = (same.maps page frame allowed).1 (NamesFrame.maps n) in
+      let maps_after = mapped page frame allowed code (NamesFrame.maps n) in
       let there = frame-named after (tcb_of image t) root accesses.Fetch address frame allowed sound_after vspace_after maps_after (NamesFrame.permits n) in (
         there ∙ ap (λ (n : ℕ). Some n) (sym place_is),
-        ap (λ (o : Option ℕ). option_map_or (λ byte. byte) o 0) (same.bytes frame place code (omega (arith, place_is)) (omega (arith, place_is))),
+        ap (λ (o : Option ℕ). option_map_or (λ byte. byte) o 0) (bytes frame place code (omega (arith, place_is)) (omega (arith, place_is))),
       )
 
   pub program-kept : ProgramStands image t s → ProgramStands image t after

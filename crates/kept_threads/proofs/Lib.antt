@@ -1,9 +1,6 @@
 pub mod EachOf
 pub mod OwnKeys
 pub mod ThreadsGiven
-pub mod SlotsNear
-pub mod MappedOnce
-pub mod CodePages
 pub mod KeptCode
 pub mod StandingOn
 pub mod StartObjects
@@ -11,3 +8,5 @@ pub mod OwnBlocks
 pub mod FrameRules
 pub mod FramePlaces
 pub mod StoredPlaces
+pub mod HangsKept
+pub mod StartHangs

@@ -3,6 +3,7 @@ use Rattle.std.proofs.Common.{ℕ, zero, suc, ◌≡◌, ◌∙◌, ◌==◌, �
 use Rattle.std.specs.Prelude.{Contains, slice_get}
 use Rattle.std.specs.List.{enumerate_from, list_any}
 use Rattle.std.proofs.lemmas.Bool.{cases_eq, cases_order, eq-eqb, or_parts}
+use Rattle.thread_facts.proofs.ListedThreads.{with_number, entry-from}
 use Rattle.booting.specs.Standing.{StandApart}
 use Rattle.fitting.specs.Fitting.{IsFitting}
 use Rattle.model.specs.Acceptance.Accepted.{IsWellFormed}
@@ -11,13 +12,9 @@ use Rattle.model.specs.Acceptance.ThreadRules.{is_in_use}
 use Rattle.model.specs.Images.Described.{Numbered, numbered_threads}
 use Rattle.model.specs.Images.Image.{Image, Thread}
 use Rattle.model.specs.Images.Places.{bits_of, object_at, offset_of}
-use Rattle.kept_threads.proofs.StartObjects.{entry-from}
 use Rattle.kept_threads.proofs.ThreadsGiven.{given}
 
 -- ---- entries and their numbers
-
-abbrev with_number : ℕ × Thread → Numbered
-with_number t = record { number = t.0; thread = t.1 }
 
 -- a thread has the number of its place
 number-from : (from : ℕ) (threads : List Thread) (k : ℕ) (t : Numbered) → k < length (map with_number (enumerate_from from threads))
@@ -67,7 +64,7 @@ one-object image i j apart less few same = elim (cases_eq i j) [
 
 -- ---- the whole
 
-one-thread : (t u : Numbered) → t.number ≡ u.number → t.thread ≡ u.thread → t ≡ u
+pub one-thread : (t u : Numbered) → t.number ≡ u.number → t.thread ≡ u.thread → t ≡ u
 one-thread t u number thread = λ i. record { number = number i; thread = thread i }
 
 pub own-blocks : (image : Image) (t u : Numbered) → IsFitting image → StandApart image → IsWellFormed image → Contains (numbered_threads image) t

@@ -24,7 +24,7 @@ within first count k less =
     (lt-ltb (first + k) (first + 0 + count) (omega (arith, less)))
 
 -- what a member passes, some element passes
-member-passes : (test : ℕ → Bool) (n : ℕ) (xs : List ℕ) → is_member n xs ≡ true → test n ≡ true → list_any test xs ≡ true
+pub member-passes : (test : ℕ → Bool) (n : ℕ) (xs : List ℕ) → is_member n xs ≡ true → test n ≡ true → list_any test xs ≡ true
 member-passes test n [] member passes = absurd (let clash : false ≡ true = member in cc)
 member-passes test n (x ∷ xs) member passes = elim (eqb_tells n x) [
   | inl here ↦ or_left (test x) (list_any test xs) (ap test (sym here.1) ∙ passes)
@@ -36,7 +36,7 @@ member-passes test n (x ∷ xs) member passes = elim (eqb_tells n x) [
 abbrev pub IsOwnKey : Image → Thread → SlotKey → Type 0
 IsOwnKey image t key = IsOwnSlot image t (slot_of_key image key)
 
-keys-own : (image : Image) (t : Thread) → Each (IsOwnKey image t) (keys_of image (reached image t))
+pub keys-own : (image : Image) (t : Thread) → Each (IsOwnKey image t) (keys_of image (reached image t))
 keys-own image t =
     let cnodes = reached image t in
     each-flat (IsOwnKey image t) (keys_of_cnode image) _
@@ -68,7 +68,7 @@ same-noted image t s after same =
     (each-so (IsOwnKey image t) (λ key. noted_of image cnodes after key ≡ noted_of image cnodes s key) (keys_of image cnodes) (λ key own.
     same-of image cnodes s after key (same (slot_of_key image key) own)) (keys-own image t))
 
-key-kept : (b : Bool) (noted slot : NotedSlot) → (if b then Some noted else None) ≡ Some slot → noted.key ≡ slot.key
+pub key-kept : (b : Bool) (noted slot : NotedSlot) → (if b then Some noted else None) ≡ Some slot → noted.key ≡ slot.key
 key-kept true noted slot is = ap (λ (o : Option NotedSlot). option_map_or (λ n. n.key) o noted.key) is
 key-kept false noted slot is = absurd (let clash : ◌≡◌ {A = Option NotedSlot} None (Some slot) = is in cc)
 

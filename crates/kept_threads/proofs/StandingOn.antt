@@ -15,7 +15,7 @@ use Rattle.model.specs.Images.Image.{Image}
 use Rattle.model.specs.Kernel.AddressSpaces.{vspace_of}
 use Rattle.model.specs.Kernel.Soundness.{IsSound}
 use Rattle.model.specs.Kernel.State.{State, ThreadState, cspace_slot, vspace_slot}
-use Rattle.kept_threads.specs.Untouched.{IsUntouched}
+use Rattle.thread_facts.specs.Untouched.{IsUntouched}
 use Rattle.kept_threads.proofs.EachOf.{each-contained}
 use Rattle.kept_threads.proofs.KeptCode.{program-kept}
 use Rattle.kept_threads.proofs.OwnKeys.{IsOwnKey, noted-own, same-noted}
@@ -57,7 +57,7 @@ module _ (image : Image) (t : Numbered) (s after : State) (facts : IsGiven image
             let found : Contains (noted_after image t.thread s.slots) slot = subst (λ (all : List NotedSlot). Contains all slot) (sym stands.slots) there in
             let own = each-contained (λ (n : NotedSlot). IsOwnKey image t.thread n.key) (noted_after image t.thread s.slots) slot (noted-own image t.thread s.slots) found in
             parent-kept s after (slot_of_key image slot.key) same.boot_radix (same.slots (slot_of_key image slot.key) own) (stands.parents slot there none);
-        program = program-kept image t s after known.slots facts sound sound_after same maps vspace vspace_after stands.program;
+        program = program-kept image t s after known.slots facts sound sound_after (λ page frame allowed code. (same.maps page frame allowed).1) same.bytes maps vspace vspace_after stands.program;
         maps = maps-kept known.slots maps;
         code = subst (λ (all : List NotedSlot). NamesNoCode image all) (sym slots) stands.code;
         cspace = same-capability s.slots after.slots (cspace_slot (tcb_of image t)) same.cspace ∙ stands.cspace;

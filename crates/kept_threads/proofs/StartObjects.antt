@@ -1,15 +1,17 @@
 -- The thread objects of the described state: those of the image's threads run, and all others are new.
-use Rattle.std.proofs.Common.{ℕ, zero, suc, ◌≡◌, ◌∙◌, ◌==◌, ◌+◌, ◌<◌, ◌⊎◌, inl, inr, Bool, true, false, if◌then◌else◌, List, [], ◌∷◌, map, length, get_or, find, Option, Some, None, refl, sym, ap, subst, arith}
+use Rattle.std.proofs.Common.{ℕ, zero, suc, ◌≡◌, ◌∙◌, ◌==◌, ◌+◌, ◌⊎◌, inl, inr, Bool, true, false, if◌then◌else◌, List, [], ◌∷◌, map, find, Option, Some, None, refl, sym, ap, subst, arith}
 use Rattle.std.specs.Prelude.{Contains, option_and_then, slice_get}
 use Rattle.std.specs.Option.{option_map_or}
 use Rattle.std.specs.List.{enumerate_from, range_with_len}
 use Rattle.std.proofs.lemmas.Bool.{eqb-true}
-use Rattle.model.specs.Images.Described.{Numbered, described, described_object, first_some, listed_thread, object_there}
+use Rattle.model.specs.Images.Described.{described, described_object, first_some, listed_thread, object_there}
 use Rattle.model.specs.Images.Image.{Image, Thread}
 use Rattle.model.specs.Images.Places.{offset_of, type_at}
 use Rattle.model.specs.Kernel.Retype.{NewObject, NewUntyped, NewThread, NewEndpoint, NewNotification, NewCNode, NewFrame, NewPageTable, NewRootTable, object}
 use Rattle.model.specs.Kernel.State.{Object, Status, Inactive, Runnable, ThreadObject, ThreadState, as_thread}
-use Rattle.kept_threads.specs.Standing.{IsControlBlock}
+use Rattle.thread_facts.specs.Standing.{IsControlBlock}
+use Rattle.thread_facts.proofs.ListedThreads.{with_number}
+use Rattle.thread_facts.proofs.CodePages.{find-entry}
 
 -- ---- what is found
 
@@ -20,9 +22,6 @@ some-there f x from (suc count) is = elim (f from) as (λ o. f from ≡ o → fi
   | None ↦ λ _ later. some-there f x (from + 1) count later
   | Some y ↦ λ here same. (from, here ∙ same)
 ] refl is
-
-abbrev with_number : ℕ × Thread → Numbered
-with_number t = record { number = t.0; thread = t.1 }
 
 -- a listed thread has a number
 listed-from : (from : ℕ) (threads : List Thread) (k : ℕ) (t : Thread) → slice_get threads k ≡ Some t
@@ -36,21 +35,6 @@ listed-from from (u ∷ us) (suc k) t at =
     let there = later.1 in
     let inside = there.1 in
     (later.0, (suc there.0, omega (arith, inside), there.2))
-
--- a thread that the image lists has a place in its list
-pub entry-from : (from : ℕ) (threads : List Thread) (k : ℕ) (t : Numbered) → k < length (map with_number (enumerate_from from threads))
-    → get_or (map with_number (enumerate_from from threads)) k t ≡ t
-    → slice_get threads k ≡ Some t.thread
-entry-from from [] k t inside is = absurd (omega (arith, inside))
-entry-from from (u ∷ us) zero t inside is = ap (λ (v : Numbered). Some v.thread) is
-entry-from from (u ∷ us) (suc k) t inside is = entry-from (from + 1) us k t (omega (arith, inside)) is
-
-find-entry : (test : Thread → Bool) (xs : List Thread) (x : Thread) → find test xs ≡ Some x → (k : ℕ) × (slice_get xs k ≡ Some x) × (test x ≡ true)
-find-entry test [] x is = absurd (let clash : None ≡ Some x = is in cc)
-find-entry test (y ∷ ys) x is = elim (test y) as (λ b. test y ≡ b → (if b then Some y else find test ys) ≡ Some x → (k : ℕ) × (slice_get (y ∷ ys) k ≡ Some x) × (test x ≡ true)) [
-  | true ↦ λ passes here. let same : y ≡ x = cc in (0, here, ap test (sym same) ∙ passes)
-  | false ↦ λ _ later. let there = find-entry test ys x later in (suc there.0, there.1, there.2)
-] refl is
 
 -- ---- what threads do
 

@@ -22,8 +22,8 @@ use Rattle.model.specs.Kernel.Messages.{with_registers}
 use Rattle.model.specs.Kernel.Soundness.{IsSound}
 use Rattle.model.specs.Kernel.State.{State}
 use Rattle.model.specs.Machine.ProgramMemory.{Content, RegisterFile}
-use Rattle.kept_threads.specs.Untouched.{IsUntouched}
-use Rattle.kept_threads.proofs.CodePages.{NamesFrame, names-frame}
+use Rattle.thread_facts.specs.Untouched.{IsUntouched}
+use Rattle.thread_facts.proofs.CodePages.{implied, NamesFrame, names-frame}
 use Rattle.thread_steps.specs.Frames.{FrameIsKept, FramesAreKept}
 
 -- ---- code is mapped once, and without write
@@ -40,10 +40,6 @@ not-writes (suc (suc (suc (suc (suc zero))))) fits is most code writes = let no 
 not-writes (suc (suc (suc (suc (suc (suc zero)))))) fits is most code writes = let no : false ≡ true = writes in absurd cc
 not-writes (suc (suc (suc (suc (suc (suc (suc zero))))))) fits is most code writes = let no : true ≡ false = most in absurd cc
 not-writes (suc (suc (suc (suc (suc (suc (suc (suc bits)))))))) fits is most code writes = absurd (omega (arith, fits))
-
-implied : (a b : Bool) → (a && b) ≡ false → a ≡ true → b ≡ false
-implied true b none is = none
-implied false b none is = absurd (let clash : false ≡ true = is in cc)
 
 -- no other entry maps the frame
 not-twice : (from i : ℕ) (frames : List FrameEntry) (j frame : ℕ) (g : FrameEntry) → list_any (λ x. not (x.0 == i) && ((x.1).frame == frame)) (enumerate_from from frames) ≡ false

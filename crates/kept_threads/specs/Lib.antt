@@ -1,3 +1,1 @@
-pub mod Standing
-pub mod Untouched
-pub mod Waiting
+pub mod Laws

@@ -1,12 +1,6 @@
 //! What is fixed for the threads of an accepted image.
 
-ghost use Rattle.std.specs.Prelude.{ℕ, ◌≡◌, Contains, List, length};
-ghost use Rattle.model.specs.Acceptance.Accepted.{IsAccepted};
-ghost use Rattle.model.specs.Acceptance.NotedStates.{PointState};
-ghost use Rattle.model.specs.Acceptance.PointStates.{Known, noted};
-ghost use Rattle.model.specs.Acceptance.ThreadInvariants.{tcb_of};
-ghost use Rattle.model.specs.Images.Described.{Numbered, numbered_threads};
-ghost use Rattle.model.specs.Images.Image.{Image};
+ghost use Rattle.kept_threads.specs.Laws.{HaveOwnBlocks, IsLong};
 
 use booting::objects_stand_inside_their_untypeds;
 use fitting::images_that_fit_keep_their_limits;
@@ -14,8 +8,7 @@ use thread_steps::noted_points_have_their_form;
 
 /// Threads of an accepted image with one control block are one thread.
 pub fn threads_have_their_own_blocks()
-    ensures { (bytes : List ℕ) (image : Image) (t u : Numbered) → IsAccepted bytes image → Contains (numbered_threads image) t
-        → Contains (numbered_threads image) u → tcb_of image t ≡ tcb_of image u → t ≡ u }
+    ensures { HaveOwnBlocks }
 {
     images_that_fit_keep_their_limits();
     objects_stand_inside_their_untypeds();
@@ -23,8 +16,7 @@ pub fn threads_have_their_own_blocks()
 
 /// What a thread's certificate notes of a point has a range for each register but register 0.
 pub fn points_note_all_ranges()
-    ensures { (bytes : List ℕ) (image : Image) (t : Numbered) (point : ℕ) (state : PointState) → IsAccepted bytes image
-        → Contains (numbered_threads image) t → noted image t point ≡ Known state → length state.ranges ≡ 31 }
+    ensures { IsLong }
 {
     images_that_fit_keep_their_limits();
     noted_points_have_their_form();

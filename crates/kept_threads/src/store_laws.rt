@@ -1,7 +1,7 @@
 //! What a thread stores touches no thread.
 
 ghost use Rattle.std.specs.Prelude.{ℕ, ◌≡◌, ◌≢◌, Contains, List, Some};
-ghost use Rattle.kept_threads.specs.Untouched.{IsUntouched};
+ghost use Rattle.thread_facts.specs.Untouched.{IsUntouched};
 ghost use Rattle.model.specs.declared.instructions.Access.TheVariants.{Store};
 ghost use Rattle.model.specs.Acceptance.Accepted.{IsAccepted};
 ghost use Rattle.model.specs.Acceptance.NotedStates.{PointState};

@@ -1,7 +1,6 @@
 pub mod ThreadKeys
 pub mod NotedAfter
 pub mod OwnSlots
-pub mod ListedThreads
 pub mod RootCNode
 pub mod TwoLookups
 pub mod NotedLookups

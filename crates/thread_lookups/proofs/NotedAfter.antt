@@ -3,13 +3,15 @@ use Rattle.std.proofs.Common.{ℕ, ◌≡◌, ◌∙◌, ◌^◌, ◌<◌, ◌||
 use Rattle.std.specs.List.{cons_option, filter_map}
 use Rattle.std.proofs.lemmas.Bool.{eq-eqb, eqb-true}
 use Rattle.std.proofs.lemmas.Option.{none-some, same_Some}
+use Rattle.thread_facts.proofs.NotedKeys.{same-low-key}
 use Rattle.model.specs.Acceptance.NotedKernel.{key_of, keys_of, noted_after, noted_of, slot_of_key}
 use Rattle.model.specs.Acceptance.NotedStates.{NotedSlot, SlotKey, is_same_key, number_of, slot_at}
 use Rattle.model.specs.Acceptance.ThreadRules.{reached}
 use Rattle.model.specs.Capabilities.Slots.{Slots, capability_at, is_full, parent_at}
 use Rattle.model.specs.Images.Image.{Image, Thread}
 use Rattle.typestate.specs.Spaces.{StandsApart}
-use Rattle.thread_lookups.proofs.ThreadKeys.{AreLow, HasKey, is_among, key-among, key-low, keys-low, same-low-key}
+use Rattle.typestate.proofs.NamedKeys.{is_among}
+use Rattle.thread_lookups.proofs.ThreadKeys.{AreLow, HasKey, key-among, key-low, keys-low}
 
 -- ---- a look-up among what a function notes at keys
 

@@ -15,6 +15,7 @@ use Rattle.model.specs.Acceptance.NotedStates.{NotedSlot, PointState, SlotKey, h
 use Rattle.model.specs.Acceptance.ThreadRules.{reached}
 use Rattle.model.specs.Acceptance.WellFormed.{radix_of}
 use Rattle.model.specs.Capabilities.CapabilityFields.{is_capability}
+use Rattle.model.specs.Capabilities.Lookup.{lookup}
 use Rattle.model.specs.Capabilities.Slots.{Slots, capability_at, is_within}
 use Rattle.model.specs.Images.Described.{Numbered, numbered_threads}
 use Rattle.model.specs.Images.Image.{Image, Thread}
@@ -25,7 +26,7 @@ use Rattle.thread_lookups.specs.Found.{FindsNoted, slots_noted}
 use Rattle.thread_lookups.proofs.OwnSlots.{capability_noted, capability-noted, own-same}
 use Rattle.thread_lookups.proofs.RootCNode.{root-own}
 use Rattle.thread_lookups.proofs.ThreadKeys.{key-found, or-second}
-use Rattle.thread_lookups.proofs.TwoLookups.{HoldsSame, found-own, goes-same}
+use Rattle.thread_lookups.proofs.TwoLookups.{GoesSame, HoldsSame, found-own, goes-same}
 
 -- ---- the slots of an own CNode are own slots
 
@@ -53,7 +54,7 @@ any-passes one more passes (x ∷ rest) some = elim (one x) as (λ b. one x ≡ 
   | false ↦ λ _ later. or-second (more x) (list_any more rest) (any-passes one more passes rest later)
 ] refl some
 
-slot-own : (image : Image) (t : Thread) (offset radix index : ℕ) → is_own_cnode image (reached image t) offset radix ≡ true → index < 2 ^ radix
+pub slot-own : (image : Image) (t : Thread) (offset radix index : ℕ) → is_own_cnode image (reached image t) offset radix ≡ true → index < 2 ^ radix
     → IsOwnSlot image t (offset / 16 + index)
 slot-own image t offset radix index own less =
     any-passes (λ c. (offset_of image c == offset) && option_map_or (λ own. own == radix) (radix_of (type_at image c)) false) (stands_in image (offset / 16 + index))
@@ -61,7 +62,7 @@ slot-own image t offset radix index own less =
 
 -- ---- what is noted leads to no other CNode
 
-passes-not : (test : NotedSlot → Bool) (slots : List NotedSlot) (key : SlotKey) (s : NotedSlot) → list_any test slots ≡ false → slot_at slots key ≡ Some s → test s ≡ false
+pub passes-not : (test : NotedSlot → Bool) (slots : List NotedSlot) (key : SlotKey) (s : NotedSlot) → list_any test slots ≡ false → slot_at slots key ≡ Some s → test s ≡ false
 passes-not test [] key s none found = absurd (none-some s found)
 passes-not test (r ∷ rest) key s none found =
     let parts = or_parts (test r) (list_any test rest) none in
@@ -70,7 +71,7 @@ passes-not test (r ∷ rest) key s none found =
       | false ↦ λ later. passes-not test rest key s parts.1 later
     ] found
 
-home-inside : (image : Image) (t : Thread) (c : Cap) → is_foreign image t (reached image t) c ≡ false → is_among (is_own_cnode image (reached image t)) c ≡ true
+pub home-inside : (image : Image) (t : Thread) (c : Cap) → is_foreign image t (reached image t) c ≡ false → is_among (is_own_cnode image (reached image t)) c ≡ true
 home-inside image t Empty is = refl
 home-inside image t (Untyped _ _ _) is = refl
 home-inside image t (Endpoint _ _ _) is = refl
@@ -131,9 +132,14 @@ module _ (image : Image) (t : Numbered) (stand : StandsApart image t.thread) (s 
             ∙ noted-inside image t.thread state.slots of.key (none-stray image t.thread point state none);
       }
 
+  -- a lookup that begins at one of the thread's CNodes
+  pub goes-noted : (root : Cap) (address depth : ℕ) → is_among own_cnode root ≡ true
+      → GoesSame (IsOwnSlot image t.thread) (lookup s.slots root address depth) (lookup noted root address depth)
+  goes-noted root address depth inside = goes-same s.slots noted own_cnode (IsOwnSlot image t.thread) holds-same address (suc depth) root depth inside
+
   pub finds-noted : IsWellFormed image → Contains (numbered_threads image) t → (address depth : ℕ) → FindsNoted image t s state.slots address depth
   finds-noted formed listed address depth =
-      let goes = goes-same s.slots noted own_cnode (IsOwnSlot image t.thread) holds-same address (suc depth) (noted_root image t.thread) depth (root-own image t formed listed) in
+      let goes = goes-noted (noted_root image t.thread) address depth (root-own image t formed listed) in
       record {
         same = goes.result;
         own = λ found is. found-own (IsOwnSlot image t.thread) _ found goes.finds is;

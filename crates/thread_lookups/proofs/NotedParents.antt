@@ -43,7 +43,7 @@ place-of image cnodes slot key is =
 
 -- ---- what is found is in the list
 
-found-there : (slots : List NotedSlot) (key : SlotKey) (s : NotedSlot) → slot_at slots key ≡ Some s → Contains slots s
+pub found-there : (slots : List NotedSlot) (key : SlotKey) (s : NotedSlot) → slot_at slots key ≡ Some s → Contains slots s
 found-there [] key s found = absurd (none-some s found)
 found-there (r ∷ rest) key s found = elim (is_same_key r.key key) as (λ b. (if b then Some r else slot_at rest key) ≡ Some s → Contains (r ∷ rest) s) [
   | true ↦ λ here. (0, omega arith, same_Some r s here)

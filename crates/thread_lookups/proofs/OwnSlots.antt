@@ -1,9 +1,8 @@
 -- Each own slot holds the noted capability, where what is noted is what its slots hold.
 use Rattle.std.proofs.Common.{ℕ, ◌≡◌, ◌∙◌, true, false, not, if◌then◌else◌, Option, Some, None, option_and_then, List, refl, sym, ap}
 use Rattle.std.specs.Option.{option_map_or}
-use Rattle.std.proofs.lemmas.Bool.{false≢true}
 use Rattle.model.specs.declared.capabilities.Cap.{Cap}
-use Rattle.model.specs.declared.capabilities.Cap.TheVariants.{Empty, Untyped, Endpoint, Notification, CNode, Frame, PageTable, Tcb, RootTable, InterruptControl, InterruptHandler}
+use Rattle.model.specs.declared.capabilities.Cap.TheVariants.{Empty}
 use Rattle.model.specs.declared.slot_entries.Entry.{Entry}
 use Rattle.model.specs.Acceptance.Authority.{IsOwnSlot}
 use Rattle.model.specs.Acceptance.NotedKernel.{kernel_entry, key_of, noted_after, noted_entry, noted_kernel}
@@ -12,23 +11,11 @@ use Rattle.model.specs.Acceptance.ThreadRules.{reached}
 use Rattle.model.specs.Capabilities.Slots.{Slots, capability_at, empty_entry, is_empty, parent_at}
 use Rattle.model.specs.Images.Described.{Numbered, described}
 use Rattle.model.specs.Images.Image.{Image}
+use Rattle.removals.proofs.SameFull.{empty-is}
 use Rattle.typestate.specs.Spaces.{StandsApart}
 use Rattle.thread_lookups.specs.Found.{slots_noted}
 use Rattle.thread_lookups.proofs.NotedAfter.{noted-at}
 use Rattle.thread_lookups.proofs.ThreadKeys.{HasKey, key-found}
-
-empty-is : (c : Cap) → is_empty c ≡ true → c ≡ Empty
-empty-is Empty is = refl
-empty-is (Untyped _ _ _) is = absurd (false≢true is)
-empty-is (Endpoint _ _ _) is = absurd (false≢true is)
-empty-is (Notification _ _ _) is = absurd (false≢true is)
-empty-is (CNode _ _ _) is = absurd (false≢true is)
-empty-is (Frame _ _ _) is = absurd (false≢true is)
-empty-is (PageTable _ _) is = absurd (false≢true is)
-empty-is (Tcb _) is = absurd (false≢true is)
-empty-is (RootTable _) is = absurd (false≢true is)
-empty-is InterruptControl is = absurd (false≢true is)
-empty-is (InterruptHandler _) is = absurd (false≢true is)
 
 -- the capability of a noted slot; an empty slot is not noted
 abbrev pub capability_noted : Option NotedSlot → Cap

@@ -1,21 +1,18 @@
 -- The root of the capability space of a thread of a well-formed image is one of the thread's CNodes.
-use Rattle.std.proofs.Common.{ℕ, zero, suc, ◌≡◌, ◌∙◌, ◌==◌, ◌/◌, ◌%◌, ◌<◌, ◌&&◌, ◌||◌, Bool, true, false, not, nat_eq, nat_le, nat_lt, if◌then◌else◌, Option, Some, None, List, [], ◌∷◌, ◌++◌, length, get_or, refl, sym, ap, subst, arith}
-use Rattle.std.specs.Prelude.{Contains, flat_map, fold}
+use Rattle.std.proofs.Common.{ℕ, zero, suc, ◌≡◌, ◌∙◌, ◌==◌, ◌/◌, ◌%◌, ◌&&◌, ◌||◌, Bool, true, false, not, nat_eq, nat_le, nat_lt, if◌then◌else◌, Option, Some, None, List, [], ◌∷◌, ◌++◌, length, refl, sym, ap}
+use Rattle.std.specs.Prelude.{Contains, fold}
 use Rattle.std.specs.Option.{option_map_or}
 use Rattle.std.specs.List.{find, list_all, list_any}
 use Rattle.std.proofs.lemmas.Bool.{eq-eqb, eqb-true, false≢true, not-false, or_parts}
-use Rattle.std.proofs.lemmas.Option.{none-some}
+use Rattle.thread_facts.proofs.RulesKept.{not-bad}
 use Rattle.model.specs.declared.capabilities.Cap.{Cap}
 use Rattle.model.specs.declared.capabilities.Cap.TheVariants.{Empty, CNode}
 use Rattle.model.specs.declared.entries.CapabilityEntry.{CapabilityEntry}
 use Rattle.model.specs.declared.entries.TableEntry.{TableEntry}
-use Rattle.model.specs.declared.refusals.Refusal.{Refusal}
-use Rattle.model.specs.declared.refusals.Refusal.TheVariants.{BadThread}
-use Rattle.model.specs.Acceptance.Accepted.{AreKept, IsWellFormed}
+use Rattle.model.specs.Acceptance.Accepted.{IsWellFormed}
 use Rattle.model.specs.Acceptance.NotedKernel.{noted_root}
 use Rattle.model.specs.Acceptance.NotedStates.{is_own_cnode}
-use Rattle.model.specs.Acceptance.Rules.{Rule, refuse_if}
-use Rattle.model.specs.Acceptance.ThreadRules.{has_guard, is_bad, is_cnode_source, is_code, is_in_use, is_member, program_end, reached, reached_within, rules_of_thread, thread_rules, with_named}
+use Rattle.model.specs.Acceptance.ThreadRules.{has_guard, is_bad, is_cnode_source, is_code, is_in_use, is_member, program_end, reached, reached_within, with_named}
 use Rattle.model.specs.Acceptance.WellFormed.{is_root_type, is_thread_type, radix_of}
 use Rattle.model.specs.Capabilities.CapabilityKinds.{is_guard_word, with_payload, with_table_mapping}
 use Rattle.model.specs.Images.Described.{Numbered, numbered_threads}
@@ -28,33 +25,6 @@ use Rattle.typestate.specs.Spaces.{is_among}
 use Rattle.thread_lookups.proofs.ThreadKeys.{or-second}
 
 -- ---- the rules on the thread are kept
-
-kept-before : (first rest : List Rule) → AreKept (first ++ rest) → AreKept first
-kept-before [] rest kept = λ k none less. absurd (omega (arith, less))
-kept-before (rule ∷ first) rest kept = both (kept 0 None (omega arith)) (kept-before first rest (λ k none less. kept (suc k) none (omega (arith, less)))) where
-  both : rule ≡ None → AreKept first → AreKept (rule ∷ first)
-  both one others zero none less = one
-  both one others (suc k) none less = others k none (omega (arith, less))
-
-kept-behind : (first rest : List Rule) → AreKept (first ++ rest) → AreKept rest
-kept-behind [] rest kept = kept
-kept-behind (rule ∷ first) rest kept = kept-behind first rest (λ k none less. kept (suc k) none (omega (arith, less)))
-
-kept-of : (rules : Numbered → List Rule) (threads : List Numbered) (t : Numbered) (k : ℕ) → AreKept (flat_map rules threads) → k < length threads → get_or threads k t ≡ t
-    → AreKept (rules t)
-kept-of rules [] t k kept inside is = absurd (omega (arith, inside))
-kept-of rules (x ∷ rest) t zero kept inside is = subst (λ (u : Numbered). AreKept (rules u)) is (kept-before (rules x) (flat_map rules rest) kept)
-kept-of rules (x ∷ rest) t (suc k) kept inside is = kept-of rules rest t k (kept-behind (rules x) (flat_map rules rest) kept) (omega (arith, inside)) is
-
-not-refused : (broken : Bool) (refusal : Refusal) → refuse_if broken refusal ≡ None → broken ≡ false
-not-refused true refusal is = absurd (none-some refusal (sym is))
-not-refused false refusal is = refl
-
-thread-good : (image : Image) (t : Numbered) → IsWellFormed image → Contains (numbered_threads image) t → is_bad image t ≡ false
-unfolding thread_rules
-thread-good image t formed listed =
-    not-refused (is_bad image t) (BadThread t.number)
-    (kept-of (rules_of_thread image) (numbered_threads image) t listed.0 formed.threads listed.1 listed.2 0 None (omega arith))
 
 -- the fourth of the tests on a thread; the others are of no matter here
 guard-kept : (image : Image) (t : Numbered) → is_bad image t ≡ false → has_guard image t.thread ≡ true
@@ -153,7 +123,7 @@ pub root-own : (image : Image) (t : Numbered) → IsWellFormed image → Contain
 root-own image t formed listed =
     let cnode = t.thread.header.cnode in
     let offset = offset_of image cnode in
-    let of = has-radix (type_at image cnode) t.thread.header.guard (guard-kept image t (thread-good image t formed listed)) in
+    let of = has-radix (type_at image cnode) t.thread.header.guard (guard-kept image t (not-bad image t formed listed)) in
     let is_it : ℕ → Bool = λ c. (offset_of image c == offset) && option_map_or (λ own. own == of.radix) (radix_of (type_at image c)) false in
     let passes : is_it cnode ≡ true =
     ap (λ b. b && option_map_or (λ own. own == of.radix) (radix_of (type_at image cnode)) false) (eq-eqb offset offset refl)

@@ -10,6 +10,7 @@ use Rattle.model.specs.Capabilities.Slots.{is_within}
 use Rattle.model.specs.Images.Image.{Image, Thread}
 use Rattle.model.specs.Images.Places.{cnode_slot, offset_of}
 use Rattle.typestate.specs.Spaces.{StandsApart}
+use Rattle.typestate.proofs.NamedKeys.{is_among}
 
 pub or-second : (a b : Bool) → b ≡ true → (a || b) ≡ true
 or-second true b is = refl
@@ -79,18 +80,9 @@ key-found image cnodes slot own =
 
 -- ---- which keys there are
 
-abbrev pub is_among : SlotKey → List SlotKey → Bool
-is_among key keys = list_any (λ k. is_same_key k key) keys
-
 abbrev pub AreLow : List SlotKey → Type 0
 AreLow [] = Unit {0}
 AreLow (k ∷ rest) = (k.index < 2 ^ 32) × AreLow rest
-
-pub same-low-key : (a b : SlotKey) → a.index < 2 ^ 32 → b.index < 2 ^ 32 → number_of a ≡ number_of b → a ≡ b
-same-low-key a b less few same =
-    let cnode : a.cnode ≡ b.cnode = omega (arith, less, few, same) in
-    let index : a.index ≡ b.index = omega (arith, less, few, same) in
-    λ i. record { cnode = cnode i; index = index i }
 
 abbrev key_for : ℕ → ℕ → SlotKey
 key_for cnode index = record { cnode = cnode; index = index }

@@ -1,13 +1,12 @@
 -- A lookup goes the same way in two maps of slots that hold the same in each slot of some CNodes which it cannot leave, and ends in such a slot.
-use Rattle.std.proofs.Common.{ℕ, zero, suc, ◌≡◌, ◌∙◌, ◌==◌, ◌+◌, ◌-◌, ◌/◌, ◌%◌, ◌^◌, ◌<◌, ◌||◌, Bool, true, false, not, nat_lt, if◌then◌else◌, Result, Ok, Err, refl, ap, subst, mod-lt}
-use Rattle.std.proofs.lemmas.Nat.{pow_pos}
+use Rattle.std.proofs.Common.{ℕ, zero, suc, ◌≡◌, ◌∙◌, ◌==◌, ◌+◌, ◌/◌, ◌^◌, ◌<◌, ◌||◌, Bool, true, false, not, if◌then◌else◌, Result, Ok, Err, refl, ap, subst}
 use Rattle.model.specs.declared.capabilities.Cap.{Cap}
 use Rattle.model.specs.declared.capabilities.Cap.TheVariants.{Empty, Untyped, Endpoint, Notification, CNode, Frame, PageTable, Tcb, RootTable, InterruptControl, InterruptHandler}
 use Rattle.model.specs.declared.lookup_failures.LookupFailure.{LookupFailure}
-use Rattle.model.specs.declared.lookup_failures.LookupFailure.TheVariants.{DepthMismatch, GuardMismatch}
 use Rattle.model.specs.Capabilities.Lookup.{go_on, is_cnode, lookup_within, resolve}
 use Rattle.model.specs.Capabilities.Slots.{Slots, capability_at}
 use Rattle.typestate.specs.Spaces.{is_among}
+use Rattle.typestate.proofs.Lookups.{index-below}
 
 abbrev Found : Type 0
 Found = Result (ℕ × ℕ) LookupFailure
@@ -17,24 +16,6 @@ Found = Result (ℕ × ℕ) LookupFailure
 abbrev IsIndexIn : ℕ → Found → Type 0
 IsIndexIn radix (Ok place) = place.0 < 2 ^ radix
 IsIndexIn radix (Err failure) = Unit {0}
-
-index-below : (radix guard address left : ℕ) → IsIndexIn radix (resolve radix guard address left)
-index-below radix guard address left =
-    let size = guard % 2 ^ 5 in
-    let rest = left - (size + radix) in
-    let place : Found = Ok (address / 2 ^ rest % 2 ^ radix, rest) in
-    let deep : Found = if nat_lt left (size + radix) then Err (DepthMismatch left) else place in
-    let guarded : Bool → Found = λ b. if not b then Err (GuardMismatch left) else deep in
-    elim (nat_lt left size) as (λ b. IsIndexIn radix (if b then Err (GuardMismatch left) else guarded (address / 2 ^ (left - size) % 2 ^ size == guard / 2 ^ 5))) [
-      | true ↦ tt
-      | false ↦ elim (address / 2 ^ (left - size) % 2 ^ size == guard / 2 ^ 5) as (λ b. IsIndexIn radix (guarded b)) [
-        | false ↦ tt
-        | true ↦ elim (nat_lt left (size + radix)) as (λ b. IsIndexIn radix (if b then Err (DepthMismatch left) else place)) [
-          | true ↦ tt
-          | false ↦ mod-lt (address / 2 ^ rest) (pow_pos radix)
-        ]
-      ]
-    ]
 
 -- ---- what is known of the two maps
 

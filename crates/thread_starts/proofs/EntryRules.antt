@@ -1,60 +1,36 @@
 -- What the rules on programs say of a thread's entry.
-use Rattle.std.proofs.Common.{ℕ, zero, suc, ◌≡◌, ◌+◌, ◌<◌, Bool, true, false, List, [], ◌∷◌, ◌++◌, map, Some, None, refl, ap, subst, arith}
+use Rattle.std.proofs.Common.{ℕ, zero, suc, ◌≡◌, ◌+◌, ◌<◌, true, false, List, [], ◌∷◌, map, Some, None, refl, ap, subst, arith}
 use Rattle.std.specs.Prelude.{flat_map, int_lt, pos, slice_get}
 use Rattle.std.specs.List.{Contains, enumerate_from, range_with_len}
 use Rattle.std.proofs.lemmas.Bool.{not-false}
 use Rattle.std.proofs.lemmas.Option.{none-some, same_Some}
+use Rattle.thread_facts.proofs.RulesKept.{kept-right, kept-left, not-refused}
 use Rattle.booting.proofs.PlacesRules.{range-at}
-use Rattle.model.specs.declared.refusals.Refusal.{Refusal}
 use Rattle.model.specs.Acceptance.Accepted.{AreKept}
 use Rattle.model.specs.Acceptance.Measures.{measured}
 use Rattle.model.specs.Acceptance.NotedStates.{PointState, are_same_slots, has_stray_slots, image_slots}
-use Rattle.model.specs.Acceptance.PointRules.{entry_rules, point_rules, program_rules, rules_of_noted, rules_of_program, starts_within, state_rules}
+use Rattle.model.specs.Acceptance.PointRules.{entry_rules, point_rules, rules_of_noted, rules_of_program, starts_within, state_rules}
 use Rattle.model.specs.Acceptance.PointStates.{Noted, Known, Missing, Unmeasured, noted}
-use Rattle.model.specs.Acceptance.Rules.{Rule, refuse_if}
+use Rattle.model.specs.Acceptance.Rules.{Rule}
 use Rattle.model.specs.Images.Described.{Numbered, numbered_threads, start_registers}
 use Rattle.model.specs.Images.Image.{Image, Thread}
 use Rattle.thread_starts.proofs.ListFacts.{contained}
 
 -- ---- rules one by one
 
-tail-kept : (rule : Rule) (rules : List Rule) → AreKept (rule ∷ rules) → AreKept rules
-tail-kept rule rules kept = λ k d less. kept (suc k) d (omega (arith, less))
-
-behind-kept : (first rest : List Rule) → AreKept (first ++ rest) → AreKept rest
-behind-kept [] rest kept = kept
-behind-kept (rule ∷ first) rest kept = behind-kept first rest (tail-kept rule (first ++ rest) kept)
-
-before-kept : (first rest : List Rule) → AreKept (first ++ rest) → AreKept first
-before-kept [] rest kept = λ k d less. absurd (omega (arith, less))
-before-kept (rule ∷ first) rest kept = both (kept 0 None (omega arith)) (before-kept first rest (tail-kept rule (first ++ rest) kept)) where
-  both : rule ≡ None → AreKept first → AreKept (rule ∷ first)
-  both one others zero d less = one
-  both one others (suc k) d less = others k d (omega (arith, less))
-
 -- the rules of one entry
 pub of-entry : {A : Type 0} (f : A → List Rule) (xs : List A) → AreKept (flat_map f xs) → (k : ℕ) (x : A) → slice_get xs k ≡ Some x → AreKept (f x)
 of-entry f [] kept k x at = absurd (none-some x at)
-of-entry f (y ∷ ys) kept zero x at = subst (λ z. AreKept (f z)) (same_Some y x at) (before-kept (f y) (flat_map f ys) kept)
-of-entry f (y ∷ ys) kept (suc k) x at = of-entry f ys (behind-kept (f y) (flat_map f ys) kept) k x at
-
-not-refused : (b : Bool) (refusal : Refusal) → refuse_if b refusal ≡ None → b ≡ false
-not-refused false refusal h = refl
-not-refused true refusal h = absurd (let clash : ◌≡◌ {A = Rule} (Some refusal) None = h in cc)
+of-entry f (y ∷ ys) kept zero x at = subst (λ z. AreKept (f z)) (same_Some y x at) (kept-left (f y) (flat_map f ys) kept)
+of-entry f (y ∷ ys) kept (suc k) x at = of-entry f ys (kept-right (f y) (flat_map f ys) kept) k x at
 
 -- ---- the rules of a thread, and of one of its points
-
-pub program-kept : (image : Image) (t : Numbered) → AreKept (program_rules image) → Contains (numbered_threads image) t → AreKept (rules_of_program image t)
-unfolding program_rules
-program-kept image t kept there =
-    let place = contained (numbered_threads image) t there in
-    of-entry (rules_of_program image) (numbered_threads image) kept place.0 t place.1
 
 pub point-kept : (image : Image) (t : Numbered) (point : ℕ) → AreKept (rules_of_program image t) → point < t.thread.header.words → AreKept (point_rules image t point)
 unfolding rules_of_program
 point-kept image t point kept less =
     of-entry (point_rules image t) (range_with_len 0 t.thread.header.words)
-    (behind-kept (entry_rules image t (noted image t t.thread.header.entry)) (flat_map (point_rules image t) (range_with_len 0 t.thread.header.words)) kept)
+    (kept-right (entry_rules image t (noted image t t.thread.header.entry)) (flat_map (point_rules image t) (range_with_len 0 t.thread.header.words)) kept)
     point point (range-at t.thread.header.words point less)
 
 -- ---- a point
@@ -90,7 +66,7 @@ pub entry-kept : (image : Image) (t : Numbered) → AreKept (rules_of_program im
 unfolding rules_of_program
 entry-kept image t kept =
     by-noted image t (noted image t t.thread.header.entry) refl
-    (before-kept (entry_rules image t (noted image t t.thread.header.entry)) (flat_map (point_rules image t) (range_with_len 0 t.thread.header.words)) kept)
+    (kept-left (entry_rules image t (noted image t t.thread.header.entry)) (flat_map (point_rules image t) (range_with_len 0 t.thread.header.words)) kept)
 
 -- ---- the thread's number
 

@@ -1,9 +1,9 @@
 -- The frames of code hold the programs, and nothing else is filled into them.
 use Rattle.std.proofs.Common.{ℕ, zero, suc, ◌≡◌, ◌≢◌, ◌∙◌, ◌==◌, ◌+◌, ◌-◌, ◌*◌, ◌^◌, ◌<◌, ◌≤◌, ◌&&◌, inl, inr, Bool, true, false, not, take, drop, map, if◌then◌else◌, List, [], ◌∷◌, length, Option, Some, None, option_map, refl, sym, ap, subst, arith}
-use Rattle.std.specs.Prelude.{filter_map, flat_map, nat_le, nat_lt, slice_get, slice_index}
+use Rattle.std.specs.Prelude.{filter_map, flat_map, slice_get, slice_index}
 use Rattle.std.specs.Option.{option_map_or}
 use Rattle.std.specs.List.{All, cons_option, list_any, range_with_len}
-use Rattle.std.proofs.lemmas.Bool.{and_parts, eq-eqb, eqb-true, cases_lt, false≢true, le-leb, leb-true, lt-ltb, ltb-true, or_left, or_parts, or_right}
+use Rattle.std.proofs.lemmas.Bool.{and_parts, eq-eqb, eqb-true, cases_lt, false≢true, or_left, or_parts, or_right}
 use Rattle.std.proofs.lemmas.Bool.Decides.{eqb_tells}
 use Rattle.std.proofs.lemmas.List.{get_or-drop, get_or-take, get_or_past, length-append, length-drop, length-take}
 use Rattle.std.proofs.lemmas.List.Elements.{All-append, All-cons, All-map, All-nil}
@@ -29,6 +29,7 @@ use Rattle.model.specs.Images.Places.{bits_of, object_at, offset_of, type_at}
 use Rattle.model.specs.Kernel.AddressSpaces.{page_size}
 use Rattle.model.specs.Kernel.Retype.{NewObject, NewUntyped, NewThread, NewEndpoint, NewNotification, NewCNode, NewFrame, NewPageTable, NewRootTable, is_frame, object_bits, type_of}
 use Rattle.model.specs.Shared.Bytes.{word_bytes}
+use Rattle.model.proofs.SlotChanges.{within-bounds, bounds-within}
 use Rattle.thread_spaces.specs.Given.{IsListed}
 use Rattle.thread_spaces.proofs.BootParents.{find-passed}
 use Rattle.thread_starts.proofs.LastFills.{Leaves, any-behind, any-filtered, any-flat, byte-left}
@@ -56,12 +57,6 @@ frame-kind (Some (NewCNode radix)) is = absurd (false≢true is)
 frame-kind (Some NewFrame) is = (refl, refl)
 frame-kind (Some NewPageTable) is = absurd (false≢true is)
 frame-kind (Some NewRootTable) is = absurd (false≢true is)
-
-within-of : (first count place : ℕ) → is_within first count place ≡ true → (first ≤ place) × (place < first + count)
-within-of first count place is = let parts = and_parts (nat_le first place) (nat_lt place (first + count)) is in (leb-true first place parts.0, ltb-true place (first + count) parts.1)
-
-of-within : (first count place : ℕ) → first ≤ place → place < first + count → is_within first count place ≡ true
-of-within first count place low high = ap (λ b. b && nat_lt place (first + count)) (le-leb first place low) ∙ lt-ltb place (first + count) high
 
 any-range : (test : ℕ → Bool) (from count n : ℕ) → n < count → test (from + n) ≡ true → list_any test (range_with_len from count) ≡ true
 any-range test from zero n less is = absurd (omega (arith, less))
@@ -138,7 +133,7 @@ module _ (image : Image) (fits : whole_image.fits image ≡ true) (well : IsWell
     -- contents fill other frames
     content-leaves : (k : ℕ) (c : ImageContent) → slice_get image.contents k ≡ Some c → Leaves place wanted (content_fill image c)
     content-leaves k c at reaches =
-        let bounds = within-of (offset_of image c.header.frame) (length (bytes_of c.words)) place reaches in
+        let bounds = within-bounds (offset_of image c.header.frame) (length (bytes_of c.words)) place reaches in
         let short = contents-fit image fits k c at in
         absurd (elim (eqb_tells c.header.frame f.frame) [
           | inl same ↦ false≢true (sym (none-at (λ (d : ImageContent). d.header.frame == f.frame) image.contents k c only.unfilled at) ∙ same.0)
@@ -191,7 +186,7 @@ module _ (image : Image) (fits : whole_image.fits image ≡ true) (well : IsWell
     by-frame j u a g at found reaches =
         let passed = find-passed (λ (e : FrameEntry). e.root == u.header.root && e.address == a) image.frames g found in
         let parts = and_parts (g.root == u.header.root) (g.address == a) passed.passes in
-        let bounds = within-of (offset_of image g.frame) (length (page_bytes u a)) place reaches in
+        let bounds = within-bounds (offset_of image g.frame) (length (page_bytes u a)) place reaches in
         let short = short-page u a in
         let there = FrameFits.frame (IsFitting.frame fitting passed.place g passed.at) in
         elim (eqb_tells g.frame f.frame) [
@@ -232,7 +227,7 @@ module _ (image : Image) (fits : whole_image.fits image ≡ true) (well : IsWell
           omega (arith, words, bytes, taken, dropped, reach, inside)
 
       own-reached : is_filled place own ≡ true
-      own-reached = let long = own-length in of-within offset (length (page_bytes t address)) place (omega arith) (omega (arith, long))
+      own-reached = let long = own-length in bounds-within offset (length (page_bytes t address)) place (omega arith) (omega (arith, long))
 
       some-fill : list_any (is_filled place) (fills image) ≡ true
       unfolding fills
@@ -246,7 +241,7 @@ module _ (image : Image) (fits : whole_image.fits image ≡ true) (well : IsWell
           any-range (is_in_frame image place) 0 image.header.objects f.frame less
           (ap (λ (n : ℕ). is_in_frame image place n) here
           ∙ ap (λ b. b && is_within offset page_size place) (frame-kind (type_at image f.frame) (FrameKept.frame kept)).0
-          ∙ of-within offset page_size place (omega arith) (omega (arith, inside)))
+          ∙ bounds-within offset page_size place (omega arith) (omega (arith, inside)))
         where
           here : 0 + f.frame ≡ f.frame
           here = omega arith

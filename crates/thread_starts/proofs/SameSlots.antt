@@ -1,21 +1,18 @@
 -- Slots that are compared as the image's, and are no stray ones, are the image's.
-use Rattle.std.proofs.Common.{ℕ, suc, ◌≡◌, ◌∙◌, ◌&&◌, ◌||◌, Bool, true, false, not, nat_eq, List, [], ◌∷◌, length, get_or, filter, map, if◌then◌else◌, Option, Some, None, refl, sym, ap}
+use Rattle.std.proofs.Common.{ℕ, suc, ◌≡◌, ◌∙◌, ◌&&◌, ◌||◌, Bool, true, false, not, List, [], ◌∷◌, length, filter, map, if◌then◌else◌, Option, Some, None, refl, sym, ap}
 use Rattle.std.specs.Prelude.{slice_get}
 use Rattle.std.specs.Option.{option_map_or}
 use Rattle.std.specs.List.{list_any}
-use lib.Pointwise.{pointwise}
 use Rattle.std.proofs.lemmas.Bool.{and_parts, eqb-true, false≢true, or_parts, not-false}
-use Rattle.std.proofs.lemmas.Option.{same_Some}
-use Rattle.model.specs.declared.capabilities.Cap.{Cap}
+use Rattle.thread_facts.proofs.NotedKeys.{capabilities-equal}
 use Rattle.model.specs.declared.entries.CapabilityEntry.{CapabilityEntry}
 use Rattle.model.specs.Acceptance.Accepted.{IsWellFormed}
 use Rattle.model.specs.Acceptance.NotedStates.{NotedSlot, PointState, SlotKey, are_same_slots, has_stray_slots, image_slots, is_foreign, is_own, is_same_key, is_same_parent, is_same_slot, is_stray, leads_to_boot, listed_slot, notes_outside, number_of, record_of}
 use Rattle.model.specs.Acceptance.ThreadRules.{is_member, reached}
-use Rattle.model.specs.Capabilities.CapabilityFields.{is_capability, same_words, unpacked}
+use Rattle.model.specs.Capabilities.CapabilityFields.{is_capability, same_words}
 use Rattle.model.specs.Capabilities.CapabilityWords.{IsCapability, words_of}
 use Rattle.model.specs.Images.Image.{Image, Thread, whole_image}
 use Rattle.image.proofs.CapabilityTests.{test-decides}
-use Rattle.image.proofs.WordLaws.{words-back}
 use Rattle.typestate.proofs.NamedKeys.{same-own-key}
 use Rattle.thread_spaces.specs.Given.{IsListed}
 use Rattle.thread_spaces.proofs.DescribedSlots.{listed-valid}
@@ -23,19 +20,6 @@ use Rattle.thread_spaces.proofs.ListedSlots.{slots_in}
 use Rattle.thread_starts.proofs.GivenSlots.{listed-own, stand}
 
 -- ---- words
-
-words-equal : (xs ys : List ℕ) → pointwise nat_eq xs ys ≡ true → xs ≡ ys
-words-equal [] [] same = refl
-words-equal [] (y ∷ ys) same = absurd (false≢true same)
-words-equal (x ∷ xs) [] same = absurd (false≢true same)
-words-equal (x ∷ xs) (y ∷ ys) same =
-    let parts = and_parts (nat_eq x y) (pointwise nat_eq xs ys) same in
-    ap (λ (n : ℕ). n ∷ xs) (eqb-true x y parts.0) ∙ ap (λ (l : List ℕ). y ∷ l) (words-equal xs ys parts.1)
-
-pub capabilities-equal : (a b : Cap) → IsCapability a → IsCapability b → same_words (words_of a) (words_of b) ≡ true → a ≡ b
-capabilities-equal a b valid other same =
-    let words : words_of a ≡ words_of b = words-equal (words_of a) (words_of b) same in
-    same_Some a b (sym (words-back a valid) ∙ ap (λ (l : List ℕ). unpacked (get_or l 0 0) (get_or l 1 0)) words ∙ words-back b other)
 
 no-parent : (p : Option SlotKey) → is_same_parent p None ≡ true → p ≡ None
 no-parent None same = refl

@@ -24,14 +24,16 @@ use Rattle.model.specs.Acceptance.NotedStates.{NotedSlot, image_slots, listed_sl
 use Rattle.model.specs.Acceptance.ThreadInvariants.{ImageMaps, IsCode, MapsAreNoted, NotedMaps}
 use Rattle.model.specs.Acceptance.ThreadRules.{is_member, reached}
 use Rattle.model.specs.Acceptance.WellFormed.{executes, has_writable_code, is_mapped_twice, is_named_otherwise}
-use Rattle.model.specs.Capabilities.CapabilityKinds.{frame_mapping, object_of, with_payload, with_table_mapping}
+use Rattle.model.specs.Capabilities.CapabilityKinds.{frame_mapping, object_of, with_payload}
 use Rattle.model.specs.Capabilities.Rights.{frame_rights}
 use Rattle.model.specs.Capabilities.Slots.{capability_at}
 use Rattle.model.specs.Images.Described.{Numbered, binding_holding, described, handler_holding, limited, listed_capability, notification_holding, original, source_capability, untyped_holding}
 use Rattle.model.specs.Images.Image.{Image, Thread, whole_image}
 use Rattle.model.specs.Images.Places.{cnode_slot, frame_copy_slot, interrupt_of, is_handler, object_at, offset_of, type_at}
-use Rattle.model.specs.Kernel.AddressSpaces.{Maps, page_size, region_pages}
+use Rattle.model.specs.Kernel.AddressSpaces.{Maps, page_size}
 use Rattle.model.specs.Kernel.Retype.{NewObject, NewUntyped, NewThread, NewEndpoint, NewNotification, NewCNode, NewFrame, NewPageTable, NewRootTable}
+use Rattle.soundness.proofs.Copies.{payload-mapping}
+use Rattle.booting.proofs.ReadingsTypes.{mapped_by}
 use Rattle.thread_spaces.specs.Given.{IsListed}
 use Rattle.thread_spaces.proofs.DescribedSlots.{boot-holds, capability-shown, from-loaded, listed-shown}
 use Rattle.thread_spaces.proofs.EachHolding.{OfSections, each-slot, each-two}
@@ -82,10 +84,6 @@ only-code image k f kept runs =
 
 -- ---- capabilities that map no frame
 
-abbrev mapped_by : Image → Option TableEntry → Cap → Cap
-mapped_by image found c =
-    option_map_or (λ e. with_table_mapping c (Some (record { root = offset_of image e.root; region = e.address / page_size / region_pages }))) found c
-
 table-frame : (image : Image) (found : Option TableEntry) (c : Cap) → frame_mapping (mapped_by image found c) ≡ frame_mapping c
 table-frame image None c = refl
 table-frame image (Some e) Empty = refl
@@ -127,19 +125,6 @@ limited-frame (Tcb _) word payload = refl
 limited-frame (RootTable _) word payload = refl
 limited-frame InterruptControl word payload = refl
 limited-frame (InterruptHandler _) word payload = refl
-
-payload-frame : (c : Cap) (payload : ℕ) → frame_mapping (with_payload c payload) ≡ frame_mapping c
-payload-frame Empty payload = refl
-payload-frame (Untyped _ _ _) payload = refl
-payload-frame (Endpoint _ _ _) payload = refl
-payload-frame (Notification _ _ _) payload = refl
-payload-frame (CNode _ _ _) payload = refl
-payload-frame (Frame _ _ _) payload = refl
-payload-frame (PageTable _ _) payload = refl
-payload-frame (Tcb _) payload = refl
-payload-frame (RootTable _) payload = refl
-payload-frame InterruptControl payload = refl
-payload-frame (InterruptHandler _) payload = refl
 
 handler-frame : (found : Option InterruptEntry) → frame_mapping (option_map_or (λ (i : InterruptEntry). InterruptHandler i.line) found Empty) ≡ None
 handler-frame None = refl
@@ -253,7 +238,7 @@ module _ (image : Image) (fits : whole_image.fits image ≡ true) (well : IsWell
         binding = λ k i at. no-frame (((binding_holding image (k, i)).1).capability) refl;
         listed = λ k c at. no-frame (listed_capability image c) (listed-no-frame image c);
         thread = λ k u at. each-two IsMapped _ _
-            (no-frame (with_payload (original image u.header.cnode) u.header.guard) (payload-frame (original image u.header.cnode) u.header.guard ∙ original-no-frame image u.header.cnode))
+            (no-frame (with_payload (original image u.header.cnode) u.header.guard) (payload-mapping (original image u.header.cnode) u.header.guard ∙ original-no-frame image u.header.cnode))
             (no-frame (original image u.header.root) (original-no-frame image u.header.root));
       }
 

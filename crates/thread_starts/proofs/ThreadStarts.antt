@@ -2,6 +2,7 @@
 use Rattle.std.proofs.Common.{ℕ, ◌≡◌, ◌∙◌, true, false, List, [], ℤ, pos, ◌+ℤ◌, refl, sym, subst, arith}
 use Rattle.std.specs.Prelude.{◌≤ℤ◌, Contains, int_lt}
 use Rattle.std.proofs.lemmas.Int.{ints}
+use Rattle.thread_facts.proofs.RulesKept.{program-kept}
 use Rattle.fitting.proofs.ImageFits.{is-fitting}
 use Rattle.booting.proofs.PlacesRules.{are-formed}
 use Rattle.model.specs.Acceptance.Accepted.{AreKept, IsWellFormed}
@@ -19,7 +20,7 @@ use Rattle.model.specs.Kernel.Waits.{open_count}
 use Rattle.thread_spaces.specs.Given.{IsListed}
 use Rattle.thread_spaces.proofs.DescribedSlots.{capability-shown, listed-shown, parent-shown, root-shown}
 use Rattle.thread_spaces.proofs.ParentsInBoot.{parent-in-boot}
-use Rattle.thread_starts.proofs.EntryRules.{entry-kept, none-stray, numbered-thread, point-kept, program-kept}
+use Rattle.thread_starts.proofs.EntryRules.{entry-kept, none-stray, numbered-thread, point-kept}
 use Rattle.thread_starts.proofs.GivenSlots.{slots-given}
 use Rattle.thread_starts.proofs.SameSlots.{slots-same}
 use Rattle.thread_starts.proofs.StartMaps.{code-unnamed, given-listed, maps-given}

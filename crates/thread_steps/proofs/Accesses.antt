@@ -3,13 +3,15 @@ use Rattle.std.proofs.Common.{ℕ, zero, suc, ◌≡◌, ◌∙◌, ◌==◌, �
 use Rattle.std.specs.Prelude.{Contains, option_and_then}
 use Rattle.std.specs.Int.{byte_len, from_le_bytes, is_negative, to_le_bytes}
 use Rattle.std.specs.Option.{option_map_or}
-use Rattle.std.specs.List.{list_all, list_any, range_with_len}
-use Rattle.std.proofs.lemmas.Bool.{and_parts, cases_eq, eqb-true, ltb-true, not-false, not-true, or_cases}
+use Rattle.std.specs.List.{list_any}
+use Rattle.std.proofs.lemmas.Bool.{and_parts, eqb-true, ltb-true, not-false, not-true, or_cases}
 use Rattle.std.proofs.lemmas.Int.{ints}
 use Rattle.std.proofs.lemmas.Option.{slice_get-get_or}
 use Rattle.model.specs.declared.entries.FrameEntry.{FrameEntry}
 use Rattle.model.specs.declared.instructions.Access.{Access}
 use Rattle.model.specs.declared.instructions.Access.TheVariants as accesses
+use Rattle.thread_facts.proofs.WiderRanges.{holds-at}
+use Rattle.thread_facts.proofs.MappedPages.{page-held, page-mapped}
 use Rattle.model.specs.declared.instructions.AccessSize.{AccessSize}
 use Rattle.model.specs.declared.instructions.AccessSize.TheVariants.{Byte, Halfword, Word}
 use Rattle.model.specs.declared.instructions.Instr.{Instr}
@@ -34,7 +36,6 @@ use Rattle.model.specs.Machine.Instructions.{IsImmediate, IsInstr}
 use Rattle.model.specs.Machine.ProgramMemory.{Content, RegisterFile, ◌>>=◌, named, next_address, places_from, put_bytes, read, width_of}
 use Rattle.thread_steps.specs.Frames.{FramesAreKept}
 use Rattle.thread_steps.specs.Taken.{Reaches}
-use Rattle.thread_steps.proofs.MappedPages.{page-held, page-mapped}
 
 -- ---- what is found among a list
 
@@ -142,15 +143,6 @@ places-reach c access (suc count) address inside each =
 
 -- ---- addresses
 
-all-at : (test : ℕ → Bool) (from count k : ℕ) → list_all test (range_with_len from count) ≡ true → from ≤ k → k < from + count → test k ≡ true
-all-at test from zero k h low high = absurd (omega (arith, low, high))
-all-at test from (suc count) k h low high =
-    let parts = and_parts (test from) (list_all test (range_with_len (from + 1) count)) h in
-    elim (cases_eq from k) [
-      | inl here ↦ subst (λ (n : ℕ). test n ≡ true) here parts.0
-      | inr other ↦ all-at test (from + 1) count k parts.1 (omega (arith, low, other)) (omega (arith, high))
-    ]
-
 record LiesBetween (address width first last : ℕ) : Type 0 where
   low : first ≤ address
   high : address + width ≤ last + 1
@@ -201,7 +193,7 @@ module _ (image : Image) (t : Numbered) (s : State) (state : PointState) (kept :
       → (place : ℕ) × (content.place access address ≡ Some place)
   page-found access address first last all low high =
       let page = address / page_size in
-      let test = all-at (is_mapped_for image t.thread state.slots access) (first / page_size) (last / page_size + 1 - first / page_size) page all (omega (arith, low)) (omega (arith, low, high)) in
+      let test = holds-at (is_mapped_for image t.thread state.slots access) (first / page_size) (last / page_size + 1 - first / page_size) page all (omega (arith, low)) (omega (arith, low, high)) in
       let found = maps-for image t s state.slots kept maps access page test in
       (found.frame + address % page_size, place-there image t s access address sound vspace found)
 

@@ -1,10 +1,9 @@
 -- No store reaches the code of a thread: a frame of code has one mapping, without write, and no capability that a slot notes.
-use Rattle.std.proofs.Common.{ℕ, zero, suc, ◌≡◌, ◌≢◌, ◌∙◌, ◌==◌, ◌+◌, ◌-◌, ◌*◌, ◌/◌, ◌%◌, ◌<◌, ◌≤◌, ◌&&◌, ◌||◌, inl, inr, Bool, true, false, not, if◌then◌else◌, List, [], ◌∷◌, map, Option, Some, None, Result, Ok, Err, find, refl, sym, ap, subst, arith}
-use Rattle.std.specs.Prelude.{option_and_then, slice_get}
+use Rattle.std.proofs.Common.{ℕ, zero, suc, ◌≡◌, ◌≢◌, ◌∙◌, ◌==◌, ◌+◌, ◌-◌, ◌%◌, ◌<◌, ◌≤◌, ◌&&◌, ◌||◌, Bool, true, false, not, if◌then◌else◌, List, [], ◌∷◌, Option, Some, None, Result, Ok, Err, refl, sym, ap, subst, arith}
+use Rattle.std.specs.Prelude.{slice_get}
 use Rattle.std.specs.Int.{byte_len, to_le_bytes}
-use Rattle.std.specs.Option.{option_map_or}
-use Rattle.std.specs.List.{enumerate_from, list_all, list_any, range_with_len}
-use Rattle.std.proofs.lemmas.Bool.{and_parts, cases_eq, eq-eqb, eqb-true, false_from_ne_true, or_parts}
+use Rattle.std.specs.List.{enumerate_from, list_any}
+use Rattle.std.proofs.lemmas.Bool.{eq-eqb, eqb-true, false_from_ne_true, or_parts}
 use Rattle.model.specs.declared.entries.FrameEntry.{FrameEntry}
 use Rattle.model.specs.declared.instructions.Access.{Access}
 use Rattle.model.specs.declared.instructions.Access.TheVariants as accesses
@@ -15,19 +14,11 @@ use Rattle.model.specs.declared.instructions.Instr.TheVariants.{Upper, Jal, Jalr
 use Rattle.model.specs.declared.instructions.LoadOp.{LoadOp}
 use Rattle.model.specs.declared.instructions.MemoryFault.{MemoryFault}
 use Rattle.model.specs.declared.instructions.Register.{Register}
-use Rattle.model.specs.declared.rights.Rights.{Rights}
-use Rattle.model.specs.Acceptance.ThreadInvariants.{root_table_of, tcb_of}
-use Rattle.model.specs.Acceptance.ThreadRules.{is_code}
 use Rattle.model.specs.Acceptance.WellFormed.{are_frame_rights, executes, is_mapped_twice, is_named_otherwise}
 use Rattle.model.specs.Capabilities.Rights.{frame_rights, mapping_rights, may_write}
-use Rattle.model.specs.Images.Described.{Numbered}
-use Rattle.model.specs.Images.Fills.{frame_at, program_pages}
 use Rattle.model.specs.Images.Image.{Image}
-use Rattle.model.specs.Kernel.AddressSpaces.{MappedFrame, Maps, allows, content_of, mapped, page_size, place_in, place_under, vspace_of}
-use Rattle.model.specs.Kernel.State.{State}
 use Rattle.model.specs.Machine.Effects.{branches, effect, goes_on, is_taken, jumps, load_size, loads, next_pc, plus, stays, store_size, stores}
 use Rattle.model.specs.Machine.ProgramMemory.{Content, RegisterFile, ◌>>=◌, loaded, named, next_address, places_from, put_byte, put_bytes, read, width_of, write}
-use Rattle.thread_steps.proofs.MappedPages.{page-maps}
 
 -- ---- what a store changes
 
@@ -124,10 +115,6 @@ any-none test from (y ∷ ys) (suc k) x none at =
     let next : from + 1 + k ≡ from + suc k = omega arith in
     subst (λ n. test (n, x) ≡ false) next (any-none test (from + 1) ys k x (or_parts (test (from, y)) (list_any test (enumerate_from (from + 1) ys)) none).1 at)
 
-pub implied : (a b : Bool) → (a && b) ≡ false → a ≡ true → b ≡ false
-implied true b none is = none
-implied false b none is = absurd (let clash : false ≡ true = is in cc)
-
 -- a frame of code is mapped by one entry
 pub one-mapping : (image : Image) (i j : ℕ) (f g : FrameEntry) → slice_get image.frames j ≡ Some g → is_named_otherwise image i f.frame ≡ false → g.frame ≡ f.frame → j ≡ i
 one-mapping image i j f g at none same =
@@ -141,92 +128,6 @@ one-mapping image i j f g at none same =
     ] refl test
 
 -- ---- where code and stores lie
-
--- a frame that an address names for an access
-pub record NamesFrame (image : Image) (t : Numbered) (s : State) (access : Access) (address place : ℕ) : Type 0 where
-  pub frame : ℕ
-  pub allowed : Rights
-  pub maps : Maps s.slots (root_table_of image t) (address / page_size) frame allowed
-  pub permits : allows access allowed ≡ true
-  pub place_is : place ≡ frame + address % page_size
-
-pub names-frame : (image : Image) (t : Numbered) (s : State) (access : Access) (address place : ℕ) → vspace_of s (tcb_of image t) ≡ Some (root_table_of image t)
-    → (content_of s (tcb_of image t)).place access address ≡ Some place → NamesFrame image t s access address place
-names-frame image t s access address place vspace named =
-    let root = root_table_of image t in
-    let page = address / page_size in
-    let there : option_and_then (place_in access address) (mapped s root page) ≡ Some place = sym (ap (option_and_then (λ r. place_under s r access address)) vspace) ∙ named in
-    by-page (mapped s root page) refl there
-  where
-    by-test : (m : MappedFrame) → mapped s (root_table_of image t) (address / page_size) ≡ Some m → (b : Bool) → allows access m.allowed ≡ b
-        → (if b then Some (m.frame + address % page_size) else None) ≡ Some place → NamesFrame image t s access address place
-    by-test m found true permits is = record {
-      frame = m.frame;
-      allowed = m.allowed;
-      maps = page-maps s (root_table_of image t) (address / page_size) m.frame m.allowed found;
-      permits = permits;
-      place_is = sym (let both : Some (m.frame + address % page_size) ≡ Some place = is in cc);
-    }
-    by-test m found false permits is = absurd (let clash : None ≡ Some place = is in cc)
-
-    by-page : (o : Option MappedFrame) → mapped s (root_table_of image t) (address / page_size) ≡ o → option_and_then (place_in access address) o ≡ Some place → NamesFrame image t s access address place
-    by-page (Some m) found is = by-test m found (allows access m.allowed) refl is
-    by-page None found is = absurd (let clash : None ≡ Some place = is in cc)
-
--- the entry that maps the page of an address of the program
-pub record IsProgramPage (image : Image) (t : Numbered) (address : ℕ) : Type 0 where
-  pub item : ℕ
-  pub entry : FrameEntry
-  pub listed : slice_get image.frames item ≡ Some entry
-  pub root : entry.root ≡ t.thread.header.root
-  pub address_is : entry.address ≡ address / page_size * page_size
-  pub executes_so : executes entry ≡ true
-
-find-entry : (test : FrameEntry → Bool) (xs : List FrameEntry) (x : FrameEntry) → find test xs ≡ Some x → (k : ℕ) × (slice_get xs k ≡ Some x) × (test x ≡ true)
-find-entry test [] x is = absurd (let clash : None ≡ Some x = is in cc)
-find-entry test (y ∷ ys) x is = elim (test y) as (λ b. test y ≡ b → (if b then Some y else find test ys) ≡ Some x → (k : ℕ) × (slice_get (y ∷ ys) k ≡ Some x) × (test x ≡ true)) [
-  | true ↦ λ passes here. let same : y ≡ x = cc in (0, here, ap test (sym same) ∙ passes)
-  | false ↦ λ _ later. let found = find-entry test ys x later in (suc found.0, found.1, found.2)
-] refl is
-
-mapped-all : (f : ℕ → ℕ) (test : ℕ → Bool) (from count k : ℕ) → list_all test (map f (range_with_len from count)) ≡ true → from ≤ k → k < from + count → test (f k) ≡ true
-mapped-all f test from zero k h low high = absurd (omega (arith, low, high))
-mapped-all f test from (suc count) k h low high =
-    let parts = and_parts (test (f from)) (list_all test (map f (range_with_len (from + 1) count))) h in
-    elim (cases_eq from k) [
-      | inl here ↦ subst (λ (n : ℕ). test (f n) ≡ true) here parts.0
-      | inr other ↦ mapped-all f test (from + 1) count k parts.1 (omega (arith, low, other)) (omega (arith, high))
-    ]
-
-page-index : (base words offset : ℕ) → offset < 4 * words → offset / 4096 < (4 * words + 4095) / 4096
-page-index base words offset inside = omega (arith, inside)
-
-page-base : (base offset : ℕ) → base % 4096 ≡ 0 → base + offset / 4096 * 4096 ≡ (base + offset) / 4096 * 4096
-page-base base offset aligned = omega (arith, aligned)
-
-pub program-page : (image : Image) (t : Numbered) (offset : ℕ) → list_all (is_code image t.thread) (program_pages t.thread) ≡ true → t.thread.header.base % page_size ≡ 0 → offset < 4 * t.thread.header.words
-    → IsProgramPage image t (t.thread.header.base + offset)
-program-page image t offset code aligned inside =
-    let base = t.thread.header.base in
-    let page = offset / page_size in
-    let test : is_code image t.thread (base + page * page_size) ≡ true = mapped-all (λ n. base + n * page_size) (is_code image t.thread) 0 ((4 * t.thread.header.words + (page_size - 1)) / page_size) page code (omega arith)
-    (let less = page-index base t.thread.header.words offset inside in omega (arith, less)) in
-    by-entry (frame_at image t.thread.header.root (base + page * page_size)) refl test
-  where
-    by-entry : (o : Option FrameEntry) → frame_at image t.thread.header.root (t.thread.header.base + offset / page_size * page_size) ≡ o → option_map_or executes o false ≡ true
-        → IsProgramPage image t (t.thread.header.base + offset)
-    by-entry None found is = absurd (let clash : false ≡ true = is in cc)
-    by-entry (Some f) found is =
-        let at = find-entry (λ g. g.root == t.thread.header.root && g.address == (t.thread.header.base + offset / page_size * page_size)) image.frames f found in
-        let parts = and_parts (f.root == t.thread.header.root) (f.address == (t.thread.header.base + offset / page_size * page_size)) at.2 in
-        record {
-          item = at.0;
-          entry = f;
-          listed = at.1;
-          root = eqb-true f.root t.thread.header.root parts.0;
-          address_is = eqb-true f.address (t.thread.header.base + offset / page_size * page_size) parts.1 ∙ page-base t.thread.header.base offset aligned;
-          executes_so = is;
-        }
 
 pub same-frame : (a b x y : ℕ) → a % 4096 ≡ 0 → b % 4096 ≡ 0 → x < 4096 → y < 4096 → a + x ≡ b + y → a ≡ b
 same-frame a b x y first second less few same = omega (arith, first, second, less, few, same)

@@ -1,31 +1,27 @@
 -- What is known of a thread of an accepted image, whatever its state is.
-use Rattle.std.proofs.Common.{ℕ, zero, suc, ◌≡◌, ◌∙◌, ◌==◌, ◌+◌, ◌*◌, ◌/◌, ◌%◌, ◌^◌, ◌<◌, ◌≤◌, inl, inr, true, false, List, [], ◌∷◌, length, get_or, map, find, Option, Some, None, pow_pos, refl, ap, arith}
+use Rattle.std.proofs.Common.{ℕ, ◌≡◌, ◌+◌, ◌*◌, ◌%◌, ◌^◌, ◌<◌, ◌≤◌, inl, inr, true, List, Some, pow_pos, ap, arith}
 use Rattle.std.specs.Prelude.{Contains, slice_get}
-use Rattle.std.specs.Option.{option_map_or}
-use Rattle.std.specs.List.{enumerate_from, list_all}
+use Rattle.std.specs.List.{list_all}
 use Rattle.std.proofs.lemmas.Bool.{cases_eq, eqb-true, ltb-false}
+use Rattle.thread_facts.proofs.ListedThreads.{thread-entry}
+use Rattle.thread_facts.proofs.RootTables.{root-original}
 use Rattle.fitting.specs.Fitting.{IsFitting}
 use Rattle.fitting.proofs.ImageFits.{is-fitting}
 use Rattle.booting.specs.Standing.{StandApart}
 use Rattle.booting.proofs.PlacesApart.{stand-apart}
 use Rattle.booting.proofs.PlacesRules.{AreFormed, are-formed}
 use Rattle.falling.specs.Terms.{NamesRegisters}
-use Rattle.model.specs.declared.capabilities.Cap.{Cap}
-use Rattle.model.specs.declared.capabilities.Cap.TheVariants.{Empty, RootTable}
-use Rattle.model.specs.declared.entries.TableEntry.{TableEntry}
 use Rattle.model.specs.Acceptance.Accepted.{IsAccepted}
 use Rattle.model.specs.Acceptance.NotedStates.{PointState}
 use Rattle.model.specs.Acceptance.PointStates.{Known, noted}
 use Rattle.model.specs.Acceptance.ThreadInvariants.{root_table_of}
 use Rattle.model.specs.Acceptance.ThreadRules.{is_code, program_end}
-use Rattle.model.specs.Acceptance.WellFormed.{is_root_type}
-use Rattle.model.specs.Capabilities.CapabilityKinds.{root_of, with_table_mapping}
+use Rattle.model.specs.Capabilities.CapabilityKinds.{root_of}
 use Rattle.model.specs.Images.Described.{Numbered, numbered_threads, original}
 use Rattle.model.specs.Images.Fills.{program_pages}
-use Rattle.model.specs.Images.Image.{Image, Thread}
-use Rattle.model.specs.Images.Places.{bits_of, object_at, offset_of, type_at}
-use Rattle.model.specs.Kernel.AddressSpaces.{address_limit, page_size, region_pages}
-use Rattle.model.specs.Kernel.Retype.{NewObject, NewUntyped, NewThread, NewEndpoint, NewNotification, NewCNode, NewFrame, NewPageTable, NewRootTable, first_capability}
+use Rattle.model.specs.Images.Image.{Image}
+use Rattle.model.specs.Images.Places.{bits_of, object_at}
+use Rattle.model.specs.Kernel.AddressSpaces.{address_limit, page_size}
 use Rattle.thread_steps.specs.Formed.{HasForm}
 use Rattle.thread_steps.specs.Frames.{FramesAreKept}
 use Rattle.thread_steps.specs.Points.{IsPoint}
@@ -42,44 +38,6 @@ pub record IsGiven (image : Image) (t : Numbered) : Type 0 where
   pub points : (point : ℕ) (state : PointState) → point < t.thread.header.words → noted image t point ≡ Known state → IsPoint image t point state
   pub forms : (point : ℕ) (state : PointState) → noted image t point ≡ Known state → HasForm state
   pub names : (point : ℕ) (state : PointState) → noted image t point ≡ Known state → NamesRegisters state.measure
-
--- ---- the thread's entry
-
-abbrev with_number : ℕ × Thread → Numbered
-with_number t = record { number = t.0; thread = t.1 }
-
-entry-from : (n : ℕ) (threads : List Thread) (k : ℕ) (t : Numbered) → k < length (map with_number (enumerate_from n threads)) → get_or (map with_number (enumerate_from n threads)) k t ≡ t
-    → slice_get threads k ≡ Some t.thread
-entry-from n [] k t inside is = absurd (omega (arith, inside))
-entry-from n (x ∷ rest) zero t inside is = ap (λ (u : Numbered). Some u.thread) is
-entry-from n (x ∷ rest) (suc k) t inside is = entry-from (n + 1) rest k t (omega (arith, inside)) is
-
-pub thread-entry : (image : Image) (t : Numbered) → (listed : Contains (numbered_threads image) t) → slice_get image.threads listed.0 ≡ Some t.thread
-thread-entry image t listed = entry-from 0 image.threads listed.0 t listed.1 listed.2
-
--- ---- its root table
-
-mapped-root : (image : Image) (found : Option TableEntry) (offset : ℕ)
-    → option_map_or (λ t. with_table_mapping (RootTable offset) (Some (record { root = offset_of image t.root; region = t.address / page_size / region_pages }))) found (RootTable offset) ≡ RootTable offset
-mapped-root image None offset = refl
-mapped-root image (Some t) offset = refl
-
-first-root : (kind : Option NewObject) (offset : ℕ) → is_root_type kind ≡ true → option_map_or (λ k. first_capability k offset) kind Empty ≡ RootTable offset
-first-root None offset is = absurd (let clash : false ≡ true = is in cc)
-first-root (Some (NewUntyped bits)) offset is = absurd (let clash : false ≡ true = is in cc)
-first-root (Some NewThread) offset is = absurd (let clash : false ≡ true = is in cc)
-first-root (Some NewEndpoint) offset is = absurd (let clash : false ≡ true = is in cc)
-first-root (Some NewNotification) offset is = absurd (let clash : false ≡ true = is in cc)
-first-root (Some (NewCNode radix)) offset is = absurd (let clash : false ≡ true = is in cc)
-first-root (Some NewFrame) offset is = absurd (let clash : false ≡ true = is in cc)
-first-root (Some NewPageTable) offset is = absurd (let clash : false ≡ true = is in cc)
-first-root (Some NewRootTable) offset is = refl
-
-root-original : (image : Image) (number : ℕ) → is_root_type (type_at image number) ≡ true → original image number ≡ RootTable (offset_of image number)
-root-original image number is =
-    ap (λ (c : Cap). option_map_or (λ t. with_table_mapping c (Some (record { root = offset_of image t.root; region = t.address / page_size / region_pages }))) (find (λ t. t.table == number) image.tables) c)
-    (first-root (type_at image number) (offset_of image number) is)
-    ∙ mapped-root image (find (λ t. t.table == number) image.tables) (offset_of image number)
 
 -- ---- frames
 

@@ -1,53 +1,21 @@
 -- What the rules on programs say where they are kept: at each point with a state, and on each edge of such a point.
-use Rattle.std.proofs.Common.{◌≡◌, ℕ, zero, suc, ◌+◌, ◌-◌, ◌*◌, ◌/◌, ◌%◌, ◌<◌, ◌≤◌, Bool, true, false, not, ◌&&◌, nat_le, nat_lt, ◌==◌, List, [], ◌∷◌, ◌++◌, Option, Some, None, if◌then◌else◌, inl, inr, refl, ap, subst, ◌∙◌, length, arith}
-use Rattle.std.specs.Prelude.{flat_map, int_lt, pos, Contains, slice_index_or}
-use Rattle.std.specs.List.{range_with_len}
+use Rattle.std.proofs.Common.{◌≡◌, ℕ, suc, ◌+◌, ◌-◌, ◌*◌, ◌/◌, ◌%◌, ◌<◌, Bool, true, false, not, ◌&&◌, nat_le, nat_lt, ◌==◌, [], Option, Some, None, if◌then◌else◌, refl, ap, subst, ◌∙◌, arith}
+use Rattle.std.specs.Prelude.{int_lt, pos, Contains}
 use Rattle.std.specs.Option.{option_map_or}
-use Rattle.std.proofs.lemmas.Bool.{and_parts, cases_eq, eqb-true, leb-true, ltb-true, not-false}
-use Rattle.std.proofs.lemmas.List.Elements.{All-cons, All-head, All-tail, All-nil}
+use Rattle.std.proofs.lemmas.Bool.{and_parts, eqb-true, leb-true, ltb-true, not-false}
+use Rattle.std.proofs.lemmas.List.Elements.{All-head}
+use Rattle.thread_facts.proofs.RulesKept.{IsKeptRule, kept-among, not-refused, state-kept, holds-where, aligned-point}
 use Rattle.model.specs.declared.refusals.Point.{Point}
-use Rattle.model.specs.declared.refusals.Refusal.{Refusal}
 use Rattle.model.specs.declared.refusals.Refusal.TheVariants.{BadTarget, CapNotThere, ComputedJump, IllegalInstruction, MeasureNotFalling, NotMapped, OverBudget, RangeNotKept}
 use Rattle.model.specs.Acceptance.Accepted.{AreKept}
 use Rattle.model.specs.Acceptance.Measures.{Measure, falls, least_value, stays_below}
 use Rattle.model.specs.Acceptance.NotedStates.{PointState, are_same_slots, has_stray_slots}
-use Rattle.model.specs.Acceptance.PointRules.{ProgramEdge, are_ranges_within, edge_rules, edges_at, entry_rules, is_computed_jump, is_illegal, is_unmapped, kept_at, noted_at, point_at, point_rules, program_rules, rules_of_noted, rules_of_program, rules_on_edges, state_rules}
+use Rattle.model.specs.Acceptance.PointRules.{ProgramEdge, are_ranges_within, edge_rules, edges_at, is_computed_jump, is_illegal, is_unmapped, kept_at, noted_at, point_at, program_rules, rules_on_edges, state_rules}
 use Rattle.model.specs.Acceptance.PointStates.{Noted, Known, Missing, Unmeasured, address_of, instruction_at, noted, point_of}
-use Rattle.model.specs.Acceptance.Rules.{Rule, refuse_if}
+use Rattle.model.specs.Acceptance.Rules.{Rule}
 use Rattle.model.specs.Images.Described.{Numbered, numbered_threads}
 use Rattle.model.specs.Images.Image.{Image, Thread}
 use Rattle.thread_steps.specs.Points.{IsPoint, LeadsOn}
-
--- ---- lists of rules
-
-abbrev IsKeptRule : Rule → Type 0
-IsKeptRule rule = rule ≡ None
-
-kept-left : (xs ys : List Rule) → AreKept (xs ++ ys) → AreKept xs
-kept-left [] ys h = All-nil IsKeptRule
-kept-left (x ∷ xs) ys h = All-cons IsKeptRule x xs (All-head IsKeptRule x (xs ++ ys) h) (kept-left xs ys (All-tail IsKeptRule x (xs ++ ys) h))
-
-kept-right : (xs ys : List Rule) → AreKept (xs ++ ys) → AreKept ys
-kept-right [] ys h = h
-kept-right (x ∷ xs) ys h = kept-right xs ys (All-tail IsKeptRule x (xs ++ ys) h)
-
--- the rules of one entry among those of all
-kept-among : {A : Type 0} (f : A → List Rule) (xs : List A) (x : A) (k : ℕ) → AreKept (flat_map f xs) → k < length xs → slice_index_or xs k x ≡ x → AreKept (f x)
-kept-among f [] x k h inside is = absurd (omega (arith, inside))
-kept-among f (y ∷ ys) x zero h inside is = subst (λ z. AreKept (f z)) is (kept-left (f y) (flat_map f ys) h)
-kept-among f (y ∷ ys) x (suc k) h inside is = kept-among f ys x k (kept-right (f y) (flat_map f ys) h) (omega (arith, inside)) is
-
-kept-of : (f : ℕ → List Rule) (from count k : ℕ) → AreKept (flat_map f (range_with_len from count)) → from ≤ k → k < from + count → AreKept (f k)
-kept-of f from zero k h low high = absurd (omega (arith, low, high))
-kept-of f from (suc count) k h low high = elim (cases_eq from k) [
-  | inl here ↦ subst (λ (n : ℕ). AreKept (f n)) here (kept-left (f from) (flat_map f (range_with_len (from + 1) count)) h)
-  | inr other ↦ kept-of f (from + 1) count k (kept-right (f from) (flat_map f (range_with_len (from + 1) count)) h) (omega (arith, low, other)) (omega (arith, high))
-]
-
--- a rule that refuses where a test holds
-pub not-refused : (b : Bool) (refusal : Refusal) → refuse_if b refusal ≡ None → b ≡ false
-not-refused false refusal h = refl
-not-refused true refusal h = absurd (let clash : ◌≡◌ {A = Rule} (Some refusal) None = h in cc)
 
 -- ---- edges
 
@@ -56,10 +24,6 @@ record IsPointAt (t : Thread) (address point : ℕ) : Type 0 where
   inside : point < t.header.words
   is : address ≡ address_of t point
   aligned : address % 4 ≡ 0
-
-aligned-point : (base words address : ℕ) → base % 4 ≡ 0 → address % 4 ≡ 0 → base ≤ address → address < base + 4 * words
-    → ((address - base) / 4 < words) × (address ≡ base + 4 * ((address - base) / 4))
-aligned-point base words address start aligned low high = (omega (arith, start, aligned, low, high), omega (arith, start, aligned, low, high))
 
 point-found : (t : Thread) (address point : ℕ) → t.header.base % 4 ≡ 0 → point_at t address ≡ Some point → IsPointAt t address point
 point-found t address point base found =
@@ -74,12 +38,6 @@ point-found t address point base found =
           let at = aligned-point t.header.base t.header.words address base aligned (leb-true t.header.base address ends.0) (ltb-true address (t.header.base + 4 * t.header.words) ends.1) in
           record { inside = subst (λ (n : ℕ). n < t.header.words) here at.0; is = at.1 ∙ ap (λ (n : ℕ). t.header.base + 4 * n) here; aligned = aligned }
     ] refl found
-
--- a test that is not refused, and so holds
-holds-where : (b c : Bool) → (b && not c) ≡ false → b ≡ true → c ≡ true
-holds-where true true h is = refl
-holds-where true false h is = absurd (let clash : true ≡ false = h in cc)
-holds-where false c h is = absurd (let clash : false ≡ true = is in cc)
 
 module _ (image : Image) (t : Numbered) (base : t.thread.header.base % 4 ≡ 0) (at : Point) (from : Measure) (edge : ProgramEdge) where
   leads-known : (point : ℕ) (state : PointState) → point_at t.thread edge.target ≡ Some point → noted image t point ≡ Known state
@@ -112,18 +70,6 @@ module _ (image : Image) (t : Numbered) (base : t.thread.header.base % 4 ≡ 0) 
       absurd (let clash : ◌≡◌ {A = Rule} (Some (BadTarget at)) None = All-head IsKeptRule (Some (BadTarget at)) [] kept in cc)
 
 -- ---- points
-
-program-kept : (image : Image) (t : Numbered) → AreKept (program_rules image) → Contains (numbered_threads image) t → AreKept (rules_of_program image t)
-unfolding program_rules
-program-kept image t h listed = kept-among (rules_of_program image) (numbered_threads image) t listed.0 h listed.1 listed.2
-
-state-kept : (image : Image) (t : Numbered) (point : ℕ) (state : PointState) → AreKept (program_rules image) → Contains (numbered_threads image) t → point < t.thread.header.words
-    → noted image t point ≡ Known state → AreKept (state_rules image t point state)
-unfolding rules_of_program point_rules
-state-kept image t point state h listed inside known =
-    let each = kept-right (entry_rules image t (noted image t t.thread.header.entry)) (flat_map (point_rules image t) (range_with_len 0 t.thread.header.words)) (program-kept image t h listed) in
-    let here = kept-of (point_rules image t) 0 t.thread.header.words point each (omega arith) (omega (arith, inside)) in
-    subst (λ (n : Noted). AreKept (rules_of_noted image t point n)) known here
 
 by-rules : (image : Image) (t : Numbered) (point : ℕ) (state : PointState) → t.thread.header.base % 4 ≡ 0 → AreKept (state_rules image t point state) → IsPoint image t point state
 unfolding state_rules

@@ -1,11 +1,9 @@
 pub mod Accesses
 pub mod Budgets
 pub mod CodeStays
-pub mod DecodedFields
 pub mod EdgesTaken
 pub mod GivenThreads
 pub mod KeptRules
-pub mod MappedPages
 pub mod NotedForms
 pub mod PlainSteps
 pub mod PointForms

@@ -1,11 +1,8 @@
 -- A step of a thread that reaches no system call does not fault, and leaves the thread at a point of its certificate.
-use Rattle.std.proofs.Common.{ℕ, zero, suc, ◌≡◌, ◌∙◌, ◌==◌, ◌+◌, ◌-◌, ◌^◌, ◌<◌, ◌≤◌, ◌++◌, inl, inr, Bool, true, false, nat_le, if◌then◌else◌, List, [], ◌∷◌, length, get_or, map, Option, Some, None, Ok, pos, ◌+ℤ◌, ◌≤ℤ◌, ◌<ℤ◌, All, refl, sym, ap, subst, arith}
+use Rattle.std.proofs.Common.{ℕ, zero, suc, ◌≡◌, ◌∙◌, ◌+◌, ◌<◌, ◌++◌, Bool, true, false, if◌then◌else◌, List, [], ◌∷◌, length, get_or, map, Option, Some, None, Ok, pos, ◌+ℤ◌, ◌≤ℤ◌, ◌<ℤ◌, refl, sym, ap, subst, arith}
 use Rattle.std.specs.Prelude.{Contains, slice_index}
 use Rattle.std.specs.Option.{option_map_or}
-use Rattle.std.specs.List.{list_all, range_with_len}
-use Rattle.std.proofs.lemmas.Bool.{and_parts, cases_eq, cases_lt, eq-eqb, leb-true}
-use Rattle.std.proofs.lemmas.Bool.Decides.{eqb_tells}
-use Rattle.std.proofs.lemmas.List.{get_or_past}
+use Rattle.std.proofs.lemmas.Bool.{eq-eqb}
 use Rattle.falling.proofs.FallsIsLess.{falls-is-less}
 use Rattle.soundness.proofs.Running.{current-runs}
 use Rattle.model.specs.declared.events.Event.TheVariants.{Step}
@@ -13,19 +10,18 @@ use Rattle.model.specs.declared.instructions.Access.TheVariants as accesses
 use Rattle.model.specs.declared.instructions.AccessSize.TheVariants.{Word}
 use Rattle.model.specs.declared.instructions.Exec.{Exec}
 use Rattle.model.specs.declared.instructions.Exec.TheVariants as outcomes
+use Rattle.thread_facts.proofs.WiderRanges.{within-wider}
+use Rattle.thread_facts.proofs.ThreadObjects.{read-less, at-place}
 use Rattle.model.specs.declared.instructions.Instr.{Instr}
 use Rattle.model.specs.declared.instructions.Instr.TheVariants.{Upper, Jal, Jalr, Branch, Load, Store, Immediate, Shift, Registers, Fence, Ecall, Ebreak}
-use Rattle.model.specs.declared.instructions.Register.{Register}
 use Rattle.model.specs.declared.labels.Label.{Label}
 use Rattle.model.specs.declared.labels.Label.TheVariants.{Idle, Ran}
 use Rattle.model.specs.declared.labels.Outcome.TheVariants.{Plain}
-use Rattle.model.specs.declared.ranges.Range.{Range}
 use Rattle.model.specs.Acceptance.Edges.{after}
-use Rattle.model.specs.Acceptance.Measures.{measured, register_numbered}
+use Rattle.model.specs.Acceptance.Measures.{measured}
 use Rattle.model.specs.Acceptance.NotedStates.{NotedSlot, PointState}
-use Rattle.model.specs.Acceptance.PointRules.{ProgramEdge, are_ranges_within, edges_at, is_computed_jump, is_illegal, is_range_within, is_unmapped, program_edge}
+use Rattle.model.specs.Acceptance.PointRules.{ProgramEdge, edges_at, is_computed_jump, is_illegal, is_unmapped, program_edge}
 use Rattle.model.specs.Acceptance.PointStates.{address_of, instruction_at}
-use Rattle.model.specs.Acceptance.Ranges.{full, range_of, single}
 use Rattle.model.specs.Acceptance.ThreadInvariants.{IsWaiting, IsWithinBudget, LieWithin, MapsAreNoted, NamesNoCode, StandsAt, ThreadInvariant, runs as runs_so, waits, root_table_of, tcb_of}
 use Rattle.model.specs.Capabilities.CapabilityKinds.{root_of}
 use Rattle.model.specs.Images.Described.{Numbered}
@@ -34,75 +30,24 @@ use Rattle.model.specs.Kernel.AddressSpaces.{content_of, vspace_of, with_content
 use Rattle.model.specs.Kernel.Messages.{with_registers}
 use Rattle.model.specs.Kernel.Scheduling.{current, is_runnable}
 use Rattle.model.specs.Kernel.Soundness.{IsSound, ThreadIsSound}
-use Rattle.model.specs.Kernel.State.{State, Status, Inactive, Runnable, Blocked, AwaitsReply, AwaitsHandler, Object, ThreadObject, ThreadState, as_thread, new_thread, thread_at}
+use Rattle.model.specs.Kernel.State.{State, Status, Inactive, Runnable, Blocked, AwaitsReply, AwaitsHandler, ThreadObject, ThreadState, thread_at}
 use Rattle.model.specs.Kernel.Steps.{Done, after_effect, memory_base, ran, registers_of, runs, runs_decoded, runs_fetched, step}
 use Rattle.model.specs.Kernel.Waits.{is_fault, open_count}
 use Rattle.model.specs.Machine.Effects.{effect}
 use Rattle.model.specs.Machine.Instructions.{IsInstr}
-use Rattle.model.specs.Machine.ProgramMemory.{Content, RegisterFile, loaded, read}
+use Rattle.model.specs.Machine.ProgramMemory.{Content, RegisterFile, loaded}
+use Rattle.soundness.proofs.Stepped.{byte-less}
 use Rattle.ranges.specs.Standing.{AreWords}
+use Rattle.thread_facts.proofs.DecodedFields.{decoded-instr}
 use Rattle.thread_steps.specs.Points.{IsPoint, LeadsOn, ReachesNoCall}
 use Rattle.thread_steps.specs.Taken.{IsPlain, MayTake, edges_among}
 use Rattle.thread_steps.proofs.Accesses.{reaches-mapped}
 use Rattle.thread_steps.proofs.Budgets.{open-more, within-still}
 use Rattle.thread_steps.proofs.CodeStays.{effect-keeps}
-use Rattle.thread_steps.proofs.DecodedFields.{decoded-instr}
 use Rattle.thread_steps.proofs.EdgesTaken.{may-take}
 use Rattle.thread_steps.proofs.GivenThreads.{IsGiven}
 use Rattle.thread_steps.proofs.ProgramStays.{program-stays}
 use Rattle.thread_steps.proofs.SameSlots.{not-stray-formed, slots-back}
-
--- ---- wider ranges
-
-abbrev Inside : ℕ → Range → Type 0
-Inside n r = (r.low ≤ n) × (n ≤ r.high)
-
-holds-at : (test : ℕ → Bool) (from count k : ℕ) → list_all test (range_with_len from count) ≡ true → from ≤ k → k < from + count → test k ≡ true
-holds-at test from zero k h low high = absurd (omega (arith, low, high))
-holds-at test from (suc count) k h low high =
-    let parts = and_parts (test from) (list_all test (range_with_len (from + 1) count)) h in
-    elim (cases_eq from k) [
-      | inl here ↦ subst (λ (n : ℕ). test n ≡ true) here parts.0
-      | inr other ↦ holds-at test (from + 1) count k parts.1 (omega (arith, low, other)) (omega (arith, high))
-    ]
-
-wider : (n : ℕ) (r s : Range) → is_range_within r s ≡ true → Inside n r → Inside n s
-wider n r s within inside =
-    let ends = and_parts (nat_le s.low r.low) (nat_le r.high s.high) within in
-    (omega (arith, inside.0, leb-true s.low r.low ends.0), omega (arith, inside.1, leb-true r.high s.high ends.1))
-
-within-wider : (r : RegisterFile) (ranges others : List Range) → are_ranges_within ranges others ≡ true → LieWithin r ranges → LieWithin r others
-within-wider r ranges others within lie k less = elim (eqb_tells k 0) [
-  | inl none ↦
-      let same : range_of others (register_numbered k) ≡ range_of ranges (register_numbered k) =
-      ap (λ (b : Bool). if b then single 0 else get_or others (k - 1) full) none.0 ∙ sym (ap (λ (b : Bool). if b then single 0 else get_or ranges (k - 1) full) none.0) in
-      subst (λ (x : Range). Inside (read r (register_numbered k)) x) (sym same) (lie k less)
-  | inr some ↦
-      let narrow : range_of ranges (register_numbered k) ≡ get_or ranges (k - 1) full = ap (λ (b : Bool). if b then single 0 else get_or ranges (k - 1) full) some.0 in
-      let wide : range_of others (register_numbered k) ≡ get_or others (k - 1) full = ap (λ (b : Bool). if b then single 0 else get_or others (k - 1) full) some.0 in
-      let test : is_range_within (get_or ranges (k - 1) full) (get_or others (k - 1) full) ≡ true =
-      holds-at (λ n. is_range_within (get_or ranges n full) (get_or others n full)) 0 31 (k - 1) within (omega arith) (omega (arith, less, some.1)) in
-      subst (λ (x : Range). Inside (read r (register_numbered k)) x) (sym wide)
-      (wider (read r (register_numbered k)) (get_or ranges (k - 1) full) (get_or others (k - 1) full) test (subst (λ (x : Range). Inside (read r (register_numbered k)) x) narrow (lie k less)))
-]
-
--- ---- registers and bytes
-
-word-at : (words : List ℕ) (k : ℕ) → All (λ word. word < 2 ^ 32) words → get_or words k 0 < 2 ^ 32
-word-at words k are = elim (cases_lt k (length words)) [
-  | inl less ↦ are k 0 less
-  | inr past ↦ let none : get_or words k 0 ≡ 0 = get_or_past words k 0 past in omega (arith, none)
-]
-
-read-word : (r : RegisterFile) (x : Register) → All (λ word. word < 2 ^ 32) r.words → read r x < 2 ^ 32
-read-word r x are = elim (x.0 == 0) as (λ (b : Bool). (if b then 0 else get_or r.words x.0 0) < 2 ^ 32) [
-  | true ↦ omega arith
-  | false ↦ word-at r.words x.0 are
-]
-
-byte-less : (s : State) → IsSound s → (place : ℕ) (o : Option ℕ) → s.bytes place ≡ o → option_map_or (λ byte. byte) o 0 < 2 ^ 8
-byte-less s sound place None is = omega arith
-byte-less s sound place (Some byte) is = sound.memory.small place byte is
 
 -- ---- instructions
 
@@ -150,9 +95,6 @@ not-waiting (Blocked queue) runs waiting = let clash : false ≡ true = runs in 
 not-waiting AwaitsReply runs waiting = let clash : false ≡ true = runs in absurd cc
 not-waiting AwaitsHandler runs waiting = waiting
 
-own-is : (s : State) (thread : ℕ) (own : ThreadState) → s.objects thread ≡ Some (ThreadObject own) → thread_at s thread ≡ own
-own-is s thread own there = ap (λ (o : Option Object). option_map_or (λ (u : ThreadState). u) (as_thread o) new_thread) there
-
 module _ (image : Image) (t : Numbered) (g : IsGiven image t) (s : State) (labels : List Label) (sound : IsSound s) (now : current s ≡ Some (tcb_of image t)) (free : ReachesNoCall s (tcb_of image t))
     (own : ThreadState) (point : ℕ) (state : PointState) (there : s.objects (tcb_of image t) ≡ Some (ThreadObject own)) (status : own.status ≡ Runnable)
     (stands : StandsAt image t s own point state) (budget : IsWithinBudget image t labels own state) where
@@ -169,7 +111,7 @@ module _ (image : Image) (t : Numbered) (g : IsGiven image t) (s : State) (label
   word = slice_index t.thread.words point
 
   same : thread_at s tcb ≡ own
-  same = own-is s tcb own there
+  same = at-place s tcb own there
 
   pc-is : r.pc ≡ address_of t.thread point
   pc-is = ap (λ (u : ThreadState). u.registers.pc) same ∙ stands.pc
@@ -181,7 +123,7 @@ module _ (image : Image) (t : Numbered) (g : IsGiven image t) (s : State) (label
   fine = subst ThreadIsSound (sym same) (sound.threads.threads tcb own there)
 
   are : AreWords r content
-  are = record { count = fine.registers; words = λ x. read-word r x fine.words; bytes = λ place. byte-less s sound place (s.bytes place) refl }
+  are = record { count = fine.registers; words = λ x. read-less r x fine.words; bytes = λ place. byte-less s sound place (s.bytes place) refl }
 
   vspace : vspace_of s tcb ≡ Some (root_table_of image t)
   vspace = ap root_of stands.vspace ∙ g.root
@@ -304,4 +246,4 @@ pub plain-keeps : (image : Image) (t : Numbered) (s : State) (labels : List Labe
 plain-keeps image t s labels g sound now free (runs_so own point state there status stands budget) = running-keeps image t g s labels sound now free own point state there status stands budget
 plain-keeps image t s labels g sound now free (waits own point state there waiting stands waits_there none) =
     let running = current-runs s sound.threads (tcb_of image t) now in
-    absurd (not-waiting own.status (subst (λ (u : ThreadState). is_runnable u.status ≡ true) (own-is s (tcb_of image t) own there) running.runs) waiting)
+    absurd (not-waiting own.status (subst (λ (u : ThreadState). is_runnable u.status ≡ true) (at-place s (tcb_of image t) own there) running.runs) waiting)

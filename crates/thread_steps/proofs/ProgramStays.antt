@@ -10,6 +10,8 @@ use Rattle.model.specs.declared.capabilities.Cap.TheVariants.{Frame}
 use Rattle.model.specs.declared.entries.FrameEntry.{FrameEntry}
 use Rattle.model.specs.declared.instructions.Access.{Access}
 use Rattle.model.specs.declared.instructions.Access.TheVariants as accesses
+use Rattle.thread_facts.proofs.CodePages.{IsProgramPage, NamesFrame, implied, names-frame, program-page}
+use Rattle.thread_facts.proofs.MappedPages.{page-mapped}
 use Rattle.model.specs.declared.instructions.AccessSize.TheVariants.{Word}
 use Rattle.model.specs.declared.instructions.MemoryFault.{MemoryFault}
 use Rattle.model.specs.declared.rights.Rights.{Rights}
@@ -30,8 +32,7 @@ use Rattle.model.specs.Kernel.Soundness.{IsSound}
 use Rattle.model.specs.Kernel.State.{State}
 use Rattle.model.specs.Machine.ProgramMemory.{Content, RegisterFile, ◌>>=◌, loaded, named, next_address, places_from, width_of}
 use Rattle.thread_steps.specs.Frames.{FramesAreKept}
-use Rattle.thread_steps.proofs.CodeStays.{IsProgramPage, NamesFrame, implied, names-frame, not-writes, one-mapping, program-page, same-frame}
-use Rattle.thread_steps.proofs.MappedPages.{page-mapped}
+use Rattle.thread_steps.proofs.CodeStays.{not-writes, one-mapping, same-frame}
 
 -- ---- what is loaded
 
@@ -105,7 +106,7 @@ module _ (image : Image) (t : Numbered) (s : State) (slots : List NotedSlot) (ke
       let f = IsProgramPage.entry p in
       let by_image : ImageMaps image t (address / page_size) (offset_of image f.frame) (mapping_rights frame_rights f.rights) = record {
         entry = f;
-        listed = listed-at (IsProgramPage.item p) f (IsProgramPage.listed p);
+        listed = listed-at (IsProgramPage.item p) f (IsProgramPage.at p);
         root = IsProgramPage.root p;
         address = IsProgramPage.address_is p;
         object = refl;
@@ -118,7 +119,7 @@ module _ (image : Image) (t : Numbered) (s : State) (slots : List NotedSlot) (ke
       let root = root_table_of image t in
       let page = address / page_size in
       let f = IsProgramPage.entry p in
-      let n = names-frame image t s accesses.Fetch address place vspace named in
+      let n = names-frame s (tcb_of image t) (root_table_of image t) accesses.Fetch address place vspace named in
       let one = page-mapped s root page (offset_of image f.frame) (mapping_rights frame_rights f.rights) sound (code-maps address p) in
       let other = page-mapped s root page (NamesFrame.frame n) (NamesFrame.allowed n) sound (NamesFrame.maps n) in
       let same : NamesFrame.frame n ≡ offset_of image f.frame = ap (λ (o : Option MappedFrame). option_map_or (λ m. m.frame) o 0) (sym other ∙ one) in
@@ -134,13 +135,13 @@ module _ (image : Image) (t : Numbered) (s : State) (slots : List NotedSlot) (ke
       let g = m.entry in
       let at = m.listed in
       let g_at : slice_get image.frames at.0 ≡ Some g = slice_get-get_or image.frames at.0 g at.1 ∙ ap (λ (x : FrameEntry). Some x) at.2 in
-      let one = kept.each item f (IsProgramPage.listed p) in
+      let one = kept.each item f (IsProgramPage.at p) in
       let other = kept.each at.0 g g_at in
       let same_object : g.frame ≡ f.frame = kept.apart g.frame f.frame other.object one.object other.frame one.frame (sym m.object ∙ here) in
       let rule = or_parts (f.rights == 7) (executes f && is_named_otherwise image item f.frame) one.code in
       let alone = implied (executes f) (is_named_otherwise image item f.frame) rule.1 (IsProgramPage.executes_so p) in
       let same_item : at.0 ≡ item = one-mapping image item at.0 f g g_at alone same_object in
-      let both : Some g ≡ Some f = sym g_at ∙ ap (slice_get image.frames) same_item ∙ IsProgramPage.listed p in
+      let both : Some g ≡ Some f = sym g_at ∙ ap (slice_get image.frames) same_item ∙ IsProgramPage.at p in
       let same : g ≡ f = cc in
       let by_code : may_write (mapping_rights frame_rights f.rights) ≡ true =
       subst (λ (x : FrameEntry). may_write (mapping_rights frame_rights x.rights) ≡ true) same (subst (λ (x : Rights). may_write x ≡ true) m.rights writes) in
@@ -149,14 +150,14 @@ module _ (image : Image) (t : Numbered) (s : State) (slots : List NotedSlot) (ke
   not-noted : (address page frame : ℕ) (allowed : Rights) (p : IsProgramPage image t address) → NotedMaps image t slots page frame allowed → frame ≡ offset_of image (IsProgramPage.entry p).frame → ⊥
   not-noted address page frame allowed p m here =
       let f = IsProgramPage.entry p in
-      let is_code_frame : IsCode image frame = record { entry = f; listed = listed-at (IsProgramPage.item p) f (IsProgramPage.listed p); place = here; executes = IsProgramPage.executes_so p } in
+      let is_code_frame : IsCode image frame = record { entry = f; listed = listed-at (IsProgramPage.item p) f (IsProgramPage.at p); place = here; executes = IsProgramPage.executes_so p } in
       code m.slot frame m.held (Some (record { root = root_table_of image t; page = page; rights = allowed })) m.noted m.capability is_code_frame
 
   -- no address names a place of the program for a store
   pub stores-elsewhere : (address place : ℕ) → IsProgramPage image t address → content.place accesses.Fetch address ≡ Some place → (a q : ℕ) → content.place accesses.Store a ≡ Some q → q ≢ place
   stores-elsewhere address place p named a q stored_at same =
       let f = IsProgramPage.entry p in
-      let n = names-frame image t s accesses.Store a q vspace stored_at in
+      let n = names-frame s (tcb_of image t) (root_table_of image t) accesses.Store a q vspace stored_at in
       let here = code-place address place p named in
       let first = aligned (a / page_size) (NamesFrame.frame n) (NamesFrame.allowed n) (NamesFrame.maps n) in
       let second = aligned (address / page_size) (offset_of image f.frame) (mapping_rights frame_rights f.rights) (code-maps address p) in

@@ -1,23 +1,20 @@
 -- Slots that the rules compare as the same are the same.
 use Rattle.std.proofs.Common.{ℕ, zero, suc, ◌≡◌, ◌∙◌, ◌^◌, ◌<◌, ◌≤◌, ◌&&◌, ◌||◌, inl, inr, true, false, not, nat_lt, Option, Some, None, List, [], ◌∷◌, length, get_or, refl, sym, ap, arith}
-use Rattle.std.specs.Prelude.{nat_eq}
 use Rattle.std.specs.Option.{option_map_or}
 use Rattle.std.specs.List.{list_all, list_any}
 use Rattle.std.proofs.Math.Pow.{pow_mono}
 use Rattle.std.proofs.lemmas.Bool.{and_parts, cases_lt, eqb-true, ltb-true, not-false, or_cases, or_parts}
 use Rattle.std.proofs.lemmas.Option.{slice_get-get_or}
-use lib.Pointwise.{pointwise}
+use Rattle.thread_facts.proofs.NotedKeys.{same-low-key, capabilities-equal}
 use Rattle.fitting.specs.Fitting.{IsFitting}
 use Rattle.fitting.proofs.FormatFits.{between-bounds}
 use Rattle.image.proofs.CapabilityTests.{test-decides}
-use Rattle.image.proofs.WordLaws.{words-back}
-use Rattle.model.specs.declared.capabilities.Cap.{Cap}
 use Rattle.model.specs.declared.entries.ObjectEntry.{ObjectEntry}
 use Rattle.model.specs.Acceptance.NotedStates.{NotedSlot, PointState, SlotKey, are_same_slots, has_stray_slots, is_foreign, is_own, is_same_key, is_same_parent, is_same_slot, is_stray, leads_to_boot, notes_outside, number_of, record_of}
 use Rattle.model.specs.Acceptance.ThreadRules.{is_member, reached}
 use Rattle.model.specs.Acceptance.WellFormed.{has_slot, radix_of}
-use Rattle.model.specs.Capabilities.CapabilityFields.{is_capability, same_words, unpacked}
-use Rattle.model.specs.Capabilities.CapabilityWords.{IsCapability, words_of}
+use Rattle.model.specs.Capabilities.CapabilityFields.{is_capability, same_words}
+use Rattle.model.specs.Capabilities.CapabilityWords.{words_of}
 use Rattle.model.specs.Images.Image.{Image, Thread, size_fits}
 use Rattle.model.specs.Images.Places.{object_at, type_at}
 use Rattle.model.specs.Kernel.Retype.{type_of}
@@ -25,41 +22,19 @@ use Rattle.thread_steps.specs.Formed.{AreFormed, IsFormed, is_low}
 
 -- ---- keys, capabilities, parents
 
-key-back : (a b : SlotKey) → a.index < 2 ^ 32 → b.index < 2 ^ 32 → number_of a ≡ number_of b → a ≡ b
-key-back a b less few same =
-    let cnode : a.cnode ≡ b.cnode = omega (arith, less, few, same) in
-    let index : a.index ≡ b.index = omega (arith, less, few, same) in
-    λ i. record { cnode = cnode i; index = index i }
-
-words-same : (xs ys : List ℕ) → pointwise nat_eq xs ys ≡ true → xs ≡ ys
-words-same [] [] is = refl
-words-same [] (y ∷ ys) is = absurd (let clash : false ≡ true = is in cc)
-words-same (x ∷ xs) [] is = absurd (let clash : false ≡ true = is in cc)
-words-same (x ∷ xs) (y ∷ ys) is =
-    let parts = and_parts (nat_eq x y) (pointwise nat_eq xs ys) is in
-    let first : x ≡ y = eqb-true x y parts.0 in
-    let rest = words-same xs ys parts.1 in
-    λ i. first i ∷ rest i
-
-capability-back : (a b : Cap) → IsCapability a → IsCapability b → same_words (words_of a) (words_of b) ≡ true → a ≡ b
-capability-back a b valid other same =
-    let one : Some a ≡ Some b =
-    sym (words-back a valid) ∙ ap (λ (l : List ℕ). unpacked (get_or l 0 0) (get_or l 1 0)) (words-same (words_of a) (words_of b) same) ∙ words-back b other in
-    cc
-
 parent-back : (a b : Option SlotKey) → option_map_or (λ key. nat_lt key.index (2 ^ 32)) a true ≡ true → option_map_or (λ key. nat_lt key.index (2 ^ 32)) b true ≡ true → is_same_parent a b ≡ true → a ≡ b
 parent-back None None low few same = refl
 parent-back None (Some b) low few same = absurd (let clash : false ≡ true = same in cc)
 parent-back (Some a) None low few same = absurd (let clash : false ≡ true = same in cc)
 parent-back (Some a) (Some b) low few same =
-    ap (λ (k : SlotKey). Some k) (key-back a b (ltb-true a.index (2 ^ 32) low) (ltb-true b.index (2 ^ 32) few) (eqb-true (number_of a) (number_of b) same))
+    ap (λ (k : SlotKey). Some k) (same-low-key a b (ltb-true a.index (2 ^ 32) low) (ltb-true b.index (2 ^ 32) few) (eqb-true (number_of a) (number_of b) same))
 
 slot-back : (a b : NotedSlot) → IsFormed a → IsFormed b → is_same_slot a b ≡ true → a ≡ b
 slot-back a b one other same =
     let outer = and_parts (is_same_key a.key b.key && same_words (words_of a.capability) (words_of b.capability)) (is_same_parent a.parent b.parent) same in
     let inner = and_parts (is_same_key a.key b.key) (same_words (words_of a.capability) (words_of b.capability)) outer.0 in
-    let key = key-back a.key b.key one.index other.index (eqb-true (number_of a.key) (number_of b.key) inner.0) in
-    let capability = capability-back a.capability b.capability one.valid other.valid inner.1 in
+    let key = same-low-key a.key b.key one.index other.index (eqb-true (number_of a.key) (number_of b.key) inner.0) in
+    let capability = capabilities-equal a.capability b.capability one.valid other.valid inner.1 in
     let parent = parent-back a.parent b.parent one.low other.low outer.1 in
     λ i. record { key = key i; capability = capability i; parent = parent i }
 

@@ -7,11 +7,12 @@ use Rattle.call_points.proofs.waking_laws.messages_fit_behind.Goals as goal
 
 pub returns : goal.returns
 returns c = record {
-  message = λ registers ranges count small long within badge message low words few info.
-      message-fits registers ranges count small long within badge badges message (omega (arith, low)) (omega arith, omega (arith, low)) words info;
-  answer = λ registers ranges count small long within message words few info.
-      message-fits registers ranges count small long within 0 (single 0) message (omega arith) (omega arith, omega arith) words info;
-  signal = λ registers ranges count small long within word low. signal-fits registers ranges count small long within word low;
-  result = λ registers ranges count small long within. result-fits registers ranges count small long within;
-  nothing = λ registers ranges count small long within. nothing-fits registers ranges count small long within;
+  message = λ registers ranges badge message fine low is.
+      message-fits registers ranges fine.count fine.words fine.long fine.within badge badges message (omega (arith, low))
+      (omega arith, omega (arith, low)) is.words is.info;
+  answer = λ registers ranges message fine is.
+      message-fits registers ranges fine.count fine.words fine.long fine.within 0 (single 0) message (omega arith) (omega arith, omega arith) is.words is.info;
+  signal = λ registers ranges word fine low. signal-fits registers ranges fine.count fine.words fine.long fine.within word low;
+  result = λ registers ranges fine. result-fits registers ranges fine.count fine.words fine.long fine.within;
+  nothing = λ registers ranges fine. nothing-fits registers ranges fine.count fine.words fine.long fine.within;
 }

@@ -2,11 +2,14 @@
 use Rattle.std.proofs.Common.{refl, subst}
 use Rattle.model.specs.Images.Described.{described}
 use Rattle.model.specs.Kernel.State.{Status}
-use Rattle.kept_threads.specs.Waiting.{WaitsSo}
-use Rattle.kept_threads.proofs.StartObjects.{entry-from, listed-runs, others-inactive}
+use Rattle.thread_facts.specs.Waiting.{WaitsSo}
+use Rattle.kept_threads.proofs.StartHangs.{hangs-at-start}
+use Rattle.kept_threads.proofs.StartObjects.{listed-runs, others-inactive}
 use Rattle.kept_threads.proofs.standing_laws.all_stand_at_the_start.Goals as goal
+use Rattle.thread_facts.proofs.ListedThreads.{entry-from}
 
 pub returns : goal.returns
+unfolding described
 returns c = λ bytes image accepted.
     let fits = accepted.spelled.fits in
     let formed = accepted.formed in
@@ -19,4 +22,7 @@ returns c = λ bytes image accepted.
           subst (λ (status : Status). WaitsSo image t (described image) state left status) (listed-runs t.thread _ own object is) tt;
       others = others-inactive image;
       apart = λ slot out. refl;
+      hang = λ t listed. hangs-at-start image fits formed t (record { number = listed.0; listed = entry-from 0 image.threads listed.0 t listed.1 listed.2 });
+      memory_bits = refl;
+      boot_radix = refl;
     }

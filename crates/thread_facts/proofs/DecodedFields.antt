@@ -87,7 +87,8 @@ have-fields word =
     either (bits word 0 7 == 0x63) _ _ (of_branch (branch_op (funct3_of word)) word) (
     either (bits word 0 7 == 0x03) _ _ (of_load (load_op (funct3_of word)) word) (
     either (bits word 0 7 == 0x23) _ _ (of_store (store_op (funct3_of word)) word) (
-    either (bits word 0 7 == 0x13) _ _ (either ((funct3_of word == 1) || (funct3_of word == 5)) _ _ (of_shift (shift_op (funct3_of word) (funct7_of word)) word) (of_immediate (immediate_op (funct3_of word)) word)) (
+    either (bits word 0 7 == 0x13) _ _ (either ((funct3_of word == 1) || (funct3_of word == 5)) _ _ (of_shift (shift_op (funct3_of word) (funct7_of word)) word)
+    (of_immediate (immediate_op (funct3_of word)) word)) (
     either (bits word 0 7 == 0x33) _ _ (of_registers (register_op (funct3_of word) (funct7_of word)) word) (
     either (bits word 0 7 == 0x0F) _ _ (either (funct3_of word == 0) _ _ tt tt) (
     either (bits word 0 7 == 0x73) _ _ (either (word == 0x73) _ _ tt (either (word == 0x100073) _ _ tt tt)) tt))))))))))

@@ -9,11 +9,9 @@ use Rattle.model.specs.Acceptance.PointRules.{are_ranges_within, is_range_within
 use Rattle.model.specs.Acceptance.Ranges.{full, range_of, single}
 use Rattle.model.specs.Acceptance.ThreadInvariants.{LieWithin}
 use Rattle.model.specs.Machine.ProgramMemory.{RegisterFile, read}
+use Rattle.ranges.specs.Inside.{LiesIn}
 
-abbrev Inside : ℕ → Range → Type 0
-Inside n r = (r.low ≤ n) × (n ≤ r.high)
-
-holds-at : (test : ℕ → Bool) (from count k : ℕ) → list_all test (range_with_len from count) ≡ true → from ≤ k → k < from + count → test k ≡ true
+pub holds-at : (test : ℕ → Bool) (from count k : ℕ) → list_all test (range_with_len from count) ≡ true → from ≤ k → k < from + count → test k ≡ true
 holds-at test from zero k h low high = absurd (omega (arith, low, high))
 holds-at test from (suc count) k h low high =
     let parts = and_parts (test from) (list_all test (range_with_len (from + 1) count)) h in
@@ -22,7 +20,7 @@ holds-at test from (suc count) k h low high =
       | inr other ↦ holds-at test (from + 1) count k parts.1 (omega (arith, low, other)) (omega (arith, high))
     ]
 
-wider : (n : ℕ) (r s : Range) → is_range_within r s ≡ true → Inside n r → Inside n s
+pub wider : (n : ℕ) (r s : Range) → is_range_within r s ≡ true → LiesIn n r → LiesIn n s
 wider n r s within inside =
     let ends = and_parts (nat_le s.low r.low) (nat_le r.high s.high) within in
     (omega (arith, inside.0, leb-true s.low r.low ends.0), omega (arith, inside.1, leb-true r.high s.high ends.1))
@@ -35,13 +33,13 @@ within-wider r ranges others within lie k less =
       | inl none ↦
           let same : range_of others (register_numbered k) ≡ range_of ranges (register_numbered k) =
           ap (λ (b : Bool). of b others) none.0 ∙ sym (ap (λ (b : Bool). of b ranges) none.0) in
-          subst (λ (x : Range). Inside (read r (register_numbered k)) x) (sym same) (lie k less)
+          subst (λ (x : Range). LiesIn (read r (register_numbered k)) x) (sym same) (lie k less)
       | inr some ↦
           let narrow : range_of ranges (register_numbered k) ≡ get_or ranges (k - 1) full = ap (λ (b : Bool). of b ranges) some.0 in
           let wide : range_of others (register_numbered k) ≡ get_or others (k - 1) full = ap (λ (b : Bool). of b others) some.0 in
           let test : is_range_within (get_or ranges (k - 1) full) (get_or others (k - 1) full) ≡ true =
           holds-at (λ n. is_range_within (get_or ranges n full) (get_or others n full)) 0 31 (k - 1) within (omega arith) (omega (arith, less, some.1)) in
-          subst (λ (x : Range). Inside (read r (register_numbered k)) x) (sym wide)
+          subst (λ (x : Range). LiesIn (read r (register_numbered k)) x) (sym wide)
           (wider (read r (register_numbered k)) (get_or ranges (k - 1) full) (get_or others (k - 1) full) test
-          (subst (λ (x : Range). Inside (read r (register_numbered k)) x) narrow (lie k less)))
+          (subst (λ (x : Range). LiesIn (read r (register_numbered k)) x) narrow (lie k less)))
     ]

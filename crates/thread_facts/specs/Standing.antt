@@ -8,7 +8,8 @@ use Rattle.model.specs.Images.Described.{Numbered, described, numbered_threads}
 use Rattle.model.specs.Images.Image.{Image}
 use Rattle.model.specs.Kernel.Soundness.{IsSound}
 use Rattle.model.specs.Kernel.State.{State, Inactive, ThreadObject, ThreadState}
-use Rattle.kept_threads.specs.Waiting.{WaitsAsAsked}
+use Rattle.thread_facts.specs.Hanging.{HangsAsListed}
+use Rattle.thread_facts.specs.Waiting.{WaitsAsAsked}
 
 -- a slot that stands in no thread's CNodes
 abbrev pub IsApart : Image → ℕ → Type 0
@@ -26,3 +27,6 @@ pub record AllStand (image : Image) (s : State) (labels : List Label) : Type 0 w
   pub wait : (t : Numbered) → Contains (numbered_threads image) t → WaitsAsAsked image t s
   pub others : (offset : ℕ) (own : ThreadState) → s.objects offset ≡ Some (ThreadObject own) → (own.status ≡ Inactive) ⊎ IsControlBlock image offset
   pub apart : (slot : ℕ) → IsApart image slot → s.slots slot ≡ (described image).slots slot
+  pub hang : (t : Numbered) → Contains (numbered_threads image) t → HangsAsListed image t s
+  pub memory_bits : s.memory_bits ≡ image.header.memory_bits
+  pub boot_radix : s.boot_radix ≡ image.header.boot_radix

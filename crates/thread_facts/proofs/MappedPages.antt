@@ -1,10 +1,9 @@
 -- The page that a list of slots gives is the one that is mapped.
-use Rattle.std.proofs.Common.{ℕ, zero, suc, ◌≡◌, ◌∙◌, ◌==◌, ◌/◌, ◌^◌, ◌<◌, ◌&&◌, inl, inr, Bool, true, false, not, if◌then◌else◌, List, [], ◌∷◌, get_or, length, Option, Some, None, refl, sym, ap, arith}
+use Rattle.std.proofs.Common.{ℕ, zero, suc, ◌≡◌, ◌∙◌, ◌==◌, ◌/◌, ◌^◌, ◌<◌, ◌&&◌, Bool, true, false, not, if◌then◌else◌, List, [], ◌∷◌, get_or, length, Option, Some, None, refl, sym, ap, arith}
 use Rattle.std.specs.Prelude.{filter_map}
 use Rattle.std.specs.Option.{option_map_or}
 use Rattle.std.specs.List.{cons_option, range_with_len}
-use Rattle.std.proofs.lemmas.Bool.{eq-eqb}
-use Rattle.std.proofs.lemmas.Bool.Decides.{eqb_tells}
+use Rattle.std.proofs.lemmas.Bool.{eq-eqb, and_parts, eqb-true}
 use Rattle.std.proofs.lemmas.List.FromFn.{get_or-range_with_len, length-range_with_len}
 use Rattle.model.specs.declared.capabilities.Cap.{Cap}
 use Rattle.model.specs.declared.capabilities.Cap.TheVariants.{Empty, Untyped, Endpoint, Notification, CNode, Frame, PageTable, Tcb, RootTable, InterruptControl, InterruptHandler}
@@ -25,7 +24,8 @@ abbrev pub found : ℕ → Rights → Option MappedFrame
 found frame allowed = Some (standing frame allowed)
 
 -- the first of a list that gives something, where all that do give the same
-first-given : {A : Type 0} (f : ℕ → Option A) (v : A) (ns : List ℕ) (i : ℕ) → i < length ns → f (get_or ns i 0) ≡ Some v → ((n : ℕ) (w : A) → f n ≡ Some w → w ≡ v) → head_of (filter_map f ns) ≡ Some v
+first-given : {A : Type 0} (f : ℕ → Option A) (v : A) (ns : List ℕ) (i : ℕ) → i < length ns → f (get_or ns i 0) ≡ Some v
+    → ((n : ℕ) (w : A) → f n ≡ Some w → w ≡ v) → head_of (filter_map f ns) ≡ Some v
 first-given f v [] i few is same = absurd (omega (arith, few))
 first-given f v (n ∷ ns) zero few is same = ap (λ o. head_of (cons_option o (filter_map f ns))) is
 first-given f v (n ∷ ns) (suc i) few is same =
@@ -43,25 +43,19 @@ found-somewhere f v (n ∷ ns) is = elim (f n) as (λ o. f n ≡ o → head_of (
   | Some w ↦ λ some h. (n, some ∙ h)
 ] refl is
 
-both : (a b : Bool) → (a && b) ≡ true → (a ≡ true) × (b ≡ true)
-both true b h = (refl, h)
-both false b h = absurd (let clash : false ≡ true = h in cc)
-
-number-same : (m n : ℕ) → (m == n) ≡ true → m ≡ n
-number-same m n is = elim (eqb_tells m n) [ inl here ↦ here.1 | inr other ↦ absurd (let clash : false ≡ true = sym other.0 ∙ is in cc) ]
-
 -- ---- what a capability maps at a page
 
 abbrev pub AtPage : ℕ → ℕ → ℕ → Rights → Cap → Type 0
 AtPage root page frame allowed c = (r : Rights) × (c ≡ Frame frame r (Some (record { root = root; page = page; rights = allowed })))
 
-page-frame : (root page f : ℕ) (r : Rights) (m : FrameMapping) (frame : ℕ) (allowed : Rights) (is_it : Bool) → is_page root page m ≡ is_it → (if is_it then found f m.rights else None) ≡ found frame allowed
+page-frame : (root page f : ℕ) (r : Rights) (m : FrameMapping) (frame : ℕ) (allowed : Rights) (is_it : Bool) → is_page root page m ≡ is_it
+    → (if is_it then found f m.rights else None) ≡ found frame allowed
     → AtPage root page frame allowed (Frame f r (Some m))
 page-frame root page f r m frame allowed false test is = absurd (let clash : None ≡ found frame allowed = is in cc)
 page-frame root page f r m frame allowed true test is =
-    let parts = both (m.root == root) (m.page == page) test in
-    let at_root : m.root ≡ root = number-same m.root root parts.0 in
-    let at_page : m.page ≡ page = number-same m.page page parts.1 in
+    let parts = and_parts (m.root == root) (m.page == page) test in
+    let at_root : m.root ≡ root = eqb-true m.root root parts.0 in
+    let at_page : m.page ≡ page = eqb-true m.page page parts.1 in
     let offset : f ≡ frame = ap (λ (o : Option MappedFrame). option_map_or (λ at. at.frame) o 0) is in
     let rights : m.rights ≡ allowed = ap (λ (o : Option MappedFrame). option_map_or (λ at. at.allowed) o m.rights) is in
     (r, λ i. Frame (offset i) r (Some (record { root = at_root i; page = at_page i; rights = rights i })))
@@ -91,7 +85,8 @@ page-there root page frame r allowed c is =
 
 -- ---- the whole
 
-pub page-mapped : (s : State) (root page frame : ℕ) (allowed : Rights) → IsSound s → Maps s.slots root page frame allowed → mapped s root page ≡ found frame allowed
+pub page-mapped : (s : State) (root page frame : ℕ) (allowed : Rights) → IsSound s → Maps s.slots root page frame allowed
+    → mapped s root page ≡ found frame allowed
 unfolding slot_numbers
 page-mapped s root page frame allowed sound maps =
     let count : ℕ = 2 ^ s.memory_bits / 16 in

@@ -1,0 +1,9 @@
+pub mod CodePages
+pub mod DecodedFields
+pub mod ListedThreads
+pub mod MappedPages
+pub mod NotedKeys
+pub mod RootTables
+pub mod RulesKept
+pub mod ThreadObjects
+pub mod WiderRanges

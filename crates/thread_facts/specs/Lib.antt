@@ -1,0 +1,5 @@
+pub mod Hanging
+pub mod Laws
+pub mod Standing
+pub mod Untouched
+pub mod Waiting
