@@ -1,6 +1,6 @@
 -- A thread stands at one call, so that what it waits for has to be said once.
 use Rattle.std.proofs.Common.{ℕ, ◌≡◌, ◌∙◌, ◌+◌, ◌*◌, Option, Some, Result, Ok, sym, ap, subst, arith}
-use Rattle.kept_threads.specs.Waiting.{WaitsAsAsked, WaitsSo}
+use Rattle.thread_facts.specs.Waiting.{WaitsAsAsked, WaitsSo}
 use Rattle.model.specs.declared.refusals.Refusal.{Refusal}
 use Rattle.model.specs.Acceptance.CallRules.{AfterCall}
 use Rattle.model.specs.Acceptance.NotedStates.{PointState}

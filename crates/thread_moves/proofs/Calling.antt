@@ -1,11 +1,10 @@
 -- A thread that stands at a system call, and the step of that call where one queue changes and some threads move.
-use Rattle.std.proofs.Common.{ℕ, ◌≡◌, ◌≢◌, ◌∙◌, ◌+◌, ◌++◌, inl, inr, Bool, true, false, if◌then◌else◌, Option, Some, Ok, List, [], ◌∷◌, refl, sym, ap, arith}
+use Rattle.std.proofs.Common.{ℕ, ◌≡◌, ◌≢◌, ◌∙◌, ◌+◌, ◌++◌, inl, inr, Bool, true, false, if◌then◌else◌, Option, Some, List, [], ◌∷◌, refl, sym, ap, arith}
 use Rattle.std.specs.Prelude.{Contains}
 use Rattle.std.proofs.lemmas.Bool.{eq-eqb}
 use Rattle.std.proofs.lemmas.Bool.Decides.{eqb_tells}
-use Rattle.kept_threads.specs.Standing.{AllStand, IsControlBlock}
-use Rattle.kept_threads.specs.Waiting.{WaitsAsAsked}
-use Rattle.model.specs.declared.instructions.Instr.TheVariants.{Ecall}
+use Rattle.thread_facts.specs.Standing.{AllStand, IsControlBlock}
+use Rattle.thread_facts.specs.Waiting.{WaitsAsAsked}
 use Rattle.model.specs.declared.labels.Label.{Label}
 use Rattle.model.specs.declared.labels.Label.TheVariants.{Ran}
 use Rattle.model.specs.declared.labels.Outcome.{Outcome}
@@ -13,30 +12,21 @@ use Rattle.model.specs.Acceptance.Accepted.{IsAccepted}
 use Rattle.model.specs.Acceptance.Authority.{SameStore}
 use Rattle.model.specs.Acceptance.CallRules.{AfterCall}
 use Rattle.model.specs.Acceptance.NotedStates.{PointState}
-use Rattle.model.specs.Acceptance.PointStates.{call_at, instruction_at}
-use Rattle.model.specs.Acceptance.ThreadInvariants.{IsWithinBudget, StandsAt, ThreadInvariant, tcb_of}
+use Rattle.model.specs.Acceptance.ThreadInvariants.{ThreadInvariant, tcb_of}
 use Rattle.model.specs.Images.Described.{Numbered, numbered_threads}
 use Rattle.model.specs.Images.Image.{Image}
 use Rattle.model.specs.Kernel.Soundness.{IsSound}
-use Rattle.model.specs.Kernel.State.{State, Runnable, Object, ThreadObject, EndpointObject, EndpointState, NotificationObject, NotificationState, Sender, ThreadState}
+use Rattle.model.specs.Kernel.State.{State, Object, ThreadObject, EndpointObject, EndpointState, NotificationObject, NotificationState, Sender, ThreadState}
 use Rattle.model.specs.Kernel.Steps.{memory_base}
 use Rattle.model.specs.Kernel.Waits.{is_waited, open_count}
-use Rattle.thread_moves.specs.Moving.{GoesOnAs, PassesWith}
+use Rattle.thread_moves.specs.Moving.{CallsAt, GoesOnAs, PassesWith}
+use Rattle.call_points.specs.Laws.{AreRegisters}
 use Rattle.thread_moves.specs.Resting.{HasBeen, OthersRest}
-use Rattle.thread_moves.specs.Laws.{AreRegisters, Laws}
+use Rattle.thread_moves.specs.Laws.{Laws}
 use Rattle.thread_moves.proofs.Passing.{ends-wait, passes-on}
 use Rattle.thread_moves.proofs.Puts.{decided, other-label, own-label}
 use Rattle.thread_moves.proofs.Standing.{touches-none}
 use Rattle.thread_moves.proofs.Woken.{runs-free}
-
--- the thread runs, and stands at a system call that the rules allow; `left` is what is known behind it
-pub record CallsAt (image : Image) (t : Numbered) (s : State) (labels : List Label) (own : ThreadState) (point : ℕ) (state : PointState) (left : AfterCall) : Type 0 where
-  pub there : s.objects (tcb_of image t) ≡ Some (ThreadObject own)
-  pub status : own.status ≡ Runnable
-  pub stands : StandsAt image t s own point state
-  pub budget : IsWithinBudget image t labels own state
-  pub ecall : instruction_at t.thread point ≡ Some Ecall
-  pub call : call_at image t point state ≡ Some (Ok left)
 
 -- what the label of the call says of each thread's count
 pub record IsCounted (image : Image) (t : Numbered) (labels later : List Label) (is_wait : Bool) : Type 0 where

@@ -1,8 +1,8 @@
 -- An interrupt is a signal, or stands pending.
-use Rattle.std.proofs.Common.{ℕ, ◌≡◌, ◌∙◌, ◌++◌, ◌^◌, ◌<◌, true, false, nat_lt, if◌then◌else◌, Option, Some, None, option_map, List, [], ◌∷◌, refl, sym, ap, subst}
+use Rattle.std.proofs.Common.{ℕ, ◌≡◌, ◌∙◌, ◌++◌, ◌^◌, ◌<◌, true, false, nat_lt, if◌then◌else◌, Option, Some, None, List, [], ◌∷◌, refl, sym, ap, subst}
 use Rattle.std.specs.Prelude.{Contains}
 use Rattle.std.specs.Option.{option_map_or}
-use Rattle.kept_threads.specs.Standing.{AllStand}
+use Rattle.thread_facts.specs.Standing.{AllStand}
 use Rattle.model.specs.declared.capabilities.Cap.{Cap}
 use Rattle.model.specs.declared.capabilities.Cap.TheVariants.{Empty, Untyped, Endpoint, Notification, CNode, Frame, PageTable, Tcb, RootTable, InterruptControl, InterruptHandler}
 use Rattle.model.specs.declared.events.Event.TheVariants.{Irq}
@@ -16,13 +16,14 @@ use Rattle.model.specs.Capabilities.Slots.{capability_at}
 use Rattle.model.specs.Images.Described.{Numbered, numbered_threads}
 use Rattle.model.specs.Images.Image.{Image}
 use Rattle.model.specs.Kernel.Interrupts.{Signal, binding, interrupt, raise, signal_of, with_pending}
-use Rattle.model.specs.Kernel.Kinds.{Names, kind_at, kind_of}
+use Rattle.model.specs.Kernel.Kinds.{Names, kind_at}
 use Rattle.model.specs.Kernel.Messages.{signals}
-use Rattle.model.specs.Kernel.Retype.{NewObject, NewThread, NewEndpoint, NewNotification, NewCNode, NewFrame, NewPageTable, NewRootTable}
+use Rattle.model.specs.Kernel.Retype.{NewNotification}
 use Rattle.model.specs.Kernel.Soundness.{IsSound}
-use Rattle.model.specs.Kernel.State.{State, Object, ThreadObject, EndpointObject, NotificationObject, NotificationState, CNodeObject, FrameObject, PageTableObject, RootTableObject, binding_slot, notification_at, put}
+use Rattle.model.specs.Kernel.State.{State, NotificationState, binding_slot, notification_at, put, NotificationObject}
 use Rattle.model.specs.Kernel.Steps.{step}
 use Rattle.model.specs.Kernel.Waits.{open_count}
+use Rattle.soundness.proofs.Rest.{notification-kind}
 use Rattle.thread_moves.specs.Resting.{OthersRest}
 use Rattle.thread_moves.specs.Laws.{Laws}
 use Rattle.thread_moves.proofs.Puts.{other-label}
@@ -45,16 +46,6 @@ rest-equal s after same = record {
 
 -- ---- what a line is bound to
 
-pub notification-there : (o : Option Object) → option_map kind_of o ≡ Some NewNotification → (n : NotificationState) × (o ≡ Some (NotificationObject n))
-notification-there (Some (NotificationObject n)) is = (n, refl)
-notification-there None is = absurd (let clash : ◌≡◌ {A = Option NewObject} None (Some NewNotification) = is in cc)
-notification-there (Some (ThreadObject t)) is = absurd (let clash : ◌≡◌ {A = Option NewObject} (Some NewThread) (Some NewNotification) = is in cc)
-notification-there (Some (EndpointObject e)) is = absurd (let clash : ◌≡◌ {A = Option NewObject} (Some NewEndpoint) (Some NewNotification) = is in cc)
-notification-there (Some (CNodeObject radix)) is = absurd (let clash : ◌≡◌ {A = Option NewObject} (Some (NewCNode radix)) (Some NewNotification) = is in cc)
-notification-there (Some FrameObject) is = absurd (let clash : ◌≡◌ {A = Option NewObject} (Some NewFrame) (Some NewNotification) = is in cc)
-notification-there (Some PageTableObject) is = absurd (let clash : ◌≡◌ {A = Option NewObject} (Some NewPageTable) (Some NewNotification) = is in cc)
-notification-there (Some RootTableObject) is = absurd (let clash : ◌≡◌ {A = Option NewObject} (Some NewRootTable) (Some NewNotification) = is in cc)
-
 -- a notification, with a badge
 record IsBound (capability : Cap) (bound : Signal) : Type 0 where
   named : Names NewNotification bound.notification capability
@@ -75,6 +66,20 @@ bound-by (RootTable offset) bound valid is = absurd (let clash : ◌≡◌ {A = 
 bound-by InterruptControl bound valid is = absurd (let clash : ◌≡◌ {A = Option Signal} None (Some bound) = is in cc)
 bound-by (InterruptHandler irq_line) bound valid is = absurd (let clash : ◌≡◌ {A = Option Signal} None (Some bound) = is in cc)
 
+-- the notification that a line is bound to stands there
+pub record BoundThere (s : State) (bound : Signal) : Type 0 where
+  pub old : NotificationState
+  pub was : s.objects bound.notification ≡ Some (NotificationObject old)
+  pub small : bound.badge < 2 ^ 28
+
+pub bound-there : (s : State) → IsSound s → (line : ℕ) (bound : Signal) → binding s line ≡ Some bound → BoundThere s bound
+bound-there s sound line bound is =
+    let slot = binding_slot s line in
+    let b = bound-by (capability_at s.slots slot) bound (sound.slots.derivation.valid slot) is in
+    let kind : kind_at s bound.notification ≡ Some NewNotification = sound.memory.named slot NewNotification bound.notification (IsBound.named b) in
+    let there = notification-kind (s.objects bound.notification) kind in
+    record { old = there.0; was = there.1; small = IsBound.small b }
+
 -- ---- all threads
 
 module _ (laws : Laws) (bytes : List ℕ) (image : Image) (s : State) (labels later : List Label) (accepted : IsAccepted bytes image) (all : AllStand image s labels)
@@ -87,11 +92,8 @@ module _ (laws : Laws) (bytes : List ℕ) (image : Image) (s : State) (labels la
 
   delivered-stand : (line : ℕ) (bound : Signal) → binding s line ≡ Some bound → IsSound (interrupt s line bound) → SameStore s (interrupt s line bound) → AllStand image (interrupt s line bound) later
   delivered-stand line bound is sound store =
-      let slot = binding_slot s line in
-      let b = bound-by (capability_at s.slots slot) bound (all.sound.slots.derivation.valid slot) is in
-      let kind : kind_at s bound.notification ≡ Some NewNotification = all.sound.memory.named slot NewNotification bound.notification (IsBound.named b) in
-      let there = notification-there (s.objects bound.notification) kind in
-      signal-stands laws bytes image s labels later accepted all counts bound.notification bound.badge (IsBound.small b) there.0 there.1 (interrupt s line bound) sound store (λ y. refl)
+      let there = bound-there s all.sound line bound is in
+      signal-stands laws bytes image s labels later accepted all counts bound.notification bound.badge there.small there.old there.was (interrupt s line bound) sound store (λ y. refl)
 
   signals-store : (n badge line : ℕ) (o : NotificationState) (waiters : List ℕ) → SameStore s (record (signals s n badge o waiters) { masked = put s.masked line true })
   signals-store n badge line o [] = record { memory_bits = refl; boot_radix = refl; slots = λ slot. refl; bytes = λ place. refl }

@@ -1,7 +1,7 @@
 -- A thread that is left alone stands on, and waits for what it asked.
 use Rattle.std.proofs.Common.{ℕ, ◌≡◌, ◌∙◌, Option, Some, List, pos, ◌+ℤ◌, ◌≤ℤ◌, refl, sym, ap, subst}
 use Rattle.std.specs.Option.{option_map_or}
-use Rattle.kept_threads.specs.Waiting.{NamesQueue, WaitsAsAsked, WaitsSo}
+use Rattle.thread_facts.specs.Waiting.{NamesQueue, WaitsAsAsked, WaitsSo}
 use Rattle.model.specs.declared.capabilities.Cap.TheVariants.{Empty}
 use Rattle.model.specs.declared.labels.Label.{Label}
 use Rattle.model.specs.declared.slot_entries.Entry.{Entry}
@@ -16,8 +16,8 @@ use Rattle.model.specs.Images.Image.{Image}
 use Rattle.model.specs.Kernel.State.{State, Status, Inactive, Runnable, Blocked, AwaitsReply, AwaitsHandler, Object, ThreadObject, ThreadState, as_thread, new_thread}
 use Rattle.model.specs.Kernel.Waits.{open_count}
 use Rattle.model.specs.Machine.ProgramMemory.{RegisterFile}
+use Rattle.kept_threads.specs.Laws.{StandsOn}
 use Rattle.thread_moves.specs.Moving.{GoesOnAs, IsLeftAlone, WaitsOn}
-use Rattle.thread_moves.specs.Laws.{StandsOn}
 
 -- one thread stands at an offset
 pub one-thread : (object : Option Object) (a b : ThreadState) → object ≡ Some (ThreadObject a) → object ≡ Some (ThreadObject b) → a ≡ b

@@ -2,7 +2,6 @@ pub mod Asked
 pub mod Calling
 pub mod Interrupts
 pub mod LeftAlone
-pub mod ListedThreads
 pub mod MessageCalls
 pub mod MessageSteps
 pub mod NamedSlots
@@ -13,7 +12,7 @@ pub mod Places
 pub mod PlainSteps
 pub mod Puts
 pub mod Queued
-pub mod QuietRuns
+pub mod Runs
 pub mod ReceiveCalls
 pub mod Receives
 pub mod Replies

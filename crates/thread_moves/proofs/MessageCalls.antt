@@ -2,7 +2,7 @@
 use Rattle.std.proofs.Common.{ℕ, ◌≡◌, ◌∙◌, ◌+◌, ◌%◌, ◌^◌, ◌++◌, false, None, option_map, Ok, List, [], ◌∷◌, refl, sym, ap, subst}
 use Rattle.std.specs.Prelude.{Contains}
 use Rattle.call_points.specs.Messages.{IsInvoked}
-use Rattle.kept_threads.specs.Standing.{AllStand}
+use Rattle.thread_facts.specs.Standing.{AllStand}
 use Rattle.model.specs.declared.labels.Label.{Label}
 use Rattle.model.specs.declared.labels.Label.TheVariants.{Ran}
 use Rattle.model.specs.declared.labels.Outcome.{Outcome}
@@ -22,8 +22,9 @@ use Rattle.model.specs.Kernel.State.{State, ThreadState}
 use Rattle.model.specs.Kernel.Steps.{SendCall, SystemCall, Sends, Receives, RepliesAndReceives, Replies, Yields, PutsCharacter, Receiving, Polling, calls, memory_base, named_slot, registers_of}
 use Rattle.model.specs.Kernel.Waits.{is_waited}
 use Rattle.model.specs.Machine.ProgramMemory.{read}
+use Rattle.thread_moves.specs.Moving.{CallsAt}
 use Rattle.thread_moves.specs.Laws.{Laws}
-use Rattle.thread_moves.proofs.Calling.{CallsAt, IsCounted, counted}
+use Rattle.thread_moves.proofs.Calling.{IsCounted, counted}
 use Rattle.thread_moves.proofs.ReceiveCalls.{IsFine, receive-fine}
 use Rattle.thread_moves.proofs.Replies.{HasReplied, reply-stands}
 use Rattle.thread_moves.proofs.SendCalls.{send-fine}

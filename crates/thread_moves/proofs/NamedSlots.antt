@@ -1,8 +1,9 @@
 -- The slot that a thread names at a system call, and what stands there.
-use Rattle.std.proofs.Common.{ℕ, ◌≡◌, ◌∙◌, ◌^◌, ◌<◌, inl, inr, true, false, not, if◌then◌else◌, Option, Some, None, option_map, Result, Ok, Err, List, refl, ap, subst}
+use Rattle.std.proofs.Common.{ℕ, ◌≡◌, ◌∙◌, ◌^◌, ◌<◌, inl, inr, true, false, not, if◌then◌else◌, Option, Some, None, Result, Ok, Err, List, refl, ap, subst}
 use Rattle.std.specs.Prelude.{Contains}
-use Rattle.kept_threads.specs.Standing.{AllStand}
-use Rattle.kept_threads.specs.Waiting.{NamesQueue}
+use Rattle.thread_facts.specs.Standing.{AllStand}
+use Rattle.thread_facts.specs.Waiting.{NamesQueue}
+use Rattle.thread_facts.proofs.ThreadObjects.{at-place}
 use Rattle.model.specs.declared.capabilities.Cap.{Cap}
 use Rattle.model.specs.declared.capabilities.Cap.TheVariants.{Endpoint, Notification}
 use Rattle.model.specs.declared.labels.Label.{Label}
@@ -22,17 +23,16 @@ use Rattle.model.specs.Capabilities.Lookup.{called, called_slot, lookup}
 use Rattle.model.specs.Capabilities.Slots.{Slots, capability_at, is_empty, is_full}
 use Rattle.model.specs.Images.Described.{Numbered, numbered_threads}
 use Rattle.model.specs.Images.Image.{Image}
-use Rattle.model.specs.Kernel.Kinds.{kind_of, object_named}
+use Rattle.model.specs.Kernel.Kinds.{object_named}
 use Rattle.model.specs.Kernel.Messages.{a0}
-use Rattle.model.specs.Kernel.Retype.{NewObject, NewThread, NewEndpoint, NewNotification, NewCNode, NewFrame, NewPageTable, NewRootTable}
-use Rattle.model.specs.Kernel.State.{State, Object, ThreadObject, EndpointObject, EndpointState, NotificationObject, NotificationState, CNodeObject, FrameObject, PageTableObject, RootTableObject, ThreadState}
+use Rattle.model.specs.Kernel.Retype.{NewEndpoint, NewNotification}
+use Rattle.model.specs.Kernel.State.{State, EndpointObject, EndpointState, NotificationObject, NotificationState, ThreadState}
 use Rattle.model.specs.Kernel.Steps.{named_slot, registers_of}
 use Rattle.model.specs.Machine.ProgramMemory.{read}
+use Rattle.soundness.proofs.Rest.{endpoint-kind, notification-kind}
 use Rattle.thread_lookups.specs.Found.{FindsNoted, slots_noted}
+use Rattle.thread_moves.specs.Moving.{CallsAt}
 use Rattle.thread_moves.specs.Laws.{Laws}
-use Rattle.thread_moves.proofs.Calling.{CallsAt}
-use Rattle.thread_moves.proofs.Interrupts.{notification-there}
-use Rattle.thread_moves.proofs.Places.{at-place}
 
 -- no slot of a point whose call is looked at is one that the thread may not have
 no-stray : (image : Image) (t : Numbered) (point : ℕ) (state : PointState) (left : AfterCall) → call_at image t point state ≡ Some (Ok left) → has_stray_slots image t.thread point state ≡ false
@@ -69,6 +69,7 @@ pub record NamesHere (image : Image) (t : Numbered) (s : State) (rules : ℕ →
   pub slot : ℕ
   pub named : named_slot s (tcb_of image t) ≡ Ok slot
   pub own : IsOwnSlot image t.thread slot
+  pub full : is_full s.slots slot ≡ true
   pub rule : rules slot (capability_at s.slots slot) ≡ Ok left
 
 module _ (laws : Laws) (bytes : List ℕ) (image : Image) (s : State) (labels : List Label) (accepted : IsAccepted bytes image) (t : Numbered) (listed : Contains (numbered_threads image) t)
@@ -99,20 +100,11 @@ module _ (laws : Laws) (bytes : List ℕ) (image : Image) (s : State) (labels : 
             ∙ ap (λ (u : ThreadState). called_slot s.slots (noted_root image t.thread) (read u.registers a0)) (at-place s (tcb_of image t) own at.there)
             ∙ called_here ∙ ap Ok same;
         own = subst (IsOwnSlot image t.thread) same own_found;
+        full = subst (λ n. is_full s.slots n ≡ true) same full;
         rule = subst (λ n. rules names.slot (capability_at s.slots n) ≡ Ok left) same (ap (λ (c : Cap). rules names.slot c) (held ∙ ap (capability_at noted_here) same) ∙ names.rule);
       }
 
 -- ---- what stands where a capability leads
-
-endpoint-found : (o : Option Object) → option_map kind_of o ≡ Some NewEndpoint → (e : EndpointState) × (o ≡ Some (EndpointObject e))
-endpoint-found (Some (EndpointObject e)) is = (e, refl)
-endpoint-found None is = absurd (let clash : ◌≡◌ {A = Option NewObject} None (Some NewEndpoint) = is in cc)
-endpoint-found (Some (ThreadObject t)) is = absurd (let clash : ◌≡◌ {A = Option NewObject} (Some NewThread) (Some NewEndpoint) = is in cc)
-endpoint-found (Some (NotificationObject n)) is = absurd (let clash : ◌≡◌ {A = Option NewObject} (Some NewNotification) (Some NewEndpoint) = is in cc)
-endpoint-found (Some (CNodeObject radix)) is = absurd (let clash : ◌≡◌ {A = Option NewObject} (Some (NewCNode radix)) (Some NewEndpoint) = is in cc)
-endpoint-found (Some FrameObject) is = absurd (let clash : ◌≡◌ {A = Option NewObject} (Some NewFrame) (Some NewEndpoint) = is in cc)
-endpoint-found (Some PageTableObject) is = absurd (let clash : ◌≡◌ {A = Option NewObject} (Some NewPageTable) (Some NewEndpoint) = is in cc)
-endpoint-found (Some RootTableObject) is = absurd (let clash : ◌≡◌ {A = Option NewObject} (Some NewRootTable) (Some NewEndpoint) = is in cc)
 
 pub record EndpointThere (image : Image) (t : Numbered) (s : State) (offset badge : ℕ) : Type 0 where
   pub old : EndpointState
@@ -129,7 +121,7 @@ pub record NotificationThere (image : Image) (t : Numbered) (s : State) (offset 
 module _ (image : Image) (t : Numbered) (s : State) (labels : List Label) (all : AllStand image s labels) (slot : ℕ) (own : IsOwnSlot image t.thread slot) (offset : ℕ) (r : Rights) (badge : ℕ) where
   pub endpoint-named : capability_at s.slots slot ≡ Endpoint offset r badge → EndpointThere image t s offset badge
   endpoint-named is =
-      let found = endpoint-found (s.objects offset) (all.sound.memory.named slot NewEndpoint offset (ap object_named is)) in
+      let found = endpoint-kind (s.objects offset) (all.sound.memory.named slot NewEndpoint offset (ap object_named is)) in
       record {
         old = found.0;
         was = found.1;
@@ -139,7 +131,7 @@ module _ (image : Image) (t : Numbered) (s : State) (labels : List Label) (all :
 
   pub notification-named : capability_at s.slots slot ≡ Notification offset r badge → NotificationThere image t s offset badge
   notification-named is =
-      let found = notification-there (s.objects offset) (all.sound.memory.named slot NewNotification offset (ap object_named is)) in
+      let found = notification-kind (s.objects offset) (all.sound.memory.named slot NewNotification offset (ap object_named is)) in
       record {
         old = found.0;
         was = found.1;

@@ -2,8 +2,10 @@
 use Rattle.std.proofs.Common.{ℕ, ◌≡◌, ◌≢◌, ◌∙◌, ◌==◌, ◌++◌, ◌^◌, ◌<◌, ◌≤◌, Bool, true, false, if◌then◌else◌, Option, Some, List, [], ◌∷◌, refl, sym, ap, subst, arith}
 use Rattle.std.specs.Prelude.{Contains, bit_or}
 use Rattle.std.specs.Option.{option_map_or}
-use Rattle.kept_threads.specs.Standing.{AllStand}
-use Rattle.kept_threads.specs.Waiting.{NamesQueue, QueuesSo, WaitsAsAsked, behind_signal}
+use Rattle.std.proofs.lemmas.Bool.{eqb-true, eqb-false}
+use Rattle.thread_facts.specs.Standing.{AllStand}
+use Rattle.thread_facts.specs.Waiting.{NamesQueue, QueuesSo, WaitsAsAsked, behind_signal}
+use Rattle.thread_facts.proofs.ThreadObjects.{at-place}
 use Rattle.model.specs.declared.capabilities.Cap.TheVariants.{Empty}
 use Rattle.model.specs.declared.labels.Label.{Label}
 use Rattle.model.specs.declared.slot_entries.Entry.{Entry}
@@ -23,13 +25,13 @@ use Rattle.model.specs.Shared.Lists.{times_in}
 use Rattle.model.specs.Machine.Effects.{advanced}
 use Rattle.model.specs.Machine.ProgramMemory.{RegisterFile, write}
 use Rattle.thread_moves.specs.Laws.{Laws}
-use Rattle.thread_moves.specs.Moving.{PassesWith}
+use Rattle.thread_moves.specs.Moving.{CallsAt, PassesWith}
 use Rattle.thread_moves.proofs.Asked.{asked-once}
-use Rattle.thread_moves.proofs.Calling.{CallsAt, IsCounted, QueuesOn, own-passes, own-registers, rest-by-queue}
+use Rattle.thread_moves.proofs.Calling.{IsCounted, QueuesOn, own-passes, own-registers, rest-by-queue}
 use Rattle.thread_moves.proofs.LeftAlone.{one-thread}
 use Rattle.thread_moves.proofs.Passing.{begins}
-use Rattle.thread_moves.proofs.Places.{at-place, blocked, blocked-there, passed, passed-there, woke-there}
-use Rattle.thread_moves.proofs.Puts.{is-place, no-place, put-here, put-there}
+use Rattle.thread_moves.proofs.Places.{blocked, blocked-there, passed, passed-there, woke-there}
+use Rattle.thread_moves.proofs.Puts.{put-here, put-there}
 use Rattle.thread_moves.proofs.Queued.{IsBlockedAt, contains-before, first-times, queued-there}
 use Rattle.thread_moves.proofs.Signals.{signal-stands}
 use Rattle.thread_moves.proofs.SimpleCalls.{calls-on, it-moves, with-registers}
@@ -101,9 +103,9 @@ module _ (laws : Laws) (bytes : List ℕ) (image : Image) (s : State) (labels la
           is = is;
           old_none = λ u clash. absurd cc;
           new_none = λ u clash. absurd cc;
-          others = λ y apart rests. others y apart (no-place y tcb rests);
-          moved = λ y moves. (next, ap after.objects (is-place y tcb moves) ∙ there);
-          queues = λ thread rests. queues-on thread (no-place thread tcb rests);
+          others = λ y apart rests. others y apart (eqb-false y tcb rests);
+          moved = λ y moves. (next, ap after.objects (eqb-true y tcb moves) ∙ there);
+          queues = λ thread rests. queues-on thread (eqb-false thread tcb rests);
         }))
         stands
 
@@ -254,13 +256,17 @@ module _ (laws : Laws) (bytes : List ℕ) (image : Image) (s : State) (labels : 
   signals-store [] o = record { memory_bits = refl; boot_radix = refl; slots = λ slot. refl; bytes = λ place. refl }
   signals-store (w ∷ others) o = record { memory_bits = refl; boot_radix = refl; slots = λ slot. refl; bytes = λ place. refl }
 
-  pub signal-leaves : IsSound (signal s n badge) → HasSignalled image t (signal s n badge) labels own point state left
-  signal-leaves sound =
-      let store = signals-store (notification_at s n).waiters (notification_at s n) in
+  -- where slots, bytes and objects are those behind the signal
+  pub signal-leaves-so : (after : State) → IsSound after → SameStore s after → ((y : ℕ) → after.objects y ≡ (signal s n badge).objects y)
+      → HasSignalled image t after labels own point state left
+  signal-leaves-so after sound store objects =
       let same : notification_at s n ≡ old = ap (λ (o : Option Object). option_map_or (λ (x : NotificationState). x) (as_notification o) new_notification) was in
-      let there : (signal s n badge).objects (tcb_of image t) ≡ Some (ThreadObject own) =
-      ap (λ (o : NotificationState). (signals s n badge o o.waiters).objects (tcb_of image t)) same ∙ caller-stays old.waiters refl ∙ at.there in
+      let there : after.objects (tcb_of image t) ≡ Some (ThreadObject own) =
+      objects (tcb_of image t) ∙ ap (λ (o : NotificationState). (signals s n badge o o.waiters).objects (tcb_of image t)) same ∙ caller-stays old.waiters refl ∙ at.there in
       record {
-        all = signal-stands laws bytes image s labels labels accepted all (λ u member. refl) n badge small old was (signal s n badge) sound store (λ y. refl);
-        at = calls-on laws bytes image s labels accepted all t listed own point state left at (signal s n badge) sound store own there refl refl;
+        all = signal-stands laws bytes image s labels labels accepted all (λ u member. refl) n badge small old was after sound store objects;
+        at = calls-on laws bytes image s labels accepted all t listed own point state left at after sound store own there refl refl;
       }
+
+  pub signal-leaves : IsSound (signal s n badge) → HasSignalled image t (signal s n badge) labels own point state left
+  signal-leaves sound = signal-leaves-so (signal s n badge) sound (signals-store (notification_at s n).waiters (notification_at s n)) (λ y. refl)

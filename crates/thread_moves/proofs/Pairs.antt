@@ -2,8 +2,9 @@
 use Rattle.std.proofs.Common.{ℕ, ◌≡◌, ◌≢◌, ◌∙◌, ◌==◌, ◌⊎◌, inl, inr, Bool, true, false, ◌||◌, Some, List, sym, ap, subst}
 use Rattle.std.specs.Prelude.{Contains}
 use Rattle.std.proofs.lemmas.Bool.Decides.{eqb_tells}
-use Rattle.kept_threads.specs.Standing.{AllStand}
-use Rattle.kept_threads.specs.Waiting.{WaitsAsAsked}
+use Rattle.std.proofs.lemmas.Bool.{eqb-true, eqb-false}
+use Rattle.thread_facts.specs.Standing.{AllStand}
+use Rattle.thread_facts.specs.Waiting.{WaitsAsAsked}
 use Rattle.model.specs.declared.labels.Label.{Label}
 use Rattle.model.specs.Acceptance.Accepted.{IsAccepted}
 use Rattle.model.specs.Acceptance.Authority.{SameStore}
@@ -15,20 +16,19 @@ use Rattle.model.specs.Kernel.State.{State, Object, ThreadObject, ThreadState}
 use Rattle.model.specs.Kernel.Waits.{open_count}
 use Rattle.thread_moves.proofs.Calling.{NoThread, QueueChanges, QueuesOn, rest-by-queue}
 use Rattle.thread_moves.specs.Laws.{Laws}
-use Rattle.thread_moves.proofs.Puts.{is-place, no-place}
 use Rattle.thread_moves.proofs.Standing.{all-stand}
 
 -- one of two places
 either-place : (a b y : ℕ) → ((y == a) || (y == b)) ≡ true → (y ≡ a) ⊎ (y ≡ b)
 either-place a b y is = elim (eqb_tells y a) [
   | inl same ↦ inl same.1
-  | inr other ↦ inr (is-place y b (ap (λ c. c || (y == b)) (sym other.0) ∙ is))
+  | inr other ↦ inr (eqb-true y b (ap (λ c. c || (y == b)) (sym other.0) ∙ is))
 ]
 
 neither-place : (a b y : ℕ) → ((y == a) || (y == b)) ≡ false → (y ≢ a) × (y ≢ b)
 neither-place a b y is = elim (eqb_tells y a) [
   | inl same ↦ absurd (let clash : true ≡ false = ap (λ c. c || (y == b)) (sym same.0) ∙ is in cc)
-  | inr other ↦ (other.1, no-place y b (ap (λ c. c || (y == b)) (sym other.0) ∙ is))
+  | inr other ↦ (other.1, eqb-false y b (ap (λ c. c || (y == b)) (sym other.0) ∙ is))
 ]
 
 module _ (laws : Laws) (bytes : List ℕ) (image : Image) (s : State) (labels later : List Label) (accepted : IsAccepted bytes image) (all : AllStand image s labels)

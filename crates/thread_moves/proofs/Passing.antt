@@ -1,5 +1,5 @@
 -- A thread begins to wait, or its system call passes.
-use Rattle.std.proofs.Common.{ℕ, ◌≡◌, ◌∙◌, ◌+◌, ◌*◌, ◌%◌, ◌^◌, ◌<◌, ◌≤◌, Some, Ok, List, ℤ, pos, ◌+ℤ◌, ◌≤ℤ◌, ◌<ℤ◌, true, false, refl, sym, ap, subst, arith}
+use Rattle.std.proofs.Common.{ℕ, ◌≡◌, ◌∙◌, ◌+◌, ◌*◌, ◌%◌, ◌^◌, ◌<◌, ◌≤◌, Some, Ok, List, ℤ, pos, ◌+ℤ◌, ◌≤ℤ◌, true, false, refl, sym, ap, subst, arith}
 use Rattle.std.proofs.lemmas.Int.{ints}
 use Rattle.call_points.specs.Behind.{LeadsBehind}
 use Rattle.model.specs.declared.instructions.Instr.TheVariants.{Ecall}
@@ -14,17 +14,17 @@ use Rattle.model.specs.Images.Image.{Image}
 use Rattle.model.specs.Kernel.State.{State, ThreadObject, ThreadState}
 use Rattle.model.specs.Kernel.Waits.{open_count}
 use Rattle.model.specs.Machine.ProgramMemory.{RegisterFile}
+use Rattle.thread_facts.specs.Laws.{Ends}
+use Rattle.thread_steps.proofs.Budgets.{within-still}
+use Rattle.call_points.specs.Laws.{LeadsOn}
+use Rattle.kept_threads.specs.Laws.{StandsOn}
 use Rattle.thread_moves.specs.Moving.{IsLeftAlone, PassesWith}
-use Rattle.thread_moves.specs.Laws.{Ends, LeadsOn, StandsOn}
 
-next-address : (base words point : ℕ) → base + 4 * words ≤ 2 ^ 31 → point + 1 < words → (base + 4 * point + 4) % 2 ^ 32 ≡ base + 4 * (point + 1)
+pub next-address : (base words point : ℕ) → base + 4 * words ≤ 2 ^ 31 → point + 1 < words → (base + 4 * point + 4) % 2 ^ 32 ≡ base + 4 * (point + 1)
 next-address base words point ends inside = omega (arith, ends, inside)
 
 first-within : (budget : ℕ) (value : ℤ) → value ≤ℤ pos budget → (pos 0 +ℤ value) ≤ℤ pos budget
 first-within budget value within = grind (arith, ints, within)
-
-one-more : (n budget : ℕ) (before after : ℤ) → (pos n +ℤ before) ≤ℤ pos budget → after <ℤ before → (pos (n + 1) +ℤ after) ≤ℤ pos budget
-one-more n budget before after within less = grind (arith, ints, within, less)
 
 module _ (stand-on : StandsOn) (image : Image) (t : Numbered) (s after : State) (own : ThreadState) (point : ℕ) (state : PointState)
     (alone : IsLeftAlone image t s after) (stands : StandsAt image t s own point state) where
@@ -71,5 +71,5 @@ module _ (stand-on : StandsOn) (image : Image) (t : Numbered) (s after : State) 
         → open_count (tcb_of image t) later ≡ open_count (tcb_of image t) labels + 1 → ThreadInvariant image t after later
     passes-on labels later wait budget more =
         goes-on later (subst (λ (n : ℕ). (pos n +ℤ measured leads.next.measure written) ≤ℤ pos t.thread.header.budget) (sym more)
-        (one-more (open_count (tcb_of image t) labels) t.thread.header.budget (measured state.measure own.registers) (measured leads.next.measure written) budget
+        (within-still (open_count (tcb_of image t) labels) t.thread.header.budget (measured state.measure own.registers) (measured leads.next.measure written) budget
         (leads.falls wait own.registers written passes.only stands.registers passes.within)))

@@ -1,16 +1,13 @@
 -- What stands where a thread passes, wakes or blocks.
 use Rattle.std.proofs.Common.{ℕ, ◌≡◌, ◌≢◌, ◌∙◌, Option, Some, refl, ap}
 use Rattle.std.specs.Option.{option_map_or}
+use Rattle.thread_facts.proofs.ThreadObjects.{at-place}
 use Rattle.model.specs.Kernel.Messages.{Message, deliver, delivered, passes, passes_with, with_caller, with_registers}
 use Rattle.model.specs.Kernel.Scheduling.{block, full_slice, wake}
 use Rattle.model.specs.Kernel.State.{State, Status, Runnable, Object, ThreadObject, EndpointObject, EndpointState, ThreadState, as_endpoint, as_thread, endpoint_at, new_endpoint, new_thread, thread_at, with_endpoint, with_thread}
 use Rattle.model.specs.Machine.Effects.{advanced}
 use Rattle.model.specs.Machine.ProgramMemory.{RegisterFile}
 use Rattle.thread_moves.proofs.Puts.{put-here, put-there}
-
--- the thread of an object
-pub at-place : (s : State) (x : ℕ) (t : ThreadState) → s.objects x ≡ Some (ThreadObject t) → thread_at s x ≡ t
-at-place s x t is = ap (λ (o : Option Object). option_map_or (λ (u : ThreadState). u) (as_thread o) new_thread) is
 
 pub same-place : (s after : State) (x : ℕ) → after.objects x ≡ s.objects x → thread_at after x ≡ thread_at s x
 same-place s after x same = ap (λ (o : Option Object). option_map_or (λ (u : ThreadState). u) (as_thread o) new_thread) same

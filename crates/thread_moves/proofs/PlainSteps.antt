@@ -2,10 +2,12 @@
 use Rattle.std.proofs.Common.{ℕ, ◌≡◌, ◌≢◌, ◌∙◌, ◌==◌, ◌+◌, ◌-◌, ◌%◌, ◌++◌, ◌⊎◌, inl, inr, Bool, true, false, if◌then◌else◌, Option, Some, None, Result, Ok, Err, List, [], ◌∷◌, refl, sym, ap, subst}
 use Rattle.std.specs.Prelude.{Contains, slice_index}
 use Rattle.std.specs.Option.{option_map_or}
+use Rattle.std.proofs.lemmas.Bool.{eqb-true, eqb-false}
 use Rattle.soundness.proofs.Running.{current-runs}
-use Rattle.kept_threads.specs.Standing.{AllStand, IsControlBlock}
-use Rattle.kept_threads.specs.Untouched.{IsUntouched}
-use Rattle.kept_threads.specs.Waiting.{WaitsAsAsked}
+use Rattle.thread_facts.specs.Standing.{AllStand, IsControlBlock}
+use Rattle.thread_facts.specs.Untouched.{IsUntouched}
+use Rattle.thread_facts.specs.Waiting.{WaitsAsAsked}
+use Rattle.kept_threads.proofs.HangsKept.{hangs-kept}
 use Rattle.model.specs.declared.events.Event.TheVariants.{Step}
 use Rattle.model.specs.declared.instructions.Access.TheVariants.{Fetch, Load as Loading, Store as Storing}
 use Rattle.model.specs.declared.instructions.AccessSize.TheVariants.{Word}
@@ -13,6 +15,7 @@ use Rattle.model.specs.declared.instructions.Cause.{Cause}
 use Rattle.model.specs.declared.instructions.Cause.TheVariants.{Illegal, Misaligned}
 use Rattle.model.specs.declared.instructions.Exec.{Exec}
 use Rattle.model.specs.declared.instructions.Exec.TheVariants as outcomes
+use Rattle.thread_facts.proofs.ThreadObjects.{at-place}
 use Rattle.model.specs.declared.instructions.Instr.{Instr}
 use Rattle.model.specs.declared.instructions.Instr.TheVariants.{Upper, Jal, Jalr, Branch, Load, Store, Immediate, Shift, Registers, Fence, Ecall, Ebreak}
 use Rattle.model.specs.declared.instructions.LoadOp.{LoadOp}
@@ -42,8 +45,7 @@ use Rattle.thread_moves.specs.Resting.{OthersRest}
 use Rattle.thread_moves.specs.Steps.{GoesWell}
 use Rattle.thread_moves.proofs.Calling.{IsCounted, ThreadsMove, counted, rest-by-threads}
 use Rattle.thread_moves.proofs.LeftAlone.{stands-alone}
-use Rattle.thread_moves.proofs.Places.{at-place}
-use Rattle.thread_moves.proofs.Puts.{is-place, no-place, put-here, put-there}
+use Rattle.thread_moves.proofs.Puts.{put-here, put-there}
 use Rattle.thread_moves.proofs.Ticks.{one-event}
 use Rattle.thread_moves.proofs.Woken.{no-runner, runs-free, runs-status}
 use Rattle.thread_steps.specs.Points.{ReachesNoCall}
@@ -147,8 +149,8 @@ module _ (laws : Laws) (bytes : List ℕ) (image : Image) (t : Numbered) (s : St
       (stands : ThreadInvariant image t after later) where
     change : ThreadsMove s after moves
     change = record {
-      others = λ y rests. put-there s.objects tcb (Some (ThreadObject next)) y (no-place y tcb rests);
-      moved = λ y move. (next, put-here s.objects tcb (Some (ThreadObject next)) y (is-place y tcb move));
+      others = λ y rests. put-there s.objects tcb (Some (ThreadObject next)) y (eqb-false y tcb rests);
+      moved = λ y move. (next, put-here s.objects tcb (Some (ThreadObject next)) y (eqb-true y tcb move));
     }
 
     rest : OthersRest s after moves
@@ -168,15 +170,15 @@ module _ (laws : Laws) (bytes : List ℕ) (image : Image) (t : Numbered) (s : St
     -- the thread itself, or one that is left alone
     each : (u : Numbered) → Contains (numbered_threads image) u → (b : Bool) → moves (tcb_of image u) ≡ b → ThreadInvariant image u after later × WaitsAsAsked image u after
     each u among true is =
-        let same : t ≡ u = laws.own_blocks bytes image t u accepted listed among (sym (is-place (tcb_of image u) tcb is)) in
+        let same : t ≡ u = laws.own_blocks bytes image t u accepted listed among (sym (eqb-true (tcb_of image u) tcb is)) in
         subst (λ (v : Numbered). ThreadInvariant image v after later × WaitsAsAsked image v after) same (stands, waits)
     each u among false is =
         stands-alone laws.stand_on image u s after labels later (alone u among) (λ old was. rest.goes (tcb_of image u) old is was) (rest.queues (tcb_of image u) is)
-        (counts.others (tcb_of image u) (no-place (tcb_of image u) tcb is)) (all.stand u among) (all.wait u among)
+        (counts.others (tcb_of image u) (eqb-false (tcb_of image u) tcb is)) (all.stand u among) (all.wait u among)
 
     other : (offset : ℕ) (new : ThreadState) → after.objects offset ≡ Some (ThreadObject new) → (b : Bool) → moves offset ≡ b
         → (new.status ≡ Inactive) ⊎ IsControlBlock image offset
-    other offset new now true is = inr (record { thread = t; listed = listed; is = is-place offset tcb is })
+    other offset new now true is = inr (record { thread = t; listed = listed; is = eqb-true offset tcb is })
     other offset new now false is =
         let been = rest.been offset new is now in
         elim (all.others offset been.old been.was) [
@@ -191,6 +193,9 @@ module _ (laws : Laws) (bytes : List ℕ) (image : Image) (t : Numbered) (s : St
       wait = λ u among. (each u among (moves (tcb_of image u)) refl).1;
       others = λ offset new now. other offset new now (moves offset) refl;
       apart = all.apart;
+      hang = λ u among. hangs-kept image u s after refl (λ slot. refl) (all.hang u among);
+      memory_bits = all.memory_bits;
+      boot_radix = all.boot_radix;
     }
 
 -- ---- the step

@@ -1,5 +1,5 @@
 -- Maps with another value at one place, and what a changed object means to threads and queues.
-use Rattle.std.proofs.Common.{ℕ, ◌≡◌, ◌≢◌, ◌∙◌, ◌==◌, ◌++◌, ◌⊎◌, inl, inr, true, false, if◌then◌else◌, Option, Some, None, option_map, List, [], ◌∷◌, filter, fold, refl, sym, ap}
+use Rattle.std.proofs.Common.{ℕ, ◌≡◌, ◌≢◌, ◌∙◌, ◌++◌, ◌⊎◌, inl, inr, true, false, if◌then◌else◌, Option, Some, None, option_map, List, [], ◌∷◌, filter, fold, refl, ap}
 use Rattle.std.specs.Option.{option_map_or}
 use Rattle.std.proofs.lemmas.Bool.Decides.{eqb_tells}
 use Rattle.model.specs.declared.labels.Label.{Label}
@@ -24,12 +24,6 @@ put-there map place value other there = elim (eqb_tells other place) [
 
 pub decided : (a b : ℕ) → (a ≡ b) ⊎ (a ≢ b)
 decided a b = elim (eqb_tells a b) [ inl same ↦ inl same.1 | inr apart ↦ inr apart.1 ]
-
-pub is-place : (y w : ℕ) → (y == w) ≡ true → y ≡ w
-is-place y w is = elim (eqb_tells y w) [ inl same ↦ same.1 | inr apart ↦ absurd (let clash : false ≡ true = sym apart.0 ∙ is in cc) ]
-
-pub no-place : (y w : ℕ) → (y == w) ≡ false → y ≢ w
-no-place y w is = elim (eqb_tells y w) [ inl same ↦ absurd (let clash : true ≡ false = sym same.0 ∙ is in cc) | inr apart ↦ apart.1 ]
 
 -- ---- objects of one type are none of another
 

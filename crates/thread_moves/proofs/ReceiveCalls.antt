@@ -2,8 +2,9 @@
 use Rattle.std.proofs.Common.{ℕ, ◌≡◌, ◌∙◌, ◌+◌, ◌++◌, Bool, true, false, if◌then◌else◌, Some, None, Ok, List, [], ◌∷◌, refl, sym, ap, subst}
 use Rattle.std.specs.Prelude.{Contains}
 use Rattle.call_points.specs.Messages.{ReceivesBy}
-use Rattle.kept_threads.specs.Standing.{AllStand}
-use Rattle.kept_threads.specs.Waiting.{NamesQueue, behind_receive}
+use Rattle.thread_facts.specs.Standing.{AllStand}
+use Rattle.thread_facts.specs.Waiting.{NamesQueue, behind_receive}
+use Rattle.thread_facts.proofs.ThreadObjects.{at-place}
 use Rattle.model.specs.declared.labels.Label.{Label}
 use Rattle.model.specs.declared.labels.Label.TheVariants.{Ran}
 use Rattle.model.specs.declared.labels.Outcome.{Outcome}
@@ -27,11 +28,11 @@ use Rattle.model.specs.Kernel.Waits.{is_error, is_fault, is_waited}
 use Rattle.model.specs.Machine.Effects.{advanced}
 use Rattle.model.specs.Machine.ProgramMemory.{write}
 use Rattle.thread_moves.specs.Laws.{Laws}
-use Rattle.thread_moves.specs.Moving.{PassesWith}
-use Rattle.thread_moves.proofs.Calling.{CallsAt, IsCounted, counted, own-registers}
+use Rattle.thread_moves.specs.Moving.{CallsAt, PassesWith}
+use Rattle.thread_moves.proofs.Calling.{IsCounted, counted, own-registers}
 use Rattle.thread_moves.proofs.NamedSlots.{endpoint-named, named-here, notification-named}
 use Rattle.thread_moves.proofs.NotificationCalls.{poll-stands, wait-stands}
-use Rattle.thread_moves.proofs.Places.{at-place, caller-here, caller-there, passed, passed-there}
+use Rattle.thread_moves.proofs.Places.{caller-here, caller-there, passed, passed-there}
 use Rattle.thread_moves.proofs.Receives.{blocks-stand, receives-stand}
 use Rattle.thread_moves.proofs.SimpleCalls.{it-passes}
 

@@ -1,8 +1,10 @@
 -- A receive on an endpoint leaves all threads standing: the first sender is received, or the thread waits.
 use Rattle.std.proofs.Common.{ℕ, ◌≡◌, ◌≢◌, ◌∙◌, ◌==◌, ◌++◌, ◌^◌, ◌<◌, ◌≤◌, false, if◌then◌else◌, Option, Some, None, List, [], ◌∷◌, length, map, get_or, refl, sym, ap, subst, arith}
 use Rattle.std.specs.Prelude.{Contains}
-use Rattle.kept_threads.specs.Standing.{AllStand}
-use Rattle.kept_threads.specs.Waiting.{NamesQueue, SendsSo, WaitsAsAsked, WaitsSo, behind_receive}
+use Rattle.std.proofs.lemmas.Bool.{eqb-true, eqb-false}
+use Rattle.thread_facts.specs.Standing.{AllStand}
+use Rattle.thread_facts.specs.Waiting.{NamesQueue, SendsSo, WaitsAsAsked, WaitsSo, behind_receive}
+use Rattle.thread_facts.proofs.ThreadObjects.{at-place}
 use Rattle.model.specs.declared.labels.Label.{Label}
 use Rattle.model.specs.Acceptance.Accepted.{IsAccepted}
 use Rattle.model.specs.Acceptance.Authority.{Holds, SameStore}
@@ -19,15 +21,16 @@ use Rattle.model.specs.Kernel.State.{State, Inactive, Runnable, Blocked, AwaitsR
 use Rattle.model.specs.Kernel.Waits.{open_count}
 use Rattle.model.specs.Machine.Effects.{advanced}
 use Rattle.model.specs.Shared.Lists.{times_in}
-use Rattle.thread_moves.specs.Laws.{IsMessage, Laws}
+use Rattle.thread_moves.specs.Moving.{CallsAt}
+use Rattle.thread_moves.specs.Laws.{Laws}
+use Rattle.call_points.specs.Laws.{IsMessage}
 use Rattle.thread_moves.proofs.LeftAlone.{one-thread}
 use Rattle.thread_moves.proofs.Asked.{asked-once}
-use Rattle.thread_moves.proofs.Calling.{CallsAt, IsCounted, QueueChanges, QueuesOn, own-passes, own-registers, rest-by-queue}
+use Rattle.thread_moves.proofs.Calling.{IsCounted, QueueChanges, QueuesOn, own-passes, own-registers, rest-by-queue}
 use Rattle.thread_moves.proofs.NotificationCalls.{holds-on}
 use Rattle.thread_moves.proofs.Pairs.{two-move}
 use Rattle.thread_moves.proofs.Passing.{begins}
-use Rattle.thread_moves.proofs.Places.{at-endpoint, at-place, blocked, blocked-there, caller-here, caller-there, delivered-here, delivered-there, endpoint-here, endpoint-there, went-here, went-there, woke, woke-there}
-use Rattle.thread_moves.proofs.Puts.{is-place, no-place}
+use Rattle.thread_moves.proofs.Places.{at-endpoint, blocked, blocked-there, caller-here, caller-there, delivered-here, delivered-there, endpoint-here, endpoint-there, went-here, went-there, woke, woke-there}
 use Rattle.thread_moves.proofs.Queued.{IsBlockedAt, contains-before, contains-more, first-times, queued-there}
 use Rattle.thread_moves.proofs.Standing.{all-stand, touches-none}
 use Rattle.thread_moves.proofs.Waiters.{StandsWaiting, called-so, delivered-pc, no-fault, own-message, sent-so, stands-waiting}
@@ -86,12 +89,12 @@ module _ (laws : Laws) (bytes : List ℕ) (image : Image) (s : State) (labels la
 
     after-others : (y : ℕ) → y ≢ e → (y == tcb) ≡ false → after.objects y ≡ s.objects y
     after-others y other rests =
-        objects y ∙ blocked-there one tcb (Blocked e) y (no-place y tcb rests) ∙ endpoint-there ready e queued y other ∙ caller-there s tcb None y (no-place y tcb rests)
+        objects y ∙ blocked-there one tcb (Blocked e) y (eqb-false y tcb rests) ∙ endpoint-there ready e queued y other ∙ caller-there s tcb None y (eqb-false y tcb rests)
 
     queued-on : (thread : ℕ) → (thread == tcb) ≡ false → QueuesOn (EndpointObject ep) (EndpointObject queued) thread
     queued-on thread rests = record {
       sends = λ f x is among mine. let same : queued ≡ f = cc in (ep, refl, subst (λ (g : EndpointState). Contains g.senders x) (sym same) among);
-      receives = λ f is among. let same : queued ≡ f = cc in (ep, refl, contains-before ep.receivers thread tcb (subst (λ (g : EndpointState). Contains g.receivers thread) (sym same) among) (no-place thread tcb rests));
+      receives = λ f is among. let same : queued ≡ f = cc in (ep, refl, contains-before ep.receivers thread tcb (subst (λ (g : EndpointState). Contains g.receivers thread) (sym same) among) (eqb-false thread tcb rests));
       waits = λ n is among. absurd cc;
     }
 
@@ -102,7 +105,7 @@ module _ (laws : Laws) (bytes : List ℕ) (image : Image) (s : State) (labels la
       old_none = λ u clash. absurd cc;
       new_none = λ u clash. absurd cc;
       others = after-others;
-      moved = λ y move. (next, ap after.objects (is-place y tcb move) ∙ after-own);
+      moved = λ y move. (next, ap after.objects (eqb-true y tcb move) ∙ after-own);
       queues = queued-on;
     }
 
@@ -126,10 +129,10 @@ module _ (laws : Laws) (bytes : List ℕ) (image : Image) (s : State) (labels la
     blocks-stand =
         all-stand laws.stand_on bytes image s after labels later (λ y. y == tcb) accepted all sound store (rest-by-queue s after e (EndpointObject ep) (EndpointObject queued) (λ y. y == tcb) changes)
         (λ u among move.
-        let same : t ≡ u = laws.own_blocks bytes image t u accepted listed among (sym (is-place (tcb_of image u) tcb move)) in
+        let same : t ≡ u = laws.own_blocks bytes image t u accepted listed among (sym (eqb-true (tcb_of image u) tcb move)) in
         subst (λ v. ThreadInvariant image v after later × WaitsAsAsked image v after) same (own-begins, asked))
-        (λ offset u move there. record { thread = t; listed = listed; is = is-place offset tcb move })
-        (λ u among rests. counts.others (tcb_of image u) (no-place (tcb_of image u) tcb rests))
+        (λ offset u move there. record { thread = t; listed = listed; is = eqb-true offset tcb move })
+        (λ u among rests. counts.others (tcb_of image u) (eqb-false (tcb_of image u) tcb rests))
 
   -- ---- somebody sends
 

@@ -2,8 +2,10 @@
 use Rattle.std.proofs.Common.{ℕ, ◌≡◌, ◌≢◌, ◌∙◌, ◌==◌, ◌||◌, inl, inr, Bool, true, false, Option, Some, None, List, refl, sym, ap, subst}
 use Rattle.std.specs.Prelude.{Contains, IsTrue}
 use Rattle.std.specs.Option.{option_map_or}
-use Rattle.kept_threads.specs.Standing.{AllStand, IsControlBlock}
-use Rattle.kept_threads.specs.Waiting.{WaitsAsAsked, WaitsSo, behind_reply}
+use Rattle.std.proofs.lemmas.Bool.{eqb-true, eqb-false}
+use Rattle.thread_facts.specs.Standing.{AllStand, IsControlBlock}
+use Rattle.thread_facts.specs.Waiting.{WaitsAsAsked, WaitsSo, behind_reply}
+use Rattle.thread_facts.proofs.ThreadObjects.{at-place}
 use Rattle.model.specs.declared.labels.Label.{Label}
 use Rattle.model.specs.Acceptance.Accepted.{IsAccepted}
 use Rattle.model.specs.Acceptance.Authority.{SameStore}
@@ -19,11 +21,12 @@ use Rattle.model.specs.Kernel.Soundness.{IsSound, awaits_answer}
 use Rattle.model.specs.Kernel.State.{State, Status, Inactive, Runnable, Blocked, AwaitsReply, AwaitsHandler, Object, ThreadObject, EndpointObject, NotificationObject, CNodeObject, FrameObject, PageTableObject, RootTableObject, ThreadState, as_thread, new_thread, thread_at}
 use Rattle.model.specs.Machine.Effects.{advanced}
 use Rattle.model.specs.Machine.ProgramMemory.{RegisterFile}
-use Rattle.thread_moves.specs.Laws.{AreRegisters, Laws}
-use Rattle.thread_moves.proofs.Calling.{CallsAt, rest-by-threads}
+use Rattle.thread_moves.specs.Moving.{CallsAt}
+use Rattle.thread_moves.specs.Laws.{Laws}
+use Rattle.thread_moves.proofs.Calling.{rest-by-threads}
+use Rattle.call_points.specs.Laws.{AreRegisters}
 use Rattle.thread_moves.proofs.LeftAlone.{one-thread}
-use Rattle.thread_moves.proofs.Places.{at-place, caller-here, caller-there, delivered-here, delivered-there, woke, woke-there}
-use Rattle.thread_moves.proofs.Puts.{is-place, no-place}
+use Rattle.thread_moves.proofs.Places.{caller-here, caller-there, delivered-here, delivered-there, woke, woke-there}
 use Rattle.thread_moves.proofs.SimpleCalls.{calls-on}
 use Rattle.thread_moves.proofs.Standing.{all-stand}
 use Rattle.thread_moves.proofs.Waiters.{delivered-pc, own-message}
@@ -161,12 +164,12 @@ module _ (laws : Laws) (bytes : List ℕ) (image : Image) (s : State) (labels : 
     -- what moves is the caller or the thread itself
     moved-is : {P : Type 0} (y : ℕ) → moves y ≡ true → (y ≡ caller → P) → (y ≡ tcb → P) → P
     moved-is {P} y is as-caller as-own = elim (y == caller) as (λ b. (y == caller) ≡ b → (b || y == tcb) ≡ true → P) [
-      | true ↦ λ same _. as-caller (is-place y caller same)
-      | false ↦ λ _ same. as-own (is-place y tcb same)
+      | true ↦ λ same _. as-caller (eqb-true y caller same)
+      | false ↦ λ _ same. as-own (eqb-true y tcb same)
     ] refl is
 
     rests-apart : (y : ℕ) → moves y ≡ false → after.objects y ≡ s.objects y
-    rests-apart y rests = let apart = either (y == caller) (y == tcb) rests in after-there y (no-place y caller apart.0) ∙ caller-there s tcb None y (no-place y tcb apart.1)
+    rests-apart y rests = let apart = either (y == caller) (y == tcb) rests in after-there y (eqb-false y caller apart.0) ∙ caller-there s tcb None y (eqb-false y tcb apart.1)
 
     moves-so : (v : Numbered) → Contains (numbered_threads image) v → moves (tcb_of image v) ≡ true → ThreadInvariant image v after labels × WaitsAsAsked image v after
     moves-so v among is =

@@ -2,8 +2,8 @@
 use Rattle.std.proofs.Common.{ℕ, ◌≡◌, ◌∙◌, ◌+◌, ◌++◌, ◌^◌, ◌<◌, Bool, true, false, if◌then◌else◌, Some, option_map, Ok, List, [], ◌∷◌, refl, sym, ap, subst}
 use Rattle.std.specs.Prelude.{Contains}
 use Rattle.call_points.specs.Messages.{IsInvoked, SendsBy}
-use Rattle.kept_threads.specs.Standing.{AllStand}
-use Rattle.kept_threads.specs.Waiting.{NamesQueue, SendsSo, behind_reply}
+use Rattle.thread_facts.specs.Standing.{AllStand}
+use Rattle.thread_facts.specs.Waiting.{NamesQueue, SendsSo, behind_reply}
 use Rattle.model.specs.declared.capabilities.Cap.{Cap}
 use Rattle.model.specs.declared.errors.KError.TheVariants.{InvalidCapability}
 use Rattle.model.specs.declared.labels.Label.{Label}
@@ -27,8 +27,9 @@ use Rattle.model.specs.Kernel.Soundness.{IsSound}
 use Rattle.model.specs.Kernel.State.{State, BySend, ByCall, EndpointObject, EndpointState, NotificationObject, NotificationState, ThreadState, endpoint_at, with_endpoint}
 use Rattle.model.specs.Kernel.Steps.{Done, SendCall, Calling, Sending, Trying, memory_base, named_slot, refused, send_by, send_call, send_named, sender, send_on, signal_on}
 use Rattle.model.specs.Kernel.Waits.{is_waited}
+use Rattle.thread_moves.specs.Moving.{CallsAt}
 use Rattle.thread_moves.specs.Laws.{Laws}
-use Rattle.thread_moves.proofs.Calling.{CallsAt, IsCounted, counted}
+use Rattle.thread_moves.proofs.Calling.{IsCounted, counted}
 use Rattle.thread_moves.proofs.NamedSlots.{endpoint-named, named-here, notification-named}
 use Rattle.thread_moves.proofs.NotificationCalls.{HasSignalled, signal-leaves}
 use Rattle.thread_moves.proofs.ReceiveCalls.{IsFine}

@@ -1,8 +1,10 @@
 -- A send to an endpoint leaves all threads standing: the first receiver gets the message, or the thread waits.
 use Rattle.std.proofs.Common.{ℕ, zero, suc, ◌≡◌, ◌≢◌, ◌∙◌, ◌==◌, ◌++◌, ◌^◌, ◌<◌, ◌≤◌, inl, inr, Bool, true, false, if◌then◌else◌, Option, Some, List, [], ◌∷◌, length, map, get_or, refl, sym, ap, subst, arith}
 use Rattle.std.specs.Prelude.{Contains}
-use Rattle.kept_threads.specs.Standing.{AllStand}
-use Rattle.kept_threads.specs.Waiting.{NamesQueue, SendsSo, WaitsAsAsked, WaitsSo, behind_receive, behind_reply}
+use Rattle.std.proofs.lemmas.Bool.{eqb-true, eqb-false}
+use Rattle.thread_facts.specs.Standing.{AllStand}
+use Rattle.thread_facts.specs.Waiting.{NamesQueue, SendsSo, WaitsAsAsked, WaitsSo, behind_receive, behind_reply}
+use Rattle.thread_facts.proofs.ThreadObjects.{at-place}
 use Rattle.model.specs.declared.labels.Label.{Label}
 use Rattle.model.specs.Acceptance.Accepted.{IsAccepted}
 use Rattle.model.specs.Acceptance.Authority.{Holds, SameStore}
@@ -21,15 +23,16 @@ use Rattle.model.specs.Kernel.Waits.{open_count}
 use Rattle.model.specs.Machine.Effects.{advanced}
 use Rattle.model.specs.Machine.ProgramMemory.{RegisterFile}
 use Rattle.model.specs.Shared.Lists.{times_in}
-use Rattle.thread_moves.specs.Laws.{IsMessage, Laws}
+use Rattle.thread_moves.specs.Moving.{CallsAt}
+use Rattle.thread_moves.specs.Laws.{Laws}
+use Rattle.call_points.specs.Laws.{IsMessage}
 use Rattle.thread_moves.proofs.LeftAlone.{one-thread}
 use Rattle.thread_moves.proofs.Asked.{asked-once}
-use Rattle.thread_moves.proofs.Calling.{CallsAt, IsCounted, QueueChanges, QueuesOn, own-passes, rest-by-queue}
+use Rattle.thread_moves.proofs.Calling.{IsCounted, QueueChanges, QueuesOn, own-passes, rest-by-queue}
 use Rattle.thread_moves.proofs.NotificationCalls.{holds-on}
 use Rattle.thread_moves.proofs.Pairs.{two-move}
 use Rattle.thread_moves.proofs.Passing.{begins}
-use Rattle.thread_moves.proofs.Places.{at-endpoint, at-place, blocked, blocked-there, caller-here, caller-there, delivered-here, delivered-there, endpoint-here, endpoint-there, went-here, went-there, woke, woke-there}
-use Rattle.thread_moves.proofs.Puts.{is-place, no-place}
+use Rattle.thread_moves.proofs.Places.{at-endpoint, blocked, blocked-there, caller-here, caller-there, delivered-here, delivered-there, endpoint-here, endpoint-there, went-here, went-there, woke, woke-there}
 use Rattle.thread_moves.proofs.Queued.{IsBlockedAt, contains-before, contains-last, contains-more, first-times, more-times, queued-there, times-before, times-behind}
 use Rattle.thread_moves.proofs.Standing.{all-stand, touches-none}
 use Rattle.thread_moves.proofs.Waiters.{StandsWaiting, delivered-pc, own-message, stands-waiting}
@@ -96,7 +99,7 @@ module _ (laws : Laws) (bytes : List ℕ) (image : Image) (s : State) (labels la
     after-queue = objects e ∙ blocked-there one tcb (Blocked e) e e-apart ∙ endpoint-here s e queued
 
     after-others : (y : ℕ) → y ≢ e → (y == tcb) ≡ false → after.objects y ≡ s.objects y
-    after-others y other rests = objects y ∙ blocked-there one tcb (Blocked e) y (no-place y tcb rests) ∙ endpoint-there s e queued y other
+    after-others y other rests = objects y ∙ blocked-there one tcb (Blocked e) y (eqb-false y tcb rests) ∙ endpoint-there s e queued y other
 
     queued-on : (thread : ℕ) → (thread == tcb) ≡ false → QueuesOn (EndpointObject ep) (EndpointObject queued) thread
     queued-on thread rests = record {
@@ -104,7 +107,7 @@ module _ (laws : Laws) (bytes : List ℕ) (image : Image) (s : State) (labels la
         ep,
         refl,
         contains-before ep.senders y x (subst (λ (g : EndpointState). Contains g.senders y) (sym same) among)
-            (λ is_x. no-place thread tcb rests (sym mine ∙ ap (λ (z : Sender). z.thread) is_x)),
+            (λ is_x. eqb-false thread tcb rests (sym mine ∙ ap (λ (z : Sender). z.thread) is_x)),
       );
       receives = λ f is among. let same : queued ≡ f = cc in (ep, refl, subst (λ (g : EndpointState). Contains g.receivers thread) (sym same) among);
       waits = λ n is among. absurd cc;
@@ -117,7 +120,7 @@ module _ (laws : Laws) (bytes : List ℕ) (image : Image) (s : State) (labels la
       old_none = λ u clash. absurd cc;
       new_none = λ u clash. absurd cc;
       others = after-others;
-      moved = λ y move. (next, ap after.objects (is-place y tcb move) ∙ after-own);
+      moved = λ y move. (next, ap after.objects (eqb-true y tcb move) ∙ after-own);
       queues = queued-on;
     }
 
@@ -157,10 +160,10 @@ module _ (laws : Laws) (bytes : List ℕ) (image : Image) (s : State) (labels la
     waits-stand =
         all-stand laws.stand_on bytes image s after labels later (λ y. y == tcb) accepted all sound store (rest-by-queue s after e (EndpointObject ep) (EndpointObject queued) (λ y. y == tcb) changes)
         (λ u among move.
-        let same : t ≡ u = laws.own_blocks bytes image t u accepted listed among (sym (is-place (tcb_of image u) tcb move)) in
+        let same : t ≡ u = laws.own_blocks bytes image t u accepted listed among (sym (eqb-true (tcb_of image u) tcb move)) in
         subst (λ v. ThreadInvariant image v after later × WaitsAsAsked image v after) same (own-begins, asked))
-        (λ offset u move there. record { thread = t; listed = listed; is = is-place offset tcb move })
-        (λ u among rests. counts.others (tcb_of image u) (no-place (tcb_of image u) tcb rests))
+        (λ offset u move there. record { thread = t; listed = listed; is = eqb-true offset tcb move })
+        (λ u among rests. counts.others (tcb_of image u) (eqb-false (tcb_of image u) tcb rests))
 
   -- ---- somebody receives
 

@@ -2,8 +2,10 @@
 use Rattle.std.proofs.Common.{ℕ, ◌≡◌, ◌≢◌, ◌∙◌, ◌==◌, ◌^◌, ◌<◌, ◌≤◌, inl, inr, Bool, true, false, Option, Some, List, [], ◌∷◌, refl, sym, ap, subst, arith}
 use Rattle.std.specs.Prelude.{Contains, bit_or}
 use Rattle.std.specs.Option.{option_map_or}
-use Rattle.kept_threads.specs.Standing.{AllStand, IsControlBlock}
-use Rattle.kept_threads.specs.Waiting.{WaitsAsAsked, WaitsSo, behind_signal}
+use Rattle.std.proofs.lemmas.Bool.{eqb-true, eqb-false}
+use Rattle.thread_facts.specs.Standing.{AllStand, IsControlBlock}
+use Rattle.thread_facts.specs.Waiting.{WaitsAsAsked, WaitsSo, behind_signal}
+use Rattle.thread_facts.proofs.ThreadObjects.{at-place}
 use Rattle.model.specs.declared.labels.Label.{Label}
 use Rattle.model.specs.Acceptance.Accepted.{IsAccepted}
 use Rattle.model.specs.Acceptance.Authority.{SameStore}
@@ -21,11 +23,12 @@ use Rattle.model.specs.Kernel.Waits.{open_count}
 use Rattle.model.specs.Shared.Lists.{times_in}
 use Rattle.model.specs.Machine.Effects.{advanced}
 use Rattle.model.specs.Machine.ProgramMemory.{RegisterFile, write}
+use Rattle.call_points.specs.Laws.{AreRegisters}
 use Rattle.thread_moves.specs.Moving.{GoesOnAs}
 use Rattle.thread_moves.specs.Resting.{HasBeen, OthersRest}
-use Rattle.thread_moves.specs.Laws.{AreRegisters, Laws}
-use Rattle.thread_moves.proofs.Places.{at-place, passed, passed-there, woke, woke-there}
-use Rattle.thread_moves.proofs.Puts.{decided, is-place, no-place, put-here, put-there}
+use Rattle.thread_moves.specs.Laws.{Laws}
+use Rattle.thread_moves.proofs.Places.{passed, passed-there, woke, woke-there}
+use Rattle.thread_moves.proofs.Puts.{decided, put-here, put-there}
 use Rattle.thread_moves.proofs.Queued.{IsBlockedAt, contains-more, first-times, queued-there}
 use Rattle.thread_moves.proofs.Standing.{all-stand}
 use Rattle.thread_moves.proofs.Woken.{FitsBehind, wakes-up}
@@ -135,8 +138,8 @@ module _ (laws : Laws) (bytes : List ℕ) (image : Image) (s : State) (labels la
 
     after-others : (y : ℕ) → y ≢ n → (y == w) ≡ false → after.objects y ≡ s.objects y
     after-others y other rests =
-        objects y ∙ woke-there (deliver_word one w badge) w y (no-place y w rests)
-        ∙ passed-there one w (write (thread_at one w).registers a0 badge) y (no-place y w rests) ∙ put-there s.objects n (Some (NotificationObject new)) y other
+        objects y ∙ woke-there (deliver_word one w badge) w y (eqb-false y w rests)
+        ∙ passed-there one w (write (thread_at one w).registers a0 badge) y (eqb-false y w rests) ∙ put-there s.objects n (Some (NotificationObject new)) y other
 
     after-notification : after.objects n ≡ Some (NotificationObject new)
     after-notification =
@@ -145,7 +148,7 @@ module _ (laws : Laws) (bytes : List ℕ) (image : Image) (s : State) (labels la
 
     no-other : (y : ℕ) (object : Object) → (y == w) ≡ true → ((t : ThreadState) → object ≡ ThreadObject t → ⊥) → after.objects y ≡ Some object → s.objects y ≡ Some object
     no-other y object at other is =
-        let same : Some object ≡ Some (ThreadObject (woken own (advanced written))) = sym is ∙ ap after.objects (is-place y w at) ∙ after-own in
+        let same : Some object ≡ Some (ThreadObject (woken own (advanced written))) = sym is ∙ ap after.objects (eqb-true y w at) ∙ after-own in
         absurd (other (woken own (advanced written)) (let e : object ≡ ThreadObject (woken own (advanced written)) = cc in e))
 
     waits-still : (thread : ℕ) → Contains others thread → Contains old.waiters thread
@@ -179,7 +182,7 @@ module _ (laws : Laws) (bytes : List ℕ) (image : Image) (s : State) (labels la
     wakes =
         all-stand laws.stand_on bytes image s after labels later (λ y. y == w) accepted all sound store
         (rest-beside s after n old new (λ y. y == w) was after-notification after-others no-other waits-still)
-        (λ t listed is. woken-stands t listed (is-place (tcb_of image t) w is)) (λ offset u is there. control offset (is-place offset w is))
+        (λ t listed is. woken-stands t listed (eqb-true (tcb_of image t) w is)) (λ offset u is there. control offset (eqb-true offset w is))
         (λ t listed rests. counts t listed)
 
   by-waiters : (waiters : List ℕ) → old.waiters ≡ waiters → ((y : ℕ) → after.objects y ≡ (signals s n badge old waiters).objects y) → AllStand image after later

@@ -1,8 +1,10 @@
 -- System calls that move nobody but the thread that makes them: Yield, PutChar, the end of Reply, and the answer to a signal.
 use Rattle.std.proofs.Common.{ℕ, ◌≡◌, ◌≢◌, ◌∙◌, ◌==◌, false, Some, List, [], ◌∷◌, pos, ◌+ℤ◌, ◌≤ℤ◌, refl, sym, ap, subst}
 use Rattle.std.specs.Prelude.{Contains}
-use Rattle.kept_threads.specs.Standing.{AllStand}
-use Rattle.kept_threads.specs.Waiting.{WaitsAsAsked}
+use Rattle.std.proofs.lemmas.Bool.{eqb-true, eqb-false}
+use Rattle.thread_facts.specs.Standing.{AllStand}
+use Rattle.thread_facts.specs.Waiting.{WaitsAsAsked}
+use Rattle.thread_facts.proofs.ThreadObjects.{at-place}
 use Rattle.model.specs.declared.labels.Label.{Label}
 use Rattle.model.specs.Acceptance.Accepted.{IsAccepted}
 use Rattle.model.specs.Acceptance.Authority.{SameStore}
@@ -20,12 +22,11 @@ use Rattle.model.specs.Kernel.Steps.{registers_of}
 use Rattle.model.specs.Kernel.Waits.{open_count}
 use Rattle.model.specs.Machine.Effects.{advanced}
 use Rattle.model.specs.Machine.ProgramMemory.{RegisterFile, write}
-use Rattle.thread_moves.specs.Moving.{PassesWith}
+use Rattle.thread_moves.specs.Moving.{CallsAt, PassesWith}
 use Rattle.thread_moves.specs.Resting.{OthersRest}
 use Rattle.thread_moves.specs.Laws.{Laws}
-use Rattle.thread_moves.proofs.Calling.{CallsAt, IsCounted, own-control, own-passes, own-registers, rest-by-threads}
-use Rattle.thread_moves.proofs.Places.{at-place, passed, passed-there, went-here, went-there, with-here, with-there}
-use Rattle.thread_moves.proofs.Puts.{is-place, no-place}
+use Rattle.thread_moves.proofs.Calling.{IsCounted, own-control, own-passes, own-registers, rest-by-threads}
+use Rattle.thread_moves.proofs.Places.{passed, passed-there, went-here, went-there, with-here, with-there}
 use Rattle.thread_moves.proofs.Standing.{all-stand, touches-none}
 
 -- ---- what stands where the thread yields
@@ -72,10 +73,10 @@ module _ (laws : Laws) (bytes : List ℕ) (image : Image) (s : State) (labels la
     it-moves rest stands =
         all-stand laws.stand_on bytes image s after labels later (λ y. y == tcb) accepted all sound store rest
         (λ u member is.
-        let same : t ≡ u = laws.own_blocks bytes image t u accepted listed member (sym (is-place (tcb_of image u) tcb is)) in
+        let same : t ≡ u = laws.own_blocks bytes image t u accepted listed member (sym (eqb-true (tcb_of image u) tcb is)) in
         subst (λ (v : Numbered). ThreadInvariant image v after later × WaitsAsAsked image v after) same stands)
-        (λ offset thread is there. own-control laws bytes image s labels later accepted all t listed own point state left at offset (is-place offset tcb is))
-        (λ u member rests. counts.others (tcb_of image u) (no-place (tcb_of image u) tcb rests))
+        (λ offset thread is there. own-control laws bytes image s labels later accepted all t listed own point state left at offset (eqb-true offset tcb is))
+        (λ u member rests. counts.others (tcb_of image u) (eqb-false (tcb_of image u) tcb rests))
 
     -- no queue changes, and it passes
     pub it-passes : left.slots ≡ state.slots → PassesWith after (tcb_of image t) own state left
@@ -83,8 +84,8 @@ module _ (laws : Laws) (bytes : List ℕ) (image : Image) (s : State) (labels la
     it-passes slots passes others =
         it-moves
         (rest-by-threads s after (λ y. y == tcb) (record {
-          others = λ y rests. others y (no-place y tcb rests);
-          moved = λ y is. (passes.next, ap after.objects (is-place y tcb is) ∙ passes.is);
+          others = λ y rests. others y (eqb-false y tcb rests);
+          moved = λ y is. (passes.next, ap after.objects (eqb-true y tcb is) ∙ passes.is);
         }))
         (own-passes laws bytes image s labels later accepted all t listed own point state left at after sound store slots passes counts)
 

@@ -2,8 +2,9 @@
 use Rattle.std.proofs.Common.{ℕ, ◌≡◌, ◌∙◌, ◌⊎◌, inl, inr, Bool, true, false, Option, Some, List, refl, sym, ap}
 use Rattle.std.specs.Prelude.{Contains}
 use Rattle.std.specs.Option.{option_map_or}
-use Rattle.kept_threads.specs.Standing.{AllStand, IsControlBlock}
-use Rattle.kept_threads.specs.Waiting.{WaitsAsAsked}
+use Rattle.thread_facts.specs.Standing.{AllStand, IsControlBlock}
+use Rattle.thread_facts.specs.Waiting.{WaitsAsAsked}
+use Rattle.kept_threads.proofs.HangsKept.{hangs-kept}
 use Rattle.model.specs.declared.capabilities.Cap.TheVariants.{Empty}
 use Rattle.model.specs.declared.labels.Label.{Label}
 use Rattle.model.specs.declared.rights.Rights.{Rights}
@@ -18,9 +19,9 @@ use Rattle.model.specs.Kernel.AddressSpaces.{Maps}
 use Rattle.model.specs.Kernel.Soundness.{IsSound}
 use Rattle.model.specs.Kernel.State.{State, Inactive, ThreadObject, ThreadState, cspace_slot, vspace_slot}
 use Rattle.model.specs.Kernel.Waits.{open_count}
+use Rattle.kept_threads.specs.Laws.{StandsOn}
 use Rattle.thread_moves.specs.Moving.{IsLeftAlone}
 use Rattle.thread_moves.specs.Resting.{OthersRest}
-use Rattle.thread_moves.specs.Laws.{StandsOn}
 use Rattle.thread_moves.proofs.LeftAlone.{stands-alone}
 
 maps-too : (slots others : Slots) → ((slot : ℕ) → others slot ≡ slots slot) → (root page frame : ℕ) (allowed : Rights) → Maps slots root page frame allowed → Maps others root page frame allowed
@@ -75,4 +76,7 @@ module _ (stand-on : StandsOn) (bytes : List ℕ) (image : Image) (s after : Sta
     wait = λ t listed. (each t listed (moves (tcb_of image t)) refl).1;
     others = λ offset own there. other offset own there (moves offset) refl;
     apart = λ slot alone. store.slots slot ∙ all.apart slot alone;
+    hang = λ t listed. hangs-kept image t s after store.boot_radix store.slots (all.hang t listed);
+    memory_bits = store.memory_bits ∙ all.memory_bits;
+    boot_radix = store.boot_radix ∙ all.boot_radix;
   }

@@ -2,7 +2,7 @@
 use Rattle.std.proofs.Common.{ℕ, ◌≡◌, ◌≢◌, ◌∙◌, ◌-◌, ◌++◌, inl, inr, true, false, nat_le, if◌then◌else◌, Option, Some, None, List, [], ◌∷◌, refl, sym, ap}
 use Rattle.std.specs.Option.{option_map_or}
 use Rattle.soundness.proofs.Running.{current-runs}
-use Rattle.kept_threads.specs.Standing.{AllStand}
+use Rattle.thread_facts.specs.Standing.{AllStand}
 use Rattle.model.specs.declared.events.Event.{Event}
 use Rattle.model.specs.declared.events.Event.TheVariants.{Tick}
 use Rattle.model.specs.declared.labels.Label.{Label}
@@ -15,9 +15,10 @@ use Rattle.model.specs.Kernel.Scheduling.{current, full_slice, tick, ticked, yie
 use Rattle.model.specs.Kernel.Soundness.{IsSound}
 use Rattle.model.specs.Kernel.State.{State, Object, ThreadObject, EndpointObject, NotificationObject, ThreadState, as_thread, new_thread, put, thread_at, with_thread}
 use Rattle.model.specs.Kernel.Steps.{state_after, step}
+use Rattle.thread_facts.specs.Laws.{KeepsSoundness}
+use Rattle.kept_threads.specs.Laws.{StandsOn}
 use Rattle.thread_moves.specs.Moving.{GoesOnAs, WaitsOn}
 use Rattle.thread_moves.specs.Resting.{HasBeen, OthersRest}
-use Rattle.thread_moves.specs.Laws.{KeepsSoundness, StandsOn}
 use Rattle.thread_moves.proofs.LeftAlone.{one-thread}
 use Rattle.thread_moves.proofs.Puts.{decided, other-label, put-here, put-there, thread-no-endpoint, thread-no-notification, thread-there}
 use Rattle.thread_moves.proofs.Standing.{all-stand}

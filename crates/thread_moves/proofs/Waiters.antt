@@ -1,11 +1,10 @@
 -- A thread that waits, and the message that a thread sends.
-use Rattle.std.proofs.Common.{ℕ, zero, suc, ◌≡◌, ◌∙◌, ◌==◌, ◌^◌, ◌<◌, ◌≤◌, inl, inr, Bool, true, false, if◌then◌else◌, Some, Ok, List, [], ◌∷◌, length, take, map, get_or, All, refl, sym, ap, subst, arith}
+use Rattle.std.proofs.Common.{ℕ, zero, suc, ◌≡◌, ◌∙◌, ◌==◌, ◌^◌, ◌<◌, ◌≤◌, inl, inr, true, false, if◌then◌else◌, Some, Ok, List, [], ◌∷◌, length, take, map, All, refl, sym, ap, subst, arith}
 use Rattle.std.specs.Prelude.{Contains, slice_set}
-use Rattle.std.proofs.lemmas.Bool.{cases_lt}
-use Rattle.std.proofs.lemmas.List.{get_or_past}
 use Rattle.std.proofs.lemmas.List.Elements.{All-cons, All-nil}
-use Rattle.kept_threads.specs.Standing.{AllStand, IsControlBlock}
-use Rattle.kept_threads.specs.Waiting.{SendsSo, WaitsSo, behind_reply}
+use Rattle.thread_facts.specs.Standing.{AllStand, IsControlBlock}
+use Rattle.thread_facts.specs.Waiting.{SendsSo, WaitsSo, behind_reply}
+use Rattle.thread_facts.proofs.ThreadObjects.{read-less}
 use Rattle.model.specs.declared.instructions.Instr.TheVariants.{Ecall}
 use Rattle.model.specs.declared.instructions.Register.{Register}
 use Rattle.model.specs.declared.labels.Label.{Label}
@@ -20,7 +19,7 @@ use Rattle.model.specs.Kernel.Soundness.{ThreadIsSound}
 use Rattle.model.specs.Kernel.State.{State, Status, Inactive, Runnable, Blocked, AwaitsReply, AwaitsHandler, Sender, BySend, ByCall, ByFault, FaultMessage, ThreadObject, ThreadState}
 use Rattle.model.specs.Kernel.Waits.{open_count}
 use Rattle.model.specs.Machine.ProgramMemory.{RegisterFile, read, write}
-use Rattle.thread_moves.specs.Laws.{IsMessage}
+use Rattle.call_points.specs.Laws.{IsMessage}
 use Rattle.thread_moves.proofs.LeftAlone.{one-thread}
 use Rattle.thread_moves.proofs.Woken.{no-runner}
 
@@ -99,18 +98,6 @@ no-fault state left x message (SendsSo.by_send sent is) kind = let clash : BySen
 no-fault state left x message (SendsSo.by_call sent grants is) kind = let clash : ByCall ≡ ByFault message = sym sent ∙ kind in absurd cc
 
 -- ---- the words of a message
-
-word-less : (words : List ℕ) (k : ℕ) → All (λ word. word < 2 ^ 32) words → get_or words k 0 < 2 ^ 32
-word-less words k are = elim (cases_lt k (length words)) [
-  | inl less ↦ are k 0 less
-  | inr past ↦ let none : get_or words k 0 ≡ 0 = get_or_past words k 0 past in omega (arith, none)
-]
-
-pub read-less : (r : RegisterFile) (x : Register) → All (λ word. word < 2 ^ 32) r.words → read r x < 2 ^ 32
-read-less r x are = elim (x.0 == 0) as (λ (b : Bool). (if b then 0 else get_or r.words x.0 0) < 2 ^ 32) [
-  | true ↦ omega arith
-  | false ↦ word-less r.words x.0 are
-]
 
 all-read : (r : RegisterFile) (xs : List Register) → All (λ word. word < 2 ^ 32) r.words → All (λ word. word < 2 ^ 32) (map (read r) xs)
 all-read r [] are = All-nil (λ word. word < 2 ^ 32)

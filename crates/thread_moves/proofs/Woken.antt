@@ -2,8 +2,8 @@
 use Rattle.std.proofs.Common.{true, false, ℕ, ◌≡◌, ◌∙◌, Some, List, refl, sym, ap, subst}
 use Rattle.std.specs.Prelude.{Contains}
 use Rattle.falling.specs.Terms.{WritesOnly}
-use Rattle.kept_threads.specs.Standing.{AllStand}
-use Rattle.kept_threads.specs.Waiting.{WaitsAsAsked, WaitsSo}
+use Rattle.thread_facts.specs.Standing.{AllStand}
+use Rattle.thread_facts.specs.Waiting.{WaitsAsAsked, WaitsSo}
 use Rattle.model.specs.declared.labels.Label.{Label}
 use Rattle.model.specs.Acceptance.Accepted.{IsAccepted}
 use Rattle.model.specs.Acceptance.Authority.{SameStore}
@@ -18,8 +18,9 @@ use Rattle.model.specs.Kernel.State.{State, Status, Inactive, Runnable, Blocked,
 use Rattle.model.specs.Kernel.Waits.{open_count}
 use Rattle.model.specs.Machine.Effects.{advanced}
 use Rattle.model.specs.Machine.ProgramMemory.{RegisterFile}
+use Rattle.call_points.specs.Laws.{AreRegisters}
 use Rattle.thread_moves.specs.Moving.{PassesWith}
-use Rattle.thread_moves.specs.Laws.{AreRegisters, Laws}
+use Rattle.thread_moves.specs.Laws.{Laws}
 use Rattle.thread_moves.proofs.LeftAlone.{one-thread}
 use Rattle.thread_moves.proofs.Passing.{ends-wait}
 use Rattle.thread_moves.proofs.Standing.{touches-none}

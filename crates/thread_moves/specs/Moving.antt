@@ -1,11 +1,14 @@
 -- How a thread of an accepted image moves on: it is left alone, or its system call waits, or passes.
-use Rattle.std.specs.Prelude.{ℕ, ◌≡◌, Contains, Some, List}
+use Rattle.std.specs.Prelude.{ℕ, ◌≡◌, Contains, Some, Ok, List}
 use Rattle.falling.specs.Terms.{WritesOnly}
-use Rattle.kept_threads.specs.Untouched.{IsUntouched}
+use Rattle.thread_facts.specs.Untouched.{IsUntouched}
+use Rattle.model.specs.declared.instructions.Instr.TheVariants.{Ecall}
+use Rattle.model.specs.declared.labels.Label.{Label}
 use Rattle.model.specs.Acceptance.Accepted.{IsAccepted}
 use Rattle.model.specs.Acceptance.CallRules.{AfterCall}
 use Rattle.model.specs.Acceptance.NotedStates.{PointState}
-use Rattle.model.specs.Acceptance.ThreadInvariants.{LieWithin}
+use Rattle.model.specs.Acceptance.PointStates.{call_at, instruction_at}
+use Rattle.model.specs.Acceptance.ThreadInvariants.{IsWithinBudget, LieWithin, StandsAt, tcb_of}
 use Rattle.model.specs.Images.Described.{Numbered, numbered_threads}
 use Rattle.model.specs.Images.Image.{Image}
 use Rattle.model.specs.Kernel.Soundness.{IsSound}
@@ -39,6 +42,18 @@ pub record WaitsOn (s after : State) (thread : ℕ) : Type 0 where
       → (old : EndpointState) × (s.objects queue ≡ Some (EndpointObject old)) × Contains old.receivers thread
   pub waits : (queue : ℕ) (n : NotificationState) → after.objects queue ≡ Some (NotificationObject n) → Contains n.waiters thread
       → (old : NotificationState) × (s.objects queue ≡ Some (NotificationObject old)) × Contains old.waiters thread
+
+-- ---- a thread that makes a system call
+
+-- the thread runs, and stands at a system call that the rules allow; `left` is what is known behind it
+pub record CallsAt (image : Image) (t : Numbered) (s : State) (labels : List Label) (own : ThreadState) (point : ℕ)
+    (state : PointState) (left : AfterCall) : Type 0 where
+  pub there : s.objects (tcb_of image t) ≡ Some (ThreadObject own)
+  pub status : own.status ≡ Runnable
+  pub stands : StandsAt image t s own point state
+  pub budget : IsWithinBudget image t labels own state
+  pub ecall : instruction_at t.thread point ≡ Some Ecall
+  pub call : call_at image t point state ≡ Some (Ok left)
 
 -- ---- a thread whose system call passes
 

@@ -1,20 +1,17 @@
 -- A step that goes well, and the steps that make a system call.
-use Rattle.std.specs.Prelude.{ℕ, ◌≡◌, ◌++◌, false, Some, Ok, List, [], ◌∷◌, All, Contains}
+use Rattle.std.specs.Prelude.{ℕ, ◌≡◌, ◌++◌, false, Some, Ok, List, [], ◌∷◌, All}
 use Rattle.call_points.specs.Messages.{IsInvoked}
-use Rattle.kept_threads.specs.Standing.{AllStand}
+use Rattle.thread_facts.specs.Standing.{AllStand}
 use Rattle.model.specs.declared.events.Event.{Event}
-use Rattle.model.specs.declared.events.Event.TheVariants.{Step}
 use Rattle.model.specs.declared.instructions.Access.TheVariants.{Fetch}
 use Rattle.model.specs.declared.instructions.AccessSize.TheVariants.{Word}
 use Rattle.model.specs.declared.instructions.Instr.TheVariants.{Ecall}
 use Rattle.model.specs.declared.labels.Label.{Label}
-use Rattle.model.specs.Acceptance.ThreadInvariants.{tcb_of}
 use Rattle.model.specs.Capabilities.Slots.{capability_at}
-use Rattle.model.specs.Images.Described.{Numbered, described, numbered_threads}
+use Rattle.model.specs.Images.Described.{described}
 use Rattle.model.specs.Images.Image.{Image}
 use Rattle.model.specs.Kernel.AddressSpaces.{content_of}
 use Rattle.model.specs.Kernel.Messages.{a7}
-use Rattle.model.specs.Kernel.Scheduling.{current}
 use Rattle.model.specs.Kernel.State.{State}
 use Rattle.model.specs.Kernel.Steps.{SendCall, Sends, call_of, named_slot, registers_of, state_after, step, trace}
 use Rattle.model.specs.Kernel.Waits.{is_error, is_fault}
@@ -38,16 +35,6 @@ abbrev pub InvokesNothing : State → ℕ → Type 0
 InvokesNothing s thread =
     (kind : SendCall) (slot : ℕ) → call_of (read (registers_of s thread) a7) ≡ Some (Sends kind) → named_slot s thread ≡ Ok slot
     → IsInvoked (capability_at s.slots slot) → ⊥
-
--- where a thread of the image runs and its next instruction is a system call, that is no invocation
-abbrev pub StepsQuietly : Image → State → Type 0
-StepsQuietly image s =
-    (t : Numbered) → Contains (numbered_threads image) t → current s ≡ Some (tcb_of image t) → MakesCall s (tcb_of image t) → InvokesNothing s (tcb_of image t)
-
--- no step among the events invokes anything
-abbrev pub RunsQuietly : Image → List Event → Type 0
-RunsQuietly image events =
-    (before behind : List Event) → events ≡ before ++ Step ∷ behind → StepsQuietly image (state_after (described image) before)
 
 -- behind events all threads stand, and no label is a fault or an error
 pub record HasGoneWell (image : Image) (events : List Event) : Type 0 where

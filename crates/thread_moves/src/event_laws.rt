@@ -1,7 +1,7 @@
 //! All threads, over ticks and interrupts.
 
 ghost use Rattle.std.specs.Prelude.{ℕ, ◌++◌, List, [], ◌∷◌};
-ghost use Rattle.kept_threads.specs.Standing.{AllStand};
+ghost use Rattle.thread_facts.specs.Standing.{AllStand};
 ghost use Rattle.model.specs.declared.events.Event.TheVariants.{Irq, Tick};
 ghost use Rattle.model.specs.declared.labels.Label.{Label};
 ghost use Rattle.model.specs.Acceptance.Accepted.{IsAccepted};

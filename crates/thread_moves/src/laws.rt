@@ -13,7 +13,7 @@ use thread_lookups::{lookups_find_what_is_noted, own_slots_hold_what_is_noted};
 use thread_spaces::programs_have_their_places;
 
 /// The laws below, together.
-pub(crate) fn laws_below()
+pub fn laws_below()
     ensures { Laws }
 {
     untouched_threads_stand_on();

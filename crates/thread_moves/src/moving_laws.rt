@@ -1,7 +1,7 @@
 //! Threads that rest, wait, wake and pass.
 
 ghost use Rattle.std.specs.Prelude.{ℕ, ◌≡◌, ◌+◌, List, Ok, Some, false, true};
-ghost use Rattle.kept_threads.specs.Waiting.{WaitsAsAsked};
+ghost use Rattle.thread_facts.specs.Waiting.{WaitsAsAsked};
 ghost use Rattle.model.specs.declared.instructions.Instr.TheVariants.{Ecall};
 ghost use Rattle.model.specs.declared.labels.Label.{Label};
 ghost use Rattle.model.specs.Acceptance.CallRules.{AfterCall};

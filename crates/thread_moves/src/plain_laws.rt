@@ -1,7 +1,7 @@
 //! All threads, over a step that makes no system call.
 
 ghost use Rattle.std.specs.Prelude.{ℕ, ◌≡◌, Contains, List, Some};
-ghost use Rattle.kept_threads.specs.Standing.{AllStand};
+ghost use Rattle.thread_facts.specs.Standing.{AllStand};
 ghost use Rattle.model.specs.declared.events.Event.TheVariants.{Step};
 ghost use Rattle.model.specs.declared.labels.Label.{Label};
 ghost use Rattle.model.specs.Acceptance.Accepted.{IsAccepted};

@@ -1,8 +1,8 @@
 //! All threads, over a step that leaves slots and bytes as they are.
 
 ghost use Rattle.std.specs.Prelude.{ℕ, ◌≡◌, Bool, Contains, List, Some, false, true};
-ghost use Rattle.kept_threads.specs.Standing.{AllStand, IsControlBlock};
-ghost use Rattle.kept_threads.specs.Waiting.{WaitsAsAsked};
+ghost use Rattle.thread_facts.specs.Standing.{AllStand, IsControlBlock};
+ghost use Rattle.thread_facts.specs.Waiting.{WaitsAsAsked};
 ghost use Rattle.model.specs.declared.labels.Label.{Label};
 ghost use Rattle.model.specs.Acceptance.Accepted.{IsAccepted};
 ghost use Rattle.model.specs.Acceptance.Authority.{SameStore};

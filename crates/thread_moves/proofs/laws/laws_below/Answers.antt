@@ -1,6 +1,6 @@
 -- Each law as it is told.
-use Rattle.thread_moves.proofs.ListedThreads.{is-listed}
 use Rattle.thread_moves.proofs.laws.laws_below.Goals as goal
+use Rattle.thread_facts.proofs.ListedThreads.{is-listed}
 
 pub returns : goal.returns
 returns c = record {
@@ -17,11 +17,11 @@ returns c = record {
   allowed = c.allowed_calls_are_known.ensures.allowed;
   number = c.allowed_calls_are_known.ensures.number;
   named = c.allowed_calls_are_known.ensures.named;
-  message = λ registers ranges badge message fine small words. c.messages_fit_behind.ensures.message registers ranges fine.count fine.words fine.long fine.within badge message small words.words words.few words.info;
-  answer = λ registers ranges message fine words. c.messages_fit_behind.ensures.answer registers ranges fine.count fine.words fine.long fine.within message words.words words.few words.info;
-  signal = λ registers ranges word fine small. c.messages_fit_behind.ensures.signal registers ranges fine.count fine.words fine.long fine.within word small;
-  result = λ registers ranges fine. c.messages_fit_behind.ensures.result registers ranges fine.count fine.words fine.long fine.within;
-  nothing = λ registers ranges fine. c.messages_fit_behind.ensures.nothing registers ranges fine.count fine.words fine.long fine.within;
+  message = c.messages_fit_behind.ensures.message;
+  answer = c.messages_fit_behind.ensures.answer;
+  signal = c.messages_fit_behind.ensures.signal;
+  result = c.messages_fit_behind.ensures.result;
+  nothing = c.messages_fit_behind.ensures.nothing;
   receives = c.rules_on_messages_are_known.ensures.receives;
   sends = c.rules_on_messages_are_known.ensures.sends;
   others = c.rules_on_messages_are_known.ensures.others;

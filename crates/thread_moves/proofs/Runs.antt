@@ -1,10 +1,10 @@
--- All steps of an accepted image go well up to its first invocation.
+-- All events of an accepted image go well if its steps do: so they do up to its first invocation.
 use Rattle.std.proofs.Common.{ℕ, ◌≡◌, ◌∙◌, ◌++◌, ◌⊎◌, inl, inr, true, false, Option, Some, None, Result, Ok, Err, List, [], ◌∷◌, All, refl, sym, ap, subst}
 use Rattle.std.specs.Prelude.{Contains}
 use Rattle.std.specs.Option.{option_map_or}
 use Rattle.std.proofs.lemmas.List.Elements.{All-cons, All-nil}
 use Rattle.soundness.proofs.Running.{current-runs}
-use Rattle.kept_threads.specs.Standing.{AllStand}
+use Rattle.thread_facts.specs.Standing.{AllStand}
 use Rattle.model.specs.declared.events.Event.{Event}
 use Rattle.model.specs.declared.events.Event.TheVariants.{Step, Tick, Irq}
 use Rattle.model.specs.declared.instructions.Access.TheVariants as accesses
@@ -26,7 +26,7 @@ use Rattle.model.specs.Kernel.Waits.{is_error, is_fault}
 use Rattle.model.specs.Machine.Decoding.{decoded}
 use Rattle.model.specs.Machine.ProgramMemory.{loaded}
 use Rattle.thread_moves.specs.Laws.{Laws}
-use Rattle.thread_moves.specs.Steps.{GoesWell, HasGoneWell, InvokesNothing, MakesCall, RunsQuietly, StepsQuietly}
+use Rattle.thread_moves.specs.Steps.{GoesWell, HasGoneWell, InvokesNothing, MakesCall}
 use Rattle.thread_moves.proofs.Interrupts.{unchanged-stand}
 use Rattle.thread_moves.proofs.Puts.{other-label, thread-there}
 use Rattle.thread_steps.specs.Points.{ReachesNoCall}
@@ -89,8 +89,8 @@ not-stopped (Blocked queue) runs is = absurd cc
 not-stopped AwaitsReply runs is = absurd cc
 not-stopped AwaitsHandler runs is = absurd cc
 
-module _ (laws : Laws) (messages : MessagesGoWell) (plain : PlainStepsGoWell) (bytes : List ℕ) (image : Image) (s : State) (labels : List Label) (accepted : IsAccepted bytes image) (all : AllStand image s labels)
-    (quiet : StepsQuietly image s) where
+module _ (laws : Laws) (plain : PlainStepsGoWell) (bytes : List ℕ) (image : Image) (s : State) (labels : List Label) (accepted : IsAccepted bytes image) (all : AllStand image s labels)
+    (calls : (t : Numbered) → Contains (numbered_threads image) t → current s ≡ Some (tcb_of image t) → MakesCall s (tcb_of image t) → GoesWell image s labels Step) where
   thread-goes : (x : ℕ) → current s ≡ Some x → GoesWell image s labels Step
   thread-goes x now =
       let running = current-runs s all.sound.threads x now in
@@ -99,7 +99,7 @@ module _ (laws : Laws) (messages : MessagesGoWell) (plain : PlainStepsGoWell) (b
         | inr block ↦
             let here : current s ≡ Some (tcb_of image block.thread) = now ∙ ap Some block.is in
             elim (either-step s (tcb_of image block.thread)) [
-              | inl makes ↦ messages bytes image block.thread s labels accepted all block.listed here makes (quiet block.thread block.listed here makes)
+              | inl makes ↦ calls block.thread block.listed here makes
               | inr none ↦ plain bytes image block.thread s labels accepted all block.listed here none
             ]
       ]
@@ -118,16 +118,13 @@ module _ (laws : Laws) (messages : MessagesGoWell) (plain : PlainStepsGoWell) (b
         stands = subst (λ (x : State × Label). AllStand image x.0 (labels ++ x.1 ∷ [])) (sym (idle-is none)) stands;
       }
 
-  pub step-goes : GoesWell image s labels Step
-  step-goes = elim (current s) as (λ o. current s ≡ o → GoesWell image s labels Step) [
+  pub step-goes-by : GoesWell image s labels Step
+  step-goes-by = elim (current s) as (λ o. current s ≡ o → GoesWell image s labels Step) [
     | None ↦ λ none. idle-goes none
     | Some x ↦ λ now. thread-goes x now
   ] refl
 
 -- ---- events, one after another
-
-abbrev pub StepsGoWell : Type 0
-StepsGoWell = (bytes : List ℕ) (image : Image) (s : State) (labels : List Label) → IsAccepted bytes image → AllStand image s labels → StepsQuietly image s → GoesWell image s labels Step
 
 abbrev pub TicksGoWell : Type 0
 TicksGoWell = (bytes : List ℕ) (image : Image) (s : State) (labels : List Label) → IsAccepted bytes image → AllStand image s labels → AllStand image (step s Tick).0 (labels ++ (step s Tick).1 ∷ [])
@@ -156,30 +153,28 @@ one-by-one : (labels : List Label) (l : Label) (later : List Label) → (labels 
 one-by-one [] l later = refl
 one-by-one (x ∷ labels) l later = ap (λ (ls : List Label). x ∷ ls) (one-by-one labels l later)
 
-module _ (steps : StepsGoWell) (ticks : TicksGoWell) (interrupts : InterruptsGoWell) (bytes : List ℕ) (image : Image) (accepted : IsAccepted bytes image) where
-  abbrev Quiet : State → List Event → Type 0
-  Quiet s events = (before behind : List Event) → events ≡ before ++ Step ∷ behind → StepsQuietly image (state_after s before)
-
-  event-goes : (s : State) (labels : List Label) (event : Event) (rest : List Event) → AllStand image s labels → Quiet s (event ∷ rest) → GoesWell image s labels event
+module _ (ticks : TicksGoWell) (interrupts : InterruptsGoWell) (bytes : List ℕ) (image : Image) (accepted : IsAccepted bytes image)
+    (steps : (s : State) (labels : List Label) → AllStand image s labels → GoesWell image s labels Step) where
+  event-goes : (s : State) (labels : List Label) (event : Event) → AllStand image s labels → GoesWell image s labels event
   unfolding state_after step
-  event-goes s labels Step rest all quiet = steps bytes image s labels accepted all (quiet [] rest refl)
-  event-goes s labels Tick rest all quiet = record { faults = refl; errors = refl; stands = ticks bytes image s labels accepted all }
-  event-goes s labels (Irq number) rest all quiet = record { faults = refl; errors = refl; stands = interrupts bytes image s labels number accepted all }
+  event-goes s labels Step all = steps s labels all
+  event-goes s labels Tick all = record { faults = refl; errors = refl; stands = ticks bytes image s labels accepted all }
+  event-goes s labels (Irq number) all = record { faults = refl; errors = refl; stands = interrupts bytes image s labels number accepted all }
 
-  events-go : (s : State) (labels : List Label) (events : List Event) → AllStand image s labels → Quiet s events → GoneWell image s labels events
+  events-go : (s : State) (labels : List Label) (events : List Event) → AllStand image s labels → GoneWell image s labels events
   unfolding state_after trace
-  events-go s labels [] all quiet = record { stand = subst (AllStand image s) (sym (behind-nothing labels)) all; faults = All-nil NoFault; errors = All-nil NoError }
-  events-go s labels (event ∷ rest) all quiet =
-      let well = event-goes s labels event rest all quiet in
+  events-go s labels [] all = record { stand = subst (AllStand image s) (sym (behind-nothing labels)) all; faults = All-nil NoFault; errors = All-nil NoError }
+  events-go s labels (event ∷ rest) all =
+      let well = event-goes s labels event all in
       let next = step s event in
-      let later = events-go next.0 (labels ++ next.1 ∷ []) rest well.stands (λ before behind is. quiet (event ∷ before) behind (ap (λ (es : List Event). event ∷ es) is)) in
+      let later = events-go next.0 (labels ++ next.1 ∷ []) rest well.stands in
       record {
         stand = subst (AllStand image (state_after next.0 rest)) (one-by-one labels next.1 (trace next.0 rest)) (GoneWell.stand later);
         faults = All-cons NoFault next.1 (trace next.0 rest) well.faults (GoneWell.faults later);
         errors = All-cons NoError next.1 (trace next.0 rest) well.errors (GoneWell.errors later);
       }
 
-  pub run-goes : (events : List Event) → AllStand image (described image) [] → RunsQuietly image events → HasGoneWell image events
-  run-goes events start quiet =
-      let gone = events-go (described image) [] events start quiet in
+  pub run-goes-by : (events : List Event) → AllStand image (described image) [] → HasGoneWell image events
+  run-goes-by events start =
+      let gone = events-go (described image) [] events start in
       record { stand = GoneWell.stand gone; faults = GoneWell.faults gone; errors = GoneWell.errors gone }
