@@ -1,0 +1,5 @@
+pub mod Labels
+pub mod Numbers
+pub mod RunningLabels
+pub mod SpentLabels
+pub mod Stretches

@@ -1,0 +1,18 @@
+-- All events go well, and where all threads stand each keeps its budget.
+use Rattle.headline.proofs.Numbers.{numbered-listed}
+use Rattle.headline.proofs.safety_laws.accepted_images_run_safely.Goals as goal
+
+pub returns : goal.returns
+returns c = λ bytes image events accepted.
+    let goes = c.events_go_well.ensures bytes image events accepted in
+    record {
+      accepted = accepted;
+      boots = c.well_formed_images_boot.ensures.accepted bytes image accepted;
+      inside = c.objects_stand_inside_their_untypeds.ensures image accepted.spelled.fits accepted.formed;
+      faults = goes.faults;
+      errors = goes.errors;
+      budgets = λ t listed.
+          let of = numbered-listed image.threads t listed in
+          c.standing_threads_keep_their_budgets.ensures bytes image events accepted (λ before behind is. (c.events_go_well.ensures bytes image before accepted).stand)
+          (record { number = of.0; thread = t }) of.1;
+    }

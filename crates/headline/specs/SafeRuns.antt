@@ -1,0 +1,40 @@
+-- The headline: what is accepted boots as described, and runs without a fault, without an error, and within its budgets.
+use Rattle.std.specs.Prelude.{ℕ, ◌≡◌, false, All, Contains, List, Ok}
+use Rattle.booting.specs.Standing.{StandApart}
+use Rattle.thread_facts.specs.Standing.{AllStand}
+use Rattle.model.specs.declared.events.Event.{Event}
+use Rattle.model.specs.declared.labels.Label.{Label}
+use Rattle.model.specs.Acceptance.Accepted.{IsAccepted}
+use Rattle.model.specs.Images.Boot.{booted}
+use Rattle.model.specs.Images.Described.{described}
+use Rattle.model.specs.Images.Image.{Image, Thread}
+use Rattle.model.specs.Images.Places.{offset_of}
+use Rattle.model.specs.Kernel.State.{State}
+use Rattle.model.specs.Kernel.Steps.{trace}
+use Rattle.model.specs.Kernel.Waits.{KeepsBudget, is_error, is_fault}
+use Rattle.thread_moves.specs.Steps.{GoesWell}
+
+-- what the kernel does over events, from the state that an image describes
+abbrev pub trace_of : Image → List Event → List Label
+trace_of image events = trace (described image) events
+
+-- The bytes are an accepted image. It boots with no kernel error into the state that it describes, each object inside its untyped
+-- memory and no two on one another. Over the events no line of the kernel's trace is a fault or an error, and no stretch of a thread is
+-- longer than its budget.
+pub record IsSafeRun (bytes : List ℕ) (image : Image) (events : List Event) : Type 0 where
+  pub accepted : IsAccepted bytes image
+  pub boots : booted image ≡ Ok (described image)
+  pub inside : StandApart image
+  pub faults : All (λ label. is_fault label ≡ false) (trace_of image events)
+  pub errors : All (λ label. is_error label ≡ false) (trace_of image events)
+  pub budgets : (t : Thread) → Contains image.threads t → KeepsBudget (offset_of image t.header.tcb) t.header.budget (trace_of image events)
+
+-- ---- the laws
+
+abbrev pub AcceptedImagesRunSafely : Type 0
+AcceptedImagesRunSafely = (bytes : List ℕ) (image : Image) (events : List Event) → IsAccepted bytes image → IsSafeRun bytes image events
+
+abbrev pub EventsKeepAllStanding : Type 0
+EventsKeepAllStanding =
+    (bytes : List ℕ) (image : Image) (s : State) (labels : List Label) (event : Event) → IsAccepted bytes image → AllStand image s labels
+    → GoesWell image s labels event

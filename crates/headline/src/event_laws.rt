@@ -1,0 +1,16 @@
+//! One event after another.
+
+ghost use Rattle.headline.specs.SafeRuns.{EventsKeepAllStanding};
+
+use thread_invocations::steps_go_well;
+use thread_moves::{interrupts_keep_all_standing, ticks_keep_all_standing};
+
+/// In a state in which all threads of an accepted image stand as their certificates say, each event goes well: a step is no fault and
+/// no error, and behind the event all threads stand so again.
+pub fn events_keep_all_standing()
+    ensures { EventsKeepAllStanding }
+{
+    steps_go_well();
+    ticks_keep_all_standing();
+    interrupts_keep_all_standing();
+}
