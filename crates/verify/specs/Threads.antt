@@ -1,13 +1,17 @@
 -- What is true of the threads of an accepted image.
 use Rattle.std.specs.Prelude.{◌≡◌, ◌++◌, false, List, [], ◌∷◌, Some, Contains}
+use Rattle.thread_facts.specs.Standing.{AllStand}
 use Rattle.model.specs.Acceptance.ThreadInvariants.{ThreadInvariant, tcb_of}
 use Rattle.model.specs.Images.Described.{Numbered, described, numbered_threads}
 use Rattle.model.specs.Images.Image.{Image}
 use Rattle.model.specs.Kernel.Scheduling.{current}
+use Rattle.model.specs.Kernel.State.{State}
 use Rattle.model.specs.Kernel.Steps.{state_after, step, trace}
 use Rattle.model.specs.Kernel.Waits.{is_fault}
 use Rattle.model.specs.declared.events.Event.{Event}
 use Rattle.model.specs.declared.events.Event.TheVariants.{Step}
+use Rattle.model.specs.declared.labels.Label.{Label}
+use Rattle.thread_moves.specs.Steps.{GoesWell}
 use Rattle.thread_steps.specs.Points.{ReachesNoCall}
 
 -- behind events a thread stands as its certificate says
@@ -29,3 +33,13 @@ PlainStepsAreKept image =
     (t : Numbered) (events : List Event) → Contains (numbered_threads image) t → StandsBehind image t events
     → current (state_after (described image) events) ≡ Some (tcb_of image t) → ReachesNoCall (state_after (described image) events) (tcb_of image t)
     → PlainStepIsKept image t events
+
+-- ---- all threads
+
+-- in the state that the image describes all threads stand as their certificates say, and nobody else runs
+abbrev pub AllStandAtFirst : Image → Type 0
+AllStandAtFirst image = AllStand image (described image) []
+
+-- In every state in which all threads stand, each event goes well: no fault, no error, and all threads stand again behind it.
+abbrev pub EventsGoWell : Image → Type 0
+EventsGoWell image = (s : State) (labels : List Label) (event : Event) → AllStand image s labels → GoesWell image s labels event

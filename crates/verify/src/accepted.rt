@@ -6,9 +6,11 @@ ghost use Rattle.model.specs.Acceptance.PointRules.{program_rules};
 ghost use Rattle.model.specs.Images.Format.{reading};
 ghost use Rattle.model.specs.Images.Image.{Image, whole_image};
 ghost use Rattle.model.specs.declared.refusals.Refusal.TheVariants.{OutOfMemory};
-ghost use Rattle.verify.specs.Threads.{PlainStepsAreKept, ThreadsStart};
+ghost use Rattle.verify.specs.Threads.{AllStandAtFirst, EventsGoWell, PlainStepsAreKept, ThreadsStart};
 
+use headline::events_keep_all_standing;
 use image::{ImageRef, read};
+use kept_threads::all_stand_at_the_start;
 use model::Refusal;
 use std::alloc::Global;
 use std::marker::Model;
@@ -24,14 +26,15 @@ pub struct Accepted<'a> {
 
 impl<'a> Model for Accepted<'a> {
     ghost use Rattle.std.specs.Prelude.{◌≡◌, true};
-    ghost use Rattle.model.specs.Acceptance.Accepted.{IsWellFormed};
+    ghost use Rattle.model.specs.Acceptance.Accepted.{AreKept, IsWellFormed};
+    ghost use Rattle.model.specs.Acceptance.PointRules.{program_rules};
     ghost use Rattle.model.specs.Images.Image.{Image, whole_image};
 
     ghost Value = { Image };
 
     ghost view = { λ a. a.image };
 
-    ghost invariant = { λ a. IsWellFormed a.image × (whole_image.fits a.image ≡ true) };
+    ghost invariant = { λ a. IsWellFormed a.image × (whole_image.fits a.image ≡ true) × AreKept (program_rules a.image) };
 }
 
 impl<'a> Accepted<'a> {
@@ -41,6 +44,7 @@ impl<'a> Accepted<'a> {
         // It fits the format of images, and its sections keep the rules of acceptance.
         ensures fits { whole_image.fits self.now ≡ true }
         ensures formed { IsWellFormed self.now }
+        ensures programs { AreKept (program_rules self.now) }
     {
         &self.image
     }
@@ -61,6 +65,11 @@ pub fn verify(alloc: Global, bytes: &[u8]) -> Result<Accepted<'_>, Refusal>
     ensures starts { IfOk result ThreadsStart }
     // So it does behind a step of its own that reaches no system call, and the step does not fault.
     ensures steps { IfOk result PlainStepsAreKept }
+    // In that state all threads stand, and wait for what they asked.
+    ensures stands { IfOk result AllStandAtFirst }
+    // Where all threads stand, whatever happens next goes well: a step is no fault and no error, whoever runs and whatever it calls, and
+    // behind a step, a tick and an interrupt all threads stand again.
+    ensures events { IfOk result EventsGoWell }
     // What cannot be read is refused for the first reason, and takes no memory.
     ensures unread { IfErr (reading whole_image bytes.now) (λ refusal. result ≡ Err refusal) }
 {
@@ -68,6 +77,8 @@ pub fn verify(alloc: Global, bytes: &[u8]) -> Result<Accepted<'_>, Refusal>
     check(alloc, &image)?;
     threads_start_as_certified();
     plain_steps_keep_threads();
+    all_stand_at_the_start();
+    events_keep_all_standing();
     Ok(Accepted { image })
 }
 

@@ -47,3 +47,10 @@ returns-clause-steps c = λ t events listed stands runs reaches.
       faults = (laws.behind_events c.args.bytes.now c.in_ok-image.image events t accepted listed stands runs reaches).0;
       stands = laws.one_event_more c.args.bytes.now c.in_ok-image.image events t accepted listed stands runs reaches;
     }
+
+pub returns-clause-stands : goal.returns-clause-stands
+returns-clause-stands c = c.all_stand_at_the_start.ensures c.args.bytes.now c.in_ok-image.image (returns-clause-accepted c)
+
+pub returns-clause-events : goal.returns-clause-events
+returns-clause-events c = λ s labels event all.
+    c.events_keep_all_standing.ensures c.args.bytes.now c.in_ok-image.image s labels event (returns-clause-accepted c) all
