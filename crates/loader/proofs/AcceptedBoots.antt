@@ -1,9 +1,10 @@
 -- An accepted image boots into the state that it describes, so no call of its loader fails.
-use Rattle.std.proofs.Common.{◌≡◌, ◌∙◌, true, Ok, Err, sym, ap}
+use Rattle.std.proofs.Common.{◌≡◌, ◌∙◌, ◌⊎◌, inl, inr, true, Ok, Err, refl, sym, ap}
 use Rattle.std.specs.Prelude.{Result}
 use Rattle.booting.proofs.WholeLoads.{boots-well}
 use Rattle.model.specs.Acceptance.Accepted.{IsWellFormed}
 use Rattle.model.specs.declared.boot_faults.BootFault.{BootFault}
+use Rattle.model.specs.declared.boot_faults.BootFault.TheVariants.{OutOfMemory}
 use Rattle.model.specs.Images.Boot.{booted}
 use Rattle.model.specs.Images.Described.{described}
 use Rattle.model.specs.Images.Image.{Image, whole_image}
@@ -18,3 +19,9 @@ module _ (image accepted : Image) (same : image ≡ accepted) (fits : whole_imag
 
   pub never-fails : (fault : BootFault) → booted image ≡ Err fault → ⊥
   never-fails fault is = let e : ◌≡◌ {A = Result State BootFault} (Err fault) (Ok (described accepted)) = sym is ∙ boots in absurd cc
+
+-- what fails to boot and is well formed lacked memory
+pub only-memory : (image : Image) → whole_image.fits image ≡ true → IsWellFormed image → (fault : BootFault)
+    → (fault ≡ OutOfMemory) ⊎ (booted image ≡ Err fault) → fault ≡ OutOfMemory
+only-memory image fits formed fault (inl is) = is
+only-memory image fits formed fault (inr fails) = absurd (never-fails image image refl fits formed fault fails)

@@ -1,13 +1,16 @@
 //! Loading a whole image into a new machine, verified or not.
 
-ghost use Rattle.std.specs.Prelude.{◌≡◌, ◌+◌, ◌^◌, ◌≤◌, ◌⊎◌, IfOk, IfErr, Ok, Err, map};
+ghost use Rattle.std.specs.Prelude.{◌≡◌, ◌+◌, ◌^◌, ◌≤◌, ◌⊎◌, IfOk, IfErr, OnOk, Ok, Err, map, true};
+ghost use Rattle.booting.specs.Standing.{StandApart};
 ghost use Rattle.kernel.specs.Setups.{state_in};
 ghost use Rattle.loader.specs.Filling.{ArePlaces};
 ghost use Rattle.loader.specs.Limits.{IsLimited};
 ghost use Rattle.loader.specs.Loading.{Leaves, all_performed, called, performed, placed, progress_of};
+ghost use Rattle.model.specs.Acceptance.Accepted.{IsWellFormed};
 ghost use Rattle.model.specs.Images.Boot.{booted};
 ghost use Rattle.model.specs.Images.BootCalls.{PutsControl, PutsUntyped, first_calls, last_calls, operations};
 ghost use Rattle.model.specs.Images.Described.{described, numbered};
+ghost use Rattle.model.specs.Images.Image.{whole_image};
 ghost use Rattle.model.specs.Images.Places.{control_slot};
 ghost use Rattle.model.specs.declared.boot_faults.BootFault.TheVariants.{OutOfMemory};
 ghost use Rattle.model.specs.Kernel.Setup.{put_untyped};
@@ -16,6 +19,7 @@ use crate::boot_slots::control_slot;
 use crate::loading::Loader;
 use crate::object_places::places_of;
 use crate::untyped_places::misplaced;
+use booting::{objects_stand_inside_their_untypeds, well_formed_images_boot};
 use image::ImageRef;
 use kernel::{Setup, System};
 use model::{BootFault, ImageHeader, UntypedEntry};
@@ -28,6 +32,8 @@ use verify::Accepted;
 pub fn boot_unverified(alloc: Global, image: &ImageRef<'_>) -> Result<System, BootFault>
     ensures booted { IfOk result (λ system. booted image.now ≡ Ok (state_in system)) }
     ensures fault { IfErr result (λ fault. (fault ≡ OutOfMemory) ⊎ (booted image.now ≡ Err fault)) }
+    // A well-formed image boots, if memory is not refused.
+    ensures formed { whole_image.fits image.now ≡ true → IsWellFormed image.now → IfErr result (λ fault. fault ≡ OutOfMemory) }
 {
     let header = limited_header(image);
     if let Some(number) = misplaced(image) {
@@ -48,8 +54,15 @@ pub fn boot_unverified(alloc: Global, image: &ImageRef<'_>) -> Result<System, Bo
 ///
 /// seL4 Reference Manual, "System Bootstrapping".
 pub fn boot(alloc: Global, accepted: &Accepted<'_>) -> Result<System, AllocError>
-    ensures { IfOk result (λ system. state_in system ≡ described accepted.now) }
+    // It comes to the state that the image describes,
+    ensures state { IfOk result (λ system. state_in system ≡ described accepted.now) }
+    // no call of the loader fails,
+    ensures calls { OnOk result (booted accepted.now ≡ Ok (described accepted.now)) }
+    // and each object lies inside its untyped memory, and no two overlap.
+    ensures inside { OnOk result (StandApart accepted.now) }
 {
+    well_formed_images_boot();
+    objects_stand_inside_their_untypeds();
     match boot_unverified(alloc, accepted.image()) {
         Ok(system) => Ok(system),
         Err(fault) => match fault {
