@@ -1,3 +1,4 @@
+pub mod Calm
 pub mod KernelTraces
 pub mod PutLines
 pub mod Refusals

@@ -5,7 +5,7 @@ use Rattle.model.specs.Images.Format.{reading}
 use Rattle.model.specs.Images.Image.{Image, whole_image}
 use Rattle.model.specs.declared.refusals.Refusal.{Refusal}
 use Rattle.model.specs.declared.refusals.Refusal.TheVariants as refusals
-use Rattle.programs.proofs.Calm.{whole_calm}
+use Rattle.runner.proofs.Calm.{whole_calm}
 use Rattle.runner.specs.Running.{fault_of}
 use Rattle.runner.specs.declared.running.RunFault.{RunFault}
 use Rattle.runner.specs.declared.running.RunFault.TheVariants.{Refused}
@@ -32,3 +32,8 @@ pub tells : {T R : Type 0} (S : Type 0) (bytes : List ℕ) (e : Refusal) (x : Re
     → IfErr (reading whole_image bytes) (λ refusal. (x ≡ Err (Refused refusal)) × (sink ≡ sink))
 tells {T} {R} S bytes e x fault sink same x-is fault-is =
     tells-of {T = T} {R = R} S (reading whole_image bytes) e x fault sink (told bytes) same x-is fault-is
+
+-- a refusal is the one of reading, where it was read so
+pub first-told : {S : Type 0} (r : Result S Refusal) (e : Refusal) → Err e ≡ r → IfErr r (λ refusal. ◌≡◌ {A = Result S Refusal} (Err e) (Err refusal))
+first-told (Ok image) e is = tt
+first-told (Err refusal) e is = is

@@ -8,7 +8,7 @@ use Rattle.model.specs.declared.refusals.Refusal.{Refusal}
 use Rattle.model.specs.declared.refusals.Refusal.TheVariants as refusals
 use Rattle.model.specs.Images.Image.{Image}
 use Rattle.model.specs.Shared.Trace.{line_of}
-use Rattle.safe_runs.specs.SafeRuns.{IsAcceptedRun, trace_of}
+use Rattle.headline.specs.SafeRuns.{IsSafeRun, trace_of}
 use Rattle.sinks.specs.Sinks.{Grows, GrowsByBeginning}
 use Rattle.runner.specs.declared.running.RunFault.{RunFault}
 use Rattle.runner.specs.declared.running.RunFault.TheVariants.{Boot, Refused, OutOfMemory}
@@ -43,10 +43,10 @@ Failed old new = (old < new) ⊎ (new ≡ 2 ^ 64 - 1)
 
 -- ---- the promise
 
--- the image is accepted, and all lines of its trace were put
+-- the image is accepted and its run is safe, and all lines of its trace were put
 abbrev pub PutsAll : List ℕ → List Event → Option (List ℕ) → Option (List ℕ) → Type 0
-PutsAll bytes events old new = (image : Image) × IsAcceptedRun bytes image events × Grows old new (lines_of (trace_of image events))
+PutsAll bytes events old new = (image : Image) × IsSafeRun bytes image events × Grows old new (lines_of (trace_of image events))
 
--- the image is accepted, and a beginning of those lines was put
+-- the same, and a beginning of those lines was put
 abbrev pub PutsSome : List ℕ → List Event → Option (List ℕ) → Option (List ℕ) → Type 0
-PutsSome bytes events old new = (image : Image) × IsAcceptedRun bytes image events × GrowsByBeginning old new (lines_of (trace_of image events))
+PutsSome bytes events old new = (image : Image) × IsSafeRun bytes image events × GrowsByBeginning old new (lines_of (trace_of image events))

@@ -10,6 +10,7 @@ ghost use Rattle.runner.specs.declared.running.RunFault.TheVariants.{Output, Out
 ghost use Rattle.runner.specs.Running.{Failed, PutsAll, PutsSome, boot_fault_of, fault_of};
 
 use crate::traces::put_trace;
+use headline::accepted_images_run_safely;
 use loader::boot;
 use model::{BootFault, Event, Refusal};
 use sinks::{Sink, SinkFault};
@@ -81,8 +82,8 @@ pub fn run<S: Sink>(
     events: &[Event],
     sink: &mut S,
 ) -> Result<(), RunFault>
-    // The image is accepted, and the lines of the kernel's trace from the state that it describes are put. For an image of the
-    // one form nothing in it is a fault or an error, and each thread keeps its budget.
+    // The image is accepted; it boots with no kernel error into the state that it describes, inside its untyped memory. Exactly the
+    // lines of the kernel's trace from there are put; none is a fault or an error, and each thread keeps its budget.
     ensures ok { OnOk result (PutsAll bytes.now events.now (S.contents sink.old) (S.contents sink.new)) }
     // A refusal is the first breach, and nothing is put.
     ensures refused { (refusal : Refusal) → result ≡ Err (RunFault.Refused refusal) → (first_breach bytes.now ≡ Some refusal) × (sink.new ≡ sink.old) }
@@ -99,6 +100,7 @@ pub fn run<S: Sink>(
 {
     let accepted = verify(alloc, bytes)?;
     let mut system = boot(alloc, &accepted)?;
+    accepted_images_run_safely();
     put_trace(&mut system, events, sink)?;
     Ok(())
 }

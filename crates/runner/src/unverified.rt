@@ -1,6 +1,6 @@
 //! A run of an image that is not verified.
 
-ghost use Rattle.std.specs.Prelude.{◌≡◌, ◌≢◌, Err, OnOk};
+ghost use Rattle.std.specs.Prelude.{◌≡◌, ◌≢◌, Err, IfErr, OnOk};
 ghost use Rattle.model.specs.Images.Format.{reading};
 ghost use Rattle.model.specs.Images.Image.{whole_image};
 ghost use Rattle.model.specs.declared.boot_faults.BootFault.{BootFault};
@@ -30,6 +30,8 @@ pub fn run_unverified<S: Sink>(
     ensures ok { OnOk result (PutsTrace bytes.now events.now (S.contents sink.old) (S.contents sink.new)) }
     // A refusal is that of the reading, and nothing is put.
     ensures refused { (refusal : Refusal) → result ≡ Err (RunFault.Refused refusal) → (reading whole_image bytes.now ≡ Err refusal) × (sink.new ≡ sink.old) }
+    // What cannot be read is refused for the first reason, and nothing is put.
+    ensures unread { IfErr (reading whole_image bytes.now) (λ refusal. (result ≡ Err (RunFault.Refused refusal)) × (sink.new ≡ sink.old)) }
     // The image that is read does not boot, for this reason, and nothing is put.
     ensures boot { (fault : BootFault) → result ≡ Err (RunFault.Boot fault) → FailsToBoot bytes.now fault × (sink.new ≡ sink.old) }
     // Where memory is refused, nothing is put.

@@ -4,7 +4,6 @@ use Rattle.std.proofs.lemmas.Result.{err_from_is_err_and}
 use Rattle.model.specs.Kernel.State.{State}
 use Rattle.model.specs.Kernel.Steps.{trace}
 use Rattle.runner.specs.Running.{lines_of}
-use Rattle.safe_runs.proofs.Headline.{is_run}
 use Rattle.sinks.specs.Sinks.{Grows, GrowsByBeginning}
 use Rattle.runner.proofs.Refusals.{tells}
 use Rattle.runner.proofs.running.run.Goals as goal
@@ -22,8 +21,8 @@ returns-in_err-put_trace-clause-output g c = λ is.
     let told = c.in_ok-accepted.ensures in
     let old = g.S.Sink.contents c.args.sink.now in
     let new = g.S.Sink.contents c.put_trace.new.sink in
-    let begun = subst (λ (s : State). GrowsByBeginning old new (lines_of (trace s events))) c.in_ok-system.ensures c.in_err-put_trace.ensures.err in
-    ((image, is_run bytes image events told.accepted, begun), c.in_err-put_trace.ensures.failed)
+    let begun = subst (λ (s : State). GrowsByBeginning old new (lines_of (trace s events))) c.in_ok-system.ensures.state c.in_err-put_trace.ensures.err in
+    ((image, c.accepted_images_run_safely.ensures bytes image events told.accepted, begun), c.in_err-put_trace.ensures.failed)
 
 pub returns-clause-ok : goal.returns-clause-ok
 returns-clause-ok g c =
@@ -33,5 +32,5 @@ returns-clause-ok g c =
     let told = c.in_ok-accepted.ensures in
     let old = g.S.Sink.contents c.args.sink.now in
     let new = g.S.Sink.contents c.put_trace.new.sink in
-    let put = subst (λ (s : State). Grows old new (lines_of (trace s events))) c.in_ok-system.ensures c.in_ok-put_trace.ensures.ok in
-    (image, is_run bytes image events told.accepted, put)
+    let put = subst (λ (s : State). Grows old new (lines_of (trace s events))) c.in_ok-system.ensures.state c.in_ok-put_trace.ensures.ok in
+    (image, c.accepted_images_run_safely.ensures bytes image events told.accepted, put)
