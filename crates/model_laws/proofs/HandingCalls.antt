@@ -14,32 +14,21 @@ use Rattle.model.specs.Images.Image.{Image, Thread}
 use Rattle.model.specs.Kernel.Deliveries.{by_right, as_before, Reason, receiver, woken, waiter as woken_waiter, caller as answered_caller}
 use Rattle.model.specs.Kernel.Kinds.{kind_at, kind_of, object_named}
 use Rattle.model.specs.Kernel.Messages.{a0, a7, delivered, message_of, passes, replied, sends, signals}
-use Rattle.model.specs.Kernel.Retype.{NewThread, NewEndpoint, NewNotification, NewCNode, NewFrame, NewPageTable, NewRootTable}
+use Rattle.model.specs.Kernel.Retype.{NewEndpoint, NewNotification}
 use Rattle.model.specs.Kernel.Scheduling.{head_of, is_runnable}
 use Rattle.model.specs.Kernel.Soundness.{IsSound, waiting_at}
-use Rattle.model.specs.Kernel.State.{State, Status, Runnable, Object, ThreadObject, EndpointObject, NotificationObject, CNodeObject, FrameObject, PageTableObject, RootTableObject, EndpointState, NotificationState, Sender, BySend, ThreadState, as_endpoint, as_notification, as_thread, endpoint_at, new_endpoint, new_notification, new_thread, notification_at, thread_at, with_object}
+use Rattle.model.specs.Kernel.State.{State, Status, Runnable, Object, ThreadObject, EndpointObject, NotificationObject, EndpointState, NotificationState, Sender, BySend, ThreadState, as_endpoint, as_notification, as_thread, endpoint_at, new_endpoint, new_notification, new_thread, notification_at, thread_at, with_object}
 use Rattle.model.specs.Kernel.Steps.{Sending, call_of, calls_known, refused, send_by, send_named, send_on, sender, signal_on, system_call}
 use Rattle.model.specs.Machine.Effects.{advanced}
 use Rattle.model.specs.Machine.ProgramMemory.{RegisterFile, read, write}
 use Rattle.model.specs.Shared.Lists.{times_in}
+use Rattle.soundness.proofs.Rest.{endpoint-kind, notification-kind}
 use Rattle.model_laws.proofs.Handed.{MayHand, handed, handed-within}
-use Rattle.model_laws.proofs.Interrupted.{Waits, notification-object, one-more, rests-nowhere, waits-own}
+use Rattle.model_laws.proofs.Interrupted.{Waits, one-more, rests-nowhere, waits-own}
 use Rattle.model_laws.specs.Scenarios.{CallsOn, RepliesTo}
+use Rattle.thread_facts.proofs.ThreadObjects.{at-place}
 
 -- ---- objects that are there
-
-endpoint-object : (o : Option Object) → option_map kind_of o ≡ Some NewEndpoint → (x : EndpointState) × (o ≡ Some (EndpointObject x))
-endpoint-object None is = let e : None ≡ Some NewEndpoint = is in absurd cc
-endpoint-object (Some (ThreadObject x)) is = let e : NewThread ≡ NewEndpoint = cc in absurd cc
-endpoint-object (Some (EndpointObject x)) is = (x, refl)
-endpoint-object (Some (NotificationObject x)) is = let e : NewNotification ≡ NewEndpoint = cc in absurd cc
-endpoint-object (Some (CNodeObject x)) is = let e : NewCNode x ≡ NewEndpoint = cc in absurd cc
-endpoint-object (Some FrameObject) is = let e : NewFrame ≡ NewEndpoint = cc in absurd cc
-endpoint-object (Some PageTableObject) is = let e : NewPageTable ≡ NewEndpoint = cc in absurd cc
-endpoint-object (Some RootTableObject) is = let e : NewRootTable ≡ NewEndpoint = cc in absurd cc
-
-thread-is : (s : State) (thread : ℕ) (own : ThreadState) → s.objects thread ≡ Some (ThreadObject own) → thread_at s thread ≡ own
-thread-is s thread own is = ap (λ (o : Option Object). option_map_or (λ (v : ThreadState). v) (as_thread o) new_thread) is
 
 -- another object does not change what a thread is
 thread-beside : (s : State) (base : ℕ) (held : Object) (thread : ℕ) → (thread == base) ≡ false → thread_at (with_object s base held) thread ≡ thread_at s thread
@@ -51,7 +40,7 @@ thread-beside s base held thread apart =
 -- the thread's number of the call
 number-is : (s : State) (thread : ℕ) (own : ThreadState) (number : ℕ) → s.objects thread ≡ Some (ThreadObject own) → read own.registers a7 ≡ number
     → read (thread_at s thread).registers a7 ≡ number
-number-is s thread own number is calls = ap (λ (u : ThreadState). read u.registers a7) (thread-is s thread own is) ∙ calls
+number-is s thread own number is calls = ap (λ (u : ThreadState). read u.registers a7) (at-place s thread own is) ∙ calls
 
 pub sends-by : (image : Image) (t : Thread) (s : State) (capability : Cap) (call : CallsOn image t s 3 capability)
     → (system_call s (self_of image t)).0 ≡ (send_by s (self_of image t) Sending call.slot capability).0
@@ -95,7 +84,7 @@ module _ (image : Image) (t : Thread) (s : State) (sound : IsSound s) (endpoint 
   there = sound.memory.named call.slot NewEndpoint endpoint (ap object_named call.holds)
 
   queue : (x : EndpointState) × (s.objects endpoint ≡ Some (EndpointObject x))
-  queue = endpoint-object (s.objects endpoint) there
+  queue = endpoint-kind (s.objects endpoint) there
 
   standing : waiting_at (s.objects endpoint) ≡ first ∷ others
   standing =
@@ -165,7 +154,7 @@ module _ (image : Image) (t : Thread) (s : State) (sound : IsSound s) (notificat
   signalled = sound.memory.named call.slot NewNotification notification (ap object_named call.holds)
 
   word : (x : NotificationState) × (s.objects notification ≡ Some (NotificationObject x))
-  word = notification-object (s.objects notification) signalled
+  word = notification-kind (s.objects notification) signalled
 
   waiting : waiting_at (s.objects notification) ≡ first ∷ others
   waiting =
@@ -244,7 +233,7 @@ module _ (image : Image) (t : Thread) (s : State) (sound : IsSound s) (other : �
   answers r = delivered r 0 (message_of (thread_at s (self_of image t)))
 
   right : (thread_at s (self_of image t)).caller ≡ Some other
-  right = ap (λ (u : ThreadState). u.caller) (thread-is s (self_of image t) call.own call.is) ∙ call.right
+  right = ap (λ (u : ThreadState). u.caller) (at-place s (self_of image t) call.own call.is) ∙ call.right
 
   replies : (system_call s (self_of image t)).0 ≡ handed s (self_of image t) (self_of image t) without_right other answers
   unfolding system_call answers
@@ -252,7 +241,7 @@ module _ (image : Image) (t : Thread) (s : State) (sound : IsSound s) (other : �
       ap (λ (n : ℕ). (calls_known s (self_of image t) n (call_of n)).0) (number-is s (self_of image t) call.own 6 call.is call.calls)
       ∙ ap (λ (c : Option ℕ). passes (option_map_or (λ (caller : ℕ). replied (with_object s (self_of image t) without_right) caller (thread_at s caller).status (message_of (thread_at s (self_of image t)))) c s) (self_of image t)) right
       ∙ ap (λ (status : Status). passes (replied (with_object s (self_of image t) without_right) other status (message_of (thread_at s (self_of image t)))) (self_of image t))
-      (ap (λ (u : ThreadState). u.status) (thread-is s other call.waiter call.there) ∙ call.waits)
+      (ap (λ (u : ThreadState). u.status) (at-place s other call.waiter call.there) ∙ call.waits)
 
   pub reply-within : WithinAuthority image t s (system_call s (self_of image t)).0
   unfolding answers

@@ -1,5 +1,5 @@
 -- An interrupt of a sound state stays within authority.
-use Rattle.std.proofs.Common.{ℕ, ◌≡◌, ◌≢◌, ◌==◌, ◌+◌, ◌≤◌, ◌++◌, ◌&&◌, Bool, true, false, not, nat_lt, if◌then◌else◌, Option, Some, None, option_map, List, [], ◌∷◌, refl, sym, ◌∙◌, ap, subst, inl, inr, arith}
+use Rattle.std.proofs.Common.{ℕ, ◌≡◌, ◌≢◌, ◌==◌, ◌+◌, ◌≤◌, ◌++◌, ◌&&◌, Bool, true, false, not, nat_lt, if◌then◌else◌, Option, Some, None, List, [], ◌∷◌, refl, sym, ◌∙◌, ap, subst, inl, inr, arith}
 use Rattle.std.specs.Prelude.{bit_or}
 use Rattle.std.specs.Option.{option_map_or}
 use Rattle.std.proofs.lemmas.Bool.{eq-eqb, eqb-true, ne_eqb}
@@ -10,15 +10,16 @@ use Rattle.model.specs.Acceptance.Authority.{InterruptChange, joins, passes_on, 
 use Rattle.model.specs.Capabilities.Slots.{capability_at}
 use Rattle.model.specs.Kernel.Deliveries.{woken}
 use Rattle.model.specs.Kernel.Interrupts.{Signal, binding, interrupt, raise, signal_of, with_pending}
-use Rattle.model.specs.Kernel.Kinds.{kind_of, object_named}
+use Rattle.model.specs.Kernel.Kinds.{object_named}
 use Rattle.model.specs.Kernel.Messages.{a0, deliver_word, signals, with_registers}
-use Rattle.model.specs.Kernel.Retype.{NewEndpoint, NewNotification, NewThread, NewCNode, NewFrame, NewPageTable, NewRootTable}
+use Rattle.model.specs.Kernel.Retype.{NewNotification}
 use Rattle.model.specs.Kernel.Scheduling.{full_slice, head_of, is_runnable, wake}
 use Rattle.model.specs.Kernel.Soundness.{IsSound, is_blocked_on, runs_at, waiting_at}
-use Rattle.model.specs.Kernel.State.{State, Status, Inactive, Runnable, Blocked, AwaitsReply, AwaitsHandler, Object, ThreadObject, EndpointObject, NotificationObject, CNodeObject, FrameObject, PageTableObject, RootTableObject, NotificationState, ThreadState, as_notification, as_thread, binding_slot, new_notification, new_thread, notification_at, put, thread_at, with_notification, with_thread}
+use Rattle.model.specs.Kernel.State.{State, Status, Inactive, Runnable, Blocked, AwaitsReply, AwaitsHandler, Object, ThreadObject, NotificationObject, NotificationState, ThreadState, as_notification, as_thread, binding_slot, new_notification, new_thread, notification_at, put, thread_at, with_notification, with_thread}
 use Rattle.model.specs.Machine.Effects.{advanced}
 use Rattle.model.specs.Machine.ProgramMemory.{write}
 use Rattle.model.specs.Shared.Lists.{times_in, without}
+use Rattle.soundness.proofs.Rest.{notification-kind}
 use Rattle.model_laws.proofs.Ticks.{thread-object}
 
 -- ---- what a binding names
@@ -38,16 +39,6 @@ bound-is (Tcb offset) n badge is = let e : None ≡ Some (signalling n badge) = 
 bound-is (RootTable offset) n badge is = let e : None ≡ Some (signalling n badge) = is in absurd cc
 bound-is InterruptControl n badge is = let e : None ≡ Some (signalling n badge) = is in absurd cc
 bound-is (InterruptHandler irq_line) n badge is = let e : None ≡ Some (signalling n badge) = is in absurd cc
-
-pub notification-object : (o : Option Object) → option_map kind_of o ≡ Some NewNotification → (x : NotificationState) × (o ≡ Some (NotificationObject x))
-notification-object None is = let e : None ≡ Some NewNotification = is in absurd cc
-notification-object (Some (ThreadObject x)) is = let e : NewThread ≡ NewNotification = cc in absurd cc
-notification-object (Some (EndpointObject x)) is = let e : NewEndpoint ≡ NewNotification = cc in absurd cc
-notification-object (Some (NotificationObject x)) is = (x, refl)
-notification-object (Some (CNodeObject x)) is = let e : NewCNode x ≡ NewNotification = cc in absurd cc
-notification-object (Some FrameObject) is = let e : NewFrame ≡ NewNotification = cc in absurd cc
-notification-object (Some PageTableObject) is = let e : NewPageTable ≡ NewNotification = cc in absurd cc
-notification-object (Some RootTableObject) is = let e : NewRootTable ≡ NewNotification = cc in absurd cc
 
 -- ---- who waits
 
@@ -248,7 +239,7 @@ interrupted-within : (s : State) → IsSound s → (number n badge : ℕ) → s.
 interrupted-within s sound number n badge unmasked bound =
     let delivered : IsDelivered number s n badge = record { bound = bound; unmasked = unmasked } in
     let named = bound-is (capability_at s.slots (binding_slot s number)) n badge bound in
-    let found = notification-object (s.objects n) (sound.memory.named (binding_slot s number) NewNotification n named) in
+    let found = notification-kind (s.objects n) (sound.memory.named (binding_slot s number) NewNotification n named) in
     let own : notification_at s n ≡ found.0 = ap (λ (o : Option Object). option_map_or (λ (x : NotificationState). x) (as_notification o) new_notification) found.1 in
     subst (λ (x : NotificationState). WithinInterrupt number s (record (signals s n badge x x.waiters) { masked = put s.masked number true })) (sym own)
     (signalled-within s sound number n badge delivered found.0 found.1 found.0.waiters refl)

@@ -1,15 +1,16 @@
 pub mod Authorities
+pub mod ConstantMeasures
 pub mod Descents
 pub mod Handed
 pub mod HandingCalls
 pub mod Interrupted
 pub mod LookupLaws
 pub mod MadeEndpoints
-pub mod MappedPages
 pub mod MovedRanges
 pub mod Opened
 pub mod Placements
 pub mod PlainSteps
+pub mod RangesKept
 pub mod ReadyLists
 pub mod ReadySteps
 pub mod Reasons

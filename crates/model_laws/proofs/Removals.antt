@@ -5,6 +5,7 @@ use Rattle.std.specs.List.{list_any, range_with_len}
 use Rattle.std.specs.Option.{option_map_or}
 use Rattle.std.proofs.lemmas.List.Folds.{list_any_at}
 use Rattle.std.proofs.lemmas.List.FromFn.{length-range_with_len, get_or-range_with_len}
+use Rattle.std.proofs.lemmas.Bool.{and_parts}
 use Rattle.model.specs.declared.capabilities.Cap.{Cap}
 use Rattle.model.specs.declared.capabilities.Cap.TheVariants.{Empty, Untyped, Endpoint, Notification, CNode, Frame, PageTable, Tcb, RootTable, InterruptControl, InterruptHandler}
 use Rattle.model.specs.declared.errors.KError.TheVariants.{RevokeFirst}
@@ -38,10 +39,6 @@ some-slot s test slot less passes =
     let here : get_or (range_with_len 0 count) slot 0 ≡ slot = get_or-range_with_len 0 count slot 0 less ∙ omega arith in
     list_any_at test (range_with_len 0 count) slot 0 long (ap test here ∙ passes)
 
-both : (a b : Bool) → (a && b) ≡ true → (a ≡ true) × (b ≡ true)
-both true b h = (refl, h)
-both false b h = absurd (let clash : false ≡ true = h in cc)
-
 join : (a b : Bool) → a ≡ true → b ≡ true → (a && b) ≡ true
 join a b one two = ap (λ x. x && b) one ∙ two
 
@@ -50,7 +47,7 @@ join a b one two = ap (λ x. x && b) one ∙ two
 closes-object : (s : State) (all : SlotSet) (slot offset : ℕ) → slot < 2 ^ s.memory_bits / 16 → is_full s.slots slot ≡ true → all slot ≡ false
     → (ends s all offset && is_slot_of s offset slot) ≡ true → ends_filled s all offset ≡ true
 closes-object s all slot offset less full outside closing =
-    let parts = both (ends s all offset) (is_slot_of s offset slot) closing in
+    let parts = and_parts (ends s all offset) (is_slot_of s offset slot) closing in
     join (ends s all offset) _ parts.0
     (some-slot s (λ other. is_slot_of s offset other && not (all other) && is_full s.slots other) slot less
     (join (is_slot_of s offset slot && not (all slot)) _ (join (is_slot_of s offset slot) (not (all slot)) parts.1 (ap not outside)) full))
@@ -65,7 +62,7 @@ stays-open : (s : State) (all : SlotSet) (slot : ℕ) → slot < 2 ^ s.memory_bi
     → wants_revoke_first s all ≡ false → closes s all slot ≡ false
 stays-open s all slot less full outside empty =
     any-less _ _ (slots_of s) (λ other passes.
-    let parts = both (all other) _ passes in
+    let parts = and_parts (all other) _ passes in
     join (all other) _ parts.0 (closes-capability s all slot (object_of (capability_at s.slots other)) less full outside parts.1)) empty
 
 -- ---- what stays

@@ -1,5 +1,5 @@
 -- No term counts.
-use Rattle.programs.proofs.ConstantMeasures.{constant_stays_below}
+use Rattle.model_laws.proofs.ConstantMeasures.{constant_stays_below}
 use Rattle.model_laws.proofs.measure_laws.a_constant_stays_below.Goals as goal
 
 pub returns : goal.returns

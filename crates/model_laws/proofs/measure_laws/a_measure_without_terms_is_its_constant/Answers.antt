@@ -1,5 +1,5 @@
 -- No term counts.
-use Rattle.programs.proofs.ConstantMeasures.{constant_least_value, constant_measured}
+use Rattle.model_laws.proofs.ConstantMeasures.{constant_least_value, constant_measured}
 use Rattle.model_laws.proofs.measure_laws.a_measure_without_terms_is_its_constant.Goals as goal
 
 pub returns-clause-value : goal.returns-clause-value

@@ -1,5 +1,5 @@
 -- What is written lies in the range, and the rest stays.
-use Rattle.programs.proofs.RangesKept.{jal-keeps}
+use Rattle.model_laws.proofs.RangesKept.{jal-keeps}
 use Rattle.model_laws.proofs.range_laws.jal_keeps_ranges.Goals as goal
 
 pub returns : goal.returns
