@@ -116,14 +116,13 @@ impl Answer {
         assert!(rt; self.output.bytes().ends_with(lines));
     }
 
-    /// Asserts that there are so many lines and that none says `error` or `fault`: of all the words of a trace
-    /// without interrupts, `error` alone has an r, and `fault` alone a u.
+    /// Asserts that there are so many lines and that none says `error` or `fault`.
     pub fn has_no_failure(&self, rt: &impl Abort, lines: usize) {
-        let output = self.output.bytes();
+        let output = std::str::from_utf8(self.output.bytes()).unwrap_or("error");
         assert_eq!(rt; self.status, 0);
-        assert_eq!(rt; output.iter().filter(|byte| **byte == b'\n').count(), lines);
-        assert!(rt; !output.contains(&b'r'));
-        assert!(rt; !output.contains(&b'u'));
+        assert!(rt; !output.contains("error"));
+        assert!(rt; !output.contains("fault"));
+        assert_eq!(rt; output.lines().count(), lines);
     }
 }
 

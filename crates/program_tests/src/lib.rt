@@ -21,6 +21,8 @@ mod rows;
 #[cfg(test)]
 mod unverified;
 #[cfg(test)]
+mod verified;
+#[cfg(test)]
 mod words;
 #[cfg(test)]
 mod workers;

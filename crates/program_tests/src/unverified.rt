@@ -59,9 +59,9 @@ fn bytes_of(alloc: Global, parts: Parts) -> Result<Vec<u8>, Fail> {
     Ok(write(alloc, &image)?)
 }
 
-#[test]
-fn solo_counts_and_waits(rt: HostRuntime) -> Result<(), Fail> {
-    let mut lines = Vec::new(rt.alloc());
+/// The lines of the image that counts and waits, over 25 steps, an interrupt of its line and a step.
+pub fn lines_of_solo(alloc: Global) -> Result<Vec<u8>, Fail> {
+    let mut lines = Vec::new(alloc);
     lines.extend_from_slice(b"8000c000 00001000 plain\n")?;
     for _ in 0..10 {
         lines.extend_from_slice(b"8000c000 00001004 plain\n8000c000 00001008 plain\n")?;
@@ -70,6 +70,12 @@ fn solo_counts_and_waits(rt: HostRuntime) -> Result<(), Fail> {
         b"8000c000 0000100c plain\n8000c000 00001010 plain\n8000c000 00001014 wait\nidle\nirq 3\n\
         8000c000 00001018 plain\n",
     )?;
+    Ok(lines)
+}
+
+#[test]
+fn solo_counts_and_waits(rt: HostRuntime) -> Result<(), Fail> {
+    let lines = lines_of_solo(rt.alloc())?;
     let image = solo_with(&rt, 0, b"")?;
     let answer = run_image(&rt, "solo", image.as_slice(), b"step 25\nirq 3\nstep\n")?;
     answer.is(&rt, 0, lines.as_slice(), b"");
