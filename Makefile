@@ -10,6 +10,7 @@ demo:
 test:
 	rt ci
 
-# Proves the program and leaves it at crates/microsys/out/microsys.
+# Proves every function of the crates below the program and of the program, side by side, and leaves it at crates/microsys/out/microsys.
 build:
-	cd crates/microsys && rt run -- verify ../../samples/bell.img
+	tools/checks/libraries.py microsys
+	cd crates/microsys && ../../tools/checks/libraries.py rt run -- verify ../../samples/bell.img

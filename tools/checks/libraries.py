@@ -87,10 +87,10 @@ def build_all(names):
     with ThreadPoolExecutor(lanes) as pool:
         while left or running:
             ready = sorted((it for it in left if built.issuperset(below.name for below in it.below())), key=lambda it: -behind[it.name])
-            for at, crate in enumerate(ready[: lanes - len(running)]):
-                jobs = max(1, (lanes - sum(running.values())) // (len(ready) - at))
+            for crate in ready[: lanes - len(running)]:
                 left.remove(crate)
-                running[pool.submit(build_logged, crate, jobs)] = jobs
+                # (each may use all processors: else the longest chain waits for a large crate that has one of them)
+                running[pool.submit(build_logged, crate, lanes)] = crate.name
             if not running:
                 break
             for done in wait(running, return_when=FIRST_COMPLETED).done:
