@@ -1,5 +1,6 @@
 -- A substituted measure, one coefficient at a time, and sums over the variables.
-use Rattle.std.proofs.Common.{ℕ, ◌≡◌, ◌∙◌, ◌+◌, ◌<◌, List, [], ◌∷◌, length, take, get_or, map, fold, ℤ, pos, ◌+ℤ◌, ◌*ℤ◌, ap, refl, arith}
+use Rattle.std.proofs.Common.{ℕ, zero, suc, ◌≡◌, ◌∙◌, ◌+◌, ◌<◌, List, [], ◌∷◌, length, take, get_or, map, fold, ℤ, pos, ◌+ℤ◌, ◌*ℤ◌, ap, refl, arith}
+use Rattle.std.proofs.lemmas.Int.{ints}
 use Rattle.std.proofs.lemmas.List.FromFn.{map-range_with_len_more}
 use Rattle.std.proofs.lemmas.List.Sums.{fold-append, fold_more}
 use Rattle.std.specs.List.{range_with_len}
@@ -39,3 +40,30 @@ constant-more value_of start terms i d less = fold_more (λ (z : ℤ) (t : TermE
 pub coefficient-more : (value_of : ℕ → Form) (variable : ℕ) (start : ℤ) (terms : List TermEntry) (i : ℕ) (d : TermEntry) → i < length terms
     → coefficient_sum value_of variable start (take (i + 1) terms) ≡ coefficient_sum value_of variable start (take i terms) +ℤ ((get_or terms i d).coefficient *ℤ (value_of (get_or terms i d).register).coefficient variable)
 coefficient-more value_of variable start terms i d less = fold_more (λ (z : ℤ) (t : TermEntry). z +ℤ (t.coefficient *ℤ (value_of t.register).coefficient variable)) start terms i d less
+
+-- where no variable counts
+pub sum-none : (term : ℕ → ℤ) (n : ℕ) → ((v : ℕ) → v < n → term v ≡ pos 0) → sum_of (map term (range_with_len 0 n)) ≡ pos 0
+sum-none term zero none = refl
+sum-none term (suc n) none =
+    let more : suc n ≡ n + 1 = omega arith in
+    ap (λ (count : ℕ). sum_of (map term (range_with_len 0 count))) more
+    ∙ sum_more term n
+    ∙ ap (λ (z : ℤ). z +ℤ term n) (sum-none term n (λ v less. none v (grind (arith, less))))
+    ∙ ap (λ (z : ℤ). pos 0 +ℤ z) (none n (grind arith))
+
+pub coefficient_none : (m : Measure) (value_of : ℕ → Form) (variable : ℕ) → m.terms ≡ [] → (substituted m value_of).coefficient variable ≡ pos 0
+coefficient_none m value_of variable none =
+    coefficient-is m value_of variable ∙ ap (λ (terms : List TermEntry). coefficient_sum value_of variable (pos 0) terms) none
+
+-- one more term that does not count the variable
+pub coefficient-kept : (value_of : ℕ → Form) (variable : ℕ) (terms : List TermEntry) (i : ℕ) (d : TermEntry) → i < length terms
+    → coefficient_sum value_of variable (pos 0) (take i terms) ≡ pos 0 → (value_of (get_or terms i d).register).coefficient variable ≡ pos 0
+    → coefficient_sum value_of variable (pos 0) (take (i + 1) terms) ≡ pos 0
+coefficient-kept value_of variable terms i d less so_far none =
+    coefficient-more value_of variable (pos 0) terms i d less
+    ∙ ap (λ (z : ℤ). z +ℤ ((get_or terms i d).coefficient *ℤ (value_of (get_or terms i d).register).coefficient variable)) so_far
+    ∙ ap (λ (z : ℤ). pos 0 +ℤ ((get_or terms i d).coefficient *ℤ z)) none
+    ∙ times-nothing (get_or terms i d).coefficient
+  where
+    times-nothing : (z : ℤ) → pos 0 +ℤ (z *ℤ pos 0) ≡ pos 0
+    times-nothing z = omega (arith, ints)

@@ -1,10 +1,9 @@
 -- The constant of a measure whose registers are constants is its value.
-use Rattle.std.proofs.Common.{ℕ, ◌≡◌, ◌∙◌, List, [], ◌∷◌, map, fold, ℤ, pos, ◌+ℤ◌, ◌*ℤ◌, refl, sym, ap}
+use Rattle.std.proofs.Common.{◌≡◌, ◌∙◌, List, [], ◌∷◌, map, fold, ℤ, pos, ◌+ℤ◌, ◌*ℤ◌, refl, sym, ap}
 use Rattle.std.proofs.Math.IntN.{+ℤ_assoc, +ℤ_idr}
 use Rattle.model.specs.declared.entries.TermEntry.{TermEntry}
-use Rattle.model.specs.Acceptance.Measures.{Measure, constant_form, measured, register_numbered, substituted, sum_of}
+use Rattle.model.specs.Acceptance.Measures.{Measure, constant_form, measured, register_numbered, substituted}
 use Rattle.model.specs.Machine.ProgramMemory.{RegisterFile, read}
-use Rattle.measure.specs.Sums.{constant_sum}
 use Rattle.measure.proofs.LinearSums.{constant-is}
 
 from-start : (value : TermEntry → ℤ) (start more : ℤ) (terms : List TermEntry) → fold (λ z t. z +ℤ value t) (start +ℤ more) terms ≡ start +ℤ fold (λ n m. n +ℤ m) more (map value terms)

@@ -1,12 +1,14 @@
 -- One step of each sum, with its size.
 use Rattle.std.proofs.Common.{ℕ, ◌≡◌, ◌∙◌, ◌+◌, ◌*◌, ◌^◌, ◌<◌, ◌≤◌, List, length, take, get_or, map, ℤ, ◌+ℤ◌, ◌*ℤ◌, pos, to_z, of_z, w64, ap, subst, sym, arith}
+use Rattle.std.proofs.Math.IntN.{+ℤ_idr}
 use Rattle.std.specs.List.{range_with_len}
+use Rattle.std.proofs.lemmas.Int.{ints}
 use Rattle.std.proofs.lemmas.List.{take_all}
 use mir.Syntax.{w128}
 use Rattle.model.specs.declared.entries.TermEntry.{TermEntry}
 use Rattle.model.specs.Acceptance.Measures.{Form, Measure, substituted, sum_of}
 use Rattle.measure.specs.Sums.{IsSmall, coefficient_sum, constant_sum}
-use Rattle.measure.proofs.LinearSums.{coefficient-is, coefficient-more, constant-is, constant-more, sum_more}
+use Rattle.measure.proofs.LinearSums.{coefficient-is, coefficient-more, constant-is, constant-more, sum-none, sum_more}
 use Rattle.measure.proofs.Small.{stored, stored-first, sum-small}
 
 pub constant-step : (value_of : ℕ → Form) (start : ℤ) (terms : List TermEntry) (i : ℕ) (d : TermEntry) (s p : ℤ) → i < length terms → length terms ≤ 4
@@ -65,3 +67,10 @@ variables-end term v n k s constant end few is small sum size =
     stored-first w128 k s (2 ^ 100) (v * 2 ^ 97) (2 ^ 105) small size (omega (arith, end, few)) (omega arith)
     ∙ ap (λ (z : ℤ). z +ℤ s) is
     ∙ ap (λ (z : ℤ). constant +ℤ z) (sum ∙ ap (λ (count : ℕ). sum_of (map term (range_with_len 0 count))) end)
+
+-- of a form that counts no variable
+pub variables-none : (term : ℕ → ℤ) (n : ℕ) (k constant : ℤ) → k ≡ constant → ((v : ℕ) → v < n → term v ≡ pos 0) → k ≡ constant +ℤ sum_of (map term (range_with_len 0 n))
+variables-none term n k constant is none = is ∙ sym (+ℤ_idr constant) ∙ ap (λ (z : ℤ). constant +ℤ z) (sym (sum-none term n none))
+
+pub nothing-times : (n : ℕ) → pos 0 *ℤ pos n ≡ pos 0
+nothing-times n = omega (arith, ints)

@@ -1,12 +1,14 @@
 //! Extremes of linear forms over ranges, each variable by itself.
 
-ghost use Rattle.std.specs.Prelude.{◌≡◌, ◌<◌, ◌^◌, ◌*ℤ◌, pos};
+ghost use Rattle.std.specs.Prelude.{◌≡◌, ◌<◌, ◌^◌, ◌*ℤ◌, false, pos};
 ghost use Rattle.model.specs.Acceptance.Measures.{falls, greatest_on, greatest_term, least, least_term, least_value, range_at, register_numbered, stays_below};
 ghost use Rattle.model.specs.Acceptance.Ranges.{range_of};
 ghost use Rattle.measure.specs.Measures.{measure_of};
 ghost use Rattle.measure.specs.Sums.{IsSmall};
+ghost use Rattle.measure.specs.Variables.{is_named};
 
 use crate::forms::{Behind, Change, Linear};
+use crate::variables::Variables;
 use crate::{Measure, Step, Unchanged};
 use model::Register;
 use ranges::{Bounds, Range};
@@ -61,12 +63,13 @@ pub fn stays_below<S: Step>(
 fn greatest<L: Linear>(form: &L, before: &Bounds, behind: &Bounds) -> i128
     ensures { result ≡ greatest_on before.now behind.now (L.form form.now) }
 {
+    if form.is_constant() {
+        return form.constant();
+    }
+    let named = form.variables();
     let mut sum = 0;
     for variable in 0..64 {
-        sum += greatest_term(
-            form.coefficient(variable),
-            range_at(before, behind, variable),
-        );
+        sum += greatest_part(form, &named, before, behind, variable);
     }
     form.constant() + sum
 }
@@ -76,12 +79,53 @@ fn greatest<L: Linear>(form: &L, before: &Bounds, behind: &Bounds) -> i128
 fn least_of<L: Linear>(form: &L, bounds: &Bounds) -> i128
     ensures { result ≡ least 32 (L.form form.now) (λ number. range_of bounds.now (register_numbered number)) }
 {
+    if form.is_constant() {
+        return form.constant();
+    }
+    let named = form.variables();
     let mut sum = 0;
     for number in 0..32u8 {
-        let range = bounds.get(Register(number));
-        sum += least_term(form.coefficient(u32::from(number)), range);
+        sum += least_part(form, &named, bounds, number);
     }
     form.constant() + sum
+}
+
+/// The greatest value of what a form has of one variable.
+fn greatest_part<L: Linear>(
+    form: &L,
+    named: &Variables,
+    before: &Bounds,
+    behind: &Bounds,
+    variable: u32,
+) -> i128
+    requires variable { variable < 64 }
+    requires others { is_named named.now variable ≡ false → (L.form form.now).coefficient variable ≡ pos 0 }
+    ensures value { result ≡ greatest_term ((L.form form.now).coefficient variable) (range_at before.now behind.now variable) }
+    ensures small { IsSmall (2 ^ 96) result }
+{
+    if named.contains(variable) {
+        greatest_term(
+            form.coefficient(variable),
+            range_at(before, behind, variable),
+        )
+    } else {
+        0
+    }
+}
+
+/// The least value of what a form has of one register.
+fn least_part<L: Linear>(form: &L, named: &Variables, bounds: &Bounds, number: u8) -> i128
+    requires number { number < 32 }
+    requires others { is_named named.now number ≡ false → (L.form form.now).coefficient number ≡ pos 0 }
+    ensures value { result ≡ least_term ((L.form form.now).coefficient number) (range_of bounds.now (register_numbered number)) }
+    ensures small { IsSmall (2 ^ 96) result }
+{
+    if named.contains(u32::from(number)) {
+        let range = bounds.get(Register(number));
+        least_term(form.coefficient(u32::from(number)), range)
+    } else {
+        0
+    }
 }
 
 /// The greatest value of a term.

@@ -1,11 +1,13 @@
 //! Linear forms of the variables on an edge.
 
-ghost use Rattle.std.specs.Prelude.{◌≡◌, ◌+◌, ◌^◌, ◌*ℤ◌};
+ghost use Rattle.std.specs.Prelude.{ℕ, ◌≡◌, ◌+◌, ◌^◌, ◌*ℤ◌, ◌<◌, false, pos, true};
 ghost use Rattle.model.specs.Acceptance.Measures.{Form, difference_form, substituted, variable_form};
 ghost use Rattle.measure.specs.Measures.{measure_of};
 ghost use Rattle.measure.specs.Sums.{IsSmall, coefficient_sum, constant_sum};
+ghost use Rattle.measure.specs.Variables.{is_named};
 
 use crate::values::{coefficient, constant};
+use crate::variables::Variables;
 use crate::{Measure, Step, TermEntry, Unchanged};
 
 /// A linear form: a constant, and a coefficient for each variable.
@@ -18,6 +20,14 @@ pub(crate) trait Linear {
 
     fn coefficient(&self, variable: u32) -> i64
         ensures { result ≡ (form self.now).coefficient variable };
+
+    /// Whether it counts no variable, as far as is seen at once.
+    fn is_constant(&self) -> bool
+        ensures { (variable : ℕ) → result ≡ true → (form self.now).coefficient variable ≡ pos 0 };
+
+    /// The variables that it may count.
+    fn variables(&self) -> Variables
+        ensures { (variable : ℕ) → variable < 64 → is_named result variable ≡ false → (form self.now).coefficient variable ≡ pos 0 };
 }
 
 /// A measure behind a step, over the registers before it.
@@ -36,6 +46,16 @@ impl<'a, S: Step> Linear for Behind<'a, S> {
 
     fn coefficient(&self, variable: u32) -> i64 {
         coefficient_of(self.measure, self.step, variable)
+    }
+
+    fn is_constant(&self) -> bool {
+        counts_none(self.measure, self.step)
+    }
+
+    fn variables(&self) -> Variables {
+        let mut named = Variables::none();
+        add_terms(self.measure, self.step, &mut named);
+        named
     }
 }
 
@@ -56,6 +76,36 @@ impl<'a, S: Step> Linear for Change<'a, S> {
     fn coefficient(&self, variable: u32) -> i64 {
         coefficient_of(self.behind.measure, self.behind.step, variable)
             - coefficient_of(self.before, &Unchanged, variable)
+    }
+
+    fn is_constant(&self) -> bool {
+        counts_none(self.behind.measure, self.behind.step) && counts_none(self.before, &Unchanged)
+    }
+
+    fn variables(&self) -> Variables {
+        let mut named = Variables::none();
+        add_terms(self.behind.measure, self.behind.step, &mut named);
+        add_terms(self.before, &Unchanged, &mut named);
+        named
+    }
+}
+
+/// Whether a measure counts no variable, behind any step.
+fn counts_none<S: Step>(measure: &Measure, step: &S) -> bool
+    ensures { (variable : ℕ) → result ≡ true → (substituted (measure_of measure.now) (S.value_of step.now)).coefficient variable ≡ pos 0 }
+{
+    let _ = step;
+    measure.is_constant()
+}
+
+/// The variables that a measure counts behind a step.
+fn add_terms<S: Step>(measure: &Measure, step: &S, named: &mut Variables)
+    ensures { (variable : ℕ) → variable < 64 → is_named named.new variable ≡ false
+        → (is_named named.old variable ≡ false) × ((substituted (measure_of measure.now) (S.value_of step.now)).coefficient variable ≡ pos 0) }
+{
+    let terms = measure.terms();
+    for term in terms {
+        named.add_value(step.value(term.register));
     }
 }
 

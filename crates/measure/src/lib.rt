@@ -4,12 +4,15 @@
 
 mod extremes;
 mod forms;
+mod laws;
 mod measures;
 mod steps;
 mod values;
 mod values_at;
+mod variables;
 
 pub use extremes::{falls, least, stays_below};
+pub use laws::unwritten_measures_fall;
 pub use measures::Measure;
 pub use model::TermEntry;
 pub use steps::{AfterCall, AfterInstruction, Step, Unchanged, destination};

@@ -1,6 +1,6 @@
 //! Measures.
 
-ghost use Rattle.std.specs.Prelude.{◌≡◌, ◌<◌, ◌≤◌, ◌^◌, ◌-◌, ◌++◌, ◌∷◌, [], ◌≤ℤ◌, length, negsuc, pos};
+ghost use Rattle.std.specs.Prelude.{◌≡◌, ◌<◌, ◌≤◌, ◌^◌, ◌-◌, ◌++◌, ◌∷◌, [], ◌≤ℤ◌, length, negsuc, pos, true};
 ghost use Rattle.model.specs.Acceptance.Measures.{has_term, lowered};
 
 use model::TermEntry;
@@ -57,6 +57,13 @@ impl Measure {
         ensures few { length result.now ≤ 4 }
     {
         &self.terms[..usize::from(self.count)]
+    }
+
+    /// Whether it has no term.
+    pub(crate) fn is_constant(&self) -> bool
+        ensures { result ≡ true → (measure_of self.now).terms ≡ [] }
+    {
+        self.count == 0
     }
 
     /// Whether it has a term of this register.
