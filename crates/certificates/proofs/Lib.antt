@@ -6,3 +6,4 @@ pub mod Called
 pub mod EachPoint
 pub mod EdgeRules
 pub mod PointLists
+mod LeftNext

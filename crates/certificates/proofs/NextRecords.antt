@@ -1,5 +1,5 @@
 -- The records of a certificate, gone through in the order of their points.
-use Rattle.std.proofs.Common.{ℕ, suc, ◌≡◌, ◌∙◌, ◌==◌, ◌+◌, ◌<◌, ◌≤◌, inl, inr, Bool, if◌then◌else◌, Option, Some, None, List, [], ◌∷◌, refl, sym, ap, subst, arith}
+use Rattle.std.proofs.Common.{ℕ, suc, ◌≡◌, ◌∙◌, ◌==◌, ◌+◌, ◌<◌, ◌≤◌, inl, inr, Bool, if◌then◌else◌, Option, Some, None, is_some, true, false, List, [], ◌∷◌, refl, sym, ap, subst, arith}
 use Rattle.std.specs.Iterator.{YieldsFirst}
 use Rattle.std.specs.Prelude.{find, slice_get}
 use Rattle.std.proofs.lemmas.Bool.Decides.{eqb_tells}
@@ -82,3 +82,7 @@ taken-fits t point (s ∷ rest) r left is = elim (eqb_tells s.header.point point
   | inl here ↦ left.fit 0 r (sym (ap (λ (b : Bool). if b then Some s else None) here.0) ∙ is)
   | inr apart ↦ absurd (let clash : ◌≡◌ {A = Option StateRecord} None (Some r) = sym (ap (λ (b : Bool). if b then Some s else None) apart.0) ∙ is in cc)
 ]
+
+pub no-record : (o : Option StateRecord) → is_some o ≡ false → o ≡ None
+no-record None is = refl
+no-record (Some r) is = absurd (let clash : true ≡ false = is in cc)

@@ -1,5 +1,5 @@
 -- What is kept of points, and what it says that the certificate notes of them.
-use Rattle.std.specs.Prelude.{ℕ, ◌≡◌, ◌+◌, ◌^◌, ◌≤ℤ◌, negsuc, Some, List, length, slice_get}
+use Rattle.std.specs.Prelude.{ℕ, ◌≡◌, ◌+◌, ◌^◌, ◌≤ℤ◌, negsuc, Bool, true, false, Some, List, length, slice_get}
 use Rattle.certificates.specs.declared.kept.Kept.{Kept}
 use Rattle.certificates.specs.declared.kept.Known.{Known as State}
 use Rattle.certificates.specs.declared.kept.Kept.TheVariants as kept
@@ -23,6 +23,12 @@ abbrev pub noted_by : List NotedSlot → List NotedSlot → Kept → Noted
 noted_by slots log (kept.Known k) = Known (state_by slots log k)
 noted_by slots log kept.Missing = Missing
 noted_by slots log kept.Unmeasured = Unmeasured
+
+-- whether it is a state
+abbrev pub has_state : Noted → Bool
+has_state (Known s) = true
+has_state Missing = false
+has_state Unmeasured = false
 
 -- what is kept of what a point leaves for the next one, with the part that its slots have
 abbrev pub kept_as : Left → Part → Kept

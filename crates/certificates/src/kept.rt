@@ -1,7 +1,8 @@
 //! What is kept of a point.
 
-ghost use Rattle.std.specs.Prelude.{◌≡◌};
-ghost use Rattle.certificates.specs.Kept.{HasPart, noted_by, state_by};
+ghost use Rattle.std.specs.Prelude.{◌≡◌, List};
+ghost use Rattle.certificates.specs.Kept.{HasPart, has_state, noted_by, state_by};
+ghost use Rattle.model.specs.Acceptance.NotedStates.{NotedSlot};
 ghost use Rattle.point_rules.specs.Points.{HasImage, noted_of, state_of};
 ghost use Rattle.typestate.specs.Logs.{Holds};
 ghost use Rattle.typestate.specs.Orders.{Rise};
@@ -48,6 +49,13 @@ impl Known {
 }
 
 impl Kept {
+    /// Whether a state is noted.
+    pub(crate) fn has_state(&self) -> bool
+        ensures { (slots log : List NotedSlot) → result ≡ has_state (noted_by slots log self.now) }
+    {
+        matches!(self, Kept::Known(_))
+    }
+
     /// What is noted of the point.
     pub(crate) fn noted<'s>(&self, slots: &'s [NotedSlot], log: &'s SlotLog) -> Noted<'s>
         requires held { HasPart log.now self.now }

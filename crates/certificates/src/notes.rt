@@ -34,7 +34,7 @@ impl<'a> RecordsLeft<'a> {
     }
 
     /// Whether the next record is that of a point.
-    fn is_next(&self, point: u32) -> bool
+    pub(crate) fn is_next(&self, point: u32) -> bool
         ensures { result ≡ is_some (taken point self.now) }
     {
         match &self.next {

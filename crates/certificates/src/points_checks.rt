@@ -1,12 +1,13 @@
 //! The rules on all points of a program, and on its entry.
 
-ghost use Rattle.std.specs.Prelude.{◌≡◌, ◌<◌, IfOk, Some, flat_map, option_map};
+ghost use Rattle.std.specs.Prelude.{◌≡◌, ◌+◌, ◌<◌, IfOk, None, Some, false, flat_map, option_map};
 ghost use Rattle.std.specs.List.{range_with_len};
 ghost use Rattle.certificates.specs.Kept.{IsRead, IsSound, state_by};
 ghost use Rattle.certificates.specs.declared.kept.Kept.TheVariants as kept;
 ghost use Rattle.certificates.specs.Programs.{IsProgram, IsShown};
 ghost use Rattle.model.specs.Acceptance.NotedStates.{record_of};
 ghost use Rattle.model.specs.Acceptance.PointRules.{entry_rules, point_rules, rules_of_program, state_rules};
+ghost use Rattle.model.specs.Acceptance.PointStates as states;
 ghost use Rattle.model.specs.Acceptance.PointStates.{noted};
 ghost use Rattle.model.specs.Acceptance.Rules.{first_broken};
 
@@ -28,6 +29,7 @@ impl<R: ThreadRules> Program<'_, '_, R> {
         points: &mut Points,
         point: u32,
         noted: Option<&RecordRef<'_>>,
+        is_next_noted: bool,
         known: &Known,
     ) -> Result<Option<Refusal>, AllocError>
         requires program { IsProgram (R.image self.now.rules.now) (R.thread self.now.rules.now) self.now.thread.now self.now.number self.now.slots.now }
@@ -36,6 +38,8 @@ impl<R: ThreadRules> Program<'_, '_, R> {
         requires read { IsRead (R.image self.now.rules.now) (R.thread self.now.rules.now) self.now.slots.now points.old.log points.old.kept.items }
         requires within { point < self.now.thread.now.header.words }
         requires noted { option_map (λ r. r.now) noted ≡ record_of self.now.thread.now point }
+        requires next { is_next_noted ≡ false → record_of self.now.thread.now (point + 1) ≡ None }
+        requires known { states.Known (state_by self.now.slots.now points.old.log known.now) ≡ states.noted (R.image self.now.rules.now) (R.thread self.now.rules.now) point }
         requires sound { IsSound points.old.log point (kept.Known known.now) }
         ensures broken { IfOk result (λ broken. broken ≡ first_broken (state_rules (R.image self.now.rules.now) (R.thread self.now.rules.now) point (state_by self.now.slots.now points.old.log known.now))) }
         ensures read { IfOk result (λ _. IsRead (R.image self.now.rules.now) (R.thread self.now.rules.now) self.now.slots.now points.new.log points.new.kept.items) }
@@ -47,7 +51,7 @@ impl<R: ThreadRules> Program<'_, '_, R> {
         }
         match instr {
             Some(Instr::Ecall) => self.call_rules(points, point, noted, known),
-            Some(instr) => Ok(self.ways_rules(points, point, instr, &state)),
+            Some(instr) => Ok(self.ways_rules(points, point, instr, &state, is_next_noted)),
             None => Ok(None),
         }
     }
@@ -59,6 +63,7 @@ impl<R: ThreadRules> Program<'_, '_, R> {
         points: &mut Points,
         point: u32,
         noted: Option<&RecordRef<'_>>,
+        is_next_noted: bool,
     ) -> Result<Option<Refusal>, AllocError>
         requires program { IsProgram (R.image self.now.rules.now) (R.thread self.now.rules.now) self.now.thread.now self.now.number self.now.slots.now }
         requires rules { R.holds self.now.rules.now }
@@ -66,11 +71,12 @@ impl<R: ThreadRules> Program<'_, '_, R> {
         requires read { IsRead (R.image self.now.rules.now) (R.thread self.now.rules.now) self.now.slots.now points.old.log points.old.kept.items }
         requires within { point < self.now.thread.now.header.words }
         requires noted { option_map (λ r. r.now) noted ≡ record_of self.now.thread.now point }
+        requires next { is_next_noted ≡ false → record_of self.now.thread.now (point + 1) ≡ None }
         ensures broken { IfOk result (λ broken. broken ≡ first_broken (point_rules (R.image self.now.rules.now) (R.thread self.now.rules.now) point)) }
         ensures read { IfOk result (λ _. IsRead (R.image self.now.rules.now) (R.thread self.now.rules.now) self.now.slots.now points.new.log points.new.kept.items) }
     {
         match points.kept[point as usize] {
-            Kept::Known(known) => self.state_rules(points, point, noted, &known),
+            Kept::Known(known) => self.state_rules(points, point, noted, is_next_noted, &known),
             Kept::Missing | Kept::Unmeasured => Ok(None),
         }
     }
@@ -86,7 +92,8 @@ impl<R: ThreadRules> Program<'_, '_, R> {
         let mut records = RecordsLeft::of(self.thread);
         'rules: for point in 0..self.thread.word_count() {
             let noted = records.take(point);
-            let broken = self.point_rules(points, point, noted.as_ref())?;
+            let is_next_noted = records.is_next(point + 1);
+            let broken = self.point_rules(points, point, noted.as_ref(), is_next_noted)?;
             if broken.is_some() {
                 return Ok(broken);
             }

@@ -1,2 +1,3 @@
 pub mod WithinRanges
 pub mod EntryTests
+mod LeftStates

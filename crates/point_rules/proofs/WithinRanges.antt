@@ -25,7 +25,7 @@ each_of test first (suc count) all k from below =
 range_within : (r s : Range) → IsWithin r s → is_range_within r s ≡ true
 range_within r s within = rw (le-leb s.low r.low within.0, le-leb r.high s.high within.1) refl
 
-are_within : (a b : List Range) → AreWithin a b → are_ranges_within a b ≡ true
+pub are_within : (a b : List Range) → AreWithin a b → are_ranges_within a b ≡ true
 are_within a b within =
     all_from (λ k. is_range_within (slice_index_or a k full) (slice_index_or b k full)) 0 31
     (λ k from below. range_within (slice_index_or a k full) (slice_index_or b k full) (within k below))

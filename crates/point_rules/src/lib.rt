@@ -4,6 +4,7 @@
 mod calls;
 mod entries;
 mod following;
+mod laws;
 mod noted;
 mod pages;
 mod reach;
@@ -13,6 +14,7 @@ mod ways;
 pub use calls::{follows_call, registers_of};
 pub use entries::entered;
 pub use following::{Left, follows};
+pub use laws::left_states_are_kept;
 pub use noted::Noted;
 pub use reach::Pages;
 pub use states::PointState;

@@ -46,3 +46,12 @@ returns-in-Missing g c =
       ];
       read = c.requires.read;
     }
+
+pub state_rules-requires-clause-known : goal.state_rules-requires-clause-known
+state_rules-requires-clause-known g c =
+    let count = c.requires.read.count in
+    let words = ap (λ (u : Thread). u.header.words) c.requires.program.thread in
+    let within : c.args.point < length c.args.points.now.kept.items = omega (arith, count, words, c.requires.within) in
+    let is = kept-at (g.R.ThreadRules.image c.args.self.now.rules.now) (g.R.ThreadRules.thread c.args.self.now.rules.now) c.args.self.now.slots.now c.args.points.now.log c.args.points.now.kept.items
+    c.args.point c.index.result.now c.requires.read.noted within c.index.ensures in
+    ap (noted_by c.args.self.now.slots.now c.args.points.now.log) (sym c.in-Known.is) ∙ is.same

@@ -1,8 +1,9 @@
 -- One point after another.
-use Rattle.std.proofs.Common.{◌∙◌, ◌+◌, List, refl, sym, subst, arith}
-use Rattle.certificates.proofs.NextRecords.{AreLeft, all-left, next-record}
+use Rattle.std.proofs.Common.{◌∙◌, ◌+◌, is_some, List, ap, refl, sym, subst, arith}
+use Rattle.certificates.proofs.NextRecords.{AreLeft, all-left, next-record, no-record}
 use Rattle.certificates.proofs.PointLists.{broken-any, none-of, one-more-kept}
 use Rattle.certificates.proofs.programs.Program.points_rules.Goals as goal
+use Rattle.certificates.specs.Left.{behind, taken}
 use Rattle.model.specs.Acceptance.PointRules.{point_rules}
 use Rattle.model.specs.Images.Image.{StateRecord}
 
@@ -29,3 +30,12 @@ rules-preserved g c =
       subst (λ (rs : List StateRecord). AreLeft own (c.rules.point + 1) rs) (sym c.take-noted.ensures.left) (next-record own c.rules.point c.rules.records c.rules.invariant.1).1,
       one-more-kept (point_rules image t) c.rules.point c.rules.invariant.2 (sym c.in_ok-broken.ensures.broken ∙ none-of c.in_ok-broken.broken (sym c.is_some.ensures ∙ c.if-is_some.false)),
     )
+
+pub point_rules-requires-clause-next : goal.point_rules-requires-clause-next
+point_rules-requires-clause-next g c = λ no.
+    let own = c.args.self.now.thread.now in
+    let point = c.rules.point in
+    let left = (next-record own point c.rules.records c.rules.invariant.1).1 in
+    (next-record own (point + 1) (behind point c.rules.records) left).0
+    ∙ no-record (taken (point + 1) (behind point c.rules.records))
+    (ap (λ (rs : List StateRecord). is_some (taken (point + 1) rs)) (sym c.take-noted.ensures.left) ∙ sym c.is_next-is_next_noted.ensures ∙ no)

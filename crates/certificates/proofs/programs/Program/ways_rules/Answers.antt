@@ -2,6 +2,7 @@
 use Rattle.std.proofs.Common.{ℕ, ◌≡◌, ◌∙◌, Option, Some, None, sym, ap}
 use Rattle.std.specs.Option.{option_or}
 use Rattle.certificates.proofs.EdgeRules.{before-fall, before-taken, first-way}
+use Rattle.certificates.proofs.FirstBroken.{or-none}
 use Rattle.certificates.proofs.programs.Program.ways_rules.Goals as goal
 use Rattle.certificates.specs.PointChecks.{way_rules}
 use Rattle.model.specs.Acceptance.Edges.{Edge, after}
@@ -37,3 +38,21 @@ returns-in-None g c =
     ∙ sym (first-way image t c.args.point (state_of c.args.state.now) c.args.instr c.requires.plain (ap (λ (u : Thread). instruction_at u c.args.point) c.requires.program.thread ∙ c.requires.is)
     ∙ ap (λ (n : ℕ). option_or (broken (after n c.args.instr c.args.state.now.bounds).taken) (broken (after n c.args.instr c.args.state.now.bounds).fall_through)) (sym at)
     ∙ ap (λ (o : Option Refusal). option_or o (broken here.fall_through)) (sym first))
+
+pub returns-then-leaves_next : goal.returns-then-leaves_next
+returns-then-leaves_next g c =
+    let image = g.R.ThreadRules.image c.args.self.now.rules.now in
+    let t = g.R.ThreadRules.thread c.args.self.now.rules.now in
+    let own = c.args.self.now.thread.now in
+    let bounds = c.args.state.now.bounds in
+    let broken : Option Edge → Option Refusal = λ e. first_broken (way_rules image t c.args.point (state_of c.args.state.now) c.args.instr e) in
+    let at : address_of own c.args.point ≡ address_of t.thread c.args.point = ap (λ (u : Thread). address_of u c.args.point) (sym c.requires.program.thread) in
+    let taken = broken (after (address_of t.thread c.args.point) c.args.instr bounds).taken in
+    let kept : broken (after (address_of t.thread c.args.point) c.args.instr bounds).fall_through ≡ None =
+    ap (λ (n : ℕ). broken (after n c.args.instr bounds).fall_through) (sym at)
+    ∙ c.leaves_next.ensures (state_of c.args.state.now) c.args.instr c.if-leaves_next.true c.requires.known c.requires.is c.requires.plain in
+    c.taken_rules.ensures
+    ∙ ap (λ (n : ℕ). broken (after n c.args.instr bounds).taken) at
+    ∙ sym (or-none taken)
+    ∙ ap (λ (o : Option Refusal). option_or taken o) (sym kept)
+    ∙ sym (first-way image t c.args.point (state_of c.args.state.now) c.args.instr c.requires.plain (ap (λ (u : Thread). instruction_at u c.args.point) c.requires.program.thread ∙ c.requires.is))

@@ -1,0 +1,96 @@
+-- The way to a next point that no record notes.
+use Rattle.std.proofs.Common.{ℕ, ◌≡◌, ◌≢◌, ◌∙◌, ◌+◌, ◌%◌, ◌^◌, ◌<◌, true, false, Option, Some, None, List, refl, sym, ap, subst, arith}
+use Rattle.std.specs.Option.{option_map_or}
+use Rattle.certificates.proofs.EachPoint.{before, next-before, noted-is}
+use Rattle.certificates.specs.Kept.{has_state}
+use Rattle.certificates.specs.PointChecks.{way_rules}
+use Rattle.model.specs.Acceptance.Edges.{Edge, after, behind, branch_edge, branch_ranges}
+use Rattle.model.specs.Acceptance.NotedStates.{PointState, record_of}
+use Rattle.model.specs.Acceptance.PointRules.{edge_rules, noted_at, point_at, program_edge}
+use Rattle.model.specs.Acceptance.PointStates.{Noted, Known, Missing, Unmeasured, address_of, follows, follows_edge, follows_instruction, instruction_at, noted, noted_or, point_of}
+use Rattle.model.specs.Acceptance.Rules.{first_broken}
+use Rattle.model.specs.Images.Described.{Numbered}
+use Rattle.model.specs.Images.Image.{Image, StateRecord, Thread}
+use Rattle.model.specs.declared.instructions.Instr.{Instr}
+use Rattle.model.specs.declared.instructions.Instr.TheVariants.{Upper, Jal, Jalr, Branch, Load, Store, Immediate, Shift, Registers, Fence, Ecall, Ebreak}
+use Rattle.model.specs.declared.ranges.Range.{Range}
+use Rattle.model.specs.declared.refusals.Point.{Point}
+
+-- what follows from an instruction that is no system call
+plain-follows : (image : Image) (t : Numbered) (point : ℕ) (s : PointState) (instr : Instr) → instr ≢ Ecall
+    → follows_instruction image t point s (Some instr) ≡ follows_edge instr s (after (address_of t.thread point) instr s.ranges).fall_through
+plain-follows image t point s (Jal rd offset) plain = refl
+plain-follows image t point s (Branch op rs1 rs2 offset) plain = refl
+plain-follows image t point s (Upper op rd immediate) plain = refl
+plain-follows image t point s (Load op rd rs1 offset) plain = refl
+plain-follows image t point s (Store op rs1 rs2 offset) plain = refl
+plain-follows image t point s (Immediate op rd rs1 immediate) plain = refl
+plain-follows image t point s (Shift op rd rs1 amount) plain = refl
+plain-follows image t point s (Registers op rd rs1 rs2) plain = refl
+plain-follows image t point s Fence plain = refl
+plain-follows image t point s (Jalr rd rs1 offset) plain = refl
+plain-follows image t point s Ecall plain = absurd (plain refl)
+plain-follows image t point s Ebreak plain = refl
+
+-- the fall-through leads behind the instruction
+abbrev GoesTo : ℕ → Option Edge → Type 0
+GoesTo target None = Unit {0}
+GoesTo target (Some e) = e.target ≡ target
+
+of-branch : (target : ℕ) (kept : Option (List Range)) → GoesTo target (branch_edge target kept)
+of-branch target None = tt
+of-branch target (Some kept) = refl
+
+goes-behind : (pc : ℕ) (instr : Instr) (ranges : List Range) → GoesTo (behind pc) (after pc instr ranges).fall_through
+unfolding after
+goes-behind pc (Jal rd offset) ranges = tt
+goes-behind pc (Branch op rs1 rs2 offset) ranges = of-branch (behind pc) (branch_ranges op false rs1 rs2 ranges)
+goes-behind pc (Upper op rd immediate) ranges = refl
+goes-behind pc (Load op rd rs1 offset) ranges = refl
+goes-behind pc (Store op rs1 rs2 offset) ranges = refl
+goes-behind pc (Immediate op rd rs1 immediate) ranges = refl
+goes-behind pc (Shift op rd rs1 amount) ranges = refl
+goes-behind pc (Registers op rd rs1 rs2) ranges = refl
+goes-behind pc Fence ranges = refl
+goes-behind pc (Jalr rd rs1 offset) ranges = tt
+goes-behind pc Ecall ranges = tt
+goes-behind pc Ebreak ranges = tt
+
+module _ (law : (t : Thread) (at : Point) (instr : Instr) (state next : PointState) (edge : Edge) → follows_edge instr state (Some edge) ≡ Known next
+    → first_broken (edge_rules t at state.measure (program_edge instr state.slots edge) (Known next)) ≡ None) where
+  to-state : (t : Thread) (at : Point) (instr : Instr) (s : PointState) (edge : Edge) (n : Noted) → follows_edge instr s (Some edge) ≡ n → has_state n ≡ true
+      → first_broken (edge_rules t at s.measure (program_edge instr s.slots edge) n) ≡ None
+  to-state t at instr s edge (Known next) is has = law t at instr s next edge is
+  to-state t at instr s edge Missing is has = absurd (let clash : false ≡ true = has in cc)
+  to-state t at instr s edge Unmeasured is has = absurd (let clash : false ≡ true = has in cc)
+
+  on-edge : (image : Image) (t : Numbered) (point target : ℕ) (s : PointState) (instr : Instr) (e : Option Edge) → GoesTo target e → noted_at image t target ≡ follows_edge instr s e
+      → has_state (follows_edge instr s e) ≡ true → first_broken (way_rules image t point s instr e) ≡ None
+  on-edge image t point target s instr None goes is has = refl
+  on-edge image t point target s instr (Some edge) goes is has =
+      let found : noted_at image t edge.target ≡ follows_edge instr s (Some edge) = ap (noted_at image t) goes ∙ is in
+      ap (λ (n : Noted). first_broken (edge_rules t.thread (point_of t point) s.measure (program_edge instr s.slots edge) n)) found
+      ∙ to-state t.thread (point_of t point) instr s edge (follows_edge instr s (Some edge)) refl has
+
+  pub next-kept : (image : Image) (t : Numbered) (own : Thread) (point : ℕ) (s : PointState) (instr : Instr) → t.thread ≡ own → Known s ≡ noted image t point
+      → instruction_at own point ≡ Some instr → instr ≢ Ecall → record_of own (point + 1) ≡ None → has_state (noted image t (point + 1)) ≡ true
+      → Some (point + 1) ≡ point_at own (address_of own point + 4) → address_of own point + 4 < 2 ^ 32
+      → first_broken (way_rules image t point s instr (after (address_of own point) instr s.ranges).fall_through) ≡ None
+  next-kept image t own point s instr same known is plain none has at less =
+      let edge = (after (address_of t.thread point) instr s.ranges).fall_through in
+      let left : noted image t (point + 1) ≡ follows_edge instr s edge =
+      noted-is image t (point + 1)
+      ∙ ap (λ (r : Option StateRecord). noted_or image t.thread r (before image t (point + 1))) (ap (λ (u : Thread). record_of u (point + 1)) same ∙ none)
+      ∙ sym (next-before image t point)
+      ∙ ap (follows image t point) (sym known)
+      ∙ ap (follows_instruction image t point s) (ap (λ (u : Thread). instruction_at u point) same ∙ is)
+      ∙ plain-follows image t point s instr plain in
+      let place : behind (address_of t.thread point) ≡ address_of own point + 4 =
+      ap (λ (u : Thread). behind (address_of u point)) same ∙ (let small : (address_of own point + 4) % 2 ^ 32 ≡ address_of own point + 4 = omega (arith, less) in small) in
+      let found : noted_at image t (behind (address_of t.thread point)) ≡ noted image t (point + 1) =
+      ap (noted_at image t) place
+      ∙ ap (λ (u : Thread). option_map_or (noted image t) (point_at u (address_of own point + 4)) Missing) same
+      ∙ ap (λ (p : Option ℕ). option_map_or (noted image t) p Missing) (sym at) in
+      subst (λ (u : Thread). first_broken (way_rules image t point s instr (after (address_of u point) instr s.ranges).fall_through) ≡ None) same
+      (on-edge image t point (behind (address_of t.thread point)) s instr edge (goes-behind (address_of t.thread point) instr s.ranges) (found ∙ left)
+      (sym (ap has_state left) ∙ has))

@@ -1,0 +1,25 @@
+-- There is none, or it is the one of the rules.
+use Rattle.std.proofs.Common.{ℕ, ◌∙◌, Option, sym, ap}
+use Rattle.certificates.proofs.EdgeRules.{before-taken}
+use Rattle.certificates.proofs.programs.Program.taken_rules.Goals as goal
+use Rattle.certificates.specs.PointChecks.{way_rules}
+use Rattle.model.specs.Acceptance.Edges.{Edge, after}
+use Rattle.model.specs.Acceptance.PointStates.{address_of}
+use Rattle.model.specs.Acceptance.Rules.{first_broken}
+use Rattle.model.specs.declared.refusals.Refusal.{Refusal}
+use Rattle.point_rules.specs.Points.{state_of}
+
+pub returns-then-takes_no_way : goal.returns-then-takes_no_way
+returns-then-takes_no_way g c =
+    let broken : Option Edge → Option Refusal =
+    λ e. first_broken (way_rules (g.R.ThreadRules.image c.args.self.now.rules.now) (g.R.ThreadRules.thread c.args.self.now.rules.now) c.args.point (state_of c.args.state.now) c.args.instr e) in
+    ap broken (sym (c.takes_no_way.ensures (address_of c.args.self.now.thread.now c.args.point) c.args.state.now.bounds c.if-takes_no_way.true))
+
+pub returns : goal.returns
+returns g c =
+    let broken : Option Edge → Option Refusal =
+    λ e. first_broken (way_rules (g.R.ThreadRules.image c.args.self.now.rules.now) (g.R.ThreadRules.thread c.args.self.now.rules.now) c.args.point (state_of c.args.state.now) c.args.instr e) in
+    let bounds = c.args.state.now.bounds in
+    let here = after c.address.result c.args.instr bounds in
+    c.option_rules.ensures here.taken (ap (λ w. w.taken) (sym c.after-ways.ensures.ways)) (before-taken c.address.result c.args.instr bounds)
+    ∙ ap (λ (n : ℕ). broken (after n c.args.instr bounds).taken) c.address.ensures
