@@ -1,58 +1,59 @@
-pub mod CallCopies
-pub mod CallDepths
-pub mod CallHeld
-pub mod CallLookups
-pub mod CallMappings
-pub mod CallOriginals
-pub mod CallRetype
-pub mod CallSignals
-pub mod CallThreads
-pub mod ObjectsByOne
-pub mod ObjectsGrown
-pub mod ObjectsThere
-pub mod PhaseCapabilities
-pub mod PhaseFrames
-pub mod PhaseHandlers
-pub mod PhaseHeld
-pub mod PhaseMappings
-pub mod PhaseSignals
-pub mod PhaseSources
-pub mod PhaseStates
-pub mod PhaseTables
-pub mod PlacesApart
-pub mod PlacesObjects
-pub mod PlacesRules
-pub mod PlacesSlots
-pub mod PlacesTypes
-pub mod PlacesUsed
-pub mod PutsBoot
-pub mod PutsUntypeds
-pub mod Readings
-pub mod ReadingsAdded
-pub mod ReadingsBoot
-pub mod ReadingsFilled
-pub mod ReadingsKnown
-pub mod ReadingsLists
-pub mod ReadingsMoved
-pub mod ReadingsOpen
-pub mod ReadingsParents
-pub mod ReadingsRoom
-pub mod ReadingsSections
-pub mod ReadingsTypes
-pub mod RunBoots
-pub mod RunContents
-pub mod RunEnd
-pub mod RunFills
-pub mod RunSequences
-pub mod SoundBooted
-pub mod SoundRuns
-pub mod SoundWords
-pub mod ThreadsFit
-pub mod ThreadsKnown
-pub mod ThreadsListed
-pub mod ThreadsOne
-pub mod ThreadsStanding
-pub mod ThreadsWoken
-pub mod WholeFits
+mod CallCopies
+mod CallDepths
+mod CallHeld
+mod CallLookups
+mod CallMappings
+mod CallOriginals
+mod CallRetype
+mod CallSignals
+mod CallThreads
+mod ObjectsByOne
+mod ObjectsGrown
+mod ObjectsThere
+mod PhaseCapabilities
+mod PhaseFrames
+mod PhaseHandlers
+mod PhaseHeld
+mod PhaseMappings
+mod PhaseSignals
+mod PhaseSources
+mod PhaseStates
+mod PhaseTables
+mod PlacesApart
+mod PlacesObjects
+mod PlacesRules
+mod PlacesSlots
+mod PlacesTypes
+mod PlacesUsed
+mod PutsBoot
+mod PutsUntypeds
+mod Readings
+mod ReadingsAdded
+mod ReadingsBoot
+mod ReadingsFilled
+mod ReadingsKnown
+mod ReadingsLists
+mod ReadingsMoved
+mod ReadingsOpen
+mod ReadingsParents
+mod ReadingsRoom
+mod ReadingsSections
+mod ReadingsTypes
+mod RunBoots
+mod RunContents
+mod RunEnd
+mod RunFills
+mod RunSequences
+mod SoundBooted
+mod SoundRuns
+mod SoundWords
+mod ThreadsFit
+mod ThreadsKnown
+mod ThreadsListed
+mod ThreadsOne
+mod ThreadsStanding
+mod ThreadsWoken
+mod WholeFits
 pub mod WholeFrames
 pub mod WholeLoads
+pub mod Laws

@@ -119,7 +119,7 @@ no-frame-original image p number =
 
 -- ---- listed capabilities
 
-limited-table : (c : Cap) (bits payload : ℕ) → table_mapping (limited c bits payload) ≡ table_mapping c
+pub limited-table : (c : Cap) (bits payload : ℕ) → table_mapping (limited c bits payload) ≡ table_mapping c
 limited-table Empty bits payload = refl
 limited-table (Untyped a b d) bits payload = refl
 limited-table (Endpoint a r b) bits payload = refl
@@ -132,7 +132,7 @@ limited-table (RootTable a) bits payload = refl
 limited-table InterruptControl bits payload = refl
 limited-table (InterruptHandler a) bits payload = refl
 
-limited-frame : (c : Cap) (bits payload : ℕ) → frame_mapping (limited c bits payload) ≡ frame_mapping c
+pub limited-frame : (c : Cap) (bits payload : ℕ) → frame_mapping (limited c bits payload) ≡ frame_mapping c
 limited-frame Empty bits payload = refl
 limited-frame (Untyped a b d) bits payload = refl
 limited-frame (Endpoint a r b) bits payload = refl

@@ -29,11 +29,11 @@ kept-head rule rules kept = kept 0 None (omega arith)
 kept-tail : (rule : Rule) (rules : List Rule) → AreKept (rule ∷ rules) → AreKept rules
 kept-tail rule rules kept = λ k d less. kept (suc k) d (omega (arith, less))
 
-kept-behind : (first rest : List Rule) → AreKept (first ++ rest) → AreKept rest
+pub kept-behind : (first rest : List Rule) → AreKept (first ++ rest) → AreKept rest
 kept-behind [] rest kept = kept
 kept-behind (rule ∷ first) rest kept = kept-behind first rest (kept-tail rule (first ++ rest) kept)
 
-kept-before : (first rest : List Rule) → AreKept (first ++ rest) → AreKept first
+pub kept-before : (first rest : List Rule) → AreKept (first ++ rest) → AreKept first
 kept-before [] rest kept = λ k d less. absurd (omega (arith, less))
 kept-before (rule ∷ first) rest kept = both-kept (kept-head rule (first ++ rest) kept) (kept-before first rest (kept-tail rule (first ++ rest) kept)) where
   both-kept : rule ≡ None → AreKept first → AreKept (rule ∷ first)
@@ -41,7 +41,7 @@ kept-before (rule ∷ first) rest kept = both-kept (kept-head rule (first ++ res
   both-kept one others (suc k) d less = others k d (omega (arith, less))
 
 -- the rules of one entry
-kept-of : {A : Type 0} (f : A → List Rule) (xs : List A) → AreKept (flat_map f xs) → (k : ℕ) (x : A) → slice_get xs k ≡ Some x → AreKept (f x)
+pub kept-of : {A : Type 0} (f : A → List Rule) (xs : List A) → AreKept (flat_map f xs) → (k : ℕ) (x : A) → slice_get xs k ≡ Some x → AreKept (f x)
 kept-of f [] kept k x at = absurd (none-some x at)
 kept-of f (y ∷ ys) kept zero x at = subst (λ z. AreKept (f z)) (same_Some y x at) (kept-before (f y) (flat_map f ys) kept)
 kept-of f (y ∷ ys) kept (suc k) x at = kept-of f ys (kept-behind (f y) (flat_map f ys) kept) k x at
@@ -51,7 +51,7 @@ kept-one f [] kept k x at = absurd (none-some x at)
 kept-one f (y ∷ ys) kept zero x at = subst (λ z. f z ≡ None) (same_Some y x at) (kept-head (f y) (map f ys) kept)
 kept-one f (y ∷ ys) kept (suc k) x at = kept-one f ys (kept-tail (f y) (map f ys) kept) k x at
 
-not-refused : (b : Bool) (refusal : Refusal) → refuse_if b refusal ≡ None → b ≡ false
+pub not-refused : (b : Bool) (refusal : Refusal) → refuse_if b refusal ≡ None → b ≡ false
 not-refused false refusal h = refl
 not-refused true refusal h = absurd (let clash : ◌≡◌ {A = Rule} (Some refusal) None = h in cc)
 

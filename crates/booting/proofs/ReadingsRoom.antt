@@ -24,7 +24,7 @@ use Rattle.model.specs.Kernel.Retype.{NewObject, NewUntyped, NewThread, NewEndpo
 use Rattle.model.specs.Kernel.State.{boot_area_slots, cspace_slot, vspace_slot}
 
 -- a CNode is no thread
-no-thread : (t : Option NewObject) (index : ℕ) → option_map_or (λ radix. nat_lt index (2 ^ radix)) (radix_of t) false ≡ true → is_thread_type t ≡ true → ⊥
+pub no-thread : (t : Option NewObject) (index : ℕ) → option_map_or (λ radix. nat_lt index (2 ^ radix)) (radix_of t) false ≡ true → is_thread_type t ≡ true → ⊥
 no-thread None index slot thread = false≢true slot
 no-thread (Some (NewUntyped bits)) index slot thread = false≢true slot
 no-thread (Some NewThread) index slot thread = false≢true slot

@@ -33,7 +33,7 @@ pub flat-all : {A B : Type 0} (P : B → Type 0) (f : A → List B) (xs : List A
 flat-all P f [] each = All-nil P
 flat-all P f (x ∷ xs) each = All-append P (f x) (flat_map f xs) (each 0 x refl) (flat-all P f xs (λ j y at. each (suc j) y at))
 
-filtered-all : {A B : Type 0} (P : B → Type 0) (f : A → Option B) (xs : List A) → ((x : A) (y : B) → f x ≡ Some y → P y) → All P (filter_map f xs)
+pub filtered-all : {A B : Type 0} (P : B → Type 0) (f : A → Option B) (xs : List A) → ((x : A) (y : B) → f x ≡ Some y → P y) → All P (filter_map f xs)
 filtered-all P f [] each = All-nil P
 filtered-all P f (x ∷ xs) each =
     elim (f x) as (λ o. f x ≡ o → All P (cons_option o (filter_map f xs))) [

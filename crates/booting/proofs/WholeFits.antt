@@ -28,7 +28,7 @@ content-words objects least c is =
 word-long : (word : ℕ) → length (word_bytes word) ≡ 4
 word-long word = refl
 
-bytes-long : (words : List ℕ) → length (bytes_of words) ≡ 4 * length words
+pub bytes-long : (words : List ℕ) → length (bytes_of words) ≡ 4 * length words
 bytes-long [] = refl
 bytes-long (w ∷ ws) =
     let rest = bytes-long ws in

@@ -34,7 +34,7 @@ find-no test [] none = refl
 find-no test (x ∷ xs) none =
     ap (λ b. if b then Some x else find test xs) (none 0 x refl) ∙ find-no test xs (λ j y at. none (suc j) y at)
 
-find-get : {A : Type 0} (test : A → Bool) (xs : List A) (x : A) → find test xs ≡ Some x → (j : ℕ) × (slice_get xs j ≡ Some x)
+pub find-get : {A : Type 0} (test : A → Bool) (xs : List A) (x : A) → find test xs ≡ Some x → (j : ℕ) × (slice_get xs j ≡ Some x)
 find-get test [] x is = absurd (none-some x is)
 find-get {A} test (y ∷ ys) x is =
     elim (test y) as (λ b. (if b then Some y else find test ys) ≡ Some x → (j : ℕ) × (slice_get (y ∷ ys) j ≡ Some x)) [

@@ -1,7 +1,7 @@
 -- The rule on system calls is kept at each point with a state, so what is known behind the call is there.
 use Rattle.std.proofs.Common.{ℕ, ◌≡◌, ◌<◌, Bool, false, if◌then◌else◌, List, Option, Some, None, Result, Ok, Err, refl, ap, subst, arith}
 use Rattle.std.specs.Prelude.{Contains}
-use Rattle.thread_facts.proofs.RulesKept.{state-kept}
+use Rattle.thread_facts.proofs.Laws.{state-kept}
 use Rattle.call_points.specs.Known.{IsAllowed}
 use Rattle.model.specs.declared.instructions.Instr.{Instr}
 use Rattle.model.specs.declared.instructions.Instr.TheVariants.{Ecall}

@@ -1,8 +1,7 @@
 -- The one edge of a system call leads to the next point, and what it has to keep there is what is known behind the call.
 use Rattle.std.proofs.Common.{ℕ, ◌≡◌, ◌∙◌, ◌+◌, ◌*◌, ◌<◌, ◌<ℤ◌, ◌≤ℤ◌, pos, true, false, List, [], ◌∷◌, Option, Some, Ok, refl, sym, ap, subst, arith}
 use Rattle.std.specs.Prelude.{Contains}
-use Rattle.thread_facts.proofs.ListedThreads.{thread-entry}
-use Rattle.thread_facts.proofs.WiderRanges.{within-wider}
+use Rattle.thread_facts.proofs.Laws.{thread-entry, within-wider}
 use Rattle.call_points.specs.Behind.{LeadsBehind}
 use Rattle.falling.proofs.FallsOverCalls.{falls-over, stays-within}
 use Rattle.falling.proofs.NotedTerms.{noted-named}
@@ -21,9 +20,7 @@ use Rattle.model.specs.Acceptance.ThreadInvariants.{LieWithin}
 use Rattle.model.specs.Images.Described.{Numbered, numbered_threads}
 use Rattle.model.specs.Images.Image.{Image}
 use Rattle.model.specs.Machine.ProgramMemory.{RegisterFile}
-use Rattle.thread_steps.proofs.KeptRules.{point-kept}
-use Rattle.thread_steps.proofs.PointForms.{known-form}
-use Rattle.thread_steps.proofs.SameSlots.{not-stray-formed, slots-back}
+use Rattle.thread_steps.proofs.Laws.{point-kept, known-form, not-stray-formed, slots-back}
 use Rattle.thread_steps.specs.Formed.{AreFormed, HasForm}
 use Rattle.thread_steps.specs.Points.{IsPoint, LeadsOn}
 use Rattle.call_points.proofs.GivenThreads.{base-aligned}

@@ -2,13 +2,14 @@
 use Rattle.std.proofs.Common.{◌≡◌, ◌==◌, ◌%◌, false, None, arith}
 use Rattle.std.specs.Prelude.{Contains}
 use Rattle.std.proofs.lemmas.Bool.{eqb-true, not-false, or_parts}
-use Rattle.thread_facts.proofs.RulesKept.{not-refused, kept-among}
+use Rattle.thread_facts.proofs.Laws.{kept-among}
 use Rattle.model.specs.declared.refusals.Refusal.TheVariants.{BadThread}
 use Rattle.model.specs.Acceptance.Accepted.{AreKept}
 use Rattle.model.specs.Acceptance.ThreadRules.{is_bad, rules_of_thread, thread_rules}
 use Rattle.model.specs.Images.Described.{Numbered, numbered_threads}
 use Rattle.model.specs.Images.Image.{Image}
 use Rattle.model.specs.Kernel.AddressSpaces.{page_size}
+use Rattle.booting.proofs.Laws.{not-refused}
 
 -- ---- where the program begins
 

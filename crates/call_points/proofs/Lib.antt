@@ -1,7 +1,8 @@
-pub mod AllowedCalls
-pub mod CallsBehind
-pub mod GivenThreads
-pub mod KnownCalls
-pub mod MessageRules
-pub mod WrittenMessages
-pub mod WrittenRegisters
+mod AllowedCalls
+mod CallsBehind
+mod GivenThreads
+mod KnownCalls
+mod MessageRules
+mod WrittenMessages
+mod WrittenRegisters
+pub mod Laws

@@ -1,9 +1,5 @@
 -- The laws of this crate.
-use Rattle.std.specs.Prelude.{ℕ, ◌≡◌, ◌^◌, ◌<◌, ◌≤◌, Bool, Some, Result, Ok, false, List, [], ◌∷◌, All, length, Contains}
-use Rattle.call_points.specs.Behind.{LeadsBehind}
-use Rattle.call_points.specs.Known.{CallsSo, IsAllowed, NamesSo}
-use Rattle.call_points.specs.Messages.{NeedsNothing, ReceivesBy, SendsBy}
-use Rattle.falling.specs.Terms.{WritesOnly}
+use Rattle.std.specs.Prelude.{ℕ, ◌≡◌, ◌^◌, ◌<◌, ◌≤◌, Bool, Some, Result, Ok, false, List, [], ◌∷◌, All, length, Contains, map}
 use Rattle.model.specs.declared.capabilities.Cap.{Cap}
 use Rattle.model.specs.declared.instructions.Instr.TheVariants.{Ecall}
 use Rattle.model.specs.declared.instructions.Register.{Register}
@@ -11,7 +7,7 @@ use Rattle.model.specs.declared.ranges.Range.{Range}
 use Rattle.model.specs.declared.refusals.Point.{Point}
 use Rattle.model.specs.declared.refusals.Refusal.{Refusal}
 use Rattle.model.specs.Acceptance.Accepted.{IsAccepted}
-use Rattle.model.specs.Acceptance.CallRules.{AfterCall, after_call, badges, by_call, by_capability, changes_nothing, message_registers, receive_rule, send_rule, with_answer, with_message}
+use Rattle.model.specs.Acceptance.CallRules.{AfterCall, after_call, badges, by_call, by_capability, changes_nothing, message_registers, receive_rule, send_rule, with_answer, with_message, all_known, known}
 use Rattle.model.specs.Acceptance.NotedStates.{PointState}
 use Rattle.model.specs.Acceptance.PointStates.{Known, call_at, instruction_at, noted}
 use Rattle.model.specs.Acceptance.Ranges.{single, with_range}
@@ -20,7 +16,11 @@ use Rattle.model.specs.Images.Described.{Numbered, numbered_threads}
 use Rattle.model.specs.Images.Image.{Image, Thread}
 use Rattle.model.specs.Kernel.Messages.{Message, a0, a1, delivered, info_word}
 use Rattle.model.specs.Kernel.Steps.{SendCall, SystemCall}
-use Rattle.model.specs.Machine.ProgramMemory.{RegisterFile, write}
+use Rattle.model.specs.Machine.ProgramMemory.{RegisterFile, write, read}
+use Rattle.call_points.specs.Behind.{LeadsBehind}
+use Rattle.call_points.specs.Known.{CallsSo, IsAllowed, NamesSo}
+use Rattle.call_points.specs.Messages.{NeedsNothing, ReceivesBy, SendsBy}
+use Rattle.falling.specs.Terms.{WritesOnly}
 
 -- ---- where a call leads
 
@@ -47,6 +47,18 @@ abbrev pub AreNamed : Type 0
 AreNamed = (image : Image) (t : Thread) (at : Point) (state : PointState)
     (rules : ℕ → Cap → Result AfterCall Refusal) (left : AfterCall) (registers : RegisterFile)
     → by_capability image t at state rules ≡ Ok left → LieWithin registers state.ranges → NamesSo image t state rules left registers
+
+-- a register that has to have one value has it
+abbrev pub IsWordKnown : Type 0
+IsWordKnown =
+    (at : Point) (state : PointState) (x : Register) (n : ℕ) (registers : RegisterFile)
+    → x.0 < 32 → known at state x ≡ Ok n → LieWithin registers state.ranges → read registers x ≡ n
+
+-- and so have several
+abbrev pub AreWordsKnown : Type 0
+AreWordsKnown =
+    (at : Point) (state : PointState) (xs : List Register) (ns : List ℕ) (registers : RegisterFile)
+    → All (λ (x : Register). x.0 < 32) xs → all_known at state xs ≡ Ok ns → LieWithin registers state.ranges → map (read registers) xs ≡ ns
 
 -- a receive that its rule allows
 abbrev pub Receives : Type 0

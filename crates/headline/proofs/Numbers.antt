@@ -2,11 +2,8 @@
 use Rattle.std.proofs.Common.{ℕ, zero, suc, ◌≡◌, ◌+◌, ◌<◌, List, [], ◌∷◌, map, length, get_or, ap, arith}
 use Rattle.std.specs.Prelude.{Contains}
 use Rattle.std.specs.List.{enumerate_from}
-use Rattle.model.specs.Images.Described.{Numbered}
 use Rattle.model.specs.Images.Image.{Thread}
-
-abbrev with_number : ℕ × Thread → Numbered
-with_number t = record { number = t.0; thread = t.1 }
+use Rattle.thread_facts.proofs.Laws.{with_number}
 
 numbered-from : (from : ℕ) (threads : List Thread) (k : ℕ) (t : Thread) → k < length threads → get_or threads k t ≡ t
     → (n : ℕ) × Contains (map with_number (enumerate_from from threads)) (with_number (n, t))

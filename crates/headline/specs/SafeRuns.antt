@@ -1,17 +1,19 @@
 -- The headline: what is accepted boots as described, and runs without a fault, without an error, and within its budgets.
 use Rattle.std.specs.Prelude.{ℕ, ◌≡◌, false, All, Contains, List, Ok}
-use Rattle.booting.specs.Standing.{StandApart}
-use Rattle.thread_facts.specs.Standing.{AllStand}
 use Rattle.model.specs.declared.events.Event.{Event}
 use Rattle.model.specs.declared.labels.Label.{Label}
 use Rattle.model.specs.Acceptance.Accepted.{IsAccepted}
+use Rattle.model.specs.Acceptance.ThreadInvariants.{tcb_of}
 use Rattle.model.specs.Images.Boot.{booted}
-use Rattle.model.specs.Images.Described.{described}
+use Rattle.model.specs.Images.Described.{described, Numbered, numbered_threads}
 use Rattle.model.specs.Images.Image.{Image, Thread}
 use Rattle.model.specs.Images.Places.{offset_of}
 use Rattle.model.specs.Kernel.State.{State}
 use Rattle.model.specs.Kernel.Steps.{trace}
 use Rattle.model.specs.Kernel.Waits.{KeepsBudget, is_error, is_fault}
+use Rattle.booting.specs.Standing.{StandApart}
+use Rattle.headline.specs.Kept.{AllStandThroughout}
+use Rattle.thread_facts.specs.Standing.{AllStand}
 use Rattle.thread_moves.specs.Steps.{GoesWell}
 
 -- what the kernel does over events, from the state that an image describes
@@ -38,3 +40,10 @@ abbrev pub EventsKeepAllStanding : Type 0
 EventsKeepAllStanding =
     (bytes : List ℕ) (image : Image) (s : State) (labels : List Label) (event : Event) → IsAccepted bytes image → AllStand image s labels
     → GoesWell image s labels event
+
+-- where all threads stand throughout
+abbrev pub StandingThreadsKeepTheirBudgets : Type 0
+StandingThreadsKeepTheirBudgets =
+    (bytes : List ℕ) (image : Image) (events : List Event) → IsAccepted bytes image → AllStandThroughout image events
+    → (t : Numbered) → Contains (numbered_threads image) t
+    → KeepsBudget (tcb_of image t) t.thread.header.budget (trace (described image) events)

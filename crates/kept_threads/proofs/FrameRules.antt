@@ -3,8 +3,8 @@ use Rattle.std.proofs.Common.{ℕ, zero, suc, ◌≡◌, ◌+◌, ◌%◌, ◌^�
 use Rattle.std.specs.Prelude.{flat_map, slice_get}
 use Rattle.std.specs.List.{enumerate_from, range_with_len}
 use Rattle.std.proofs.lemmas.Bool.{eqb-true, not-false, or_parts}
-use Rattle.thread_facts.proofs.RulesKept.{kept-right, kept-left, not-refused}
 use Rattle.booting.specs.Standing.{StandApart}
+use Rattle.booting.proofs.Laws.{kept-before, kept-behind, not-refused}
 use Rattle.fitting.specs.Fitting.{IsFitting}
 use Rattle.model.specs.declared.entries.FrameEntry.{FrameEntry}
 use Rattle.model.specs.declared.entries.UntypedEntry.{UntypedEntry}
@@ -26,10 +26,10 @@ rules-of f from [] kept k x at = absurd (let clash : None ≡ Some x = at in cc)
 rules-of f from (y ∷ ys) kept zero x at =
     let same : y ≡ x = cc in
     let first : from ≡ from + 0 = omega arith in
-    subst (λ n. AreKept (f (n, x))) first (subst (λ z. AreKept (f (from, z))) same (kept-left (f (from, y)) (flat_map f (enumerate_from (from + 1) ys)) kept))
+    subst (λ n. AreKept (f (n, x))) first (subst (λ z. AreKept (f (from, z))) same (kept-before (f (from, y)) (flat_map f (enumerate_from (from + 1) ys)) kept))
 rules-of f from (y ∷ ys) kept (suc k) x at =
     let next : from + 1 + k ≡ from + suc k = omega arith in
-    subst (λ n. AreKept (f (n, x))) next (rules-of f (from + 1) ys (kept-right (f (from, y)) (flat_map f (enumerate_from (from + 1) ys)) kept) k x at)
+    subst (λ n. AreKept (f (n, x))) next (rules-of f (from + 1) ys (kept-behind (f (from, y)) (flat_map f (enumerate_from (from + 1) ys)) kept) k x at)
 
 rule-of : {A : Type 0} (f : ℕ × A → Rule) (from : ℕ) (xs : List A) → AreKept (map f (enumerate_from from xs)) → (k : ℕ) (x : A) → slice_get xs k ≡ Some x
     → f (from + k, x) ≡ None
@@ -58,7 +58,7 @@ untyped-aligned image k u formed at =
     let untypeds = map (λ u. refuse_if (overlaps image u) (UntypedOverlap u.0)) (numbered image.untypeds) in
     let rooms = map (λ number. refuse_if (has_no_room image number) (NoRoom number)) (range_with_len 0 image.header.objects) in
     let few : List Rule = refuse_if (too_few_boot_slots image) (BadObject image.header.objects) ∷ [] in
-    let kept = kept-left untypeds rooms (kept-left (untypeds ++ rooms) few formed.objects) in
+    let kept = kept-before untypeds rooms (kept-before (untypeds ++ rooms) few formed.objects) in
     by-overlap image (0 + k) u (not-refused _ _ (rule-of (λ u. refuse_if (overlaps image u) (UntypedOverlap u.0)) 0 image.untypeds kept k u at))
 
 -- ---- frames
@@ -81,7 +81,7 @@ frame-kept image item f fitting formed at =
     let frames = flat_map (frame_rules image) (numbered image.frames) in
     let contents = map (content_rule image) (numbered image.contents) in
     let start : 0 + item ≡ item = omega arith in
-    let all = kept-right tables frames (kept-left (tables ++ frames) contents formed.mappings) in
+    let all = kept-behind tables frames (kept-before (tables ++ frames) contents formed.mappings) in
     let kept = subst (λ n. AreKept (frame_rules image (n, f))) start (rules-of (frame_rules image) 0 image.frames all item f at) in
     by-rules image item f fitting at (not-refused _ _ (kept 0 None (omega arith))) (not-refused _ _ (kept 1 None (omega arith)))
 

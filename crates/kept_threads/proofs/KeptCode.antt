@@ -19,8 +19,7 @@ use Rattle.model.specs.Kernel.AddressSpaces.{Maps, content_of, page_size, vspace
 use Rattle.model.specs.Kernel.Soundness.{IsSound}
 use Rattle.model.specs.Kernel.State.{State}
 use Rattle.model.specs.Machine.ProgramMemory.{Content, ◌>>=◌, loaded, named, next_address, places_from, width_of}
-use Rattle.thread_facts.specs.Untouched.{IsUntouched}
-use Rattle.thread_facts.proofs.CodePages.{IsProgramPage, NamesFrame, frame-named, names-frame, one-frame, program-page}
+use Rattle.thread_facts.proofs.Laws.{IsProgramPage, NamesFrame, frame-named, names-frame, one-frame, program-page}
 use Rattle.kept_threads.proofs.ThreadsGiven.{IsGiven}
 
 -- ---- what is loaded

@@ -1,12 +1,13 @@
-pub mod EachOf
-pub mod OwnKeys
-pub mod ThreadsGiven
-pub mod KeptCode
-pub mod StandingOn
-pub mod StartObjects
-pub mod OwnBlocks
-pub mod FrameRules
-pub mod FramePlaces
-pub mod StoredPlaces
-pub mod HangsKept
-pub mod StartHangs
+mod EachOf
+mod OwnKeys
+mod ThreadsGiven
+mod KeptCode
+mod StandingOn
+mod StartObjects
+mod OwnBlocks
+mod FrameRules
+mod FramePlaces
+mod StoredPlaces
+mod HangsKept
+mod StartHangs
+pub mod Laws

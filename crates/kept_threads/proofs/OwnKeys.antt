@@ -1,9 +1,9 @@
 -- The slots that are noted of a thread are its own: where those stay as they are, the same is noted.
-use Rattle.std.proofs.Common.{ℕ, ◌≡◌, ◌∙◌, ◌+◌, ◌/◌, ◌<◌, inl, inr, Bool, true, false, not, ◌||◌, nat_eq, nat_le, nat_lt, if◌then◌else◌, List, [], ◌∷◌, Option, Some, None, sym, ap, subst, arith}
+use Rattle.std.proofs.Common.{ℕ, ◌≡◌, ◌∙◌, ◌/◌, inl, inr, Bool, true, false, not, ◌||◌, nat_eq, if◌then◌else◌, List, [], ◌∷◌, Option, Some, None, sym, ap, subst, arith}
 use Rattle.std.specs.Prelude.{option_and_then}
 use Rattle.std.specs.Option.{option_map_or}
 use Rattle.std.specs.List.{list_any}
-use Rattle.std.proofs.lemmas.Bool.{and_from, le-leb, lt-ltb, or_left, or_right}
+use Rattle.std.proofs.lemmas.Bool.{or_left, or_right}
 use Rattle.std.proofs.lemmas.Bool.Decides.{eqb_tells}
 use Rattle.model.specs.declared.capabilities.Cap.TheVariants.{Empty}
 use Rattle.model.specs.declared.slot_entries.Entry.{Entry}
@@ -11,17 +11,13 @@ use Rattle.model.specs.Acceptance.Authority.{IsOwnSlot}
 use Rattle.model.specs.Acceptance.NotedKernel.{key_of, keys_of, keys_of_cnode, noted_after, noted_of, object_numbers, slot_of_key, slots_of_cnode, stands_in}
 use Rattle.model.specs.Acceptance.NotedStates.{NotedSlot, SlotKey}
 use Rattle.model.specs.Acceptance.ThreadRules.{is_member, reached}
-use Rattle.model.specs.Capabilities.Slots.{Slots, is_empty, is_within}
+use Rattle.model.specs.Capabilities.Slots.{Slots, is_empty}
 use Rattle.model.specs.Images.Image.{Image, Thread}
 use Rattle.model.specs.Images.Places.{cnode_slot, offset_of}
 use Rattle.kept_threads.proofs.EachOf.{Each, each-filtered, each-flat, each-picked, each-range, each-so, same-picked}
+use Rattle.thread_lookups.proofs.Laws.{within-first}
 
 -- ---- slots of a CNode
-
-within : (first count k : ℕ) → k < count → is_within (first + 0) count (first + k) ≡ true
-within first count k less =
-    and_from (nat_le (first + 0) (first + k)) (nat_lt (first + k) (first + 0 + count)) (le-leb (first + 0) (first + k) (omega arith))
-    (lt-ltb (first + k) (first + 0 + count) (omega (arith, less)))
 
 -- what a member passes, some element passes
 pub member-passes : (test : ℕ → Bool) (n : ℕ) (xs : List ℕ) → is_member n xs ≡ true → test n ≡ true → list_any test xs ≡ true
@@ -43,7 +39,7 @@ keys-own image t =
     (each-filtered (λ number. Each (IsOwnKey image t) (keys_of_cnode image number)) (λ number. is_member number cnodes) (object_numbers image) (λ number member.
     each-range (IsOwnKey image t) (λ index. record { cnode = number; index = index }) 0 (slots_of_cnode image number) (λ index low high.
     member-passes (stands_in image (cnode_slot image number index)) number cnodes member
-    (within (offset_of image number / 16) (slots_of_cnode image number) index (omega (arith, high))))))
+    (within-first (offset_of image number / 16) (slots_of_cnode image number) index (omega (arith, high))))))
 
 -- ---- what is noted of them
 

@@ -21,7 +21,7 @@ use Rattle.kept_threads.proofs.KeptCode.{program-kept}
 use Rattle.kept_threads.proofs.OwnKeys.{IsOwnKey, noted-own, same-noted}
 use Rattle.kept_threads.proofs.ThreadsGiven.{IsGiven}
 
-same-capability : (s after : Slots) (slot : ℕ) → after slot ≡ s slot → capability_at after slot ≡ capability_at s slot
+pub same-capability : (s after : Slots) (slot : ℕ) → after slot ≡ s slot → capability_at after slot ≡ capability_at s slot
 same-capability s after slot same = ap (λ (o : Option Entry). option_map_or (λ held. held.capability) o Empty) same
 
 parent-kept : (s after : State) (slot : ℕ) → after.boot_radix ≡ s.boot_radix → after.slots slot ≡ s.slots slot → HasBootParent s slot → HasBootParent after slot

@@ -5,11 +5,7 @@ use Rattle.std.proofs.lemmas.Bool.{cases_lt, false≢true, le-leb, lt-leb}
 use Rattle.std.proofs.lemmas.Option.{none-some, same_Some, slice_get_cases}
 use Rattle.fitting.specs.Fitting.{CapabilityFits, IsFitting, ObjectFits}
 use Rattle.fitting.proofs.ImageFits.{is-fitting}
-use Rattle.booting.proofs.PlacesObjects.{object-at}
-use Rattle.booting.proofs.PlacesRules.{are-formed}
-use Rattle.booting.proofs.Readings.{ReadsBoot}
-use Rattle.booting.proofs.ReadingsTypes.{listed-untyped, source-untyped}
-use Rattle.booting.proofs.SoundBooted.{described-sound}
+use Rattle.booting.proofs.Laws.{object-at, are-formed, ReadsBoot, listed-untyped, source-untyped, described-sound}
 use Rattle.model.specs.declared.capabilities.Cap.{Cap}
 use Rattle.model.specs.declared.entries.CapabilityEntry.{CapabilityEntry}
 use Rattle.model.specs.Acceptance.Accepted.{IsWellFormed}
@@ -24,13 +20,10 @@ use Rattle.model.specs.Images.Described.{Numbered, described, listed_capability,
 use Rattle.model.specs.Images.Image.{Image, Thread, whole_image}
 use Rattle.model.specs.Images.Places.{cnode_slot, control_slot, handler_slot, interrupt_of, object_at, original_slot, source_slot, type_at}
 use Rattle.model.proofs.Depths.{depth-none, depth-some}
-use Rattle.thread_lookups.proofs.ThreadKeys.{HasKey, key-found}
+use Rattle.thread_lookups.proofs.Laws.{HasKey, key-found}
 use Rattle.thread_spaces.specs.Given.{IsListed}
-use Rattle.thread_spaces.proofs.BootParents.{original-below}
-use Rattle.thread_spaces.proofs.DescribedSlots.{boot-holds, capability-shown, from-loaded, listed-shown, parent-shown}
-use Rattle.thread_spaces.proofs.ParentsInBoot.{parent-in-boot}
-use Rattle.thread_spaces.proofs.StandingApart.{stands-apart}
-use Rattle.thread_starts.proofs.GivenSlots.{IsListedSlot, at-key, slot-listed}
+use Rattle.thread_spaces.proofs.Laws.{original-below, boot-holds, capability-shown, from-loaded, listed-shown, parent-shown, parent-in-boot, stands-apart}
+use Rattle.thread_starts.proofs.Laws.{IsListedSlot, at-key, slot-listed}
 use Rattle.typestate.proofs.NamedKeys.{IsNamed, key-named}
 use Rattle.thread_facts.specs.Hanging.{HangsAsListed}
 

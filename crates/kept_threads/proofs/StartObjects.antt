@@ -10,8 +10,7 @@ use Rattle.model.specs.Images.Places.{offset_of, type_at}
 use Rattle.model.specs.Kernel.Retype.{NewObject, NewUntyped, NewThread, NewEndpoint, NewNotification, NewCNode, NewFrame, NewPageTable, NewRootTable, object}
 use Rattle.model.specs.Kernel.State.{Object, Status, Inactive, Runnable, ThreadObject, ThreadState, as_thread}
 use Rattle.thread_facts.specs.Standing.{IsControlBlock}
-use Rattle.thread_facts.proofs.ListedThreads.{with_number}
-use Rattle.thread_facts.proofs.CodePages.{find-entry}
+use Rattle.thread_facts.proofs.Laws.{with_number, find-entry}
 
 -- ---- what is found
 

@@ -4,8 +4,7 @@ use Rattle.std.proofs.Common.{◌≡◌, ◌+◌, ◌*◌, ◌%◌, ◌^◌, ◌
 use Rattle.std.specs.Prelude.{Contains}
 use Rattle.std.specs.List.{list_all}
 use Rattle.std.proofs.lemmas.Bool.{eqb-true, ltb-false, not-false, or_parts}
-use Rattle.thread_facts.proofs.RulesKept.{not-bad}
-use Rattle.thread_facts.proofs.RootTables.{root-original}
+use Rattle.thread_facts.proofs.Laws.{not-bad, root-original}
 use Rattle.model.specs.Acceptance.Accepted.{IsWellFormed}
 use Rattle.model.specs.Acceptance.ThreadInvariants.{root_table_of}
 use Rattle.model.specs.Acceptance.ThreadRules.{is_bad, is_code, is_in_use, program_end}

@@ -1,11 +1,6 @@
 //! Threads that a change leaves alone, and all threads at the start.
 
-ghost use Rattle.std.specs.Prelude.{ℕ, List, []};
-ghost use Rattle.kept_threads.specs.Laws.{StandsOn};
-ghost use Rattle.model.specs.Acceptance.Accepted.{IsAccepted};
-ghost use Rattle.model.specs.Images.Described.{described};
-ghost use Rattle.model.specs.Images.Image.{Image};
-ghost use Rattle.thread_facts.specs.Standing.{AllStand};
+ghost use Rattle.kept_threads.specs.Laws.{AllStandAtTheStart, StandsOn};
 
 use booting::described_states_are_sound;
 use thread_starts::{threads_are_as_listed, threads_start_as_certified};
@@ -18,7 +13,7 @@ pub fn untouched_threads_stand_on()
 
 /// In the state that an accepted image describes all threads stand.
 pub fn all_stand_at_the_start()
-    ensures { (bytes : List ℕ) (image : Image) → IsAccepted bytes image → AllStand image (described image) [] }
+    ensures { AllStandAtTheStart }
 {
     described_states_are_sound();
     threads_are_as_listed();

@@ -1,9 +1,10 @@
-pub mod CodePages
-pub mod DecodedFields
-pub mod ListedThreads
+mod CodePages
+mod DecodedFields
+mod ListedThreads
 pub mod MappedPages
-pub mod NotedKeys
-pub mod RootTables
-pub mod RulesKept
+mod NotedKeys
+mod RootTables
+mod RulesKept
 pub mod ThreadObjects
-pub mod WiderRanges
+mod WiderRanges
+pub mod Laws

@@ -1,53 +1,39 @@
 -- What follows from rules that are kept: each part of them is, and a rule that refuses where a test holds says that it fails.
-use Rattle.std.proofs.Common.{◌≤◌, inl, inr, ℕ, zero, suc, ◌≡◌, ◌+◌, ◌<◌, Bool, true, false, List, [], ◌∷◌, ◌++◌, length, Some, None, refl, subst, arith, ◌-◌, ◌*◌, ◌/◌, ◌%◌, not, ◌&&◌}
+use Rattle.std.proofs.Common.{◌≤◌, inl, inr, ℕ, zero, suc, ◌≡◌, ◌+◌, ◌<◌, Bool, true, false, List, [], ◌∷◌, length, None, refl, subst, arith, ◌-◌, ◌*◌, ◌/◌, ◌%◌, not, ◌&&◌}
 use Rattle.std.specs.Prelude.{Contains, flat_map, slice_index_or}
 use Rattle.std.specs.List.{range_with_len}
 use Rattle.std.proofs.lemmas.Bool.{cases_eq}
-use Rattle.std.proofs.lemmas.List.Elements.{All-cons, All-head, All-tail, All-nil}
-use Rattle.model.specs.declared.refusals.Refusal.{Refusal}
 use Rattle.model.specs.declared.refusals.Refusal.TheVariants.{BadThread}
 use Rattle.model.specs.Acceptance.Accepted.{AreKept, IsWellFormed}
-use Rattle.model.specs.Acceptance.Rules.{Rule, refuse_if}
+use Rattle.model.specs.Acceptance.Rules.{Rule}
 use Rattle.model.specs.Acceptance.ThreadRules.{is_bad, rules_of_thread, thread_rules}
 use Rattle.model.specs.Images.Described.{Numbered, numbered_threads}
 use Rattle.model.specs.Images.Image.{Image}
 use Rattle.model.specs.Acceptance.NotedStates.{PointState}
 use Rattle.model.specs.Acceptance.PointRules.{entry_rules, point_rules, program_rules, rules_of_noted, rules_of_program, state_rules}
 use Rattle.model.specs.Acceptance.PointStates.{Noted, Known, noted}
+use Rattle.booting.proofs.Laws.{kept-before, kept-behind, not-refused}
 
 -- ---- lists of rules
 
 abbrev pub IsKeptRule : Rule → Type 0
 IsKeptRule rule = rule ≡ None
 
-pub kept-left : (xs ys : List Rule) → AreKept (xs ++ ys) → AreKept xs
-kept-left [] ys h = All-nil IsKeptRule
-kept-left (x ∷ xs) ys h = All-cons IsKeptRule x xs (All-head IsKeptRule x (xs ++ ys) h) (kept-left xs ys (All-tail IsKeptRule x (xs ++ ys) h))
-
-pub kept-right : (xs ys : List Rule) → AreKept (xs ++ ys) → AreKept ys
-kept-right [] ys h = h
-kept-right (x ∷ xs) ys h = kept-right xs ys (All-tail IsKeptRule x (xs ++ ys) h)
-
 -- the rules of one entry among those of all
 pub kept-among : {A : Type 0} (f : A → List Rule) (xs : List A) (x : A) (k : ℕ) → AreKept (flat_map f xs) → k < length xs → slice_index_or xs k x ≡ x
     → AreKept (f x)
 kept-among f [] x k h inside is = absurd (omega (arith, inside))
-kept-among f (y ∷ ys) x zero h inside is = subst (λ z. AreKept (f z)) is (kept-left (f y) (flat_map f ys) h)
-kept-among f (y ∷ ys) x (suc k) h inside is = kept-among f ys x k (kept-right (f y) (flat_map f ys) h) (omega (arith, inside)) is
+kept-among f (y ∷ ys) x zero h inside is = subst (λ z. AreKept (f z)) is (kept-before (f y) (flat_map f ys) h)
+kept-among f (y ∷ ys) x (suc k) h inside is = kept-among f ys x k (kept-behind (f y) (flat_map f ys) h) (omega (arith, inside)) is
 
 -- the rules of one number among those of some in a row
 pub kept-of : (f : ℕ → List Rule) (from count k : ℕ) → AreKept (flat_map f (range_with_len from count)) → from ≤ k → k < from + count → AreKept (f k)
 kept-of f from zero k h low high = absurd (omega (arith, low, high))
 kept-of f from (suc count) k h low high = elim (cases_eq from k) [
-  | inl here ↦ subst (λ (n : ℕ). AreKept (f n)) here (kept-left (f from) (flat_map f (range_with_len (from + 1) count)) h)
+  | inl here ↦ subst (λ (n : ℕ). AreKept (f n)) here (kept-before (f from) (flat_map f (range_with_len (from + 1) count)) h)
   | inr other ↦
-      kept-of f (from + 1) count k (kept-right (f from) (flat_map f (range_with_len (from + 1) count)) h) (omega (arith, low, other)) (omega (arith, high))
+      kept-of f (from + 1) count k (kept-behind (f from) (flat_map f (range_with_len (from + 1) count)) h) (omega (arith, low, other)) (omega (arith, high))
 ]
-
--- a rule that refuses where a test holds
-pub not-refused : (b : Bool) (refusal : Refusal) → refuse_if b refusal ≡ None → b ≡ false
-not-refused false refusal h = refl
-not-refused true refusal h = absurd (let clash : ◌≡◌ {A = Rule} (Some refusal) None = h in cc)
 
 -- ---- the rules of a program, and of one of its points
 
@@ -60,7 +46,7 @@ pub state-kept : (image : Image) (t : Numbered) (point : ℕ) (state : PointStat
     → noted image t point ≡ Known state → AreKept (state_rules image t point state)
 unfolding rules_of_program point_rules
 state-kept image t point state h listed inside known =
-    let each = kept-right (entry_rules image t (noted image t t.thread.header.entry))
+    let each = kept-behind (entry_rules image t (noted image t t.thread.header.entry))
     (flat_map (point_rules image t) (range_with_len 0 t.thread.header.words)) (program-kept image t h listed) in
     let here = kept-of (point_rules image t) 0 t.thread.header.words point each (omega arith) (omega (arith, inside)) in
     subst (λ (n : Noted). AreKept (rules_of_noted image t point n)) known here

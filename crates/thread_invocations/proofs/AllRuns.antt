@@ -1,28 +1,25 @@
 -- Whatever happens to an accepted image, all goes well.
 use Rattle.std.proofs.Common.{ℕ, ◌≡◌, ◌∙◌, ◌⊎◌, inl, inr, Option, Some, None, Result, Ok, Err, List, [], refl, sym, subst}
-use Rattle.std.specs.Prelude.{Contains}
 use Rattle.call_points.specs.Messages.{IsInvoked}
 use Rattle.thread_facts.specs.Standing.{AllStand}
 use Rattle.model.specs.declared.capabilities.Cap.{Cap}
 use Rattle.model.specs.declared.capabilities.Cap.TheVariants.{Empty, Untyped, Endpoint, Notification, CNode, Frame, PageTable, Tcb, RootTable, InterruptControl, InterruptHandler}
 use Rattle.model.specs.declared.events.Event.{Event}
-use Rattle.model.specs.declared.events.Event.TheVariants.{Step}
-use Rattle.model.specs.declared.labels.Label.{Label}
 use Rattle.model.specs.declared.lookup_failures.LookupFailure.{LookupFailure}
 use Rattle.model.specs.Acceptance.Accepted.{IsAccepted}
 use Rattle.model.specs.Acceptance.ThreadInvariants.{tcb_of}
 use Rattle.model.specs.Capabilities.Slots.{capability_at}
-use Rattle.model.specs.Images.Described.{Numbered, described, numbered_threads}
+use Rattle.model.specs.Images.Described.{described}
 use Rattle.model.specs.Images.Image.{Image}
 use Rattle.model.specs.Kernel.Messages.{a7}
-use Rattle.model.specs.Kernel.Scheduling.{current}
 use Rattle.model.specs.Kernel.State.{State}
 use Rattle.model.specs.Kernel.Steps.{SendCall, SystemCall, Sends, Receives, RepliesAndReceives, Replies, Yields, PutsCharacter, call_of, named_slot, registers_of}
 use Rattle.model.specs.Machine.ProgramMemory.{read}
-use Rattle.thread_moves.specs.Laws.{Laws}
-use Rattle.thread_moves.specs.Steps.{GoesWell, HasGoneWell, InvokesNothing, MakesCall}
-use Rattle.thread_moves.proofs.Runs.{InterruptsGoWell, MessagesGoWell, PlainStepsGoWell, TicksGoWell, run-goes-by, step-goes-by}
+use Rattle.thread_moves.specs.Laws.{InterruptsGoWell, Laws, MessagesGoWell, PlainStepsGoWell, TicksGoWell}
+use Rattle.thread_moves.specs.Steps.{HasGoneWell, InvokesNothing}
+use Rattle.thread_moves.proofs.Laws.{run-goes-by, step-goes-by}
 use Rattle.thread_invocations.specs.Invoking.{Invokes}
+use Rattle.thread_invocations.specs.Laws.{AnyStepGoesWell, InvocationsGoWell}
 
 -- ---- a thread invokes a capability, or none
 
@@ -77,15 +74,7 @@ module _ (s : State) (thread : ℕ) where
 
 -- ---- steps
 
--- the law on invocations, as its function's contract says it
-abbrev pub InvocationsGoWell : Type 0
-InvocationsGoWell =
-    (bytes : List ℕ) (image : Image) (t : Numbered) (s : State) (labels : List Label) → IsAccepted bytes image → AllStand image s labels
-    → Contains (numbered_threads image) t → current s ≡ Some (tcb_of image t) → MakesCall s (tcb_of image t) → Invokes s (tcb_of image t)
-    → GoesWell image s labels Step
-
-pub any-step-goes : Laws → InvocationsGoWell → MessagesGoWell → PlainStepsGoWell → (bytes : List ℕ) (image : Image) (s : State) (labels : List Label)
-    → IsAccepted bytes image → AllStand image s labels → GoesWell image s labels Step
+pub any-step-goes : Laws → InvocationsGoWell → MessagesGoWell → PlainStepsGoWell → AnyStepGoesWell
 any-step-goes laws invocations messages plain bytes image s labels accepted all =
     step-goes-by laws plain bytes image s labels accepted all
     (λ t listed here makes. elim (either-invokes s (tcb_of image t)) [
@@ -94,10 +83,6 @@ any-step-goes laws invocations messages plain bytes image s labels accepted all 
     ])
 
 -- ---- events
-
-abbrev pub AnyStepGoesWell : Type 0
-AnyStepGoesWell =
-    (bytes : List ℕ) (image : Image) (s : State) (labels : List Label) → IsAccepted bytes image → AllStand image s labels → GoesWell image s labels Step
 
 pub any-run-goes : AnyStepGoesWell → TicksGoWell → InterruptsGoWell → (bytes : List ℕ) (image : Image) (events : List Event) → IsAccepted bytes image
     → AllStand image (described image) [] → HasGoneWell image events

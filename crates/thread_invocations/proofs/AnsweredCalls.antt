@@ -18,9 +18,8 @@ use Rattle.model.specs.Kernel.State.{State, Status, Runnable, Object, ThreadObje
 use Rattle.model.specs.Kernel.Steps.{SendCall, Calling, Sending, Trying, answered, completed, memory_base}
 use Rattle.thread_moves.specs.Laws.{Laws}
 use Rattle.thread_moves.specs.Moving.{CallsAt}
-use Rattle.thread_moves.proofs.Calling.{IsCounted, counted}
-use Rattle.thread_moves.proofs.SimpleCalls.{passes-stand, result-stands}
-use Rattle.thread_facts.proofs.ThreadObjects.{at-place}
+use Rattle.thread_moves.proofs.Laws.{IsCounted, counted, passes-stand, result-stands}
+use Rattle.thread_facts.proofs.Laws.{at-place}
 
 -- a thread that is there still, and runs, is answered
 pub completed-is : (s : State) (thread : ℕ) (own : ThreadState) (kind : SendCall) → s.objects thread ≡ Some (ThreadObject own) → own.status ≡ Runnable

@@ -4,10 +4,9 @@ use Rattle.std.specs.Prelude.{Contains}
 use Rattle.std.specs.List.{list_any}
 use Rattle.std.proofs.lemmas.Bool.{false≢true}
 use Rattle.std.proofs.lemmas.Option.{none-some}
-use Rattle.booting.proofs.PlacesRules.{are-formed}
-use Rattle.booting.proofs.PlacesSlots.{cspace-slot, slot-of-one, vspace-slot}
+use Rattle.booting.proofs.Laws.{are-formed, cspace-slot, slot-of-one, vspace-slot}
 use Rattle.fitting.proofs.ImageFits.{is-fitting}
-use Rattle.kept_threads.proofs.OwnBlocks.{thread-entry}
+use Rattle.kept_threads.proofs.Laws.{thread-entry}
 use Rattle.model.specs.Acceptance.Accepted.{IsWellFormed}
 use Rattle.model.specs.Acceptance.Authority.{IsOwnSlot}
 use Rattle.model.specs.Acceptance.NotedKernel.{stands_in}
@@ -19,7 +18,7 @@ use Rattle.model.specs.Images.Image.{Image, whole_image}
 use Rattle.model.specs.Images.Places.{type_at}
 use Rattle.model.specs.Kernel.Retype.{NewObject, NewUntyped, NewThread, NewEndpoint, NewNotification, NewCNode, NewFrame, NewPageTable, NewRootTable}
 use Rattle.model.specs.Kernel.State.{cspace_slot, vspace_slot}
-use Rattle.thread_spaces.proofs.GivenCNodes.{reached-cnode}
+use Rattle.thread_spaces.proofs.Laws.{reached-cnode}
 use Rattle.thread_invocations.specs.Changes.{IsOther}
 use Rattle.thread_invocations.proofs.TwoThreads.{stands-in}
 

@@ -2,19 +2,14 @@
 use Rattle.std.proofs.Common.{ℕ, ◌≡◌, ◌∙◌, ◌==◌, ◌%◌, ◌<◌, ◌&&◌, Bool, true, false, nat_eq, Option, Some, None, find, take, refl, sym, ap, subst}
 use Rattle.std.specs.Prelude.{option_and_then, slice_get}
 use Rattle.std.specs.Option.{option_map_or}
-use Rattle.std.proofs.lemmas.Bool.{and_parts, eq-eqb, eqb-true, false≢true}
+use Rattle.std.proofs.lemmas.Bool.{and_parts, eq-eqb, eqb-true}
 use Rattle.std.proofs.lemmas.List.Folds.{Any-from_list_any, list_any_at}
 use Rattle.std.proofs.lemmas.Option.{slice_get-get_or}
 use Rattle.booting.specs.Loading.{all_loaded}
-use Rattle.booting.proofs.ObjectsThere.{reads-objects}
-use Rattle.booting.proofs.PlacesApart.{stand-apart}
-use Rattle.booting.proofs.PlacesRules.{AreFormed, FrameKept, are-formed}
-use Rattle.booting.proofs.Readings.{ReadsObjects}
-use Rattle.booting.proofs.RunEnd.{loaded-end}
-use Rattle.booting.proofs.WholeFits.{counts-are}
+use Rattle.booting.proofs.Laws.{AreFormed, FrameKept, ReadsObjects, are-formed, cnode-type, counts-are, frame-type, loaded-end, reads-objects, stand-apart}
 use Rattle.fitting.specs.Fitting.{FrameFits, IsFitting}
 use Rattle.fitting.proofs.ImageFits.{is-fitting}
-use Rattle.kept_threads.proofs.FramePlaces.{frame-aligned}
+use Rattle.kept_threads.proofs.Laws.{frame-aligned}
 use Rattle.model.specs.Acceptance.Accepted.{IsWellFormed}
 use Rattle.model.specs.Acceptance.NotedStates.{is_own_cnode}
 use Rattle.model.specs.Acceptance.ThreadInvariants.{IsCode}
@@ -24,37 +19,13 @@ use Rattle.model.specs.Capabilities.CapabilityKinds.{names_object}
 use Rattle.model.specs.Images.Described.{described, listed_thread}
 use Rattle.model.specs.Images.Image.{Image, Thread, whole_image}
 use Rattle.model.specs.Images.Places.{offset_of, type_at}
-use Rattle.model.specs.Kernel.Retype.{NewObject, NewUntyped, NewThread, NewEndpoint, NewNotification, NewCNode, NewFrame, NewPageTable, NewRootTable, object}
+use Rattle.model.specs.Kernel.Retype.{NewObject, NewCNode, NewFrame, object}
 use Rattle.model.specs.Kernel.State.{State, Object, ThreadObject, CNodeObject, FrameObject}
 use Rattle.thread_spaces.specs.Given.{IsListed}
-use Rattle.thread_spaces.proofs.DescribedSlots.{all-within}
-use Rattle.thread_spaces.proofs.OriginalNames.{object-held}
-use Rattle.thread_spaces.proofs.OwnPlaces.{own-cnode}
+use Rattle.thread_spaces.proofs.Laws.{all-within, object-held, own-cnode}
 use Rattle.typestate.specs.Spaces.{HeldInBoot}
 
 -- ---- types
-
-radix-type : (kind : Option NewObject) (radix : ℕ) → radix_of kind ≡ Some radix → kind ≡ Some (NewCNode radix)
-radix-type None radix is = absurd cc
-radix-type (Some (NewUntyped bits)) radix is = absurd cc
-radix-type (Some NewThread) radix is = absurd cc
-radix-type (Some NewEndpoint) radix is = absurd cc
-radix-type (Some NewNotification) radix is = absurd cc
-radix-type (Some (NewCNode r)) radix is = ap (λ (n : Option ℕ). option_map_or (λ m. Some (NewCNode m)) n None) is
-radix-type (Some NewFrame) radix is = absurd cc
-radix-type (Some NewPageTable) radix is = absurd cc
-radix-type (Some NewRootTable) radix is = absurd cc
-
-frame-typed : (kind : Option NewObject) → is_frame_type kind ≡ true → kind ≡ Some NewFrame
-frame-typed None is = absurd (false≢true is)
-frame-typed (Some (NewUntyped bits)) is = absurd (false≢true is)
-frame-typed (Some NewThread) is = absurd (false≢true is)
-frame-typed (Some NewEndpoint) is = absurd (false≢true is)
-frame-typed (Some NewNotification) is = absurd (false≢true is)
-frame-typed (Some (NewCNode radix)) is = absurd (false≢true is)
-frame-typed (Some NewFrame) is = refl
-frame-typed (Some NewPageTable) is = absurd (false≢true is)
-frame-typed (Some NewRootTable) is = absurd (false≢true is)
 
 module _ (image : Image) (fits : whole_image.fits image ≡ true) (well : IsWellFormed image) where
   -- ---- an object that is no untyped memory
@@ -93,7 +64,7 @@ module _ (image : Image) (fits : whole_image.fits image ≡ true) (well : IsWell
     pub code-held : HeldInBoot image (names_object frame)
     code-held =
         subst (λ (n : ℕ). HeldInBoot image (names_object n)) (sym code.place)
-        (typed-held number NewFrame FrameObject is-there (frame-typed (type_at image number) is-frame) refl refl)
+        (typed-held number NewFrame FrameObject is-there (frame-type (type_at image number) is-frame) refl refl)
 
     pub code-aligned : frame % 4096 ≡ 0
     code-aligned = ap (λ (n : ℕ). n % 4096) code.place ∙ frame-aligned image number (is-fitting image fits) (stand-apart image fits well) well is-there is-frame
@@ -104,7 +75,7 @@ module _ (image : Image) (fits : whole_image.fits image ≡ true) (well : IsWell
     member-held : (cnode : ℕ) → is_member cnode (reached image t) ≡ true → HeldInBoot image (names_object (offset_of image cnode))
     member-held cnode member =
         let is = own-cnode image t (is-fitting image fits) (are-formed image well) listed cnode member in
-        typed-held cnode (NewCNode is.radix) (CNodeObject is.radix) is.inside (radix-type (type_at image cnode) is.radix is.is) refl refl
+        typed-held cnode (NewCNode is.radix) (CNodeObject is.radix) is.inside (cnode-type (type_at image cnode) is.radix is.is) refl refl
 
     pub cnode-held : (offset radix : ℕ) → is_own_cnode image (reached image t) offset radix ≡ true → HeldInBoot image (names_object offset)
     cnode-held offset radix own =

@@ -16,7 +16,7 @@ use Rattle.model.specs.Images.Image.{Image}
 use Rattle.model.specs.Images.Places.{interrupt_of, is_handler, offset_of, type_at}
 use Rattle.model.specs.Kernel.AddressSpaces.{page_size, region_pages}
 use Rattle.model.specs.Kernel.Retype.{NewObject, NewUntyped, NewThread, NewEndpoint, NewNotification, NewCNode, NewFrame, NewPageTable, NewRootTable, first_capability}
-use Rattle.thread_spaces.proofs.EachHolding.{OfSections, each-slot, each-two}
+use Rattle.thread_spaces.proofs.Laws.{OfSections, each-slot, each-two}
 
 -- how much of untyped memory is used
 abbrev pub marked : Cap → ℕ

@@ -1,10 +1,8 @@
 -- Mappings behind a call that changes slots of one thread: under its root table those of the image and of its noted slots, under others what was mapped before.
-use Rattle.std.proofs.Common.{ℕ, ◌≡◌, ◌∙◌, ◌⊎◌, inl, inr, Option, Some, List, refl, sym, ap, subst, arith}
+use Rattle.std.proofs.Common.{ℕ, ◌≡◌, ◌∙◌, ◌⊎◌, inl, inr, Some, List, refl, sym, ap, subst, arith}
 use Rattle.std.specs.Prelude.{Contains}
-use Rattle.std.specs.Option.{option_map_or}
-use Rattle.model.specs.declared.capabilities.Cap.TheVariants.{Empty, Frame}
+use Rattle.model.specs.declared.capabilities.Cap.TheVariants.{Frame}
 use Rattle.model.specs.declared.rights.Rights.{Rights}
-use Rattle.model.specs.declared.slot_entries.Entry.{Entry}
 use Rattle.model.specs.Acceptance.Authority.{IsOwnSlot}
 use Rattle.model.specs.Acceptance.NotedKernel.{noted_after, slot_of_key}
 use Rattle.model.specs.Acceptance.NotedStates.{NotedSlot}
@@ -23,10 +21,8 @@ use Rattle.thread_invocations.proofs.BlockSlots.{own-or-other}
 use Rattle.thread_invocations.proofs.NotedHere.{full-noted, is-noted}
 use Rattle.thread_invocations.proofs.OtherMaps.{maps-in-boot}
 use Rattle.thread_invocations.proofs.OtherSlots.{boot-other}
-use Rattle.thread_facts.proofs.MappedPages.{page-there}
-
-pub same-capability : (slots others : Slots) (slot : ℕ) → others slot ≡ slots slot → capability_at others slot ≡ capability_at slots slot
-same-capability slots others slot same = ap (λ (o : Option Entry). option_map_or (λ (held : Entry). held.capability) o Empty) same
+use Rattle.thread_facts.proofs.Laws.{page-there}
+use Rattle.kept_threads.proofs.Laws.{same-capability}
 
 -- a slot maps this frame at this page under this root table
 record MapsAt (slots : Slots) (slot root page frame : ℕ) (allowed : Rights) : Type 0 where

@@ -2,7 +2,7 @@
 use Rattle.std.proofs.Common.{ℕ, zero, suc, ◌≡◌, ◌∙◌, ◌+◌, ◌^◌, ◌<◌, if◌then◌else◌, Option, Some, None, List, refl, sym, ap, subst, arith}
 use Rattle.std.specs.Prelude.{Contains}
 use Rattle.std.specs.Option.{option_map_or}
-use Rattle.booting.proofs.PlacesRules.{are-formed}
+use Rattle.booting.proofs.Laws.{are-formed}
 use Rattle.fitting.proofs.ImageFits.{is-fitting}
 use Rattle.thread_facts.specs.Hanging.{HangsAsListed}
 use Rattle.thread_facts.specs.Untouched.{IsUntouched}
@@ -17,13 +17,14 @@ use Rattle.model.specs.Capabilities.Slots.{Slots, depth_of, depth_within, parent
 use Rattle.model.specs.Images.Described.{Numbered, described, numbered_threads}
 use Rattle.model.specs.Images.Image.{Image}
 use Rattle.model.specs.Kernel.State.{State, cspace_slot, vspace_slot}
-use Rattle.thread_spaces.proofs.ParentsInBoot.{parent-in-boot}
+use Rattle.thread_spaces.proofs.Laws.{parent-in-boot}
 use Rattle.thread_invocations.specs.Changes.{ChangesOwn, IsOther}
 use Rattle.thread_invocations.specs.Mirrors.{Mirrors}
 use Rattle.thread_invocations.proofs.BlockSlots.{cspace-other, vspace-other}
-use Rattle.thread_invocations.proofs.ChangedMaps.{map-stays, map-was, same-capability}
+use Rattle.thread_invocations.proofs.ChangedMaps.{map-stays, map-was}
 use Rattle.thread_invocations.proofs.OtherSlots.{boot-other}
 use Rattle.thread_invocations.proofs.TwoThreads.{one-owner}
+use Rattle.kept_threads.proofs.Laws.{same-capability}
 
 same-parent : (slots others : Slots) (slot : ℕ) → others slot ≡ slots slot → parent_at others slot ≡ parent_at slots slot
 same-parent slots others slot same = ap (λ (o : Option Entry). option_map_or (λ (held : Entry). held.parent) o None) same

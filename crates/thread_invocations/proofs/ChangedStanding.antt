@@ -4,8 +4,7 @@ use Rattle.std.specs.Prelude.{Contains}
 use Rattle.std.proofs.lemmas.Option.{none-some}
 use Rattle.call_points.specs.Behind.{LeadsBehind}
 use Rattle.fitting.proofs.ImageFits.{is-fitting}
-use Rattle.kept_threads.proofs.KeptCode.{program-kept}
-use Rattle.kept_threads.proofs.ThreadsGiven.{IsGiven, given}
+use Rattle.kept_threads.proofs.Laws.{IsGiven, given, program-kept, same-capability}
 use Rattle.model.specs.declared.labels.Label.{Label}
 use Rattle.model.specs.Acceptance.CallRules.{AfterCall}
 use Rattle.model.specs.Acceptance.Measures.{measured}
@@ -23,17 +22,17 @@ use Rattle.model.specs.Kernel.Soundness.{IsSound}
 use Rattle.model.specs.Kernel.State.{State, Object, ThreadState, cspace_slot, vspace_slot}
 use Rattle.model.specs.Kernel.Waits.{open_count}
 use Rattle.model.specs.Machine.ProgramMemory.{RegisterFile}
-use Rattle.thread_lookups.proofs.ThreadKeys.{key-found}
+use Rattle.thread_lookups.proofs.Laws.{key-found}
 use Rattle.thread_moves.specs.Moving.{CallsAt, PassesWith}
-use Rattle.thread_moves.proofs.Passing.{next-address}
+use Rattle.thread_moves.proofs.Laws.{next-address}
 use Rattle.thread_steps.specs.Formed.{AreFormed}
 use Rattle.thread_invocations.specs.Answered.{DerivesFromSome}
 use Rattle.thread_invocations.specs.Changes.{ChangesOwn}
 use Rattle.thread_invocations.specs.Mirrors.{Mirrors}
 use Rattle.thread_invocations.proofs.BlockSlots.{cspace-other, vspace-other}
-use Rattle.thread_invocations.proofs.ChangedMaps.{code-mapped, maps-noted, same-capability}
+use Rattle.thread_invocations.proofs.ChangedMaps.{code-mapped, maps-noted}
 use Rattle.thread_invocations.proofs.NotedHere.{is-noted, noted-formed}
-use Rattle.thread_steps.proofs.Budgets.{within-still}
+use Rattle.thread_steps.proofs.Laws.{within-still}
 
 module _ (image : Image) (t : Numbered) (s after : State) (labels : List Label) (own : ThreadState) (point : ℕ) (state : PointState) (left : AfterCall)
     (m : Mirrors image t s state.slots) (c : ChangesOwn image t s after left.slots) (hung : DerivesFromSome image t after)

@@ -20,7 +20,7 @@ use Rattle.model.specs.Images.Image.{Image}
 use Rattle.model.specs.Kernel.Kinds.{Names, object_named}
 use Rattle.model.specs.Kernel.Retype.{NewFrame, NewObject, is_frame}
 use Rattle.model.specs.Kernel.State.{State, with_slots}
-use Rattle.thread_lookups.proofs.ThreadKeys.{key-found}
+use Rattle.thread_lookups.proofs.Laws.{key-found}
 use Rattle.thread_invocations.specs.Changes.{ChangesOwn, IsOther}
 use Rattle.thread_invocations.specs.Mirrors.{Mirrors}
 use Rattle.thread_invocations.proofs.Follows.{Follows, ParentFollows}

@@ -3,9 +3,7 @@ use Rattle.std.proofs.Common.{ℕ, ◌≡◌, ◌∙◌, ◌<◌, Option, Some, 
 use Rattle.std.specs.Prelude.{slice_get}
 use Rattle.std.specs.Option.{option_map_or}
 use Rattle.std.proofs.lemmas.Option.{slice_get-get_or}
-use Rattle.booting.proofs.PlacesRules.{are-formed}
-use Rattle.booting.proofs.PlacesSlots.{boot-slots-suffice}
-use Rattle.booting.proofs.Readings.{ReadsBoot}
+use Rattle.booting.proofs.Laws.{are-formed, boot-slots-suffice, ReadsBoot}
 use Rattle.fitting.specs.Fitting.{IsFitting}
 use Rattle.fitting.proofs.ImageFits.{is-fitting}
 use Rattle.model.specs.declared.capabilities.Cap.TheVariants.{Empty}
@@ -18,7 +16,7 @@ use Rattle.model.specs.Images.Places.{frame_copy_slot, offset_of}
 use Rattle.model.specs.Kernel.Kinds.{kind_at, object_named}
 use Rattle.model.specs.Kernel.Retype.{NewFrame}
 use Rattle.model.specs.Kernel.State.{State, boot_area_slots}
-use Rattle.thread_spaces.proofs.DescribedSlots.{boot-holds, from-loaded}
+use Rattle.thread_spaces.proofs.Laws.{boot-holds, from-loaded}
 use Rattle.thread_invocations.specs.Mirrors.{Mirrors}
 
 pub code-there : (image : Image) (t : Numbered) (s : State) (slots : List NotedSlot) (mirrors : Mirrors image t s slots) (frame : ℕ) → IsCode image frame

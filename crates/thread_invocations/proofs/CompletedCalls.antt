@@ -21,15 +21,14 @@ use Rattle.model.specs.Kernel.Steps.{SendCall, Calling, Sending, Trying, answere
 use Rattle.model.specs.Machine.Effects.{advanced}
 use Rattle.model.specs.Machine.ProgramMemory.{RegisterFile, write}
 use Rattle.thread_moves.specs.Moving.{CallsAt}
-use Rattle.thread_moves.proofs.Calling.{IsCounted, counted}
-use Rattle.thread_moves.proofs.Places.{passed, passed-there, went-here, went-there}
+use Rattle.thread_moves.proofs.Laws.{IsCounted, counted, passed, passed-there, went-here, went-there}
 use Rattle.thread_invocations.specs.Answered.{DerivesFromSome, IsAnswered}
 use Rattle.thread_invocations.specs.Changes.{ChangesOwn}
 use Rattle.thread_invocations.specs.Mirrors.{Mirrors}
 use Rattle.thread_invocations.proofs.AnsweredCalls.{completed-is}
 use Rattle.thread_invocations.proofs.ChangedThreads.{LawsOfCalls, stand-with}
 use Rattle.call_points.specs.Laws.{AreRegisters}
-use Rattle.thread_facts.proofs.ThreadObjects.{at-place}
+use Rattle.thread_facts.proofs.Laws.{at-place}
 
 module _ (laws : LawsOfCalls) (bytes : List ℕ) (image : Image) (t : Numbered) (s : State) (labels later : List Label) (own : ThreadState) (point : ℕ)
     (state : PointState) (left : AfterCall) (after : State) (accepted : IsAccepted bytes image) (all : AllStand image s labels) (listed : Contains (numbered_threads image) t)

@@ -15,7 +15,7 @@ use Rattle.model.specs.Images.Described.{Numbered}
 use Rattle.model.specs.Images.Image.{Image}
 use Rattle.model.specs.Kernel.Arguments.{◌>>=◌, check, may_have_child}
 use Rattle.model.specs.Kernel.State.{State, with_slots}
-use Rattle.booting.proofs.CallLookups.{goes, passes}
+use Rattle.booting.proofs.Laws.{goes, passes}
 use Rattle.soundness.proofs.Copies.{IsAlike, alike-both, copied-alike, copied-unmapped, copies-shared, is_single, payload-alike, payload-mapping}
 use Rattle.soundness.proofs.Lookups.{check-passes, passes-both}
 use Rattle.thread_lookups.specs.Found.{slots_noted}

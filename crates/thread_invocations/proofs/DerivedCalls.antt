@@ -35,8 +35,7 @@ use Rattle.model.specs.Kernel.State.{State, slot_of, with_slots}
 use Rattle.soundness.proofs.Lookups.{passes-both}
 use Rattle.soundness.proofs.Machines.{acknowledge-machine}
 use Rattle.thread_lookups.specs.Found.{slots_noted}
-use Rattle.thread_lookups.proofs.NotedLookups.{home-inside}
-use Rattle.thread_lookups.proofs.RootCNode.{root-own}
+use Rattle.thread_lookups.proofs.Laws.{home-inside, root-own}
 use Rattle.thread_invocations.specs.Answered.{DerivesFromSome}
 use Rattle.thread_invocations.specs.Mirrors.{Mirrors}
 use Rattle.thread_invocations.specs.Performed.{InvokesWell, MayInvoke}

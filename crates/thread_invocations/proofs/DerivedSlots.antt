@@ -7,7 +7,7 @@ use Rattle.model.specs.Images.Described.{Numbered}
 use Rattle.model.specs.Images.Image.{Image}
 use Rattle.model.specs.Kernel.State.{State}
 use Rattle.thread_lookups.specs.Found.{noted_parent}
-use Rattle.thread_lookups.proofs.NotedParents.{parent-noted}
+use Rattle.thread_lookups.proofs.Laws.{parent-noted}
 use Rattle.thread_invocations.specs.Answered.{DerivesFromSome}
 use Rattle.thread_invocations.specs.Mirrors.{Mirrors}
 use Rattle.thread_invocations.proofs.OtherSlots.{stands-somewhere}

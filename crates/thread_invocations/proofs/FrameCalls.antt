@@ -25,7 +25,7 @@ use Rattle.model.specs.Kernel.Arguments.{check, source_slot, wanted}
 use Rattle.model.specs.Kernel.Kinds.{object_named}
 use Rattle.model.specs.Kernel.MappingCalls.{is_mapped, root_named}
 use Rattle.model.specs.Kernel.State.{State, with_slots}
-use Rattle.booting.proofs.CallLookups.{goes, passes}
+use Rattle.booting.proofs.Laws.{goes, passes}
 use Rattle.soundness.proofs.Lookups.{check-passes, passes-both, wanted-some}
 use Rattle.typestate.proofs.HeldCaps.{root-near}
 use Rattle.thread_lookups.specs.Found.{slots_noted}
@@ -33,8 +33,9 @@ use Rattle.thread_invocations.specs.Changes.{ChangesOwn}
 use Rattle.thread_invocations.specs.Mirrors.{Mirrors}
 use Rattle.thread_invocations.specs.Performed.{InvokesWell, MayInvoke}
 use Rattle.thread_invocations.proofs.MappedTests.{page-free, region-too}
-use Rattle.thread_invocations.proofs.NamedSlots.{named-so, named-source, not-then, ok-same, root-inside, source-named}
+use Rattle.thread_invocations.proofs.NamedSlots.{named-so, named-source, ok-same, root-inside, source-named}
 use Rattle.thread_invocations.proofs.Recapping.{recapped-changes}
+use Rattle.thread_spaces.proofs.Laws.{negated}
 
 -- a root table among the thread's capabilities is its own
 own-table : (image : Image) (t : Thread) (c : Cap) (table : ℕ) → root_of c ≡ Some table → is_foreign image t (reached image t) c ≡ false
@@ -128,7 +129,7 @@ module _ (image : Image) (t : Numbered) (s : State) (slots : List NotedSlot) (m 
         let free : is_page_taken s table page ≡ false =
         ap (λ (n : ℕ). is_page_taken s n page) of.own
         ∙ page-free image t s slots m page
-        (ap (λ (n : ℕ). is_page_taken kernel n page) (sym of.own) ∙ not-then (is_page_taken kernel table page) (check-passes _ DeleteFirst f.value f.first)) in
+        (ap (λ (n : ℕ). is_page_taken kernel n page) (sym of.own) ∙ negated (is_page_taken kernel table page) (check-passes _ DeleteFirst f.value f.first)) in
         let mapping : FrameMapping = record { root = table; page = page; rights = given } in
         let new = with_frame_mapping capability (Some mapping) in
         let after = with_slots s (recapped s.slots slot new) in

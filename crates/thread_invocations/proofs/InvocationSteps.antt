@@ -31,9 +31,7 @@ use Rattle.model.specs.Kernel.Waits.{is_error, is_fault}
 use Rattle.model.specs.Machine.ProgramMemory.{RegisterFile, read}
 use Rattle.thread_moves.specs.Moving.{CallsAt}
 use Rattle.thread_moves.specs.Steps.{GoesWell, MakesCall}
-use Rattle.thread_moves.proofs.MessageSteps.{call-goes-well}
-use Rattle.thread_moves.proofs.NamedSlots.{named-here}
-use Rattle.thread_moves.proofs.ReceiveCalls.{IsFine}
+use Rattle.thread_moves.proofs.Laws.{call-goes-well, named-here, IsFine}
 use Rattle.thread_invocations.specs.Invoking.{Invokes}
 use Rattle.thread_invocations.specs.Laws.{Laws}
 use Rattle.thread_invocations.specs.Performed.{MayInvoke}
@@ -41,7 +39,7 @@ use Rattle.thread_invocations.proofs.DecodedCalls.{invokes-made, made-on}
 use Rattle.thread_invocations.proofs.PerformedCalls.{StandsBehind, stands-behind}
 use Rattle.thread_invocations.proofs.RuledCalls.{IsRuled, invocation-ruled, listed_words}
 use Rattle.typestate.specs.Calls.{call_on}
-use Rattle.thread_facts.proofs.ThreadObjects.{at-place}
+use Rattle.thread_facts.proofs.Laws.{at-place}
 
 -- ---- what is neither an endpoint nor a notification is invoked
 

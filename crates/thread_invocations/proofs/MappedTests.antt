@@ -24,10 +24,10 @@ use Rattle.typestate.proofs.HeldCaps.{none-among, some-taken}
 use Rattle.typestate.proofs.NamedKeys.{kept-rise, keys-rise}
 use Rattle.typestate.proofs.Rising.{RiseFrom}
 use Rattle.typestate.proofs.Standing.{noted-keeps}
-use Rattle.thread_spaces.proofs.ListedMappings.{mappings-listed}
+use Rattle.thread_spaces.proofs.Laws.{mappings-listed}
 use Rattle.thread_invocations.specs.Mirrors.{Mirrors}
 use Rattle.thread_invocations.proofs.TablesInBoot.{maps-in-boot}
-use Rattle.thread_facts.proofs.ListedThreads.{is-listed}
+use Rattle.thread_facts.proofs.Laws.{is-listed}
 
 -- ---- what capabilities map
 

@@ -18,9 +18,7 @@ use Rattle.model.specs.Kernel.State.{State}
 use Rattle.model.proofs.Depths.{depth-none, depth-some}
 use Rattle.thread_facts.specs.Hanging.{HangsAsListed}
 use Rattle.thread_lookups.specs.Found.{slots_noted}
-use Rattle.thread_lookups.proofs.NotedParents.{found-there}
-use Rattle.thread_lookups.proofs.OwnSlots.{entry-noted, slot-noted}
-use Rattle.thread_lookups.proofs.ThreadKeys.{HasKey, key-found}
+use Rattle.thread_lookups.proofs.Laws.{found-there, entry-noted, slot-noted, HasKey, key-found}
 use Rattle.typestate.specs.SlotChanges.{boot_depth, noted_depth}
 use Rattle.typestate.specs.Spaces.{AreOwn, StandsApart}
 use Rattle.typestate.proofs.KernelDepths.{depth-is}

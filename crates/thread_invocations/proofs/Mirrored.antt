@@ -9,12 +9,12 @@ use Rattle.model.specs.Acceptance.ThreadInvariants.{StandsAt}
 use Rattle.model.specs.Images.Described.{Numbered, numbered_threads}
 use Rattle.model.specs.Images.Image.{Image}
 use Rattle.model.specs.Kernel.State.{State, ThreadState}
-use Rattle.call_points.proofs.CallsBehind.{point-at}
+use Rattle.call_points.proofs.Laws.{point-at}
 use Rattle.thread_facts.specs.Standing.{AllStand}
-use Rattle.thread_facts.proofs.ListedThreads.{is-listed}
+use Rattle.thread_facts.proofs.Laws.{is-listed}
 use Rattle.thread_lookups.specs.Found.{slots_noted}
-use Rattle.thread_lookups.proofs.OwnSlots.{own-same}
-use Rattle.thread_spaces.proofs.StandingApart.{stands-apart}
+use Rattle.thread_lookups.proofs.Laws.{own-same}
+use Rattle.thread_spaces.proofs.Laws.{stands-apart}
 use Rattle.thread_steps.specs.Points.{IsPoint}
 use Rattle.typestate.specs.Spaces.{AreOwn, NothingLeadsOutside, StandsApart}
 use Rattle.thread_invocations.specs.Mirrors.{Mirrors}

@@ -1,6 +1,6 @@
 -- The slots that a call names, where the same are named in what is noted.
 use Rattle.std.proofs.Common.{ℕ, ◌≡◌, ◌∙◌, Bool, true, false, not, nat_lt, List, Result, Ok, refl, sym, ap}
-use Rattle.std.proofs.lemmas.Bool.{false≢true, not-false}
+use Rattle.std.proofs.lemmas.Bool.{not-false}
 use Rattle.model.specs.declared.capabilities.Cap.{Cap}
 use Rattle.model.specs.declared.capabilities.Cap.TheVariants.{CNode}
 use Rattle.model.specs.declared.errors.KError.{KError}
@@ -16,19 +16,16 @@ use Rattle.model.specs.Images.Described.{Numbered}
 use Rattle.model.specs.Images.Image.{Image}
 use Rattle.model.specs.Kernel.Arguments.{◌>>=◌, argument_slot, check, destination_slot, may_have_child, source_slot}
 use Rattle.model.specs.Kernel.State.{State}
-use Rattle.booting.proofs.CallLookups.{goes, passes}
+use Rattle.booting.proofs.Laws.{goes, passes}
 use Rattle.soundness.proofs.Lookups.{check-passes, passes-both}
 use Rattle.typestate.specs.Spaces.{is_inside}
-use Rattle.thread_lookups.proofs.RootCNode.{root-own}
+use Rattle.thread_lookups.proofs.Laws.{root-own}
 use Rattle.thread_lookups.specs.Found.{slots_noted}
 use Rattle.thread_invocations.specs.Mirrors.{Mirrors}
+use Rattle.thread_spaces.proofs.Laws.{negated}
 
 pub ok-same : {A : Type 0} (a b : A) → ◌≡◌ {A = Result A KError} (Ok a) (Ok b) → a ≡ b
 ok-same a b is = cc
-
-pub not-then : (b : Bool) → not b ≡ true → b ≡ false
-not-then true is = absurd (false≢true is)
-not-then false is = refl
 
 -- a slot of this name that is empty, or full
 pub record IsNamed (slots : Slots) (root : Cap) (name : SlotName) (full : Bool) (slot : ℕ) : Type 0 where
@@ -44,7 +41,7 @@ destination-named slots root name slot is =
     record {
       named = first.first ∙ ap (λ (x : ℕ). let r : Result ℕ KError = Ok x in r) same;
       holds = ap (is_full slots) (sym same)
-          ∙ not-then (is_full slots first.value) (check-passes (not (is_full slots first.value)) DeleteFirst second.value second.first);
+          ∙ negated (is_full slots first.value) (check-passes (not (is_full slots first.value)) DeleteFirst second.value second.first);
     }
 
 pub source-named : (slots : Slots) (root : Cap) (name : SlotName) (slot : ℕ) → source_slot slots root name ≡ Ok slot → IsNamed slots root name true slot

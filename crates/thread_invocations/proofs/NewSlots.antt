@@ -1,6 +1,6 @@
 -- The slots behind a Retype that opens none: those of the window hold the first capabilities below the pool, the pool has another
 -- watermark, and all others are as they were.
-use Rattle.std.proofs.Common.{get_or, ℕ, ◌≡◌, ◌∙◌, ◌==◌, ◌-◌, ◌<◌, ◌≤◌, inl, inr, true, false, if◌then◌else◌, Option, Some, map, refl, sym, ap, arith}
+use Rattle.std.proofs.Common.{get_or, ℕ, ◌≡◌, ◌∙◌, ◌==◌, ◌-◌, ◌<◌, ◌≤◌, inl, inr, true, false, if◌then◌else◌, Some, map, refl, sym, ap, arith}
 use Rattle.std.specs.List.{range_with_len}
 use Rattle.std.proofs.lemmas.Bool.{eq-eqb}
 use Rattle.std.proofs.lemmas.Bool.Decides.{eqb_tells, nat_tests}
@@ -11,9 +11,7 @@ use Rattle.model.specs.Capabilities.Slots.{Slots, empty_entry, is_within, parent
 use Rattle.model.specs.Kernel.Removal.{slot_count}
 use Rattle.model.specs.Kernel.Retype.{NewObjects, first_capability, object, place_of_new, with_first_capabilities, with_new_slots}
 use Rattle.model.specs.Kernel.State.{slot_of}
-
-abbrev entry : Cap → Option ℕ → Entry
-entry capability parent = record { capability = capability; parent = parent }
+use Rattle.booting.proofs.Laws.{entry}
 
 -- where a slot stands: in the window, as the pool, or elsewhere
 pub data Stands (window count pool x : ℕ) : Type 0 where

@@ -21,7 +21,7 @@ use Rattle.model.specs.Kernel.Scheduling.{wake}
 use Rattle.model.specs.Kernel.State.{State, Status, Inactive, Runnable, Blocked, AwaitsReply, AwaitsHandler, Object, ThreadObject, EndpointObject, NotificationObject, CNodeObject, FrameObject, PageTableObject, RootTableObject, ThreadState, as_thread, with_slots}
 use Rattle.model.specs.declared.capabilities.Cap.{Cap}
 use Rattle.model.specs.declared.capabilities.Cap.TheVariants.{Empty, Untyped, Endpoint, Notification, CNode, Frame, PageTable, Tcb, RootTable, InterruptControl, InterruptHandler}
-use Rattle.thread_moves.proofs.Waiters.{StandsWaiting, stands-waiting}
+use Rattle.thread_moves.proofs.Laws.{StandsWaiting, stands-waiting}
 use Rattle.thread_invocations.specs.Mirrors.{Mirrors}
 use Rattle.thread_invocations.specs.Running.{Runs}
 use Rattle.thread_invocations.proofs.RealRemoval.{closes-none, stays-named, wants-none}

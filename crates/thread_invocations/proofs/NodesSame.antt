@@ -20,8 +20,7 @@ use Rattle.model.specs.Kernel.State.{State, slot_of}
 use Rattle.soundness.proofs.Lookups.{passes-both, wanted-some}
 use Rattle.typestate.specs.Spaces.{is_among}
 use Rattle.thread_lookups.specs.Found.{slots_noted}
-use Rattle.thread_lookups.proofs.NotedLookups.{home-inside, slot-own}
-use Rattle.thread_lookups.proofs.RootCNode.{root-own}
+use Rattle.thread_lookups.proofs.Laws.{home-inside, slot-own, root-own}
 use Rattle.thread_invocations.specs.Mirrors.{Mirrors}
 
 -- ---- results and lists

@@ -10,8 +10,7 @@ use Rattle.model.specs.Acceptance.ThreadRules.{reached}
 use Rattle.model.specs.Capabilities.Slots.{Slots, capability_at, is_empty}
 use Rattle.model.specs.Images.Described.{Numbered}
 use Rattle.model.specs.Images.Image.{Image}
-use Rattle.kept_threads.proofs.EachOf.{Each, each-so, same-picked}
-use Rattle.kept_threads.proofs.OwnKeys.{IsOwnKey, noted-own}
+use Rattle.kept_threads.proofs.Laws.{Each, each-so, same-picked, IsOwnKey, noted-own}
 use Rattle.thread_invocations.specs.Mirrors.{key_above}
 
 -- every slot full

@@ -9,11 +9,10 @@ use Rattle.model.specs.Acceptance.ThreadRules.{reached}
 use Rattle.model.specs.Capabilities.Slots.{IsFull, Slots, capability_at, is_full}
 use Rattle.model.specs.Images.Described.{Numbered}
 use Rattle.model.specs.Images.Image.{Image}
-use Rattle.thread_spaces.proofs.BootParents.{find-passed}
-use Rattle.thread_lookups.proofs.OwnSlots.{slot-noted}
-use Rattle.thread_lookups.proofs.ThreadKeys.{key-found}
+use Rattle.thread_spaces.proofs.Laws.{find-passed}
+use Rattle.thread_lookups.proofs.Laws.{slot-noted, key-found}
 use Rattle.typestate.specs.Spaces.{StandsApart}
-use Rattle.kept_threads.proofs.EachOf.{each-contained, each-picked}
+use Rattle.kept_threads.proofs.Laws.{each-contained, each-picked}
 use Rattle.thread_invocations.specs.Mirrors.{key_above}
 use Rattle.thread_invocations.proofs.NotedSame.{own-keys}
 

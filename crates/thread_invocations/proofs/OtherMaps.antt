@@ -7,9 +7,7 @@ use Rattle.std.proofs.lemmas.Bool.{and_from, eq-eqb}
 use Rattle.std.proofs.lemmas.Option.{none-some, slice_get_within}
 use Rattle.fitting.specs.Fitting.{IsFitting}
 use Rattle.fitting.proofs.ImageFits.{is-fitting}
-use Rattle.booting.proofs.PlacesRules.{are-formed}
-use Rattle.booting.proofs.PlacesSlots.{boot-slots-suffice}
-use Rattle.booting.proofs.Readings.{ReadsBoot}
+use Rattle.booting.proofs.Laws.{are-formed, boot-slots-suffice, ReadsBoot}
 use Rattle.model.specs.declared.capabilities.Cap.{Cap}
 use Rattle.model.specs.declared.capabilities.Cap.TheVariants.{Empty, Untyped, Endpoint, Notification, CNode, Frame, PageTable, Tcb, RootTable, InterruptControl, InterruptHandler}
 use Rattle.model.specs.declared.capabilities.FrameMapping.{FrameMapping}
@@ -30,10 +28,9 @@ use Rattle.model.specs.Images.Places.{boot_slots, frame_copy_slot, offset_of}
 use Rattle.model.specs.Kernel.AddressSpaces.{Maps, maps_page, page_size}
 use Rattle.model.specs.Kernel.State.{State}
 use Rattle.thread_facts.specs.Standing.{AllStand}
-use Rattle.kept_threads.proofs.EachOf.{each-contained}
-use Rattle.kept_threads.proofs.OwnKeys.{IsOwnKey, noted-own}
-use Rattle.thread_spaces.proofs.DescribedSlots.{boot-holds, capability-shown, from-loaded}
-use Rattle.thread_starts.proofs.ListFacts.{contained}
+use Rattle.kept_threads.proofs.Laws.{each-contained, IsOwnKey, noted-own}
+use Rattle.thread_spaces.proofs.Laws.{boot-holds, capability-shown, from-loaded}
+use Rattle.thread_starts.proofs.Laws.{contained}
 use Rattle.thread_invocations.specs.Changes.{MapsNothingElse}
 use Rattle.thread_invocations.proofs.OwnNotes.{noted-holds}
 use Rattle.thread_invocations.proofs.OtherSlots.{StandsSomewhere, boot-kept, boot-other, stands-somewhere}

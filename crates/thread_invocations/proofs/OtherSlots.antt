@@ -16,9 +16,9 @@ use Rattle.model.specs.Images.Described.{Numbered, described, numbered_threads}
 use Rattle.model.specs.Images.Image.{Image, whole_image}
 use Rattle.model.specs.Kernel.State.{State, ThreadState, boot_area_slots}
 use Rattle.thread_facts.specs.Standing.{AllStand, IsApart}
-use Rattle.thread_facts.proofs.ListedThreads.{is-listed}
-use Rattle.thread_lookups.proofs.ThreadKeys.{key-found}
-use Rattle.thread_spaces.proofs.StandingApart.{stands-apart}
+use Rattle.thread_facts.proofs.Laws.{is-listed}
+use Rattle.thread_lookups.proofs.Laws.{key-found}
+use Rattle.thread_spaces.proofs.Laws.{stands-apart}
 use Rattle.typestate.specs.Spaces.{StandsApart}
 use Rattle.thread_invocations.specs.Changes.{DerivesNear, IsOther}
 use Rattle.thread_invocations.proofs.MirrorParents.{near-own}

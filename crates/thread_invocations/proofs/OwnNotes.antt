@@ -9,9 +9,8 @@ use Rattle.model.specs.Acceptance.NotedStates.{NotedSlot, SlotKey, is_own}
 use Rattle.model.specs.Acceptance.ThreadRules.{reached}
 use Rattle.model.specs.Capabilities.Slots.{Slots, capability_at, is_full, parent_at}
 use Rattle.model.specs.Images.Image.{Image, Thread}
-use Rattle.kept_threads.proofs.EachOf.{Each}
-use Rattle.kept_threads.proofs.OwnKeys.{member-passes}
-use Rattle.thread_spaces.proofs.OwnPlaces.{key-owned}
+use Rattle.kept_threads.proofs.Laws.{Each, member-passes}
+use Rattle.thread_spaces.proofs.Laws.{key-owned}
 use Rattle.typestate.specs.Spaces.{AreOwn, StandsApart, is_own_slot}
 use Rattle.typestate.proofs.NamedKeys.{EachKey, IsNamed, each-own, kept-rise, key-named, keys-rise}
 use Rattle.typestate.proofs.Rising.{RiseFrom}

@@ -3,9 +3,7 @@ use Rattle.std.proofs.Common.{ℕ, ◌≡◌, ◌∙◌, ◌==◌, ◌<◌, inl,
 use Rattle.std.specs.Prelude.{Contains, slice_get}
 use Rattle.std.specs.List.{list_any}
 use Rattle.std.proofs.lemmas.Bool.{cases_order, eq-eqb, false≢true, or_parts}
-use Rattle.booting.proofs.ReadingsRoom.{any-taken}
-use Rattle.booting.proofs.PlacesApart.{stand-apart}
-use Rattle.booting.proofs.PlacesRules.{AreFormed, ThreadKept, are-formed}
+use Rattle.booting.proofs.Laws.{any-taken, stand-apart, AreFormed, ThreadKept, are-formed}
 use Rattle.fitting.specs.Fitting.{IsFitting, ThreadFits}
 use Rattle.fitting.proofs.ImageFits.{is-fitting}
 use Rattle.model.specs.Acceptance.Accepted.{IsAccepted}
@@ -13,7 +11,7 @@ use Rattle.model.specs.Acceptance.ThreadInvariants.{root_table_of}
 use Rattle.model.specs.Acceptance.ThreadRules.{holds_other_root, shares_vspace}
 use Rattle.model.specs.Images.Described.{Numbered, numbered_threads}
 use Rattle.model.specs.Images.Image.{Image, Thread}
-use Rattle.kept_threads.proofs.OwnBlocks.{one-object, thread-entry}
+use Rattle.kept_threads.proofs.Laws.{one-object, thread-entry}
 
 -- an earlier thread has another root table
 not-earlier : (image : Image) (t u : Numbered) → slice_get image.threads t.number ≡ Some t.thread → shares_vspace image u ≡ false

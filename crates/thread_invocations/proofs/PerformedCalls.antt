@@ -29,7 +29,7 @@ use Rattle.model.specs.Kernel.State.{State, Runnable, ThreadState}
 use Rattle.model.specs.Kernel.Steps.{SendCall, Calling, Sending, Trying, completed, memory_base}
 use Rattle.soundness.proofs.Machines.{acknowledge-machine}
 use Rattle.thread_moves.specs.Moving.{CallsAt}
-use Rattle.thread_moves.proofs.LeftAlone.{one-thread}
+use Rattle.thread_moves.proofs.Laws.{one-thread}
 use Rattle.thread_invocations.specs.Changes.{ChangesOwn}
 use Rattle.thread_invocations.specs.Laws.{Laws}
 use Rattle.thread_invocations.specs.Mirrors.{Mirrors}

@@ -23,7 +23,7 @@ use Rattle.thread_invocations.proofs.ParentsAway.{and-none}
 use Rattle.thread_invocations.proofs.BootNames.{cnode-held}
 use Rattle.thread_invocations.proofs.OwnHeld.{OwnHeld, count-by-kind, own-held, slots_of_kind}
 use Rattle.thread_invocations.proofs.RemovalSides.{IsSide, else-of, may-remove, own_set}
-use Rattle.thread_facts.proofs.ListedThreads.{is-listed}
+use Rattle.thread_facts.proofs.Laws.{is-listed}
 
 -- the state without its objects, for what only slots say
 abbrev bare : State → State

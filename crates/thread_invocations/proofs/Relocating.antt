@@ -16,7 +16,7 @@ use Rattle.model.specs.Kernel.State.{State, with_slots}
 use Rattle.removals.proofs.Found.{bool-iff}
 use Rattle.thread_lookups.specs.Found.{slots_noted}
 use Rattle.typestate.proofs.NamedKeys.{IsNamed, key-named}
-use Rattle.thread_lookups.proofs.ThreadKeys.{key-found}
+use Rattle.thread_lookups.proofs.Laws.{key-found}
 use Rattle.thread_invocations.specs.Changes.{ChangesOwn, IsOther}
 use Rattle.thread_invocations.specs.Mirrors.{Mirrors}
 use Rattle.thread_invocations.proofs.Changing.{changes}

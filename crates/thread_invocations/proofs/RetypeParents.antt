@@ -10,7 +10,7 @@ use Rattle.model.specs.Images.Described.{Numbered}
 use Rattle.model.specs.Images.Image.{Image}
 use Rattle.model.specs.Kernel.Retype.{place_of_new}
 use Rattle.model.specs.Kernel.State.{State}
-use Rattle.thread_lookups.proofs.ThreadKeys.{key-found}
+use Rattle.thread_lookups.proofs.Laws.{key-found}
 use Rattle.thread_invocations.specs.Changes.{IsOther}
 use Rattle.thread_invocations.specs.Mirrors.{Mirrors}
 use Rattle.thread_invocations.proofs.DepthsKept.{depth-kept}

@@ -1,26 +1,17 @@
 -- A page table that an image lists for a thread is mapped by a capability in the boot CNode.
-use Rattle.std.proofs.Common.{ℕ, zero, suc, ◌≡◌, ◌∙◌, ◌==◌, ◌/◌, ◌^◌, ◌<◌, ◌&&◌, Bool, true, false, if◌then◌else◌, take, find, Option, Some, List, [], ◌∷◌, refl, ap, arith}
+use Rattle.std.proofs.Common.{ℕ, ◌≡◌, ◌∙◌, ◌==◌, ◌/◌, ◌^◌, ◌<◌, ◌&&◌, true, false, take, find, Some, refl, ap, arith}
 use Rattle.std.specs.Prelude.{slice_get}
 use Rattle.std.specs.List.{list_any}
-use Rattle.std.specs.Option.{option_map_or}
-use Rattle.std.proofs.lemmas.Bool.{and_from, and_parts, eq-eqb, eqb-true, or_parts}
+use Rattle.std.proofs.lemmas.Bool.{and_from, and_parts, eq-eqb, eqb-true}
 use Rattle.std.proofs.lemmas.List.Folds.{Any-from_list_any}
-use Rattle.std.proofs.lemmas.Option.{none-some, slice_get-get_or}
+use Rattle.std.proofs.lemmas.Option.{slice_get-get_or}
 use Rattle.booting.specs.Loading.{all_loaded, is_moved, original_so_far}
-use Rattle.booting.proofs.CallOriginals.{table-type}
-use Rattle.booting.proofs.PlacesRules.{AreFormed, TableKept, are-formed}
-use Rattle.booting.proofs.PlacesSlots.{boot-slots-suffice}
-use Rattle.booting.proofs.Readings.{ReadsBoot}
-use Rattle.booting.proofs.ReadingsTypes.{original-untyped}
-use Rattle.booting.proofs.RunEnd.{CountsAreLengths}
-use Rattle.booting.proofs.WholeFits.{counts-are}
+use Rattle.booting.proofs.Laws.{AreFormed, CountsAreLengths, ReadsBoot, TableKept, are-formed, boot-slots-suffice, counts-are, first_of_type, mapped_by, original-untyped, table-type}
 use Rattle.fitting.specs.Fitting.{IsFitting, TableFits}
 use Rattle.fitting.proofs.ImageFits.{is-fitting}
-use Rattle.model.specs.declared.capabilities.Cap.{Cap}
 use Rattle.model.specs.declared.entries.TableEntry.{TableEntry}
 use Rattle.model.specs.Acceptance.Accepted.{IsWellFormed}
 use Rattle.model.specs.Acceptance.WellFormed.{is_untyped_type}
-use Rattle.model.specs.Capabilities.CapabilityKinds.{with_table_mapping}
 use Rattle.model.specs.Capabilities.Slots.{capability_at}
 use Rattle.model.specs.Images.Described.{described}
 use Rattle.model.specs.Images.Image.{Image, Thread, whole_image}
@@ -28,24 +19,7 @@ use Rattle.model.specs.Images.Places.{offset_of, original_slot, type_at}
 use Rattle.model.specs.Kernel.AddressSpaces.{maps_region, page_size, region_pages}
 use Rattle.model.specs.Kernel.Retype.{NewPageTable}
 use Rattle.typestate.specs.Mappings.{lists_region}
-use Rattle.thread_spaces.proofs.DescribedSlots.{boot-holds, capability-shown, from-loaded}
-use Rattle.thread_spaces.proofs.ListedCapabilities.{first_of_type}
-
--- the first that passes is found
-found-first : {A : Type 0} (test : A → Bool) (xs : List A) (k : ℕ) (x : A) → slice_get xs k ≡ Some x
-    → list_any test (take k xs) ≡ false → test x ≡ true → find test xs ≡ Some x
-found-first test [] k x at none is = absurd (none-some x at)
-found-first test (y ∷ ys) zero x at none is =
-    let same : y ≡ x = cc in
-    ap (λ b. if b then Some y else find test ys) (ap test same ∙ is) ∙ at
-found-first test (y ∷ ys) (suc k) x at none is =
-    let parts = or_parts (test y) (list_any test (take k ys)) none in
-    ap (λ b. if b then Some y else find test ys) parts.0 ∙ found-first test ys k x at parts.1 is
-
--- what an entry maps
-abbrev mapped_by : Image → Option TableEntry → Cap → Cap
-mapped_by image found c =
-    option_map_or (λ e. with_table_mapping c (Some (record { root = offset_of image e.root; region = e.address / page_size / region_pages }))) found c
+use Rattle.thread_spaces.proofs.Laws.{boot-holds, capability-shown, find-at, from-loaded}
 
 pub record MapsInBoot (image : Image) (t : Thread) (region : ℕ) : Type 0 where
   pub slot : ℕ
@@ -66,7 +40,7 @@ module _ (image : Image) (t : Thread) (fits : whole_image.fits image ≡ true) (
       let plain : is_untyped_type (type_at image number) ≡ false = ap is_untyped_type kind in
       let all : take image.header.tables image.tables ≡ image.tables = CountsAreLengths.tables (counts-are image (is-fitting image fits)) in
       let mapped : find (λ o. o.table == number) (take image.header.tables image.tables) ≡ Some e =
-      ap (find (λ o. o.table == number)) all ∙ found-first (λ o. o.table == number) image.tables k e at (TableKept.once kept) (eq-eqb number number refl) in
+      ap (find (λ o. o.table == number)) all ∙ find-at (λ o. o.table == number) image.tables k e at (TableKept.once kept) (eq-eqb number number refl) in
       let slot = original_slot image number in
       let enough = boot-slots-suffice image (is-fitting image fits) (are-formed image well) in
       let boot : slot < 2 ^ image.header.boot_radix = omega (arith, less, enough) in

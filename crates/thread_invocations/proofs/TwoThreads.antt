@@ -5,8 +5,7 @@ use Rattle.std.specs.List.{list_any}
 use Rattle.std.proofs.lemmas.Bool.{and_parts, cases_order, false≢true}
 use Rattle.std.proofs.lemmas.Option.{none-some, same_Some}
 use Rattle.fitting.proofs.ImageFits.{is-fitting}
-use Rattle.booting.proofs.PlacesRules.{AreFormed, ThreadKept, are-formed}
-use Rattle.booting.proofs.PlacesSlots.{cnode-slot, slot-of-one}
+use Rattle.booting.proofs.Laws.{AreFormed, ThreadKept, are-formed, cnode-slot, slot-of-one}
 use Rattle.model.specs.Acceptance.Accepted.{IsWellFormed}
 use Rattle.model.specs.Acceptance.Authority.{IsOwnSlot}
 use Rattle.model.specs.Acceptance.ThreadRules.{is_member, reached, shares_cspace}
@@ -15,13 +14,11 @@ use Rattle.model.specs.Acceptance.WellFormed.{has_slot}
 use Rattle.model.specs.Images.Described.{Numbered, is_object_slot, numbered_threads}
 use Rattle.model.specs.Images.Image.{Image, whole_image}
 use Rattle.thread_facts.specs.Standing.{IsApart}
-use Rattle.thread_facts.proofs.ListedThreads.{is-listed}
-use Rattle.kept_threads.proofs.OwnBlocks.{thread-entry}
-use Rattle.kept_threads.proofs.OwnKeys.{member-passes}
-use Rattle.thread_lookups.proofs.ThreadKeys.{key-found}
-use Rattle.thread_spaces.proofs.StandingApart.{stands-apart}
-use Rattle.thread_starts.proofs.LastFills.{any-flat}
-use Rattle.thread_starts.proofs.ListFacts.{contained, contains, none-at}
+use Rattle.thread_facts.proofs.Laws.{is-listed}
+use Rattle.kept_threads.proofs.Laws.{thread-entry, member-passes}
+use Rattle.thread_lookups.proofs.Laws.{key-found}
+use Rattle.thread_spaces.proofs.Laws.{stands-apart}
+use Rattle.thread_starts.proofs.Laws.{any-flat, contained, contains, none-at}
 use Rattle.typestate.proofs.NamedKeys.{key-named}
 
 -- ---- lists

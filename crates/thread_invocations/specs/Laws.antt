@@ -1,15 +1,16 @@
--- The laws on single invocations, and on all threads behind one, each as its function's contract says it.
-use Rattle.std.specs.Prelude.{ℕ, ◌+◌, ◌++◌, List, [], ◌∷◌, Contains}
-use Rattle.thread_facts.specs.Standing.{AllStand}
+-- The laws of this crate: single invocations, all threads behind one, and whatever happens to an accepted image.
+use Rattle.std.specs.Prelude.{ℕ, ◌+◌, ◌++◌, List, [], ◌∷◌, Contains, ◌≡◌, Some}
+use Rattle.model.specs.declared.events.Event.TheVariants.{Step}
+use Rattle.model.specs.declared.events.Event.{Event}
 use Rattle.model.specs.declared.invocations.CNodeCall.TheVariants.{Copy, Mint, Move, Delete, Revoke}
 use Rattle.model.specs.declared.invocations.FrameCall.TheVariants.{MapFrame, UnmapFrame}
-use Rattle.model.specs.declared.invocations.Invocation.{Invocation}
 use Rattle.model.specs.declared.invocations.Invocation.TheVariants.{OnUntyped, OnCNode, OnFrame}
+use Rattle.model.specs.declared.invocations.Invocation.{Invocation}
 use Rattle.model.specs.declared.invocations.RetypeCall.{RetypeCall}
 use Rattle.model.specs.declared.invocations.SlotName.{SlotName}
 use Rattle.model.specs.declared.invocations.UntypedMemory.{UntypedMemory}
-use Rattle.model.specs.declared.labels.Label.{Label}
 use Rattle.model.specs.declared.labels.Label.TheVariants.{Ran}
+use Rattle.model.specs.declared.labels.Label.{Label}
 use Rattle.model.specs.declared.labels.Outcome.TheVariants.{Completed}
 use Rattle.model.specs.declared.rights.Rights.{Rights}
 use Rattle.model.specs.Acceptance.Accepted.{IsAccepted}
@@ -18,17 +19,21 @@ use Rattle.model.specs.Acceptance.NotedStates.{NotedSlot, PointState}
 use Rattle.model.specs.Acceptance.ThreadInvariants.{StandsAt, tcb_of}
 use Rattle.model.specs.Images.Described.{Numbered, numbered_threads}
 use Rattle.model.specs.Images.Image.{Image}
-use Rattle.model.specs.Kernel.Interrupts.{acknowledge}
+use Rattle.model.specs.Kernel.Scheduling.{current}
 use Rattle.model.specs.Kernel.Soundness.{IsSound}
 use Rattle.model.specs.Kernel.State.{State, ThreadState}
 use Rattle.model.specs.Kernel.Steps.{SendCall, completed, memory_base}
-use Rattle.thread_moves.specs.Laws.{Laws as LawsBelow}
-use Rattle.thread_moves.specs.Moving.{CallsAt}
+use Rattle.soundness.specs.Laws.{AcknowledgementKeepsSoundness}
+use Rattle.thread_facts.specs.Standing.{AllStand}
 use Rattle.thread_invocations.specs.Answered.{DerivesFromSome, IsAnswered}
 use Rattle.thread_invocations.specs.Changes.{ChangesOwn}
+use Rattle.thread_invocations.specs.Invoking.{Invokes}
 use Rattle.thread_invocations.specs.Mirrors.{Mirrors}
 use Rattle.thread_invocations.specs.Performed.{InvokesWell, MayInvoke}
 use Rattle.thread_invocations.specs.Running.{Runs}
+use Rattle.thread_moves.specs.Laws.{Laws as LawsBelow}
+use Rattle.thread_moves.specs.Moving.{CallsAt}
+use Rattle.thread_moves.specs.Steps.{GoesWell, MakesCall, HasGoneWell}
 
 -- before a call
 abbrev pub MirrorNoted : Type 0
@@ -102,9 +107,30 @@ StandBehindChanges =
     → DerivesFromSome image t after → IsAnswered kind state left → IsSound (completed after (tcb_of image t) kind)
     → AllStand image (completed after (tcb_of image t) kind) (labels ++ Ran (memory_base + tcb_of image t) own.registers.pc Completed ∷ [])
 
--- an interrupt line is acknowledged
-abbrev pub AcknowledgesSoundly : Type 0
-AcknowledgesSoundly = (s : State) (line : ℕ) → IsSound s → IsSound (acknowledge s line)
+-- before a call each full slot of the thread's derives from something
+abbrev pub OwnSlotsDeriveFromSome : Type 0
+OwnSlotsDeriveFromSome = (image : Image) (t : Numbered) (s : State) (slots : List NotedSlot) → Mirrors image t s slots → DerivesFromSome image t s
+
+-- ---- all threads, over steps and events
+
+-- steps that invoke a capability
+abbrev pub InvocationsGoWell : Type 0
+InvocationsGoWell =
+    (bytes : List ℕ) (image : Image) (t : Numbered) (s : State) (labels : List Label) → IsAccepted bytes image → AllStand image s labels
+    → Contains (numbered_threads image) t → current s ≡ Some (tcb_of image t) → MakesCall s (tcb_of image t) → Invokes s (tcb_of image t)
+    → GoesWell image s labels Step
+
+-- whoever runs and whatever it does
+abbrev pub AnyStepGoesWell : Type 0
+AnyStepGoesWell =
+    (bytes : List ℕ) (image : Image) (s : State) (labels : List Label) → IsAccepted bytes image → AllStand image s labels
+    → GoesWell image s labels Step
+
+-- whatever happens to an accepted image
+abbrev pub EventsHaveGoneWell : Type 0
+EventsHaveGoneWell = (bytes : List ℕ) (image : Image) (events : List Event) → IsAccepted bytes image → HasGoneWell image events
+
+-- ---- the laws that invocations stand on
 
 pub record Laws : Type 0 where
   pub below : LawsBelow
@@ -119,4 +145,4 @@ pub record Laws : Type 0 where
   pub unmaps : UnmapsGoWell
   pub derive : DeriveBehind
   pub behind : StandBehindChanges
-  pub acknowledges : AcknowledgesSoundly
+  pub acknowledges : AcknowledgementKeepsSoundness

@@ -1,13 +1,6 @@
 //! All threads, behind a call that changes slots of the thread that makes it.
 
-ghost use Rattle.std.specs.Prelude.{List};
-ghost use Rattle.model.specs.Acceptance.NotedStates.{NotedSlot};
-ghost use Rattle.model.specs.Images.Described.{Numbered};
-ghost use Rattle.model.specs.Images.Image.{Image};
-ghost use Rattle.model.specs.Kernel.State.{State};
-ghost use Rattle.thread_invocations.specs.Answered.{DerivesFromSome};
-ghost use Rattle.thread_invocations.specs.Mirrors.{Mirrors};
-ghost use Rattle.thread_invocations.specs.Laws.{StandBehindChanges};
+ghost use Rattle.thread_invocations.specs.Laws.{OwnSlotsDeriveFromSome, StandBehindChanges};
 
 use call_points::{calls_lead_behind, messages_fit_behind};
 use kept_threads::{
@@ -29,5 +22,5 @@ pub fn changed_slots_keep_all_standing()
 /// What is known before a call says that each full slot of the thread's derives from something; behind the call that has to be shown
 /// of what the call left.
 pub fn own_slots_derive_from_something()
-    ensures { (image : Image) (t : Numbered) (s : State) (slots : List NotedSlot) → Mirrors image t s slots → DerivesFromSome image t s }
+    ensures { OwnSlotsDeriveFromSome }
 {}

@@ -1,7 +1,8 @@
-pub mod ThreadKeys
-pub mod NotedAfter
-pub mod OwnSlots
-pub mod RootCNode
-pub mod TwoLookups
-pub mod NotedLookups
-pub mod NotedParents
+mod ThreadKeys
+mod NotedAfter
+mod OwnSlots
+mod RootCNode
+mod TwoLookups
+mod NotedLookups
+mod NotedParents
+pub mod Laws

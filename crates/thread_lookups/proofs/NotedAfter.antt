@@ -3,7 +3,7 @@ use Rattle.std.proofs.Common.{ℕ, ◌≡◌, ◌∙◌, ◌^◌, ◌<◌, ◌||
 use Rattle.std.specs.List.{cons_option, filter_map}
 use Rattle.std.proofs.lemmas.Bool.{eq-eqb, eqb-true}
 use Rattle.std.proofs.lemmas.Option.{none-some, same_Some}
-use Rattle.thread_facts.proofs.NotedKeys.{same-low-key}
+use Rattle.thread_facts.proofs.Laws.{same-low-key}
 use Rattle.model.specs.Acceptance.NotedKernel.{key_of, keys_of, noted_after, noted_of, slot_of_key}
 use Rattle.model.specs.Acceptance.NotedStates.{NotedSlot, SlotKey, is_same_key, number_of, slot_at}
 use Rattle.model.specs.Acceptance.ThreadRules.{reached}

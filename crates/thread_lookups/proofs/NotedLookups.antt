@@ -25,12 +25,13 @@ use Rattle.typestate.specs.Spaces.{StandsApart, is_among}
 use Rattle.thread_lookups.specs.Found.{FindsNoted, slots_noted}
 use Rattle.thread_lookups.proofs.OwnSlots.{capability_noted, capability-noted, own-same}
 use Rattle.thread_lookups.proofs.RootCNode.{root-own}
-use Rattle.thread_lookups.proofs.ThreadKeys.{key-found, or-second}
+use Rattle.thread_lookups.proofs.ThreadKeys.{key-found}
 use Rattle.thread_lookups.proofs.TwoLookups.{GoesSame, HoldsSame, found-own, goes-same}
+use Rattle.thread_spaces.proofs.Laws.{or-second}
 
 -- ---- the slots of an own CNode are own slots
 
-within-first : (first count index : ℕ) → index < count → is_within (first + 0) count (first + index) ≡ true
+pub within-first : (first count index : ℕ) → index < count → is_within (first + 0) count (first + index) ≡ true
 within-first first count index less = grind (arith, nat_tests)
 
 stands-there : (image : Image) (slot offset index radix cnode : ℕ) → slot ≡ offset / 16 + index → index < 2 ^ radix

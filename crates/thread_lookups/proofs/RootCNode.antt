@@ -1,28 +1,27 @@
 -- The root of the capability space of a thread of a well-formed image is one of the thread's CNodes.
-use Rattle.std.proofs.Common.{ℕ, zero, suc, ◌≡◌, ◌∙◌, ◌==◌, ◌/◌, ◌%◌, ◌&&◌, ◌||◌, Bool, true, false, not, nat_eq, nat_le, nat_lt, if◌then◌else◌, Option, Some, None, List, [], ◌∷◌, ◌++◌, length, refl, sym, ap}
-use Rattle.std.specs.Prelude.{Contains, fold}
+use Rattle.std.proofs.Common.{ℕ, ◌≡◌, ◌∙◌, ◌==◌, ◌%◌, ◌&&◌, ◌||◌, Bool, true, false, not, nat_le, nat_lt, Option, Some, None, refl, ap}
+use Rattle.std.specs.Prelude.{Contains}
 use Rattle.std.specs.Option.{option_map_or}
-use Rattle.std.specs.List.{find, list_all, list_any}
-use Rattle.std.proofs.lemmas.Bool.{eq-eqb, eqb-true, false≢true, not-false, or_parts}
-use Rattle.thread_facts.proofs.RulesKept.{not-bad}
-use Rattle.model.specs.declared.capabilities.Cap.{Cap}
+use Rattle.std.specs.List.{find, list_all}
+use Rattle.std.proofs.lemmas.Bool.{eq-eqb, false≢true, not-false, or_parts}
+use Rattle.thread_facts.proofs.Laws.{not-bad}
 use Rattle.model.specs.declared.capabilities.Cap.TheVariants.{Empty, CNode}
-use Rattle.model.specs.declared.entries.CapabilityEntry.{CapabilityEntry}
 use Rattle.model.specs.declared.entries.TableEntry.{TableEntry}
 use Rattle.model.specs.Acceptance.Accepted.{IsWellFormed}
 use Rattle.model.specs.Acceptance.NotedKernel.{noted_root}
 use Rattle.model.specs.Acceptance.NotedStates.{is_own_cnode}
-use Rattle.model.specs.Acceptance.ThreadRules.{has_guard, is_bad, is_cnode_source, is_code, is_in_use, is_member, program_end, reached, reached_within, with_named}
+use Rattle.model.specs.Acceptance.ThreadRules.{has_guard, is_bad, is_code, is_in_use, program_end, reached}
 use Rattle.model.specs.Acceptance.WellFormed.{is_root_type, is_thread_type, radix_of}
-use Rattle.model.specs.Capabilities.CapabilityKinds.{is_guard_word, with_payload, with_table_mapping}
+use Rattle.model.specs.Capabilities.CapabilityKinds.{is_guard_word, with_payload}
 use Rattle.model.specs.Images.Described.{Numbered, numbered_threads}
 use Rattle.model.specs.Images.Fills.{program_pages}
 use Rattle.model.specs.Images.Image.{Image, Thread}
 use Rattle.model.specs.Images.Places.{offset_of, type_at}
-use Rattle.model.specs.Kernel.AddressSpaces.{address_limit, page_size, region_pages}
+use Rattle.model.specs.Kernel.AddressSpaces.{address_limit, page_size}
 use Rattle.model.specs.Kernel.Retype.{NewObject, NewUntyped, NewThread, NewEndpoint, NewNotification, NewCNode, NewFrame, NewPageTable, NewRootTable, first_capability}
 use Rattle.typestate.specs.Spaces.{is_among}
-use Rattle.thread_lookups.proofs.ThreadKeys.{or-second}
+use Rattle.thread_spaces.proofs.Laws.{member-any, root-reached}
+use Rattle.booting.proofs.Laws.{mapped_by}
 
 -- ---- the rules on the thread are kept
 
@@ -59,13 +58,8 @@ has-radix (Some NewFrame) guard is = absurd (false≢true is)
 has-radix (Some NewPageTable) guard is = absurd (false≢true is)
 has-radix (Some NewRootTable) guard is = absurd (false≢true is)
 
--- nothing maps a CNode
-abbrev with_found : Image → Option TableEntry → Cap → Cap
-with_found image found capability =
-    option_map_or (λ t. with_table_mapping capability (Some (record { root = offset_of image t.root; region = t.address / page_size / region_pages }))) found capability
-
 unmapped-cnode : (image : Image) (found : Option TableEntry) (offset radix guard : ℕ)
-    → with_payload (with_found image found (first_capability (NewCNode radix) offset)) guard ≡ CNode offset radix guard
+    → with_payload (mapped_by image found (first_capability (NewCNode radix) offset)) guard ≡ CNode offset radix guard
 unmapped-cnode image None offset radix guard = refl
 unmapped-cnode image (Some t) offset radix guard = refl
 
@@ -74,47 +68,8 @@ root-is : (image : Image) (t : Thread) (radix : ℕ) → type_at image t.header.
 root-is image t radix is =
     let found = find (λ u. u.table == t.header.cnode) image.tables in
     let offset = offset_of image t.header.cnode in
-    ap (λ (kind : Option NewObject). with_payload (with_found image found (option_map_or (λ k. first_capability k offset) kind Empty)) t.header.guard) is
+    ap (λ (kind : Option NewObject). with_payload (mapped_by image found (option_map_or (λ k. first_capability k offset) kind Empty)) t.header.guard) is
     ∙ unmapped-cnode image found offset radix t.header.guard
-
--- ---- it is reached
-
-module _ (image : Image) (number : ℕ) where
-  stays-before : (found : List ℕ) (more : ℕ) → is_member number found ≡ true → is_member number (found ++ more ∷ []) ≡ true
-  stays-before [] more there = absurd (false≢true there)
-  stays-before (x ∷ rest) more there = elim (nat_eq number x) as (λ b. (b || is_member number rest) ≡ true → (b || is_member number (rest ++ more ∷ [])) ≡ true) [
-    | true ↦ λ _. refl
-    | false ↦ λ later. stays-before rest more later
-  ] there
-
-  stays-named : (found : List ℕ) (c : CapabilityEntry) → is_member number found ≡ true → is_member number (with_named image found c) ≡ true
-  stays-named found c there =
-      let more = is_member c.cnode found && is_cnode_source image c.source && not (is_member c.source found) in
-      elim more as (λ b. is_member number (if b then found ++ c.source ∷ [] else found) ≡ true) [
-        | true ↦ stays-before found c.source there
-        | false ↦ there
-      ]
-
-  stays-all : (capabilities : List CapabilityEntry) (found : List ℕ) → is_member number found ≡ true → is_member number (fold (with_named image) found capabilities) ≡ true
-  stays-all [] found there = there
-  stays-all (c ∷ rest) found there = stays-all rest (with_named image found c) (stays-named found c there)
-
-  stays-within : (rounds : ℕ) (found : List ℕ) → is_member number found ≡ true → is_member number (reached_within rounds image found) ≡ true
-  unfolding reached_within
-  stays-within zero found there = there
-  stays-within (suc rounds) found there = stays-within rounds (fold (with_named image) found image.capabilities) (stays-all image.capabilities found there)
-
-root-reached : (image : Image) (t : Thread) → is_member t.header.cnode (reached image t) ≡ true
-unfolding reached
-root-reached image t =
-    stays-within image t.header.cnode (length image.capabilities) (t.header.cnode ∷ []) (ap (λ b. b || false) (eq-eqb t.header.cnode t.header.cnode refl))
-
-any-member : (test : ℕ → Bool) (numbers : List ℕ) (number : ℕ) → is_member number numbers ≡ true → test number ≡ true → list_any test numbers ≡ true
-any-member test [] number there is = absurd (false≢true there)
-any-member test (x ∷ rest) number there is = elim (nat_eq number x) as (λ b. nat_eq number x ≡ b → (b || is_member number rest) ≡ true → (test x || list_any test rest) ≡ true) [
-  | true ↦ λ same _. ap (λ b. b || list_any test rest) (ap test (sym (eqb-true number x same)) ∙ is)
-  | false ↦ λ _ later. or-second (test x) (list_any test rest) (any-member test rest number later is)
-] refl there
 
 -- ---- together
 
@@ -129,4 +84,4 @@ root-own image t formed listed =
     ap (λ b. b && option_map_or (λ own. own == of.radix) (radix_of (type_at image cnode)) false) (eq-eqb offset offset refl)
     ∙ ap (λ (kind : Option NewObject). option_map_or (λ own. own == of.radix) (radix_of kind) false) of.is ∙ eq-eqb of.radix of.radix refl in
     ap (is_among (is_own_cnode image (reached image t.thread))) (root-is image t.thread of.radix of.is)
-    ∙ any-member is_it (reached image t.thread) cnode (root-reached image t.thread) passes
+    ∙ member-any is_it (reached image t.thread) cnode (root-reached image t.thread) passes

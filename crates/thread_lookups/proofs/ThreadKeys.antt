@@ -11,10 +11,7 @@ use Rattle.model.specs.Images.Image.{Image, Thread}
 use Rattle.model.specs.Images.Places.{cnode_slot, offset_of}
 use Rattle.typestate.specs.Spaces.{StandsApart}
 use Rattle.typestate.proofs.NamedKeys.{is_among}
-
-pub or-second : (a b : Bool) → b ≡ true → (a || b) ≡ true
-or-second true b is = refl
-or-second false b is = is
+use Rattle.thread_spaces.proofs.Laws.{or-second}
 
 -- ---- what is found in a list of numbers
 

@@ -1,26 +1,27 @@
-pub mod Asked
-pub mod Calling
-pub mod Interrupts
-pub mod LeftAlone
-pub mod MessageCalls
-pub mod MessageSteps
-pub mod NamedSlots
-pub mod NotificationCalls
-pub mod Pairs
-pub mod Passing
-pub mod Places
-pub mod PlainSteps
-pub mod Puts
-pub mod Queued
-pub mod Runs
-pub mod ReceiveCalls
-pub mod Receives
-pub mod Replies
-pub mod SendCalls
-pub mod Sends
-pub mod Signals
-pub mod SimpleCalls
-pub mod Standing
-pub mod Ticks
-pub mod Waiters
-pub mod Woken
+mod Asked
+mod Calling
+mod Interrupts
+mod LeftAlone
+mod MessageCalls
+mod MessageSteps
+mod NamedSlots
+mod NotificationCalls
+mod Pairs
+mod Passing
+mod Places
+mod PlainSteps
+mod Puts
+mod Queued
+mod Runs
+mod ReceiveCalls
+mod Receives
+mod Replies
+mod SendCalls
+mod Sends
+mod Signals
+mod SimpleCalls
+mod Standing
+mod Ticks
+mod Waiters
+mod Woken
+pub mod Laws

@@ -3,7 +3,7 @@ use Rattle.std.proofs.Common.{ℕ, ◌≡◌, ◌∙◌, ◌^◌, ◌<◌, inl, 
 use Rattle.std.specs.Prelude.{Contains}
 use Rattle.thread_facts.specs.Standing.{AllStand}
 use Rattle.thread_facts.specs.Waiting.{NamesQueue}
-use Rattle.thread_facts.proofs.ThreadObjects.{at-place}
+use Rattle.thread_facts.proofs.Laws.{at-place}
 use Rattle.model.specs.declared.capabilities.Cap.{Cap}
 use Rattle.model.specs.declared.capabilities.Cap.TheVariants.{Endpoint, Notification}
 use Rattle.model.specs.declared.labels.Label.{Label}

@@ -15,7 +15,7 @@ use Rattle.model.specs.Kernel.State.{State, ThreadObject, ThreadState}
 use Rattle.model.specs.Kernel.Waits.{open_count}
 use Rattle.model.specs.Machine.ProgramMemory.{RegisterFile}
 use Rattle.thread_facts.specs.Laws.{Ends}
-use Rattle.thread_steps.proofs.Budgets.{within-still}
+use Rattle.thread_steps.proofs.Laws.{within-still}
 use Rattle.call_points.specs.Laws.{LeadsOn}
 use Rattle.kept_threads.specs.Laws.{StandsOn}
 use Rattle.thread_moves.specs.Moving.{IsLeftAlone, PassesWith}

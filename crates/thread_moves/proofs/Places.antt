@@ -1,7 +1,7 @@
 -- What stands where a thread passes, wakes or blocks.
 use Rattle.std.proofs.Common.{ℕ, ◌≡◌, ◌≢◌, ◌∙◌, Option, Some, refl, ap}
 use Rattle.std.specs.Option.{option_map_or}
-use Rattle.thread_facts.proofs.ThreadObjects.{at-place}
+use Rattle.thread_facts.proofs.Laws.{at-place}
 use Rattle.model.specs.Kernel.Messages.{Message, deliver, delivered, passes, passes_with, with_caller, with_registers}
 use Rattle.model.specs.Kernel.Scheduling.{block, full_slice, wake}
 use Rattle.model.specs.Kernel.State.{State, Status, Runnable, Object, ThreadObject, EndpointObject, EndpointState, ThreadState, as_endpoint, as_thread, endpoint_at, new_endpoint, new_thread, thread_at, with_endpoint, with_thread}

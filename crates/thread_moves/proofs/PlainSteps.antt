@@ -1,5 +1,5 @@
 -- A step that makes no system call goes well: it is the effect of one instruction, which touches no other thread.
-use Rattle.std.proofs.Common.{ℕ, ◌≡◌, ◌≢◌, ◌∙◌, ◌==◌, ◌+◌, ◌-◌, ◌%◌, ◌++◌, ◌⊎◌, inl, inr, Bool, true, false, if◌then◌else◌, Option, Some, None, Result, Ok, Err, List, [], ◌∷◌, refl, sym, ap, subst}
+use Rattle.std.proofs.Common.{ℕ, ◌≡◌, ◌∙◌, ◌==◌, ◌+◌, ◌-◌, ◌%◌, ◌++◌, ◌⊎◌, inl, inr, Bool, true, false, if◌then◌else◌, Option, Some, None, Result, Ok, Err, List, [], ◌∷◌, refl, sym, ap, subst}
 use Rattle.std.specs.Prelude.{Contains, slice_index}
 use Rattle.std.specs.Option.{option_map_or}
 use Rattle.std.proofs.lemmas.Bool.{eqb-true, eqb-false}
@@ -7,15 +7,15 @@ use Rattle.soundness.proofs.Running.{current-runs}
 use Rattle.thread_facts.specs.Standing.{AllStand, IsControlBlock}
 use Rattle.thread_facts.specs.Untouched.{IsUntouched}
 use Rattle.thread_facts.specs.Waiting.{WaitsAsAsked}
-use Rattle.kept_threads.proofs.HangsKept.{hangs-kept}
+use Rattle.kept_threads.proofs.Laws.{hangs-kept}
 use Rattle.model.specs.declared.events.Event.TheVariants.{Step}
-use Rattle.model.specs.declared.instructions.Access.TheVariants.{Fetch, Load as Loading, Store as Storing}
+use Rattle.model.specs.declared.instructions.Access.TheVariants.{Fetch, Load as Loading}
 use Rattle.model.specs.declared.instructions.AccessSize.TheVariants.{Word}
 use Rattle.model.specs.declared.instructions.Cause.{Cause}
 use Rattle.model.specs.declared.instructions.Cause.TheVariants.{Illegal, Misaligned}
 use Rattle.model.specs.declared.instructions.Exec.{Exec}
 use Rattle.model.specs.declared.instructions.Exec.TheVariants as outcomes
-use Rattle.thread_facts.proofs.ThreadObjects.{at-place}
+use Rattle.thread_facts.proofs.Laws.{at-place}
 use Rattle.model.specs.declared.instructions.Instr.{Instr}
 use Rattle.model.specs.declared.instructions.Instr.TheVariants.{Upper, Jal, Jalr, Branch, Load, Store, Immediate, Shift, Registers, Fence, Ecall, Ebreak}
 use Rattle.model.specs.declared.instructions.LoadOp.{LoadOp}
@@ -48,26 +48,9 @@ use Rattle.thread_moves.proofs.LeftAlone.{stands-alone}
 use Rattle.thread_moves.proofs.Puts.{put-here, put-there}
 use Rattle.thread_moves.proofs.Ticks.{one-event}
 use Rattle.thread_moves.proofs.Woken.{no-runner, runs-free, runs-status}
+use Rattle.thread_steps.specs.Laws.{PlainStepsKeepThreads, WritesWhereStoresMay}
 use Rattle.thread_steps.specs.Points.{ReachesNoCall}
-
--- ---- the laws on one instruction, as their functions' contracts say them
-
-abbrev pub PlainKeeps : Type 0
-PlainKeeps = (bytes : List ℕ) (image : Image) (t : Numbered) (s : State) (labels : List Label) → IsAccepted bytes image → Contains (numbered_threads image) t
-    → IsSound s → ThreadInvariant image t s labels → current s ≡ Some (tcb_of image t) → ReachesNoCall s (tcb_of image t)
-    → (is_fault (step s Step).1 ≡ false) × ThreadInvariant image t (step s Step).0 (labels ++ (step s Step).1 ∷ [])
-
-abbrev pub WritesWhereStoresMay : Type 0
-WritesWhereStoresMay = (r : RegisterFile) (content : Content) (place : ℕ) → ((address other : ℕ) → content.place Storing address ≡ Some other → other ≢ place) → (instr : Instr)
-    → (effect r content instr).content.byte place ≡ content.byte place
-
-abbrev pub StoresTouchNone : Type 0
-StoresTouchNone = (bytes : List ℕ) (image : Image) (t u : Numbered) (s : State) (own : ThreadState) (point : ℕ) (state : PointState)
-    → IsAccepted bytes image → Contains (numbered_threads image) t → Contains (numbered_threads image) u → IsSound s
-    → StandsAt image t s own point state → (registers : RegisterFile) (left : Content)
-    → ((place : ℕ) → ((address other : ℕ) → (content_of s (tcb_of image t)).place Storing address ≡ Some other → other ≢ place)
-    → left.byte place ≡ (content_of s (tcb_of image t)).byte place)
-    → IsUntouched image u s (with_content (with_registers s (tcb_of image t) registers) left)
+use Rattle.kept_threads.specs.Laws.{StoresTouchNone}
 
 -- ---- only the system call's instruction makes a system call
 
@@ -200,7 +183,7 @@ module _ (laws : Laws) (bytes : List ℕ) (image : Image) (t : Numbered) (s : St
 
 -- ---- the step
 
-module _ (laws : Laws) (keeps : PlainKeeps) (writes : WritesWhereStoresMay) (touches : StoresTouchNone)
+module _ (laws : Laws) (keeps : PlainStepsKeepThreads) (writes : WritesWhereStoresMay) (touches : StoresTouchNone)
     (bytes : List ℕ) (image : Image) (t : Numbered) (s : State) (labels : List Label) (accepted : IsAccepted bytes image) (all : AllStand image s labels)
     (listed : Contains (numbered_threads image) t) (now : current s ≡ Some (tcb_of image t)) (free : ReachesNoCall s (tcb_of image t)) where
   abbrev thread : ℕ

@@ -4,7 +4,7 @@ use Rattle.std.specs.Prelude.{Contains}
 use Rattle.call_points.specs.Messages.{ReceivesBy}
 use Rattle.thread_facts.specs.Standing.{AllStand}
 use Rattle.thread_facts.specs.Waiting.{NamesQueue, behind_receive}
-use Rattle.thread_facts.proofs.ThreadObjects.{at-place}
+use Rattle.thread_facts.proofs.Laws.{at-place}
 use Rattle.model.specs.declared.labels.Label.{Label}
 use Rattle.model.specs.declared.labels.Label.TheVariants.{Ran}
 use Rattle.model.specs.declared.labels.Outcome.{Outcome}

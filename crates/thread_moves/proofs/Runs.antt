@@ -25,25 +25,13 @@ use Rattle.model.specs.Kernel.Steps.{ran, registers_of, state_after, step, trace
 use Rattle.model.specs.Kernel.Waits.{is_error, is_fault}
 use Rattle.model.specs.Machine.Decoding.{decoded}
 use Rattle.model.specs.Machine.ProgramMemory.{loaded}
-use Rattle.thread_moves.specs.Laws.{Laws}
-use Rattle.thread_moves.specs.Steps.{GoesWell, HasGoneWell, InvokesNothing, MakesCall}
+use Rattle.thread_moves.specs.Laws.{InterruptsGoWell, Laws, PlainStepsGoWell, TicksGoWell}
+use Rattle.thread_moves.specs.Steps.{GoesWell, HasGoneWell, MakesCall}
 use Rattle.thread_moves.proofs.Interrupts.{unchanged-stand}
 use Rattle.thread_moves.proofs.Puts.{other-label, thread-there}
 use Rattle.thread_steps.specs.Points.{ReachesNoCall}
 
 -- ---- a step
-
--- the laws on the two kinds of steps, as their functions' contracts say them
-abbrev pub MessagesGoWell : Type 0
-MessagesGoWell =
-    (bytes : List ℕ) (image : Image) (t : Numbered) (s : State) (labels : List Label) → IsAccepted bytes image → AllStand image s labels
-    → Contains (numbered_threads image) t → current s ≡ Some (tcb_of image t) → MakesCall s (tcb_of image t) → InvokesNothing s (tcb_of image t)
-    → GoesWell image s labels Step
-
-abbrev pub PlainStepsGoWell : Type 0
-PlainStepsGoWell =
-    (bytes : List ℕ) (image : Image) (t : Numbered) (s : State) (labels : List Label) → IsAccepted bytes image → AllStand image s labels
-    → Contains (numbered_threads image) t → current s ≡ Some (tcb_of image t) → ReachesNoCall s (tcb_of image t) → GoesWell image s labels Step
 
 -- a thread makes a system call, or none
 module _ (s : State) (thread : ℕ) where
@@ -125,13 +113,6 @@ module _ (laws : Laws) (plain : PlainStepsGoWell) (bytes : List ℕ) (image : Im
   ] refl
 
 -- ---- events, one after another
-
-abbrev pub TicksGoWell : Type 0
-TicksGoWell = (bytes : List ℕ) (image : Image) (s : State) (labels : List Label) → IsAccepted bytes image → AllStand image s labels → AllStand image (step s Tick).0 (labels ++ (step s Tick).1 ∷ [])
-
-abbrev pub InterruptsGoWell : Type 0
-InterruptsGoWell = (bytes : List ℕ) (image : Image) (s : State) (labels : List Label) (number : ℕ) → IsAccepted bytes image → AllStand image s labels
-    → AllStand image (step s (Irq number)).0 (labels ++ (step s (Irq number)).1 ∷ [])
 
 abbrev NoFault : Label → Type 0
 NoFault label = is_fault label ≡ false

@@ -4,7 +4,7 @@ use Rattle.std.specs.Prelude.{Contains}
 use Rattle.std.proofs.lemmas.Bool.{eqb-true, eqb-false}
 use Rattle.thread_facts.specs.Standing.{AllStand}
 use Rattle.thread_facts.specs.Waiting.{NamesQueue, SendsSo, WaitsAsAsked, WaitsSo, behind_receive, behind_reply}
-use Rattle.thread_facts.proofs.ThreadObjects.{at-place}
+use Rattle.thread_facts.proofs.Laws.{at-place}
 use Rattle.model.specs.declared.labels.Label.{Label}
 use Rattle.model.specs.Acceptance.Accepted.{IsAccepted}
 use Rattle.model.specs.Acceptance.Authority.{Holds, SameStore}

@@ -5,7 +5,7 @@ use Rattle.std.specs.Option.{option_map_or}
 use Rattle.std.proofs.lemmas.Bool.{eqb-true, eqb-false}
 use Rattle.thread_facts.specs.Standing.{AllStand, IsControlBlock}
 use Rattle.thread_facts.specs.Waiting.{WaitsAsAsked, WaitsSo, behind_signal}
-use Rattle.thread_facts.proofs.ThreadObjects.{at-place}
+use Rattle.thread_facts.proofs.Laws.{at-place}
 use Rattle.model.specs.declared.labels.Label.{Label}
 use Rattle.model.specs.Acceptance.Accepted.{IsAccepted}
 use Rattle.model.specs.Acceptance.Authority.{SameStore}

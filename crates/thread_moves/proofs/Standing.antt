@@ -4,7 +4,7 @@ use Rattle.std.specs.Prelude.{Contains}
 use Rattle.std.specs.Option.{option_map_or}
 use Rattle.thread_facts.specs.Standing.{AllStand, IsControlBlock}
 use Rattle.thread_facts.specs.Waiting.{WaitsAsAsked}
-use Rattle.kept_threads.proofs.HangsKept.{hangs-kept}
+use Rattle.kept_threads.proofs.Laws.{hangs-kept}
 use Rattle.model.specs.declared.capabilities.Cap.TheVariants.{Empty}
 use Rattle.model.specs.declared.labels.Label.{Label}
 use Rattle.model.specs.declared.rights.Rights.{Rights}

@@ -15,7 +15,7 @@ use Rattle.model.specs.Kernel.Scheduling.{current, full_slice, tick, ticked, yie
 use Rattle.model.specs.Kernel.Soundness.{IsSound}
 use Rattle.model.specs.Kernel.State.{State, Object, ThreadObject, EndpointObject, NotificationObject, ThreadState, as_thread, new_thread, put, thread_at, with_thread}
 use Rattle.model.specs.Kernel.Steps.{state_after, step}
-use Rattle.thread_facts.specs.Laws.{KeepsSoundness}
+use Rattle.soundness.specs.Laws.{EventsKeepSoundness}
 use Rattle.kept_threads.specs.Laws.{StandsOn}
 use Rattle.thread_moves.specs.Moving.{GoesOnAs, WaitsOn}
 use Rattle.thread_moves.specs.Resting.{HasBeen, OthersRest}
@@ -117,11 +117,11 @@ module _ (stand-on : StandsOn) (bytes : List ℕ) (image : Image) (s : State) (l
         | Some x ↦ λ some sound. ticked-stands x (thread_at s x) (thread-there (s.objects x) (current-runs s all.sound.threads x some).kind) sound
       ] refl
 
-pub one-event : KeepsSoundness → (s : State) (event : Event) → IsSound s → IsSound (step s event).0
+pub one-event : EventsKeepSoundness → (s : State) (event : Event) → IsSound s → IsSound (step s event).0
 unfolding state_after
 one-event keeps s event sound = keeps s (event ∷ []) sound
 
-pub all-over-tick : StandsOn → KeepsSoundness → (bytes : List ℕ) (image : Image) (s : State) (labels : List Label) → IsAccepted bytes image → AllStand image s labels
+pub all-over-tick : StandsOn → EventsKeepSoundness → (bytes : List ℕ) (image : Image) (s : State) (labels : List Label) → IsAccepted bytes image → AllStand image s labels
     → AllStand image (step s Tick).0 (labels ++ (step s Tick).1 ∷ [])
 unfolding step
 all-over-tick stand-on keeps bytes image s labels accepted all = tick-stands stand-on bytes image s labels accepted all (one-event keeps s Tick all.sound)

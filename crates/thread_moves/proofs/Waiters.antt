@@ -4,7 +4,7 @@ use Rattle.std.specs.Prelude.{Contains, slice_set}
 use Rattle.std.proofs.lemmas.List.Elements.{All-cons, All-nil}
 use Rattle.thread_facts.specs.Standing.{AllStand, IsControlBlock}
 use Rattle.thread_facts.specs.Waiting.{SendsSo, WaitsSo, behind_reply}
-use Rattle.thread_facts.proofs.ThreadObjects.{read-less}
+use Rattle.thread_facts.proofs.Laws.{read-less}
 use Rattle.model.specs.declared.instructions.Instr.TheVariants.{Ecall}
 use Rattle.model.specs.declared.instructions.Register.{Register}
 use Rattle.model.specs.declared.labels.Label.{Label}

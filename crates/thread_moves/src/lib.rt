@@ -3,15 +3,15 @@
 //! does nothing.
 #![tactic(auto)]
 
+mod below;
 mod event_laws;
-mod laws;
 mod message_laws;
 mod moving_laws;
 mod plain_laws;
 mod standing_laws;
 
+pub use below::laws_below;
 pub use event_laws::{interrupts_keep_all_standing, ticks_keep_all_standing};
-pub use laws::laws_below;
 pub use message_laws::calls_that_invoke_nothing_go_well;
 pub use moving_laws::{
     calls_that_pass_lead_on, threads_begin_to_wait, threads_that_are_left_alone_stand_on,

@@ -1,26 +1,14 @@
 //! All threads, over a step that makes no system call.
 
-ghost use Rattle.std.specs.Prelude.{ℕ, ◌≡◌, Contains, List, Some};
-ghost use Rattle.thread_facts.specs.Standing.{AllStand};
-ghost use Rattle.model.specs.declared.events.Event.TheVariants.{Step};
-ghost use Rattle.model.specs.declared.labels.Label.{Label};
-ghost use Rattle.model.specs.Acceptance.Accepted.{IsAccepted};
-ghost use Rattle.model.specs.Acceptance.ThreadInvariants.{tcb_of};
-ghost use Rattle.model.specs.Images.Described.{Numbered, numbered_threads};
-ghost use Rattle.model.specs.Images.Image.{Image};
-ghost use Rattle.model.specs.Kernel.Scheduling.{current};
-ghost use Rattle.model.specs.Kernel.State.{State};
-ghost use Rattle.thread_moves.specs.Steps.{GoesWell};
-ghost use Rattle.thread_steps.specs.Points.{ReachesNoCall};
+ghost use Rattle.thread_moves.specs.Laws.{PlainStepsGoWell};
 
-use crate::laws::laws_below;
+use crate::below::laws_below;
 use kept_threads::stores_touch_no_thread;
 use thread_steps::{instructions_write_where_stores_may, plain_steps_keep_threads};
 
 /// An instruction that is no system call has no fault and no error, and leaves all threads standing.
 pub fn plain_steps_go_well()
-    ensures { (bytes : List ℕ) (image : Image) (t : Numbered) (s : State) (labels : List Label) → IsAccepted bytes image → AllStand image s labels
-        → Contains (numbered_threads image) t → current s ≡ Some (tcb_of image t) → ReachesNoCall s (tcb_of image t) → GoesWell image s labels Step }
+    ensures { PlainStepsGoWell }
 {
     laws_below();
     plain_steps_keep_threads();

@@ -7,12 +7,7 @@ use Rattle.std.proofs.lemmas.Option.{none-some, same_Some, slice_get_within}
 use Rattle.fitting.specs.Fitting.{IsFitting, ObjectFits, ThreadFits}
 use Rattle.fitting.proofs.ImageFits.{is-fitting}
 use Rattle.booting.specs.Loading.{all_loaded, is_moved}
-use Rattle.booting.proofs.PlacesObjects.{object-at}
-use Rattle.booting.proofs.PlacesRules.{AreFormed, ThreadKept, are-formed}
-use Rattle.booting.proofs.PlacesSlots.{boot-slots-suffice}
-use Rattle.booting.proofs.Readings.{ReadsBoot}
-use Rattle.booting.proofs.ReadingsLists.{numbered-back}
-use Rattle.booting.proofs.ReadingsTypes.{original-untyped}
+use Rattle.booting.proofs.Laws.{object-at, AreFormed, ThreadKept, are-formed, boot-slots-suffice, ReadsBoot, numbered-back, original-untyped}
 use Rattle.model.specs.declared.capabilities.Cap.{Cap}
 use Rattle.model.specs.declared.capabilities.Cap.TheVariants.{Empty, Untyped, Endpoint, Notification, CNode, Frame, PageTable, Tcb, RootTable, InterruptControl, InterruptHandler}
 use Rattle.model.specs.declared.entries.InterruptEntry.{InterruptEntry}
@@ -47,7 +42,7 @@ range-below from zero place n at = absurd (none-some n at)
 range-below from (suc count) zero n at = let same = same_Some from n at in omega (arith, same)
 range-below from (suc count) (suc place) n at = let less = range-below (from + 1) count place n at in omega (arith, less)
 
-negated : (b : Bool) → not b ≡ true → b ≡ false
+pub negated : (b : Bool) → not b ≡ true → b ≡ false
 negated true is = absurd (let clash : false ≡ true = is in cc)
 negated false is = refl
 

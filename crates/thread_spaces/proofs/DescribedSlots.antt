@@ -6,13 +6,7 @@ use Rattle.std.proofs.lemmas.Option.{slice_get_within}
 use Rattle.fitting.specs.Fitting.{IsFitting}
 use Rattle.fitting.proofs.ImageFits.{is-fitting}
 use Rattle.booting.specs.Loading.{all_loaded, loaded}
-use Rattle.booting.proofs.PlacesRules.{AreFormed, are-formed}
-use Rattle.booting.proofs.Readings.{IsWithin, ReadsBoot, entry}
-use Rattle.booting.proofs.ReadingsBoot.{reads-boot}
-use Rattle.booting.proofs.ReadingsRoom.{reads-cspace, reads-listed}
-use Rattle.booting.proofs.RunEnd.{loaded-end}
-use Rattle.booting.proofs.SoundBooted.{described-sound}
-use Rattle.booting.proofs.WholeFits.{counts-are}
+use Rattle.booting.proofs.Laws.{AreFormed, are-formed, IsWithin, ReadsBoot, entry, reads-boot, reads-cspace, reads-listed, loaded-end, described-sound, counts-are}
 use Rattle.model.specs.declared.capabilities.Cap.{Cap}
 use Rattle.model.specs.declared.capabilities.Cap.TheVariants.{Empty}
 use Rattle.model.specs.declared.entries.CapabilityEntry.{CapabilityEntry}

@@ -1,10 +1,9 @@
 -- The root of a thread's capability space is the first CNode that it reaches.
-use Rattle.std.proofs.Common.{ℕ, zero, suc, ◌≡◌, ◌∙◌, ◌==◌, ◌&&◌, ◌||◌, Bool, true, false, not, if◌then◌else◌, Option, Some, None, List, [], ◌∷◌, ◌++◌, refl, sym, ap}
+use Rattle.std.proofs.Common.{ℕ, zero, suc, ◌≡◌, ◌∙◌, ◌==◌, ◌&&◌, ◌||◌, Bool, true, false, not, if◌then◌else◌, Option, Some, List, [], ◌∷◌, ◌++◌, refl, sym, ap}
 use Rattle.std.specs.Prelude.{fold, nat_eq}
 use Rattle.std.specs.Option.{option_map_or}
 use Rattle.std.specs.List.{list_any}
 use Rattle.std.proofs.lemmas.Bool.{eq-eqb, eqb-true}
-use Rattle.std.proofs.lemmas.Option.{none-some, same_Some}
 use Rattle.model.specs.declared.capabilities.Cap.{Cap}
 use Rattle.model.specs.declared.capabilities.Cap.TheVariants.{CNode}
 use Rattle.model.specs.declared.entries.CapabilityEntry.{CapabilityEntry}
@@ -15,9 +14,10 @@ use Rattle.model.specs.Acceptance.WellFormed.{is_table_type, radix_of}
 use Rattle.model.specs.Capabilities.CapabilityKinds.{with_payload}
 use Rattle.model.specs.Images.Image.{Image, Thread}
 use Rattle.model.specs.Images.Places.{offset_of, type_at}
-use Rattle.model.specs.Kernel.Retype.{NewObject, NewUntyped, NewThread, NewEndpoint, NewNotification, NewCNode, NewFrame, NewPageTable, NewRootTable}
+use Rattle.model.specs.Kernel.Retype.{NewObject}
 use Rattle.typestate.specs.Spaces.{is_among, is_inside}
-use Rattle.thread_spaces.proofs.ListedCapabilities.{first_of_type, original-plain}
+use Rattle.thread_spaces.proofs.ListedCapabilities.{original-plain}
+use Rattle.booting.proofs.Laws.{cnode-type, first_of_type}
 
 -- ---- what is found stays
 
@@ -44,12 +44,12 @@ module _ (image : Image) (number : ℕ) where
   stays-within zero found there = there
   stays-within (suc rounds) found there = stays-within rounds (fold (with_named image) found image.capabilities) (stays-all image.capabilities found there)
 
-root-reached : (image : Image) (t : Thread) → is_member t.header.cnode (reached image t) ≡ true
+pub root-reached : (image : Image) (t : Thread) → is_member t.header.cnode (reached image t) ≡ true
 unfolding reached
 root-reached image t =
     stays-within image t.header.cnode _ (t.header.cnode ∷ []) (ap (λ b. b || false) (eq-eqb t.header.cnode t.header.cnode refl))
 
-member-any : (test : ℕ → Bool) (numbers : List ℕ) (number : ℕ) → is_member number numbers ≡ true → test number ≡ true → list_any test numbers ≡ true
+pub member-any : (test : ℕ → Bool) (numbers : List ℕ) (number : ℕ) → is_member number numbers ≡ true → test number ≡ true → list_any test numbers ≡ true
 member-any test [] number there is = absurd (let clash : false ≡ true = there in cc)
 member-any test (x ∷ rest) number there is = elim (nat_eq number x) as (λ b. nat_eq number x ≡ b → (b || is_member number rest) ≡ true → (test x || list_any test rest) ≡ true) [
   | true ↦ λ same _. ap (λ b. b || list_any test rest) (ap test (sym (eqb-true number x same)) ∙ is)
@@ -62,21 +62,10 @@ member-any test (x ∷ rest) number there is = elim (nat_eq number x) as (λ b. 
 
 -- ---- the root
 
-cnode-kind : (kind : Option NewObject) (radix : ℕ) → radix_of kind ≡ Some radix → kind ≡ Some (NewCNode radix)
-cnode-kind None radix is = absurd (none-some radix is)
-cnode-kind (Some (NewUntyped bits)) radix is = absurd (none-some radix is)
-cnode-kind (Some NewThread) radix is = absurd (none-some radix is)
-cnode-kind (Some NewEndpoint) radix is = absurd (none-some radix is)
-cnode-kind (Some NewNotification) radix is = absurd (none-some radix is)
-cnode-kind (Some (NewCNode r)) radix is = ap (λ (n : ℕ). Some (NewCNode n)) (same_Some r radix is)
-cnode-kind (Some NewFrame) radix is = absurd (none-some radix is)
-cnode-kind (Some NewPageTable) radix is = absurd (none-some radix is)
-cnode-kind (Some NewRootTable) radix is = absurd (none-some radix is)
-
 pub root-is : (image : Image) (t : Thread) (radix offset : ℕ) → radix_of (type_at image t.header.cnode) ≡ Some radix → offset ≡ offset_of image t.header.cnode
     → CNode offset radix t.header.guard ≡ noted_root image t
 root-is image t radix offset is place =
-    let kind = cnode-kind (type_at image t.header.cnode) radix is in
+    let kind = cnode-type (type_at image t.header.cnode) radix is in
     ap (λ (n : ℕ). CNode n radix t.header.guard) place
     ∙ sym (ap (λ (c : Cap). with_payload c t.header.guard) (original-plain image t.header.cnode (ap is_table_type kind) ∙ ap (λ (k : Option NewObject). first_of_type k (offset_of image t.header.cnode)) kind))
 

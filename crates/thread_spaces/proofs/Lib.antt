@@ -1,19 +1,20 @@
-pub mod Rounds
-pub mod GivenCNodes
-pub mod WindowLists
-pub mod PlaceSteps
-pub mod OwnPlaces
-pub mod EachHolding
-pub mod ListedSlots
-pub mod DescribedSlots
-pub mod ListedCapabilities
-pub mod BootParents
-pub mod ParentsInBoot
-pub mod OriginalNames
-pub mod LinesHeld
-pub mod ListedMappings
-pub mod RootRadix
-pub mod GivenRoots
-pub mod StandingApart
-pub mod NoStraySlots
-pub mod RootPlaces
+mod Rounds
+mod GivenCNodes
+mod WindowLists
+mod PlaceSteps
+mod OwnPlaces
+mod EachHolding
+mod ListedSlots
+mod DescribedSlots
+mod ListedCapabilities
+mod BootParents
+mod ParentsInBoot
+mod OriginalNames
+mod LinesHeld
+mod ListedMappings
+mod RootRadix
+mod GivenRoots
+mod StandingApart
+mod NoStraySlots
+mod RootPlaces
+pub mod Laws

@@ -7,10 +7,7 @@ use Rattle.std.proofs.lemmas.Option.{slice_get_within}
 use Rattle.fitting.specs.Fitting.{IsFitting}
 use Rattle.fitting.proofs.ImageFits.{is-fitting}
 use Rattle.booting.specs.Loading.{all_loaded}
-use Rattle.booting.proofs.PlacesRules.{are-formed}
-use Rattle.booting.proofs.PlacesSlots.{boot-slots-suffice}
-use Rattle.booting.proofs.Readings.{ReadsBoot}
-use Rattle.booting.proofs.ReadingsSections.{listed-behind, thread-behind}
+use Rattle.booting.proofs.Laws.{are-formed, boot-slots-suffice, ReadsBoot, listed-behind, thread-behind}
 use Rattle.model.specs.declared.capabilities.Cap.TheVariants.{Empty}
 use Rattle.model.specs.declared.slot_entries.Entry.{Entry}
 use Rattle.model.specs.declared.entries.InterruptEntry.{InterruptEntry}

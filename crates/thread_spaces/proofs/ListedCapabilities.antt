@@ -1,5 +1,5 @@
 -- What is listed of an object is its first capability, limited; only page tables are mapped, and they are not listed.
-use Rattle.std.proofs.Common.{ℕ, ◌≡◌, ◌∙◌, ◌==◌, ◌+◌, ◌-◌, ◌/◌, ◌<◌, ◌≤◌, ◌&&◌, Bool, true, false, if◌then◌else◌, find, Option, Some, None, refl, sym, ap, arith}
+use Rattle.std.proofs.Common.{ℕ, ◌≡◌, ◌∙◌, ◌==◌, ◌+◌, ◌-◌, ◌<◌, ◌≤◌, ◌&&◌, Bool, true, false, if◌then◌else◌, find, Option, Some, None, refl, sym, ap, arith}
 use Rattle.std.specs.Prelude.{bit_and, slice_get}
 use Rattle.std.specs.Option.{option_map_or}
 use Rattle.std.proofs.lemmas.Bool.{and_parts, eqb-true, le-leb, lt-leb}
@@ -7,7 +7,7 @@ use Rattle.std.proofs.lemmas.Nat.{and_le_r}
 use Rattle.std.proofs.lemmas.Option.{get_or_from_slice_get}
 use Rattle.fitting.specs.Fitting.{IsFitting}
 use Rattle.fitting.proofs.ImageFits.{is-fitting}
-use Rattle.booting.proofs.PlacesRules.{AreFormed, are-formed}
+use Rattle.booting.proofs.Laws.{AreFormed, are-formed, first_of_type, mapped_by}
 use Rattle.model.specs.declared.capabilities.Cap.{Cap}
 use Rattle.model.specs.declared.capabilities.Cap.TheVariants.{Empty, InterruptHandler}
 use Rattle.model.specs.declared.entries.CapabilityEntry.{CapabilityEntry}
@@ -17,21 +17,12 @@ use Rattle.model.specs.declared.entries.TableEntry.{TableEntry}
 use Rattle.model.specs.Acceptance.Accepted.{IsWellFormed}
 use Rattle.model.specs.Acceptance.WellFormed.{are_among, is_table_type, may_have, source_type}
 use Rattle.model.specs.Capabilities.CapabilityFields.{is_badge}
-use Rattle.model.specs.Capabilities.CapabilityKinds.{is_guard_word, with_table_mapping}
+use Rattle.model.specs.Capabilities.CapabilityKinds.{is_guard_word}
 use Rattle.model.specs.Images.Described.{limited, listed_capability, original, source_capability}
 use Rattle.model.specs.Images.Image.{Image, whole_image}
 use Rattle.model.specs.Images.Places.{interrupt_of, object_at, offset_of, type_at}
-use Rattle.model.specs.Kernel.AddressSpaces.{page_size, region_pages}
-use Rattle.model.specs.Kernel.Retype.{NewObject, NewUntyped, NewThread, NewEndpoint, NewNotification, NewCNode, NewFrame, NewPageTable, NewRootTable, first_capability, type_of}
+use Rattle.model.specs.Kernel.Retype.{NewObject, NewUntyped, NewThread, NewEndpoint, NewNotification, NewCNode, NewFrame, NewPageTable, NewRootTable, type_of}
 use Rattle.thread_spaces.specs.Given.{IsEntry}
-
-abbrev pub first_of_type : Option NewObject → ℕ → Cap
-first_of_type kind offset = option_map_or (λ new. first_capability new offset) kind Empty
-
--- a capability with what a page table's entry maps, if there is one
-abbrev mapped_by : Image → Option TableEntry → Cap → Cap
-mapped_by image found c =
-    option_map_or (λ t. with_table_mapping c (Some (record { root = offset_of image t.root; region = t.address / page_size / region_pages }))) found c
 
 unmoved : (image : Image) (found : Option TableEntry) (kind : Option NewObject) (offset : ℕ) → is_table_type kind ≡ false → mapped_by image found (first_of_type kind offset) ≡ first_of_type kind offset
 unmoved image None kind offset plain = refl

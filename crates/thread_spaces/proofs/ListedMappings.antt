@@ -1,5 +1,5 @@
 -- Outside of a thread's CNodes those pages and regions are mapped under its root table that the image lists.
-use Rattle.std.proofs.Common.{ℕ, zero, suc, ◌≡◌, ◌∙◌, ◌==◌, ◌+◌, ◌/◌, ◌^◌, ◌<◌, ◌≤◌, inl, inr, Bool, true, false, ◌&&◌, ◌||◌, if◌then◌else◌, find, take, Option, Some, None, List, [], ◌∷◌, refl, sym, ap, subst, arith}
+use Rattle.std.proofs.Common.{ℕ, zero, suc, ◌≡◌, ◌∙◌, ◌==◌, ◌/◌, ◌^◌, ◌<◌, ◌≤◌, inl, inr, Bool, true, false, ◌&&◌, ◌||◌, if◌then◌else◌, find, take, Option, Some, None, List, [], ◌∷◌, refl, sym, ap, subst, arith}
 use Rattle.std.specs.Prelude.{is_none, is_some, slice_get}
 use Rattle.std.specs.Option.{option_map_or}
 use Rattle.std.specs.List.{list_any, range_with_len}
@@ -8,13 +8,7 @@ use Rattle.std.proofs.lemmas.Option.{none-some, same_Some, slice_get_within}
 use Rattle.fitting.specs.Fitting.{FrameFits, IsFitting, TableFits, ThreadFits}
 use Rattle.fitting.proofs.ImageFits.{is-fitting}
 use Rattle.booting.specs.Loading.{all_loaded, is_moved, original_so_far}
-use Rattle.booting.proofs.PlacesObjects.{offsets-apart}
-use Rattle.booting.proofs.PlacesRules.{AreFormed, CapabilityKept, TableKept, ThreadKept, are-formed}
-use Rattle.booting.proofs.PlacesSlots.{boot-slots-suffice}
-use Rattle.booting.proofs.Readings.{ReadsBoot}
-use Rattle.booting.proofs.ReadingsTypes.{original-untyped}
-use Rattle.booting.proofs.RunEnd.{CountsAreLengths}
-use Rattle.booting.proofs.WholeFits.{counts-are}
+use Rattle.booting.proofs.Laws.{AreFormed, CapabilityKept, CountsAreLengths, ReadsBoot, TableKept, ThreadKept, are-formed, boot-slots-suffice, counts-are, first_of_type, limited-frame, limited-table, mapped_by, offsets-apart, original-untyped, range-from}
 use Rattle.model.specs.declared.capabilities.Cap.{Cap}
 use Rattle.model.specs.declared.capabilities.Cap.TheVariants.{Empty, Untyped, Endpoint, Notification, CNode, Frame, PageTable, Tcb, RootTable, InterruptControl, InterruptHandler}
 use Rattle.model.specs.declared.entries.CapabilityEntry.{CapabilityEntry}
@@ -25,9 +19,9 @@ use Rattle.model.specs.Acceptance.Accepted.{IsWellFormed}
 use Rattle.model.specs.Acceptance.NotedKernel.{key_of}
 use Rattle.model.specs.Acceptance.ThreadRules.{reached}
 use Rattle.model.specs.Acceptance.WellFormed.{is_root_type, is_table_type, is_untyped_type, radix_of}
-use Rattle.model.specs.Capabilities.CapabilityKinds.{frame_mapping, table_mapping, with_payload, with_table_mapping}
+use Rattle.model.specs.Capabilities.CapabilityKinds.{frame_mapping, table_mapping, with_payload}
 use Rattle.model.specs.Capabilities.Slots.{capability_at}
-use Rattle.model.specs.Images.Described.{binding_holding, described, frame_holding, handler_holding, limited, listed_capability, notification_holding, original, source_capability, untyped_holding}
+use Rattle.model.specs.Images.Described.{binding_holding, described, frame_holding, handler_holding, listed_capability, notification_holding, original, source_capability, untyped_holding}
 use Rattle.model.specs.Images.Image.{Image, Thread, whole_image}
 use Rattle.model.specs.Images.Places.{boot_slots, frame_copy_slot, interrupt_of, is_handler, offset_of, original_slot, type_at}
 use Rattle.model.specs.Kernel.AddressSpaces.{maps_page, maps_region, page_size, region_pages}
@@ -40,7 +34,6 @@ use Rattle.thread_spaces.proofs.BootParents.{IsPassed, find-passed}
 use Rattle.thread_spaces.proofs.DescribedSlots.{boot-holds, capability-shown, from-loaded}
 use Rattle.thread_spaces.proofs.EachHolding.{OfSections, each-slot, each-two}
 use Rattle.thread_spaces.proofs.GivenCNodes.{root-radixed}
-use Rattle.thread_spaces.proofs.ListedCapabilities.{first_of_type}
 use Rattle.thread_spaces.proofs.OwnPlaces.{boot-not-own, boot-room}
 
 -- ---- lists
@@ -61,16 +54,11 @@ some-passed test (y ∷ ys) some = elim (or_cases (test y) (list_any test ys) so
   | inr later ↦ let found = some-passed test ys later in (found.0, record { place = suc (found.1).place; at = (found.1).at; passes = (found.1).passes })
 ]
 
-range-get : (from count n : ℕ) → n < count → slice_get (range_with_len from count) n ≡ Some (from + n)
-range-get from zero n less = absurd (omega (arith, less))
-range-get from (suc count) zero less = ap (λ (m : ℕ). Some m) (omega arith)
-range-get from (suc count) (suc n) less = range-get (from + 1) count n (omega (arith, less)) ∙ ap (λ (m : ℕ). Some m) (omega arith)
-
 any-number : (test : ℕ → Bool) (bits n : ℕ) → n < 2 ^ bits / 16 → test n ≡ true → list_any test (slot_numbers bits) ≡ true
 unfolding slot_numbers
-any-number test bits n less is = any-at test (range_with_len 0 (2 ^ bits / 16)) n n (range-get 0 (2 ^ bits / 16) n less ∙ ap (λ (m : ℕ). Some m) (omega arith)) is
+any-number test bits n less is = any-at test (range_with_len 0 (2 ^ bits / 16)) n n (range-from 0 (2 ^ bits / 16) n less ∙ ap (λ (m : ℕ). Some m) (omega arith)) is
 
-find-at : {A : Type 0} (test : A → Bool) (xs : List A) (k : ℕ) (x : A) → slice_get xs k ≡ Some x → list_any test (take k xs) ≡ false → test x ≡ true → find test xs ≡ Some x
+pub find-at : {A : Type 0} (test : A → Bool) (xs : List A) (k : ℕ) (x : A) → slice_get xs k ≡ Some x → list_any test (take k xs) ≡ false → test x ≡ true → find test xs ≡ Some x
 find-at test [] k x at none is = absurd (none-some x at)
 find-at test (y ∷ ys) zero x at none is = ap (λ b. if b then Some y else find test ys) (ap test (same_Some y x at) ∙ is) ∙ at
 find-at test (y ∷ ys) (suc k) x at none is =
@@ -85,10 +73,6 @@ find-at test (y ∷ ys) (suc k) x at none is =
     rest-none false b none = none
 
 -- ---- what capabilities map
-
-abbrev mapped_by : Image → Option TableEntry → Cap → Cap
-mapped_by image found c =
-    option_map_or (λ e. with_table_mapping c (Some (record { root = offset_of image e.root; region = e.address / page_size / region_pages }))) found c
 
 no-frame : (image : Image) (found : Option TableEntry) (kind : Option NewObject) (offset : ℕ) → frame_mapping (mapped_by image found (first_of_type kind offset)) ≡ None
 no-frame image None None offset = refl
@@ -128,32 +112,6 @@ no-table image (Some e) (Some NewFrame) offset plain = refl
 no-table image found (Some NewPageTable) offset plain = absurd (let clash : true ≡ false = plain in cc)
 no-table image None (Some NewRootTable) offset plain = refl
 no-table image (Some e) (Some NewRootTable) offset plain = refl
-
-limited-frame : (c : Cap) (word payload : ℕ) → frame_mapping (limited c word payload) ≡ frame_mapping c
-limited-frame Empty word payload = refl
-limited-frame (Untyped _ _ _) word payload = refl
-limited-frame (Endpoint _ _ _) word payload = refl
-limited-frame (Notification _ _ _) word payload = refl
-limited-frame (CNode _ _ _) word payload = refl
-limited-frame (Frame _ _ _) word payload = refl
-limited-frame (PageTable _ _) word payload = refl
-limited-frame (Tcb _) word payload = refl
-limited-frame (RootTable _) word payload = refl
-limited-frame InterruptControl word payload = refl
-limited-frame (InterruptHandler _) word payload = refl
-
-limited-table : (c : Cap) (word payload : ℕ) → table_mapping (limited c word payload) ≡ table_mapping c
-limited-table Empty word payload = refl
-limited-table (Untyped _ _ _) word payload = refl
-limited-table (Endpoint _ _ _) word payload = refl
-limited-table (Notification _ _ _) word payload = refl
-limited-table (CNode _ _ _) word payload = refl
-limited-table (Frame _ _ _) word payload = refl
-limited-table (PageTable _ _) word payload = refl
-limited-table (Tcb _) word payload = refl
-limited-table (RootTable _) word payload = refl
-limited-table InterruptControl word payload = refl
-limited-table (InterruptHandler _) word payload = refl
 
 payload-frame : (c : Cap) (payload : ℕ) → frame_mapping (with_payload c payload) ≡ frame_mapping c
 payload-frame Empty payload = refl

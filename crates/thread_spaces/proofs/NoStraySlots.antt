@@ -7,8 +7,7 @@ use Rattle.std.proofs.Math.Pow.{pow_mono}
 use Rattle.std.proofs.lemmas.Bool.{and_parts, leb-false, leb-true, ltb-true, or_parts}
 use Rattle.fitting.specs.Fitting.{IsFitting}
 use Rattle.fitting.proofs.ImageFits.{is-fitting}
-use Rattle.booting.proofs.PlacesRules.{are-formed}
-use Rattle.booting.proofs.PlacesTypes.{has-type}
+use Rattle.booting.proofs.Laws.{are-formed, first_of_type, has-type}
 use Rattle.model.specs.declared.capabilities.Cap.{Cap}
 use Rattle.model.specs.declared.capabilities.Cap.TheVariants.{Empty, Untyped, Endpoint, Notification, CNode, Frame, PageTable, Tcb, RootTable, InterruptControl, InterruptHandler}
 use Rattle.model.specs.declared.capabilities.TableMapping.{TableMapping}
@@ -32,7 +31,7 @@ use Rattle.typestate.specs.Spaces.{AreOwn, is_own_slot}
 use Rattle.typestate.proofs.Standing.{found-all, found-key}
 use Rattle.thread_spaces.specs.Given.{IsListed, is_narrow}
 use Rattle.thread_spaces.proofs.GivenCNodes.{reached-cnode}
-use Rattle.thread_spaces.proofs.ListedCapabilities.{first_of_type, source-inside}
+use Rattle.thread_spaces.proofs.ListedCapabilities.{source-inside}
 use Rattle.thread_spaces.proofs.ListedSlots.{slots_in}
 
 -- ---- what is listed is no empty capability

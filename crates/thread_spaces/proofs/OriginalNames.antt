@@ -1,5 +1,5 @@
 -- The boot CNode has a capability to each object that is no untyped memory.
-use Rattle.std.proofs.Common.{ℕ, zero, suc, ◌≡◌, ◌∙◌, ◌==◌, ◌+◌, ◌/◌, ◌<◌, ◌⊎◌, inl, inr, Bool, true, false, ◌&&◌, if◌then◌else◌, find, take, Option, Some, None, ◌∷◌, map, refl, sym, ap, arith}
+use Rattle.std.proofs.Common.{ℕ, zero, suc, ◌≡◌, ◌∙◌, ◌==◌, ◌+◌, ◌<◌, ◌⊎◌, inl, inr, Bool, true, false, ◌&&◌, if◌then◌else◌, find, take, Option, Some, None, ◌∷◌, map, refl, sym, ap, arith}
 use Rattle.std.specs.Prelude.{option_and_then}
 use Rattle.std.specs.Option.{option_map_or}
 use Rattle.std.specs.List.{list_any, range_with_len}
@@ -9,20 +9,16 @@ use Rattle.std.proofs.lemmas.Option.{none-some}
 use Rattle.fitting.specs.Fitting.{IsFitting, ThreadFits}
 use Rattle.fitting.proofs.ImageFits.{is-fitting}
 use Rattle.booting.specs.Loading.{all_loaded, is_moved, original_so_far}
-use Rattle.booting.proofs.PlacesRules.{AreFormed, ThreadKept, are-formed}
-use Rattle.booting.proofs.PlacesSlots.{boot-slots-suffice}
-use Rattle.booting.proofs.Readings.{ReadsBoot}
-use Rattle.booting.proofs.ReadingsTypes.{original-untyped}
+use Rattle.booting.proofs.Laws.{AreFormed, ReadsBoot, ThreadKept, are-formed, boot-slots-suffice, first_of_type, mapped_by, original-untyped, thread-type}
 use Rattle.model.specs.declared.capabilities.Cap.{Cap}
 use Rattle.model.specs.declared.capabilities.Cap.TheVariants.{RootTable}
 use Rattle.model.specs.declared.entries.TableEntry.{TableEntry}
 use Rattle.model.specs.Acceptance.Accepted.{IsWellFormed}
-use Rattle.model.specs.Acceptance.WellFormed.{is_root_type, is_thread_type, is_untyped_type}
-use Rattle.model.specs.Capabilities.CapabilityKinds.{names_object, object_of, with_table_mapping}
+use Rattle.model.specs.Acceptance.WellFormed.{is_root_type, is_untyped_type}
+use Rattle.model.specs.Capabilities.CapabilityKinds.{names_object, object_of}
 use Rattle.model.specs.Images.Described.{described, described_object, first_some, listed_thread, object_there}
 use Rattle.model.specs.Images.Image.{Image, Thread, whole_image}
 use Rattle.model.specs.Images.Places.{offset_of, original_slot, type_at}
-use Rattle.model.specs.Kernel.AddressSpaces.{page_size, region_pages}
 use Rattle.model.specs.Kernel.Removal.{is_root_at, slot_count}
 use Rattle.model.specs.Kernel.Retype.{NewObject, NewUntyped, NewThread, NewEndpoint, NewNotification, NewCNode, NewFrame, NewPageTable, NewRootTable, object}
 use Rattle.model.specs.Kernel.State.{Object, ThreadObject}
@@ -30,13 +26,8 @@ use Rattle.typestate.specs.Spaces.{HeldInBoot}
 use Rattle.thread_spaces.specs.Given.{IsListed}
 use Rattle.thread_spaces.proofs.BootParents.{find-passed}
 use Rattle.thread_spaces.proofs.DescribedSlots.{boot-holds, capability-shown, from-loaded}
-use Rattle.thread_spaces.proofs.ListedCapabilities.{first_of_type}
 
 -- ---- what a first capability names
-
-abbrev mapped_by : Image → Option TableEntry → Cap → Cap
-mapped_by image found c =
-    option_map_or (λ t. with_table_mapping c (Some (record { root = offset_of image t.root; region = t.address / page_size / region_pages }))) found c
 
 named-by : (image : Image) (found : Option TableEntry) (kind : NewObject) (offset : ℕ) → is_untyped_type (Some kind) ≡ false → object_of (mapped_by image found (first_of_type (Some kind) offset)) ≡ Some offset
 named-by image found (NewUntyped bits) offset plain = absurd (let clash : true ≡ false = plain in cc)
@@ -77,18 +68,6 @@ root-plain (Some (NewCNode radix)) is = refl
 root-plain (Some NewFrame) is = refl
 root-plain (Some NewPageTable) is = refl
 root-plain (Some NewRootTable) is = refl
-
--- an object that is there has a type, which is not that of untyped memory
-thread-typed : (kind : Option NewObject) → is_thread_type kind ≡ true → kind ≡ Some NewThread
-thread-typed None is = absurd (let clash : false ≡ true = is in cc)
-thread-typed (Some (NewUntyped bits)) is = absurd (let clash : false ≡ true = is in cc)
-thread-typed (Some NewThread) is = refl
-thread-typed (Some NewEndpoint) is = absurd (let clash : false ≡ true = is in cc)
-thread-typed (Some NewNotification) is = absurd (let clash : false ≡ true = is in cc)
-thread-typed (Some (NewCNode radix)) is = absurd (let clash : false ≡ true = is in cc)
-thread-typed (Some NewFrame) is = absurd (let clash : false ≡ true = is in cc)
-thread-typed (Some NewPageTable) is = absurd (let clash : false ≡ true = is in cc)
-thread-typed (Some NewRootTable) is = absurd (let clash : false ≡ true = is in cc)
 
 record IsPlain (type : Option NewObject) : Type 0 where
   kind : NewObject
@@ -153,7 +132,7 @@ module _ (image : Image) (fits : whole_image.fits image ≡ true) (well : IsWell
           let passed = find-passed (λ (u : Thread). u.header.tcb == number) image.threads t some in
           let same : t.header.tcb ≡ number = eqb-true t.header.tcb number passed.passes in
           let thread = ThreadKept.tcb (AreFormed.thread (are-formed image well) passed.place t passed.at) in
-          record { kind = NewThread; is = ap (type_at image) (sym same) ∙ thread-typed (type_at image t.header.tcb) thread; plain = refl }
+          record { kind = NewThread; is = ap (type_at image) (sym same) ∙ thread-type (type_at image t.header.tcb) thread; plain = refl }
 
   pub object-held : (offset : ℕ) (o : Object) → (described image).objects offset ≡ Some o → HeldInBoot image (names_object offset)
   unfolding described

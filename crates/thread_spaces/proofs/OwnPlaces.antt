@@ -7,8 +7,7 @@ use Rattle.std.proofs.Math.Pow.{pow_mono}
 use Rattle.std.proofs.lemmas.Bool.{eq-eqb}
 use Rattle.std.proofs.lemmas.Nat.{pow-add}
 use Rattle.fitting.specs.Fitting.{IsFitting}
-use Rattle.booting.proofs.PlacesRules.{AreFormed}
-use Rattle.booting.proofs.PlacesSlots.{slot-behind-boot, slot-in-memory, slot-of-one}
+use Rattle.booting.proofs.Laws.{AreFormed, slot-behind-boot, slot-in-memory, slot-of-one}
 use Rattle.model.specs.Acceptance.NotedKernel.{key_of, slots_of_cnode, stands_in}
 use Rattle.model.specs.Acceptance.NotedStates.{SlotKey}
 use Rattle.model.specs.Acceptance.ThreadRules.{is_member, reached}
@@ -46,7 +45,7 @@ pub record IsFound (test : ℕ → Bool) (numbers : List ℕ) (number : ℕ) : T
   pub member : is_member number numbers ≡ true
   pub passes : test number ≡ true
 
-or-second : (a b : Bool) → b ≡ true → (a || b) ≡ true
+pub or-second : (a b : Bool) → b ≡ true → (a || b) ≡ true
 or-second true b is = refl
 or-second false b is = is
 

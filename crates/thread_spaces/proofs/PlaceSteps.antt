@@ -8,8 +8,7 @@ use Rattle.std.proofs.lemmas.List.Sums.{fold-append}
 use Rattle.std.proofs.Math.Pow.{pow_mono}
 use Rattle.std.proofs.lemmas.Option.{get_or_from_slice_get, slice_get_within}
 use Rattle.fitting.proofs.ImageFits.{is-fitting}
-use Rattle.booting.proofs.PlacesObjects.{object-stands}
-use Rattle.booting.proofs.PlacesRules.{are-formed}
+use Rattle.booting.proofs.Laws.{are-formed, object-stands, used_with}
 use Rattle.model.specs.Acceptance.Accepted.{IsWellFormed}
 use Rattle.model.specs.declared.entries.ObjectEntry.{ObjectEntry}
 use Rattle.model.specs.declared.entries.UntypedEntry.{UntypedEntry}
@@ -46,9 +45,6 @@ is-placed image number fits formed less =
 
 -- ---- how much is used
 
-abbrev stepped : ℕ → ℕ → ObjectEntry → ℕ
-stepped untyped used o = if o.untyped == untyped then place_of_object used (bits_of o) 1 else used
-
 pub used-none : (untyped : ℕ) → used_by [] untyped ≡ 0
 unfolding used_by
 used-none untyped = refl
@@ -60,7 +56,7 @@ used-next objects n o untyped is =
     let at : get_or objects n o ≡ o = get_or_from_slice_get objects n o o is in
     let parts : take (n + 1) objects ≡ take n objects ++ (o ∷ []) =
     rw (add-one n) (take-suc objects n o (slice_get_within objects n o is) ∙ ap (λ x. take n objects ++ (x ∷ [])) at) in
-    ap (fold (stepped untyped) 0) parts ∙ fold-append (stepped untyped) 0 (take n objects) (o ∷ [])
+    ap (fold (used_with untyped) 0) parts ∙ fold-append (used_with untyped) 0 (take n objects) (o ∷ [])
 
 pub places-none : (image : Image) → AreOffsets image 0 []
 places-none image = record { size = refl; place = λ number less. absurd (omega (arith, less)) }

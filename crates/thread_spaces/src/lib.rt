@@ -3,19 +3,19 @@
 
 mod capabilities;
 mod given_slots;
-mod laws;
 mod offsets;
 mod own_slots;
 mod reach;
+mod space_laws;
 mod spaces;
 mod windows;
 
 pub use given_slots::slots_of;
-pub use laws::{
-    mappings_are_listed, programs_have_their_places, root_tables_are_placed, threads_stand_apart,
-};
 pub use offsets::offsets_of;
 pub use own_slots::slots_are_own;
 pub use reach::reached_of;
+pub use space_laws::{
+    mappings_are_listed, programs_have_their_places, root_tables_are_placed, threads_stand_apart,
+};
 pub use spaces::given_space;
 pub use windows::windows_of;

@@ -4,8 +4,7 @@ use Rattle.std.specs.Prelude.{flat_map, int_lt, pos, slice_get}
 use Rattle.std.specs.List.{Contains, enumerate_from, range_with_len}
 use Rattle.std.proofs.lemmas.Bool.{not-false}
 use Rattle.std.proofs.lemmas.Option.{none-some, same_Some}
-use Rattle.thread_facts.proofs.RulesKept.{kept-right, kept-left, not-refused}
-use Rattle.booting.proofs.PlacesRules.{range-at}
+use Rattle.booting.proofs.Laws.{kept-before, kept-behind, kept-of, not-refused, range-at}
 use Rattle.model.specs.Acceptance.Accepted.{AreKept}
 use Rattle.model.specs.Acceptance.Measures.{measured}
 use Rattle.model.specs.Acceptance.NotedStates.{PointState, are_same_slots, has_stray_slots, image_slots}
@@ -16,21 +15,13 @@ use Rattle.model.specs.Images.Described.{Numbered, numbered_threads, start_regis
 use Rattle.model.specs.Images.Image.{Image, Thread}
 use Rattle.thread_starts.proofs.ListFacts.{contained}
 
--- ---- rules one by one
-
--- the rules of one entry
-pub of-entry : {A : Type 0} (f : A → List Rule) (xs : List A) → AreKept (flat_map f xs) → (k : ℕ) (x : A) → slice_get xs k ≡ Some x → AreKept (f x)
-of-entry f [] kept k x at = absurd (none-some x at)
-of-entry f (y ∷ ys) kept zero x at = subst (λ z. AreKept (f z)) (same_Some y x at) (kept-left (f y) (flat_map f ys) kept)
-of-entry f (y ∷ ys) kept (suc k) x at = of-entry f ys (kept-right (f y) (flat_map f ys) kept) k x at
-
 -- ---- the rules of a thread, and of one of its points
 
 pub point-kept : (image : Image) (t : Numbered) (point : ℕ) → AreKept (rules_of_program image t) → point < t.thread.header.words → AreKept (point_rules image t point)
 unfolding rules_of_program
 point-kept image t point kept less =
-    of-entry (point_rules image t) (range_with_len 0 t.thread.header.words)
-    (kept-right (entry_rules image t (noted image t t.thread.header.entry)) (flat_map (point_rules image t) (range_with_len 0 t.thread.header.words)) kept)
+    kept-of (point_rules image t) (range_with_len 0 t.thread.header.words)
+    (kept-behind (entry_rules image t (noted image t t.thread.header.entry)) (flat_map (point_rules image t) (range_with_len 0 t.thread.header.words)) kept)
     point point (range-at t.thread.header.words point less)
 
 -- ---- a point
@@ -66,7 +57,7 @@ pub entry-kept : (image : Image) (t : Numbered) → AreKept (rules_of_program im
 unfolding rules_of_program
 entry-kept image t kept =
     by-noted image t (noted image t t.thread.header.entry) refl
-    (kept-left (entry_rules image t (noted image t t.thread.header.entry)) (flat_map (point_rules image t) (range_with_len 0 t.thread.header.words)) kept)
+    (kept-before (entry_rules image t (noted image t t.thread.header.entry)) (flat_map (point_rules image t) (range_with_len 0 t.thread.header.words)) kept)
 
 -- ---- the thread's number
 

@@ -1,21 +1,17 @@
 -- The frames of code hold the programs, and nothing else is filled into them.
-use Rattle.std.proofs.Common.{ℕ, zero, suc, ◌≡◌, ◌≢◌, ◌∙◌, ◌==◌, ◌+◌, ◌-◌, ◌*◌, ◌^◌, ◌<◌, ◌≤◌, ◌&&◌, inl, inr, Bool, true, false, not, take, drop, map, if◌then◌else◌, List, [], ◌∷◌, length, Option, Some, None, option_map, refl, sym, ap, subst, arith}
-use Rattle.std.specs.Prelude.{filter_map, flat_map, slice_get, slice_index}
+use Rattle.std.proofs.Common.{ℕ, zero, suc, ◌≡◌, ◌≢◌, ◌∙◌, ◌==◌, ◌+◌, ◌-◌, ◌*◌, ◌^◌, ◌<◌, ◌≤◌, ◌&&◌, inl, inr, Bool, true, false, not, take, drop, map, if◌then◌else◌, length, Option, Some, None, option_map, refl, sym, ap, subst, arith}
+use Rattle.std.specs.Prelude.{flat_map, slice_get, slice_index}
 use Rattle.std.specs.Option.{option_map_or}
-use Rattle.std.specs.List.{All, cons_option, list_any, range_with_len}
+use Rattle.std.specs.List.{All, list_any, range_with_len}
 use Rattle.std.proofs.lemmas.Bool.{and_parts, eq-eqb, eqb-true, cases_lt, false≢true, or_left, or_parts, or_right}
 use Rattle.std.proofs.lemmas.Bool.Decides.{eqb_tells}
-use Rattle.std.proofs.lemmas.List.{get_or-drop, get_or-take, get_or_past, length-append, length-drop, length-take}
-use Rattle.std.proofs.lemmas.List.Elements.{All-append, All-cons, All-map, All-nil}
+use Rattle.std.proofs.lemmas.List.{get_or-drop, get_or-take, get_or_past, length-drop, length-take}
+use Rattle.std.proofs.lemmas.List.Elements.{All-append, All-map}
 use Rattle.std.proofs.lemmas.Option.{none-some, same_Some}
 use Rattle.fitting.specs.Fitting.{CertificateFits, FrameFits, IsFitting}
 use Rattle.fitting.proofs.Certificates.{certificates-fit}
 use Rattle.fitting.proofs.ImageFits.{is-fitting}
-use Rattle.booting.proofs.PlacesObjects.{objects-apart}
-use Rattle.booting.proofs.PlacesRules.{AreFormed, FrameKept, ThreadKept, are-formed, numbered-at}
-use Rattle.booting.proofs.ReadingsRoom.{any-taken}
-use Rattle.booting.proofs.SoundWords.{each-all, flat-all}
-use Rattle.booting.proofs.WholeFits.{contents-fit}
+use Rattle.booting.proofs.Laws.{AreFormed, FrameKept, ThreadKept, any-taken, are-formed, bytes-long, contents-fit, each-all, filtered-all, flat-all, numbered-at, objects-apart}
 use Rattle.model.specs.declared.entries.FrameEntry.{FrameEntry}
 use Rattle.model.specs.declared.entries.ObjectEntry.{ObjectEntry}
 use Rattle.model.specs.Acceptance.Accepted.{IsWellFormed}
@@ -28,23 +24,15 @@ use Rattle.model.specs.Images.Image.{Image, ImageContent, Thread, whole_image}
 use Rattle.model.specs.Images.Places.{bits_of, object_at, offset_of, type_at}
 use Rattle.model.specs.Kernel.AddressSpaces.{page_size}
 use Rattle.model.specs.Kernel.Retype.{NewObject, NewUntyped, NewThread, NewEndpoint, NewNotification, NewCNode, NewFrame, NewPageTable, NewRootTable, is_frame, object_bits, type_of}
-use Rattle.model.specs.Shared.Bytes.{word_bytes}
 use Rattle.model.proofs.SlotChanges.{within-bounds, bounds-within}
 use Rattle.thread_spaces.specs.Given.{IsListed}
-use Rattle.thread_spaces.proofs.BootParents.{find-passed}
+use Rattle.thread_spaces.proofs.Laws.{find-passed}
 use Rattle.thread_starts.proofs.LastFills.{Leaves, any-behind, any-filtered, any-flat, byte-left}
 use Rattle.thread_starts.proofs.ListFacts.{none-at}
 use Rattle.thread_starts.proofs.StartMaps.{IsOnlyCode, only-code}
 use Rattle.thread_starts.proofs.StartPlaces.{IsPageOfCode}
 
 -- ---- bytes of words
-
-word-long : (words : List ℕ) → length (bytes_of words) ≡ 4 * length words
-word-long [] = refl
-word-long (w ∷ ws) = let rest = word-long ws in omega (arith, length-append (word_bytes w) (bytes_of ws), four w, rest)
-  where
-    four : (w : ℕ) → length (word_bytes w) ≡ 4
-    four w = refl
 
 -- a frame is a page large
 frame-kind : (kind : Option NewObject) → is_frame_type kind ≡ true → (option_map_or is_frame kind false ≡ true) × (option_map_or object_bits kind 0 ≡ 12)
@@ -64,14 +52,6 @@ any-range test from (suc count) zero less is = let here : from + 0 ≡ from = om
 any-range test from (suc count) (suc n) less is =
     let there : from + suc n ≡ from + 1 + n = omega arith in
     or_right (test from) (list_any test (range_with_len (from + 1) count)) (any-range test (from + 1) count n (omega (arith, less)) (ap test (sym there) ∙ is))
-
-filtered-all : {A B : Type 0} (P : B → Type 0) (f : A → Option B) (xs : List A) → ((x : A) (y : B) → f x ≡ Some y → P y) → All P (filter_map f xs)
-filtered-all P f [] each = All-nil P
-filtered-all P f (x ∷ xs) each =
-    elim (f x) as (λ o. f x ≡ o → All P (cons_option o (filter_map f xs))) [
-      | None ↦ λ _. filtered-all P f xs each
-      | Some y ↦ λ is. All-cons P y (filter_map f xs) (each x y is) (filtered-all P f xs each)
-    ] refl
 
 module _ (image : Image) (fits : whole_image.fits image ≡ true) (well : IsWellFormed image) (t : Thread) (listed : IsListed image t) (page : ℕ) (code : IsPageOfCode image t page) where
   fitting : IsFitting image
@@ -221,7 +201,7 @@ module _ (image : Image) (fits : whole_image.fits image ≡ true) (well : IsWell
       own-length : o < length (page_bytes t address)
       own-length =
           let words : length t.words ≡ t.header.words = CertificateFits.words (certificates-fit image listed.number t fits listed.listed) in
-          let bytes = word-long t.words in
+          let bytes = bytes-long t.words in
           let taken = length-take page_size (drop (address - t.header.base) (bytes_of t.words)) in
           let dropped = length-drop (address - t.header.base) (bytes_of t.words) in
           omega (arith, words, bytes, taken, dropped, reach, inside)

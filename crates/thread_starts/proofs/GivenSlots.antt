@@ -1,14 +1,12 @@
 -- The slots of a thread's CNodes hold what the image lists, and nothing else.
-use Rattle.std.proofs.Common.{ℕ, zero, suc, ◌≡◌, ◌∙◌, ◌+◌, ◌^◌, ◌<◌, ◌≤◌, ◌&&◌, inl, inr, Bool, true, false, not, if◌then◌else◌, filter, map, List, [], ◌∷◌, Option, Some, None, option_and_then, refl, sym, ap, subst, arith}
-use Rattle.std.specs.Prelude.{nat_lt, slice_get}
+use Rattle.std.proofs.Common.{ℕ, zero, suc, ◌≡◌, ◌∙◌, ◌+◌, ◌^◌, ◌<◌, ◌≤◌, ◌&&◌, inl, inr, true, false, not, if◌then◌else◌, filter, map, List, [], ◌∷◌, Option, Some, None, option_and_then, refl, sym, ap, subst, arith}
+use Rattle.std.specs.Prelude.{slice_get}
 use Rattle.std.specs.Option.{option_map_or}
 use Rattle.std.proofs.lemmas.Bool.{and_parts, eq-eqb, false≢true}
 use Rattle.std.proofs.lemmas.Option.{none-some, same_Some, slice_get_within}
 use Rattle.fitting.specs.Fitting.{CapabilityFits, InterruptFits, IsFitting, ThreadFits}
 use Rattle.fitting.proofs.ImageFits.{is-fitting}
-use Rattle.booting.proofs.PlacesRules.{AreFormed, CapabilityKept, ThreadKept, are-formed}
-use Rattle.booting.proofs.PlacesSlots.{boot-slots-suffice, cnode-slot, cspace-slot, slot-behind-boot, slot-of-one, vspace-slot}
-use Rattle.booting.proofs.SoundBooted.{described-sound}
+use Rattle.booting.proofs.Laws.{AreFormed, CapabilityKept, ThreadKept, are-formed, boot-slots-suffice, cnode-slot, cspace-slot, described-sound, no-thread, slot-behind-boot, slot-of-one, vspace-slot}
 use Rattle.model.specs.declared.capabilities.Cap.TheVariants.{Empty}
 use Rattle.model.specs.declared.entries.CapabilityEntry.{CapabilityEntry}
 use Rattle.model.specs.declared.slot_entries.Entry.{Entry}
@@ -16,23 +14,18 @@ use Rattle.model.specs.Acceptance.Accepted.{IsWellFormed}
 use Rattle.model.specs.Acceptance.NotedKernel.{key_of, noted_after, noted_of, slot_of_key}
 use Rattle.model.specs.Acceptance.NotedStates.{NotedSlot, SlotKey, image_slots, is_own, is_same_key, listed_slot, number_of, slot_at}
 use Rattle.model.specs.Acceptance.ThreadRules.{is_member, reached}
-use Rattle.model.specs.Acceptance.WellFormed.{has_slot, is_thread_type, radix_of}
+use Rattle.model.specs.Acceptance.WellFormed.{has_slot}
 use Rattle.model.specs.Capabilities.Slots.{IsFull, capability_at, is_empty, parent_at}
 use Rattle.model.specs.Images.Described.{described, is_object_slot, listed_capability, listed_parent}
 use Rattle.model.specs.Images.Image.{Image, Thread, pair_key, whole_image}
 use Rattle.model.specs.Images.Places.{boot_slots, cnode_slot, offset_of, type_at}
-use Rattle.model.specs.Kernel.Retype.{NewObject, NewUntyped, NewThread, NewEndpoint, NewNotification, NewCNode, NewFrame, NewPageTable, NewRootTable}
 use Rattle.model.specs.Kernel.State.{boot_area_slots, cspace_slot, vspace_slot}
 use Rattle.typestate.specs.Spaces.{StandsApart}
 use Rattle.typestate.proofs.NamedKeys.{same-own-key}
 use Rattle.typestate.proofs.Rising.{from-first}
 use Rattle.typestate.proofs.Standing.{after-is, back-of, found-key}
 use Rattle.thread_spaces.specs.Given.{IsListed}
-use Rattle.thread_spaces.proofs.DescribedSlots.{capability-shown, listed-shown, parent-shown}
-use Rattle.thread_spaces.proofs.EachHolding.{OfSections, each-slot, each-two}
-use Rattle.thread_spaces.proofs.ListedSlots.{slots-rise, slots_in}
-use Rattle.thread_spaces.proofs.ParentsInBoot.{parent-in-boot}
-use Rattle.thread_spaces.proofs.StandingApart.{stands-apart}
+use Rattle.thread_spaces.proofs.Laws.{OfSections, capability-shown, each-slot, each-two, listed-shown, negated, parent-in-boot, parent-shown, slots-rise, slots_in, stands-apart}
 
 -- ---- the slots that capabilities are listed for
 
@@ -94,22 +87,6 @@ not-missed image cnodes (d ∷ rest) key k c at among same =
           | true ↦ λ _ clash. none-some (listed_slot image d) (sym clash)
           | false ↦ λ other none. behind k at others other none
         ] refl
-
--- a CNode is no thread
-no-thread : (kind : Option NewObject) (index : ℕ) → option_map_or (λ radix. nat_lt index (2 ^ radix)) (radix_of kind) false ≡ true → is_thread_type kind ≡ true → ⊥
-no-thread None index slot thread = false≢true slot
-no-thread (Some (NewUntyped bits)) index slot thread = false≢true slot
-no-thread (Some NewThread) index slot thread = false≢true slot
-no-thread (Some NewEndpoint) index slot thread = false≢true slot
-no-thread (Some NewNotification) index slot thread = false≢true slot
-no-thread (Some (NewCNode radix)) index slot thread = false≢true thread
-no-thread (Some NewFrame) index slot thread = false≢true slot
-no-thread (Some NewPageTable) index slot thread = false≢true slot
-no-thread (Some NewRootTable) index slot thread = false≢true slot
-
-negated : (b : Bool) → not b ≡ true → b ≡ false
-negated true clash = absurd (false≢true clash)
-negated false is = refl
 
 -- a slot for which a capability is listed
 pub record HoldsListed (image : Image) (slot : ℕ) : Type 0 where

@@ -1,12 +1,13 @@
-pub mod EntryRules
-pub mod FilledCode
-pub mod GivenSlots
-pub mod LastFills
-pub mod ListFacts
-pub mod ProgramWords
-pub mod SameSlots
-pub mod StartMaps
-pub mod StartObjects
-pub mod StartPlaces
-pub mod StartPrograms
-pub mod ThreadStarts
+mod EntryRules
+mod FilledCode
+mod GivenSlots
+mod LastFills
+mod ListFacts
+mod ProgramWords
+mod SameSlots
+mod StartMaps
+mod StartObjects
+mod StartPlaces
+mod StartPrograms
+mod ThreadStarts
+pub mod Laws

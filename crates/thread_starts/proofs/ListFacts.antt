@@ -1,17 +1,9 @@
 -- What is found in lists.
-use Rattle.std.proofs.Common.{ℕ, zero, suc, ◌≡◌, ◌∙◌, ◌+◌, ◌<◌, Bool, true, false, if◌then◌else◌, List, [], ◌∷◌, find, take, Some, sym, ap, arith}
+use Rattle.std.proofs.Common.{ℕ, zero, suc, ◌≡◌, ◌∙◌, ◌+◌, ◌<◌, Bool, true, false, List, [], ◌∷◌, Some, sym, ap, arith}
 use Rattle.std.specs.Prelude.{slice_get}
 use Rattle.std.specs.List.{Contains, list_all, list_any, range_with_len}
 use Rattle.std.proofs.lemmas.Bool.{and_parts, or_parts}
 use Rattle.std.proofs.lemmas.Option.{none-some, same_Some, slice_get-get_or, get_or_from_slice_get, slice_get_within}
-
--- the first that passes
-pub find-first : {A : Type 0} (test : A → Bool) (xs : List A) (k : ℕ) (x : A) → slice_get xs k ≡ Some x → list_any test (take k xs) ≡ false → test x ≡ true → find test xs ≡ Some x
-find-first test [] k x at none is = absurd (none-some x at)
-find-first test (y ∷ ys) zero x at none is = ap (λ b. if b then Some y else find test ys) (ap test (same_Some y x at) ∙ is) ∙ at
-find-first test (y ∷ ys) (suc k) x at none is =
-    let parts = or_parts (test y) (list_any test (take k ys)) none in
-    ap (λ b. if b then Some y else find test ys) parts.0 ∙ find-first test ys k x at parts.1 is
 
 -- what passes in a range
 pub all-range : (test : ℕ → Bool) (from count k : ℕ) → list_all test (range_with_len from count) ≡ true → k < count → test (from + k) ≡ true

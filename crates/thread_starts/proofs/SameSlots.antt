@@ -4,7 +4,7 @@ use Rattle.std.specs.Prelude.{slice_get}
 use Rattle.std.specs.Option.{option_map_or}
 use Rattle.std.specs.List.{list_any}
 use Rattle.std.proofs.lemmas.Bool.{and_parts, eqb-true, false≢true, or_parts, not-false}
-use Rattle.thread_facts.proofs.NotedKeys.{capabilities-equal}
+use Rattle.thread_facts.proofs.Laws.{capabilities-equal}
 use Rattle.model.specs.declared.entries.CapabilityEntry.{CapabilityEntry}
 use Rattle.model.specs.Acceptance.Accepted.{IsWellFormed}
 use Rattle.model.specs.Acceptance.NotedStates.{NotedSlot, PointState, SlotKey, are_same_slots, has_stray_slots, image_slots, is_foreign, is_own, is_same_key, is_same_parent, is_same_slot, is_stray, leads_to_boot, listed_slot, notes_outside, number_of, record_of}
@@ -15,8 +15,7 @@ use Rattle.model.specs.Images.Image.{Image, Thread, whole_image}
 use Rattle.image.proofs.CapabilityTests.{test-decides}
 use Rattle.typestate.proofs.NamedKeys.{same-own-key}
 use Rattle.thread_spaces.specs.Given.{IsListed}
-use Rattle.thread_spaces.proofs.DescribedSlots.{listed-valid}
-use Rattle.thread_spaces.proofs.ListedSlots.{slots_in}
+use Rattle.thread_spaces.proofs.Laws.{listed-valid, slots_in}
 use Rattle.thread_starts.proofs.GivenSlots.{listed-own, stand}
 
 -- ---- words

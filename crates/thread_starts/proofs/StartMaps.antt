@@ -7,9 +7,7 @@ use Rattle.std.proofs.lemmas.Bool.{and_parts, eq-eqb, eqb-true, cases_lt, false�
 use Rattle.std.proofs.lemmas.Option.{none-some, same_Some, slice_get_within, slice_get-get_or}
 use Rattle.fitting.specs.Fitting.{CapabilityFits, FrameFits, IsFitting, ThreadFits}
 use Rattle.fitting.proofs.ImageFits.{is-fitting}
-use Rattle.booting.proofs.PlacesObjects.{object-at, offsets-apart}
-use Rattle.booting.proofs.PlacesRules.{AreFormed, FrameKept, are-formed}
-use Rattle.booting.proofs.Readings.{ReadsBoot, mapping_of}
+use Rattle.booting.proofs.Laws.{AreFormed, FrameKept, ReadsBoot, are-formed, first_of_type, limited-frame, mapped_by, mapping_of, object-at, offsets-apart}
 use Rattle.model.specs.declared.capabilities.Cap.{Cap}
 use Rattle.model.specs.declared.capabilities.Cap.TheVariants.{Empty, Untyped, Endpoint, Notification, CNode, Frame, PageTable, Tcb, RootTable, InterruptControl, InterruptHandler}
 use Rattle.model.specs.declared.capabilities.FrameMapping.{FrameMapping}
@@ -33,12 +31,8 @@ use Rattle.model.specs.Images.Places.{cnode_slot, frame_copy_slot, interrupt_of,
 use Rattle.model.specs.Kernel.AddressSpaces.{Maps, page_size}
 use Rattle.model.specs.Kernel.Retype.{NewObject, NewUntyped, NewThread, NewEndpoint, NewNotification, NewCNode, NewFrame, NewPageTable, NewRootTable}
 use Rattle.soundness.proofs.Copies.{payload-mapping}
-use Rattle.booting.proofs.ReadingsTypes.{mapped_by}
 use Rattle.thread_spaces.specs.Given.{IsListed}
-use Rattle.thread_spaces.proofs.DescribedSlots.{boot-holds, capability-shown, from-loaded, listed-shown}
-use Rattle.thread_spaces.proofs.EachHolding.{OfSections, each-slot, each-two}
-use Rattle.thread_spaces.proofs.ListedCapabilities.{first_of_type, listed-handler, listed-object}
-use Rattle.thread_spaces.proofs.ListedSlots.{slots_in}
+use Rattle.thread_spaces.proofs.Laws.{boot-holds, capability-shown, from-loaded, listed-shown, OfSections, each-slot, each-two, listed-handler, listed-object, slots_in}
 use Rattle.thread_starts.proofs.GivenSlots.{IsListedSlot}
 use Rattle.thread_starts.proofs.ListFacts.{contained, contains, none-at}
 
@@ -112,19 +106,6 @@ first-frame (Some NewRootTable) offset = refl
 original-no-frame : (image : Image) (number : ℕ) → frame_mapping (original image number) ≡ None
 original-no-frame image number =
     table-frame image (find (λ e. e.table == number) image.tables) (first_of_type (type_at image number) (offset_of image number)) ∙ first-frame (type_at image number) (offset_of image number)
-
-limited-frame : (c : Cap) (word payload : ℕ) → frame_mapping (limited c word payload) ≡ frame_mapping c
-limited-frame Empty word payload = refl
-limited-frame (Untyped _ _ _) word payload = refl
-limited-frame (Endpoint _ _ _) word payload = refl
-limited-frame (Notification _ _ _) word payload = refl
-limited-frame (CNode _ _ _) word payload = refl
-limited-frame (Frame _ _ _) word payload = refl
-limited-frame (PageTable _ _) word payload = refl
-limited-frame (Tcb _) word payload = refl
-limited-frame (RootTable _) word payload = refl
-limited-frame InterruptControl word payload = refl
-limited-frame (InterruptHandler _) word payload = refl
 
 handler-frame : (found : Option InterruptEntry) → frame_mapping (option_map_or (λ (i : InterruptEntry). InterruptHandler i.line) found Empty) ≡ None
 handler-frame None = refl

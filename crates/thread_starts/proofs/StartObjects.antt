@@ -5,9 +5,7 @@ use Rattle.std.specs.Option.{option_map_or}
 use Rattle.std.proofs.lemmas.Bool.{and_parts, eq-eqb, leb-true, ne_eqb}
 use Rattle.fitting.specs.Fitting.{IsFitting, ThreadFits}
 use Rattle.fitting.proofs.ImageFits.{is-fitting}
-use Rattle.booting.proofs.ObjectsThere.{first-at}
-use Rattle.booting.proofs.PlacesObjects.{offsets-apart}
-use Rattle.booting.proofs.PlacesRules.{AreFormed, ThreadKept, are-formed}
+use Rattle.booting.proofs.Laws.{first-at, offsets-apart, AreFormed, ThreadKept, are-formed}
 use Rattle.model.specs.declared.ranges.Range.{Range}
 use Rattle.model.specs.Acceptance.Accepted.{IsWellFormed}
 use Rattle.model.specs.Acceptance.NotedStates.{PointState}
@@ -22,7 +20,8 @@ use Rattle.model.specs.Kernel.Retype.{object}
 use Rattle.model.specs.Kernel.State.{ThreadObject}
 use Rattle.ranges.proofs.WrittenRegisters.{kept_register, zero_kept}
 use Rattle.thread_spaces.specs.Given.{IsListed}
-use Rattle.thread_starts.proofs.ListFacts.{all-range, find-first}
+use Rattle.thread_spaces.proofs.Laws.{find-at}
+use Rattle.thread_starts.proofs.ListFacts.{all-range}
 
 pub object-started : (image : Image) (t : Thread) → whole_image.fits image ≡ true → IsWellFormed image → IsListed image t
     → (described image).objects (offset_of image t.header.tcb) ≡ Some (ThreadObject (listed_thread t))
@@ -38,7 +37,7 @@ object-started image t fits well listed =
     (λ k low high other. elsewhere offset k (λ same. other (offsets-apart image k tcb fitting formed (omega (arith, high)) inside same)))
     ∙ ap (λ b. if b then described_object image tcb else None) (eq-eqb offset offset refl)
     ∙ ap (λ (found : Option Thread). option_map_or (λ u. Some (ThreadObject (listed_thread u))) found (option_and_then object (type_at image tcb)))
-    (find-first (λ (u : Thread). u.header.tcb == tcb) image.threads listed.number t listed.listed (ThreadKept.once kept) (eq-eqb tcb tcb refl))
+    (find-at (λ (u : Thread). u.header.tcb == tcb) image.threads listed.number t listed.listed (ThreadKept.once kept) (eq-eqb tcb tcb refl))
   where
     elsewhere : (offset k : ℕ) → offset_of image k ≢ offset → object_there image offset k ≡ None
     elsewhere offset k other = ap (λ b. if b then described_object image k else None) (ne_eqb (offset_of image k) offset other)

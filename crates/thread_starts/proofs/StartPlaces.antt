@@ -9,10 +9,7 @@ use Rattle.std.proofs.lemmas.Option.{none-some, same_Some, slice_get_within, sli
 use Rattle.fitting.specs.Fitting.{FrameFits, IsFitting}
 use Rattle.fitting.proofs.ImageFits.{is-fitting}
 use Rattle.booting.specs.Loading.{all_loaded}
-use Rattle.booting.proofs.PlacesRules.{AreFormed, ThreadKept, are-formed, range-at}
-use Rattle.booting.proofs.PlacesSlots.{boot-slots-suffice}
-use Rattle.booting.proofs.Readings.{ReadsBoot}
-use Rattle.booting.proofs.ReadingsRoom.{reads-vspace}
+use Rattle.booting.proofs.Laws.{AreFormed, ReadsBoot, ThreadKept, are-formed, boot-slots-suffice, first_of_type, range-at, reads-vspace}
 use Rattle.model.specs.declared.capabilities.Cap.{Cap}
 use Rattle.model.specs.declared.capabilities.Cap.TheVariants.{Empty, Untyped, Endpoint, Notification, CNode, Frame, PageTable, Tcb, RootTable, InterruptControl, InterruptHandler}
 use Rattle.model.specs.declared.capabilities.FrameMapping.{FrameMapping}
@@ -34,10 +31,7 @@ use Rattle.model.specs.Kernel.Retype.{NewObject, NewUntyped, NewThread, NewEndpo
 use Rattle.model.specs.Kernel.Scheduling.{head_of}
 use Rattle.model.specs.Kernel.State.{slot_numbers, slots_of, vspace_slot}
 use Rattle.thread_spaces.specs.Given.{IsListed}
-use Rattle.thread_spaces.proofs.BootParents.{find-passed}
-use Rattle.thread_spaces.proofs.DescribedSlots.{all-within, boot-holds, capability-shown, from-loaded}
-use Rattle.thread_spaces.proofs.ListedCapabilities.{first_of_type, original-plain}
-use Rattle.thread_spaces.proofs.OwnPlaces.{boot-room}
+use Rattle.thread_spaces.proofs.Laws.{find-passed, all-within, boot-holds, capability-shown, from-loaded, original-plain, boot-room}
 use Rattle.thread_starts.proofs.ListFacts.{all-at, contained}
 use Rattle.thread_starts.proofs.StartMaps.{maps-listed}
 

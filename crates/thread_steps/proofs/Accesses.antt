@@ -10,8 +10,7 @@ use Rattle.std.proofs.lemmas.Option.{slice_get-get_or}
 use Rattle.model.specs.declared.entries.FrameEntry.{FrameEntry}
 use Rattle.model.specs.declared.instructions.Access.{Access}
 use Rattle.model.specs.declared.instructions.Access.TheVariants as accesses
-use Rattle.thread_facts.proofs.WiderRanges.{holds-at}
-use Rattle.thread_facts.proofs.MappedPages.{page-held, page-mapped}
+use Rattle.thread_facts.proofs.Laws.{holds-at, page-held, page-mapped}
 use Rattle.model.specs.declared.instructions.AccessSize.{AccessSize}
 use Rattle.model.specs.declared.instructions.AccessSize.TheVariants.{Byte, Halfword, Word}
 use Rattle.model.specs.declared.instructions.Instr.{Instr}

@@ -3,13 +3,11 @@ use Rattle.std.proofs.Common.{ℕ, ◌≡◌, ◌+◌, ◌*◌, ◌%◌, ◌^◌
 use Rattle.std.specs.Prelude.{Contains, slice_get}
 use Rattle.std.specs.List.{list_all}
 use Rattle.std.proofs.lemmas.Bool.{cases_eq, eqb-true, ltb-false}
-use Rattle.thread_facts.proofs.ListedThreads.{thread-entry}
-use Rattle.thread_facts.proofs.RootTables.{root-original}
+use Rattle.thread_facts.proofs.Laws.{thread-entry, root-original}
 use Rattle.fitting.specs.Fitting.{IsFitting}
 use Rattle.fitting.proofs.ImageFits.{is-fitting}
 use Rattle.booting.specs.Standing.{StandApart}
-use Rattle.booting.proofs.PlacesApart.{stand-apart}
-use Rattle.booting.proofs.PlacesRules.{AreFormed, are-formed}
+use Rattle.booting.proofs.Laws.{stand-apart, AreFormed, are-formed}
 use Rattle.falling.specs.Terms.{NamesRegisters}
 use Rattle.model.specs.Acceptance.Accepted.{IsAccepted}
 use Rattle.model.specs.Acceptance.NotedStates.{PointState}

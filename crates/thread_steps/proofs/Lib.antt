@@ -1,11 +1,12 @@
-pub mod Accesses
-pub mod Budgets
-pub mod CodeStays
-pub mod EdgesTaken
-pub mod GivenThreads
-pub mod KeptRules
-pub mod NotedForms
-pub mod PlainSteps
-pub mod PointForms
-pub mod ProgramStays
-pub mod SameSlots
+mod Accesses
+mod Budgets
+mod CodeStays
+mod EdgesTaken
+mod GivenThreads
+mod KeptRules
+mod NotedForms
+mod PlainSteps
+mod PointForms
+mod ProgramStays
+mod SameSlots
+pub mod Laws

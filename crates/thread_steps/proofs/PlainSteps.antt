@@ -10,8 +10,7 @@ use Rattle.model.specs.declared.instructions.Access.TheVariants as accesses
 use Rattle.model.specs.declared.instructions.AccessSize.TheVariants.{Word}
 use Rattle.model.specs.declared.instructions.Exec.{Exec}
 use Rattle.model.specs.declared.instructions.Exec.TheVariants as outcomes
-use Rattle.thread_facts.proofs.WiderRanges.{within-wider}
-use Rattle.thread_facts.proofs.ThreadObjects.{read-less, at-place}
+use Rattle.thread_facts.proofs.Laws.{within-wider, read-less, at-place, decoded-instr}
 use Rattle.model.specs.declared.instructions.Instr.{Instr}
 use Rattle.model.specs.declared.instructions.Instr.TheVariants.{Upper, Jal, Jalr, Branch, Load, Store, Immediate, Shift, Registers, Fence, Ecall, Ebreak}
 use Rattle.model.specs.declared.labels.Label.{Label}
@@ -38,7 +37,6 @@ use Rattle.model.specs.Machine.Instructions.{IsInstr}
 use Rattle.model.specs.Machine.ProgramMemory.{Content, RegisterFile, loaded}
 use Rattle.soundness.proofs.Stepped.{byte-less}
 use Rattle.ranges.specs.Standing.{AreWords}
-use Rattle.thread_facts.proofs.DecodedFields.{decoded-instr}
 use Rattle.thread_steps.specs.Points.{IsPoint, LeadsOn, ReachesNoCall}
 use Rattle.thread_steps.specs.Taken.{IsPlain, MayTake, edges_among}
 use Rattle.thread_steps.proofs.Accesses.{reaches-mapped}

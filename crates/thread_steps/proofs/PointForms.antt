@@ -1,5 +1,5 @@
 -- What a certificate notes of a point has its form: 31 ranges, and parents with indices of 32 bits.
-use Rattle.std.proofs.Common.{ℕ, zero, suc, ◌≡◌, ◌∙◌, ◌==◌, ◌+◌, ◌^◌, ◌&&◌, ◌||◌, Bool, true, false, not, nat_le, nat_lt, if◌then◌else◌, find, Option, Some, None, Result, Ok, Err, option_map, is_some, List, [], ◌∷◌, take, length, refl, ap, subst, pos}
+use Rattle.std.proofs.Common.{ℕ, zero, suc, ◌≡◌, ◌∙◌, ◌==◌, ◌+◌, ◌^◌, ◌&&◌, ◌||◌, Bool, true, false, not, nat_le, nat_lt, if◌then◌else◌, Option, Some, None, Result, Ok, Err, option_map, is_some, List, [], ◌∷◌, take, length, refl, ap, subst, pos}
 use Rattle.std.specs.Prelude.{fold, slice_get}
 use Rattle.std.specs.Option.{option_map_or}
 use Rattle.std.specs.List.{list_all, list_any}
@@ -42,6 +42,7 @@ use Rattle.model.specs.Kernel.Steps.{SendCall, Calling, Sending, Trying, Receivi
 use Rattle.model.specs.declared.invocations.Invocation.{Invocation}
 use Rattle.thread_steps.specs.Formed.{HasForm, is_low}
 use Rattle.thread_steps.proofs.NotedForms.{AreLow, after-low, all-long, behind-long, entries-long, image-low, noted-low, with-long}
+use Rattle.booting.proofs.Laws.{find-get}
 
 -- ---- branches
 
@@ -301,20 +302,13 @@ records-fit image number t is listed =
     let whole = and_parts (sections_format.fits (sections_of image)) threads is in
     thread-fits h.objects t (many-each (λ _. thread_format (slots_format h.objects) h.objects) (λ _. 0) 0 h.threads image.threads whole.1 number t listed).1
 
-find-at : {A : Type 0} (test : A → Bool) (xs : List A) (x : A) → find test xs ≡ Some x → (k : ℕ) × (slice_get xs k ≡ Some x)
-find-at test [] x is = absurd (let clash : None ≡ Some x = is in cc)
-find-at test (y ∷ ys) x is = elim (test y) as (λ b. (if b then Some y else find test ys) ≡ Some x → (k : ℕ) × (slice_get (y ∷ ys) k ≡ Some x)) [
-  | true ↦ λ here. (0, here)
-  | false ↦ λ later. let found = find-at test ys x later in (suc found.0, found.1)
-] is
-
 -- ---- points
 
 module _ (image : Image) (t : Numbered) (fits : whole_image.fits image ≡ true) (fitting : IsFitting image) (number : ℕ) (listed : slice_get image.threads number ≡ Some t.thread) where
   noted-form : (point : ℕ) (o : Option StateRecord) (otherwise : Noted) → record_of t.thread point ≡ o → NotedHasForm otherwise → NotedHasForm (noted_or image t.thread o otherwise)
   noted-form point None otherwise is form = form
   noted-form point (Some r) otherwise is form =
-      let found = find-at (λ (x : StateRecord). x.header.point == point) t.thread.records r is in
+      let found = find-get (λ (x : StateRecord). x.header.point == point) t.thread.records r is in
       record-form image t.thread r (records-fit image number t.thread fits listed found.0 r found.1)
 
   each-form : (point : ℕ) → NotedHasForm (noted image t point)

@@ -5,7 +5,7 @@ use Rattle.std.specs.List.{list_all, list_any}
 use Rattle.std.proofs.Math.Pow.{pow_mono}
 use Rattle.std.proofs.lemmas.Bool.{and_parts, cases_lt, eqb-true, ltb-true, not-false, or_cases, or_parts}
 use Rattle.std.proofs.lemmas.Option.{slice_get-get_or}
-use Rattle.thread_facts.proofs.NotedKeys.{same-low-key, capabilities-equal}
+use Rattle.thread_facts.proofs.Laws.{same-low-key, capabilities-equal}
 use Rattle.fitting.specs.Fitting.{IsFitting}
 use Rattle.fitting.proofs.FormatFits.{between-bounds}
 use Rattle.image.proofs.CapabilityTests.{test-decides}

@@ -6,7 +6,7 @@ use Rattle.thread_facts.specs.Waiting.{WaitsSo}
 use Rattle.kept_threads.proofs.StartHangs.{hangs-at-start}
 use Rattle.kept_threads.proofs.StartObjects.{listed-runs, others-inactive}
 use Rattle.kept_threads.proofs.standing_laws.all_stand_at_the_start.Goals as goal
-use Rattle.thread_facts.proofs.ListedThreads.{entry-from}
+use Rattle.thread_facts.proofs.Laws.{entry-from}
 
 pub returns : goal.returns
 unfolding described

@@ -1,8 +1,8 @@
 -- The root is one of the thread's CNodes, and what their slots hold leads to no others.
-use Rattle.thread_spaces.proofs.StandingApart.{stands-apart}
+use Rattle.thread_spaces.proofs.Laws.{stands-apart}
 use Rattle.thread_lookups.proofs.NotedLookups.{finds-noted}
 use Rattle.thread_lookups.proofs.lookup_laws.lookups_find_what_is_noted.Goals as goal
-use Rattle.thread_facts.proofs.ListedThreads.{is-listed}
+use Rattle.thread_facts.proofs.Laws.{is-listed}
 
 pub returns : goal.returns
 returns c = λ bytes image t s point state accepted listed same none.

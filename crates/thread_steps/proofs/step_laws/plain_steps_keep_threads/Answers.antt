@@ -1,7 +1,7 @@
 -- The thread stands at a point whose rules are kept, and takes one of its edges.
 use Rattle.std.proofs.Common.{ℕ, ◌≡◌, ◌++◌, List, [], ◌∷◌, Some, sym, subst}
 use Rattle.std.specs.Prelude.{Contains, false}
-use Rattle.booting.proofs.SoundBooted.{described-sound}
+use Rattle.booting.proofs.Laws.{described-sound}
 use Rattle.falling.proofs.NotedTerms.{noted-named}
 use Rattle.soundness.proofs.Sizes.{instructions-keep}
 use Rattle.soundness.proofs.Stepped.{events-whole}

@@ -1,6 +1,6 @@
 -- Each law as it is told.
-use Rattle.thread_moves.proofs.laws.laws_below.Goals as goal
-use Rattle.thread_facts.proofs.ListedThreads.{is-listed}
+use Rattle.thread_moves.proofs.below.laws_below.Goals as goal
+use Rattle.thread_facts.proofs.Laws.{is-listed}
 
 pub returns : goal.returns
 returns c = record {
