@@ -7,7 +7,7 @@ ghost use Rattle.asm_line.specs.Lines.{keyword_of, kind_of, thread_keyword_of};
 use crate::faults::SYNTAX;
 
 /// The word with which a line begins, where it is no label and no instruction.
-#[derive(Clone, Copy, Debug, PartialEq, Eq)]
+#[derive(Clone, Copy)]
 pub(crate) enum Keyword {
     Memory,
     Untyped,
