@@ -1,0 +1,101 @@
+//! What system calls leave, by the rules of acceptance.
+
+ghost use Rattle.std.specs.Prelude.{◌≡◌, []};
+ghost use Rattle.certifying.specs.Given.{IsGiven};
+
+use crate::Fault;
+use model::{Point, Refusal};
+use ranges::Bounds;
+use std::alloc::Global;
+use thread_spaces::{mappings_are_listed, slots_are_own, threads_stand_apart};
+use typestate::{Behind, NotedSlot, NotedSlots, Part, SlotLog, Space, no_stray_slot_leads_outside};
+
+/// A thread of an image without certificates: the CNodes that the image gives it, and what it puts into them.
+#[derive(Clone, Copy)]
+pub(crate) struct Given<'a, 's> {
+    pub(crate) space: Space<'a, 's>,
+    /// Which of the image's threads it is, from 0 on.
+    pub(crate) number: u32,
+    pub(crate) slots: &'s [NotedSlot],
+    /// Whether a slot that the image lists is one that the thread may not have.
+    pub(crate) lists_stray: bool,
+    pub(crate) alloc: Global,
+}
+
+/// What a system call leaves: of the registers, and of the slots as changes to those of the image.
+#[derive(Drop)]
+pub(crate) struct Called {
+    pub(crate) behind: Behind,
+    pub(crate) changes: Vec<NotedSlot>,
+}
+
+/// The changes that make a difference to the image's slots.
+fn told(alloc: Global, slots: &NotedSlots<'_>) -> Result<Vec<NotedSlot>, Fault> {
+    let mut kept = Vec::new(alloc);
+    for change in slots.changes {
+        if makes_difference(slots.image, change) {
+            kept.push(*change)?;
+        }
+    }
+    Ok(kept)
+}
+
+/// Whether a change leaves something else in its slot than the image puts there.
+fn makes_difference(listed: &[NotedSlot], change: &NotedSlot) -> bool {
+    for slot in listed {
+        if slot.key.is_same(change.key) {
+            return slot.capability != change.capability || change.parent.is_some();
+        }
+    }
+    change.capability != model::Cap::Empty
+}
+
+impl Given<'_, '_> {
+    /// What the system call at a point leaves, where these changes are made to the slots of the image.
+    pub(crate) fn called(
+        &self,
+        point: u32,
+        bounds: &Bounds,
+        changes: &[NotedSlot],
+    ) -> Result<Called, Fault>
+        requires { IsGiven self.now.space self.now.slots.now self.now.lists_stray }
+    {
+        let at = Point {
+            thread: self.number,
+            point,
+        };
+        let mut log = SlotLog::new(self.alloc);
+        let part = log.follow(Part { first: 0, end: 0 }, changes)?;
+        let mut made = Vec::new(self.alloc);
+        let behind = self.answered(at, bounds, &log.slots(self.slots, part), &mut made)?;
+        let part = log.follow(part, &made)?;
+        let changes = told(self.alloc, &log.slots(self.slots, part))?;
+        Ok(Called { behind, changes })
+    }
+
+    /// What the system call at a point leaves of the registers. The slots that it changes are put into the list, which is empty.
+    fn answered(
+        &self,
+        at: Point,
+        bounds: &Bounds,
+        slots: &NotedSlots<'_>,
+        made: &mut Vec<NotedSlot>,
+    ) -> Result<Behind, Fault>
+        requires given { IsGiven self.now.space self.now.slots.now self.now.lists_stray }
+        requires image { slots.now.image.now ≡ self.now.slots.now }
+        requires none { made.old.items ≡ [] }
+    {
+        if self.space.has_stray_slots(slots, None, self.lists_stray) {
+            return Err(Fault::refused(at.point, Refusal::CapNotThere(at)));
+        }
+        let _ = self.space.image.header();
+        threads_stand_apart();
+        mappings_are_listed();
+        no_stray_slot_leads_outside();
+        slots_are_own(self.space.image, self.space.thread, slots);
+        match self.space.after_call(slots, at, bounds, made)? {
+            Ok(behind) => Ok(behind),
+            Err(refusal) => Err(Fault::refused(at.point, refusal)),
+        }
+    }
+}

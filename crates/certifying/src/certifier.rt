@@ -1,0 +1,314 @@
+//! The certificates of all threads of an image that has none.
+
+ghost use Rattle.std.specs.Prelude.{◌≡◌, ◌<◌, [], false};
+ghost use Rattle.model.specs.Acceptance.Accepted.{IsWellFormed};
+ghost use Rattle.thread_spaces.specs.Given.{AreOffsets};
+ghost use Rattle.certifying.specs.Given.{IsGiven};
+
+use crate::calls::Given;
+use crate::costs::{Costs, cost_at};
+use crate::flow::Flow;
+use crate::forms::Form;
+use crate::loops::{Graph, changes, is_marked, no_marks};
+use crate::tables::{Table, start_bounds};
+use crate::ways::Way;
+use crate::{Fault, Reason};
+use image::{ImageRef, ThreadRef, read};
+use model::{Refusal, TermEntry};
+use ranges::Bounds;
+use std::alloc::Global;
+use thread_spaces::{given_space, offsets_of, reached_of, slots_of, windows_of};
+use typestate::NotedSlot;
+use wellformed::well_formed;
+
+/// What is noted at a point of a program.
+#[derive(Drop)]
+pub struct Record {
+    pub point: u32,
+    /// The constant of the measure.
+    pub constant: i64,
+    /// Its terms, at most four, their registers rising.
+    pub terms: Vec<TermEntry>,
+    pub bounds: Bounds,
+    /// The slots that differ from the image's.
+    pub changes: Vec<NotedSlot>,
+}
+
+/// A thread's certificate, with its records in the order of their points.
+#[derive(Drop)]
+pub struct Certificate {
+    /// How many instructions run at most from one wait to the next.
+    pub budget: u64,
+    pub records: Vec<Record>,
+}
+
+/// Why an image gets no certificates.
+#[derive(Clone, Copy, Debug, PartialEq, Eq)]
+pub enum Unfit {
+    /// It is not well formed.
+    Refused(Refusal),
+    /// For what is wrong at a point of a thread's program, both from 0.
+    Thread {
+        thread: u32,
+        point: u32,
+        reason: Reason,
+    },
+    /// Memory was refused.
+    OutOfMemory,
+}
+
+impl Unfit {
+    /// What is wrong with a thread.
+    fn of_thread(thread: u32, fault: Fault) -> Self {
+        match fault {
+            Fault::At { point, reason } => Unfit::Thread {
+                thread,
+                point,
+                reason,
+            },
+            Fault::OutOfMemory => Unfit::OutOfMemory,
+        }
+    }
+}
+
+/// The terms of a measure.
+fn terms_of(alloc: Global, cost: &Form, point: u32) -> Result<Vec<TermEntry>, Fault> {
+    let mut terms = Vec::new(alloc);
+    'registers: for register in 1..32u32 {
+        let times = cost.coefficient(register);
+        if times != 0 {
+            let Some(coefficient) = coefficient_of(times) else {
+                return Err(Fault::At {
+                    point,
+                    reason: Reason::NoMeasure,
+                });
+            };
+            terms.push(TermEntry {
+                register,
+                coefficient,
+            })?;
+        }
+    }
+    Ok(terms)
+}
+
+/// A number as a coefficient.
+fn coefficient_of(times: i64) -> Option<i32> {
+    if i64::from(i32::MIN) <= times && times <= i64::from(i32::MAX) {
+        Some(times as i32)
+    } else {
+        None
+    }
+}
+
+/// Sets a mark.
+fn set(marks: &mut Vec<bool>, point: u32) {
+    if let Some(mark) = marks.get_mut(point as usize) {
+        *mark = true;
+    }
+}
+
+/// Whether a way writes a register that a measure has.
+fn writes_term(way: &Way, cost: &Form) -> bool {
+    'registers: for register in 1..32u32 {
+        if cost.coefficient(register) != 0 && changes(way, register) {
+            return true;
+        }
+    }
+    false
+}
+
+/// The measure that follows a way to the next point, or none if that needs a record.
+fn following(way: &Way, measure: Option<Form>) -> Option<Form> {
+    if way.is_wait {
+        return Some(Form::constant(0));
+    }
+    let measure = measure?;
+    if writes_term(way, &measure) {
+        None
+    } else {
+        Some(measure)
+    }
+}
+
+/// Marks the points behind instructions that write a register of the measure there.
+fn mark_behind_writes(graph: &Graph, costs: &Costs, marks: &mut Vec<bool>) {
+    let mut measure = None;
+    'ways: for way in &graph.ways {
+        if way.is_jump {
+            continue;
+        }
+        if is_marked(marks, way.from) {
+            measure = cost_at(costs, way.from);
+        }
+        measure = following(way, measure);
+        if measure.is_none() {
+            set(marks, way.target);
+        }
+    }
+}
+
+/// Which points need records: the entry, those that jumps lead to, and those behind an instruction that writes a register of
+/// the measure there.
+fn marked_points(graph: &Graph, costs: &Costs) -> Result<Vec<bool>, Fault> {
+    let mut marks = no_marks(graph.alloc, graph.count)?;
+    set(&mut marks, graph.entry);
+    'targets: for way in &graph.ways {
+        if way.is_jump {
+            set(&mut marks, way.target);
+        }
+    }
+    mark_behind_writes(graph, costs, &mut marks);
+    Ok(marks)
+}
+
+/// The least budget: what the entry has to have with the registers at the start, and what stands behind waits.
+fn budget_of(graph: &Graph, costs: &Costs, start: &Bounds) -> u64 {
+    let mut most = 1;
+    if let Some(cost) = cost_at(costs, graph.entry) {
+        most = cost.greatest(start).max(1);
+    }
+    'waits: for way in &graph.ways {
+        if way.is_wait {
+            if let Some(cost) = cost_at(costs, way.target) {
+                most = most.max(cost.before(way).greatest(&way.before));
+            }
+        }
+    }
+    most.unsigned_abs()
+}
+
+/// The changes of slots at a point.
+fn changes_at(alloc: Global, flow: &Table, point: u32) -> Result<Vec<NotedSlot>, Fault> {
+    let mut changes = Vec::new(alloc);
+    if let Some(state) = flow.state(point) {
+        changes.extend_from_slice(&state.changes)?;
+    }
+    Ok(changes)
+}
+
+/// The records at all marked points.
+fn records_of(
+    graph: &Graph,
+    costs: &Costs,
+    table: &Table,
+    marks: &[bool],
+) -> Result<Vec<Record>, Fault> {
+    let mut records = Vec::new(graph.alloc);
+    'points: for point in 0..graph.count {
+        if let (true, Some(cost), Some(bounds)) = (
+            is_marked(marks, point),
+            cost_at(costs, point),
+            table.bounds(point),
+        ) {
+            records.push(Record {
+                point,
+                constant: cost.constant,
+                terms: terms_of(graph.alloc, &cost, point)?,
+                bounds,
+                changes: changes_at(graph.alloc, table, point)?,
+            })?;
+        }
+    }
+    Ok(records)
+}
+
+/// The ranges at all points.
+fn all_bounds(alloc: Global, count: u32, table: &Table) -> Result<Vec<Option<Bounds>>, Fault> {
+    let mut all = Vec::new(alloc);
+    'points: for point in 0..count {
+        all.push(table.bounds(point))?;
+    }
+    Ok(all)
+}
+
+impl Given<'_, '_> {
+    /// The thread's certificate.
+    fn certificate(&self) -> Result<Certificate, Fault>
+        requires { IsGiven self.now.space self.now.slots.now self.now.lists_stray }
+    {
+        let Flow { table, ways } = self.flow()?;
+        let bounds = all_bounds(self.alloc, self.count(), &table)?;
+        let entry = self.space.thread.header().entry;
+        let mut graph = Graph::new(self.alloc, self.count(), entry, ways, bounds)?;
+        graph.find_loops()?;
+        let costs = graph.all_costs()?;
+        let marks = marked_points(&graph, &costs)?;
+        Ok(Certificate {
+            budget: budget_of(&graph, &costs, &start_bounds(self.space.thread)),
+            records: records_of(&graph, &costs, &table, &marks)?,
+        })
+    }
+}
+
+/// Whether a thread's certificate has records.
+fn has_records(thread: &ThreadRef<'_>) -> bool
+    ensures { result ≡ false → thread.now.records ≡ [] }
+{
+    thread.records().next().is_some()
+}
+
+/// The certificate of a thread of a well-formed image, by its number. Records that stand are refused.
+fn certificate_of(
+    alloc: Global,
+    image: &ImageRef<'_>,
+    offsets: &[u32],
+    number: u32,
+) -> Result<Certificate, Fault>
+    requires formed { IsWellFormed image.now }
+    requires offsets { AreOffsets image.now image.now.header.objects offsets.now }
+    requires number { number < image.now.header.threads }
+{
+    let thread = image.thread(number);
+    if has_records(&thread) {
+        return Err(Fault::At {
+            point: 0,
+            reason: Reason::NotBare,
+        });
+    }
+    let Ok(cnodes) = reached_of(alloc, image, &thread) else {
+        return Err(Fault::OutOfMemory);
+    };
+    let windows = windows_of(alloc, image, &thread, offsets, &cnodes)?;
+    let slots = slots_of(alloc, image, &thread, offsets, &cnodes)?;
+    let space = given_space(image, &thread, offsets, &windows);
+    let lists_stray = space.lists_stray(&slots);
+    let given = Given {
+        space,
+        number,
+        slots: &slots,
+        lists_stray,
+        alloc,
+    };
+    given.certificate()
+}
+
+/// The certificates of the threads of an image whose threads have no records, in their order. Nothing is promised of them: the
+/// verifier judges the image that has them.
+///
+/// # Errors
+///
+/// The image is not well formed, or the first thread for which none is found, and why.
+pub fn certificates(alloc: Global, bytes: &[u8]) -> Result<Vec<Certificate>, Unfit> {
+    let image = match read(bytes) {
+        Ok(image) => image,
+        Err(refusal) => return Err(Unfit::Refused(refusal)),
+    };
+    if let Err(refusal) = well_formed(alloc, &image) {
+        return Err(Unfit::Refused(refusal));
+    }
+    let Ok(offsets) = offsets_of(alloc, &image) else {
+        return Err(Unfit::OutOfMemory);
+    };
+    let mut all = Vec::new(alloc);
+    'threads: for number in 0..image.header().threads {
+        let certificate = match certificate_of(alloc, &image, &offsets, number) {
+            Ok(certificate) => certificate,
+            Err(fault) => return Err(Unfit::of_thread(number, fault)),
+        };
+        if all.push(certificate).is_err() {
+            return Err(Unfit::OutOfMemory);
+        }
+    }
+    Ok(all)
+}

@@ -1,0 +1,234 @@
+//! What is known at each point of a program: ranges are joined and widened until nothing grows, and then narrowed.
+
+ghost use Rattle.certifying.specs.Given.{IsGiven};
+
+use crate::Fault;
+use crate::calls::Given;
+use crate::ranged::joined;
+use crate::tables::{Table, start_bounds};
+use crate::ways::{Way, Ways};
+use model::{ImmediateOp, Instr};
+use ranges::Bounds;
+use rv32_isa::decode;
+use std::alloc::Global;
+
+/// How often all points are gone through at most: each range grows only so often.
+const MOST_ROUNDS: u32 = 10_000_000;
+
+/// How often ranges are narrowed at most.
+const MOST_NARROWINGS: u32 = 20;
+
+/// What is known of all points, and all ways on from those that are reached, in the order of their points.
+#[derive(Drop)]
+pub(crate) struct Flow {
+    pub(crate) table: Table,
+    pub(crate) ways: Vec<Way>,
+}
+
+/// Ranges that hold on the ways to each point that were looked at.
+#[derive(Drop)]
+struct Arrivals {
+    bounds: Vec<Option<Bounds>>,
+}
+
+impl Arrivals {
+    /// No way was looked at.
+    fn new(alloc: Global, count: u32) -> Result<Self, Fault> {
+        let mut bounds = Vec::new(alloc);
+        'points: for _ in 0..count {
+            bounds.push(None)?;
+        }
+        Ok(Arrivals { bounds })
+    }
+
+    /// The ranges that hold on the ways to a point.
+    fn at(&self, point: u32) -> Option<Bounds> {
+        match self.bounds.get(point as usize) {
+            Some(bounds) => *bounds,
+            None => None,
+        }
+    }
+
+    /// Notes a way to a point with these ranges.
+    fn add(&mut self, point: u32, bounds: &Bounds) {
+        let both = either(self.at(point), Some(*bounds));
+        if let Some(place) = self.bounds.get_mut(point as usize) {
+            *place = both;
+        }
+    }
+}
+
+/// The ranges that hold on both ways, or on the only one.
+fn either(first: Option<Bounds>, second: Option<Bounds>) -> Option<Bounds> {
+    match (first, second) {
+        (Some(first), Some(second)) => Some(joined(&first, &second)),
+        (Some(only), None) | (None, Some(only)) => Some(only),
+        (None, None) => None,
+    }
+}
+
+/// The constant of an instruction, if it has one that a register may come to hold.
+fn constant_of(instr: Option<Instr>) -> Option<u32> {
+    match instr {
+        Some(Instr::Upper { immediate, .. }) => Some(immediate.wrapping_mul(4096)),
+        Some(
+            Instr::Immediate {
+                op: ImmediateOp::Addi | ImmediateOp::Slti | ImmediateOp::Sltiu | ImmediateOp::Andi,
+                immediate,
+                ..
+            },
+        ) => Some(immediate.cast_unsigned()),
+        _ => None,
+    }
+}
+
+impl Given<'_, '_> {
+    /// Notes the constants of the program as thresholds.
+    fn add_constants(&self, table: &mut Table) -> Result<(), Fault> {
+        table.add_threshold(1 << 31)?;
+        'points: for point in 0..self.space.thread.word_count() {
+            if let Some(value) = constant_of(decode(self.space.thread.word(point))) {
+                table.add_threshold(value)?;
+            }
+        }
+        Ok(())
+    }
+
+    /// The ways on from a point, if it is reached and nothing is wrong there with what is known so far.
+    fn ways_so_far(&self, table: &Table, point: u32) -> Result<Option<Ways>, Fault>
+        requires { IsGiven self.now.space self.now.slots.now self.now.lists_stray }
+    {
+        let Some(state) = table.state(point) else {
+            return Ok(None);
+        };
+        match self.ways(point, state) {
+            Ok(ways) => Ok(Some(ways)),
+            Err(Fault::OutOfMemory) => Err(Fault::OutOfMemory),
+            Err(Fault::At { .. }) => Ok(None),
+        }
+    }
+
+    /// Follows the ways on from a point.
+    fn follow(&self, table: &mut Table, point: u32) -> Result<(), Fault>
+        requires { IsGiven self.now.space self.now.slots.now self.now.lists_stray }
+    {
+        if let Some(ways) = self.ways_so_far(table, point)? {
+            if let Some(way) = &ways.next {
+                table.reach(way, &ways.changes)?;
+            }
+            if let Some(way) = &ways.taken {
+                table.reach(way, &ways.changes)?;
+            }
+        }
+        Ok(())
+    }
+
+    /// Follows the ways on from all points that have changed, and answers whether there were some.
+    fn follow_all(&self, table: &mut Table) -> Result<bool, Fault>
+        requires { IsGiven self.now.space self.now.slots.now self.now.lists_stray }
+    {
+        let mut some = false;
+        'points: for point in 0..self.count() {
+            if table.take(point) {
+                some = true;
+                self.follow(table, point)?;
+            }
+        }
+        Ok(some)
+    }
+
+    /// Narrows the ranges at a point to those of the ways to it.
+    fn narrow_at(&self, table: &mut Table, point: u32, arrived: Option<Bounds>) -> bool {
+        let header = self.space.thread.header();
+        let start = if point == header.entry {
+            Some(start_bounds(self.space.thread))
+        } else {
+            None
+        };
+        let (Some(now), Some(before)) = (either(arrived, start), table.bounds(point)) else {
+            return false;
+        };
+        if before.is_within(&now) || !now.is_within(&before) {
+            return false;
+        }
+        table.set_bounds(point, now);
+        true
+    }
+
+    /// Narrows all ranges once, in the order of the points, and answers whether some changed. Of ways back those of the round
+    /// before count.
+    fn narrow(&self, table: &mut Table, back: &mut Arrivals, sets: bool) -> Result<bool, Fault>
+        requires { IsGiven self.now.space self.now.slots.now self.now.lists_stray }
+    {
+        let mut ahead = Arrivals::new(self.alloc, self.count())?;
+        let mut next_back = Arrivals::new(self.alloc, self.count())?;
+        let mut some = false;
+        'points: for point in 0..self.count() {
+            if sets {
+                let arrived = either(ahead.at(point), back.at(point));
+                some |= self.narrow_at(table, point, arrived);
+            }
+            if let Some(ways) = self.ways_so_far(table, point)? {
+                let Ways { next, taken, .. } = ways;
+                note_arrival(&mut ahead, &mut next_back, next);
+                note_arrival(&mut ahead, &mut next_back, taken);
+            }
+        }
+        *back = next_back;
+        Ok(some)
+    }
+
+    /// All ways on from points that are reached. The first point where something is wrong is told.
+    fn all_ways(&self, table: &Table) -> Result<Vec<Way>, Fault>
+        requires { IsGiven self.now.space self.now.slots.now self.now.lists_stray }
+    {
+        let mut all = Vec::new(self.alloc);
+        'points: for point in 0..self.count() {
+            if let Some(state) = table.state(point) {
+                let Ways { next, taken, .. } = self.ways(point, state)?;
+                if let Some(way) = next {
+                    all.push(way)?;
+                }
+                if let Some(way) = taken {
+                    all.push(way)?;
+                }
+            }
+        }
+        Ok(all)
+    }
+
+    /// What is known of all points of the program.
+    pub(crate) fn flow(&self) -> Result<Flow, Fault>
+        requires { IsGiven self.now.space self.now.slots.now self.now.lists_stray }
+    {
+        let mut table = Table::new(self.alloc, self.count())?;
+        self.add_constants(&mut table)?;
+        let entry = self.space.thread.header().entry;
+        table.begin(entry, start_bounds(self.space.thread))?;
+        'rounds: for _ in 0..MOST_ROUNDS {
+            if !self.follow_all(&mut table)? {
+                break;
+            }
+        }
+        let mut back = Arrivals::new(self.alloc, self.count())?;
+        self.narrow(&mut table, &mut back, false)?;
+        'narrowings: for _ in 0..MOST_NARROWINGS {
+            if !self.narrow(&mut table, &mut back, true)? {
+                break;
+            }
+        }
+        let ways = self.all_ways(&table)?;
+        Ok(Flow { table, ways })
+    }
+}
+
+/// Notes a way as one ahead or one back.
+fn note_arrival(ahead: &mut Arrivals, back: &mut Arrivals, way: Option<Way>) {
+    if let Some(way) = way {
+        if way.from < way.target {
+            ahead.add(way.target, &way.behind);
+        } else {
+            back.add(way.target, &way.behind);
+        }
+    }
+}

@@ -1,0 +1,16 @@
+//! Certificates of programs that have none: what is known of registers and slots at each point, and measures.
+#![tactic(auto)]
+
+mod calls;
+mod certifier;
+mod costs;
+mod faults;
+mod flow;
+mod forms;
+mod loops;
+mod ranged;
+mod tables;
+mod ways;
+
+pub use certifier::{Certificate, Record, Unfit, certificates};
+pub use faults::{Fault, Reason};

@@ -1,0 +1,232 @@
+//! What is known of all points so far.
+
+use crate::ranged::{joined, widened};
+use crate::ways::{State, Way};
+use crate::{Fault, Reason};
+use ranges::{Bounds, Range};
+use std::alloc::Global;
+use typestate::{NotedSlot, SlotKey};
+
+/// How often the ranges at a point grow as they are, before they are widened.
+const PATIENCE: u32 = 6;
+
+/// How often they are widened to a threshold, before they are widened to the ends.
+const MOST_STEPS: u32 = 60;
+
+/// What is known of a point so far.
+#[derive(Drop)]
+pub(crate) struct Place {
+    pub(crate) state: Option<State>,
+    /// How often its ranges have grown by a way back.
+    grown: u32,
+    /// Whether what follows from it has to be looked at.
+    waits: bool,
+}
+
+/// What is known of all points so far.
+#[derive(Drop)]
+pub(crate) struct Table {
+    alloc: Global,
+    pub(crate) places: Vec<Place>,
+    /// Where ranges stop that are widened.
+    thresholds: Vec<u32>,
+}
+
+/// Whether two slots were derived from the same.
+fn is_same_parent(first: Option<SlotKey>, second: Option<SlotKey>) -> bool {
+    match (first, second) {
+        (None, None) => true,
+        (Some(first), Some(second)) => first.is_same(second),
+        _ => false,
+    }
+}
+
+/// Whether two changes are the same.
+fn is_same_change(first: &NotedSlot, second: &NotedSlot) -> bool {
+    first.key.is_same(second.key)
+        && first.capability == second.capability
+        && is_same_parent(first.parent, second.parent)
+}
+
+/// Whether changes are the same. Their keys rise.
+fn are_same_changes(first: &[NotedSlot], second: &[NotedSlot]) -> bool {
+    if first.len() != second.len() {
+        return false;
+    }
+    'changes: for (one, other) in first.iter().zip(second) {
+        if !is_same_change(one, other) {
+            return false;
+        }
+    }
+    true
+}
+
+impl Table {
+    /// Nothing is known of any of so many points.
+    pub(crate) fn new(alloc: Global, count: u32) -> Result<Self, Fault> {
+        let mut places = Vec::new(alloc);
+        'points: for _ in 0..count {
+            places.push(Place {
+                state: None,
+                grown: 0,
+                waits: false,
+            })?;
+        }
+        Ok(Table {
+            alloc,
+            places,
+            thresholds: Vec::new(alloc),
+        })
+    }
+
+    /// Notes that ranges may stop at a value, or beside it.
+    pub(crate) fn add_threshold(&mut self, value: u32) -> Result<(), Fault> {
+        'beside: for near in [value.saturating_sub(1), value, value.saturating_add(1)] {
+            if let Err(place) = self.thresholds.binary_search(&near) {
+                self.thresholds.insert(place, near)?;
+            }
+        }
+        Ok(())
+    }
+
+    /// Notes the values of the registers that have only one.
+    fn add_values(&mut self, bounds: &Bounds) -> Result<(), Fault> {
+        'registers: for number in 1..32u8 {
+            if let Some(value) = bounds.get(model::Register(number)).value() {
+                self.add_threshold(value)?;
+            }
+        }
+        Ok(())
+    }
+
+    /// Notes what is known at the entry.
+    pub(crate) fn begin(&mut self, entry: u32, bounds: Bounds) -> Result<(), Fault> {
+        self.add_values(&bounds)?;
+        let state = State {
+            bounds,
+            changes: Vec::new(self.alloc),
+        };
+        self.put(entry, state);
+        Ok(())
+    }
+
+    /// Puts a state where there is none.
+    fn put(&mut self, point: u32, state: State) {
+        if let Some(place) = self.places.get_mut(point as usize) {
+            place.state = Some(state);
+            place.waits = true;
+        }
+    }
+
+    /// Whether what follows from a point has to be looked at; from now on it has not.
+    pub(crate) fn take(&mut self, point: u32) -> bool {
+        match self.places.get_mut(point as usize) {
+            Some(place) => {
+                let waits = place.waits;
+                place.waits = false;
+                waits
+            }
+            None => false,
+        }
+    }
+
+    /// The state of a point, if it is reached.
+    pub(crate) fn state(&self, point: u32) -> Option<&State> {
+        match self.places.get(point as usize) {
+            Some(place) => place.state.as_ref(),
+            None => None,
+        }
+    }
+
+    /// The ranges at a point, if it is reached.
+    pub(crate) fn bounds(&self, point: u32) -> Option<Bounds> {
+        match self.state(point) {
+            Some(state) => Some(state.bounds),
+            None => None,
+        }
+    }
+
+    /// Sets the ranges at a point that is reached.
+    pub(crate) fn set_bounds(&mut self, point: u32, bounds: Bounds) {
+        if let Some(place) = self.places.get_mut(point as usize) {
+            if let Some(state) = &mut place.state {
+                state.bounds = bounds;
+            }
+        }
+    }
+
+    /// Counts that the ranges at a point have grown, and answers how often they had.
+    fn count_growth(&mut self, point: u32) -> u32 {
+        match self.places.get_mut(point as usize) {
+            Some(place) => {
+                let grown = place.grown;
+                place.grown = grown.saturating_add(1);
+                place.waits = true;
+                grown
+            }
+            None => 0,
+        }
+    }
+
+    /// Ranges that have grown by a way: widened where it leads back, more and more as they go on growing.
+    fn wide(&mut self, way: &Way, before: &Bounds, both: &Bounds) -> Bounds {
+        let grown = self.count_growth(way.target);
+        if way.from < way.target || grown < PATIENCE {
+            return *both;
+        }
+        if grown < MOST_STEPS {
+            widened(before, both, &self.thresholds)
+        } else {
+            widened(before, both, &[])
+        }
+    }
+
+    /// Notes that a way leads to its target with these slots.
+    pub(crate) fn reach(&mut self, way: &Way, changes: &[NotedSlot]) -> Result<(), Fault> {
+        let Some(state) = self.state(way.target) else {
+            let mut kept = Vec::new(self.alloc);
+            kept.extend_from_slice(changes)?;
+            self.put(
+                way.target,
+                State {
+                    bounds: way.behind,
+                    changes: kept,
+                },
+            );
+            return Ok(());
+        };
+        if !are_same_changes(&state.changes, changes) {
+            return Err(Fault::At {
+                point: way.from,
+                reason: Reason::SlotsDiffer,
+            });
+        }
+        let before = state.bounds;
+        self.grow(way, &before)
+    }
+
+    /// Notes that a way leads to its target, where these ranges are known.
+    fn grow(&mut self, way: &Way, before: &Bounds) -> Result<(), Fault> {
+        if way.behind.is_within(before) {
+            return Ok(());
+        }
+        self.add_values(before)?;
+        self.add_values(&way.behind)?;
+        let both = joined(before, &way.behind);
+        let wide = self.wide(way, before, &both);
+        self.set_bounds(way.target, wide);
+        Ok(())
+    }
+}
+
+/// The ranges of the registers with which a thread starts.
+pub(crate) fn start_bounds(thread: &image::ThreadRef<'_>) -> Bounds {
+    let mut bounds = Bounds::zero();
+    'registers: for entry in thread.registers() {
+        if entry.register < 32 {
+            let register = model::Register(entry.register as u8);
+            bounds.set(register, Range::single(entry.value));
+        }
+    }
+    bounds
+}

@@ -1,0 +1,201 @@
+//! The ways on from a point in a state.
+
+ghost use Rattle.std.specs.Prelude.{IfOk};
+ghost use Rattle.certifying.specs.Given.{IsGiven};
+ghost use Rattle.model.specs.Machine.Instructions.{IsInstr};
+
+use crate::calls::Given;
+use crate::{Fault, Reason};
+use measure::{AfterCall, AfterInstruction, Step, Value};
+use model::{Instr, Point, Refusal};
+use point_rules::registers_of;
+use ranges::{Bounds, Edge, after};
+use rv32_isa::decode;
+use typestate::{NotedSlot, Written};
+
+/// What is known at a point: the ranges of the registers, and the slots as changes to those of the image.
+#[derive(Drop)]
+pub(crate) struct State {
+    pub(crate) bounds: Bounds,
+    pub(crate) changes: Vec<NotedSlot>,
+}
+
+/// What writes registers on a way.
+#[derive(Clone, Copy)]
+pub(crate) enum Effect {
+    Instruction(AfterInstruction),
+    Call(Written),
+}
+
+impl Effect {
+    /// What a register becomes.
+    pub(crate) fn value(&self, register: u32) -> Value {
+        match self {
+            Effect::Instruction(step) => step.value(register),
+            Effect::Call(written) => {
+                let step = AfterCall {
+                    written: registers_of(*written),
+                };
+                step.value(register)
+            }
+        }
+    }
+}
+
+/// A way on from a point.
+#[derive(Clone, Copy)]
+pub(crate) struct Way {
+    pub(crate) from: u32,
+    pub(crate) target: u32,
+    /// The ranges before the instruction, of the values that come this way.
+    pub(crate) before: Bounds,
+    pub(crate) behind: Bounds,
+    /// Whether instructions are counted anew behind it.
+    pub(crate) is_wait: bool,
+    /// Whether it is that of a jump, or of a branch that is taken.
+    pub(crate) is_jump: bool,
+    pub(crate) effect: Effect,
+}
+
+/// The ways on from a point, and the slots behind it.
+#[derive(Drop)]
+pub(crate) struct Ways {
+    pub(crate) next: Option<Way>,
+    pub(crate) taken: Option<Way>,
+    pub(crate) changes: Vec<NotedSlot>,
+}
+
+/// Whether it is a branch.
+fn is_branch(instr: Instr) -> bool {
+    matches!(instr, Instr::Branch { .. })
+}
+
+impl Given<'_, '_> {
+    /// How many points the program has.
+    pub(crate) fn count(&self) -> u32 {
+        self.space.thread.word_count()
+    }
+
+    /// The address of a point.
+    fn address(&self, point: u32) -> u32 {
+        let base = self.space.thread.header().base;
+        base.wrapping_add(point.wrapping_mul(4))
+    }
+
+    /// The point at an address that a point leads to.
+    fn point_at(&self, from: u32, address: u32) -> Result<u32, Fault> {
+        let distance = address.wrapping_sub(self.space.thread.header().base);
+        let point = distance / 4;
+        if distance % 4 == 0 && point < self.count() {
+            Ok(point)
+        } else {
+            Err(Fault::At {
+                point: from,
+                reason: Reason::LeavesProgram,
+            })
+        }
+    }
+
+    /// The instruction at a point.
+    fn instruction(&self, point: u32) -> Result<Instr, Fault>
+        ensures { IfOk result IsInstr }
+    {
+        let at = Point {
+            thread: self.number,
+            point,
+        };
+        if point >= self.space.thread.word_count() {
+            return Err(Fault::refused(point, Refusal::BadTarget(at)));
+        }
+        match decode(self.space.thread.word(point)) {
+            None | Some(Instr::Ebreak) => {
+                Err(Fault::refused(point, Refusal::IllegalInstruction(at)))
+            }
+            Some(Instr::Jalr { .. }) => Err(Fault::refused(point, Refusal::ComputedJump(at))),
+            Some(instr) => Ok(instr),
+        }
+    }
+
+    /// The way along an edge of an instruction.
+    fn way_along(
+        &self,
+        from: u32,
+        instr: Instr,
+        bounds: &Bounds,
+        edge: &Edge,
+        is_jump: bool,
+    ) -> Result<Way, Fault>
+        requires { IsInstr instr }
+    {
+        let before = if is_branch(instr) {
+            edge.bounds
+        } else {
+            *bounds
+        };
+        Ok(Way {
+            from,
+            target: self.point_at(from, edge.target)?,
+            before,
+            behind: edge.bounds,
+            is_wait: false,
+            is_jump,
+            effect: Effect::Instruction(AfterInstruction::new(instr, &before, &edge.bounds)),
+        })
+    }
+
+    /// The way along an edge, if there is one.
+    fn perhaps_along(
+        &self,
+        from: u32,
+        instr: Instr,
+        bounds: &Bounds,
+        edge: Option<Edge>,
+        is_jump: bool,
+    ) -> Result<Option<Way>, Fault>
+        requires { IsInstr instr }
+    {
+        match edge {
+            Some(edge) => Ok(Some(self.way_along(from, instr, bounds, &edge, is_jump)?)),
+            None => Ok(None),
+        }
+    }
+
+    /// The ways on from a system call.
+    fn ways_behind_call(&self, point: u32, state: &State) -> Result<Ways, Fault>
+        requires { IsGiven self.now.space self.now.slots.now self.now.lists_stray }
+    {
+        let called = self.called(point, &state.bounds, &state.changes)?;
+        let way = Way {
+            from: point,
+            target: self.point_at(point, self.address(point).wrapping_add(4))?,
+            before: state.bounds,
+            behind: called.behind.bounds,
+            is_wait: called.behind.is_wait,
+            is_jump: false,
+            effect: Effect::Call(called.behind.written),
+        };
+        Ok(Ways {
+            next: Some(way),
+            taken: None,
+            changes: called.changes,
+        })
+    }
+
+    /// The ways on from a point in a state.
+    pub(crate) fn ways(&self, point: u32, state: &State) -> Result<Ways, Fault>
+        requires { IsGiven self.now.space self.now.slots.now self.now.lists_stray }
+    {
+        let instr = self.instruction(point)?;
+        if let Instr::Ecall = instr {
+            return self.ways_behind_call(point, state);
+        }
+        let edges = after(self.address(point), instr, &state.bounds);
+        let mut changes = Vec::new(self.alloc);
+        changes.extend_from_slice(&state.changes)?;
+        Ok(Ways {
+            next: self.perhaps_along(point, instr, &state.bounds, edges.fall_through, false)?,
+            taken: self.perhaps_along(point, instr, &state.bounds, edges.taken, true)?,
+            changes,
+        })
+    }
+}
