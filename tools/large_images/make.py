@@ -13,6 +13,10 @@ the threads have no records, share one address space and one CNode, and each fil
 4096 objects and 2^24 bytes of memory hold, each with a CNode, a notification, a page of data and its own address space. Each sixteen words
 wait, load, add, store, branch and count, and begin with a record that notes a range. SHARE is 1, 16 (some 1.5 MiB) or 232 (some 100 KiB): with
 232 there is one thread of 16384 words, with 16 there are 15 of 16384.
+
+`make.py KIND SHARE FILE` writes an accepted image in which one count grows: `noted` (each word has a record of 29 ranges and four terms), `carried`
+(four terms are carried over programs of 65536 words), `jumps` (each word leads half the program away, and has a record), `threads`,
+`capabilities` (of one CNode), `objects`, `mappings` (of one root table, with its tables) and `chain` (CNodes, each held by the next). SHARE is 1, 4 or 16.
 """
 
 import struct
@@ -180,7 +184,103 @@ def verified_image(share):
         yield program + records
 
 
-make = {"verify": verified_image, "read": read_image, "boot": boot_image, "count": counting_image}[sys.argv[1]]
+
+# ---- accepted images in which one count grows, beside little else
+
+
+def jump(distance):
+    distance &= 0x1FFFFF
+    return (
+        (distance >> 20) << 31 | (distance >> 1 & 0x3FF) << 21 | (distance >> 11 & 1) << 20 | (distance >> 12 & 0xFF) << 12 | 0x6F
+    )
+
+
+# Three instructions that wait, and one that leads from the last of so many words to the first.
+def waiting(count):
+    return (*BLOCK[:3], jump(-4 * (count - 1)))
+
+
+def record(point, constant, ranges=(), terms=()):
+    head = words(point, len(ranges), 0, len(terms)) + struct.pack("<q", constant)
+    return head + b"".join(words(*it) for it in ranges) + b"".join(struct.pack("<Ii", *it) for it in terms)
+
+
+# All registers but those that the wait writes.
+MANY = [(register, 0, 0xFFFFFFFE) for register in range(1, 32) if register not in (10, 17)]
+TERMS = [(register, 1) for register in (5, 6, 7, 8)]
+NOTHING = immediate(0, 0, 0, 0)
+
+
+# Nothing is done, and each word has a record of 29 ranges and four terms.
+def noted_program(count):
+    records = [record(i, count - i + 10, MANY, TERMS) for i in range(count - 4)]
+    return (NOTHING,) * (count - 4) + waiting(count), records
+
+
+# Nothing is done, and four terms are carried from one record.
+def carried_program(count):
+    return (NOTHING,) * (count - 4) + waiting(count), [record(0, count + 10, terms=TERMS)]
+
+
+# Each word leads half the program away, and has a record.
+def jumping_program(count):
+    half = (count - 4) // 2
+    there = [jump(4 * half)] * half
+    back = [jump(4 * (1 - half))] * (half - 1) + [jump(4)]
+    order = [2 * i for i in range(half)] + [2 * i + 1 for i in range(half)] + [2 * half]
+    return (*there, *back, *waiting(count)), [record(i, count + 10 - at) for i, at in enumerate(order)]
+
+
+def quiet_program(count):
+    return (NOTHING,) * (count - 4) + waiting(count), [record(0, count + 10)]
+
+
+# Threads with these programs, each with a CNode and its notification, an address space of one table, and pages of code. The first
+# thread's CNode has more capabilities, its space more tables and mappings, and a chain of CNodes hangs on it, each before the last one.
+def image_of(programs, endpoints=1, listed=0, radix=1, tables=0, mappings=0, chain=0):
+    untypeds = untypeds_of(59)
+    objects, capabilities, places, maps = [], [], [], []
+    put, _, _ = placing(untypeds, objects, 0)
+    kinds = [[(8, 0, 12), (7, 0, 12)] + [(6, 0, 12)] * (len(program) // 1024 + 2) for program, _ in programs]
+    parts = [[put(*it) for it in each] for each in kinds]
+    page_tables = [put(7, 0, 12) for _ in range(tables)]
+    tcbs = [put(2, 0, 9) for _ in programs]
+    first = put(5, radix, radix + 4)
+    links = [put(5, 1, 5) for _ in range(chain)]
+    cnodes = [first] + [put(5, 1, 5) for _ in programs[1:]]
+    bells = [put(4, 0, 4) for _ in programs]
+    sources = [put(3, 0, 4) for _ in range(endpoints)]
+    for root, table, data, *code in parts:
+        places.append((root, 0, table))
+        maps += [(root, 0x1000 * (i + 1), frame, 4) for i, frame in enumerate(code)] + [(root, 0x200000, data, 3)]
+    root, _, data, *_ = parts[0]
+    places += [(root, (i + 1) << 22, table) for i, table in enumerate(page_tables)]
+    maps += [(root, 0x400000 * (i % tables + 1) + 0x1000 * (i // tables), data, 3) for i in range(mappings)]
+    capabilities += [(cnode, 1, bell, 2, 0) for cnode, bell in zip(cnodes, bells)]
+    capabilities += [(first, i + 2, sources[i % len(sources)], 2, 0) for i in range(listed)]
+    capabilities += [(links[i + 1] if i + 1 < chain else first, 0, link, 0, 31) for i, link in enumerate(links)]
+    yield header(24, 14, (len(untypeds), len(objects), len(capabilities), 0, len(places), len(maps), 0, len(programs)))
+    for section in (untypeds, objects, sorted(capabilities), sorted(places), sorted(maps)):
+        yield b"".join(words(*it) for it in section)
+    for (program, records), tcb, cnode, (root, *_) in zip(programs, tcbs, cnodes, parts):
+        guard = 32 - radix if cnode == first else 31
+        yield words(tcb, cnode, guard, root, 100) + struct.pack("<Q", 1 << 40)
+        yield words(0, 0, 0x1000, 0, len(program), len(records)) + words(*program) + b"".join(records)
+
+
+GROWING = {
+    "noted": lambda share: image_of([noted_program(16384 // share)]),
+    "carried": lambda share: image_of([carried_program(65536)] * (16 // share)),
+    "jumps": lambda share: image_of([jumping_program(65536 // share)]),
+    "threads": lambda share: image_of([quiet_program(1024)] * (64 // share)),
+    "capabilities": lambda share: image_of([quiet_program(1024)], listed=16320 // share, radix=14),
+    "objects": lambda share: image_of([quiet_program(1024)], endpoints=4064 // share),
+    "mappings": lambda share: image_of([quiet_program(1024)], tables=496 // share, mappings=4064 // share),
+    "chain": lambda share: image_of([quiet_program(1024)], chain=4064 // share),
+}
+
+
+make = {"verify": verified_image, "read": read_image, "boot": boot_image, "count": counting_image, **GROWING}[sys.argv[1]]
 with open(sys.argv[3], "wb") as file:
     for piece in make(int(sys.argv[2])):
         file.write(piece)
