@@ -12,6 +12,8 @@ use Rattle.model.specs.declared.refusals.Refusal.{Refusal}
 use Rattle.typestate.specs.Calls.{behind_with, known_with}
 use Rattle.typestate.specs.Differences.{changed}
 use Rattle.typestate.specs.declared.behind.Behind.{Behind}
+use Rattle.certificates.specs.Kept.{IsCleanBehind}
+use Rattle.typestate.specs.Strays.{IsTidyBehind, NoneStray}
 
 module _ (image : Image) (t : Numbered) (point : ℕ) (state : PointState) (stray : Bool) (told : stray ≡ has_stray_slots image t.thread point state) where
   pub not-looked-at : stray ≡ true → call_at image t point state ≡ None
@@ -51,3 +53,15 @@ pub call-any : (image : Image) (t : Numbered) (point : ℕ) (bounds : List Range
     → call_at image t point (known_with bounds all m) ≡ option_map (left_with all made) called
 call-any image t point bounds m given all made called same told =
     subst (λ (slots : List NotedSlot). call_at image t point (known_with bounds slots m) ≡ option_map (left_with slots made) called) same told
+
+-- what is known of the slots behind a call that is looked at
+pub clean-called : (image : Image) (t : Thread) (slots made : List NotedSlot) (called : Result Behind Refusal) → NoneStray image t slots → IsTidyBehind image t slots made called
+    → IsCleanBehind image t slots made (Some called)
+clean-called image t slots made (Ok b) none tidy = λ is. tidy is none
+clean-called image t slots made (Err refusal) none tidy = tt
+
+pub clean-made : (image : Image) (t : Thread) (given all made behind : List NotedSlot) (called : Option (Result Behind Refusal)) (b : Behind)
+    → given ≡ all → called ≡ Some (Ok b) → IsCleanBehind image t given made called → behind ≡ changed all made → b.is_tidy ≡ true → NoneStray image t behind
+clean-made image t given all made behind called b same is clean left tidy =
+    let known : IsCleanBehind image t given made (Some (Ok b)) = subst (IsCleanBehind image t given made) is clean in
+    subst (NoneStray image t) (ap (λ (slots : List NotedSlot). changed slots made) same ∙ sym left) (known tidy)

@@ -1,16 +1,17 @@
 -- What is kept of each point, as the points are gone through.
 use Rattle.std.proofs.Common.{ℕ, zero, suc, ◌≡◌, ◌∙◌, ◌⊎◌, ◌+◌, ◌++◌, inl, inr, Option, Some, None, List, [], ◌∷◌, length, refl, sym, ap, subst, arith}
 use Rattle.std.specs.Prelude.{◌<◌, slice_get, slice_index_or}
-use Rattle.certificates.specs.Kept.{AreKept, HasPart, IsKeptAt, IsRead, IsSound, noted_by}
+use Rattle.certificates.specs.Kept.{AreKept, HasPart, IsCleanIn, IsKeptAt, IsRead, IsSound, noted_by}
 use Rattle.certificates.specs.declared.kept.Kept.{Kept}
 use Rattle.certificates.specs.declared.kept.Kept.TheVariants as kept
 use Rattle.measure.specs.Measures.{measure_of}
 use Rattle.model.specs.Acceptance.NotedStates.{NotedSlot, record_of}
 use Rattle.model.specs.Acceptance.PointStates.{Noted, Known, Missing, follows, noted, noted_or}
 use Rattle.model.specs.Images.Described.{Numbered}
-use Rattle.model.specs.Images.Image.{Image}
+use Rattle.model.specs.Images.Image.{Image, Thread}
 use Rattle.typestate.specs.Differences.{changed}
 use Rattle.typestate.specs.Logs.{KeepsParts}
+use Rattle.typestate.specs.Strays.{NoneStray}
 
 -- what the point before leaves
 abbrev pub before : Image → Numbered → ℕ → Noted
@@ -35,11 +36,19 @@ sound-grown old new point (kept.Known k) keeps sound = ((keeps k.part sound.0).0
 sound-grown old new point kept.Missing keeps sound = tt
 sound-grown old new point kept.Unmeasured keeps sound = tt
 
+pub clean-grown : (image : Image) (t : Thread) (slots old new : List NotedSlot) (point : ℕ) (k : Kept) → KeepsParts old new → IsSound old point k
+    → IsCleanIn image t slots old k → IsCleanIn image t slots new k
+clean-grown image t slots old new point (kept.Known k) keeps sound clean =
+    λ is. subst (λ (changes : List NotedSlot). NoneStray image t (changed slots changes)) (sym (keeps k.part sound.0).1) (clean is)
+clean-grown image t slots old new point kept.Missing keeps sound clean = tt
+clean-grown image t slots old new point kept.Unmeasured keeps sound clean = tt
+
 pub grown-at : (image : Image) (t : Numbered) (slots old new : List NotedSlot) (point : ℕ) (k : Kept) → KeepsParts old new
     → IsKeptAt image t slots old point k → IsKeptAt image t slots new point k
 grown-at image t slots old new point k keeps is = record {
   same = same-grown slots old new point k keeps is.sound ∙ is.same;
   sound = sound-grown old new point k keeps is.sound;
+  clean = clean-grown image t.thread slots old new point k keeps is.sound is.clean;
 }
 
 pub grown : (image : Image) (t : Numbered) (slots old new : List NotedSlot) (ks : List Kept) → KeepsParts old new

@@ -5,20 +5,21 @@ use Rattle.std.specs.List.{list_any}
 use Rattle.std.specs.Option.{option_map_or}
 use Rattle.std.proofs.lemmas.Int.{ints}
 use Rattle.std.proofs.Common.{arith}
-use Rattle.certificates.specs.Kept.{IsSound, kept_as, noted_by}
+use Rattle.certificates.specs.Kept.{IsCleanIn, IsSound, kept_as, noted_by}
 use Rattle.model.specs.Acceptance.CallRules.{AfterCall}
 use Rattle.model.specs.Acceptance.Edges.{Edge}
 use Rattle.model.specs.Acceptance.Measures.{Measure, has_term, lowered}
 use Rattle.model.specs.Acceptance.NotedStates.{NotedSlot, PointState}
 use Rattle.model.specs.Acceptance.PointStates.{Noted, Known, Missing, Unmeasured, behind_call, follows_edge, with_measure, whole_budget}
 use Rattle.model.specs.Acceptance.RangeRules.{destination}
-use Rattle.model.specs.Images.Image.{Thread}
+use Rattle.model.specs.Images.Image.{Image, Thread}
 use Rattle.model.specs.declared.instructions.Instr.{Instr}
 use Rattle.point_rules.specs.Points.{left_with}
 use Rattle.point_rules.specs.declared.following.Left.{Left}
 use Rattle.point_rules.specs.declared.following.Left.TheVariants as left
 use Rattle.typestate.specs.Differences.{changed}
 use Rattle.typestate.specs.Logs.{Holds, part_of}
+use Rattle.typestate.specs.Strays.{NoneStray}
 use Rattle.typestate.specs.declared.logs.Part.{Part}
 
 -- the constant of what is noted is no less than a bound
@@ -28,15 +29,21 @@ IsAtLeast bound Missing = Unit {0}
 IsAtLeast bound Unmeasured = Unit {0}
 
 -- what is kept of what is left is what it is
-pub kept-same : (slots log : List NotedSlot) (n : Left) (part : Part) → noted_by slots log (kept_as n part) ≡ left_with (changed slots (part_of log part)) n
-kept-same slots log (left.Known bounds measure) part = refl
-kept-same slots log left.Missing part = refl
-kept-same slots log left.Unmeasured part = refl
+pub kept-same : (slots log : List NotedSlot) (n : Left) (part : Part) (clean : Bool) → noted_by slots log (kept_as n part clean) ≡ left_with (changed slots (part_of log part)) n
+kept-same slots log (left.Known bounds measure) part clean = refl
+kept-same slots log left.Missing part clean = refl
+kept-same slots log left.Unmeasured part clean = refl
 
-pub kept-sound : (slots log : List NotedSlot) (point : ℕ) (n : Left) (part : Part) → Holds log part → IsAtLeast (negsuc (2 ^ 62 + point)) (left_with slots n) → IsSound log point (kept_as n part)
-kept-sound slots log point (left.Known bounds measure) part held least = (held, least)
-kept-sound slots log point left.Missing part held least = tt
-kept-sound slots log point left.Unmeasured part held least = tt
+pub kept-sound : (slots log : List NotedSlot) (point : ℕ) (n : Left) (part : Part) (clean : Bool) → Holds log part → IsAtLeast (negsuc (2 ^ 62 + point)) (left_with slots n) → IsSound log point (kept_as n part clean)
+kept-sound slots log point (left.Known bounds measure) part clean held least = (held, least)
+kept-sound slots log point left.Missing part clean held least = tt
+kept-sound slots log point left.Unmeasured part clean held least = tt
+
+pub kept-clean : (image : Image) (t : Thread) (slots log : List NotedSlot) (n : Left) (part : Part) (clean : Bool)
+    → (clean ≡ true → NoneStray image t (changed slots (part_of log part))) → IsCleanIn image t slots log (kept_as n part clean)
+kept-clean image t slots log (left.Known bounds measure) part clean none = none
+kept-clean image t slots log left.Missing part clean none = tt
+kept-clean image t slots log left.Unmeasured part clean none = tt
 
 -- ---- one less
 

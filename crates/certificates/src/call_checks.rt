@@ -1,7 +1,7 @@
 //! The rules on a point's system call, and on the way on behind it.
 
 ghost use Rattle.std.specs.Prelude.{◌≡◌, ◌+◌, ◌<◌, IfOk, Some, option_map};
-ghost use Rattle.certificates.specs.Kept.{IsRead, IsSound, state_by};
+ghost use Rattle.certificates.specs.Kept.{IsCleanIn, IsRead, IsSound, state_by};
 ghost use Rattle.certificates.specs.declared.kept.Kept.TheVariants as kept;
 ghost use Rattle.certificates.specs.PointChecks.{later_rules};
 ghost use Rattle.certificates.specs.Programs.{IsProgram};
@@ -99,12 +99,13 @@ impl<R: ThreadRules> Program<'_, '_, R> {
         requires is { instruction_at self.now.thread.now point ≡ Some Ecall }
         requires noted { option_map (λ r. r.now) noted ≡ record_of self.now.thread.now point }
         requires sound { IsSound points.old.log point (kept.Known known.now) }
+        requires clean { IsCleanIn (R.image self.now.rules.now) (R.thread self.now.rules.now).thread self.now.slots.now points.old.log (kept.Known known.now) }
         ensures broken { IfOk result (λ broken. broken ≡ first_broken (later_rules (R.image self.now.rules.now) (R.thread self.now.rules.now) point (state_by self.now.slots.now points.old.log known.now) (Some Ecall))) }
         ensures read { IfOk result (λ _. IsRead (R.image self.now.rules.now) (R.thread self.now.rules.now) self.now.slots.now points.new.log points.new.kept.items) }
     {
         let mut made = Vec::new(self.alloc);
         let slots = points.log.slots(self.slots, known.part);
-        match self.called(point, noted, &known.bounds, &slots, &mut made)? {
+        match self.called(point, noted, &known.bounds, &slots, known.is_clean, &mut made)? {
             None => Ok(None),
             Some(Err(refusal)) => Ok(Some(refusal)),
             Some(Ok(behind)) => self.behind_rules(points, point, known, &behind, &made),

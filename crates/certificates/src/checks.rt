@@ -1,6 +1,6 @@
 //! The rules at a point with a state, up to its system call and its ways on.
 
-ghost use Rattle.std.specs.Prelude.{◌≡◌, ◌<◌, IfSome, Option, Some, option_map};
+ghost use Rattle.std.specs.Prelude.{◌≡◌, ◌<◌, IfSome, Option, Some, option_map, true};
 ghost use Rattle.certificates.specs.PointChecks.{own_rules};
 ghost use Rattle.certificates.specs.Programs.{IsProgram, IsShown};
 ghost use Rattle.model.specs.Acceptance.NotedStates.{record_of};
@@ -9,6 +9,7 @@ ghost use Rattle.model.specs.Acceptance.Rules.{first_broken};
 ghost use Rattle.model.specs.Machine.Instructions.{IsInstr};
 ghost use Rattle.point_rules.specs.Points.{state_of};
 ghost use Rattle.typestate.specs.Differences.{slots_of};
+ghost use Rattle.typestate.specs.Strays.{NoneStray};
 
 use crate::{Program, ThreadRules};
 use image::RecordRef;
@@ -72,6 +73,7 @@ impl<R: ThreadRules> Program<'_, '_, R> {
         instr: Option<Instr>,
         noted: Option<&RecordRef<'_>>,
         state: &PointState<'_>,
+        is_clean: bool,
     ) -> Option<Refusal>
         requires program { IsProgram (R.image self.now.rules.now) (R.thread self.now.rules.now) self.now.thread.now self.now.number self.now.slots.now }
         requires rules { R.holds self.now.rules.now }
@@ -79,6 +81,7 @@ impl<R: ThreadRules> Program<'_, '_, R> {
         requires instr { IfSome instr IsInstr }
         requires noted { option_map (λ r. r.now) noted ≡ record_of self.now.thread.now point }
         requires image { state.now.slots.image.now ≡ self.now.slots.now }
+        requires clean { is_clean ≡ true → NoneStray (R.image self.now.rules.now) (R.thread self.now.rules.now).thread (slots_of state.now.slots) }
         ensures { result ≡ first_broken (own_rules (R.image self.now.rules.now) (R.thread self.now.rules.now) point (state_of state.now) instr) }
     {
         let at = self.at(point);
@@ -88,7 +91,10 @@ impl<R: ThreadRules> Program<'_, '_, R> {
         if is_computed_jump(instr) {
             return Some(Refusal::ComputedJump(at));
         }
-        if self.rules.has_stray_slots(point, noted, &state.slots) {
+        if self
+            .rules
+            .has_stray_slots(point, noted, &state.slots, is_clean)
+        {
             return Some(Refusal::CapNotThere(at));
         }
         if least(&state.measure, &state.bounds) < 1 {

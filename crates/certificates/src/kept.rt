@@ -19,6 +19,8 @@ pub(crate) struct Known {
     pub(crate) bounds: Bounds,
     pub(crate) measure: Measure,
     pub(crate) part: Part,
+    /// Whether it is known that no slot is one that the thread may not have.
+    pub(crate) is_clean: bool,
 }
 
 /// What is noted of a point.

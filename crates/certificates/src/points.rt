@@ -1,9 +1,9 @@
 //! What is noted of all points of a program.
 
-ghost use Rattle.std.specs.Prelude.{ℕ, ◌≡◌, ◌≤◌, ◌≤ℤ◌, ◌^◌, IfOk, IfSome, length, negsuc, option_map};
-ghost use Rattle.certificates.specs.Kept.{IsRead, IsSound, noted_by};
+ghost use Rattle.std.specs.Prelude.{ℕ, ◌≡◌, ◌≤◌, ◌≤ℤ◌, ◌^◌, IfOk, IfSome, List, length, negsuc, option_map};
+ghost use Rattle.certificates.specs.Kept.{IsCleanIn, IsRead, IsSound, noted_by};
 ghost use Rattle.certificates.specs.Programs.{IsProgram};
-ghost use Rattle.model.specs.Acceptance.NotedStates.{image_slots, record_state};
+ghost use Rattle.model.specs.Acceptance.NotedStates.{NotedSlot, image_slots, record_state};
 ghost use Rattle.model.specs.Acceptance.PointStates as states;
 ghost use Rattle.model.specs.Images.Image.{Image, Thread};
 ghost use Rattle.typestate.specs.Logs.{KeepsParts};
@@ -31,6 +31,7 @@ fn recorded(log: &mut SlotLog, noted: &RecordRef<'_>) -> Result<Kept, AllocError
     requires constant { negsuc (2 ^ 62) ≤ℤ noted.now.header.constant }
     ensures same { IfOk result (λ k. (image : Image) (t : Thread) → Rise (image_slots image t) → noted_by (image_slots image t) log.new k ≡ states.Known (record_state image t noted.now)) }
     ensures sound { IfOk result (λ k. (point : ℕ) → IsSound log.new point k) }
+    ensures clean { IfOk result (λ k. (image : Image) (t : Thread) (slots : List NotedSlot) → IsCleanIn image t slots log.new k) }
     ensures others { IfOk result (λ _. KeepsParts log.old log.new) }
 {
     let part = log.note(noted)?;
@@ -38,6 +39,7 @@ fn recorded(log: &mut SlotLog, noted: &RecordRef<'_>) -> Result<Kept, AllocError
         bounds: bounds_of(noted),
         measure: measure_of(noted),
         part,
+        is_clean: false,
     }))
 }
 
@@ -51,6 +53,7 @@ fn noted_or(
     ensures same { IfOk result (λ k. (image : Image) (t : Thread) → Rise (image_slots image t) → noted_by (image_slots image t) log.new k
         ≡ states.noted_or image t (option_map (λ r. r.now) noted.entry) (noted_by (image_slots image t) log.old derived)) }
     ensures sound { IfOk result (λ k. (point : ℕ) → IsSound log.old point derived → IsSound log.new point k) }
+    ensures clean { IfOk result (λ k. (image : Image) (t : Thread) (slots : List NotedSlot) → IsCleanIn image t slots log.old derived → IsCleanIn image t slots log.new k) }
     ensures others { IfOk result (λ _. KeepsParts log.old log.new) }
 {
     match noted {
@@ -72,7 +75,8 @@ impl Points {
         let mut derived = Kept::Missing;
         'points: for point in 0..program.thread.word_count() {
             let noted = records.take(point);
-            let state = noted_or(&mut log, noted.as_ref(), derived)?;
+            let found = noted_or(&mut log, noted.as_ref(), derived)?;
+            let state = (&*program).looked_at(point, noted.as_ref(), &found, &log);
             derived = program.following(point, noted.as_ref(), &state, &mut log)?;
             kept.push(state)?;
         }

@@ -2,7 +2,7 @@
 
 ghost use Rattle.std.specs.Prelude.{◌≡◌, ◌+◌, ◌<◌, IfOk, None, Some, false, flat_map, option_map};
 ghost use Rattle.std.specs.List.{range_with_len};
-ghost use Rattle.certificates.specs.Kept.{IsRead, IsSound, state_by};
+ghost use Rattle.certificates.specs.Kept.{IsCleanIn, IsRead, IsSound, state_by};
 ghost use Rattle.certificates.specs.declared.kept.Kept.TheVariants as kept;
 ghost use Rattle.certificates.specs.Programs.{IsProgram, IsShown};
 ghost use Rattle.model.specs.Acceptance.NotedStates.{record_of};
@@ -41,12 +41,13 @@ impl<R: ThreadRules> Program<'_, '_, R> {
         requires next { is_next_noted ≡ false → record_of self.now.thread.now (point + 1) ≡ None }
         requires known { states.Known (state_by self.now.slots.now points.old.log known.now) ≡ states.noted (R.image self.now.rules.now) (R.thread self.now.rules.now) point }
         requires sound { IsSound points.old.log point (kept.Known known.now) }
+        requires clean { IsCleanIn (R.image self.now.rules.now) (R.thread self.now.rules.now).thread self.now.slots.now points.old.log (kept.Known known.now) }
         ensures broken { IfOk result (λ broken. broken ≡ first_broken (state_rules (R.image self.now.rules.now) (R.thread self.now.rules.now) point (state_by self.now.slots.now points.old.log known.now))) }
         ensures read { IfOk result (λ _. IsRead (R.image self.now.rules.now) (R.thread self.now.rules.now) self.now.slots.now points.new.log points.new.kept.items) }
     {
         let instr = decode(self.thread.word(point));
         let state = known.state(self.slots, &points.log);
-        if let Some(refusal) = self.own_rules(point, instr, noted, &state) {
+        if let Some(refusal) = self.own_rules(point, instr, noted, &state, known.is_clean) {
             return Ok(Some(refusal));
         }
         match instr {

@@ -1,20 +1,21 @@
 //! The program of a thread, and what follows from the state of a point of it.
 
-ghost use Rattle.std.specs.Prelude.{ℕ, ◌≡◌, ◌+◌, ◌<◌, ◌≤ℤ◌, ◌^◌, ◌-◌, ◌≤◌, [], IfOk, List, negsuc, option_map};
+ghost use Rattle.std.specs.Prelude.{ℕ, ◌≡◌, ◌+◌, ◌<◌, ◌≤ℤ◌, ◌^◌, ◌-◌, ◌≤◌, [], IfOk, List, negsuc, option_map, true};
 ghost use Rattle.typestate.specs.Calls.{left_with};
-ghost use Rattle.certificates.specs.Kept.{IsSound, kept_as, noted_by, state_by};
+ghost use Rattle.certificates.specs.Kept.{IsCleanBehind, IsCleanIn, IsSound, kept_as, noted_by, state_by};
 ghost use Rattle.certificates.specs.declared.kept.Kept.TheVariants as kept;
 ghost use Rattle.certificates.specs.Programs.{IsProgram};
 ghost use Rattle.measure.specs.Measures.{measure_of};
 ghost use Rattle.model.specs.Acceptance.Edges.{after};
 ghost use Rattle.model.specs.Acceptance.Measures.{Measure as NotedMeasure};
 ghost use Rattle.model.specs.Acceptance.NotedStates.{NotedSlot, record_of};
-ghost use Rattle.model.specs.Images.Image.{Thread};
+ghost use Rattle.model.specs.Images.Image.{Image, Thread};
 ghost use Rattle.model.specs.Acceptance.PointStates.{address_of, behind_call, call_at, follows, follows_call, follows_edge};
 ghost use Rattle.model.specs.Machine.Instructions.{IsInstr};
 ghost use Rattle.typestate.specs.Calls.{behind_with, known_with};
 ghost use Rattle.typestate.specs.Differences.{changed, slots_of};
 ghost use Rattle.typestate.specs.Logs.{Holds, KeepsParts, part_of};
+ghost use Rattle.typestate.specs.Strays.{NoneStray};
 
 use crate::ThreadRules;
 use crate::kept::{Kept, Known};
@@ -25,7 +26,9 @@ use point_rules::{Left, follows, follows_call};
 use ranges::Bounds;
 use rv32_isa::decode;
 use std::alloc::{AllocError, Global};
-use typestate::{Behind, NotedSlot, NotedSlots, Part, SlotLog};
+use typestate::{
+    Behind, NotedSlot, NotedSlots, Part, SlotLog, points_without_stray_slots_have_none,
+};
 
 /// A thread's program with the rules on its slots and calls, and the slots that the image lists in its CNodes.
 #[derive(Clone, Copy)]
@@ -42,15 +45,17 @@ pub struct Program<'a, 'p, R: ThreadRules> {
     pub alloc: Global,
 }
 
-/// What is kept of what a point leaves for the next one, with the part that its slots have.
-fn keep(left: Left, part: Part) -> Kept
-    ensures { result ≡ kept_as left part }
+/// What is kept of what a point leaves for the next one, with the part that its slots have, and whether it is known that none of
+/// them is one that the thread may not have.
+fn keep(left: Left, part: Part, is_clean: bool) -> Kept
+    ensures { result ≡ kept_as left part is_clean }
 {
     match left {
         Left::Known { bounds, measure } => Kept::Known(Known {
             bounds,
             measure,
             part,
+            is_clean,
         }),
         Left::Missing => Kept::Missing,
         Left::Unmeasured => Kept::Unmeasured,
@@ -63,10 +68,12 @@ fn behind_instruction(pc: u32, instr: Instr, known: &Known) -> Kept
     requires measure { negsuc (2 ^ 63 - 2) ≤ℤ (measure_of known.now.measure).constant }
     ensures same { (slots log : List NotedSlot) → noted_by slots log result ≡ follows_edge instr (state_by slots log known.now) (after pc instr known.now.bounds).fall_through }
     ensures sound { (log : List NotedSlot) (point : ℕ) → IsSound log point (kept.Known known.now) → IsSound log (point + 1) result }
+    ensures clean { (image : Image) (t : Thread) (slots log : List NotedSlot) → IsCleanIn image t slots log (kept.Known known.now) → IsCleanIn image t slots log result }
 {
     keep(
         follows(pc, instr, &known.bounds, &known.measure),
         known.part,
+        known.is_clean,
     )
 }
 
@@ -77,8 +84,9 @@ fn behind_call(budget: u64, measure: &Measure, behind: &Behind, part: Part) -> K
     ensures same { (slots log : List NotedSlot) (t : Thread) → t.header.budget ≡ budget
         → noted_by slots log result ≡ behind_call t (measure_of measure.now) (behind_with (changed slots (part_of log part)) behind.now) }
     ensures sound { (log : List NotedSlot) (t : Thread) (point : ℕ) → t.header.budget ≡ budget → Holds log part → negsuc (2 ^ 62 + point) ≤ℤ (measure_of measure.now).constant → IsSound log (point + 1) result }
+    ensures clean { (image : Image) (t : Thread) (slots log : List NotedSlot) → (behind.now.is_tidy ≡ true → NoneStray image t (changed slots (part_of log part))) → IsCleanIn image t slots log result }
 {
-    keep(follows_call(budget, measure, behind), part)
+    keep(follows_call(budget, measure, behind), part, behind.is_tidy)
 }
 
 impl<R: ThreadRules> Program<'_, '_, R> {
@@ -99,17 +107,21 @@ impl<R: ThreadRules> Program<'_, '_, R> {
         noted: Option<&RecordRef<'_>>,
         bounds: &Bounds,
         slots: &NotedSlots<'_>,
+        is_clean: bool,
         made: &mut Vec<NotedSlot>,
     ) -> Result<Option<Result<Behind, Refusal>>, AllocError>
         requires program { IsProgram (R.image self.now.rules.now) (R.thread self.now.rules.now) self.now.thread.now self.now.number self.now.slots.now }
         requires rules { R.holds self.now.rules.now }
         requires image { slots.now.image.now ≡ self.now.slots.now }
         requires noted { option_map (λ r. r.now) noted ≡ record_of self.now.thread.now point }
+        requires clean { is_clean ≡ true → NoneStray (R.image self.now.rules.now) (R.thread self.now.rules.now).thread (slots_of slots.now) }
         requires none { made.old.items ≡ [] }
-        ensures { IfOk result (λ called. (measure : NotedMeasure) → call_at (R.image self.now.rules.now) (R.thread self.now.rules.now) point (known_with bounds.now (slots_of slots.now) measure)
+        ensures clean { IfOk result (IsCleanBehind (R.image self.now.rules.now) (R.thread self.now.rules.now).thread (slots_of slots.now) made.new.items) }
+        ensures left { IfOk result (λ called. (measure : NotedMeasure) → call_at (R.image self.now.rules.now) (R.thread self.now.rules.now) point (known_with bounds.now (slots_of slots.now) measure)
             ≡ option_map (left_with (slots_of slots.now) made.new.items) called) }
     {
-        if self.rules.has_stray_slots(point, noted, slots) {
+        points_without_stray_slots_have_none();
+        if self.rules.has_stray_slots(point, noted, slots, is_clean) {
             return Ok(None);
         }
         let at = Point {
@@ -117,6 +129,58 @@ impl<R: ThreadRules> Program<'_, '_, R> {
             point,
         };
         Ok(Some(self.rules.after_call(at, bounds, slots, made)?))
+    }
+
+    /// Whether no slot of a state is one that the thread may not have, by what is known of it, or by a look at all of them.
+    fn has_no_stray_slot<'n>(
+        &'n self,
+        point: u32,
+        noted: Option<&RecordRef<'_>>,
+        known: &'n Known,
+        log: &'n SlotLog,
+    ) -> bool
+        requires program { IsProgram (R.image self.now.rules.now) (R.thread self.now.rules.now) self.now.thread.now self.now.number self.now.slots.now }
+        requires rules { R.holds self.now.rules.now }
+        requires noted { option_map (λ r. r.now) noted ≡ record_of self.now.thread.now point }
+        requires held { Holds log.now known.now.part }
+        requires clean { IsCleanIn (R.image self.now.rules.now) (R.thread self.now.rules.now).thread self.now.slots.now log.now (kept.Known known.now) }
+        ensures { result ≡ true → NoneStray (R.image self.now.rules.now) (R.thread self.now.rules.now).thread (changed self.now.slots.now (part_of log.now known.now.part)) }
+    {
+        points_without_stray_slots_have_none();
+        if known.is_clean {
+            return true;
+        }
+        let slots = log.slots(self.slots, known.part);
+        !self.rules.has_stray_slots(point, noted, &slots, false)
+    }
+
+    /// What is kept of a point, with what a look at its slots tells, where nothing is known of them.
+    pub(crate) fn looked_at<'n>(
+        &'n self,
+        point: u32,
+        noted: Option<&RecordRef<'_>>,
+        kept: &'n Kept,
+        log: &'n SlotLog,
+    ) -> Kept
+        requires program { IsProgram (R.image self.now.rules.now) (R.thread self.now.rules.now) self.now.thread.now self.now.number self.now.slots.now }
+        requires rules { R.holds self.now.rules.now }
+        requires noted { option_map (λ r. r.now) noted ≡ record_of self.now.thread.now point }
+        requires sound { IsSound log.now point kept.now }
+        requires clean { IsCleanIn (R.image self.now.rules.now) (R.thread self.now.rules.now).thread self.now.slots.now log.now kept.now }
+        ensures same { noted_by self.now.slots.now log.now result ≡ noted_by self.now.slots.now log.now kept.now }
+        ensures sound { IsSound log.now point result }
+        ensures clean { IsCleanIn (R.image self.now.rules.now) (R.thread self.now.rules.now).thread self.now.slots.now log.now result }
+    {
+        match kept {
+            Kept::Known(known) => Kept::Known(Known {
+                bounds: known.bounds,
+                measure: known.measure,
+                part: known.part,
+                is_clean: self.has_no_stray_slot(point, noted, known, log),
+            }),
+            Kept::Missing => Kept::Missing,
+            Kept::Unmeasured => Kept::Unmeasured,
+        }
     }
 
     /// What is kept of the point behind a system call in this state.
@@ -132,14 +196,17 @@ impl<R: ThreadRules> Program<'_, '_, R> {
         requires noted { option_map (λ r. r.now) noted ≡ record_of self.now.thread.now point }
         requires few { point ≤ 65536 }
         requires sound { IsSound log.old point (kept.Known known.now) }
+        requires clean { IsCleanIn (R.image self.now.rules.now) (R.thread self.now.rules.now).thread self.now.slots.now log.old (kept.Known known.now) }
         ensures same { IfOk result (λ k. noted_by self.now.slots.now log.new k
             ≡ follows_call self.now.thread.now (measure_of known.now.measure) (call_at (R.image self.now.rules.now) (R.thread self.now.rules.now) point (state_by self.now.slots.now log.old known.now))) }
         ensures sound { IfOk result (IsSound log.new (point + 1)) }
+        ensures clean { IfOk result (IsCleanIn (R.image self.now.rules.now) (R.thread self.now.rules.now).thread self.now.slots.now log.new) }
         ensures others { IfOk result (λ _. KeepsParts log.old log.new) }
     {
         let mut made = Vec::new(self.alloc);
         let slots = log.slots(self.slots, known.part);
-        let Some(Ok(behind)) = self.called(point, noted, &known.bounds, &slots, &mut made)? else {
+        let called = self.called(point, noted, &known.bounds, &slots, known.is_clean, &mut made)?;
+        let Some(Ok(behind)) = called else {
             return Ok(Kept::Missing);
         };
         let part = log.follow(known.part, &made)?;
@@ -159,8 +226,10 @@ impl<R: ThreadRules> Program<'_, '_, R> {
         requires within { point < self.now.thread.now.header.words }
         requires noted { option_map (λ r. r.now) noted ≡ record_of self.now.thread.now point }
         requires sound { IsSound log.old point kept.now }
+        requires clean { IsCleanIn (R.image self.now.rules.now) (R.thread self.now.rules.now).thread self.now.slots.now log.old kept.now }
         ensures same { IfOk result (λ k. noted_by self.now.slots.now log.new k ≡ follows (R.image self.now.rules.now) (R.thread self.now.rules.now) point (noted_by self.now.slots.now log.old kept.now)) }
         ensures sound { IfOk result (IsSound log.new (point + 1)) }
+        ensures clean { IfOk result (IsCleanIn (R.image self.now.rules.now) (R.thread self.now.rules.now).thread self.now.slots.now log.new) }
         ensures others { IfOk result (λ _. KeepsParts log.old log.new) }
     {
         let Kept::Known(known) = kept else {

@@ -1,6 +1,6 @@
 //! What is asked of a thread's slots and of its system calls.
 
-ghost use Rattle.std.specs.Prelude.{◌≡◌, [], IfOk, List, false, option_map};
+ghost use Rattle.std.specs.Prelude.{◌≡◌, [], IfOk, List, false, true, option_map};
 ghost use Rattle.typestate.specs.Calls.{left_with};
 ghost use Rattle.model.specs.Acceptance.CallRules.{after_call};
 ghost use Rattle.model.specs.Acceptance.Measures.{Measure};
@@ -11,6 +11,7 @@ ghost use Rattle.model.specs.Images.Image.{Image};
 ghost use Rattle.model.specs.declared.ranges.Range.{Range};
 ghost use Rattle.typestate.specs.Calls.{known_with};
 ghost use Rattle.typestate.specs.Differences.{slots_of};
+ghost use Rattle.typestate.specs.Strays.{IsTidyBehind, NoneStray};
 
 use image::RecordRef;
 use model::{Point, Refusal};
@@ -28,19 +29,22 @@ pub trait ThreadRules {
     ghost holds: { Self → Type 0 };
 
     /// Whether some slot at a point is one that the thread may not have, or the point's record notes one outside of the
-    /// thread's CNodes.
+    /// thread's CNodes. Where it is known that no slot is, only the record is looked at.
     fn has_stray_slots(
         &self,
         point: u32,
         noted: Option<&RecordRef<'_>>,
         slots: &NotedSlots<'_>,
+        is_clean: bool,
     ) -> bool
         requires holds { holds self.now }
         requires image { slots.now.image.now ≡ image_slots (image self.now) (thread self.now).thread }
         requires noted { option_map (λ r. r.now) noted ≡ record_of (thread self.now).thread point }
+        requires clean { is_clean ≡ true → NoneStray (image self.now) (thread self.now).thread (slots_of slots.now) }
         ensures { (ranges : List Range) (measure : Measure) → result ≡ has_stray_slots (image self.now) (thread self.now).thread point (known_with ranges (slots_of slots.now) measure) };
 
-    /// What the system call at a point leaves, or why it is refused. The slots that it changes are put into the list, which is
+    /// What the system call at a point leaves, or why it is refused, and whether it is known to leave no slot that the thread
+    /// may not have. The slots that it changes are put into the list, which is
     /// empty. Memory may be refused.
     fn after_call(
         &self,
@@ -54,5 +58,6 @@ pub trait ThreadRules {
         requires image { slots.now.image.now ≡ image_slots (image self.now) (thread self.now).thread }
         requires own { (measure : Measure) → has_stray_slots (image self.now) (thread self.now).thread at.point (known_with bounds.now (slots_of slots.now) measure) ≡ false }
         requires none { made.old.items ≡ [] }
-        ensures { IfOk result (λ called. (measure : Measure) → after_call (image self.now) (thread self.now).thread at (known_with bounds.now (slots_of slots.now) measure) ≡ left_with (slots_of slots.now) made.new.items called) };
+        ensures tidy { IfOk result (IsTidyBehind (image self.now) (thread self.now).thread (slots_of slots.now) made.new.items) }
+        ensures left { IfOk result (λ called. (measure : Measure) → after_call (image self.now) (thread self.now).thread at (known_with bounds.now (slots_of slots.now) measure) ≡ left_with (slots_of slots.now) made.new.items called) };
 }

@@ -85,7 +85,10 @@ impl Given<'_, '_> {
         requires image { slots.now.image.now ≡ self.now.slots.now }
         requires none { made.old.items ≡ [] }
     {
-        if self.space.has_stray_slots(slots, None, self.lists_stray) {
+        if self
+            .space
+            .has_stray_slots(slots, None, self.lists_stray, false)
+        {
             return Err(Fault::refused(at.point, Refusal::CapNotThere(at)));
         }
         let _ = self.space.image.header();

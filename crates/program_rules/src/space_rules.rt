@@ -33,8 +33,10 @@ impl ThreadRules for SpaceRules<'_, '_> {
         point: u32,
         noted: Option<&RecordRef<'_>>,
         slots: &NotedSlots<'_>,
+        is_clean: bool,
     ) -> bool {
-        self.space.has_stray_slots(slots, noted, self.lists_stray)
+        self.space
+            .has_stray_slots(slots, noted, self.lists_stray, is_clean)
     }
 
     fn after_call(

@@ -10,6 +10,7 @@ pub mod Rising
 pub mod Searched
 pub mod Compared
 pub mod SomeHeld
+mod TidyChanges
 pub mod ListedStrays
 pub mod UnlinkedSlots
 pub mod LogParts

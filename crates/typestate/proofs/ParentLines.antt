@@ -10,7 +10,7 @@ use Rattle.typestate.proofs.SlotLists.{without-at}
 
 -- ---- without one slot
 
-abbrev on : ℕ → List NotedSlot → Option NotedSlot → Bool
+abbrev pub on : ℕ → List NotedSlot → Option NotedSlot → Bool
 on n slots found = option_map_or (λ s. leads_to_boot n slots s.parent) found false
 
 -- a line leads on where more slots stand
@@ -73,7 +73,7 @@ one-less (o ∷ rest) gone s is = elim (is_same_key o.key gone) as (λ b. (if b 
 
 -- ---- so many steps as there are slots are enough
 
-abbrev Suffices : ℕ → Type 0
+abbrev pub Suffices : ℕ → Type 0
 Suffices m = (slots : List NotedSlot) (n : ℕ) (p : Option SlotKey) → length slots ≤ m → leads_to_boot n slots p ≡ true → leads_to_boot m slots p ≡ true
 
 one-more : (m : ℕ) → Suffices m → (bound : ℕ) (slots : List NotedSlot) (n : ℕ) (p : Option SlotKey) → n ≤ bound → length slots ≤ suc m → leads_to_boot n slots p ≡ true → leads_to_boot (suc m) slots p ≡ true
@@ -92,7 +92,7 @@ one-more m enough (suc bound) slots (suc n) (Some key) below most leads =
       ]
     ] refl leads
 
-suffices : (m : ℕ) → Suffices m
+pub suffices : (m : ℕ) → Suffices m
 unfolding leads_to_boot
 suffices zero slots n None most leads = refl
 suffices zero [] zero (Some key) most leads = leads

@@ -1,5 +1,5 @@
 -- Calls on capabilities in the slots of a thread.
-use Rattle.std.specs.Prelude.{ℕ, ◌≡◌, ◌/◌, ◌||◌, not, Option, Result, Ok, Err, List}
+use Rattle.std.specs.Prelude.{ℕ, ◌≡◌, ◌/◌, ◌||◌, not, Option, Result, Ok, Err, List, Bool}
 use Rattle.model.specs.declared.capabilities.Cap.{Cap}
 use Rattle.model.specs.declared.capabilities.Cap.TheVariants.{Untyped, CNode, Frame, PageTable, Tcb, InterruptControl, InterruptHandler}
 use Rattle.model.specs.declared.capabilities.FrameMapping.{FrameMapping}
@@ -53,7 +53,7 @@ abbrev pub held_after : Image → Thread → Point → List NotedSlot → NotedS
 held_after image t at slots held call = slots_after image t at slots (call_on image t (slot_of_key image held.key) held.capability) call
 
 -- the slots with these changes, if the call is not refused
-abbrev pub made_or_refused : List NotedSlot → List NotedSlot → Result (Unit {0}) Refusal → Result (List NotedSlot) Refusal
+abbrev pub made_or_refused : List NotedSlot → List NotedSlot → Result Bool Refusal → Result (List NotedSlot) Refusal
 made_or_refused slots made (Ok _) = Ok (changed slots made)
 made_or_refused slots made (Err refusal) = Err refusal
 

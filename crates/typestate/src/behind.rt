@@ -1,6 +1,6 @@
 //! What is known of the registers behind a system call.
 
-ghost use Rattle.std.specs.Prelude.{◌≡◌, List};
+ghost use Rattle.std.specs.Prelude.{◌≡◌, List, true};
 ghost use Rattle.model.specs.Acceptance.Measures.{Measure};
 ghost use Rattle.model.specs.Acceptance.NotedStates.{NotedSlot};
 ghost use Rattle.model.specs.Acceptance.CallRules.{with_answer, with_message};
@@ -43,6 +43,8 @@ pub struct Behind {
     pub bounds: Bounds,
     pub is_wait: bool,
     pub written: Written,
+    /// Whether it is known that the call leaves no slot that the thread may not have, where there was none before.
+    pub is_tidy: bool,
 }
 
 /// Registers behind a message: this badge, and any info and words.
@@ -78,27 +80,35 @@ pub(crate) fn with_answer(bounds: &Bounds) -> Bounds
 impl Behind {
     /// Nothing changes.
     pub(crate) fn unchanged(bounds: &Bounds, is_wait: bool) -> Self
-        ensures { result ≡ record { bounds = bounds.now; is_wait = is_wait; written = Nothing } }
+        ensures { result ≡ record { bounds = bounds.now; is_wait = is_wait; written = Nothing; is_tidy = true } }
     {
         Behind {
             bounds: *bounds,
             is_wait,
             written: Written::Nothing,
+            is_tidy: true,
         }
     }
 
-    /// A call on a capability, with or without an answer.
-    pub(crate) fn called(bounds: &Bounds, answers: bool) -> Self
-        ensures { (before slots : List NotedSlot) (measure : Measure) → behind_with slots result ≡ behind_call (known_with bounds.now before measure) answers slots }
+    /// A call on a capability, with or without an answer, that makes tidy changes of the slots or others.
+    pub(crate) fn called(bounds: &Bounds, answers: bool, is_tidy: bool) -> Self
+        ensures tidy { result.is_tidy ≡ is_tidy }
+        ensures same { (before slots : List NotedSlot) (measure : Measure) → behind_with slots result ≡ behind_call (known_with bounds.now before measure) answers slots }
     {
         if answers {
             Behind {
                 bounds: with_answer(bounds),
                 is_wait: false,
                 written: Written::Answer,
+                is_tidy,
             }
         } else {
-            Behind::unchanged(bounds, false)
+            Behind {
+                bounds: *bounds,
+                is_wait: false,
+                written: Written::Nothing,
+                is_tidy,
+            }
         }
     }
 }

@@ -8,6 +8,7 @@ ghost use Rattle.typestate.specs.Calls.{call_on, known_with, left_with};
 ghost use Rattle.typestate.specs.Differences.{slots_of};
 ghost use Rattle.typestate.specs.Invocations.{HoldsFull};
 ghost use Rattle.typestate.specs.Mappings.{MappingsAreListed};
+ghost use Rattle.typestate.specs.Strays.{IsTidyBehind};
 ghost use Rattle.typestate.specs.Spaces.{AreOwn, IsSpace, NothingLeadsOutside, StandsApart, own_slots};
 
 use crate::{Behind, NotedSlot, NotedSlots, Space, SystemCall, message_call};
@@ -35,7 +36,8 @@ impl Space<'_, '_> {
         requires own { AreOwn self.now.image.now self.now.thread.now (slots_of slots.now) }
         requires held { HoldsFull (own_slots self.now.windows.now (slots_of slots.now)) slot capability }
         requires none { made.old.items ≡ [] }
-        ensures { IfOk result (λ called. (measure : Measure) → invocation self.now.image.now self.now.thread.now at (known_with bounds.now (slots_of slots.now) measure) (call_on self.now.image.now self.now.thread.now slot capability) answers
+        ensures tidy { IfOk result (IsTidyBehind self.now.image.now self.now.thread.now (slots_of slots.now) made.new.items) }
+        ensures left { IfOk result (λ called. (measure : Measure) → invocation self.now.image.now self.now.thread.now at (known_with bounds.now (slots_of slots.now) measure) (call_on self.now.image.now self.now.thread.now slot capability) answers
             ≡ left_with (slots_of slots.now) made.new.items called) }
     {
         let call = match message_call(at, bounds, capability) {
@@ -44,7 +46,7 @@ impl Space<'_, '_> {
         };
         let held = self.held(slots, slot);
         match self.invoked(slots, at, held, call, made)? {
-            Ok(()) => Ok(Ok(Behind::called(bounds, answers))),
+            Ok(is_tidy) => Ok(Ok(Behind::called(bounds, answers, is_tidy))),
             Err(refusal) => Ok(Err(refusal)),
         }
     }
@@ -64,7 +66,8 @@ impl Space<'_, '_> {
         requires inside { NothingLeadsOutside self.now.image.now self.now.thread.now (slots_of slots.now) }
         requires own { AreOwn self.now.image.now self.now.thread.now (slots_of slots.now) }
         requires none { made.old.items ≡ [] }
-        ensures { IfOk result (λ called. (measure : Measure) → after_call self.now.image.now self.now.thread.now at (known_with bounds.now (slots_of slots.now) measure) ≡ left_with (slots_of slots.now) made.new.items called) }
+        ensures tidy { IfOk result (IsTidyBehind self.now.image.now self.now.thread.now (slots_of slots.now) made.new.items) }
+        ensures left { IfOk result (λ called. (measure : Measure) → after_call self.now.image.now self.now.thread.now at (known_with bounds.now (slots_of slots.now) measure) ≡ left_with (slots_of slots.now) made.new.items called) }
     {
         match self.system_call(slots, at, bounds) {
             Err(refusal) => Ok(Err(refusal)),

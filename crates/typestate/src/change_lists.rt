@@ -16,7 +16,7 @@ use model::Cap;
 use std::alloc::AllocError;
 
 /// Whether a slot was derived from the slot of this key.
-fn is_parent(key: SlotKey, parent: Option<SlotKey>) -> bool
+pub(crate) fn is_parent(key: SlotKey, parent: Option<SlotKey>) -> bool
     ensures { result ≡ is_parent key parent }
 {
     match parent {

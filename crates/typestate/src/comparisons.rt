@@ -22,7 +22,7 @@ fn are_same(a: Cap, b: Cap) -> bool
 }
 
 /// Whether two slots were derived from the same.
-fn is_same_parent(a: Option<SlotKey>, b: Option<SlotKey>) -> bool
+pub(crate) fn is_same_parent(a: Option<SlotKey>, b: Option<SlotKey>) -> bool
     ensures { result ≡ is_same_parent a b }
 {
     match (a, b) {

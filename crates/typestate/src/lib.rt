@@ -25,12 +25,16 @@ mod slot_changes;
 mod spaces;
 mod strays;
 mod system_calls;
+mod tidy;
 mod windows;
 
 pub use behind::{Behind, Written};
 pub use holders::allows;
 pub use keys::{NotedSlot, SlotKey};
-pub use laws::{no_stray_slot_leads_outside, records_note_changes};
+pub use laws::{
+    no_stray_slot_leads_outside, points_without_stray_slots_have_none, records_note_changes,
+    tidy_changes_leave_no_stray_slot, tidy_puts_leave_no_stray_slot,
+};
 pub use logs::{Part, SlotLog};
 pub use messages::message_call;
 pub use points::NotedSlots;

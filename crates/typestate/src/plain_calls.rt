@@ -35,6 +35,7 @@ pub(crate) fn receive_rule(
             bounds: with_message(bounds, BADGES),
             is_wait,
             written: Written::Message,
+            is_tidy: true,
         }),
         Cap::Notification { rights, .. } if rights.may_read() => {
             let mut bounds = *bounds;
@@ -43,6 +44,7 @@ pub(crate) fn receive_rule(
                 bounds,
                 is_wait,
                 written: Written::Badge,
+                is_tidy: true,
             })
         }
         _ => Err(Refusal::CapNotThere(at)),
@@ -63,6 +65,7 @@ pub(crate) fn sends_message(
             bounds: with_message(bounds, Range::single(0)),
             is_wait: true,
             written: Written::Message,
+            is_tidy: true,
         }),
         Sending::Waiting if rights.may_write() => Ok(Behind::unchanged(bounds, true)),
         Sending::Trying if rights.may_write() => Ok(Behind::unchanged(bounds, false)),
@@ -87,6 +90,7 @@ pub(crate) fn sends_signal(
             bounds: with_answer(bounds),
             is_wait: false,
             written: Written::Answer,
+            is_tidy: true,
         })
     } else {
         Ok(Behind::unchanged(bounds, false))

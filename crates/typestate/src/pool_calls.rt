@@ -18,9 +18,9 @@ ghost use Rattle.typestate.specs.Differences.{slots_of};
 ghost use Rattle.typestate.specs.Invocations.{IsCallOn, held_after, made_or_refused};
 ghost use Rattle.typestate.specs.Pools.{IsOwnWindow, Makes, NamesNode, PlaceAnswer, bits_asked, fits_node, new_of, room_in, sized, slot_made, slots_made, some_full};
 ghost use Rattle.typestate.specs.Spaces.{AreOwn, IsSpace, NothingLeadsOutside, StandsApart, is_inside};
-ghost use Rattle.typestate.specs.Strays.{is_at};
+ghost use Rattle.typestate.specs.Strays.{IsTidyCall, is_at};
 
-use crate::{NotedSlot, NotedSlots, SlotKey, Space, Window};
+use crate::{NotedSlot, NotedSlots, SlotKey, Space, Window, tidy_puts_leave_no_stray_slot};
 use model::{Cap, KError, Point, Refusal, RetypeCall, Rights, SlotName, UntypedMemory};
 use std::alloc::AllocError;
 use untyped::place;
@@ -335,7 +335,7 @@ impl Space<'_, '_> {
         memory: UntypedMemory,
         call: RetypeCall,
         made: &mut Vec<NotedSlot>,
-    ) -> Result<Result<(), Refusal>, AllocError>
+    ) -> Result<Result<bool, Refusal>, AllocError>
         requires space { IsSpace self.now }
         requires apart { StandsApart self.now.image.now self.now.thread.now }
         requires inside { NothingLeadsOutside self.now.image.now self.now.thread.now (slots_of slots.now) }
@@ -343,8 +343,10 @@ impl Space<'_, '_> {
         requires held { slot_at (slots_of slots.now) held.key ≡ Some held }
         requires pool { held.capability ≡ Untyped memory.offset memory.bits memory.watermark }
         requires none { made.old.items ≡ [] }
-        ensures { IfOk result (λ done. held_after self.now.image.now self.now.thread.now at (slots_of slots.now) held (OnUntyped memory call) ≡ made_or_refused (slots_of slots.now) made.new.items done) }
+        ensures tidy { IfOk result (IsTidyCall self.now.image.now self.now.thread.now (slots_of slots.now) made.new.items) }
+        ensures made { IfOk result (λ done. held_after self.now.image.now self.now.thread.now at (slots_of slots.now) held (OnUntyped memory call) ≡ made_or_refused (slots_of slots.now) made.new.items done) }
     {
+        tidy_puts_leave_no_stray_slot();
         let new = match self.new_place(slots, held.key, memory, call) {
             Ok(new) => new,
             Err(error) => return Ok(Err(Refusal::CallRefused(at, error))),
@@ -362,6 +364,6 @@ impl Space<'_, '_> {
             parent: held.parent,
         })?;
         note_made(kind, new.offset, call.count, new.slot, held.key, made)?;
-        Ok(Ok(()))
+        Ok(Ok(self.are_tidy_puts(slots, made)))
     }
 }

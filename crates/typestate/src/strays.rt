@@ -1,11 +1,11 @@
 //! Slots that a thread may not have.
 
-ghost use Rattle.std.specs.Prelude.{ℕ, ◌≡◌, ◌||◌, [], length, option_map};
+ghost use Rattle.std.specs.Prelude.{ℕ, ◌≡◌, ◌||◌, [], length, option_map, true};
 ghost use Rattle.std.specs.List.{list_any};
 ghost use Rattle.model.specs.Acceptance.NotedStates.{PointState, has_stray_slots, is_foreign, is_own, leads_to_boot, notes_outside, record_of};
 ghost use Rattle.typestate.specs.Differences.{slots_of};
 ghost use Rattle.typestate.specs.Spaces.{IsSpace};
-ghost use Rattle.typestate.specs.Strays.{cnodes_of, has_key, is_at, is_stray_at, is_stray_in};
+ghost use Rattle.typestate.specs.Strays.{cnodes_of, has_key, is_at, NoneStray, is_stray_at, is_stray_in, is_unfit};
 
 use crate::records::key_of;
 use crate::spaces::slots_of_radix;
@@ -85,14 +85,20 @@ impl Space<'_, '_> {
         }
     }
 
+    /// Whether a slot is one that the thread may not have, wherever its parents lead.
+    pub(crate) fn is_unfit(&self, slot: NotedSlot) -> bool
+        requires { IsSpace self.now }
+        ensures { result ≡ is_unfit self.now slot }
+    {
+        !self.is_own(slot.key) || self.is_foreign(slot.capability)
+    }
+
     /// Whether a slot is one that the thread may not have.
     fn is_stray(&self, slots: &NotedSlots<'_>, slot: NotedSlot) -> bool
         requires { IsSpace self.now }
         ensures { result ≡ is_stray_in self.now (slots_of slots.now) slot }
     {
-        !self.is_own(slot.key)
-            || self.is_foreign(slot.capability)
-            || !slots.leads_to_boot(slot.parent)
+        self.is_unfit(slot) || !slots.leads_to_boot(slot.parent)
     }
 
     /// Whether the slot of this key is one that the thread may not have. What a later change took away is none.
@@ -175,19 +181,22 @@ impl Space<'_, '_> {
     }
 
     /// Whether some noted slot of a point is one that the thread may not have, or the point's record, if it has one, notes a
-    /// slot outside of the thread's CNodes. Of the slots that the image lists it is told beforehand.
+    /// slot outside of the thread's CNodes. Of the slots that the image lists it is told beforehand, and of all where it is
+    /// known that none is.
     pub fn has_stray_slots(
         &self,
         slots: &NotedSlots<'_>,
         noted: Option<&RecordRef<'_>>,
         lists_stray: bool,
+        is_clean: bool,
     ) -> bool
         requires space { IsSpace self.now }
         requires listed { lists_stray ≡ list_any (is_stray_in self.now []) slots.now.image.now }
+        requires clean { is_clean ≡ true → NoneStray self.now.image.now self.now.thread.now (slots_of slots.now) }
         ensures { (point : ℕ) (state : PointState) → state.slots ≡ slots_of slots.now → record_of self.now.thread.now point ≡ option_map (λ r. r.now) noted.entry
             → result ≡ has_stray_slots self.now.image.now self.now.thread.now point state }
     {
-        if self.has_stray(slots, lists_stray) {
+        if !is_clean && self.has_stray(slots, lists_stray) {
             return true;
         }
         match noted {

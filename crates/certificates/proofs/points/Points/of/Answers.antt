@@ -23,6 +23,7 @@ points-init g c =
       subst (λ (rs : List StateRecord). AreLeft own 0 rs) (sym c.of-records.ensures) (all-left own c.requires.program.fits),
       refl,
       tt,
+      tt,
     )
 
 pub noted_or-requires : goal.noted_or-requires
@@ -34,13 +35,22 @@ noted_or-requires g c =
       | Some r ↦ λ is. let fits = taken-fits own c.points.point c.points.records r.now c.points.invariant.2 (sym is) in (fits.terms, fits.constant)
     ] (c.as_ref.ensures.value ∙ c.take-noted.ensures.record)
 
-pub following-requires-clause-noted : goal.following-requires-clause-noted
-following-requires-clause-noted g c =
+pub looked_at-state-requires-clause-noted : goal.looked_at-state-requires-clause-noted
+looked_at-state-requires-clause-noted g c =
     c.as_ref-in-points.ensures.value ∙ c.take-noted.ensures.record
     ∙ sym (next-record c.args.program.now.thread.now c.points.point c.points.records c.points.invariant.2).0
 
-pub following-requires-clause-sound : goal.following-requires-clause-sound
-following-requires-clause-sound g c = c.in_ok-state.ensures.sound c.points.point c.points.invariant.4
+pub looked_at-state-requires-clause-sound : goal.looked_at-state-requires-clause-sound
+looked_at-state-requires-clause-sound g c = c.in_ok-found.ensures.sound c.points.point c.points.invariant.4
+
+pub looked_at-state-requires-clause-clean : goal.looked_at-state-requires-clause-clean
+looked_at-state-requires-clause-clean g c =
+    c.in_ok-found.ensures.clean (g.R.ThreadRules.image c.args.program.now.rules.now) (g.R.ThreadRules.thread c.args.program.now.rules.now).thread c.args.program.now.slots.now c.points.invariant.5
+
+pub following-requires-clause-noted : goal.following-requires-clause-noted
+following-requires-clause-noted g c =
+    c.as_ref-in-points-2.ensures.value ∙ c.take-noted.ensures.record
+    ∙ sym (next-record c.args.program.now.thread.now c.points.point c.points.records c.points.invariant.2).0
 
 pub points-preserved : goal.points-preserved
 points-preserved g c =
@@ -52,19 +62,21 @@ points-preserved g c =
     let inv = c.points.invariant in
     let old = c.points.log in
     let log = c.noted_or.new.log in
-    let state = c.in_ok-state.state in
+    let found = c.in_ok-found.found in
+    let state = c.looked_at-state.result in
     let next = next-record own point c.points.records inv.2 in
     let same : noted_by slots log state ≡ noted image t point =
-    ap (λ (all : List NotedSlot). noted_by all log state) c.requires.program.listed
-    ∙ c.in_ok-state.ensures.same image own (subst Rise c.requires.program.listed c.requires.program.rising)
+    c.looked_at-state.ensures.same
+    ∙ ap (λ (all : List NotedSlot). noted_by all log found) c.requires.program.listed
+    ∙ c.in_ok-found.ensures.same image own (subst Rise c.requires.program.listed c.requires.program.rising)
     ∙ ap (λ (r : Option StateRecord). noted_or image own r (noted_by (image_slots image own) old c.points.derived)) (c.as_ref.ensures.value ∙ c.take-noted.ensures.record ∙ sym next.0)
     ∙ ap (λ (all : List NotedSlot). noted_or image own (record_of own point) (noted_by all old c.points.derived)) (sym c.requires.program.listed)
     ∙ ap (noted_or image own (record_of own point)) inv.3
     ∙ ap (λ (u : Thread). noted_or image u (record_of u point) (before image t point)) (sym c.requires.program.thread)
     ∙ sym (noted-is image t point) in
-    let is : IsKeptAt image t slots log point state = record { same = same; sound = c.in_ok-state.ensures.sound point inv.4 } in
+    let is : IsKeptAt image t slots log point state = record { same = same; sound = c.looked_at-state.ensures.sound; clean = c.looked_at-state.ensures.clean } in
     let items = c.in_ok-push.ensures.items in
-    let more = one-more image t slots log c.points.kept.items state (grown image t slots old log c.points.kept.items c.in_ok-state.ensures.others inv.1)
+    let more = one-more image t slots log c.points.kept.items state (grown image t slots old log c.points.kept.items c.in_ok-found.ensures.others inv.1)
     (subst (λ (n : ℕ). IsKeptAt image t slots log n state) (sym inv.0) is) in
     let long = length-append c.points.kept.items (state ∷ []) in
     let all = ap length items in (
@@ -73,4 +85,5 @@ points-preserved g c =
       subst (λ (rs : List StateRecord). AreLeft own (point + 1) rs) (sym c.take-noted.ensures.left) next.1,
       c.in_ok-derived.ensures.same ∙ ap (follows image t point) same ∙ next-before image t point,
       c.in_ok-derived.ensures.sound,
+      c.in_ok-derived.ensures.clean,
     )

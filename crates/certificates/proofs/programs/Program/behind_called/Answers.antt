@@ -1,6 +1,6 @@
 -- By what the rule on calls says.
 use Rattle.std.proofs.Common.{◌∙◌, List, Some, sym, ap}
-use Rattle.certificates.proofs.Called.{call-made}
+use Rattle.certificates.proofs.Called.{call-made, clean-made}
 use Rattle.certificates.proofs.programs.Program.behind_called.Goals as goal
 use Rattle.measure.specs.Measures.{measure_of}
 use Rattle.model.specs.Acceptance.NotedStates.{NotedSlot}
@@ -20,9 +20,21 @@ returns-clause-same g c =
     ∙ ap (λ (all : List NotedSlot). behind_call own m (behind_with all b))
     (c.in_ok-part.ensures.same slots c.requires.program.rising ∙ ap (changed (changed slots part)) c.deref.ensures.value)
     ∙ ap (follows_call own m) (sym (call-made (g.R.ThreadRules.image c.args.self.now.rules.now) (g.R.ThreadRules.thread c.args.self.now.rules.now) c.args.point c.args.known.now.bounds m
-    (slots_of c.slots-slots.result) (changed slots part) c.called.new.made.items c.in_ok-behind.field-0 b c.slots-slots.ensures.slots
-    (c.in-Some-Ok.is ∙ ap Some c.in-Some-Ok.field-0-is) (c.in_ok-behind.ensures m)))
+    (slots_of c.slots-slots.result) (changed slots part) c.called.new.made.items c.in_ok-called.called b c.slots-slots.ensures.slots
+    (c.in-Some-Ok.is ∙ ap Some c.in-Some-Ok.field-0-is) (c.in_ok-called.ensures.left m)))
 
 pub returns-clause-sound : goal.returns-clause-sound
 returns-clause-sound g c =
     c.behind_call.ensures.sound c.follow.new.self c.args.self.now.thread.now c.args.point (sym (ap (λ h. h.budget) c.header.ensures)) c.in_ok-part.ensures.held c.requires.sound.1
+
+pub returns-clause-clean : goal.returns-clause-clean
+returns-clause-clean g c =
+    let image = g.R.ThreadRules.image c.args.self.now.rules.now in
+    let t = g.R.ThreadRules.thread c.args.self.now.rules.now in
+    let slots = c.args.self.now.slots.now in
+    let old = c.args.log.now in
+    let part = part_of old c.args.known.now.part in
+    c.behind_call.ensures.clean image t.thread slots c.follow.new.self
+    (clean-made image t.thread (slots_of c.slots-slots.result) (changed slots part) c.called.new.made.items (changed slots (part_of c.follow.new.self c.in_ok-part.part)) c.in_ok-called.called c.in-Some-Ok.behind
+    c.slots-slots.ensures.slots (c.in-Some-Ok.is ∙ ap Some c.in-Some-Ok.field-0-is) c.in_ok-called.ensures.clean
+    (c.in_ok-part.ensures.same slots c.requires.program.rising ∙ ap (changed (changed slots part)) c.deref.ensures.value))

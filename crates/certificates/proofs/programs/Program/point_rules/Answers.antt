@@ -3,7 +3,7 @@ use Rattle.std.proofs.Common.{◌≡◌, ◌∙◌, ◌<◌, inl, inr, Option, I
 use Rattle.certificates.proofs.EachPoint.{kept-at}
 use Rattle.certificates.proofs.PointLists.{noted-rules}
 use Rattle.certificates.proofs.programs.Program.point_rules.Goals as goal
-use Rattle.certificates.specs.Kept.{IsSound, noted_by, state_by}
+use Rattle.certificates.specs.Kept.{IsCleanIn, IsSound, noted_by, state_by}
 use Rattle.certificates.specs.declared.kept.Kept.{Kept}
 use Rattle.model.specs.Acceptance.PointStates.{Known, Missing, Unmeasured, noted}
 use Rattle.model.specs.Images.Image.{Thread}
@@ -17,6 +17,16 @@ state_rules-requires-clause-sound g c =
     let is = kept-at (g.R.ThreadRules.image c.args.self.now.rules.now) (g.R.ThreadRules.thread c.args.self.now.rules.now) c.args.self.now.slots.now c.args.points.now.log c.args.points.now.kept.items
     c.args.point c.index.result.now c.requires.read.noted within c.index.ensures in
     subst (λ (k : Kept). IsSound c.args.points.now.log c.args.point k) c.in-Known.is is.sound
+
+pub state_rules-requires-clause-clean : goal.state_rules-requires-clause-clean
+state_rules-requires-clause-clean g c =
+    let image = g.R.ThreadRules.image c.args.self.now.rules.now in
+    let t = g.R.ThreadRules.thread c.args.self.now.rules.now in
+    let count = c.requires.read.count in
+    let words = ap (λ (u : Thread). u.header.words) c.requires.program.thread in
+    let within : c.args.point < length c.args.points.now.kept.items = omega (arith, count, words, c.requires.within) in
+    let is = kept-at image t c.args.self.now.slots.now c.args.points.now.log c.args.points.now.kept.items c.args.point c.index.result.now c.requires.read.noted within c.index.ensures in
+    subst (λ (k : Kept). IsCleanIn image t.thread c.args.self.now.slots.now c.args.points.now.log k) c.in-Known.is is.clean
 
 pub returns-in-Known-clause-broken : goal.returns-in-Known-clause-broken
 returns-in-Known-clause-broken g c =

@@ -9,11 +9,11 @@ use Rattle.typestate.specs.Differences.{slots_of}
 use Rattle.typestate.proofs.CallsOn.{done-as}
 use Rattle.typestate.proofs.windows.Space.after_call.Goals as goal
 
-pub returns-in-Ok-Invokes : goal.returns-in-Ok-Invokes
-returns-in-Ok-Invokes c =
+pub returns-in-Ok-Invokes-clause-left : goal.returns-in-Ok-Invokes-clause-left
+returns-in-Ok-Invokes-clause-left c =
     let image = c.args.self.now.image.now in
     let t = c.args.self.now.thread.now in
     let slots = slots_of c.args.slots.now in
     let left : SystemCall → Measure → Result AfterCall Refusal = λ x measure. goes_on image t c.args.at (known_with c.args.bounds.now slots measure) (Ok x) in
     done-as c.called_on.result _ _ (λ called invoked measure.
-    c.in-Ok-Invokes.ensures.value measure ∙ ap (λ (x : SystemCall). left x measure) c.in-Ok-Invokes.field-0-is ∙ invoked measure) c.called_on.ensures
+    c.in-Ok-Invokes.ensures.value measure ∙ ap (λ (x : SystemCall). left x measure) c.in-Ok-Invokes.field-0-is ∙ invoked measure) c.called_on.ensures.left

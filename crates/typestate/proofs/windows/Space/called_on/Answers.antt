@@ -11,8 +11,8 @@ use Rattle.typestate.specs.SlotChanges.{leaves, slots_after}
 use Rattle.typestate.proofs.Decided.{decided-by}
 use Rattle.typestate.proofs.windows.Space.called_on.Goals as goal
 
-pub returns-in-Ok-2 : goal.returns-in-Ok-2
-returns-in-Ok-2 c = λ measure.
+pub returns-in-Ok-2-clause-left : goal.returns-in-Ok-2-clause-left
+returns-in-Ok-2-clause-left c = λ measure.
     let done : AfterCall → Result AfterCall Refusal = λ a. Ok a in
     let image = c.args.self.now.image.now in
     let t = c.args.self.now.thread.now in
@@ -25,11 +25,11 @@ returns-in-Ok-2 c = λ measure.
     ∙ decided-by image t c.args.at state (call_on image t c.args.slot c.args.capability) c.in-Ok.call answers
     ∙ ap (λ n. leaves state answers (slots_after image t c.args.at slots (call_on image t n c.args.capability) c.in-Ok.call)) (sym c.held-held.ensures.place)
     ∙ ap (λ (k : Cap). leaves state answers (slots_after image t c.args.at slots (call_on image t (slot_of_key image held.key) k) c.in-Ok.call)) (c.requires.held.held ∙ sym c.held-held.ensures.capability)
-    ∙ ap (leaves state answers) (c.in_ok-invoked.ensures ∙ ap (made_or_refused slots made) c.in-Ok-2.is)
-    ∙ ap done (sym (c.called.ensures slots (changed slots made) measure))
+    ∙ ap (leaves state answers) (c.in_ok-is_tidy.ensures.made ∙ ap (made_or_refused slots made) c.in-Ok-2.is)
+    ∙ ap done (sym (c.called.ensures.same slots (changed slots made) measure))
 
-pub returns-in-Err-2 : goal.returns-in-Err-2
-returns-in-Err-2 c = λ measure.
+pub returns-in-Err-2-clause-left : goal.returns-in-Err-2-clause-left
+returns-in-Err-2-clause-left c = λ measure.
     let image = c.args.self.now.image.now in
     let t = c.args.self.now.thread.now in
     let slots = slots_of c.args.slots.now in
@@ -41,4 +41,4 @@ returns-in-Err-2 c = λ measure.
     ∙ decided-by image t c.args.at state (call_on image t c.args.slot c.args.capability) c.in-Ok.call answers
     ∙ ap (λ n. leaves state answers (slots_after image t c.args.at slots (call_on image t n c.args.capability) c.in-Ok.call)) (sym c.held-held.ensures.place)
     ∙ ap (λ (k : Cap). leaves state answers (slots_after image t c.args.at slots (call_on image t (slot_of_key image held.key) k) c.in-Ok.call)) (c.requires.held.held ∙ sym c.held-held.ensures.capability)
-    ∙ ap (leaves state answers) (c.in_ok-invoked.ensures ∙ ap (made_or_refused slots made) c.in-Err-2.is)
+    ∙ ap (leaves state answers) (c.in_ok-is_tidy.ensures.made ∙ ap (made_or_refused slots made) c.in-Err-2.is)

@@ -36,20 +36,20 @@ unreachable-requires c =
       ]
     ]
 
-pub returns-in-OnCNode : goal.returns-in-OnCNode
-returns-in-OnCNode c =
+pub returns-in-OnCNode-clause-made : goal.returns-in-OnCNode-clause-made
+returns-in-OnCNode-clause-made c =
     let image = c.args.self.now.image.now in
     let t = c.args.self.now.thread.now in
     let slots = slots_of c.args.slots.now in
     done-as c.note_left.result _ _ (λ done noted.
     ap (held_after image t c.args.at slots c.args.held) c.in-OnCNode.is ∙ cnode-anywhere image t c.args.at slots c.args.held c.in-OnCNode.call
     ∙ ap (λ (h : NotedSlot). cnode_after image t c.args.at slots h.capability c.in-OnCNode.call) (sym c.held.view_is)
-    ∙ c.cnode_call-left.ensures ∙ noted image t c.requires.own) c.note_left.ensures
+    ∙ c.cnode_call-left.ensures ∙ noted) c.note_left.ensures.made
 
-pub returns-in-OnHandler : goal.returns-in-OnHandler
-returns-in-OnHandler c =
+pub returns-in-OnHandler-clause-made : goal.returns-in-OnHandler-clause-made
+returns-in-OnHandler-clause-made c =
     let image = c.args.self.now.image.now in
     let t = c.args.self.now.thread.now in
     let slots = slots_of c.args.slots.now in
     done-as c.note_left-in-OnHandler.result _ _ (λ done noted.
-    ap (held_after image t c.args.at slots c.args.held) c.in-OnHandler.is ∙ c.handler_call-left.ensures c.args.held ∙ noted image t c.requires.own) c.note_left-in-OnHandler.ensures
+    ap (held_after image t c.args.at slots c.args.held) c.in-OnHandler.is ∙ c.handler_call-left.ensures c.args.held ∙ noted) c.note_left-in-OnHandler.ensures.made

@@ -1,5 +1,6 @@
 -- By the place, and then by the type.
 use Rattle.std.proofs.Common.{◌≡◌, ◌∙◌, ◌++◌, ◌∷◌, [], true, Result, Ok, List, sym, ap, subst}
+use Rattle.std.specs.List.{list_all}
 use Rattle.model.specs.declared.capabilities.Cap.TheVariants.{Untyped}
 use Rattle.model.specs.declared.refusals.Refusal.{Refusal}
 use Rattle.model.specs.Acceptance.NotedStates.{NotedSlot, SlotKey, is_own}
@@ -7,7 +8,9 @@ use Rattle.model.specs.Acceptance.ThreadRules.{reached}
 use Rattle.model.specs.Capabilities.CapabilityWords.{IsCapability}
 use Rattle.typestate.specs.Differences.{changed, slots_of}
 use Rattle.typestate.specs.Pools.{PlacedNew, new_of, pool_used, slots_made}
+use Rattle.typestate.specs.Strays.{is_tidy_put}
 use Rattle.typestate.proofs.PoolPlaces.{made-all, never-made, places-valid, placing}
+use Rattle.typestate.proofs.PutPlaces.{rise-of}
 use Rattle.typestate.proofs.Rising.{changes-rise, from-first}
 use Rattle.typestate.proofs.Standing.{found-own}
 use Rattle.typestate.proofs.windows.Space.pool_call.Goals as goal
@@ -19,11 +22,11 @@ new_place-requires-clause-mine c =
     let slots = slots_of c.args.slots.now in
     subst (λ (k : SlotKey). is_own image (reached image t) k ≡ true) (sym (ap (λ (h : NotedSlot). h.key) c.held.view_is)) (found-own image t slots c.args.held.key c.args.held c.requires.own c.requires.held).key
 
-pub returns-in-Err : goal.returns-in-Err
-returns-in-Err c = c.in-Err.ensures c.args.at c.args.held (sym (ap (λ (h : NotedSlot). h.key) c.held.view_is))
+pub returns-in-Err-clause-made : goal.returns-in-Err-clause-made
+returns-in-Err-clause-made c = c.in-Err.ensures c.args.at c.args.held (sym (ap (λ (h : NotedSlot). h.key) c.held.view_is))
 
-pub returns-in_default : goal.returns-in_default
-returns-in_default c =
+pub returns-in_default-clause-made : goal.returns-in_default-clause-made
+returns-in_default-clause-made c =
     let image = c.args.self.now.image.now in
     let t = c.args.self.now.thread.now in
     let slots = slots_of c.args.slots.now in
@@ -52,8 +55,8 @@ note_made-requires-clause-places c =
     let valid = subst IsCapability (ap (λ (h : NotedSlot). h.capability) c.held.view_is ∙ c.requires.pool) c.held.invariant in
     places-valid image t c.requires.apart slots c.requires.own c.args.held c.args.memory c.args.call c.in-Ok.new c.requires.held c.requires.pool placed c.in-Some.kind (c.in-Some.ensures c.args.call.size) valid
 
-pub returns : goal.returns
-returns c =
+pub returns-clause-made : goal.returns-clause-made
+returns-clause-made c =
     let image = c.args.self.now.image.now in
     let t = c.args.self.now.thread.now in
     let slots = slots_of c.args.slots.now in
@@ -68,3 +71,10 @@ returns c =
     let items = c.in_ok-note_made.ensures ∙ ap (λ (l : List NotedSlot). l ++ made c.held.inside.key) (c.in_ok-push.ensures.items ∙ ap (λ (l : List NotedSlot). l ++ first ∷ []) c.requires.none) in
     made-all image t c.requires.apart slots c.requires.own c.args.held c.args.memory c.args.call c.in-Ok.new c.requires.held c.requires.pool placed c.in-Some.kind (c.in-Some.ensures c.args.call.size) c.args.at rises
     ∙ ap done (sym (items ∙ ap listed c.held.view_is))
+
+pub returns-clause-tidy : goal.returns-clause-tidy
+returns-clause-tidy c = λ tidy none.
+    let slots = slots_of c.args.slots.now in
+    let rises = changes-rise c.args.slots.now.image.now c.args.slots.now.changes.now (from-first c.args.slots.now.image.now c.args.slots.now.rising) in
+    c.tidy_puts_leave_no_stray_slot.ensures c.args.self.now slots c.note_made.new.made.items (rise-of slots 0 rises) none
+    (ap (list_all (is_tidy_put c.args.self.now slots)) (sym c.deref.ensures.value) ∙ sym c.are_tidy_puts.ensures ∙ tidy)
