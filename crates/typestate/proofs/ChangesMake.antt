@@ -1,24 +1,30 @@
 -- Changes that are told at their keys, one after another, are all of them.
-use Rattle.std.proofs.Common.{ℕ, suc, ◌≡◌, ◌∙◌, ◌||◌, Bool, true, false, if◌then◌else◌, Option, Some, None, option_map, option_and_then, List, [], ◌∷◌, ◌++◌, map, refl, sym, ap}
+use Rattle.std.proofs.Common.{ℕ, zero, suc, ◌≡◌, ◌∙◌, ◌==◌, ◌||◌, ◌&&◌, Bool, true, false, not, is_some, option_to_list, arith, if◌then◌else◌, Option, Some, None, option_map, option_and_then, List, [], ◌∷◌, ◌++◌, map, refl, sym, ap}
 use Rattle.std.specs.Option.{option_map_or}
-use Rattle.std.specs.List.{flat_map}
+use Rattle.std.specs.List.{flat_map, list_any}
+use Rattle.std.proofs.lemmas.Bool.Decides.{nat_tests}
 use Rattle.std.proofs.lemmas.Bool.{eq-eqb, eqb-true}
 use Rattle.model.specs.Acceptance.NotedStates.{NotedSlot, SlotKey, is_same_key, number_of, slot_at, with_noted}
-use Rattle.model.specs.Capabilities.CapabilityKinds.{is_untyped}
+use Rattle.model.specs.Capabilities.CapabilityKinds.{frame_mapping, is_untyped}
 use Rattle.model.specs.Capabilities.Slots.{is_empty}
 use Rattle.model.specs.declared.capabilities.Cap.{Cap}
 use Rattle.model.specs.declared.capabilities.Cap.TheVariants.{Empty, Untyped, Endpoint, Notification, CNode, Frame, PageTable, Tcb, RootTable, InterruptControl, InterruptHandler}
 use Rattle.typestate.specs.declared.points.NotedSlots.{NotedSlots}
+use Rattle.typestate.specs.declared.slot_changes.Removed.{Removed}
+use Rattle.typestate.specs.declared.slot_changes.Removed.TheVariants.{One, Below}
 use Rattle.typestate.specs.declared.slot_changes.SlotChange.{SlotChange}
 use Rattle.typestate.specs.declared.slot_changes.SlotChange.TheVariants.{Nothing, Puts, Moves, Removes}
-use Rattle.typestate.specs.ChangeLists.{changes_of, changes_told, child_change, removal_change, told_at}
+use Rattle.typestate.specs.ChangeLists.{changes_of, child_change, named_by, removal_change, told_at, told_of}
 use Rattle.typestate.specs.Differences.{changed, left_by, slots_of}
-use Rattle.typestate.specs.SlotChanges.{cap_left, emptied, followed, heir, is_parent, is_removed, loses_children, noted_outside, noted_parent, slot_left, slots_left, what_stays, without_gone}
+use Rattle.typestate.specs.SlotChanges.{cap_left, emptied, followed, heir, is_parent, is_removed, loses_children, noted_descends, noted_outside, noted_parent, slot_left, slots_left, what_stays, without_gone}
 use Rattle.typestate.proofs.Compared.{is_changed, same-place, unchanged}
 use Rattle.typestate.proofs.MoveCalls.{follows-keeps, map-at, map-rises}
+use Rattle.typestate.specs.Unlinked.{AreUnlinked, is_linked}
+use Rattle.typestate.proofs.OwnChanges.{HoldOwn, hold-own}
 use Rattle.typestate.proofs.RemovedNoted.{reset-full, reset-left, stay-at, stay-rise, stays-keeps}
-use Rattle.typestate.proofs.Rising.{RiseFrom, changes-rise, looks-equal}
+use Rattle.typestate.proofs.Rising.{RiseFrom, changes-rise, from-first, looks-equal}
 use Rattle.typestate.proofs.SlotLists.{noted-at}
+use Rattle.typestate.proofs.SomeHeld.{any-held, held-any}
 use Rattle.typestate.proofs.Standing.{found-key}
 
 -- what stands at a key does not depend on how the key is written
@@ -73,48 +79,71 @@ pub changed-more : (slots first second : List NotedSlot) → changed slots (firs
 changed-more slots [] second = refl
 changed-more slots (c ∷ first) second = changed-more (with_noted slots c) first second
 
-module _ (image changes : List NotedSlot) (tell : NotedSlot → List NotedSlot) where
-  abbrev slots : List NotedSlot
-  slots = changed image changes
-
+module _ (slots : List NotedSlot) (tell : NotedSlot → List NotedSlot) where
+  -- what is told at the keys of these changes
   abbrev told : List NotedSlot → List NotedSlot
-  told keys = flat_map (told_at tell slots) keys
+  told keys = flat_map (λ (k : NotedSlot). told_at tell slots k.key) keys
+
+  told-own : (changes : List NotedSlot) → HoldOwn slots changes → flat_map (told_of tell) changes ≡ told changes
+  told-own [] own = refl
+  told-own (c ∷ rest) own =
+      ap (λ (o : Option NotedSlot). option_map_or tell o [] ++ flat_map (told_of tell) rest) (sym own.0) ∙ ap (λ (l : List NotedSlot). told_at tell slots c.key ++ l) (told-own rest own.1)
+
+  told-here : (k key : SlotKey) (s : NotedSlot) → slot_at slots key ≡ Some s → is_same_key k key ≡ true → told_at tell slots k ≡ tell s
+  told-here k key s at is = ap (λ o. option_map_or tell o []) (same-place slots k key (eqb-true (number_of k) (number_of key) is) ∙ at)
 
   told-among : (keys : List NotedSlot) (key : SlotKey) (s : NotedSlot) → slot_at slots key ≡ Some s → is_changed keys key ≡ true → is_changed (tell s) key ≡ true → is_changed (told keys) key ≡ true
   told-among [] key s at some tells = absurd (let clash : false ≡ true = some in cc)
-  told-among (k ∷ rest) key s at some tells = elim (is_same_key k.key key) as (λ b. is_same_key k.key key ≡ b → (b || is_changed rest key) ≡ true → is_changed (told_at tell slots k ++ told rest) key ≡ true) [
-    | true ↦ λ is _.
-        let here : told_at tell slots k ≡ tell s = ap (λ o. option_map_or tell o []) (same-place slots k.key key (eqb-true (number_of k.key) (number_of key) is) ∙ at) in
-        in-first key (told_at tell slots k) (told rest) (ap (λ l. is_changed l key) here ∙ tells)
-    | false ↦ λ _ later. in-second key (told_at tell slots k) (told rest) (told-among rest key s at later tells)
+  told-among (k ∷ rest) key s at some tells = elim (is_same_key k.key key) as (λ b. is_same_key k.key key ≡ b → (b || is_changed rest key) ≡ true → is_changed (told_at tell slots k.key ++ told rest) key ≡ true) [
+    | true ↦ λ is _. in-first key (told_at tell slots k.key) (told rest) (ap (λ l. is_changed l key) (told-here k.key key s at is) ∙ tells)
+    | false ↦ λ _ later. in-second key (told_at tell slots k.key) (told rest) (told-among rest key s at later tells)
   ] refl some
 
-  leave-told : (found : SlotKey → Option NotedSlot) → ((key : SlotKey) (s : NotedSlot) → slot_at slots key ≡ Some s → AllLeave found (tell s)) → (keys : List NotedSlot) → AllLeave found (told keys)
-  leave-told found leave [] = tt
-  leave-told found leave (k ∷ rest) = leave-append found (told_at tell slots k) (told rest)
-      (elim (slot_at slots k.key) as (λ o. slot_at slots k.key ≡ o → AllLeave found (option_map_or tell o [])) [ None ↦ λ _. tt | Some s ↦ λ at. leave k.key s at ] refl)
-      (leave-told found leave rest)
+  abbrev is_named : List SlotKey → SlotKey → Bool
+  is_named keys key = list_any (λ k. is_same_key k key) keys
 
-  covers : (key : SlotKey) (s : NotedSlot) → slot_at slots key ≡ Some s → is_changed (tell s) key ≡ true → is_changed (told image ++ told changes) key ≡ true
-  covers key s at tells = elim (is_changed changes key) as (λ b. is_changed changes key ≡ b → is_changed (told image ++ told changes) key ≡ true) [
-    | true ↦ λ is. in-second key (told image) (told changes) (told-among changes key s at is tells)
-    | false ↦ λ none. in-first key (told image) (told changes) (told-among image key s at (among image key s (sym (unchanged image changes key none) ∙ at)) tells)
-  ] refl
+  told-named : (keys : List SlotKey) (key : SlotKey) (s : NotedSlot) → slot_at slots key ≡ Some s → is_named keys key ≡ true → is_changed (tell s) key ≡ true
+      → is_changed (flat_map (told_at tell slots) keys) key ≡ true
+  told-named [] key s at some tells = absurd (let clash : false ≡ true = some in cc)
+  told-named (k ∷ rest) key s at some tells = elim (is_same_key k key) as (λ b. is_same_key k key ≡ b → (b || is_named rest key) ≡ true → is_changed (told_at tell slots k ++ flat_map (told_at tell slots) rest) key ≡ true) [
+    | true ↦ λ is _. in-first key (told_at tell slots k) (flat_map (told_at tell slots) rest) (ap (λ l. is_changed l key) (told-here k key s at is) ∙ tells)
+    | false ↦ λ _ later. in-second key (told_at tell slots k) (flat_map (told_at tell slots) rest) (told-named rest key s at later tells)
+  ] refl some
 
-  pub told-all : (found : SlotKey → Option NotedSlot) → ByNumber found
-      → ((key : SlotKey) (s : NotedSlot) → slot_at slots key ≡ Some s → AllLeave found (tell s))
-      → ((key : SlotKey) (s : NotedSlot) → slot_at slots key ≡ Some s → is_changed (tell s) key ≡ false → Some s ≡ found key)
-      → ((key : SlotKey) → slot_at slots key ≡ None → None ≡ found key)
-      → (key : SlotKey) → slot_at (changed slots (told image ++ told changes)) key ≡ found key
-  told-all found by leave rest empty key =
-      changed-to found by (told image ++ told changes) slots (leave-append found (told image) (told changes) (leave-told found leave image) (leave-told found leave changes)) key
-      (λ none. elim (slot_at slots key) as (λ o. slot_at slots key ≡ o → o ≡ found key) [
-        | None ↦ λ is. empty key is
-        | Some s ↦ λ at. elim (is_changed (tell s) key) as (λ b. is_changed (tell s) key ≡ b → Some s ≡ found key) [
-          | false ↦ λ is. rest key s at is
-          | true ↦ λ is. absurd (let clash : false ≡ true = sym none ∙ covers key s at is in cc)
-        ] refl
-      ] refl)
+  module _ (found : SlotKey → Option NotedSlot) (by : ByNumber found) (leave : (key : SlotKey) (s : NotedSlot) → slot_at slots key ≡ Some s → AllLeave found (tell s)) where
+    leave-at : (k : SlotKey) → AllLeave found (told_at tell slots k)
+    leave-at k = elim (slot_at slots k) as (λ o. slot_at slots k ≡ o → AllLeave found (option_map_or tell o [])) [ None ↦ λ _. tt | Some s ↦ λ at. leave k s at ] refl
+
+    leave-told : (keys : List NotedSlot) → AllLeave found (told keys)
+    leave-told [] = tt
+    leave-told (k ∷ rest) = leave-append found (told_at tell slots k.key) (told rest) (leave-at k.key) (leave-told rest)
+
+    leave-named : (keys : List SlotKey) → AllLeave found (flat_map (told_at tell slots) keys)
+    leave-named [] = tt
+    leave-named (k ∷ rest) = leave-append found (told_at tell slots k) (flat_map (told_at tell slots) rest) (leave-at k) (leave-named rest)
+
+    -- what is told of the named keys and of the changes is all, where a slot that neither names stays
+    pub told-all : (keys : List SlotKey) (changes : List NotedSlot)
+        → ((key : SlotKey) (s : NotedSlot) → slot_at slots key ≡ Some s → is_changed (tell s) key ≡ false → Some s ≡ found key)
+        → ((key : SlotKey) (s : NotedSlot) → slot_at slots key ≡ Some s → is_changed changes key ≡ false → is_named keys key ≡ false → Some s ≡ found key)
+        → ((key : SlotKey) → slot_at slots key ≡ None → None ≡ found key)
+        → (key : SlotKey) → slot_at (changed slots (flat_map (told_at tell slots) keys ++ told changes)) key ≡ found key
+    told-all keys changes rest unnamed empty key =
+        let named = flat_map (told_at tell slots) keys in
+        changed-to found by (named ++ told changes) slots (leave-append found named (told changes) (leave-named keys) (leave-told changes)) key
+        (λ none. elim (slot_at slots key) as (λ o. slot_at slots key ≡ o → o ≡ found key) [
+          | None ↦ λ is. empty key is
+          | Some s ↦ λ at. elim (is_changed (tell s) key) as (λ b. is_changed (tell s) key ≡ b → Some s ≡ found key) [
+            | false ↦ λ is. rest key s at is
+            | true ↦ λ tells. elim (is_changed changes key) as (λ b. is_changed changes key ≡ b → Some s ≡ found key) [
+              | true ↦ λ is. absurd (let clash : false ≡ true = sym none ∙ in-second key named (told changes) (told-among changes key s at is tells) in cc)
+              | false ↦ λ unchanged. elim (is_named keys key) as (λ b. is_named keys key ≡ b → Some s ≡ found key) [
+                | true ↦ λ is. absurd (let clash : false ≡ true = sym none ∙ in-first key named (told changes) (told-named keys key s at is tells) in cc)
+                | false ↦ λ isnt. unnamed key s at unchanged isnt
+              ] refl
+            ] refl
+          ] refl
+        ] refl)
 
 -- ---- what goes
 
@@ -131,6 +160,19 @@ cap-same gone slots key (RootTable _) is = refl
 cap-same gone slots key InterruptControl is = refl
 cap-same gone slots key (InterruptHandler _) is = refl
 
+cap-kept : (gone : SlotKey → Bool) (slots : List NotedSlot) (key : SlotKey) (c : Cap) → loses_children gone slots key ≡ false → cap_left gone slots key c ≡ c
+cap-kept gone slots key (Untyped offset bits watermark) none = ap (λ b. Untyped offset bits (if b then 0 else watermark)) none
+cap-kept gone slots key Empty none = refl
+cap-kept gone slots key (Endpoint _ _ _) none = refl
+cap-kept gone slots key (Notification _ _ _) none = refl
+cap-kept gone slots key (CNode _ _ _) none = refl
+cap-kept gone slots key (Frame _ _ _) none = refl
+cap-kept gone slots key (PageTable _ _) none = refl
+cap-kept gone slots key (Tcb _) none = refl
+cap-kept gone slots key (RootTable _) none = refl
+cap-kept gone slots key InterruptControl none = refl
+cap-kept gone slots key (InterruptHandler _) none = refl
+
 heir-same : (n : ℕ) (gone : SlotKey → Bool) (slots : List NotedSlot) (parent : Option SlotKey) → option_map_or gone parent false ≡ false → noted_outside (suc n) gone slots parent ≡ parent
 unfolding noted_outside
 heir-same n gone _ None stays = refl
@@ -140,12 +182,24 @@ or-neither : (a b : Bool) → (a || b) ≡ false → (a ≡ false) × (b ≡ fal
 or-neither true b clash = absurd (let nope : true ≡ false = clash in cc)
 or-neither false b is = (refl, is)
 
-module _ (image changes : List NotedSlot) (rises : RiseFrom 0 (changed image changes)) (full : (key : SlotKey) (s : NotedSlot) → slot_at (changed image changes) key ≡ Some s → is_empty s.capability ≡ false) where
+module _ (image changes : List NotedSlot) (unlinked : AreUnlinked image) (ordered : RiseFrom 0 changes) (rises : RiseFrom 0 (changed image changes))
+    (full : (key : SlotKey) (s : NotedSlot) → slot_at (changed image changes) key ≡ Some s → is_empty s.capability ≡ false) where
   abbrev noted : List NotedSlot
   noted = changed image changes
 
   here-again : (key : SlotKey) (s : NotedSlot) → slot_at noted key ≡ Some s → slot_at noted s.key ≡ Some s
   here-again key s at = same-place noted s.key key (found-key noted key s at) ∙ at
+
+  -- what no change names is the image's, and was derived from none of the thread's slots
+  no-parent : (key : SlotKey) (s : NotedSlot) → slot_at noted key ≡ Some s → is_changed changes key ≡ false → s.parent ≡ None
+  no-parent key s at none =
+      let here : slot_at image key ≡ Some s = sym (unchanged image changes key none) ∙ at in
+      elim s.parent as (λ p. s.parent ≡ p → p ≡ None) [
+        | None ↦ λ _. refl
+        | Some p ↦ λ is.
+            let linked : is_linked s ≡ true = ap (λ (o : Option SlotKey). is_some o || is_some (frame_mapping s.capability)) is in
+            absurd (let clash : true ≡ false = sym (held-any is_linked image key (ap (λ (o : Option NotedSlot). option_map_or is_linked o false) here ∙ linked)) ∙ unlinked in cc)
+      ] refl
 
   module _ (gone : SlotKey → Bool) where
     abbrev left : List NotedSlot
@@ -189,11 +243,30 @@ module _ (image changes : List NotedSlot) (rises : RiseFrom 0 (changed image cha
           ] refl
         ] refl none
 
-    pub removal-made : changed noted (flat_map (told_at (removal_change gone noted) noted) image ++ flat_map (told_at (removal_change gone noted) noted) changes) ≡ left
-    removal-made =
-        let made = flat_map (told_at (removal_change gone noted) noted) image ++ flat_map (told_at (removal_change gone noted) noted) changes in
-        looks-equal (changed noted made) left 0 0 (changes-rise noted made rises) (stay-rise (what_stays gone noted) (stays-keeps gone noted) noted 0 rises)
-        (told-all image changes (removal_change gone noted) (slot_at left) (same-place left) removal-leaves removal-rest (λ key none. sym (left-is key ∙ ap (option_and_then (what_stays gone noted)) none)))
+    -- a slot that stays, of which no child goes, is left as it is, where it was derived from no other
+    left-alone : (s : NotedSlot) → s.parent ≡ None → loses_children gone noted s.key ≡ false → slot_left gone noted s ≡ s
+    left-alone s alone none =
+        ap (λ (c : Cap). let r : NotedSlot = record { key = s.key; capability = c; parent = heir gone noted s } in r) (cap-kept gone noted s.key s.capability none)
+        ∙ ap (λ (p : Option SlotKey). let r : NotedSlot = record { key = s.key; capability = s.capability; parent = p } in r)
+        (heir-same 255 gone noted s.parent (ap (λ (p : Option SlotKey). option_map_or gone p false) alone))
+
+    module _ (keys : List SlotKey) (stay : (key : SlotKey) (s : NotedSlot) → slot_at noted key ≡ Some s → s.parent ≡ None → is_named noted (removal_change gone noted) keys key ≡ false
+        → (gone s.key ≡ false) × (loses_children gone noted s.key ≡ false)) where
+      abbrev tell : NotedSlot → List NotedSlot
+      tell = removal_change gone noted
+
+      pub removal-made : changed noted (flat_map (told_at tell noted) keys ++ flat_map (told_of tell) changes) ≡ left
+      removal-made =
+          let named = flat_map (told_at tell noted) keys in
+          let made = named ++ told noted tell changes in
+          ap (λ (l : List NotedSlot). changed noted (named ++ l)) (told-own noted tell changes (hold-own image changes 0 ordered))
+          ∙ looks-equal (changed noted made) left 0 0 (changes-rise noted made rises) (stay-rise (what_stays gone noted) (stays-keeps gone noted) noted 0 rises)
+          (told-all noted tell (slot_at left) (same-place left) removal-leaves keys changes removal-rest
+          (λ key s at unchanged isnt.
+          let stays = stay key s at (no-parent key s at unchanged) isnt in
+          sym (left-is key ∙ ap (option_and_then (what_stays gone noted)) at ∙ ap (λ b. if b then None else Some (slot_left gone noted s)) stays.0
+          ∙ ap (λ (r : NotedSlot). Some r) (left-alone s (no-parent key s at unchanged) stays.1)))
+          (λ key none. sym (left-is key ∙ ap (option_and_then (what_stays gone noted)) none)))
 
   module _ (from to : SlotKey) where
     abbrev follow : NotedSlot → NotedSlot
@@ -227,17 +300,118 @@ module _ (image changes : List NotedSlot) (rises : RiseFrom 0 (changed image cha
           | false ↦ λ is _. sym (wanted ∙ ap (λ b. Some (if b then record s { parent = Some to } else s)) is)
         ] refl none
 
-    pub children-made : changed noted (flat_map (told_at (child_change from to) noted) image ++ flat_map (told_at (child_change from to) noted) changes) ≡ children
+    pub children-made : changed noted (flat_map (told_of (child_change from to)) changes) ≡ children
     children-made =
-        let made = flat_map (told_at (child_change from to) noted) image ++ flat_map (told_at (child_change from to) noted) changes in
-        looks-equal (changed noted made) children 0 0 (changes-rise noted made rises) (map-rises follow (follows-keeps from to) noted 0 rises)
-        (told-all image changes (child_change from to) (slot_at children) (same-place children) child-leaves child-rest (λ key none. sym (children-is key ∙ ap (option_map follow) none)))
+        let tell = child_change from to in
+        let made = told noted tell changes in
+        ap (changed noted) (told-own noted tell changes (hold-own image changes 0 ordered))
+        ∙ looks-equal (changed noted made) children 0 0 (changes-rise noted made rises) (map-rises follow (follows-keeps from to) noted 0 rises)
+        (told-all noted tell (slot_at children) (same-place children) child-leaves [] changes child-rest
+        (λ key s at unchanged isnt. child-rest key s at (ap (λ (p : Option SlotKey). is_changed (if is_parent from p then follow s ∷ [] else []) key) (no-parent key s at unchanged)))
+        (λ key none. sym (children-is key ∙ ap (option_map follow) none)))
+
+-- ---- slots that no removal names
+
+or-both : (a b : Bool) → (a || b) ≡ false → (a ≡ false) × (b ≡ false)
+or-both true b clash = absurd (let nope : true ≡ false = clash in cc)
+or-both false b is = (refl, is)
+
+number-apart : (a b c : SlotKey) → number_of a ≡ number_of b → is_same_key c b ≡ false → is_same_key c a ≡ false
+number-apart a b c same isnt = ap (λ (n : ℕ). number_of c == n) same ∙ isnt
+
+module _ (slots : List NotedSlot) (rises : RiseFrom 0 slots) (gone : SlotKey → Bool) (key : SlotKey) (s : NotedSlot) where
+  abbrev goes : NotedSlot → Bool
+  goes x = gone x.key && is_parent s.key x.parent
+
+  -- a child that goes
+  record ChildGoes : Type 0 where
+    at : SlotKey
+    child : NotedSlot
+    held : slot_at slots at ≡ Some child
+    removed : gone child.key ≡ true
+    below : is_parent s.key child.parent ≡ true
+
+  no-loss : (ChildGoes → ⊥) → loses_children gone slots s.key ≡ false
+  no-loss none = elim (list_any goes slots) as (λ b. list_any goes slots ≡ b → (b && not (list_any (λ x. not (gone x.key) && is_parent s.key (heir gone slots x)) slots)) ≡ false) [
+    | false ↦ λ _. refl
+    | true ↦ λ some.
+        let found = any-held goes slots 0 rises some in
+        absurd (elim (slot_at slots found.key) as (λ o. slot_at slots found.key ≡ o → option_map_or goes o false ≡ true → ⊥) [
+          | None ↦ λ _ clash. let no : false ≡ true = clash in cc
+          | Some x ↦ λ at is. elim (gone x.key) as (λ b. gone x.key ≡ b → (b && is_parent s.key x.parent) ≡ true → ⊥) [
+            | false ↦ λ _ clash. let no : false ≡ true = clash in cc
+            | true ↦ λ removed below. none (record { at = found.key; child = x; held = at; removed = removed; below = below })
+          ] refl is
+        ] refl found.holding)
+  ] refl
+
+record HasParent (key : SlotKey) (above : Option SlotKey) : Type 0 where
+  parent : SlotKey
+  there : above ≡ Some parent
+  same : is_same_key parent key ≡ true
+
+parent-is : (key : SlotKey) (parent : Option SlotKey) → is_parent key parent ≡ true → HasParent key parent
+parent-is key None is = absurd (let no : false ≡ true = is in cc)
+parent-is key (Some p) is = record { parent = p; there = refl; same = is }
+
+found-at : (slots : List NotedSlot) (key : SlotKey) (s : NotedSlot) → slot_at slots key ≡ Some s → slot_at slots s.key ≡ Some s
+found-at slots key s at = same-place slots s.key key (found-key slots key s at) ∙ at
+
+module _ (slots : List NotedSlot) (rises : RiseFrom 0 slots) (key : SlotKey) (s : NotedSlot) (at : slot_at slots key ≡ Some s) (alone : s.parent ≡ None) where
+  one-stays : (gone : SlotKey) → (is_same_key gone key || list_any (λ k. is_same_key k key) (option_to_list (noted_parent slots gone))) ≡ false
+      → (is_removed slots (One gone) s.key ≡ false) × (loses_children (is_removed slots (One gone)) slots s.key ≡ false)
+  one-stays gone isnt =
+      let parts = or-both (is_same_key gone key) (list_any (λ k. is_same_key k key) (option_to_list (noted_parent slots gone))) isnt in (
+        number-apart s.key key gone (found-key slots key s at) parts.0,
+        no-loss slots rises (is_removed slots (One gone)) key s (λ c.
+        let there : slot_at slots gone ≡ Some c.child = same-place slots gone c.child.key (eqb-true (number_of gone) (number_of c.child.key) c.removed) ∙ found-at slots c.at c.child c.held in
+        let p = parent-is s.key c.child.parent c.below in
+        let above : noted_parent slots gone ≡ Some p.parent = ap (option_and_then (λ (x : NotedSlot). x.parent)) there ∙ p.there in
+        let named : (is_same_key p.parent key || false) ≡ false = ap (λ (o : Option SlotKey). list_any (λ k. is_same_key k key) (option_to_list o)) (sym above) ∙ parts.1 in
+        let same : is_same_key p.parent key ≡ true = ap (λ (n : ℕ). number_of p.parent == n) (sym (found-key slots key s at)) ∙ p.same in
+        let clash : true ≡ false = sym (ap (λ b. b || false) same) ∙ named in cc),
+      )
+
+  -- nothing stands above a slot that was derived from none
+  descends-not : (n : ℕ) (root k : SlotKey) → number_of k ≡ number_of key → noted_descends n slots root k ≡ false
+  unfolding noted_descends
+  descends-not zero root k same = refl
+  descends-not (suc n) root k same =
+      ap (λ (o : Option SlotKey). option_map_or (λ parent. is_same_key parent root || noted_descends n slots root parent) o false)
+      (ap (option_and_then (λ (x : NotedSlot). x.parent)) (same-place slots k key same ∙ at) ∙ alone)
+
+  below-one : (n : ℕ) (root k p : SlotKey) → noted_parent slots k ≡ Some p → number_of p ≡ number_of key → is_same_key root key ≡ false → noted_descends (suc n) slots root k ≡ false
+  unfolding noted_descends
+  below-one n root k p above same isnt =
+      ap (λ (o : Option SlotKey). option_map_or (λ parent. is_same_key parent root || noted_descends n slots root parent) o false) above
+      ∙ ap (λ b. b || noted_descends n slots root p) (flipped (number_of p) (number_of root) (ap (λ (m : ℕ). number_of root == m) same ∙ isnt)) ∙ descends-not n root p same
+    where
+      flipped : (a b : ℕ) → (b == a) ≡ false → (a == b) ≡ false
+      flipped a b isnt = grind (arith, nat_tests)
+
+  below-stays : (root : SlotKey) → (is_same_key root key || false) ≡ false → (is_removed slots (Below root) s.key ≡ false) × (loses_children (is_removed slots (Below root)) slots s.key ≡ false)
+  below-stays root isnt =
+      let parts = or-both (is_same_key root key) false isnt in (
+        descends-not 256 root s.key (found-key slots key s at),
+        no-loss slots rises (is_removed slots (Below root)) key s (λ c.
+        let p = parent-is s.key c.child.parent c.below in
+        let above : noted_parent slots c.child.key ≡ Some p.parent = ap (option_and_then (λ (x : NotedSlot). x.parent)) (found-at slots c.at c.child c.held) ∙ p.there in
+        let same : number_of p.parent ≡ number_of key = eqb-true (number_of p.parent) (number_of s.key) p.same ∙ found-key slots key s at in
+        let clash : true ≡ false = sym c.removed ∙ below-one 255 root c.child.key p.parent above same parts.0 in cc),
+      )
+
+unnamed-stay : (slots : List NotedSlot) (rises : RiseFrom 0 slots) (which : Removed) (key : SlotKey) (s : NotedSlot) → slot_at slots key ≡ Some s → s.parent ≡ None
+    → list_any (λ k. is_same_key k key) (named_by slots which) ≡ false → (is_removed slots which s.key ≡ false) × (loses_children (is_removed slots which) slots s.key ≡ false)
+unnamed-stay slots rises (One gone) key s at alone isnt = one-stays slots rises key s at alone gone isnt
+unnamed-stay slots rises (Below root) key s at alone isnt = below-stays slots rises key s at alone root isnt
 
 pub changes-make : (n : NotedSlots) (change : SlotChange) → RiseFrom 0 (slots_of n) → ((key : SlotKey) (s : NotedSlot) → slot_at (slots_of n) key ≡ Some s → is_empty s.capability ≡ false)
     → changed (slots_of n) (changes_of n change) ≡ slots_left (slots_of n) change
 changes-make n Nothing rises full = refl
 changes-make n (Puts s) rises full = refl
 changes-make n (Moves from s) rises full =
-    changed-more (slots_of n) (changes_told (child_change from s.key) n) (s ∷ emptied from ∷ [])
-    ∙ ap (λ l. changed l (s ∷ emptied from ∷ [])) (children-made n.image.now n.changes.now rises full from s.key)
-changes-make n (Removes which) rises full = removal-made n.image.now n.changes.now rises full (is_removed (slots_of n) which)
+    changed-more (slots_of n) (flat_map (told_of (child_change from s.key)) n.changes.now) (s ∷ emptied from ∷ [])
+    ∙ ap (λ l. changed l (s ∷ emptied from ∷ [])) (children-made n.image.now n.changes.now n.unlinked (from-first n.changes.now n.ordered) rises full from s.key)
+changes-make n (Removes which) rises full =
+    removal-made n.image.now n.changes.now n.unlinked (from-first n.changes.now n.ordered) rises full (is_removed (slots_of n) which) (named_by (slots_of n) which)
+    (λ key s at alone isnt. unnamed-stay (slots_of n) rises which key s at alone isnt)

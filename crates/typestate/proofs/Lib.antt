@@ -11,6 +11,7 @@ pub mod Searched
 pub mod Compared
 pub mod SomeHeld
 mod TidyChanges
+pub mod OwnChanges
 pub mod ListedStrays
 pub mod UnlinkedSlots
 pub mod LogParts

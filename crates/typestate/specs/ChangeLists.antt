@@ -1,22 +1,27 @@
 -- What a call makes of the slots, as changes one after another.
-use Rattle.std.specs.Prelude.{◌||◌, ◌&&◌, Bool, false, not, List, [], ◌∷◌, ◌++◌, flat_map, if◌then◌else◌}
+use Rattle.std.specs.Prelude.{◌||◌, ◌&&◌, Bool, false, not, List, [], ◌∷◌, ◌++◌, flat_map, option_to_list, if◌then◌else◌}
 use Rattle.std.specs.Option.{option_map_or}
 use Rattle.model.specs.Acceptance.NotedStates.{NotedSlot, SlotKey, slot_at}
 use Rattle.model.specs.Capabilities.CapabilityKinds.{is_untyped}
 use Rattle.typestate.specs.declared.points.NotedSlots.{NotedSlots}
 use Rattle.typestate.specs.declared.slot_changes.Removed.{Removed}
+use Rattle.typestate.specs.declared.slot_changes.Removed.TheVariants.{One, Below}
 use Rattle.typestate.specs.declared.slot_changes.SlotChange.{SlotChange}
 use Rattle.typestate.specs.declared.slot_changes.SlotChange.TheVariants.{Nothing, Puts, Moves, Removes}
-use Rattle.typestate.specs.Differences.{slots_of}
-use Rattle.typestate.specs.SlotChanges.{emptied, followed, heir, is_parent, is_removed, slot_left}
+use Rattle.typestate.specs.Differences.{left_by, slots_of}
+use Rattle.typestate.specs.SlotChanges.{emptied, followed, heir, is_parent, is_removed, noted_parent, slot_left}
 
 -- a slot that stays, and is then a child of the slot of a key
 unfoldable pub kept_child : List NotedSlot → Removed → SlotKey → NotedSlot → Bool
 kept_child slots which key s = not (is_removed slots which s.key) && is_parent key (heir (is_removed slots which) slots s)
 
 -- what is told of the slot at a key, if it is full
-abbrev pub told_at : (NotedSlot → List NotedSlot) → List NotedSlot → NotedSlot → List NotedSlot
-told_at tell slots k = option_map_or tell (slot_at slots k.key) []
+abbrev pub told_at : (NotedSlot → List NotedSlot) → List NotedSlot → SlotKey → List NotedSlot
+told_at tell slots key = option_map_or tell (slot_at slots key) []
+
+-- what is told of what a change leaves, if it does not empty its slot
+abbrev pub told_of : (NotedSlot → List NotedSlot) → NotedSlot → List NotedSlot
+told_of tell c = option_map_or tell (left_by c) []
 
 -- a slot that goes is emptied; of the others only children of what goes and pools may change
 abbrev pub removal_change : (SlotKey → Bool) → List NotedSlot → NotedSlot → List NotedSlot
@@ -28,11 +33,16 @@ removal_change gone slots s =
 abbrev pub child_change : SlotKey → SlotKey → NotedSlot → List NotedSlot
 child_change from to s = if is_parent from s.parent then followed from to s ∷ [] else []
 
-abbrev pub changes_told : (NotedSlot → List NotedSlot) → NotedSlots → List NotedSlot
-changes_told tell n = flat_map (told_at tell (slots_of n)) n.image.now ++ flat_map (told_at tell (slots_of n)) n.changes.now
+-- The slots that a removal names: the one that goes and what it was derived from, or the one from which all that goes descends. Of
+-- those that the image lists no others change, since they were derived from none of the thread's.
+abbrev pub named_by : List NotedSlot → Removed → List SlotKey
+named_by slots (One gone) = gone ∷ option_to_list (noted_parent slots gone)
+named_by slots (Below root) = root ∷ []
 
 abbrev pub changes_of : NotedSlots → SlotChange → List NotedSlot
 changes_of n Nothing = []
 changes_of n (Puts s) = s ∷ []
-changes_of n (Moves from s) = changes_told (child_change from s.key) n ++ s ∷ emptied from ∷ []
-changes_of n (Removes which) = changes_told (removal_change (is_removed (slots_of n) which) (slots_of n)) n
+changes_of n (Moves from s) = flat_map (told_of (child_change from s.key)) n.changes.now ++ s ∷ emptied from ∷ []
+changes_of n (Removes which) =
+    let tell = removal_change (is_removed (slots_of n) which) (slots_of n) in
+    flat_map (told_at tell (slots_of n)) (named_by (slots_of n) which) ++ flat_map (told_of tell) n.changes.now

@@ -4,13 +4,13 @@
 ghost use Rattle.std.specs.Prelude.{◌≡◌, ◌&&◌, ◌||◌, ◌++◌, IfOk, false, flat_map};
 ghost use Rattle.std.specs.List.{list_any};
 ghost use Rattle.std.specs.Option.{option_map_or};
-ghost use Rattle.model.specs.Acceptance.NotedStates.{slot_at};
 ghost use Rattle.model.specs.Capabilities.CapabilityKinds.{is_untyped};
 ghost use Rattle.model.specs.Capabilities.CapabilityWords.{IsCapability};
-ghost use Rattle.typestate.specs.Differences.{slots_of};
-ghost use Rattle.typestate.specs.ChangeLists.{changes_of, child_change, kept_child, removal_change, told_at};
+ghost use Rattle.typestate.specs.Differences.{left_by, slots_of};
+ghost use Rattle.typestate.specs.ChangeLists.{changes_of, child_change, kept_child, named_by, removal_change, told_at, told_of};
 ghost use Rattle.typestate.specs.SlotChanges.{cap_left, emptied, is_parent, is_removed, loses_children, slot_left};
 
+use crate::noted::left;
 use crate::{NotedSlot, NotedSlots, Removed, SlotChange, SlotKey};
 use model::Cap;
 use std::alloc::AllocError;
@@ -37,22 +37,22 @@ fn emptied(key: SlotKey) -> NotedSlot
 }
 
 impl NotedSlots<'_> {
-    /// Whether the slot of this key is a child of another that goes.
-    fn goes_from(&self, at: SlotKey, which: &Removed, key: SlotKey) -> bool
-        ensures { result ≡ option_map_or (λ s. is_removed (slots_of self.now) which.now s.key && is_parent key s.parent) (slot_at (slots_of self.now) at) false }
+    /// Whether what a slot holds is a child of the slot of this key, and goes.
+    fn goes_from(&self, held: Option<NotedSlot>, which: &Removed, key: SlotKey) -> bool
+        ensures { result ≡ option_map_or (λ s. is_removed (slots_of self.now) which.now s.key && is_parent key s.parent) held false }
     {
-        match self.at(at) {
+        match held {
             Some(slot) => self.is_removed(which, slot.key) && is_parent(key, slot.parent),
             None => false,
         }
     }
 
-    /// Whether the slot of this key stays, and is then a child of another.
+    /// Whether what a slot holds stays, and is then a child of the slot of this key.
     #[tactic(auto, unfolding(crate::specs::ChangeLists::kept_child))]
-    fn stays_below(&self, at: SlotKey, which: &Removed, key: SlotKey) -> bool
-        ensures { result ≡ option_map_or (kept_child (slots_of self.now) which.now key) (slot_at (slots_of self.now) at) false }
+    fn stays_below(&self, held: Option<NotedSlot>, which: &Removed, key: SlotKey) -> bool
+        ensures { result ≡ option_map_or (kept_child (slots_of self.now) which.now key) held false }
     {
-        match self.at(at) {
+        match held {
             Some(slot) => {
                 !self.is_removed(which, slot.key)
                     && is_parent(key, self.outside(which, slot.parent))
@@ -61,19 +61,22 @@ impl NotedSlots<'_> {
         }
     }
 
-    /// Whether one of the slots of these keys is a child of another that goes.
-    fn one_goes(&self, keys: &[NotedSlot], which: &Removed, key: SlotKey) -> bool
-        ensures { result ≡ list_any (λ k. option_map_or (λ s. is_removed (slots_of self.now) which.now s.key && is_parent key s.parent) (slot_at (slots_of self.now) k.key) false) keys.now }
+    /// Whether what one of these changes leaves is a child of the slot of this key, and goes.
+    fn one_goes(&self, changes: &[NotedSlot], which: &Removed, key: SlotKey) -> bool
+        ensures { result ≡ list_any (λ c. option_map_or (λ s. is_removed (slots_of self.now) which.now s.key && is_parent key s.parent) (left_by c) false) changes.now }
     {
-        keys.iter().any(|slot| self.goes_from(slot.key, which, key))
+        changes
+            .iter()
+            .any(|change| self.goes_from(left(*change), which, key))
     }
 
-    /// Whether one of the slots of these keys stays, and is then a child of another.
-    fn one_stays(&self, keys: &[NotedSlot], which: &Removed, key: SlotKey) -> bool
-        ensures { result ≡ list_any (λ k. option_map_or (kept_child (slots_of self.now) which.now key) (slot_at (slots_of self.now) k.key) false) keys.now }
+    /// Whether what one of these changes leaves stays, and is then a child of the slot of this key.
+    fn one_stays(&self, changes: &[NotedSlot], which: &Removed, key: SlotKey) -> bool
+        ensures { result ≡ list_any (λ c. option_map_or (kept_child (slots_of self.now) which.now key) (left_by c) false) changes.now }
     {
-        keys.iter()
-            .any(|slot| self.stays_below(slot.key, which, key))
+        changes
+            .iter()
+            .any(|change| self.stays_below(left(*change), which, key))
     }
 
     /// Whether a child of the slot of this key goes. What the image lists is no child.
@@ -161,17 +164,49 @@ impl NotedSlots<'_> {
         Ok(())
     }
 
-    /// Appends what becomes of the slots of these keys where some go.
+    /// Appends what becomes of the slot of a key where some go.
+    fn note_removal_at(
+        &self,
+        which: &Removed,
+        key: SlotKey,
+        made: &mut Vec<NotedSlot>,
+    ) -> Result<(), AllocError>
+        ensures { IfOk result (λ _. made.new.items ≡ made.old.items ++ told_at (removal_change (is_removed (slots_of self.now) which.now) (slots_of self.now)) (slots_of self.now) key) }
+    {
+        if let Some(slot) = self.at(key) {
+            self.note_removed(which, slot, made)?;
+        }
+        Ok(())
+    }
+
+    /// Appends what becomes of the slots that are named where some go: the one that goes and what it was derived from, or the one
+    /// from which all that goes descends.
+    fn note_named(&self, which: &Removed, made: &mut Vec<NotedSlot>) -> Result<(), AllocError>
+        ensures { IfOk result (λ _. made.new.items ≡ made.old.items ++ flat_map (told_at (removal_change (is_removed (slots_of self.now) which.now) (slots_of self.now)) (slots_of self.now)) (named_by (slots_of self.now) which.now)) }
+    {
+        match which {
+            Removed::One(gone) => {
+                self.note_removal_at(which, *gone, made)?;
+                if let Some(parent) = self.parent(*gone) {
+                    self.note_removal_at(which, parent, made)?;
+                }
+            }
+            Removed::Below(root) => self.note_removal_at(which, *root, made)?,
+        }
+        Ok(())
+    }
+
+    /// Appends what becomes of what these changes leave where some slots go.
     fn note_removals(
         &self,
         which: &Removed,
-        keys: &[NotedSlot],
+        changes: &[NotedSlot],
         made: &mut Vec<NotedSlot>,
     ) -> Result<(), AllocError>
-        ensures { IfOk result (λ _. made.new.items ≡ made.old.items ++ flat_map (told_at (removal_change (is_removed (slots_of self.now) which.now) (slots_of self.now)) (slots_of self.now)) keys.now) }
+        ensures { IfOk result (λ _. made.new.items ≡ made.old.items ++ flat_map (told_of (removal_change (is_removed (slots_of self.now) which.now) (slots_of self.now))) changes.now) }
     {
-        for key in keys {
-            if let Some(slot) = self.at(key.key) {
+        for change in changes {
+            if let Some(slot) = left(*change) {
                 self.note_removed(which, slot, made)?;
             }
         }
@@ -198,25 +233,26 @@ impl NotedSlots<'_> {
         Ok(())
     }
 
-    /// Appends that the slots of these keys follow what they were derived from, if that moves.
+    /// Appends that what these changes leave follows what it was derived from, if that moves.
     fn note_children(
         &self,
         from: SlotKey,
         to: SlotKey,
-        keys: &[NotedSlot],
+        changes: &[NotedSlot],
         made: &mut Vec<NotedSlot>,
     ) -> Result<(), AllocError>
-        ensures { IfOk result (λ _. made.new.items ≡ made.old.items ++ flat_map (told_at (child_change from to) (slots_of self.now)) keys.now) }
+        ensures { IfOk result (λ _. made.new.items ≡ made.old.items ++ flat_map (told_of (child_change from to)) changes.now) }
     {
-        for key in keys {
-            if let Some(slot) = self.at(key.key) {
+        for change in changes {
+            if let Some(slot) = left(*change) {
                 self.note_followed(from, to, slot, made)?;
             }
         }
         Ok(())
     }
 
-    /// Appends what a call makes of the slots. Memory may be refused.
+    /// Appends what a call makes of the slots. What the image lists was derived from none of the thread's slots: of its slots only
+    /// those that the call names change. Memory may be refused.
     pub fn note_change(
         &self,
         change: &SlotChange,
@@ -228,13 +264,12 @@ impl NotedSlots<'_> {
             SlotChange::Nothing => {}
             SlotChange::Puts(slot) => made.push(*slot)?,
             SlotChange::Moves { from, to } => {
-                self.note_children(*from, to.key, self.image, made)?;
                 self.note_children(*from, to.key, self.changes, made)?;
                 made.push(*to)?;
                 made.push(emptied(*from))?;
             }
             SlotChange::Removes(which) => {
-                self.note_removals(which, self.image, made)?;
+                self.note_named(which, made)?;
                 self.note_removals(which, self.changes, made)?;
             }
         }

@@ -13,14 +13,15 @@ ghost use Rattle.model.specs.Kernel.AddressSpaces.{is_page_taken, is_region_take
 ghost use Rattle.model.specs.Kernel.MappingCalls.{root_named};
 ghost use Rattle.model.specs.declared.invocations.FrameCall.TheVariants.{MapFrame, UnmapFrame};
 ghost use Rattle.model.specs.declared.invocations.Invocation.TheVariants.{OnFrame};
-ghost use Rattle.typestate.specs.Differences.{slots_of};
+ghost use Rattle.typestate.specs.Differences.{left_by, slots_of};
 ghost use Rattle.typestate.specs.Invocations.{IsCallOn, held_after, mapped_at, mapping_made, with_root};
 ghost use Rattle.typestate.specs.Mappings.{MappingsAreListed, lists_page, lists_region};
 ghost use Rattle.typestate.specs.SlotChanges.{left_or_refused};
 ghost use Rattle.typestate.specs.declared.slot_changes.SlotChange.TheVariants.{Puts};
 ghost use Rattle.typestate.specs.Spaces.{AreOwn, IsSpace, NothingLeadsOutside, StandsApart};
 
-use crate::{NotedSlot, NotedSlots, SlotChange, SlotKey, Space};
+use crate::noted::left;
+use crate::{NotedSlot, NotedSlots, SlotChange, Space};
 use model::{
     Cap, FrameCall, FrameEntry, FrameMapping, KError, Point, Refusal, Rights, SlotName, TableEntry,
 };
@@ -105,30 +106,32 @@ fn recapped(held: NotedSlot, capability: Cap) -> SlotChange
     })
 }
 
+/// Whether what a slot holds maps a page under the root table at an offset.
+fn takes(held: Option<NotedSlot>, root: u32, page: u32) -> bool
+    ensures { result ≡ option_map_or (λ s. maps_page root page s.capability) held false }
+{
+    match held {
+        Some(held) => maps_page(held.capability, root, page),
+        None => false,
+    }
+}
+
+/// Whether what one of these changes leaves maps a page under the root table at an offset.
+fn one_takes(changes: &[NotedSlot], root: u32, page: u32) -> bool
+    ensures { result ≡ list_any (λ c. option_map_or (λ s. maps_page root page s.capability) (left_by c) false) changes.now }
+{
+    changes
+        .iter()
+        .any(|change| takes(left(*change), root, page))
+}
+
 impl NotedSlots<'_> {
-    /// Whether the slot of this key maps a page under the root table at an offset.
-    fn takes(&self, key: SlotKey, root: u32, page: u32) -> bool
-        ensures { result ≡ option_map_or (λ s. maps_page root page s.capability) (slot_at (slots_of self.now) key) false }
-    {
-        match self.at(key) {
-            Some(held) => maps_page(held.capability, root, page),
-            None => false,
-        }
-    }
-
-    /// Whether one of the slots of these keys maps a page under the root table at an offset.
-    fn one_takes(&self, keys: &[NotedSlot], root: u32, page: u32) -> bool
-        ensures { result ≡ list_any (λ k. option_map_or (λ s. maps_page root page s.capability) (slot_at (slots_of self.now) k.key) false) keys.now }
-    {
-        keys.iter().any(|slot| self.takes(slot.key, root, page))
-    }
-
     /// Whether a frame capability in the slots maps a page, under the root table at an offset. Those that the image
     /// lists map none.
     fn takes_page(&self, root: u32, page: u32) -> bool
         ensures { result ≡ list_any (λ s. maps_page root page s.capability) (slots_of self.now) }
     {
-        self.one_takes(self.changes, root, page)
+        one_takes(self.changes, root, page)
     }
 }
 

@@ -4,12 +4,12 @@
 ghost use Rattle.std.specs.Prelude.{◌≡◌, false};
 ghost use Rattle.std.specs.List.{list_any};
 ghost use Rattle.std.specs.Option.{option_map_or};
-ghost use Rattle.model.specs.Acceptance.NotedStates.{slot_at};
 ghost use Rattle.model.specs.Acceptance.PointRules.{holds_for};
 ghost use Rattle.model.specs.Kernel.AddressSpaces.{allows};
-ghost use Rattle.typestate.specs.Differences.{slots_of};
+ghost use Rattle.typestate.specs.Differences.{left_by, slots_of};
 
-use crate::{NotedSlot, NotedSlots, SlotKey};
+use crate::noted::left;
+use crate::{NotedSlot, NotedSlots};
 use model::{Access, Cap, Rights};
 
 /// Whether rights allow an access.
@@ -36,30 +36,31 @@ fn holds_for(access: Access, root: u32, page: u32, slot: NotedSlot) -> bool
     }
 }
 
+/// Whether what a slot holds maps a page under a root table for an access.
+fn holds(held: Option<NotedSlot>, access: Access, root: u32, page: u32) -> bool
+    ensures { result ≡ option_map_or (holds_for access root page) held false }
+{
+    match held {
+        Some(held) => holds_for(access, root, page, held),
+        None => false,
+    }
+}
+
+/// Whether what one of these changes leaves maps a page under a root table for an access.
+fn one_holds(changes: &[NotedSlot], access: Access, root: u32, page: u32) -> bool
+    ensures { result ≡ list_any (λ c. option_map_or (holds_for access root page) (left_by c) false) changes.now }
+{
+    changes
+        .iter()
+        .any(|change| holds(left(*change), access, root, page))
+}
+
 impl NotedSlots<'_> {
-    /// Whether the slot of this key maps a page under a root table for an access.
-    fn holds(&self, key: SlotKey, access: Access, root: u32, page: u32) -> bool
-        ensures { result ≡ option_map_or (holds_for access root page) (slot_at (slots_of self.now) key) false }
-    {
-        match self.at(key) {
-            Some(held) => holds_for(access, root, page, held),
-            None => false,
-        }
-    }
-
-    /// Whether one of the slots of these keys maps a page under a root table for an access.
-    fn one_holds(&self, keys: &[NotedSlot], access: Access, root: u32, page: u32) -> bool
-        ensures { result ≡ list_any (λ k. option_map_or (holds_for access root page) (slot_at (slots_of self.now) k.key) false) keys.now }
-    {
-        keys.iter()
-            .any(|slot| self.holds(slot.key, access, root, page))
-    }
-
     /// Whether a frame capability in the slots maps a page for an access, under the root table at this offset. Those that
     /// the image lists map none.
     pub fn maps(&self, access: Access, root: u32, page: u32) -> bool
         ensures { result ≡ list_any (holds_for access root page) (slots_of self.now) }
     {
-        self.one_holds(self.changes, access, root, page)
+        one_holds(self.changes, access, root, page)
     }
 }

@@ -12,7 +12,7 @@ use crate::{NotedSlot, NotedSlots, SlotKey};
 use model::Cap;
 
 /// What a change leaves in its slot.
-fn left(change: NotedSlot) -> Option<NotedSlot>
+pub(crate) fn left(change: NotedSlot) -> Option<NotedSlot>
     ensures { result ≡ left_by change }
 {
     match change.capability {

@@ -4,6 +4,7 @@ use Rattle.model.specs.Acceptance.NotedStates.{NotedSlot}
 use Rattle.typestate.specs.ChangeLists.{kept_child}
 use Rattle.typestate.specs.Differences.{slots_of}
 use Rattle.typestate.specs.declared.points.NotedSlots.{NotedSlots}
+use Rattle.typestate.proofs.OwnChanges.{any-own, hold-own}
 use Rattle.typestate.proofs.Rising.{from-first}
 use Rattle.typestate.proofs.SomeHeld.{changes-held}
 use Rattle.typestate.proofs.UnlinkedSlots.{none-stays}
@@ -13,4 +14,5 @@ pub returns : goal.returns
 returns c =
     let n : NotedSlots = c.args.self.now in
     let test : NotedSlot → Bool = kept_child (slots_of n) c.args.which.now c.args.key in
-    c.one_stays.ensures ∙ changes-held test n.image.now n.changes.now (from-first n.image.now n.rising) (none-stays (slots_of n) c.args.which.now c.args.key n.image.now n.unlinked)
+    let first = from-first n.image.now n.rising in
+    c.one_stays.ensures ∙ any-own test (slots_of n) n.changes.now (hold-own n.image.now n.changes.now 0 (from-first n.changes.now n.ordered)) ∙ changes-held test n.image.now n.changes.now first (none-stays (slots_of n) c.args.which.now c.args.key n.image.now n.unlinked)

@@ -2,7 +2,9 @@
 use Rattle.std.proofs.Common.{◌∙◌, Bool}
 use Rattle.model.specs.Acceptance.NotedStates.{NotedSlot}
 use Rattle.model.specs.Kernel.AddressSpaces.{maps_page}
+use Rattle.typestate.specs.Differences.{slots_of}
 use Rattle.typestate.specs.declared.points.NotedSlots.{NotedSlots}
+use Rattle.typestate.proofs.OwnChanges.{any-own, hold-own}
 use Rattle.typestate.proofs.Rising.{from-first}
 use Rattle.typestate.proofs.SomeHeld.{changes-held}
 use Rattle.typestate.proofs.UnlinkedSlots.{none-takes}
@@ -12,4 +14,5 @@ pub returns : goal.returns
 returns c =
     let n : NotedSlots = c.args.self.now in
     let test : NotedSlot → Bool = λ s. maps_page c.args.root c.args.page s.capability in
-    c.one_takes.ensures ∙ changes-held test n.image.now n.changes.now (from-first n.image.now n.rising) (none-takes c.args.root c.args.page n.image.now n.unlinked)
+    let first = from-first n.image.now n.rising in
+    c.one_takes.ensures ∙ any-own test (slots_of n) n.changes.now (hold-own n.image.now n.changes.now 0 (from-first n.changes.now n.ordered)) ∙ changes-held test n.image.now n.changes.now first (none-takes c.args.root c.args.page n.image.now n.unlinked)
