@@ -1,11 +1,11 @@
--- A measure that is lowered by 1, behind an instruction that writes none of its registers.
-use Rattle.std.proofs.Common.{ℕ, ◌≡◌, ◌∙◌, ◌==◌, Bool, true, false, inl, inr, if◌then◌else◌, Option, Some, None, List, [], ◌∷◌, fold, ℤ, pos, negsuc, ◌+ℤ◌, ◌-ℤ◌, ◌*ℤ◌, int_lt, ap, refl, sym, arith}
+-- A measure that is lowered by 1 falls, where none of its registers is written; a whole budget stays within itself.
+use Rattle.std.proofs.Common.{ℕ, ◌≡◌, ◌∙◌, ◌==◌, ◌||◌, Bool, true, false, inl, inr, if◌then◌else◌, Option, Some, None, option_to_list, List, [], ◌∷◌, fold, nat_le, ℤ, pos, negsuc, ◌+ℤ◌, ◌-ℤ◌, ◌*ℤ◌, int_le, int_lt, ap, refl, sym, arith}
 use Rattle.std.proofs.lemmas.Bool.{or_parts}
-use Rattle.std.proofs.lemmas.Bool.Decides.{eqb_tells}
+use Rattle.std.proofs.lemmas.Bool.Decides.{eqb_tells, nat_tests}
 use Rattle.std.proofs.lemmas.Int.{ints}
 use Rattle.std.specs.List.{list_any}
 use Rattle.std.specs.Option.{option_map_or}
-use Rattle.model.specs.Acceptance.Measures.{Form, Measure, behind_form, constant_form, difference_form, exact_sum, falls, greatest, greatest_on, greatest_term, has_term, lowered, other_value, range_at, substituted, sum_form, times_form, variable_form}
+use Rattle.model.specs.Acceptance.Measures.{Form, Measure, behind_form, call_form, constant_form, difference_form, exact_sum, falls, fresh, greatest, greatest_on, greatest_term, has_term, is_register, lowered, other_value, range_at, stays_below, substituted, sum_form, times_form, variable_form}
 use Rattle.model.specs.Acceptance.RangeRules.{destination}
 use Rattle.model.specs.declared.entries.TermEntry.{TermEntry}
 use Rattle.model.specs.declared.instructions.Instr.{Instr}
@@ -17,11 +17,11 @@ use Rattle.measure.proofs.SumSteps.{nothing-times}
 
 -- ---- no register of the terms is written
 
-abbrev is_written : Option Register → ℕ → Bool
-is_written written register = option_map_or (λ x. x.0 == register) written false
+abbrev is_written : List Register → ℕ → Bool
+is_written written register = list_any (λ x. x.0 == register) written
 
-abbrev behind_with : Option Register → (ℕ → Form) → ℕ → Form
-behind_with written value register = if is_written written register then value register else variable_form register
+abbrev are_written : List TermEntry → List Register → Bool
+are_written terms written = list_any (λ x. list_any (λ t. t.register == x.0) terms) written
 
 abbrev added : (ℕ → Form) → Form → TermEntry → Form
 added value_of f t = sum_form f (times_form t.coefficient (value_of t.register))
@@ -38,36 +38,52 @@ other-way a b apart = elim (eqb_tells b a) [
   | inr other ↦ other.0
 ]
 
-same-forms : (written : Option Register) (value : ℕ → Form) (start : Form) (terms : List TermEntry)
-    → option_map_or (λ x. list_any (λ t. t.register == x.0) terms) written false ≡ false
-    → fold (added (behind_with written value)) start terms ≡ fold (added variable_form) start terms
-same-forms None value start terms none = refl
-same-forms (Some x) value start [] none = refl
-same-forms (Some x) value start (t ∷ rest) none =
-    let parts = or_parts (t.register == x.0) (list_any (λ t. t.register == x.0) rest) none in
-    ap (λ (b : Bool). fold (added (behind_with (Some x) value)) (sum_form start (times_form t.coefficient (if b then value t.register else variable_form t.register))) rest)
-    (other-way t.register x.0 parts.0)
-    ∙ same-forms (Some x) value (added variable_form start t) rest parts.1
+first-unwritten : (t : TermEntry) (rest : List TermEntry) (written : List Register) → are_written (t ∷ rest) written ≡ false
+    → (is_written written t.register ≡ false) × (are_written rest written ≡ false)
+first-unwritten t rest [] none = (refl, refl)
+first-unwritten t rest (x ∷ more) none =
+    let parts = or_parts (t.register == x.0 || list_any (λ u. u.register == x.0) rest) (are_written (t ∷ rest) more) none in
+    let own = or_parts (t.register == x.0) (list_any (λ u. u.register == x.0) rest) parts.0 in
+    let others = first-unwritten t rest more parts.1 in (
+      ap (λ (b : Bool). b || is_written more t.register) (other-way t.register x.0 own.0) ∙ others.0,
+      ap (λ (b : Bool). b || are_written rest more) own.1 ∙ others.1,
+    )
 
-same-measure : (m : Measure) (instr : Instr) (before behind : List Range) → option_map_or (λ rd. has_term m rd.0) (destination instr) false ≡ false
-    → substituted (lowered m (pos 1)) (behind_form instr before behind) ≡ substituted (lowered m (pos 1)) variable_form
-unfolding substituted
-same-measure m instr before behind none =
-    same-forms (destination instr) (λ register. option_map_or (λ form. form) (exact_sum instr before) (other_value behind register)) (constant_form (m.constant -ℤ pos 1)) m.terms none
+-- what each register behind is, where those that are not written stay
+abbrev Leaves : List Register → (ℕ → Form) → Type 0
+Leaves written value_of = (register : ℕ) → is_written written register ≡ false → value_of register ≡ variable_form register
 
--- ---- the difference
+same-forms : (written : List Register) (value_of : ℕ → Form) (start : Form) (terms : List TermEntry) → Leaves written value_of → are_written terms written ≡ false
+    → fold (added value_of) start terms ≡ fold (added variable_form) start terms
+same-forms written value_of start [] leaves none = refl
+same-forms written value_of start (t ∷ rest) leaves none =
+    let parts = first-unwritten t rest written none in
+    ap (λ (f : Form). fold (added value_of) (sum_form start (times_form t.coefficient f)) rest) (leaves t.register parts.0)
+    ∙ same-forms written value_of (added variable_form start t) rest leaves parts.1
+
+-- ---- a form that counts no variable
 
 nothing-of : (z : ℤ) → z *ℤ pos 0 ≡ pos 0
 nothing-of z = omega (arith, ints)
 
+nothing-more : (z : ℤ) → z +ℤ pos 0 ≡ z
+nothing-more z = omega (arith, ints)
+
+greatest-none : (before behind : List Range) (f : Form) → ((variable : ℕ) → f.coefficient variable ≡ pos 0) → greatest_on before behind f ≡ f.constant
+unfolding greatest
+greatest-none before behind f none =
+    let range = range_at before behind in
+    ap (λ (z : ℤ). f.constant +ℤ z)
+    (sum-none (λ v. greatest_term (f.coefficient v) (range v)) 64 (λ v less. ap (λ (z : ℤ). greatest_term z (range v)) (none v) ∙ nothing-times (range v).high))
+    ∙ nothing-more f.constant
+
+-- ---- the difference
+
 no-constant : (start : ℤ) (terms : List TermEntry) → constant_sum variable_form start terms ≡ start
 no-constant start [] = refl
 no-constant start (t ∷ rest) =
-    let same : start +ℤ (t.coefficient *ℤ pos 0) ≡ start = ap (λ (z : ℤ). start +ℤ z) (nothing-of t.coefficient) ∙ unchanged start in
+    let same : start +ℤ (t.coefficient *ℤ pos 0) ≡ start = ap (λ (z : ℤ). start +ℤ z) (nothing-of t.coefficient) ∙ nothing-more start in
     ap (λ (z : ℤ). constant_sum variable_form z rest) same ∙ no-constant start rest
-  where
-    unchanged : (z : ℤ) → z +ℤ pos 0 ≡ z
-    unchanged z = omega (arith, ints)
 
 less-itself : (z : ℤ) → z +ℤ (negsuc 0 *ℤ z) ≡ pos 0
 less-itself z = omega (arith, ints)
@@ -91,17 +107,43 @@ change-coefficient m v =
     ∙ ap (λ (z : ℤ). sum +ℤ (negsuc 0 *ℤ z)) (coefficient-is m variable_form v)
     ∙ less-itself sum
 
-greatest-change : (m : Measure) (before behind : List Range) → greatest_on before behind (change m) ≡ negsuc 0
-unfolding greatest
-greatest-change m before behind =
-    let range = range_at before behind in
-    ap (λ (z : ℤ). (change m).constant +ℤ z)
-    (sum-none (λ v. greatest_term ((change m).coefficient v) (range v)) 64 (λ v less. ap (λ (z : ℤ). greatest_term z (range v)) (change-coefficient m v) ∙ nothing-times (range v).high))
-    ∙ ap (λ (z : ℤ). z +ℤ pos 0) (change-constant m)
+unwritten-falls : (m : Measure) (written : List Register) (value_of : ℕ → Form) (before behind : List Range) → Leaves written value_of → are_written m.terms written ≡ false
+    → falls m (lowered m (pos 1)) value_of before behind ≡ true
+unfolding falls substituted
+unwritten-falls m written value_of before behind leaves none =
+    ap (λ (f : Form). int_lt (greatest_on before behind (difference_form f (substituted m variable_form))) (pos 0))
+    (same-forms written value_of (constant_form (m.constant -ℤ pos 1)) m.terms leaves none)
+    ∙ ap (λ (z : ℤ). int_lt z (pos 0)) (greatest-none before behind (change m) (change-coefficient m) ∙ change-constant m)
+
+-- ---- behind an instruction, and behind a call
+
+of-destination : (written : Option Register) (value : ℕ → Form) → Leaves (option_to_list written) (λ register. if is_register written register then value register else variable_form register)
+of-destination None value register none = refl
+of-destination (Some x) value register none = ap (λ (b : Bool). if b then value register else variable_form register) (or_parts (x.0 == register) false none).0
+
+none-written : (terms : List TermEntry) (written : Option Register) → option_map_or (λ x. list_any (λ t. t.register == x.0) terms) written false ≡ false
+    → are_written terms (option_to_list written) ≡ false
+none-written terms None none = refl
+none-written terms (Some x) none = ap (λ (b : Bool). b || false) none
 
 pub lowered-falls : (m : Measure) (instr : Instr) (before behind : List Range) → option_map_or (λ rd. has_term m rd.0) (destination instr) false ≡ false
     → falls m (lowered m (pos 1)) (behind_form instr before behind) before behind ≡ true
-unfolding falls
 lowered-falls m instr before behind none =
-    ap (λ (f : Form). int_lt (greatest_on before behind (difference_form f (substituted m variable_form))) (pos 0)) (same-measure m instr before behind none)
-    ∙ ap (λ (z : ℤ). int_lt z (pos 0)) (greatest-change m before behind)
+    unwritten-falls m (option_to_list (destination instr)) (behind_form instr before behind) before behind
+    (of-destination (destination instr) (λ register. option_map_or (λ form. form) (exact_sum instr before) (other_value behind register)))
+    (none-written m.terms (destination instr) none)
+
+pub falls-behind-call : (m : Measure) (written : List Register) (before behind : List Range) → list_any (λ x. has_term m x.0) written ≡ false
+    → falls m (lowered m (pos 1)) (call_form written) before behind ≡ true
+falls-behind-call m written before behind none =
+    unwritten-falls m written (call_form written) before behind (λ register left. ap (λ (b : Bool). variable_form (if b then fresh register else register)) left) none
+
+-- ---- a budget is not above itself
+
+not-above : (n : ℕ) → nat_le n n ≡ true
+not-above n = grind (arith, nat_tests)
+
+pub budget-stays : (budget : ℕ) (value_of : ℕ → Form) (before behind : List Range) → stays_below budget (record { constant = pos budget; terms = [] }) value_of before behind ≡ true
+unfolding stays_below substituted
+budget-stays budget value_of before behind =
+    ap (λ (z : ℤ). int_le z (pos budget)) (greatest-none before behind (constant_form (pos budget)) (λ variable. refl)) ∙ not-above budget

@@ -12,7 +12,7 @@ mod values_at;
 mod variables;
 
 pub use extremes::{falls, least, stays_below};
-pub use laws::unwritten_measures_fall;
+pub use laws::{budgets_stay_below, measures_fall_behind_calls, unwritten_measures_fall};
 pub use measures::Measure;
 pub use model::TermEntry;
 pub use steps::{AfterCall, AfterInstruction, Step, Unchanged, destination};
