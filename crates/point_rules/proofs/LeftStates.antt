@@ -1,18 +1,22 @@
--- A way to the state that its instruction leaves: ranges lie within themselves, slots are the same, and the measure is lowered by 1.
-use Rattle.std.proofs.Common.{ℕ, ◌≡◌, ◌∙◌, ◌==◌, Bool, true, false, not, ◌&&◌, inl, inr, if◌then◌else◌, Option, Some, None, List, [], ◌∷◌, pos, ap, refl, subst, arith}
+-- A way to the state that its instruction or system call leaves: ranges lie within themselves, slots are the same, and the measure is
+-- lowered by 1, or is the whole budget.
+use Rattle.std.proofs.Common.{ℕ, ◌≡◌, ◌∙◌, ◌==◌, Bool, true, false, not, ◌&&◌, inl, inr, if◌then◌else◌, Option, Some, None, List, [], ◌∷◌, pos, ap, refl, sym, subst, arith}
 use Rattle.std.proofs.lemmas.Bool.Decides.{eqb_tells}
+use Rattle.std.specs.List.{list_any}
 use Rattle.std.specs.Option.{option_map_or}
+use Rattle.model.specs.Acceptance.CallRules.{AfterCall}
 use Rattle.model.specs.Acceptance.Edges.{Edge}
-use Rattle.model.specs.Acceptance.Measures.{Measure, behind_form, falls, has_term, lowered, stays_below}
+use Rattle.model.specs.Acceptance.Measures.{Form, Measure, behind_form, call_form, falls, has_term, lowered, stays_below}
 use Rattle.model.specs.Acceptance.NotedStates.{NotedSlot, PointState, SlotKey, are_same_slots, is_same_key, is_same_parent, is_same_slot}
-use Rattle.model.specs.Acceptance.PointRules.{are_ranges_within, edge_rules, program_edge}
-use Rattle.model.specs.Acceptance.PointStates.{Noted, Known, Unmeasured, follows_edge}
+use Rattle.model.specs.Acceptance.PointRules.{ProgramEdge, are_ranges_within, call_edge, edge_rules, kept_at, program_edge}
+use Rattle.model.specs.Acceptance.PointStates.{Noted, Known, Unmeasured, behind_call, follows_edge, whole_budget, with_measure}
 use Rattle.model.specs.Acceptance.RangeRules.{destination}
 use Rattle.model.specs.Acceptance.Rules.{first_broken, refuse_if}
 use Rattle.model.specs.Capabilities.CapabilityFields.{same_words}
 use Rattle.model.specs.Capabilities.CapabilityWords.{words_of}
 use Rattle.model.specs.Images.Image.{Thread}
 use Rattle.model.specs.declared.instructions.Instr.{Instr}
+use Rattle.model.specs.declared.instructions.Register.{Register}
 use Rattle.model.specs.declared.ranges.Range.{Range}
 use Rattle.model.specs.declared.refusals.Point.{Point}
 use Rattle.model.specs.declared.refusals.Refusal.{Refusal}
@@ -50,12 +54,26 @@ own-slots (s ∷ slots) = ap (λ (b : Bool). b && are_same_slots slots slots) (o
 
 -- ---- the way keeps its rules
 
-no-rule-broken : (a b c d : Bool) (w x y z : Refusal) → a ≡ true → b ≡ true → c ≡ true
-    → first_broken (refuse_if (not a) w ∷ refuse_if (not b) x ∷ refuse_if (not false && not c) y ∷ refuse_if (false && d) z ∷ []) ≡ None
-no-rule-broken a b c d w x y z one two three =
-    ap (λ (a : Bool). first_broken (refuse_if (not a) w ∷ refuse_if (not b) x ∷ refuse_if (not false && not c) y ∷ refuse_if (false && d) z ∷ [])) one
-    ∙ ap (λ (b : Bool). first_broken (refuse_if (not b) x ∷ refuse_if (not false && not c) y ∷ refuse_if (false && d) z ∷ [])) two
-    ∙ ap (λ (c : Bool). first_broken (refuse_if (not false && not c) y ∷ refuse_if (false && d) z ∷ [])) three
+no-rule-broken : (a b c d wait : Bool) (w x y z : Refusal) → a ≡ true → b ≡ true → (wait ≡ false → c ≡ true) → (wait ≡ true → d ≡ true)
+    → first_broken (refuse_if (not a) w ∷ refuse_if (not b) x ∷ refuse_if (not wait && not c) y ∷ refuse_if (wait && not d) z ∷ []) ≡ None
+no-rule-broken a b c d true w x y z one two three four =
+    ap (λ (a : Bool). first_broken (refuse_if (not a) w ∷ refuse_if (not b) x ∷ None ∷ refuse_if (not d) z ∷ [])) one
+    ∙ ap (λ (b : Bool). first_broken (refuse_if (not b) x ∷ None ∷ refuse_if (not d) z ∷ [])) two
+    ∙ ap (λ (d : Bool). first_broken (refuse_if (not d) z ∷ [])) (four refl)
+no-rule-broken a b c d false w x y z one two three four =
+    ap (λ (a : Bool). first_broken (refuse_if (not a) w ∷ refuse_if (not b) x ∷ refuse_if (not c) y ∷ None ∷ [])) one
+    ∙ ap (λ (b : Bool). first_broken (refuse_if (not b) x ∷ refuse_if (not c) y ∷ None ∷ [])) two
+    ∙ ap (λ (c : Bool). first_broken (refuse_if (not c) y ∷ None ∷ [])) (three refl)
+
+-- a way to a state with its own ranges and slots keeps the rules that its measure keeps
+kept-own : (t : Thread) (at : Point) (m after : Measure) (edge : ProgramEdge) → (edge.is_wait ≡ false → falls m after edge.value_of edge.before edge.ranges ≡ true)
+    → (edge.is_wait ≡ true → stays_below t.header.budget after edge.value_of edge.before edge.ranges ≡ true)
+    → first_broken (kept_at t at m edge (record { ranges = edge.ranges; slots = edge.slots; measure = after })) ≡ None
+kept-own t at m after edge fall stay =
+    no-rule-broken (are_ranges_within edge.ranges edge.ranges) (are_same_slots edge.slots edge.slots)
+    (falls m after edge.value_of edge.before edge.ranges) (stays_below t.header.budget after edge.value_of edge.before edge.ranges) edge.is_wait
+    (RangeNotKept at) (CapNotThere at) (MeasureNotFalling at) (OverBudget at)
+    (are_within edge.ranges edge.ranges (λ k less. (omega arith, omega arith))) (own-slots edge.slots) fall stay
 
 module _ (fall : (m : Measure) (instr : Instr) (before behind : List Range) → option_map_or (λ rd. has_term m rd.0) (destination instr) false ≡ false
     → falls m (lowered m (pos 1)) (behind_form instr before behind) before behind ≡ true) where
@@ -64,14 +82,40 @@ module _ (fall : (m : Measure) (instr : Instr) (before behind : List Range) → 
   left-kept t at instr state next edge left =
       let written = option_map_or (λ rd. has_term state.measure rd.0) (destination instr) false in
       let own : PointState = record { ranges = edge.ranges; slots = state.slots; measure = lowered state.measure (pos 1) } in
-      let broken : Noted → Option Refusal = λ n. first_broken (edge_rules t at state.measure (program_edge instr state.slots edge) n) in
+      let way = program_edge instr state.slots edge in
+      let broken : Noted → Option Refusal = λ n. first_broken (edge_rules t at state.measure way n) in
       elim written as (λ b. written ≡ b → (if b then Unmeasured else Known own) ≡ Known next → broken (Known next) ≡ None) [
         | true ↦ λ is same. absurd (let clash : Unmeasured ≡ Known next = same in cc)
         | false ↦ λ is same.
-            subst (λ (n : Noted). broken n ≡ None) same (
-            no-rule-broken (are_ranges_within edge.ranges edge.ranges) (are_same_slots state.slots state.slots)
-            (falls state.measure (lowered state.measure (pos 1)) (behind_form instr edge.before edge.ranges) edge.before edge.ranges)
-            (not (stays_below t.header.budget (lowered state.measure (pos 1)) (behind_form instr edge.before edge.ranges) edge.before edge.ranges))
-            (RangeNotKept at) (CapNotThere at) (MeasureNotFalling at) (OverBudget at)
-            (are_within edge.ranges edge.ranges (λ k less. (omega arith, omega arith))) (own-slots state.slots) (fall state.measure instr edge.before edge.ranges is))
+            subst (λ (n : Noted). broken n ≡ None) same
+            (kept-own t at state.measure (lowered state.measure (pos 1)) way (λ _. fall state.measure instr edge.before edge.ranges is)
+            (λ wait. absurd (let clash : false ≡ true = wait in cc)))
+      ] refl left
+
+-- ---- behind a system call
+
+module _ (fall : (m : Measure) (written : List Register) (before behind : List Range) → list_any (λ x. has_term m x.0) written ≡ false
+    → falls m (lowered m (pos 1)) (call_form written) before behind ≡ true)
+    (stay : (budget : ℕ) (value_of : ℕ → Form) (before behind : List Range) → stays_below budget (record { constant = pos budget; terms = [] }) value_of before behind ≡ true) where
+  pub call-kept : (t : Thread) (at : Point) (pc : ℕ) (state next : PointState) (a : AfterCall) → behind_call t state.measure a ≡ Known next
+      → first_broken (edge_rules t at state.measure (call_edge pc state.ranges a) (Known next)) ≡ None
+  call-kept t at pc state next a left =
+      let m = state.measure in
+      let written = list_any (λ x. has_term m x.0) a.written in
+      let way = call_edge pc state.ranges a in
+      let broken : Noted → Option Refusal = λ n. first_broken (edge_rules t at m way n) in
+      let counted : Noted = if written then Unmeasured else with_measure a (lowered m (pos 1)) in
+      elim a.is_wait as (λ b. a.is_wait ≡ b → (if b then with_measure a (whole_budget t) else counted) ≡ Known next → broken (Known next) ≡ None) [
+        | true ↦ λ wait same.
+            subst (λ (n : Noted). broken n ≡ None) same
+            (kept-own t at m (whole_budget t) way (λ none. absurd (let clash : true ≡ false = sym wait ∙ none in cc))
+            (λ _. stay t.header.budget (call_form a.written) state.ranges a.ranges))
+        | false ↦ λ none same.
+            elim written as (λ b. written ≡ b → (if b then Unmeasured else with_measure a (lowered m (pos 1))) ≡ Known next → broken (Known next) ≡ None) [
+              | true ↦ λ is same. absurd (let clash : Unmeasured ≡ Known next = same in cc)
+              | false ↦ λ is same.
+                  subst (λ (n : Noted). broken n ≡ None) same
+                  (kept-own t at m (lowered m (pos 1)) way (λ _. fall m a.written state.ranges a.ranges is)
+                  (λ wait. absurd (let clash : false ≡ true = sym none ∙ wait in cc)))
+            ] refl same
       ] refl left

@@ -14,7 +14,7 @@ mod ways;
 pub use calls::{follows_call, registers_of};
 pub use entries::entered;
 pub use following::{Left, follows};
-pub use laws::left_states_are_kept;
+pub use laws::{left_calls_are_kept, left_states_are_kept};
 pub use noted::Noted;
 pub use reach::Pages;
 pub use states::PointState;
