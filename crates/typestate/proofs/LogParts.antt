@@ -26,3 +26,19 @@ added old more part rises first end =
     ap (λ (n : ℕ). take (part.end - n) (drop n (old ++ more))) first ∙ ap (take (part.end - length old)) (drop-append_seam old more)
     ∙ take_all (part.end - length old) more (omega (arith, end, long)) in
     ((omega (arith, first, end, long), omega (arith, end), subst Rise (sym same) rises), same)
+
+-- the part that stands last, with what is added to it
+pub grown-part : (old more new : List NotedSlot) (part longer : Part) → new ≡ old ++ more → Holds old part → part.end ≡ length old → Rise (part_of old part ++ more)
+    → longer.first ≡ part.first → longer.end ≡ length new → Holds new longer × (part_of new longer ≡ part_of old part ++ more)
+grown-part old more new part longer grown held last rises first end =
+    let long = ap (λ (l : List NotedSlot). length l) grown ∙ length-append old more in
+    let left = length-drop part.first old in
+    let behind = length-append (drop part.first old) more in
+    let whole : part_of old part ≡ drop part.first old = take_all (part.end - part.first) (drop part.first old) (omega (arith, held.0, last, left)) in
+    let same : part_of new longer ≡ part_of old part ++ more =
+    ap (λ (l : List NotedSlot). part_of l longer) grown
+    ∙ ap (λ (n : ℕ). take (longer.end - n) (drop n (old ++ more))) first
+    ∙ ap (take (longer.end - part.first)) (drop-append-le part.first old more (omega (arith, held.0, held.1)))
+    ∙ take_all (longer.end - part.first) (drop part.first old ++ more) (omega (arith, end, long, left, behind, held.0, held.1))
+    ∙ ap (λ (l : List NotedSlot). l ++ more) (sym whole) in
+    ((omega (arith, first, end, long, held.0, held.1), omega (arith, end), subst Rise (sym same) rises), same)

@@ -1,6 +1,6 @@
 //! A log of changes to slots. The slots at each point of a program are the image's with a part of it made.
 
-ghost use Rattle.std.specs.Prelude.{◌≡◌, [], IfOk, Some, List, map, if◌then◌else◌};
+ghost use Rattle.std.specs.Prelude.{◌≡◌, [], ◌∷◌, ◌++◌, IfOk, Some, List, length, map, true, if◌then◌else◌};
 ghost use Rattle.model.specs.Acceptance.NotedStates.{NotedSlot, SlotKey, entry_slot, is_same_key, slot_at};
 ghost use Rattle.typestate.specs.Differences.{changed, slots_of};
 ghost use Rattle.typestate.specs.Logs.{Holds, KeepsParts, part_of};
@@ -58,6 +58,32 @@ fn joined(
     Ok(both)
 }
 
+/// Whether keys rise from a change on over those behind it.
+fn rise_from(first: NotedSlot, changes: &[NotedSlot]) -> bool
+    ensures { result ≡ true → Rise (first ∷ changes.now) }
+{
+    let mut last = first.key.number();
+    for change in changes {
+        let number = change.key.number();
+        if number <= last {
+            return false;
+        }
+        last = number;
+    }
+    true
+}
+
+/// Whether keys that rise go on to rise over changes made behind them. Behind no changes it is not asked.
+fn rise_on(changes: &[NotedSlot], made: &[NotedSlot]) -> bool
+    requires { Rise changes.now }
+    ensures { result ≡ true → Rise (changes.now ++ made.now) }
+{
+    match changes.last() {
+        Some(last) => rise_from(*last, made),
+        None => false,
+    }
+}
+
 impl Model for SlotLog {
     ghost use Rattle.std.specs.Prelude.{List};
     ghost use Rattle.model.specs.Acceptance.NotedStates.{NotedSlot};
@@ -91,6 +117,32 @@ impl SlotLog {
         Ok(Part { first, end })
     }
 
+    /// Whether a part can take changes in where it stands: it is the last one, and its keys go on to rise over theirs.
+    fn takes_in(&self, part: Part, made: &[NotedSlot]) -> bool
+        requires { Holds self.now part }
+        ensures last { result ≡ true → part.end ≡ length self.now }
+        ensures rising { result ≡ true → Rise (part_of self.now part ++ made.now) }
+    {
+        part.end == self.changes.len() && rise_on(&self.changes[part.first..part.end], made)
+    }
+
+    /// Appends changes to the last part, which holds them then. Memory may be refused.
+    fn grow(&mut self, part: Part, made: &[NotedSlot]) -> Result<Part, AllocError>
+        requires held { Holds self.old part }
+        requires last { part.end ≡ length self.old }
+        requires rising { Rise (part_of self.old part ++ made.now) }
+        ensures held { IfOk result (Holds self.new) }
+        ensures part { IfOk result (λ longer. part_of self.new longer ≡ part_of self.old part ++ made.now) }
+        ensures others { IfOk result (λ _. KeepsParts self.old self.new) }
+    {
+        self.changes.extend_from_slice(made)?;
+        let end = self.changes.len();
+        Ok(Part {
+            first: part.first,
+            end,
+        })
+    }
+
     /// Notes the slots of a record: its part leaves what they leave. Memory may be refused.
     pub fn note(&mut self, noted: &RecordRef<'_>) -> Result<Part, AllocError>
         ensures held { IfOk result (Holds self.new) }
@@ -104,7 +156,7 @@ impl SlotLog {
     }
 
     /// Notes changes that follow those of a part: the new part leaves what both leave. Where nothing follows it is that part
-    /// itself. Memory may be refused.
+    /// itself, and the last part grows in place where it can. Memory may be refused.
     pub fn follow(&mut self, part: Part, made: &[NotedSlot]) -> Result<Part, AllocError>
         requires { Holds self.old part }
         ensures held { IfOk result (Holds self.new) }
@@ -113,6 +165,9 @@ impl SlotLog {
     {
         if made.is_empty() {
             return Ok(part);
+        }
+        if self.takes_in(part, made) {
+            return self.grow(part, made);
         }
         let both = joined(self.alloc, &self.changes[part.first..part.end], made)?;
         self.append(&both)
