@@ -1,13 +1,17 @@
--- The way to a next point that no record notes.
-use Rattle.std.proofs.Common.{ℕ, ◌≡◌, ◌≢◌, ◌∙◌, ◌+◌, ◌%◌, ◌^◌, ◌<◌, true, false, Option, Some, None, List, refl, sym, ap, subst, arith}
+-- The way to a next point that no record notes, from an instruction and from a system call.
+use Rattle.std.proofs.Common.{ℕ, ◌≡◌, ◌≢◌, ◌∙◌, ◌+◌, ◌%◌, ◌^◌, ◌<◌, true, false, Option, Some, None, Result, Ok, Err, List, refl, sym, ap, subst, arith}
 use Rattle.std.specs.Option.{option_map_or}
-use Rattle.certificates.proofs.EachPoint.{before, next-before, noted-is}
-use Rattle.certificates.specs.Kept.{has_state}
-use Rattle.certificates.specs.PointChecks.{way_rules}
+use Rattle.std.specs.Prelude.{slice_index_or}
+use Rattle.certificates.proofs.EachPoint.{before, kept-at, next-before, noted-is}
+use Rattle.certificates.proofs.EdgeRules.{call-told, told_of}
+use Rattle.certificates.specs.Kept.{IsRead, has_state, noted_by}
+use Rattle.certificates.specs.declared.kept.Kept.{Kept}
+use Rattle.certificates.specs.PointChecks.{later_rules, way_rules}
+use Rattle.model.specs.Acceptance.CallRules.{AfterCall}
 use Rattle.model.specs.Acceptance.Edges.{Edge, after, behind, branch_edge, branch_ranges}
-use Rattle.model.specs.Acceptance.NotedStates.{PointState, record_of}
-use Rattle.model.specs.Acceptance.PointRules.{edge_rules, noted_at, point_at, program_edge}
-use Rattle.model.specs.Acceptance.PointStates.{Noted, Known, Missing, Unmeasured, address_of, follows, follows_edge, follows_instruction, instruction_at, noted, noted_or, point_of}
+use Rattle.model.specs.Acceptance.NotedStates.{NotedSlot, PointState, record_of}
+use Rattle.model.specs.Acceptance.PointRules.{call_edge, edge_rules, noted_at, point_at, program_edge}
+use Rattle.model.specs.Acceptance.PointStates.{Noted, Known, Missing, Unmeasured, address_of, behind_call, call_at, follows, follows_call, follows_edge, follows_instruction, instruction_at, noted, noted_or, point_of}
 use Rattle.model.specs.Acceptance.Rules.{first_broken}
 use Rattle.model.specs.Images.Described.{Numbered}
 use Rattle.model.specs.Images.Image.{Image, StateRecord, Thread}
@@ -15,6 +19,7 @@ use Rattle.model.specs.declared.instructions.Instr.{Instr}
 use Rattle.model.specs.declared.instructions.Instr.TheVariants.{Upper, Jal, Jalr, Branch, Load, Store, Immediate, Shift, Registers, Fence, Ecall, Ebreak}
 use Rattle.model.specs.declared.ranges.Range.{Range}
 use Rattle.model.specs.declared.refusals.Point.{Point}
+use Rattle.model.specs.declared.refusals.Refusal.{Refusal}
 
 -- what follows from an instruction that is no system call
 plain-follows : (image : Image) (t : Numbered) (point : ℕ) (s : PointState) (instr : Instr) → instr ≢ Ecall
@@ -56,6 +61,39 @@ goes-behind pc (Jalr rd rs1 offset) ranges = tt
 goes-behind pc Ecall ranges = tt
 goes-behind pc Ebreak ranges = tt
 
+-- ---- what is noted of the next point, and of the address behind this one
+
+module _ (image : Image) (t : Numbered) (own : Thread) (point : ℕ) (s : PointState) (instr : Instr) (same : t.thread ≡ own) (known : Known s ≡ noted image t point)
+    (is : instruction_at own point ≡ Some instr) (none : record_of own (point + 1) ≡ None) where
+  left-next : noted image t (point + 1) ≡ follows_instruction image t point s (Some instr)
+  left-next =
+      noted-is image t (point + 1)
+      ∙ ap (λ (r : Option StateRecord). noted_or image t.thread r (before image t (point + 1))) (ap (λ (u : Thread). record_of u (point + 1)) same ∙ none)
+      ∙ sym (next-before image t point)
+      ∙ ap (follows image t point) (sym known)
+      ∙ ap (follows_instruction image t point s) (ap (λ (u : Thread). instruction_at u point) same ∙ is)
+
+  next-at : (target : ℕ) → target ≡ address_of own point + 4 → Some (point + 1) ≡ point_at own (address_of own point + 4)
+      → noted_at image t target ≡ follows_instruction image t point s (Some instr)
+  next-at target place at =
+      ap (noted_at image t) place
+      ∙ ap (λ (u : Thread). option_map_or (noted image t) (point_at u (address_of own point + 4)) Missing) same
+      ∙ ap (λ (p : Option ℕ). option_map_or (noted image t) p Missing) (sym at)
+      ∙ left-next
+
+-- the next point, as it was found: it has a state, and is the one at that address
+pub next-found : (image : Image) (t : Numbered) (own : Thread) (slots log : List NotedSlot) (ks : List Kept) (point next address : ℕ) (k : Kept) → t.thread ≡ own → IsRead image t slots log ks
+    → next < own.header.words → k ≡ slice_index_or ks next k → true ≡ has_state (noted_by slots log k) → next ≡ point + 1 → Some next ≡ point_at own (address + 4) → address ≡ address_of own point
+    → (has_state (noted image t (point + 1)) ≡ true) × (Some (point + 1) ≡ point_at own (address_of own point + 4))
+next-found image t own slots log ks point next address k same read within item has is at place =
+    let words = ap (λ (u : Thread). u.header.words) same in
+    let here = kept-at image t slots log ks next k read.noted (omega (arith, within, words, read.count)) item in (
+      ap (λ (n : ℕ). has_state (noted image t n)) (sym is) ∙ ap has_state (sym here.same) ∙ sym has,
+      ap (λ (n : ℕ). Some n) (sym is) ∙ at ∙ ap (λ (n : ℕ). point_at own (n + 4)) place,
+    )
+
+-- ---- from an instruction
+
 module _ (law : (t : Thread) (at : Point) (instr : Instr) (state next : PointState) (edge : Edge) → follows_edge instr state (Some edge) ≡ Known next
     → first_broken (edge_rules t at state.measure (program_edge instr state.slots edge) (Known next)) ≡ None) where
   to-state : (t : Thread) (at : Point) (instr : Instr) (s : PointState) (edge : Edge) (n : Noted) → follows_edge instr s (Some edge) ≡ n → has_state n ≡ true
@@ -77,20 +115,39 @@ module _ (law : (t : Thread) (at : Point) (instr : Instr) (state next : PointSta
       → Some (point + 1) ≡ point_at own (address_of own point + 4) → address_of own point + 4 < 2 ^ 32
       → first_broken (way_rules image t point s instr (after (address_of own point) instr s.ranges).fall_through) ≡ None
   next-kept image t own point s instr same known is plain none has at less =
-      let edge = (after (address_of t.thread point) instr s.ranges).fall_through in
-      let left : noted image t (point + 1) ≡ follows_edge instr s edge =
-      noted-is image t (point + 1)
-      ∙ ap (λ (r : Option StateRecord). noted_or image t.thread r (before image t (point + 1))) (ap (λ (u : Thread). record_of u (point + 1)) same ∙ none)
-      ∙ sym (next-before image t point)
-      ∙ ap (follows image t point) (sym known)
-      ∙ ap (follows_instruction image t point s) (ap (λ (u : Thread). instruction_at u point) same ∙ is)
-      ∙ plain-follows image t point s instr plain in
-      let place : behind (address_of t.thread point) ≡ address_of own point + 4 =
+      let target = behind (address_of t.thread point) in
+      let as-plain = plain-follows image t point s instr plain in
+      let place : target ≡ address_of own point + 4 =
       ap (λ (u : Thread). behind (address_of u point)) same ∙ (let small : (address_of own point + 4) % 2 ^ 32 ≡ address_of own point + 4 = omega (arith, less) in small) in
-      let found : noted_at image t (behind (address_of t.thread point)) ≡ noted image t (point + 1) =
-      ap (noted_at image t) place
-      ∙ ap (λ (u : Thread). option_map_or (noted image t) (point_at u (address_of own point + 4)) Missing) same
-      ∙ ap (λ (p : Option ℕ). option_map_or (noted image t) p Missing) (sym at) in
       subst (λ (u : Thread). first_broken (way_rules image t point s instr (after (address_of u point) instr s.ranges).fall_through) ≡ None) same
-      (on-edge image t point (behind (address_of t.thread point)) s instr edge (goes-behind (address_of t.thread point) instr s.ranges) (found ∙ left)
-      (sym (ap has_state left) ∙ has))
+      (on-edge image t point target s instr (after (address_of t.thread point) instr s.ranges).fall_through (goes-behind (address_of t.thread point) instr s.ranges)
+      (next-at image t own point s instr same known is none target place at ∙ as-plain)
+      (sym (ap has_state (left-next image t own point s instr same known is none ∙ as-plain)) ∙ has))
+
+-- ---- from a system call
+
+module _ (law : (t : Thread) (at : Point) (pc : ℕ) (state next : PointState) (a : AfterCall) → behind_call t state.measure a ≡ Known next
+    → first_broken (edge_rules t at state.measure (call_edge pc state.ranges a) (Known next)) ≡ None) where
+  behind-state : (t : Thread) (at : Point) (pc : ℕ) (s : PointState) (a : AfterCall) (n : Noted) → behind_call t s.measure a ≡ n → has_state n ≡ true
+      → first_broken (edge_rules t at s.measure (call_edge pc s.ranges a) n) ≡ None
+  behind-state t at pc s a (Known next) is has = law t at pc s next a is
+  behind-state t at pc s a Missing is has = absurd (let clash : false ≡ true = has in cc)
+  behind-state t at pc s a Unmeasured is has = absurd (let clash : false ≡ true = has in cc)
+
+  on-call : (image : Image) (t : Numbered) (point : ℕ) (s : PointState) (o : Option (Result AfterCall Refusal)) → noted_at image t (address_of t.thread point + 4) ≡ follows_call t.thread s.measure o
+      → has_state (follows_call t.thread s.measure o) ≡ true → told_of image t point s o ≡ None
+  on-call image t point s None found has = absurd (let clash : false ≡ true = has in cc)
+  on-call image t point s (Some (Err refusal)) found has = absurd (let clash : false ≡ true = has in cc)
+  on-call image t point s (Some (Ok a)) found has =
+      let pc = address_of t.thread point in
+      ap (λ (n : Noted). first_broken (edge_rules t.thread (point_of t point) s.measure (call_edge pc s.ranges a) n)) found
+      ∙ behind-state t.thread (point_of t point) pc s a (behind_call t.thread s.measure a) refl has
+
+  pub next-call-kept : (image : Image) (t : Numbered) (own : Thread) (point : ℕ) (s : PointState) → t.thread ≡ own → Known s ≡ noted image t point
+      → instruction_at own point ≡ Some Ecall → record_of own (point + 1) ≡ None → has_state (noted image t (point + 1)) ≡ true
+      → Some (point + 1) ≡ point_at own (address_of own point + 4) → first_broken (later_rules image t point s (Some Ecall)) ≡ None
+  next-call-kept image t own point s same known is none has at =
+      let place : address_of t.thread point + 4 ≡ address_of own point + 4 = ap (λ (u : Thread). address_of u point + 4) same in
+      call-told image t point s (call_at image t point s) (ap (λ (u : Thread). instruction_at u point) same ∙ is) refl
+      ∙ on-call image t point s (call_at image t point s) (next-at image t own point s Ecall same known is none (address_of t.thread point + 4) place at)
+      (sym (ap has_state (left-next image t own point s Ecall same known is none)) ∙ has)

@@ -1,6 +1,6 @@
 //! The rules on a point's system call, and on the way on behind it.
 
-ghost use Rattle.std.specs.Prelude.{◌≡◌, ◌+◌, ◌<◌, IfOk, Some, option_map};
+ghost use Rattle.std.specs.Prelude.{◌≡◌, ◌+◌, ◌<◌, IfOk, None, Some, false, option_map};
 ghost use Rattle.certificates.specs.Kept.{IsCleanIn, IsRead, IsSound, state_by};
 ghost use Rattle.certificates.specs.declared.kept.Kept.TheVariants as kept;
 ghost use Rattle.certificates.specs.PointChecks.{later_rules};
@@ -8,6 +8,7 @@ ghost use Rattle.certificates.specs.Programs.{IsProgram};
 ghost use Rattle.measure.specs.Measures.{measure_of};
 ghost use Rattle.model.specs.Acceptance.NotedStates.{record_of};
 ghost use Rattle.model.specs.Acceptance.PointRules.{call_edge, edge_rules, noted_at};
+ghost use Rattle.model.specs.Acceptance.PointStates as states;
 ghost use Rattle.model.specs.Acceptance.PointStates.{address_of, instruction_at, point_of};
 ghost use Rattle.model.specs.Acceptance.Rules.{first_broken};
 ghost use Rattle.model.specs.declared.instructions.Instr.TheVariants.{Ecall};
@@ -84,12 +85,14 @@ impl<R: ThreadRules> Program<'_, '_, R> {
         Ok(self.way_behind(points, point, known, behind, part))
     }
 
-    /// What the system call at a point breaks: it is refused, or its way on is. Memory may be refused.
+    /// What the system call at a point breaks: it is refused, or its way on is. It is not looked at again where the next point has the
+    /// state that it leaves. Memory may be refused.
     pub(crate) fn call_rules(
         &self,
         points: &mut Points,
         point: u32,
         noted: Option<&RecordRef<'_>>,
+        is_next_noted: bool,
         known: &Known,
     ) -> Result<Option<Refusal>, AllocError>
         requires program { IsProgram (R.image self.now.rules.now) (R.thread self.now.rules.now) self.now.thread.now self.now.number self.now.slots.now }
@@ -98,14 +101,26 @@ impl<R: ThreadRules> Program<'_, '_, R> {
         requires within { point < self.now.thread.now.header.words }
         requires is { instruction_at self.now.thread.now point ≡ Some Ecall }
         requires noted { option_map (λ r. r.now) noted ≡ record_of self.now.thread.now point }
+        requires next { is_next_noted ≡ false → record_of self.now.thread.now (point + 1) ≡ None }
+        requires known { states.Known (state_by self.now.slots.now points.old.log known.now) ≡ states.noted (R.image self.now.rules.now) (R.thread self.now.rules.now) point }
         requires sound { IsSound points.old.log point (kept.Known known.now) }
         requires clean { IsCleanIn (R.image self.now.rules.now) (R.thread self.now.rules.now).thread self.now.slots.now points.old.log (kept.Known known.now) }
         ensures broken { IfOk result (λ broken. broken ≡ first_broken (later_rules (R.image self.now.rules.now) (R.thread self.now.rules.now) point (state_by self.now.slots.now points.old.log known.now) (Some Ecall))) }
         ensures read { IfOk result (λ _. IsRead (R.image self.now.rules.now) (R.thread self.now.rules.now) self.now.slots.now points.new.log points.new.kept.items) }
     {
+        if self.leaves_next(points, point, is_next_noted) {
+            return Ok(None);
+        }
         let mut made = Vec::new(self.alloc);
         let slots = points.log.slots(self.slots, known.part);
-        match self.called(point, noted, &known.bounds, &slots, known.is_clean, &mut made)? {
+        match self.called(
+            point,
+            noted,
+            &known.bounds,
+            &slots,
+            known.is_clean,
+            &mut made,
+        )? {
             None => Ok(None),
             Some(Err(refusal)) => Ok(Some(refusal)),
             Some(Ok(behind)) => self.behind_rules(points, point, known, &behind, &made),

@@ -51,7 +51,7 @@ impl<R: ThreadRules> Program<'_, '_, R> {
             return Ok(Some(refusal));
         }
         match instr {
-            Some(Instr::Ecall) => self.call_rules(points, point, noted, known),
+            Some(Instr::Ecall) => self.call_rules(points, point, noted, is_next_noted, known),
             Some(instr) => Ok(self.ways_rules(points, point, instr, &state, is_next_noted)),
             None => Ok(None),
         }

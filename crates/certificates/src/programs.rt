@@ -205,7 +205,14 @@ impl<R: ThreadRules> Program<'_, '_, R> {
     {
         let mut made = Vec::new(self.alloc);
         let slots = log.slots(self.slots, known.part);
-        let called = self.called(point, noted, &known.bounds, &slots, known.is_clean, &mut made)?;
+        let called = self.called(
+            point,
+            noted,
+            &known.bounds,
+            &slots,
+            known.is_clean,
+            &mut made,
+        )?;
         let Some(Ok(behind)) = called else {
             return Ok(Kept::Missing);
         };

@@ -2,7 +2,7 @@
 
 ghost use Rattle.std.specs.Prelude.{ℕ, ◌≡◌, ◌+◌, ◌<◌, ◌≢◌, IfSome, List, None, Option, Some, false, option_map, true, if◌then◌else◌};
 ghost use Rattle.certificates.specs.Kept.{IsRead};
-ghost use Rattle.certificates.specs.PointChecks.{IsBefore, is_branch, way_rules};
+ghost use Rattle.certificates.specs.PointChecks.{IsBefore, is_branch, later_rules, way_rules};
 ghost use Rattle.certificates.specs.Programs.{IsProgram};
 ghost use Rattle.model.specs.Acceptance.Edges.{Edge as RuleEdge, after};
 ghost use Rattle.model.specs.Acceptance.PointRules.{noted_at, point_at, rules_on_edges};
@@ -18,7 +18,7 @@ ghost use Rattle.ranges.specs.Edges.{way_of};
 use crate::{Points, Program, ThreadRules};
 use measure::AfterInstruction;
 use model::{Instr, Refusal};
-use point_rules::{Noted, PointState, Way, leads_to, left_states_are_kept};
+use point_rules::{Noted, PointState, Way, leads_to, left_calls_are_kept, left_states_are_kept};
 use ranges::{Bounds, Edge, after};
 
 /// The ranges before an instruction, for the values that come this way: a branch leaves only some of them.
@@ -128,17 +128,21 @@ impl<R: ThreadRules> Program<'_, '_, R> {
     }
 
     /// Whether the next point has the very state that this one leaves: no record notes it, and it has a state. The way to it keeps its
-    /// rules then.
-    fn leaves_next(&self, points: &Points, point: u32, is_next_noted: bool) -> bool
+    /// rules then, and a system call before it is not refused.
+    pub(crate) fn leaves_next(&self, points: &Points, point: u32, is_next_noted: bool) -> bool
         requires program { IsProgram (R.image self.now.rules.now) (R.thread self.now.rules.now) self.now.thread.now self.now.number self.now.slots.now }
         requires read { IsRead (R.image self.now.rules.now) (R.thread self.now.rules.now) self.now.slots.now points.now.log points.now.kept.items }
         requires within { point < self.now.thread.now.header.words }
         requires next { is_next_noted ≡ false → record_of self.now.thread.now (point + 1) ≡ None }
-        ensures { (s : State) (instr : Instr) → result ≡ true → Known s ≡ noted (R.image self.now.rules.now) (R.thread self.now.rules.now) point
+        ensures plain { (s : State) (instr : Instr) → result ≡ true → Known s ≡ noted (R.image self.now.rules.now) (R.thread self.now.rules.now) point
             → instruction_at self.now.thread.now point ≡ Some instr → instr ≢ Ecall
             → first_broken (way_rules (R.image self.now.rules.now) (R.thread self.now.rules.now) point s instr (after (address_of self.now.thread.now point) instr s.ranges).fall_through) ≡ None }
+        ensures call { (s : State) → result ≡ true → Known s ≡ noted (R.image self.now.rules.now) (R.thread self.now.rules.now) point
+            → instruction_at self.now.thread.now point ≡ Some Ecall
+            → first_broken (later_rules (R.image self.now.rules.now) (R.thread self.now.rules.now) point s (Some Ecall)) ≡ None }
     {
         left_states_are_kept();
+        left_calls_are_kept();
         if is_next_noted {
             return false;
         }

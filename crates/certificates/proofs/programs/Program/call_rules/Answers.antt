@@ -16,6 +16,10 @@ use Rattle.typestate.specs.Calls.{behind_with}
 use Rattle.typestate.specs.Differences.{changed, slots_of}
 use Rattle.typestate.specs.Logs.{part_of}
 
+pub returns-then-leaves_next-clause-broken : goal.returns-then-leaves_next-clause-broken
+returns-then-leaves_next-clause-broken g c =
+    sym (c.leaves_next.ensures.call (state_by c.args.self.now.slots.now c.args.points.now.log c.args.known.now) c.if-leaves_next.true c.requires.known c.requires.is)
+
 pub returns-in-None-clause-broken : goal.returns-in-None-clause-broken
 returns-in-None-clause-broken g c =
     let image = g.R.ThreadRules.image c.args.self.now.rules.now in

@@ -50,7 +50,7 @@ returns-then-leaves_next g c =
     let taken = broken (after (address_of t.thread c.args.point) c.args.instr bounds).taken in
     let kept : broken (after (address_of t.thread c.args.point) c.args.instr bounds).fall_through ≡ None =
     ap (λ (n : ℕ). broken (after n c.args.instr bounds).fall_through) (sym at)
-    ∙ c.leaves_next.ensures (state_of c.args.state.now) c.args.instr c.if-leaves_next.true c.requires.known c.requires.is c.requires.plain in
+    ∙ c.leaves_next.ensures.plain (state_of c.args.state.now) c.args.instr c.if-leaves_next.true c.requires.known c.requires.is c.requires.plain in
     c.taken_rules.ensures
     ∙ ap (λ (n : ℕ). broken (after n c.args.instr bounds).taken) at
     ∙ sym (or-none taken)
