@@ -364,12 +364,12 @@ module _ (slots : List NotedSlot) (rises : RiseFrom 0 slots) (key : SlotKey) (s 
       let parts = or-both (is_same_key gone key) (list_any (λ k. is_same_key k key) (option_to_list (noted_parent slots gone))) isnt in (
         number-apart s.key key gone (found-key slots key s at) parts.0,
         no-loss slots rises (is_removed slots (One gone)) key s (λ c.
-        let there : slot_at slots gone ≡ Some c.child = same-place slots gone c.child.key (eqb-true (number_of gone) (number_of c.child.key) c.removed) ∙ found-at slots c.at c.child c.held in
-        let p = parent-is s.key c.child.parent c.below in
-        let above : noted_parent slots gone ≡ Some p.parent = ap (option_and_then (λ (x : NotedSlot). x.parent)) there ∙ p.there in
-        let named : (is_same_key p.parent key || false) ≡ false = ap (λ (o : Option SlotKey). list_any (λ k. is_same_key k key) (option_to_list o)) (sym above) ∙ parts.1 in
-        let same : is_same_key p.parent key ≡ true = ap (λ (n : ℕ). number_of p.parent == n) (sym (found-key slots key s at)) ∙ p.same in
-        let clash : true ≡ false = sym (ap (λ b. b || false) same) ∙ named in cc),
+            let there : slot_at slots gone ≡ Some c.child = same-place slots gone c.child.key (eqb-true (number_of gone) (number_of c.child.key) c.removed) ∙ found-at slots c.at c.child c.held in
+            let p = parent-is s.key c.child.parent c.below in
+            let above : noted_parent slots gone ≡ Some p.parent = ap (option_and_then (λ (x : NotedSlot). x.parent)) there ∙ p.there in
+            let named : (is_same_key p.parent key || false) ≡ false = ap (λ (o : Option SlotKey). list_any (λ k. is_same_key k key) (option_to_list o)) (sym above) ∙ parts.1 in
+            let same : is_same_key p.parent key ≡ true = ap (λ (n : ℕ). number_of p.parent == n) (sym (found-key slots key s at)) ∙ p.same in
+            let clash : true ≡ false = sym (ap (λ b. b || false) same) ∙ named in cc),
       )
 
   -- nothing stands above a slot that was derived from none
@@ -394,10 +394,10 @@ module _ (slots : List NotedSlot) (rises : RiseFrom 0 slots) (key : SlotKey) (s 
       let parts = or-both (is_same_key root key) false isnt in (
         descends-not 256 root s.key (found-key slots key s at),
         no-loss slots rises (is_removed slots (Below root)) key s (λ c.
-        let p = parent-is s.key c.child.parent c.below in
-        let above : noted_parent slots c.child.key ≡ Some p.parent = ap (option_and_then (λ (x : NotedSlot). x.parent)) (found-at slots c.at c.child c.held) ∙ p.there in
-        let same : number_of p.parent ≡ number_of key = eqb-true (number_of p.parent) (number_of s.key) p.same ∙ found-key slots key s at in
-        let clash : true ≡ false = sym c.removed ∙ below-one 255 root c.child.key p.parent above same parts.0 in cc),
+            let p = parent-is s.key c.child.parent c.below in
+            let above : noted_parent slots c.child.key ≡ Some p.parent = ap (option_and_then (λ (x : NotedSlot). x.parent)) (found-at slots c.at c.child c.held) ∙ p.there in
+            let same : number_of p.parent ≡ number_of key = eqb-true (number_of p.parent) (number_of s.key) p.same ∙ found-key slots key s at in
+            let clash : true ≡ false = sym c.removed ∙ below-one 255 root c.child.key p.parent above same parts.0 in cc),
       )
 
 unnamed-stay : (slots : List NotedSlot) (rises : RiseFrom 0 slots) (which : Removed) (key : SlotKey) (s : NotedSlot) → slot_at slots key ≡ Some s → s.parent ≡ None

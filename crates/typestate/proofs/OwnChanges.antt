@@ -1,11 +1,10 @@
 -- Among changes whose keys rise, each is the last one to its slot.
-use Rattle.std.proofs.Common.{ℕ, ◌≡◌, ◌∙◌, ◌==◌, ◌<◌, ◌≤◌, ◌+◌, ◌||◌, Bool, true, false, if◌then◌else◌, Option, Some, None, List, [], ◌∷◌, ◌++◌, refl, sym, ap, arith}
-use Rattle.std.specs.List.{flat_map, list_any}
+use Rattle.std.proofs.Common.{ℕ, ◌≡◌, ◌∙◌, ◌==◌, ◌<◌, ◌+◌, ◌||◌, Bool, false, if◌then◌else◌, Option, List, [], ◌∷◌, refl, sym, ap, arith}
+use Rattle.std.specs.List.{list_any}
 use Rattle.std.specs.Option.{option_map_or}
 use Rattle.std.proofs.lemmas.Bool.Decides.{nat_tests}
 use Rattle.std.proofs.lemmas.Bool.{eq-eqb}
-use Rattle.model.specs.Acceptance.NotedStates.{NotedSlot, SlotKey, is_same_key, number_of, slot_at, with_noted}
-use Rattle.typestate.specs.ChangeLists.{told_at, told_of}
+use Rattle.model.specs.Acceptance.NotedStates.{NotedSlot, SlotKey, number_of, slot_at, with_noted}
 use Rattle.typestate.specs.Differences.{changed, left_by}
 use Rattle.typestate.proofs.Compared.{is_changed, unchanged}
 use Rattle.typestate.proofs.Rising.{RiseFrom}

@@ -1,5 +1,5 @@
 -- Tidy changes leave no stray slot: each line of parents behind them stands for one that led to the boot CNode before.
-use Rattle.std.proofs.Common.{ℕ, zero, suc, ◌≡◌, ◌∙◌, ◌==◌, ◌⊎◌, ◌≤◌, inl, inr, Bool, true, false, not, ◌&&◌, ◌||◌, nat_le, if◌then◌else◌, Option, Some, None, option_map, option_and_then, is_some, List, [], ◌∷◌, length, map, refl, sym, ap, subst, arith}
+use Rattle.std.proofs.Common.{ℕ, zero, suc, ◌≡◌, ◌∙◌, ◌==◌, ◌⊎◌, inl, inr, Bool, true, false, not, ◌&&◌, ◌||◌, nat_le, if◌then◌else◌, Option, Some, None, option_map, option_and_then, is_some, List, [], ◌∷◌, length, map, refl, sym, ap, subst, arith}
 use Rattle.std.specs.List.{list_all, list_any}
 use Rattle.std.specs.Option.{option_map_or}
 use Rattle.std.proofs.Math.Dec.{leb-zero}
@@ -10,8 +10,8 @@ use Rattle.model.specs.Capabilities.Slots.{is_empty}
 use Rattle.model.specs.declared.capabilities.Cap.{Cap}
 use Rattle.model.specs.declared.capabilities.Cap.TheVariants.{Empty, Untyped, Endpoint, Notification, CNode, Frame, PageTable, Tcb, RootTable, InterruptControl, InterruptHandler}
 use Rattle.typestate.specs.Differences.{changed, left_by}
-use Rattle.typestate.specs.SlotChanges.{cap_left, emptied, followed, heir, is_parent, is_removed, loses_children, moved, noted_descends, noted_outside, noted_parent, slot_left, slots_left, what_stays, without_gone}
-use Rattle.typestate.specs.Strays.{NoneStray, cnodes_of, is_stray_in, is_tidy, is_tidy_move, is_tidy_put, is_unfit, keeps_line, keeps_parent}
+use Rattle.typestate.specs.SlotChanges.{emptied, followed, heir, is_parent, is_removed, loses_children, moved, noted_descends, noted_outside, noted_parent, slot_left, slots_left, what_stays, without_gone}
+use Rattle.typestate.specs.Strays.{NoneStray, cnodes_of, is_stray_in, is_tidy, is_tidy_put, is_unfit, keeps_line, keeps_parent}
 use Rattle.typestate.specs.declared.slot_changes.Removed.{Removed}
 use Rattle.typestate.specs.declared.slot_changes.Removed.TheVariants.{One, Below}
 use Rattle.typestate.specs.declared.slot_changes.SlotChange.{SlotChange}
@@ -151,12 +151,13 @@ module _ (space : Space) where
   ] refl
 
   all-fit : (slots : List NotedSlot) → None-in slots → AllFit space slots
-  all-fit slots none = record { each = λ key s at.
-    let isnt = not-stray slots key s none at in
-    record {
-      fit = or-first (is_unfit space s) (not (leads_to_boot (length slots) slots s.parent)) isnt;
-      leads = record { steps = length slots; there = not-true _ (or-second (is_unfit space s) (not (leads_to_boot (length slots) slots s.parent)) isnt) };
-    }
+  all-fit slots none = record {
+    each = λ key s at.
+        let isnt = not-stray slots key s none at in
+        record {
+          fit = or-first (is_unfit space s) (not (leads_to_boot (length slots) slots s.parent)) isnt;
+          leads = record { steps = length slots; there = not-true _ (or-second (is_unfit space s) (not (leads_to_boot (length slots) slots s.parent)) isnt) };
+        };
   }
 
   fits-none : (slots : List NotedSlot) (s : NotedSlot) → Fits space slots s → stray slots s ≡ false
@@ -192,19 +193,20 @@ module _ (space : Space) (slots : List NotedSlot) (all : AllFit space slots) whe
   itself = record { keeps = λ key o at. record { held = o; at = at; same = refl }; fits = λ key s at. all.each key s at }
 
   extended : (more : List NotedSlot) → RiseFrom 0 more → Extends more → NoneStray space.image.now space.thread.now more
-  extended more rises ext = none-stray space more rises (record { each = λ key s at.
-    let was = ext.fits key s at in
-    record {
-      fit = was.fit;
-      leads = stands-for slots more SamePlace only-none
-      (λ k o q held same. elim q as (λ q. SamePlace (Some k) q → GoesOn more SamePlace o.parent q) [
-        | None ↦ λ clash. absurd (let no : ◌≡◌ {A = Option ℕ} (Some (number_of k)) None = clash in cc)
-        | Some l ↦ λ is.
-            let kept = ext.keeps k o held in
-            inr (inr (record { key = l; at = refl; held = kept.held; holds = same-place more l k (sym (number-same k l is)) ∙ kept.at; rest = sym kept.same }))
-      ] same)
-      s.parent s.parent refl was.leads;
-    }
+  extended more rises ext = none-stray space more rises (record {
+    each = λ key s at.
+        let was = ext.fits key s at in
+        record {
+          fit = was.fit;
+          leads = stands-for slots more SamePlace only-none
+              (λ k o q held same. elim q as (λ q. SamePlace (Some k) q → GoesOn more SamePlace o.parent q) [
+                | None ↦ λ clash. absurd (let no : ◌≡◌ {A = Option ℕ} (Some (number_of k)) None = clash in cc)
+                | Some l ↦ λ is.
+                    let kept = ext.keeps k o held in
+                    inr (inr (record { key = l; at = refl; held = kept.held; holds = same-place more l k (sym (number-same k l is)) ∙ kept.at; rest = sym kept.same }))
+              ] same)
+              s.parent s.parent refl was.leads;
+        };
   })
 
   -- a tidy slot hangs below what stood before
@@ -212,19 +214,19 @@ module _ (space : Space) (slots : List NotedSlot) (all : AllFit space slots) whe
   unfolding leads_to_boot
   below c line = elim (slot_at slots c.key) as (λ found. slot_at slots c.key ≡ found
       → option_map_or (λ o. is_same_parent c.parent o.parent) found (option_map_or (λ p. is_some (slot_at slots p)) c.parent true) ≡ true → Leads slots c.parent) [
-    | Some o ↦ λ at same.
-        let was = (all.each c.key o at).leads in
-        record { steps = was.steps; there = leads-same was.steps slots o.parent c.parent (sym (same-parents c.parent o.parent same)) was.there }
-    | None ↦ λ _ hangs. elim c.parent as (λ p. option_map_or (λ p. is_some (slot_at slots p)) p true ≡ true → Leads slots p) [
-      | None ↦ λ _. from-boot slots
-      | Some p ↦ λ full. elim (slot_at slots p) as (λ found. slot_at slots p ≡ found → is_some found ≡ true → Leads slots (Some p)) [
-        | None ↦ λ _ clash. absurd (let no : false ≡ true = clash in cc)
-        | Some o ↦ λ at _.
-            let was = (all.each p o at).leads in
-            record { steps = suc was.steps; there = ap (on was.steps slots) at ∙ was.there }
-      ] refl full
-    ] hangs
-  ] refl line
+        | Some o ↦ λ at same.
+            let was = (all.each c.key o at).leads in
+            record { steps = was.steps; there = leads-same was.steps slots o.parent c.parent (sym (same-parents c.parent o.parent same)) was.there }
+        | None ↦ λ _ hangs. elim c.parent as (λ p. option_map_or (λ p. is_some (slot_at slots p)) p true ≡ true → Leads slots p) [
+          | None ↦ λ _. from-boot slots
+          | Some p ↦ λ full. elim (slot_at slots p) as (λ found. slot_at slots p ≡ found → is_some found ≡ true → Leads slots (Some p)) [
+            | None ↦ λ _ clash. absurd (let no : false ≡ true = clash in cc)
+            | Some o ↦ λ at _.
+                let was = (all.each p o at).leads in
+                record { steps = suc was.steps; there = ap (on was.steps slots) at ∙ was.there }
+          ] refl full
+        ] hangs
+      ] refl line
 
   put-one : (more : List NotedSlot) (c : NotedSlot) → is_tidy_put space slots c ≡ true → Extends more → Extends (with_noted more c)
   put-one more c tidy ext =
@@ -242,7 +244,7 @@ module _ (space : Space) (slots : List NotedSlot) (all : AllFit space slots) whe
                 held = c;
                 at = noted-at more c key ∙ ap (λ b. if b then left_by c else slot_at more key) is ∙ left;
                 same = same-parents c.parent o.parent
-                (sym (ap (λ (found : Option NotedSlot). option_map_or (λ o. is_same_parent c.parent o.parent) found (option_map_or (λ p. is_some (slot_at slots p)) c.parent true)) there) ∙ line);
+                    (sym (ap (λ (found : Option NotedSlot). option_map_or (λ o. is_same_parent c.parent o.parent) found (option_map_or (λ p. is_some (slot_at slots p)) c.parent true)) there) ∙ line);
               }
           | false ↦ λ isnt.
               let kept = ext.keeps key o at in
@@ -425,7 +427,7 @@ module _ (space : Space) (slots : List NotedSlot) (from : SlotKey) (s : NotedSlo
             at = refl;
             held = s;
             holds = after-is k ∙ ap (λ b. if b then None else if is_same_key s.key k then Some s else slot_at children k) other
-            ∙ ap (λ b. if b then Some s else slot_at children k) (eq-eqb (number_of s.key) (number_of k) number);
+                ∙ ap (λ b. if b then Some s else slot_at children k) (eq-eqb (number_of s.key) (number_of k) number);
             rest = subst (λ (x : NotedSlot). Moved x.parent s.parent) both source-place;
           }))
       | false ↦ λ apart there.
@@ -444,7 +446,7 @@ module _ (space : Space) (slots : List NotedSlot) (from : SlotKey) (s : NotedSlo
             at = refl;
             held = follow o;
             holds = after-is k ∙ ap (λ b. if b then None else if is_same_key s.key k then Some s else slot_at children k) other
-            ∙ ap (λ b. if b then Some s else slot_at children k) beside ∙ children-is k ∙ ap (option_map follow) found;
+                ∙ ap (λ b. if b then Some s else slot_at children k) beside ∙ children-is k ∙ ap (option_map follow) found;
             rest = follows-place o;
           }))
     ] refl is
