@@ -16,7 +16,10 @@ wait, load, add, store, branch and count, and begin with a record that notes a r
 
 `make.py KIND SHARE FILE` writes an accepted image in which one count grows: `noted` (each word has a record of 29 ranges and four terms), `carried`
 (four terms are carried over programs of 65536 words), `jumps` (each word leads half the program away, and has a record), `threads`,
-`capabilities` (of one CNode), `objects`, `mappings` (of one root table, with its tables) and `chain` (CNodes, each held by the next). SHARE is 1, 4 or 16.
+`capabilities` (of one CNode), `objects`, `mappings` (of one root table, with its tables) and `chain` (CNodes, each held by the next); and in which
+a thread's calls change many slots: `fan` (copies of one capability), `descents` (chains of copies), `deletes` (copies, of which every second one is
+deleted), `revokes` (of nothing, beside many capabilities that the image lists), `searches` (of nothing, beside chains of copies) and `maps` (frames
+that are made, mapped and written to). SHARE is 1, 4 or 16.
 """
 
 import struct
@@ -235,9 +238,79 @@ def quiet_program(count):
     return (NOTHING,) * (count - 4) + waiting(count), [record(0, count + 10)]
 
 
+# ---- programs whose calls change many slots
+
+SEND = 3
+RETYPE, COPY, DELETE, REVOKE, MAP = 1, 7, 11, 12, 13
+WORDS = {RETYPE: 6, COPY: 5, DELETE: 2, REVOKE: 2, MAP: 4}
+# The slots of the first thread's CNode: its notification, the CNode itself, untyped memory and its root table.
+BELL, OWN, POOL, ROOT = 1, 2, 3, 4
+ECALL = 0x73
+
+
+def adds(register, number, source=0):
+    return immediate(0, register, source, number)
+
+
+def high(register, number):
+    return number << 12 | register << 7 | 0x37
+
+
+# The info word of a call into x11: its label, and how many words it has.
+def info(label):
+    return high(11, label), adds(11, WORDS[label], 11)
+
+
+# Takes away all that was derived from a slot, waits, and begins again: the slots are then as at the start.
+def begun_again(before, root):
+    words = [*before, adds(17, SEND), adds(10, OWN), *info(REVOKE), adds(12, root), adds(13, 32), ECALL]
+    words += waiting(len(words) + 4)
+    return words, [record(0, len(words) + 10)]
+
+
+# Copies into new slots, each from the last one but for every 250th, which is of slot 1 again, or all of slot 1.
+def copying_program(copies, is_chain):
+    words = [adds(17, SEND), adds(10, OWN), *info(COPY), adds(13, 32), adds(15, 32), adds(18, 2), adds(12, ROOT), adds(14, BELL)]
+    for i in range(copies):
+        words.append(adds(12, 1, 12))
+        if is_chain:
+            words.append(adds(14, BELL) if i % 250 == 0 else adds(14, -1, 12))
+        words.append(ECALL)
+    return begun_again(words, BELL)
+
+
+# Copies of slot 1 into new slots, of which every second one is deleted at once.
+def deleting_program(pairs):
+    words = [adds(17, SEND), adds(10, OWN), adds(13, 32), adds(15, 32), adds(18, 2), adds(12, ROOT), adds(14, BELL)]
+    for _ in range(pairs):
+        words += [*info(COPY), adds(12, 1, 12), ECALL, adds(12, 1, 12), ECALL, *info(DELETE), ECALL]
+    return begun_again(words, BELL)
+
+
+# Revokes of a slot from which nothing descends, beside many capabilities that the image lists.
+def revoking_program(revokes):
+    return begun_again([adds(17, SEND), adds(10, OWN), *info(REVOKE), adds(12, BELL), adds(13, 32)] + [ECALL] * revokes, BELL)
+
+
+# Chains of copies, and then as many Revokes of the last slot, from which nothing descends.
+def searching_program(calls):
+    words = copying_program(calls, True)[0][:-12]
+    return begun_again(words + [*info(REVOKE), adds(12, 0, 12)] + [ECALL] * calls, BELL)
+
+
+# Frames of the memory in slot 3, each mapped and written to.
+def mapping_program(frames):
+    words = [adds(17, SEND), adds(10, POOL), *info(RETYPE), adds(12, 6), adds(13, 0), adds(14, 0), adds(15, 0), adds(18, ROOT + 1)]
+    words += [adds(19, 128)] + [ECALL, adds(18, 128, 18)] * (frames // 128)
+    words += [adds(10, ROOT), *info(MAP), adds(12, ROOT), adds(13, 32), high(14, 0x3FF), adds(15, 3), high(20, 1)]
+    for _ in range(frames):
+        words += [adds(10, 1, 10), 20 << 20 | 14 << 15 | 14 << 7 | 0x33, ECALL, 14 << 15 | 2 << 12 | 0x23]
+    return begun_again(words, POOL)
+
+
 # Threads with these programs, each with a CNode and its notification, an address space of one table, and pages of code. The first
 # thread's CNode has more capabilities, its space more tables and mappings, and a chain of CNodes hangs on it, each before the last one.
-def image_of(programs, endpoints=1, listed=0, radix=1, tables=0, mappings=0, chain=0):
+def image_of(programs, endpoints=1, listed=0, radix=1, tables=0, mappings=0, chain=0, pool=0):
     untypeds = untypeds_of(59)
     objects, capabilities, places, maps = [], [], [], []
     put, _, _ = placing(untypeds, objects, 0)
@@ -253,11 +326,14 @@ def image_of(programs, endpoints=1, listed=0, radix=1, tables=0, mappings=0, cha
     for root, table, data, *code in parts:
         places.append((root, 0, table))
         maps += [(root, 0x1000 * (i + 1), frame, 4) for i, frame in enumerate(code)] + [(root, 0x200000, data, 3)]
+    memory = put(1, pool, pool) if pool else None
     root, _, data, *_ = parts[0]
     places += [(root, (i + 1) << 22, table) for i, table in enumerate(page_tables)]
     maps += [(root, 0x400000 * (i % tables + 1) + 0x1000 * (i // tables), data, 3) for i in range(mappings)]
     capabilities += [(cnode, 1, bell, 2, 0) for cnode, bell in zip(cnodes, bells)]
-    capabilities += [(first, i + 2, sources[i % len(sources)], 2, 0) for i in range(listed)]
+    if pool:
+        capabilities += [(first, OWN, first, 0, 32 - radix), (first, POOL, memory, 0, 0), (first, ROOT, root, 0, 0)]
+    capabilities += [(first, i + (ROOT + 1 if pool else 2), sources[i % len(sources)], 2, 0) for i in range(listed)]
     capabilities += [(links[i + 1] if i + 1 < chain else first, 0, link, 0, 31) for i, link in enumerate(links)]
     yield header(24, 14, (len(untypeds), len(objects), len(capabilities), 0, len(places), len(maps), 0, len(programs)))
     for section in (untypeds, objects, sorted(capabilities), sorted(places), sorted(maps)):
@@ -277,6 +353,12 @@ GROWING = {
     "objects": lambda share: image_of([quiet_program(1024)], endpoints=4064 // share),
     "mappings": lambda share: image_of([quiet_program(1024)], tables=496 // share, mappings=4064 // share),
     "chain": lambda share: image_of([quiet_program(1024)], chain=4064 // share),
+    "fan": lambda share: image_of([copying_program(16000 // share, False)], radix=14, pool=12),
+    "descents": lambda share: image_of([copying_program(16000 // share, True)], radix=14, pool=12),
+    "deletes": lambda share: image_of([deleting_program(7200 // share)], radix=14, pool=12),
+    "revokes": lambda share: image_of([revoking_program(16000 // share)], listed=16000 // share, radix=14, pool=12),
+    "searches": lambda share: image_of([searching_program(8000 // share)], radix=14, pool=12),
+    "maps": lambda share: image_of([mapping_program(2048 // share)], radix=14, tables=2, pool=23),
 }
 
 
