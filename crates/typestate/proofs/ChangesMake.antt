@@ -16,8 +16,10 @@ use Rattle.typestate.specs.declared.slot_changes.SlotChange.{SlotChange}
 use Rattle.typestate.specs.declared.slot_changes.SlotChange.TheVariants.{Nothing, Puts, Moves, Removes}
 use Rattle.typestate.specs.ChangeLists.{changes_of, child_change, named_by, removal_change, told_at, told_of}
 use Rattle.typestate.specs.Differences.{changed, left_by, slots_of}
+use Rattle.typestate.specs.Removals.{may_lose}
 use Rattle.typestate.specs.SlotChanges.{cap_left, emptied, followed, heir, is_parent, is_removed, loses_children, noted_descends, noted_outside, noted_parent, slot_left, slots_left, what_stays, without_gone}
 use Rattle.typestate.proofs.Compared.{is_changed, same-place, unchanged}
+use Rattle.typestate.proofs.LevelByLevel.{descends-longer, descends-same}
 use Rattle.typestate.proofs.MoveCalls.{follows-keeps, map-at, map-rises}
 use Rattle.typestate.specs.Unlinked.{AreUnlinked, is_linked}
 use Rattle.typestate.proofs.OwnChanges.{HoldOwn, hold-own}
@@ -319,9 +321,9 @@ or-both false b is = (refl, is)
 number-apart : (a b c : SlotKey) → number_of a ≡ number_of b → is_same_key c b ≡ false → is_same_key c a ≡ false
 number-apart a b c same isnt = ap (λ (n : ℕ). number_of c == n) same ∙ isnt
 
-module _ (slots : List NotedSlot) (rises : RiseFrom 0 slots) (gone : SlotKey → Bool) (key : SlotKey) (s : NotedSlot) where
+module _ (slots : List NotedSlot) (rises : RiseFrom 0 slots) (gone : SlotKey → Bool) (key : SlotKey) where
   abbrev goes : NotedSlot → Bool
-  goes x = gone x.key && is_parent s.key x.parent
+  goes x = gone x.key && is_parent key x.parent
 
   -- a child that goes
   record ChildGoes : Type 0 where
@@ -329,16 +331,16 @@ module _ (slots : List NotedSlot) (rises : RiseFrom 0 slots) (gone : SlotKey →
     child : NotedSlot
     held : slot_at slots at ≡ Some child
     removed : gone child.key ≡ true
-    below : is_parent s.key child.parent ≡ true
+    below : is_parent key child.parent ≡ true
 
-  no-loss : (ChildGoes → ⊥) → loses_children gone slots s.key ≡ false
-  no-loss none = elim (list_any goes slots) as (λ b. list_any goes slots ≡ b → (b && not (list_any (λ x. not (gone x.key) && is_parent s.key (heir gone slots x)) slots)) ≡ false) [
+  no-loss : (ChildGoes → ⊥) → loses_children gone slots key ≡ false
+  no-loss none = elim (list_any goes slots) as (λ b. list_any goes slots ≡ b → (b && not (list_any (λ x. not (gone x.key) && is_parent key (heir gone slots x)) slots)) ≡ false) [
     | false ↦ λ _. refl
     | true ↦ λ some.
         let found = any-held goes slots 0 rises some in
         absurd (elim (slot_at slots found.key) as (λ o. slot_at slots found.key ≡ o → option_map_or goes o false ≡ true → ⊥) [
           | None ↦ λ _ clash. let no : false ≡ true = clash in cc
-          | Some x ↦ λ at is. elim (gone x.key) as (λ b. gone x.key ≡ b → (b && is_parent s.key x.parent) ≡ true → ⊥) [
+          | Some x ↦ λ at is. elim (gone x.key) as (λ b. gone x.key ≡ b → (b && is_parent key x.parent) ≡ true → ⊥) [
             | false ↦ λ _ clash. let no : false ≡ true = clash in cc
             | true ↦ λ removed below. none (record { at = found.key; child = x; held = at; removed = removed; below = below })
           ] refl is
@@ -363,7 +365,7 @@ module _ (slots : List NotedSlot) (rises : RiseFrom 0 slots) (key : SlotKey) (s 
   one-stays gone isnt =
       let parts = or-both (is_same_key gone key) (list_any (λ k. is_same_key k key) (option_to_list (noted_parent slots gone))) isnt in (
         number-apart s.key key gone (found-key slots key s at) parts.0,
-        no-loss slots rises (is_removed slots (One gone)) key s (λ c.
+        no-loss slots rises (is_removed slots (One gone)) s.key (λ c.
             let there : slot_at slots gone ≡ Some c.child = same-place slots gone c.child.key (eqb-true (number_of gone) (number_of c.child.key) c.removed) ∙ found-at slots c.at c.child c.held in
             let p = parent-is s.key c.child.parent c.below in
             let above : noted_parent slots gone ≡ Some p.parent = ap (option_and_then (λ (x : NotedSlot). x.parent)) there ∙ p.there in
@@ -393,12 +395,38 @@ module _ (slots : List NotedSlot) (rises : RiseFrom 0 slots) (key : SlotKey) (s 
   below-stays root isnt =
       let parts = or-both (is_same_key root key) false isnt in (
         descends-not 256 root s.key (found-key slots key s at),
-        no-loss slots rises (is_removed slots (Below root)) key s (λ c.
+        no-loss slots rises (is_removed slots (Below root)) s.key (λ c.
             let p = parent-is s.key c.child.parent c.below in
             let above : noted_parent slots c.child.key ≡ Some p.parent = ap (option_and_then (λ (x : NotedSlot). x.parent)) (found-at slots c.at c.child c.held) ∙ p.there in
             let same : number_of p.parent ≡ number_of key = eqb-true (number_of p.parent) (number_of s.key) p.same ∙ found-key slots key s at in
             let clash : true ≡ false = sym c.removed ∙ below-one 255 root c.child.key p.parent above same parts.0 in cc),
       )
+
+above-stays : (n : ℕ) (slots : List NotedSlot) (root k p key : SlotKey) → noted_parent slots k ≡ Some p → number_of p ≡ number_of key → noted_descends (suc n) slots root key ≡ false → is_same_key key root ≡ false
+    → noted_descends (suc n) slots root k ≡ false
+unfolding noted_descends
+above-stays n slots root k p key above same stays isnt =
+    ap (λ (o : Option SlotKey). option_map_or (λ parent. is_same_key parent root || noted_descends n slots root parent) o false) above
+    ∙ ap (λ b. b || noted_descends n slots root p) (ap (λ (m : ℕ). m == number_of root) same ∙ isnt)
+    ∙ descends-same n slots root p key same ∙ shorter (noted_descends n slots root key) (descends-longer n slots root key) stays
+  where
+    shorter : (b : Bool) → (b ≡ true → noted_descends (suc n) slots root key ≡ true) → noted_descends (suc n) slots root key ≡ false → b ≡ false
+    shorter true so stays = absurd (let clash : true ≡ false = sym (so refl) ∙ stays in cc)
+    shorter false so stays = refl
+
+-- only a slot that a removal names loses children
+pub never-loses : (slots : List NotedSlot) → RiseFrom 0 slots → (which : Removed) (key : SlotKey) → is_removed slots which key ≡ false → may_lose slots which key ≡ false → loses_children (is_removed slots which) slots key ≡ false
+never-loses slots rises (One gone) key stays isnt =
+    no-loss slots rises (is_removed slots (One gone)) key (λ c.
+    let there : slot_at slots gone ≡ Some c.child = same-place slots gone c.child.key (eqb-true (number_of gone) (number_of c.child.key) c.removed) ∙ found-at slots c.at c.child c.held in
+    let above : noted_parent slots gone ≡ c.child.parent = ap (option_and_then (λ (x : NotedSlot). x.parent)) there in
+    let clash : true ≡ false = sym c.below ∙ ap (is_parent key) (sym above) ∙ isnt in cc)
+never-loses slots rises (Below root) key stays isnt =
+    no-loss slots rises (is_removed slots (Below root)) key (λ c.
+    let p = parent-is key c.child.parent c.below in
+    let above : noted_parent slots c.child.key ≡ Some p.parent = ap (option_and_then (λ (x : NotedSlot). x.parent)) (found-at slots c.at c.child c.held) ∙ p.there in
+    let same : number_of p.parent ≡ number_of key = eqb-true (number_of p.parent) (number_of key) p.same in
+    let clash : true ≡ false = sym c.removed ∙ above-stays 255 slots root c.child.key p.parent key above same stays isnt in cc)
 
 unnamed-stay : (slots : List NotedSlot) (rises : RiseFrom 0 slots) (which : Removed) (key : SlotKey) (s : NotedSlot) → slot_at slots key ≡ Some s → s.parent ≡ None
     → list_any (λ k. is_same_key k key) (named_by slots which) ≡ false → (is_removed slots which s.key ≡ false) × (loses_children (is_removed slots which) slots s.key ≡ false)

@@ -12,6 +12,7 @@ pub mod Compared
 pub mod SomeHeld
 mod TidyChanges
 pub mod OwnChanges
+pub mod LevelByLevel
 pub mod ListedStrays
 pub mod UnlinkedSlots
 pub mod LogParts

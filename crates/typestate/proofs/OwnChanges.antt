@@ -1,14 +1,18 @@
 -- Among changes whose keys rise, each is the last one to its slot.
-use Rattle.std.proofs.Common.{ℕ, ◌≡◌, ◌∙◌, ◌==◌, ◌<◌, ◌+◌, ◌||◌, Bool, false, if◌then◌else◌, Option, List, [], ◌∷◌, refl, sym, ap, arith}
+use Rattle.std.proofs.Common.{ℕ, ◌≡◌, ◌∙◌, ◌==◌, ◌<◌, ◌+◌, ◌||◌, Bool, true, false, if◌then◌else◌, Option, Some, None, is_some, List, [], ◌∷◌, refl, sym, ap, arith}
 use Rattle.std.specs.List.{list_any}
 use Rattle.std.specs.Option.{option_map_or}
 use Rattle.std.proofs.lemmas.Bool.Decides.{nat_tests}
 use Rattle.std.proofs.lemmas.Bool.{eq-eqb}
+use Rattle.model.specs.Capabilities.CapabilityKinds.{frame_mapping}
 use Rattle.model.specs.Acceptance.NotedStates.{NotedSlot, SlotKey, number_of, slot_at, with_noted}
-use Rattle.typestate.specs.Differences.{changed, left_by}
+use Rattle.typestate.specs.Differences.{changed, left_by, slots_of}
+use Rattle.typestate.specs.Unlinked.{is_linked}
+use Rattle.typestate.specs.declared.points.NotedSlots.{NotedSlots}
 use Rattle.typestate.proofs.Compared.{is_changed, unchanged}
 use Rattle.typestate.proofs.Rising.{RiseFrom}
 use Rattle.typestate.proofs.SlotLists.{noted-at}
+use Rattle.typestate.proofs.SomeHeld.{held-any}
 
 other-number : (a b : ℕ) → b < a → (a == b) ≡ false
 other-number a b less = grind (arith, nat_tests)
@@ -38,3 +42,14 @@ any-own test slots [] own = refl
 any-own test slots (c ∷ rest) own =
     ap (λ (o : Option NotedSlot). option_map_or test o false || list_any (λ c. option_map_or test (left_by c) false) rest) (sym own.0)
     ∙ ap (λ b. option_map_or test (slot_at slots c.key) false || b) (any-own test slots rest own.1)
+
+-- what no change names is the image's, and was derived from none of the thread's slots
+pub unnamed-parent : (n : NotedSlots) (key : SlotKey) (s : NotedSlot) → slot_at (slots_of n) key ≡ Some s → is_changed n.changes.now key ≡ false → s.parent ≡ None
+unnamed-parent n key s at none =
+    let here : slot_at n.image.now key ≡ Some s = sym (unchanged n.image.now n.changes.now key none) ∙ at in
+    elim s.parent as (λ p. s.parent ≡ p → p ≡ None) [
+      | None ↦ λ _. refl
+      | Some p ↦ λ is.
+          let linked : is_linked s ≡ true = ap (λ (o : Option SlotKey). is_some o || is_some (frame_mapping s.capability)) is in
+          absurd (let clash : true ≡ false = sym (held-any is_linked n.image.now key (ap (λ (o : Option NotedSlot). option_map_or is_linked o false) here ∙ linked)) ∙ n.unlinked in cc)
+    ] refl

@@ -1,11 +1,11 @@
 -- Lines of parents, step by step.
-use Rattle.std.proofs.Common.{ℕ, zero, suc, ◌≡◌, ◌∙◌, ◌+◌, ◌-◌, ◌<◌, ◌||◌, Bool, true, false, nat_lt, if◌then◌else◌, Option, Some, None, List, refl, ap, arith}
+use Rattle.std.proofs.Common.{ℕ, zero, suc, ◌≡◌, ◌∙◌, ◌+◌, ◌-◌, ◌<◌, Bool, true, false, nat_lt, if◌then◌else◌, Option, Some, None, List, refl, ap, arith}
 use Rattle.std.specs.Option.{option_map_or}
 use Rattle.std.proofs.lemmas.Bool.Decides.{nat_tests}
-use Rattle.model.specs.Acceptance.NotedStates.{NotedSlot, SlotKey, is_same_key, slot_at}
+use Rattle.model.specs.Acceptance.NotedStates.{NotedSlot, SlotKey, slot_at}
 use Rattle.model.specs.Capabilities.CapabilityKinds.{is_untyped}
 use Rattle.model.specs.declared.capabilities.Cap.{Cap}
-use Rattle.typestate.specs.SlotChanges.{boot_depth, noted_depth, noted_descends, noted_outside, noted_parent}
+use Rattle.typestate.specs.SlotChanges.{boot_depth, noted_depth, noted_outside, noted_parent}
 
 left-over : (m i : ℕ) → i < m → m - i ≡ suc (m - (i + 1))
 left-over m i below = omega (arith, below)
@@ -65,32 +65,6 @@ depth-top i whole slots place s below found none is =
 pub depth-end : (m i whole : ℕ) (slots : List NotedSlot) (place : SlotKey) → i ≡ m → whole ≡ i + noted_depth (m - i) slots place → whole ≡ m
 unfolding noted_depth
 depth-end m i whole slots place all is = is ∙ ap (λ k. i + noted_depth k slots place) (let e : m - i ≡ 0 = omega (arith, all) in e) ∙ (let e : i + 0 ≡ m = omega (arith, all) in e)
-
--- ---- descent
-
-abbrev descends_by : ℕ → List NotedSlot → SlotKey → Option SlotKey → Bool
-descends_by n slots root parent = option_map_or (λ p. is_same_key p root || noted_descends n slots root p) parent false
-
-descends-step : (m i : ℕ) (slots : List NotedSlot) (root key : SlotKey) → i < m → noted_descends (m - i) slots root key ≡ descends_by (m - (i + 1)) slots root (noted_parent slots key)
-unfolding noted_descends
-descends-step m i slots root key below = ap (λ n. noted_descends n slots root key) (left-over m i below)
-
-pub descends-more : (m i : ℕ) (whole : Bool) (slots : List NotedSlot) (root key parent : SlotKey) → i < m → noted_parent slots key ≡ Some parent → is_same_key parent root ≡ false
-    → whole ≡ noted_descends (m - i) slots root key → whole ≡ noted_descends (m - (i + 1)) slots root parent
-descends-more m i whole slots root key parent below above other is =
-    is ∙ descends-step m i slots root key below ∙ ap (descends_by (m - (i + 1)) slots root) above ∙ ap (λ b. b || noted_descends (m - (i + 1)) slots root parent) other
-
-pub descends-here : (m i : ℕ) (whole : Bool) (slots : List NotedSlot) (root key parent : SlotKey) → i < m → noted_parent slots key ≡ Some parent → is_same_key parent root ≡ true
-    → whole ≡ noted_descends (m - i) slots root key → whole ≡ true
-descends-here m i whole slots root key parent below above same is =
-    is ∙ descends-step m i slots root key below ∙ ap (descends_by (m - (i + 1)) slots root) above ∙ ap (λ b. b || noted_descends (m - (i + 1)) slots root parent) same
-
-pub descends-top : (m i : ℕ) (whole : Bool) (slots : List NotedSlot) (root key : SlotKey) → i < m → noted_parent slots key ≡ None → whole ≡ noted_descends (m - i) slots root key → whole ≡ false
-descends-top m i whole slots root key below none is = is ∙ descends-step m i slots root key below ∙ ap (descends_by (m - (i + 1)) slots root) none
-
-pub descends-end : (m i : ℕ) (whole : Bool) (slots : List NotedSlot) (root key : SlotKey) → i ≡ m → whole ≡ noted_descends (m - i) slots root key → whole ≡ false
-unfolding noted_descends
-descends-end m i whole slots root key all is = is ∙ ap (λ n. noted_descends n slots root key) (let e : m - i ≡ 0 = omega (arith, all) in e)
 
 -- ---- the nearest that stays
 

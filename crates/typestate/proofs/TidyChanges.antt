@@ -10,14 +10,13 @@ use Rattle.model.specs.Capabilities.Slots.{is_empty}
 use Rattle.model.specs.declared.capabilities.Cap.{Cap}
 use Rattle.model.specs.declared.capabilities.Cap.TheVariants.{Empty, Untyped, Endpoint, Notification, CNode, Frame, PageTable, Tcb, RootTable, InterruptControl, InterruptHandler}
 use Rattle.typestate.specs.Differences.{changed, left_by}
-use Rattle.typestate.specs.SlotChanges.{emptied, followed, heir, is_parent, is_removed, loses_children, moved, noted_descends, noted_outside, noted_parent, slot_left, slots_left, what_stays, without_gone}
+use Rattle.typestate.specs.SlotChanges.{emptied, followed, heir, is_parent, is_removed, loses_children, moved, noted_outside, noted_parent, slot_left, slots_left, what_stays, without_gone}
 use Rattle.typestate.specs.Strays.{NoneStray, cnodes_of, is_stray_in, is_tidy, is_tidy_put, is_unfit, keeps_line, keeps_parent}
-use Rattle.typestate.specs.declared.slot_changes.Removed.{Removed}
-use Rattle.typestate.specs.declared.slot_changes.Removed.TheVariants.{One, Below}
 use Rattle.typestate.specs.declared.slot_changes.SlotChange.{SlotChange}
 use Rattle.typestate.specs.declared.slot_changes.SlotChange.TheVariants.{Nothing, Puts, Moves, Removes}
 use Rattle.typestate.specs.declared.windows.Space.{Space}
 use Rattle.typestate.proofs.Compared.{same-place}
+use Rattle.typestate.proofs.LevelByLevel.{removed-same}
 use Rattle.typestate.proofs.MoveCalls.{follows-keeps, map-at, map-rises}
 use Rattle.typestate.proofs.ParentLines.{on, suffices}
 use Rattle.typestate.proofs.RemovedNoted.{reset-left, stay-at, stay-rise, stays-keeps}
@@ -348,16 +347,6 @@ module _ (space : Space) (gone : SlotKey → Bool) (by : (a b : SlotKey) → num
 
   none-left : NoneStray space.image.now space.thread.now left
   none-left = none-stray space left (stay-rise (what_stays gone slots) (stays-keeps gone slots) slots 0 rises) (record { each = left-fits })
-
-descends-same : (n : ℕ) (slots : List NotedSlot) (root a b : SlotKey) → number_of a ≡ number_of b → noted_descends n slots root a ≡ noted_descends n slots root b
-unfolding noted_descends
-descends-same zero slots root a b same = refl
-descends-same (suc n) slots root a b same =
-    ap (λ (found : Option NotedSlot). option_map_or (λ parent. is_same_key parent root || noted_descends n slots root parent) (option_and_then (λ (s : NotedSlot). s.parent) found) false) (same-place slots a b same)
-
-removed-same : (slots : List NotedSlot) (which : Removed) (a b : SlotKey) → number_of a ≡ number_of b → is_removed slots which a ≡ is_removed slots which b
-removed-same slots (One gone) a b same = ap (λ (n : ℕ). number_of gone == n) same
-removed-same slots (Below root) a b same = descends-same 256 slots root a b same
 
 -- ---- a slot that moves
 

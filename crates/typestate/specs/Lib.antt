@@ -10,5 +10,7 @@ pub mod Logs
 pub mod SlotChanges
 pub mod CNodeCalls
 pub mod ChangeLists
+pub mod Levels
+pub mod Removals
 pub mod Invocations
 pub mod Pools

@@ -4,9 +4,8 @@
 ghost use Rattle.std.specs.Prelude.{◌≡◌, nat_lt, if◌then◌else◌};
 ghost use Rattle.model.specs.Capabilities.CapabilityKinds.{is_untyped};
 ghost use Rattle.typestate.specs.Differences.{slots_of};
-ghost use Rattle.typestate.specs.SlotChanges.{is_removed, noted_depth, noted_descends, noted_outside, noted_parent};
+ghost use Rattle.typestate.specs.SlotChanges.{noted_depth, noted_parent};
 
-use crate::slot_changes::Removed;
 use crate::{NotedSlots, SlotKey};
 use model::Cap;
 
@@ -51,50 +50,5 @@ impl NotedSlots<'_> {
             }
         }
         false
-    }
-
-    /// Whether a slot was derived from another, through at most 256 slots.
-    fn descends(&self, root: SlotKey, key: SlotKey) -> bool
-        ensures { result ≡ noted_descends 256 (slots_of self.now) root key }
-    {
-        let mut place = key;
-        for _ in 0..MOST {
-            match self.parent(place) {
-                Some(parent) => place = parent,
-                None => return false,
-            }
-            if place.is_same(root) {
-                return true;
-            }
-        }
-        false
-    }
-
-    /// Whether the slot of this key is one of those that go.
-    pub(crate) fn is_removed(&self, which: &Removed, key: SlotKey) -> bool
-        ensures { result ≡ is_removed (slots_of self.now) which.now key }
-    {
-        match which {
-            Removed::One(gone) => gone.is_same(key),
-            Removed::Below(root) => self.descends(*root, key),
-        }
-    }
-
-    /// The nearest slot that stays of a line of parents.
-    pub(crate) fn outside(&self, which: &Removed, first: Option<SlotKey>) -> Option<SlotKey>
-        ensures { result ≡ noted_outside 256 (is_removed (slots_of self.now) which.now) (slots_of self.now) first }
-    {
-        let mut parent = first;
-        for _ in 0..MOST {
-            let key = match parent {
-                Some(key) => key,
-                None => return None,
-            };
-            if !self.is_removed(which, key) {
-                return Some(key);
-            }
-            parent = self.parent(key);
-        }
-        None
     }
 }

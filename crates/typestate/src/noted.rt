@@ -45,7 +45,7 @@ impl NotedSlots<'_> {
 }
 
 /// The slot of this key in a list whose keys rise.
-fn listed(slots: &[NotedSlot], key: SlotKey) -> Option<NotedSlot>
+pub(crate) fn listed(slots: &[NotedSlot], key: SlotKey) -> Option<NotedSlot>
     requires { Rise slots.now }
     ensures { result ≡ slot_at slots.now key }
 {

@@ -8,11 +8,11 @@ use Rattle.typestate.proofs.OwnChanges.{any-own, hold-own}
 use Rattle.typestate.proofs.Rising.{from-first}
 use Rattle.typestate.proofs.SomeHeld.{changes-held}
 use Rattle.typestate.proofs.UnlinkedSlots.{none-stays}
-use Rattle.typestate.proofs.points.NotedSlots.has_kept.Goals as goal
+use Rattle.typestate.proofs.removal.Removal.has_kept.Goals as goal
 
 pub returns : goal.returns
 returns c =
-    let n : NotedSlots = c.args.self.now in
-    let test : NotedSlot → Bool = kept_child (slots_of n) c.args.which.now c.args.key in
+    let n : NotedSlots = c.args.self.now.slots in
+    let test : NotedSlot → Bool = kept_child (slots_of n) c.args.self.now.which c.args.key in
     let first = from-first n.image.now n.rising in
-    c.one_stays.ensures ∙ any-own test (slots_of n) n.changes.now (hold-own n.image.now n.changes.now 0 (from-first n.changes.now n.ordered)) ∙ changes-held test n.image.now n.changes.now first (none-stays (slots_of n) c.args.which.now c.args.key n.image.now n.unlinked)
+    c.one_stays.ensures ∙ any-own test (slots_of n) n.changes.now (hold-own n.image.now n.changes.now 0 (from-first n.changes.now n.ordered)) ∙ changes-held test n.image.now n.changes.now first (none-stays (slots_of n) c.args.self.now.which c.args.key n.image.now n.unlinked)

@@ -8,11 +8,11 @@ use Rattle.typestate.proofs.OwnChanges.{any-own, hold-own}
 use Rattle.typestate.proofs.Rising.{from-first}
 use Rattle.typestate.proofs.SomeHeld.{changes-held}
 use Rattle.typestate.proofs.UnlinkedSlots.{none-goes}
-use Rattle.typestate.proofs.points.NotedSlots.has_lost.Goals as goal
+use Rattle.typestate.proofs.removal.Removal.has_lost.Goals as goal
 
 pub returns : goal.returns
 returns c =
-    let n : NotedSlots = c.args.self.now in
-    let test : NotedSlot → Bool = λ s. is_removed (slots_of n) c.args.which.now s.key && is_parent c.args.key s.parent in
+    let n : NotedSlots = c.args.self.now.slots in
+    let test : NotedSlot → Bool = λ s. is_removed (slots_of n) c.args.self.now.which s.key && is_parent c.args.key s.parent in
     let first = from-first n.image.now n.rising in
-    c.one_goes.ensures ∙ any-own test (slots_of n) n.changes.now (hold-own n.image.now n.changes.now 0 (from-first n.changes.now n.ordered)) ∙ changes-held test n.image.now n.changes.now first (none-goes (slots_of n) c.args.which.now c.args.key n.image.now n.unlinked)
+    c.one_goes.ensures ∙ any-own test (slots_of n) n.changes.now (hold-own n.image.now n.changes.now 0 (from-first n.changes.now n.ordered)) ∙ changes-held test n.image.now n.changes.now first (none-goes (slots_of n) c.args.self.now.which c.args.key n.image.now n.unlinked)

@@ -2,8 +2,8 @@
 use Rattle.std.proofs.Common.{◌≡◌, ◌-◌}
 use Rattle.typestate.specs.Differences.{slots_of}
 use Rattle.typestate.specs.SlotChanges.{is_removed, noted_outside}
-use Rattle.typestate.proofs.points.NotedSlots.outside.Given as goal
+use Rattle.typestate.proofs.removal.Removal.outside.Given as goal
 
 abbrev pub invariant-loop : goal.invariant-loop
 invariant-loop l =
-    noted_outside 256 (is_removed (slots_of l.self) l.which) (slots_of l.self) l.fn.first ≡ noted_outside (256 - l.counter) (is_removed (slots_of l.self) l.which) (slots_of l.self) l.parent
+    noted_outside 256 (is_removed (slots_of l.self.slots) l.self.which) (slots_of l.self.slots) l.fn.first ≡ noted_outside (256 - l.counter) (is_removed (slots_of l.self.slots) l.self.which) (slots_of l.self.slots) l.parent

@@ -1,0 +1,16 @@
+-- Slots that go from the slots at a point.
+use Rattle.std.specs.Prelude.{Bool, List}
+use Rattle.model.specs.Acceptance.NotedStates.{NotedSlot, SlotKey, is_same_key}
+use Rattle.typestate.specs.declared.removal.Removal.{Removal}
+use Rattle.typestate.specs.declared.slot_changes.Removed.{Removed}
+use Rattle.typestate.specs.declared.slot_changes.Removed.TheVariants.{One, Below}
+use Rattle.typestate.specs.Differences.{slots_of}
+use Rattle.typestate.specs.SlotChanges.{is_parent, is_removed, noted_parent}
+
+abbrev pub gone_by : Removal → SlotKey → Bool
+gone_by r = is_removed (slots_of r.slots) r.which
+
+-- whether a slot that stays may lose children
+abbrev pub may_lose : List NotedSlot → Removed → SlotKey → Bool
+may_lose slots (One gone) key = is_parent key (noted_parent slots gone)
+may_lose slots (Below root) key = is_same_key key root

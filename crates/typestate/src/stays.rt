@@ -1,0 +1,228 @@
+//! What becomes of the slots at a point where some go.
+//! seL4 Reference Manual, "Deletion, Revocation, and Recycling".
+
+ghost use Rattle.std.specs.Prelude.{◌≡◌, ◌&&◌, ◌||◌, ◌++◌, IfOk, false, flat_map};
+ghost use Rattle.std.specs.List.{list_any};
+ghost use Rattle.std.specs.Option.{option_map_or};
+ghost use Rattle.model.specs.Capabilities.CapabilityKinds.{is_untyped};
+ghost use Rattle.model.specs.Capabilities.CapabilityWords.{IsCapability};
+ghost use Rattle.typestate.specs.ChangeLists.{kept_child, named_by, removal_change, told_at, told_of};
+ghost use Rattle.typestate.specs.Differences.{left_by, slots_of};
+ghost use Rattle.typestate.specs.Removals.{gone_by, may_lose};
+ghost use Rattle.typestate.specs.SlotChanges.{cap_left, is_parent, loses_children, noted_outside, slot_left};
+
+use crate::change_lists::{emptied, is_parent};
+use crate::noted::{left, listed};
+use crate::removal::Removal;
+use crate::{NotedSlot, Removed, SlotKey};
+use model::Cap;
+use std::alloc::AllocError;
+
+/// How many slots of a line of parents are looked at: none of the kernel's is longer.
+const MOST: u32 = 256;
+
+impl Removal<'_, '_> {
+    /// Whether the slot of this key is one of those that go.
+    fn goes(&self, key: SlotKey) -> bool
+        ensures { result ≡ gone_by self.now key }
+    {
+        match self.which {
+            Removed::One(gone) => gone.is_same(key),
+            Removed::Below(_) => listed(self.below, key).is_some(),
+        }
+    }
+
+    /// The nearest slot that stays of a line of parents.
+    fn outside(&self, first: Option<SlotKey>) -> Option<SlotKey>
+        ensures { result ≡ noted_outside 256 (gone_by self.now) (slots_of self.now.slots) first }
+    {
+        let mut parent = first;
+        for _ in 0..MOST {
+            let key = match parent {
+                Some(key) => key,
+                None => return None,
+            };
+            if !self.goes(key) {
+                return Some(key);
+            }
+            parent = self.slots.parent(key);
+        }
+        None
+    }
+
+    /// Whether what a slot holds is a child of the slot of this key, and goes.
+    fn goes_from(&self, held: Option<NotedSlot>, key: SlotKey) -> bool
+        ensures { result ≡ option_map_or (λ s. gone_by self.now s.key && is_parent key s.parent) held false }
+    {
+        match held {
+            Some(slot) => self.goes(slot.key) && is_parent(key, slot.parent),
+            None => false,
+        }
+    }
+
+    /// Whether what a slot holds stays, and is then a child of the slot of this key.
+    #[tactic(auto, unfolding(crate::specs::ChangeLists::kept_child))]
+    fn stays_below(&self, held: Option<NotedSlot>, key: SlotKey) -> bool
+        ensures { result ≡ option_map_or (kept_child (slots_of self.now.slots) self.now.which key) held false }
+    {
+        match held {
+            Some(slot) => { !self.goes(slot.key) && is_parent(key, self.outside(slot.parent)) }
+            None => false,
+        }
+    }
+
+    /// Whether what one of these changes leaves is a child of the slot of this key, and goes.
+    fn one_goes(&self, changes: &[NotedSlot], key: SlotKey) -> bool
+        ensures { result ≡ list_any (λ c. option_map_or (λ s. gone_by self.now s.key && is_parent key s.parent) (left_by c) false) changes.now }
+    {
+        changes
+            .iter()
+            .any(|change| self.goes_from(left(*change), key))
+    }
+
+    /// Whether what one of these changes leaves stays, and is then a child of the slot of this key.
+    fn one_stays(&self, changes: &[NotedSlot], key: SlotKey) -> bool
+        ensures { result ≡ list_any (λ c. option_map_or (kept_child (slots_of self.now.slots) self.now.which key) (left_by c) false) changes.now }
+    {
+        changes
+            .iter()
+            .any(|change| self.stays_below(left(*change), key))
+    }
+
+    /// Whether a child of the slot of this key goes. What the image lists is no child.
+    fn has_lost(&self, key: SlotKey) -> bool
+        ensures { result ≡ list_any (λ s. gone_by self.now s.key && is_parent key s.parent) (slots_of self.now.slots) }
+    {
+        self.one_goes(self.slots.changes, key)
+    }
+
+    /// Whether a child of the slot of this key stays. What the image lists is no child.
+    fn has_kept(&self, key: SlotKey) -> bool
+        ensures { result ≡ list_any (kept_child (slots_of self.now.slots) self.now.which key) (slots_of self.now.slots) }
+    {
+        self.one_stays(self.slots.changes, key)
+    }
+
+    /// Whether a child of the slot of this key, which stays, may go: only that of which the one slot that goes was derived, or that
+    /// from which all that goes descends, loses children.
+    fn may_lose(&self, key: SlotKey) -> bool
+        ensures { result ≡ may_lose (slots_of self.now.slots) self.now.which key }
+    {
+        match self.which {
+            Removed::One(gone) => is_parent(key, self.slots.parent(gone)),
+            Removed::Below(root) => key.is_same(root),
+        }
+    }
+
+    /// Whether a child of the slot of this key, which stays, goes, and none is left.
+    #[tactic(auto, unfolding(crate::specs::ChangeLists::kept_child))]
+    fn loses_children(&self, key: SlotKey) -> bool
+        requires stays { gone_by self.now key ≡ false }
+        ensures { result ≡ loses_children (gone_by self.now) (slots_of self.now.slots) key }
+    {
+        self.may_lose(key) && self.has_lost(key) && !self.has_kept(key)
+    }
+
+    /// The capability that is left in a slot: a pool that loses its last child is unused again.
+    fn cap_left(&self, key: SlotKey, capability: Cap) -> Cap
+        requires stays { gone_by self.now key ≡ false }
+        requires valid { IsCapability capability }
+        ensures value { result ≡ cap_left (gone_by self.now) (slots_of self.now.slots) key capability }
+        ensures valid { IsCapability result }
+    {
+        match capability {
+            Cap::Untyped { offset, bits, .. } if self.loses_children(key) => Cap::Untyped {
+                offset,
+                bits,
+                watermark: 0,
+            },
+            other => other,
+        }
+    }
+
+    /// Whether what a slot was derived from goes.
+    fn is_orphan(&self, parent: Option<SlotKey>) -> bool
+        ensures { result ≡ option_map_or (gone_by self.now) parent false }
+    {
+        match parent {
+            Some(parent) => self.goes(parent),
+            None => false,
+        }
+    }
+
+    /// Whether a slot that stays may change: what it was derived from goes, or it is a pool.
+    fn may_change(&self, slot: NotedSlot) -> bool
+        ensures { result ≡ (option_map_or (gone_by self.now) slot.parent false || is_untyped slot.capability) }
+    {
+        self.is_orphan(slot.parent) || matches!(slot.capability, Cap::Untyped { .. })
+    }
+
+    /// What becomes of a slot that stays.
+    fn slot_left(&self, slot: NotedSlot) -> NotedSlot
+        requires stays { gone_by self.now slot.key ≡ false }
+        ensures { result ≡ slot_left (gone_by self.now) (slots_of self.now.slots) slot }
+    {
+        NotedSlot {
+            key: slot.key,
+            capability: self.cap_left(slot.key, slot.capability),
+            parent: self.outside(slot.parent),
+        }
+    }
+}
+
+impl Removal<'_, '_> {
+    /// Appends what becomes of a full slot where some go.
+    fn note_removed(&self, slot: NotedSlot, made: &mut Vec<NotedSlot>) -> Result<(), AllocError>
+        ensures { IfOk result (λ _. made.new.items ≡ made.old.items ++ removal_change (gone_by self.now) (slots_of self.now.slots) slot) }
+    {
+        if self.goes(slot.key) {
+            made.push(emptied(slot.key))?;
+        } else if self.may_change(slot) {
+            made.push(self.slot_left(slot))?;
+        }
+        Ok(())
+    }
+
+    /// Appends what becomes of the slot of a key where some go.
+    fn note_removal_at(&self, key: SlotKey, made: &mut Vec<NotedSlot>) -> Result<(), AllocError>
+        ensures { IfOk result (λ _. made.new.items ≡ made.old.items ++ told_at (removal_change (gone_by self.now) (slots_of self.now.slots)) (slots_of self.now.slots) key) }
+    {
+        if let Some(slot) = self.slots.at(key) {
+            self.note_removed(slot, made)?;
+        }
+        Ok(())
+    }
+
+    /// Appends what becomes of the slots that are named where some go: the one that goes and what it was derived from, or the one
+    /// from which all that goes descends.
+    pub(crate) fn note_named(&self, made: &mut Vec<NotedSlot>) -> Result<(), AllocError>
+        ensures { IfOk result (λ _. made.new.items ≡ made.old.items ++ flat_map (told_at (removal_change (gone_by self.now) (slots_of self.now.slots)) (slots_of self.now.slots)) (named_by (slots_of self.now.slots) self.now.which)) }
+    {
+        match self.which {
+            Removed::One(gone) => {
+                self.note_removal_at(gone, made)?;
+                if let Some(parent) = self.slots.parent(gone) {
+                    self.note_removal_at(parent, made)?;
+                }
+            }
+            Removed::Below(root) => self.note_removal_at(root, made)?,
+        }
+        Ok(())
+    }
+
+    /// Appends what becomes of what these changes leave where some slots go.
+    pub(crate) fn note_removals(
+        &self,
+        changes: &[NotedSlot],
+        made: &mut Vec<NotedSlot>,
+    ) -> Result<(), AllocError>
+        ensures { IfOk result (λ _. made.new.items ≡ made.old.items ++ flat_map (told_of (removal_change (gone_by self.now) (slots_of self.now.slots))) changes.now) }
+    {
+        for change in changes {
+            if let Some(slot) = left(*change) {
+                self.note_removed(slot, made)?;
+            }
+        }
+        Ok(())
+    }
+}
