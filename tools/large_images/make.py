@@ -361,7 +361,7 @@ GROWING = {
     "chain": lambda share: image_of([quiet_program(1024)], chain=4064 // share),
     "fan": lambda share: image_of([copying_program(16000 // share, False)], radix=14, pool=12),
     "descents": lambda share: image_of([copying_program(16000 // share, True)], radix=14, pool=12),
-    "deletes": lambda share: image_of([deleting_program(7200 // share)], radix=14, pool=12),
+    "deletes": lambda share: image_of([deleting_program(6000 // share)], radix=14, pool=12),
     "revokes": lambda share: image_of([revoking_program(16000 // share)], listed=16000 // share, radix=14, pool=12),
     "searches": lambda share: image_of([searching_program(8000 // share)], radix=14, pool=12),
     "retypes": lambda share: image_of([retyping_program(16000 // share)], radix=14, pool=18),
