@@ -1,0 +1,13 @@
+//! Damaged images: each beginning of a sample and each sample with a byte changed is refused by its name, or
+//! accepted and then free of faults and errors. The counts agree with those of `tools/damage/reckon.py`, which was
+//! written from the format and the rules alone.
+#![tactic(auto)]
+
+#[cfg(test)]
+mod cuts;
+#[cfg(test)]
+mod outcomes;
+#[cfg(test)]
+mod samples;
+#[cfg(test)]
+mod turns;
