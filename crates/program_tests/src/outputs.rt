@@ -1,8 +1,10 @@
 //! Sinks that take little.
 
+ghost use Rattle.std.specs.Prelude.{Some, []};
+
 use crate::files::bell;
 use model::Event;
-use runner::{MemorySink, RunFault, Sink, events, run};
+use runner::{MemorySink, RunFault, Sink, SinkFault, events, put_all, run, run_unverified};
 use std::process::Abort;
 use std::test::Fail;
 
@@ -33,6 +35,56 @@ fn an_output_that_fails_holds_a_beginning(rt: HostRuntime) -> Result<(), Fail> {
         let beginning = whole.get(..room).ok_or("the room is within")?;
         puts(&rt, &events, room, beginning, true)?;
     }
+    Ok(())
+}
+
+/// A sink that answers of each piece that it took 0 bytes of it, and has failed so many times before.
+#[derive(Drop)]
+struct Full {
+    failures: u64,
+}
+
+impl Sink for Full {
+    ghost contents = { λ _. Some [] };
+
+    ghost failures = { λ sink. sink.failures };
+
+    fn put(&mut self, piece: &[u8]) -> Result<usize, SinkFault> {
+        if !piece.is_empty() {
+            self.failures = self.failures.saturating_add(1);
+        }
+        Ok(0)
+    }
+
+    fn failures(&self) -> u64 {
+        self.failures
+    }
+}
+
+#[test]
+fn an_output_that_takes_no_byte_is_told_and_counted(rt: HostRuntime) -> Result<(), Fail> {
+    let image = bell(rt.alloc())?;
+    let events = [Event::Step; 3];
+    for (before, behind) in [(0, 1), (u64::MAX - 1, u64::MAX), (u64::MAX, u64::MAX)] {
+        let mut sink = Full { failures: before };
+        let answer = run(rt.alloc(), image.as_slice(), &events, &mut sink);
+        assert_eq!(rt; answer, Err(RunFault::Output));
+        assert_eq!(rt; sink.failures(), behind);
+    }
+    let mut sink = Full { failures: 0 };
+    let answer = run_unverified(rt.alloc(), image.as_slice(), &events, &mut sink);
+    assert_eq!(rt; answer, Err(RunFault::Output));
+    assert_eq!(rt; sink.failures(), 1);
+    Ok(())
+}
+
+#[test]
+fn nothing_is_no_failure(rt: HostRuntime) -> Result<(), Fail> {
+    let mut sink = Full { failures: 0 };
+    assert_eq!(rt; put_all(&mut sink, b""), Ok(()));
+    let image = bell(rt.alloc())?;
+    assert_eq!(rt; run(rt.alloc(), image.as_slice(), &[], &mut sink), Ok(()));
+    assert_eq!(rt; sink.failures(), 0);
     Ok(())
 }
 
