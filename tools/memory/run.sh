@@ -57,7 +57,7 @@ for words in "verify $bell.img" "run $bell.img $bell.events" "run --unverified $
             fi
         done
     done
-    [ "$(answer 0 off "$program" $words)" = "$whole" ] || bad=$((bad + 1))
+    [ "$told" != 0 ] && [ "$(answer 0 off "$program" $words)" = "$whole" ] || bad=$((bad + 1))
     echo "$words: $asked allocations; $told times \`memory\`, $lines times a line, $without times the whole answer"
 done
 
