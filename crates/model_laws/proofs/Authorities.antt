@@ -2,9 +2,12 @@
 use Rattle.std.proofs.Common.{ℕ, ◌≡◌, ◌≢◌, ◌⊎◌, ◌≤◌, ◌++◌, Bool, true, not, if◌then◌else◌, Option, Some, None, List, [], ◌∷◌, Contains, refl, sym, ◌∙◌, ap, subst, inl, inr, arith, bit_and, eq-eqb, lit<, ◌==◌}
 use Rattle.std.proofs.lemmas.Bool.{ne_eqb}
 use Rattle.model.specs.declared.capabilities.Cap.{Cap}
-use Rattle.model.specs.declared.capabilities.Cap.TheVariants.{Empty, Endpoint, InterruptControl, InterruptHandler, Untyped}
+use Rattle.model.specs.declared.capabilities.Cap.TheVariants.{Empty, Endpoint, Frame, InterruptControl, InterruptHandler, Untyped}
+use Rattle.model.specs.declared.capabilities.FrameMapping.{FrameMapping}
 use Rattle.model.specs.declared.rights.Rights.{Rights}
-use Rattle.model.specs.Acceptance.Authority.{Covers, Granted, held, appeared, pool, handler, control, IsUntypedAround, ReadyChange, WithinAuthority, rights_of, badge_of, without_use}
+use Rattle.model.specs.Acceptance.Authority.{Covers, Granted, held, appeared, pool, handler, made_handler, control, given, moved_along, IsUntypedAround, ReadyChange, WithinAuthority, rights_of, badge_of, without_use}
+use Rattle.model.specs.Capabilities.CapabilityKinds.{frame_mapping}
+use Rattle.model.specs.Capabilities.Rights.{mapping_rights, rights}
 use Rattle.model.specs.Capabilities.Slots.{capability_at}
 use Rattle.model.specs.Images.Image.{Image, Thread}
 use Rattle.model.specs.Kernel.Kinds.{object_named}
@@ -51,6 +54,8 @@ granted-part image t s after offset r badge _ only (pool first bits watermark h)
     absurd (no_untyped offset r badge _ _ (capability_at s.slots h.slot) (only.slots h.slot h.own) h.such)
 granted-part image t s after offset r badge _ only (handler number h) =
     absurd (no_handler offset r badge number (capability_at s.slots h.slot) (only.slots h.slot h.own) h.such)
+granted-part image t s after offset r badge _ only (made_handler number less h) =
+    absurd (no_control offset r badge (capability_at s.slots h.slot) (only.slots h.slot h.own) h.such)
 granted-part image t s after offset r badge _ only (control h) =
     absurd (no_control offset r badge (capability_at s.slots h.slot) (only.slots h.slot h.own) h.such)
 
@@ -116,6 +121,31 @@ itself_there self less =
     let same : (self == self) ≡ true = eq-eqb self self refl in
     let one : times_in (self ∷ []) self ≡ 1 = rw same refl in
     omega (arith, less, one)
+
+pub not_nowhere : (self : ℕ) → times_in (self ∷ []) self ≡ times_in [] self → ⊥
+not_nowhere self none = itself_there self (omega (arith, none))
+
+-- ---- mappings
+
+-- what a mapping that is new gets from a frame of which the thread holds this capability alone, unmapped
+pub mapping-rights : (image : Image) (t : Thread) (s after : State) (slot offset : ℕ) (r : Rights) (mapping : FrameMapping) → HoldsOnly image t s (Frame offset r None)
+    → capability_at s.slots slot ≡ Frame offset r None → capability_at after.slots slot ≡ Frame offset r (Some mapping)
+    → WithinAuthority image t s after → (word : ℕ) × (mapping.rights ≡ mapping_rights r word)
+mapping-rights image t s after slot offset r mapping only before behind within =
+    let fresh : frame_mapping (capability_at s.slots slot) ≢ Some mapping = λ same. let e : None ≡ Some mapping = sym (ap frame_mapping before) ∙ same in cc in
+    elim (within.mapped slot mapping fresh (ap frame_mapping behind)) [
+      | given word is ↦ (word, is ∙ ap (λ (c : Cap). mapping_rights (rights_of c) word) behind)
+      | moved_along h ↦ elim (only.slots h.slot h.own) [
+        | inl none ↦ let e : Empty ≡ Frame offset r (Some mapping) = sym none ∙ h.such ∙ behind in absurd cc
+        | inr same ↦ let e : Frame offset r None ≡ Frame offset r (Some mapping) = sym same ∙ h.such ∙ behind in absurd cc
+      ]
+    ]
+
+pub no_write : (word : ℕ) → rights 3 ≡ mapping_rights (rights 2) word → ⊥
+no_write word is = let e : 3 ≡ (mapping_rights (rights 2) word).0 = ap (λ (r : Rights). r.0) is in omega (arith, e)
+
+pub no_execute : (word : ℕ) → rights 4 ≡ mapping_rights (rights 1) word → ⊥
+no_execute word is = let e : 4 ≡ (mapping_rights (rights 1) word).0 = ap (λ (r : Rights). r.0) is in omega (arith, e)
 
 -- a part of an endpoint is a capability to an endpoint
 abbrev pub kind_named : Option (NewObject × ℕ) → NewObject

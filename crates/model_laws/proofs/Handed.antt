@@ -5,19 +5,20 @@ use Rattle.std.specs.Option.{option_map_or}
 use Rattle.std.proofs.lemmas.Bool.{eq-eqb, ne_eqb}
 use Rattle.std.proofs.lemmas.Bool.Decides.{eqb_tells}
 use Rattle.std.proofs.lemmas.List.Elements.{filter-append}
-use Rattle.model.specs.Acceptance.Authority.{Holds, IsWoken, ReadyChange, WithinAuthority, self_of}
+use Rattle.model.specs.Acceptance.Authority.{CallNames, Holds, IsWoken, ReadyChange, RightChange, kept, WithinAuthority, self_of}
 use Rattle.model.specs.Images.Image.{Image, Thread}
 use Rattle.model.specs.Kernel.Deliveries.{Reason, woken}
 use Rattle.model.specs.Kernel.Kinds.{Names, kind_at, kind_of}
 use Rattle.model.specs.Kernel.Messages.{passes, passes_with}
-use Rattle.model.specs.Kernel.Retype.{NewEndpoint, NewNotification}
+use Rattle.model.specs.Kernel.Retype.{NewEndpoint, NewNotification, NewThread}
 use Rattle.model.specs.Kernel.Scheduling.{full_slice, is_runnable, to_tail, wake}
 use Rattle.model.specs.Kernel.State.{State, Runnable, Object, ThreadObject, EndpointObject, NotificationObject, EndpointState, NotificationState, ThreadState, as_thread, new_thread, thread_at, with_object, with_thread}
 use Rattle.model.specs.Machine.Effects.{advanced}
 use Rattle.model.specs.Machine.ProgramMemory.{RegisterFile}
 use Rattle.model.specs.Shared.Lists.{times_in, without}
+use Rattle.model_laws.proofs.Below.{thread-kind}
 use Rattle.model_laws.proofs.Interrupted.{without-absent}
-use Rattle.model_laws.proofs.PlainSteps.{append-none}
+use Rattle.model_laws.proofs.PlainSteps.{append-none, right-between}
 use Rattle.model_laws.proofs.ReadyLists.{times-end}
 
 -- ---- lists
@@ -37,13 +38,13 @@ one-most x thread = elim (x == thread) as (λ (b : Bool). (if b then 0 + 1 else 
 -- ---- places
 
 -- an offset is that of the thread itself, of the other thread, of the object between them, or of none of these
-data Place (self other base offset : ℕ) : Type 0 where
+pub data Place (self other base offset : ℕ) : Type 0 where
   at_self : offset ≡ self → Place self other base offset
   at_other : offset ≡ other → offset ≢ self → Place self other base offset
   at_base : offset ≡ base → offset ≢ self → offset ≢ other → Place self other base offset
   away : offset ≢ self → offset ≢ other → offset ≢ base → Place self other base offset
 
-place : (self other base offset : ℕ) → Place self other base offset
+pub place : (self other base offset : ℕ) → Place self other base offset
 place self other base offset = elim (eqb_tells offset self) [
   | inl one ↦ at_self one.1
   | inr not_one ↦ elim (eqb_tells offset other) [
@@ -74,6 +75,7 @@ pub record MayHand (image : Image) (t : Thread) (s : State) (base : ℕ) (held :
   pub absent : (priority : ℕ) → times_in (s.ready priority) other ≡ 0
   pub kind : kind_at s base ≡ Some (kind_of held)
   pub thread : (u : ThreadState) → held ≡ ThreadObject u → base ≡ self_of image t
+  pub right : (u : ThreadState) → held ≡ ThreadObject u → RightChange image t s own.caller u.caller
   pub endpoint : (e : EndpointState) → held ≡ EndpointObject e → Holds image t s (Names NewEndpoint base)
   pub notification : (n : NotificationState) → held ≡ NotificationObject n → Holds image t s (Names NewNotification base)
 
@@ -176,6 +178,23 @@ module _ (image : Image) (t : Thread) (s : State) (base : ℕ) (held : Object) (
     | away not_self not_other not_base ↦ ap (option_map kind_of) (sym (beyond offset not_self not_other not_base))
   ]
 
+  -- the thread's own right to reply: that of the object between them, where this is the thread itself
+  caller_of : Option Object → Option ℕ
+  caller_of o = (option_map_or (λ (v : ThreadState). v) (as_thread o) new_thread).caller
+
+  own-right : RightChange image t s may.own.caller last.caller
+  unfolding last caller_of
+  own-right = elim (eqb_tells self base) [
+    | inl here ↦
+        let there : moved.objects self ≡ Some held = moved-elsewhere self (λ e. may.apart (sym e)) ∙ ap (λ (b : Bool). if b then Some held else s.objects self) here.0 in
+        let kind : option_map kind_of (Some held) ≡ Some NewThread = sym may.kind ∙ sym (ap (kind_at s) here.1) ∙ ap (option_map kind_of) may.is in
+        let thread = thread-kind (Some held) kind in
+        let same : held ≡ ThreadObject thread.0 = let e : Some held ≡ Some (ThreadObject thread.0) = thread.1 in cc in
+        subst (λ (c : Option ℕ). RightChange image t s may.own.caller c) (sym (ap caller_of (there ∙ thread.1))) (may.right thread.0 same)
+    | inr apart ↦
+        kept (ap caller_of (moved-elsewhere self (λ e. may.apart (sym e)) ∙ ap (λ (b : Bool). if b then Some held else s.objects self) apart.0 ∙ may.is))
+  ]
+
   -- ---- the ready list
 
   tail : ℕ
@@ -243,7 +262,7 @@ module _ (image : Image) (t : Thread) (s : State) (base : ℕ) (held : Object) (
 
   -- ---- all together
 
-  pub handed-within : Reason s (handed s (self_of image t) base held other hands) (self_of image t) (Holds image t s) other waiter (woken waiter (advanced (hands waiter.registers)))
+  pub handed-within : Reason s (handed s (self_of image t) base held other hands) (self_of image t) (CallNames image t s) other waiter (woken waiter (advanced (hands waiter.registers)))
       → WithinAuthority image t s (handed s (self_of image t) base held other hands)
   unfolding after changed
   handed-within reason = record {
@@ -254,6 +273,7 @@ module _ (image : Image) (t : Thread) (s : State) (base : ℕ) (held : Object) (
     slots = λ slot differs. absurd (differs refl);
     frame_mappings = λ slot mapping differs either. absurd (differs refl);
     table_mappings = λ slot mapping differs either. absurd (differs refl);
+    mapped = λ slot mapping fresh there. absurd (fresh there);
     capabilities = λ slot differs some. absurd (differs refl);
     endpoints = λ offset old new before behind differs. elim (place self other base offset) [
       | at_self here ↦
@@ -285,6 +305,7 @@ module _ (image : Image) (t : Thread) (s : State) (base : ℕ) (held : Object) (
           let e : Some (NotificationObject old) ≡ Some (NotificationObject new) = sym before ∙ sym (beyond offset not_self not_other not_base) ∙ behind in
           let f : old ≡ new = cc in absurd (differs f)
     ];
+    right = right-between image t s after may.own last may.is at-self own-right;
     threads = λ x old new not_self before behind differs. elim (place self other base x) [
       | at_self here ↦ absurd (not_self here)
       | at_other here _ ↦
@@ -294,9 +315,9 @@ module _ (image : Image) (t : Thread) (s : State) (base : ℕ) (held : Object) (
           let f : Some (ThreadObject changed) ≡ Some (ThreadObject new) = sym at-other ∙ ap after.objects (sym here) ∙ behind in
           let is : ThreadObject changed ≡ ThreadObject new = cc in
           let is_thread : changed ≡ new = cc in
-          subst (λ (y : ℕ). Reason s after self (Holds image t s) y old new) (sym here)
-          (subst (λ (u : ThreadState). Reason s after self (Holds image t s) other u new) was_thread
-          (subst (λ (u : ThreadState). Reason s after self (Holds image t s) other waiter u) is_thread reason))
+          subst (λ (y : ℕ). Reason s after self (CallNames image t s) y old new) (sym here)
+          (subst (λ (u : ThreadState). Reason s after self (CallNames image t s) other u new) was_thread
+          (subst (λ (u : ThreadState). Reason s after self (CallNames image t s) other waiter u) is_thread reason))
       | at_base here apart not_other ↦
           let e : Some held ≡ Some (ThreadObject new) = sym (at-base x here apart not_other) ∙ behind in
           let f : held ≡ ThreadObject new = cc in

@@ -8,7 +8,7 @@ use Rattle.model.specs.declared.capabilities.Cap.TheVariants.{Endpoint, Notifica
 use Rattle.model.specs.declared.errors.KError.TheVariants.{InvalidCapability}
 use Rattle.model.specs.declared.lookup_failures.LookupFailure.{LookupFailure}
 use Rattle.model.specs.declared.rights.Rights.{Rights}
-use Rattle.model.specs.Acceptance.Authority.{Holds, WithinAuthority, self_of}
+use Rattle.model.specs.Acceptance.Authority.{CallNames, dropped, WithinAuthority, self_of}
 use Rattle.model.specs.Capabilities.Rights.{may_grant_reply, may_write}
 use Rattle.model.specs.Images.Image.{Image, Thread}
 use Rattle.model.specs.Kernel.Deliveries.{by_right, as_before, Reason, receiver, woken, waiter as woken_waiter, caller as answered_caller}
@@ -22,7 +22,7 @@ use Rattle.model.specs.Kernel.Steps.{Sending, call_of, calls_known, refused, sen
 use Rattle.model.specs.Machine.Effects.{advanced}
 use Rattle.model.specs.Machine.ProgramMemory.{RegisterFile, read, write}
 use Rattle.model.specs.Shared.Lists.{times_in}
-use Rattle.soundness.proofs.Rest.{endpoint-kind, notification-kind}
+use Rattle.model_laws.proofs.Below.{endpoint-kind, notification-kind}
 use Rattle.model_laws.proofs.Handed.{MayHand, handed, handed-within}
 use Rattle.model_laws.proofs.Interrupted.{Waits, one-more, rests-nowhere, waits-own}
 use Rattle.model_laws.specs.Scenarios.{CallsOn, RepliesTo}
@@ -38,7 +38,7 @@ thread-beside s base held thread apart =
 -- ---- the calls
 
 -- the thread's number of the call
-number-is : (s : State) (thread : ℕ) (own : ThreadState) (number : ℕ) → s.objects thread ≡ Some (ThreadObject own) → read own.registers a7 ≡ number
+pub number-is : (s : State) (thread : ℕ) (own : ThreadState) (number : ℕ) → s.objects thread ≡ Some (ThreadObject own) → read own.registers a7 ≡ number
     → read (thread_at s thread).registers a7 ≡ number
 number-is s thread own number is calls = ap (λ (u : ThreadState). read u.registers a7) (at-place s thread own is) ∙ calls
 
@@ -51,7 +51,7 @@ sends-by image t s capability call =
     ∙ ap (λ (c : Cap). (send_by s (self_of image t) Sending call.slot c).0) call.holds
 
 -- who rests is another thread than who runs
-resting-apart : (s : State) (a b : ℕ) (one two : ThreadState) → s.objects a ≡ Some (ThreadObject one) → s.objects b ≡ Some (ThreadObject two)
+pub resting-apart : (s : State) (a b : ℕ) (one two : ThreadState) → s.objects a ≡ Some (ThreadObject one) → s.objects b ≡ Some (ThreadObject two)
     → is_runnable one.status ≡ false → two.status ≡ Runnable → a ≢ b
 resting-apart s a b one two is other rests runs same =
     let e : Some (ThreadObject one) ≡ Some (ThreadObject two) = sym is ∙ ap s.objects same ∙ other in
@@ -59,13 +59,13 @@ resting-apart s a b one two is other rests runs same =
     let g : one ≡ two = cc in
     let clash : false ≡ true = sym rests ∙ ap (λ (u : ThreadState). is_runnable u.status) g ∙ ap is_runnable runs in cc
 
-resting-absent : (s : State) → IsSound s → (thread : ℕ) (own : ThreadState) → s.objects thread ≡ Some (ThreadObject own) → is_runnable own.status ≡ false
+pub resting-absent : (s : State) → IsSound s → (thread : ℕ) (own : ThreadState) → s.objects thread ≡ Some (ThreadObject own) → is_runnable own.status ≡ false
     → (priority : ℕ) → times_in (s.ready priority) thread ≡ 0
 resting-absent s sound thread own is rests priority =
     sound.threads.ready thread priority ∙ ap (λ (b : Bool). if b then 1 else 0) (rests-nowhere s thread own is rests priority)
 
 -- the first of those that wait at an object
-first-waits : (s : State) → IsSound s → (queue thread : ℕ) (others : List ℕ) → waiting_at (s.objects queue) ≡ thread ∷ others → Waits s thread queue
+pub first-waits : (s : State) → IsSound s → (queue thread : ℕ) (others : List ℕ) → waiting_at (s.objects queue) ≡ thread ∷ others → Waits s thread queue
 first-waits s sound queue thread others standing =
     let law = sound.threads.queued thread queue in
     let count : times_in (waiting_at (s.objects queue)) thread ≡ times_in (thread ∷ others) thread = ap (λ (l : List ℕ). times_in l thread) standing in
@@ -115,6 +115,7 @@ module _ (image : Image) (t : Thread) (s : State) (sound : IsSound s) (endpoint 
     absent = resting-absent s sound first waits.own waits.is waits.rests;
     kind = there;
     thread = λ u f. absurd cc;
+    right = λ u f. absurd cc;
     endpoint = λ x f. record { slot = call.slot; own = call.among; such = ap object_named call.holds };
     notification = λ n f. absurd cc;
   }
@@ -128,12 +129,12 @@ module _ (image : Image) (t : Thread) (s : State) (sound : IsSound s) (endpoint 
       ap (λ (b : Bool). (if b then send_on s (self_of image t) Sending endpoint badge (may_grant_reply allowed) else refused s (self_of image t) Sending InvalidCapability).0) writes
       ∙ ap (λ (l : List ℕ). sends s endpoint (sender (self_of image t) BySend badge (may_grant_reply allowed)) l) list
 
-  reason : Reason s (handed s (self_of image t) endpoint shorter first hands) (self_of image t) (Holds image t s) first waits.own
+  reason : Reason s (handed s (self_of image t) endpoint shorter first hands) (self_of image t) (CallNames image t s) first waits.own
       (woken waits.own (advanced (hands waits.own.registers)))
   unfolding hands
   reason =
       receiver endpoint badge waits.own.caller (ap head_of list) waits.blocked
-      (record { slot = call.slot; own = call.among; such = record { allowed = allowed; is = call.holds; writes = writes } }) (as_before refl)
+      (record { slot = call.slot; own = call.among; named = call.named; such = record { allowed = allowed; is = call.holds; writes = writes } }) (as_before refl)
       (ap (λ (u : ThreadState). woken waits.own (advanced (delivered waits.own.registers badge (message_of u))))
       (thread-beside s endpoint shorter (self_of image t) (ne_eqb (self_of image t) endpoint (not_queue (self_of image t) call.own call.is))))
 
@@ -177,6 +178,7 @@ module _ (image : Image) (t : Thread) (s : State) (sound : IsSound s) (notificat
     absent = resting-absent s sound first rests.own rests.is rests.rests;
     kind = signalled;
     thread = λ u f. absurd cc;
+    right = λ u f. absurd cc;
     endpoint = λ x f. absurd cc;
     notification = λ n f. record { slot = call.slot; own = call.among; such = ap object_named call.holds };
   }
@@ -190,12 +192,12 @@ module _ (image : Image) (t : Thread) (s : State) (sound : IsSound s) (notificat
       ap (λ (b : Bool). (if b then signal_on s (self_of image t) Sending notification badge else refused s (self_of image t) Sending InvalidCapability).0) writes
       ∙ ap (λ (l : List ℕ). passes (signals s notification badge (notification_at s notification) l) (self_of image t)) list
 
-  wake_reason : Reason s (handed s (self_of image t) notification fewer first gives) (self_of image t) (Holds image t s) first rests.own
+  wake_reason : Reason s (handed s (self_of image t) notification fewer first gives) (self_of image t) (CallNames image t s) first rests.own
       (woken rests.own (advanced (gives rests.own.registers)))
   unfolding gives
   wake_reason =
       woken_waiter notification badge (ap head_of list) rests.blocked
-      (record { slot = call.slot; own = call.among; such = by_right allowed call.holds writes }) refl
+      (record { slot = call.slot; own = call.among; named = call.named; such = by_right allowed call.holds writes }) refl
 
   pub signal-within : WithinAuthority image t s (system_call s (self_of image t)).0
   signal-within =
@@ -225,6 +227,7 @@ module _ (image : Image) (t : Thread) (s : State) (sound : IsSound s) (other : �
     absent = resting-absent s sound other call.waiter call.there awaits;
     kind = ap (option_map kind_of) call.is;
     thread = λ u f. refl;
+    right = λ u f. let same : record (thread_at s (self_of image t)) { caller = None } ≡ u = cc in dropped (sym (ap (λ (v : ThreadState). v.caller) same));
     endpoint = λ x f. absurd cc;
     notification = λ n f. absurd cc;
   }

@@ -1,5 +1,5 @@
 -- An interrupt of a sound state stays within authority.
-use Rattle.std.proofs.Common.{ℕ, ◌≡◌, ◌≢◌, ◌==◌, ◌+◌, ◌≤◌, ◌++◌, ◌&&◌, Bool, true, false, not, nat_lt, if◌then◌else◌, Option, Some, None, List, [], ◌∷◌, refl, sym, ◌∙◌, ap, subst, inl, inr, arith}
+use Rattle.std.proofs.Common.{ℕ, ◌≡◌, ◌≢◌, ◌==◌, ◌+◌, ◌<◌, ◌≤◌, ◌++◌, ◌&&◌, Bool, true, false, not, nat_lt, if◌then◌else◌, Option, Some, None, List, [], ◌∷◌, refl, sym, ◌∙◌, ap, subst, inl, inr, arith}
 use Rattle.std.specs.Prelude.{bit_or}
 use Rattle.std.specs.Option.{option_map_or}
 use Rattle.std.proofs.lemmas.Bool.{eq-eqb, eqb-true, ne_eqb}
@@ -19,7 +19,7 @@ use Rattle.model.specs.Kernel.State.{State, Status, Inactive, Runnable, Blocked,
 use Rattle.model.specs.Machine.Effects.{advanced}
 use Rattle.model.specs.Machine.ProgramMemory.{write}
 use Rattle.model.specs.Shared.Lists.{times_in, without}
-use Rattle.soundness.proofs.Rest.{notification-kind}
+use Rattle.model_laws.proofs.Below.{notification-kind}
 use Rattle.model_laws.proofs.Ticks.{thread-object}
 
 -- ---- what a binding names
@@ -92,6 +92,7 @@ rests-nowhere s thread own is rests priority =
 
 unchanged : (number : ℕ) (s : State) → WithinInterrupt number s s
 unchanged number s = record {
+  beyond = λ far. refl;
   store = record { memory_bits = refl; boot_radix = refl; slots = λ slot. refl; bytes = λ place. refl };
   masked = λ other differs. refl;
   pending = λ other differs. refl;
@@ -99,8 +100,9 @@ unchanged number s = record {
   ready = λ priority. stays refl;
 }
 
-pends : (number : ℕ) (s : State) → WithinInterrupt number s (with_pending s number true)
-pends number s = record {
+pends : (number : ℕ) → (63 < number → ⊥) → (s : State) → WithinInterrupt number s (with_pending s number true)
+pends number near s = record {
+  beyond = λ far. absurd (near far);
   store = record { memory_bits = refl; boot_radix = refl; slots = λ slot. refl; bytes = λ place. refl };
   masked = λ other differs. refl;
   pending = λ other differs. ap (λ (b : Bool). if b then true else s.pending other) (ne_eqb other number differs);
@@ -108,10 +110,11 @@ pends number s = record {
   ready = λ priority. stays refl;
 }
 
-module _ (s : State) (sound : IsSound s) (number n badge : ℕ) (delivered : IsDelivered number s n badge) (old : NotificationState)
+module _ (s : State) (sound : IsSound s) (number n badge : ℕ) (near : 63 < number → ⊥) (delivered : IsDelivered number s n badge) (old : NotificationState)
     (there : s.objects n ≡ Some (NotificationObject old)) where
   joined : old.waiters ≡ [] → WithinInterrupt number s (record (with_notification s n (record old { word = bit_or old.word badge })) { masked = put s.masked number true })
   joined empty = record {
+    beyond = λ far. absurd (near far);
     store = record { memory_bits = refl; boot_radix = refl; slots = λ slot. refl; bytes = λ place. refl };
     masked = λ other differs. ap (λ (b : Bool). if b then true else s.masked other) (ne_eqb other number differs);
     pending = λ other differs. refl;
@@ -195,6 +198,7 @@ module _ (s : State) (sound : IsSound s) (number n badge : ℕ) (delivered : IsD
         λ priority. without-absent w (s.ready priority)
         (sound.threads.ready w priority ∙ ap (λ (b : Bool). if b then 1 else 0) (rests-nowhere s w own (Waits.is waits) (Waits.rests waits) priority)) in
         record {
+          beyond = λ far. absurd (near far);
           store = record { memory_bits = refl; boot_radix = refl; slots = λ slot. refl; bytes = λ place. refl };
           masked = λ other differs. ap (λ (b : Bool). if b then true else s.masked other) (ne_eqb other number differs);
           pending = λ other differs. refl;
@@ -227,34 +231,34 @@ module _ (s : State) (sound : IsSound s) (number n badge : ℕ) (delivered : IsD
           ];
         }
 
-signalled-within : (s : State) (sound : IsSound s) (number n badge : ℕ) (delivered : IsDelivered number s n badge) (old : NotificationState)
+signalled-within : (s : State) (sound : IsSound s) (number n badge : ℕ) (near : 63 < number → ⊥) (delivered : IsDelivered number s n badge) (old : NotificationState)
     (there : s.objects n ≡ Some (NotificationObject old)) (waiters : List ℕ) → old.waiters ≡ waiters
     → WithinInterrupt number s (record (signals s n badge old waiters) { masked = put s.masked number true })
-signalled-within s sound number n badge delivered old there [] list = joined s sound number n badge delivered old there list
-signalled-within s sound number n badge delivered old there (w ∷ others) list = woken-within s sound number n badge delivered old there w others list
+signalled-within s sound number n badge near delivered old there [] list = joined s sound number n badge near delivered old there list
+signalled-within s sound number n badge near delivered old there (w ∷ others) list = woken-within s sound number n badge near delivered old there w others list
 
 -- the notification is there, so the signal is one on it
-interrupted-within : (s : State) → IsSound s → (number n badge : ℕ) → s.masked number ≡ false → binding s number ≡ Some (signalling n badge)
+interrupted-within : (s : State) → IsSound s → (number n badge : ℕ) → (63 < number → ⊥) → s.masked number ≡ false → binding s number ≡ Some (signalling n badge)
     → WithinInterrupt number s (interrupt s number (signalling n badge))
-interrupted-within s sound number n badge unmasked bound =
+interrupted-within s sound number n badge near unmasked bound =
     let delivered : IsDelivered number s n badge = record { bound = bound; unmasked = unmasked } in
     let named = bound-is (capability_at s.slots (binding_slot s number)) n badge bound in
     let found = notification-kind (s.objects n) (sound.memory.named (binding_slot s number) NewNotification n named) in
     let own : notification_at s n ≡ found.0 = ap (λ (o : Option Object). option_map_or (λ (x : NotificationState). x) (as_notification o) new_notification) found.1 in
     subst (λ (x : NotificationState). WithinInterrupt number s (record (signals s n badge x x.waiters) { masked = put s.masked number true })) (sym own)
-    (signalled-within s sound number n badge delivered found.0 found.1 found.0.waiters refl)
+    (signalled-within s sound number n badge near delivered found.0 found.1 found.0.waiters refl)
 
-raised-by : (s : State) → IsSound s → (number : ℕ) → s.masked number ≡ false → (o : Option Signal) → binding s number ≡ o
+raised-by : (s : State) → IsSound s → (number : ℕ) → (63 < number → ⊥) → s.masked number ≡ false → (o : Option Signal) → binding s number ≡ o
     → WithinInterrupt number s (option_map_or (interrupt s number) o (with_pending s number true))
-raised-by s sound number unmasked None bound = pends number s
-raised-by s sound number unmasked (Some signal) bound = interrupted-within s sound number signal.notification signal.badge unmasked bound
+raised-by s sound number near unmasked None bound = pends number near s
+raised-by s sound number near unmasked (Some signal) bound = interrupted-within s sound number signal.notification signal.badge near unmasked bound
 
 pub raise-within : (s : State) → IsSound s → (number : ℕ) → WithinInterrupt number s (raise s number)
 raise-within s sound number =
-    elim (nat_lt 63 number) as (λ far. WithinInterrupt number s (if far then s else if s.masked number then with_pending s number true else option_map_or (interrupt s number) (binding s number) (with_pending s number true))) [
-      | true ↦ unchanged number s
-      | false ↦ elim (s.masked number) as (λ masked. s.masked number ≡ masked → WithinInterrupt number s (if masked then with_pending s number true else option_map_or (interrupt s number) (binding s number) (with_pending s number true))) [
-        | true ↦ λ is. pends number s
-        | false ↦ λ is. raised-by s sound number is (binding s number) refl
+    elim (nat_lt 63 number) as (λ far. nat_lt 63 number ≡ far → WithinInterrupt number s (if far then s else if s.masked number then with_pending s number true else option_map_or (interrupt s number) (binding s number) (with_pending s number true))) [
+      | true ↦ λ far. unchanged number s
+      | false ↦ λ not_far. let near : 63 < number → ⊥ = λ far. grind arith in elim (s.masked number) as (λ masked. s.masked number ≡ masked → WithinInterrupt number s (if masked then with_pending s number true else option_map_or (interrupt s number) (binding s number) (with_pending s number true))) [
+        | true ↦ λ is. pends number near s
+        | false ↦ λ is. raised-by s sound number near is (binding s number) refl
       ] refl
-    ]
+    ] refl

@@ -1,4 +1,5 @@
 pub mod Authorities
+pub mod Below
 pub mod ConstantMeasures
 pub mod Descents
 pub mod Handed
@@ -7,6 +8,8 @@ pub mod Interrupted
 pub mod LookupLaws
 pub mod MadeEndpoints
 pub mod MovedRanges
+pub mod NewHandlers
+pub mod NewMappings
 pub mod Opened
 pub mod Placements
 pub mod PlainSteps
@@ -14,8 +17,10 @@ pub mod RangesKept
 pub mod ReadyLists
 pub mod ReadySteps
 pub mod Reasons
+pub mod ReceivedCalls
 pub mod Removals
 pub mod Signs
 pub mod Spellings
+pub mod Stored
 pub mod Ticks
 pub mod WaitLaws

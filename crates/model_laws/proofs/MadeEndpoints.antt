@@ -7,7 +7,7 @@ use Rattle.model.specs.declared.capabilities.Cap.{Cap}
 use Rattle.model.specs.declared.capabilities.Cap.TheVariants.{Empty, Endpoint, Untyped}
 use Rattle.model.specs.declared.errors.KError.{KError}
 use Rattle.model.specs.declared.slot_entries.Entry.{Entry}
-use Rattle.model.specs.Acceptance.Authority.{Granted, appeared, IsOwnSlot, ObjectChange, appears, WithinAuthority, self_of, without_use}
+use Rattle.model.specs.Acceptance.Authority.{Granted, appeared, IsOwnSlot, ObjectChange, appears, RightChange, kept, WithinAuthority, self_of, without_use}
 use Rattle.model.specs.Capabilities.CapabilityKinds.{frame_mapping, table_mapping}
 use Rattle.model.specs.Capabilities.Rights.{endpoint_rights}
 use Rattle.model.specs.Capabilities.Slots.{capability_at, empty_entry, is_within, parent_at}
@@ -16,11 +16,11 @@ use Rattle.model.specs.Kernel.Kinds.{kind_at, kind_of}
 use Rattle.model.specs.Kernel.Messages.{passes}
 use Rattle.model.specs.Kernel.Retype.{NewEndpoint}
 use Rattle.model.specs.Kernel.Scheduling.{is_runnable}
-use Rattle.model.specs.Kernel.State.{State, Object, ThreadObject, EndpointObject, NotificationObject, ThreadState, as_thread, new_endpoint, thread_at}
+use Rattle.model.specs.Kernel.State.{State, Object, ThreadObject, EndpointObject, NotificationObject, ThreadState, as_thread, new_endpoint, new_thread, thread_at}
 use Rattle.model.specs.Kernel.Steps.{Sending, after_invocation, invokes, system_call}
 use Rattle.model.specs.Machine.Effects.{advanced}
 use Rattle.model.specs.Shared.Lists.{without}
-use Rattle.model_laws.proofs.PlainSteps.{append-none}
+use Rattle.model_laws.proofs.PlainSteps.{append-none, right-between}
 use Rattle.model_laws.proofs.HandingCalls.{sends-by}
 use Rattle.model_laws.specs.Scenarios.{CallsOn, MakesEndpoint, with_endpoint_made}
 
@@ -175,6 +175,10 @@ module _ (image : Image) (t : Thread) (s : State) (offset bits watermark used fi
       (λ apart differs some. absurd (differs (ap without_use call.holds ∙ sym (ap without_use (used-capability apart)))))
       (λ x outside apart differs some. absurd (differs (ap without_use (sym (away-capability x outside apart)))))
 
+  own-right : RightChange image t s call.own.caller last.caller
+  unfolding last
+  own-right = kept (ap (λ (o : Option Object). (option_map_or (λ (u : ThreadState). u) (as_thread o) new_thread).caller) (made-away self not_new ∙ call.is))
+
   made-within : WithinAuthority image t s after
   unfolding made after
   made-within = record {
@@ -188,6 +192,7 @@ module _ (image : Image) (t : Thread) (s : State) (offset bits watermark used fi
     slots = own-slots;
     frame_mappings = λ slot mapping differs either. absurd (differs (no-frame slot));
     table_mappings = λ slot mapping differs either. absurd (differs (no-table slot));
+    mapped = λ slot mapping fresh there. absurd (fresh (no-frame slot ∙ there));
     capabilities = granted;
     endpoints = λ offset old new before behind differs.
         let apart : offset ≢ self = λ same. let e : Some (EndpointObject old) ≡ Some (ThreadObject call.own) = sym before ∙ ap s.objects same ∙ call.is in let f : EndpointObject old ≡ ThreadObject call.own = cc in cc in
@@ -199,6 +204,7 @@ module _ (image : Image) (t : Thread) (s : State) (offset bits watermark used fi
         let there : offset ≢ first = λ same. let e : Some (NotificationObject old) ≡ None = sym before ∙ ap s.objects same ∙ makes.unused in cc in
         let e : Some (NotificationObject new) ≡ Some (NotificationObject old) = sym behind ∙ passed offset apart ∙ made-away offset there ∙ before in
         let f : old ≡ new = cc in absurd (differs f);
+    right = right-between image t s after call.own last call.is at-self own-right;
     threads = λ other old new apart before behind differs.
         let there : other ≢ first = λ same. let e : Some (ThreadObject old) ≡ None = sym before ∙ ap s.objects same ∙ makes.unused in cc in
         let e : Some (ThreadObject new) ≡ Some (ThreadObject old) = sym behind ∙ passed other apart ∙ made-away other there ∙ before in

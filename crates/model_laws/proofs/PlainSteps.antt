@@ -1,12 +1,13 @@
 -- A step that changes the thread's own registers, and bytes that it may write, stays within authority.
-use Rattle.std.proofs.Common.{ℕ, ◌≡◌, ◌≢◌, ◌++◌, Bool, if◌then◌else◌, Option, Some, option_map, List, [], ◌∷◌, refl, sym, ◌∙◌, ap, inl, inr, arith}
-use Rattle.std.proofs.lemmas.Bool.{ne_eqb}
+use Rattle.std.proofs.Common.{ℕ, ◌≡◌, ◌≢◌, ◌++◌, Bool, if◌then◌else◌, Option, Some, option_map, List, [], ◌∷◌, refl, sym, ◌∙◌, ap, subst, inl, inr, arith}
+use Rattle.std.specs.Option.{option_map_or}
+use Rattle.std.proofs.lemmas.Bool.{eq-eqb, ne_eqb}
 use Rattle.std.proofs.lemmas.Bool.Decides.{eqb_tells}
-use Rattle.model.specs.Acceptance.Authority.{WithinAuthority, written, self_of}
+use Rattle.model.specs.Acceptance.Authority.{RightChange, kept, WithinAuthority, written, self_of}
 use Rattle.model.specs.Images.Image.{Image, Thread}
 use Rattle.model.specs.Kernel.Kinds.{kind_at, kind_of}
 use Rattle.model.specs.Kernel.Messages.{with_registers}
-use Rattle.model.specs.Kernel.State.{State, Object, ThreadObject, EndpointObject, NotificationObject, ThreadState, thread_at}
+use Rattle.model.specs.Kernel.State.{State, Object, ThreadObject, EndpointObject, NotificationObject, ThreadState, as_thread, new_thread, thread_at}
 use Rattle.model.specs.Machine.ProgramMemory.{RegisterFile}
 use Rattle.model.specs.Shared.Lists.{without}
 use Rattle.model_laws.specs.Scenarios.{WritesOwnBytes}
@@ -14,6 +15,20 @@ use Rattle.model_laws.specs.Scenarios.{WritesOwnBytes}
 pub append-none : (l : List ℕ) → l ≡ l ++ []
 append-none [] = refl
 append-none (x ∷ l) = ap (λ (rest : List ℕ). x ∷ rest) (append-none l)
+
+-- what the thread's own right to reply becomes, between the threads that stand there
+pub right-between : (image : Image) (t : Thread) (s after : State) (own last : ThreadState) → s.objects (self_of image t) ≡ Some (ThreadObject own)
+    → after.objects (self_of image t) ≡ Some (ThreadObject last) → RightChange image t s own.caller last.caller
+    → (old new : ThreadState) → s.objects (self_of image t) ≡ Some (ThreadObject old) → after.objects (self_of image t) ≡ Some (ThreadObject new)
+    → RightChange image t s old.caller new.caller
+right-between image t s after own last was is change old new before behind =
+    let e : Some (ThreadObject own) ≡ Some (ThreadObject old) = sym was ∙ before in
+    let f : ThreadObject own ≡ ThreadObject old = cc in
+    let g : own ≡ old = cc in
+    let h : Some (ThreadObject last) ≡ Some (ThreadObject new) = sym is ∙ behind in
+    let i : ThreadObject last ≡ ThreadObject new = cc in
+    let j : last ≡ new = cc in
+    subst (λ (u : ThreadState). RightChange image t s u.caller new.caller) g (subst (λ (u : ThreadState). RightChange image t s own.caller u.caller) j change)
 
 module _ (image : Image) (t : Thread) (s : State) (own : ThreadState) (registers : RegisterFile) (bytes : ℕ → Option ℕ)
     (is : s.objects (self_of image t) ≡ Some (ThreadObject own)) (wrote : WritesOwnBytes image t s bytes) where
@@ -45,6 +60,7 @@ module _ (image : Image) (t : Thread) (s : State) (own : ThreadState) (registers
     slots = λ slot differs. absurd (differs refl);
     frame_mappings = λ slot mapping differs either. absurd (differs refl);
     table_mappings = λ slot mapping differs either. absurd (differs refl);
+    mapped = λ slot mapping fresh there. absurd (fresh there);
     capabilities = λ slot differs some. absurd (differs refl);
     endpoints = λ offset old new before behind differs.
         let apart = never-self offset (EndpointObject old) before (λ e. cc) in
@@ -54,6 +70,12 @@ module _ (image : Image) (t : Thread) (s : State) (own : ThreadState) (registers
         let apart = never-self offset (NotificationObject old) before (λ e. cc) in
         let e : Some (NotificationObject new) ≡ Some (NotificationObject old) = sym behind ∙ other-same offset apart ∙ before in
         let f : old ≡ new = cc in absurd (differs f);
+    right =
+        let last : ThreadState = record (thread_at s (self_of image t)) { registers = registers } in
+        let after : State = record (with_registers s (self_of image t) registers) { bytes = bytes } in
+        right-between image t s after own last is
+        (ap (λ (b : Bool). if b then Some (ThreadObject last) else s.objects (self_of image t)) (eq-eqb (self_of image t) (self_of image t) refl))
+        (kept (ap (λ (o : Option Object). (option_map_or (λ (u : ThreadState). u) (as_thread o) new_thread).caller) is));
     threads = λ other old new apart before behind differs.
         let e : Some (ThreadObject new) ≡ Some (ThreadObject old) = sym behind ∙ other-same other apart ∙ before in
         let f : old ≡ new = cc in absurd (differs f);

@@ -1,9 +1,16 @@
 -- What no reason makes of another thread.
-use Rattle.std.proofs.Common.{ℕ, ◌≡◌, ◌≢◌, Option, Some, None, [], refl, sym, ap, ◌∙◌}
+use Rattle.std.proofs.Common.{ℕ, ◌≡◌, ◌≢◌, Option, Some, None, Ok, [], refl, sym, ap, ◌∙◌}
 use Rattle.model.specs.declared.capabilities.Cap.{Cap}
-use Rattle.model.specs.Kernel.Deliveries.{MayReply, as_before, to_sender, Reason, receiver, sender, waiter, caller, faulted, set_back, once_received}
+use Rattle.model.specs.declared.capabilities.Cap.TheVariants.{Endpoint, InterruptHandler, Notification}
+use Rattle.model.specs.declared.rights.Rights.{Rights}
+use Rattle.model.specs.Capabilities.Slots.{capability_at}
+use Rattle.model.specs.Kernel.Deliveries.{MayReply, as_before, to_sender, Reason, receiver, sender, waiter, caller, faulted, set_back, once_received, by_line, by_right, ReceivesFrom, SendsTo, Signals}
+use Rattle.model.specs.Kernel.Messages.{a0, delivered, message_of}
 use Rattle.model.specs.Kernel.Scheduling.{head_of}
 use Rattle.model.specs.Kernel.State.{State, Inactive, Runnable, Blocked, AwaitsReply, AwaitsHandler, Sender, Sent, BySend, ByCall, ByFault, ThreadState, endpoint_at, thread_at}
+use Rattle.model.specs.Kernel.Steps.{named_slot}
+use Rattle.model.specs.Machine.Effects.{advanced}
+use Rattle.model.specs.Machine.ProgramMemory.{write}
 
 blocked_is : (a b : ℕ) (t : ThreadState) → t.status ≡ Blocked a → t.status ≡ Blocked b → a ≡ b
 blocked_is a b t one two = let e : Blocked a ≡ Blocked b = sym one ∙ two in cc
@@ -62,3 +69,65 @@ no_third s after self Held other third endpoint old new another waits none has (
 no_third s after self Held other third endpoint old new another waits none has (faulted right awaits is) = let f : Blocked endpoint ≡ AwaitsHandler = sym waits ∙ awaits in cc
 no_third s after self Held other third endpoint old new another waits none has (set_back queue blocked there gone is) =
     let f : None ≡ Some third = sym none ∙ sym (ap (λ (t : ThreadState). t.caller) is) ∙ has in cc
+
+-- ---- badges
+
+-- who waits at a queue that stays, where nobody sends, is a receiver, or a waiter
+pub receivers_badge : (s after : State) (self : ℕ) (Held : (Cap → Type 0) → Type 0) (other endpoint badge : ℕ) (old new : ThreadState)
+    → old.status ≡ Blocked endpoint → (endpoint_at s endpoint).senders ≡ [] → after.objects endpoint ≢ None
+    → ((e b : ℕ) → Held (SendsTo e b) → b ≡ badge) → ((n b : ℕ) → Held (Signals s n b) → ⊥) → Reason s after self Held other old new
+    → new.registers ≡ advanced (delivered old.registers badge (message_of (thread_at s self)))
+receivers_badge s after self Held other endpoint badge old new waits nobody stays badges no_signal (receiver e b c first blocked held right is) =
+    ap (λ (t : ThreadState). t.registers) is ∙ ap (λ (n : ℕ). advanced (delivered old.registers n (message_of (thread_at s self)))) (badges e b held)
+receivers_badge s after self Held other endpoint badge old new waits nobody stays badges no_signal (sender e first there names blocked held is) =
+    let here : e ≡ endpoint = blocked_is e endpoint old blocked waits in
+    let f : None ≡ Some first = sym (ap (λ (n : ℕ). head_of (endpoint_at s n).senders) here ∙ ap head_of nobody) ∙ there in absurd cc
+receivers_badge s after self Held other endpoint badge old new waits nobody stays badges no_signal (waiter n b first blocked held is) = absurd (no_signal n b held)
+receivers_badge s after self Held other endpoint badge old new waits nobody stays badges no_signal (caller right awaits is) =
+    let f : Blocked endpoint ≡ AwaitsReply = sym waits ∙ awaits in absurd cc
+receivers_badge s after self Held other endpoint badge old new waits nobody stays badges no_signal (faulted right awaits is) =
+    let f : Blocked endpoint ≡ AwaitsHandler = sym waits ∙ awaits in absurd cc
+receivers_badge s after self Held other endpoint badge old new waits nobody stays badges no_signal (set_back queue blocked there gone is) =
+    absurd (stays (ap after.objects (blocked_is endpoint queue old waits blocked) ∙ gone))
+
+pub waiters_badge : (s after : State) (self : ℕ) (Held : (Cap → Type 0) → Type 0) (other notification badge : ℕ) (old new : ThreadState)
+    → old.status ≡ Blocked notification → after.objects notification ≢ None
+    → ((n b : ℕ) → Held (Signals s n b) → b ≡ badge) → ((e b : ℕ) → Held (SendsTo e b) → ⊥) → ((e : ℕ) → Held (ReceivesFrom e) → ⊥)
+    → Reason s after self Held other old new → new.registers ≡ advanced (write old.registers a0 badge)
+waiters_badge s after self Held other notification badge old new waits stays badges no_send no_receive (receiver e b c first blocked held right is) = absurd (no_send e b held)
+waiters_badge s after self Held other notification badge old new waits stays badges no_send no_receive (sender e first there names blocked held is) = absurd (no_receive e held)
+waiters_badge s after self Held other notification badge old new waits stays badges no_send no_receive (waiter n b first blocked held is) =
+    ap (λ (t : ThreadState). t.registers) is ∙ ap (λ (m : ℕ). advanced (write old.registers a0 m)) (badges n b held)
+waiters_badge s after self Held other notification badge old new waits stays badges no_send no_receive (caller right awaits is) =
+    let f : Blocked notification ≡ AwaitsReply = sym waits ∙ awaits in absurd cc
+waiters_badge s after self Held other notification badge old new waits stays badges no_send no_receive (faulted right awaits is) =
+    let f : Blocked notification ≡ AwaitsHandler = sym waits ∙ awaits in absurd cc
+waiters_badge s after self Held other notification badge old new waits stays badges no_send no_receive (set_back queue blocked there gone is) =
+    absurd (stays (ap after.objects (blocked_is notification queue old waits blocked) ∙ gone))
+
+-- a call that names nothing
+pub nothing_reached : (s after : State) (self : ℕ) (Held : (Cap → Type 0) → Type 0) (other queue : ℕ) (old new : ThreadState) → old.status ≡ Blocked queue
+    → after.objects queue ≢ None → ((Such : Cap → Type 0) → Held Such → ⊥) → Reason s after self Held other old new → ⊥
+nothing_reached s after self Held other queue old new waits stays none (receiver e b c first blocked held right is) = none (SendsTo e b) held
+nothing_reached s after self Held other queue old new waits stays none (sender e first there names blocked held is) = none (ReceivesFrom e) held
+nothing_reached s after self Held other queue old new waits stays none (waiter n b first blocked held is) = none (Signals s n b) held
+nothing_reached s after self Held other queue old new waits stays none (caller right awaits is) = let f : Blocked queue ≡ AwaitsReply = sym waits ∙ awaits in cc
+nothing_reached s after self Held other queue old new waits stays none (faulted right awaits is) = let f : Blocked queue ≡ AwaitsHandler = sym waits ∙ awaits in cc
+nothing_reached s after self Held other queue old new waits stays none (set_back q blocked there gone is) =
+    stays (ap after.objects (blocked_is queue q old waits blocked) ∙ gone)
+
+-- a call names one capability
+pub named-capability : (s : State) (self a b : ℕ) → named_slot s self ≡ Ok a → named_slot s self ≡ Ok b → capability_at s.slots a ≡ capability_at s.slots b
+named-capability s self a b one two =
+    let e : Ok a ≡ Ok b = sym one ∙ two in
+    let same : a ≡ b = cc in ap (capability_at s.slots) same
+
+pub no-signal : (s : State) (n b endpoint badge : ℕ) (r : Rights) (capability : Cap) → capability ≡ Endpoint endpoint r badge → Signals s n b capability → ⊥
+no-signal s n b endpoint badge r capability is (by_right allowed other writes) = let f : Endpoint endpoint r badge ≡ Notification n allowed b = sym is ∙ other in cc
+no-signal s n b endpoint badge r capability is (by_line number other bound) = let f : Endpoint endpoint r badge ≡ InterruptHandler number = sym is ∙ other in cc
+
+pub one-signal : (s : State) (n b notification badge : ℕ) (r : Rights) (capability : Cap) → capability ≡ Notification notification r badge → Signals s n b capability → b ≡ badge
+one-signal s n b notification badge r capability is (by_right allowed other writes) =
+    let f : Notification n allowed b ≡ Notification notification r badge = sym other ∙ is in cc
+one-signal s n b notification badge r capability is (by_line number other bound) =
+    let f : Notification notification r badge ≡ InterruptHandler number = sym is ∙ other in absurd cc

@@ -1,5 +1,5 @@
 -- A tick of a sound state stays within authority.
-use Rattle.std.proofs.Common.{ℕ, zero, suc, ◌≡◌, ◌==◌, ◌+◌, ◌-◌, ◌≤◌, ◌++◌, ◌&&◌, Bool, true, false, not, nat_le, if◌then◌else◌, Option, Some, None, List, [], ◌∷◌, refl, sym, ◌∙◌, ap, subst, inl, inr, arith}
+use Rattle.std.proofs.Common.{ℕ, zero, suc, ◌≡◌, ◌≢◌, ◌==◌, ◌+◌, ◌-◌, ◌≤◌, ◌++◌, ◌&&◌, Bool, true, false, not, nat_le, if◌then◌else◌, Option, Some, None, List, [], ◌∷◌, refl, sym, ◌∙◌, ap, subst, inl, inr, arith}
 use Rattle.std.specs.Option.{option_map_or}
 use Rattle.std.proofs.lemmas.Bool.{and_parts, eq-eqb, eqb-true, ne_eqb}
 use Rattle.std.proofs.lemmas.Bool.Decides.{eqb_tells}
@@ -99,15 +99,23 @@ moved-without ready thread tail priority = elim (eqb_tells priority tail) [
       ∙ without-again thread (ready priority)
 ]
 
-moved-once : (ready : ℕ → List ℕ) (thread tail priority : ℕ) → 1 ≤ times_in (ready tail) thread
-    → times_in (moved ready thread tail priority) thread ≤ times_in (ready priority) thread
-moved-once ready thread tail priority stands = elim (eqb_tells priority tail) [
+moved-as_often : (ready : ℕ → List ℕ) (thread tail priority : ℕ) → times_in (ready tail) thread ≡ 1
+    → (priority ≢ tail → times_in (ready priority) thread ≡ 0) → times_in (moved ready thread tail priority) thread ≡ times_in (ready priority) thread
+moved-as_often ready thread tail priority stands nowhere = elim (eqb_tells priority tail) [
   | inl here ↦
       let one : times_in (moved ready thread tail priority) thread ≡ 1 = ap (λ (n : ℕ). times_in (moved ready thread tail n) thread) here.1 ∙ times-moved_here ready thread tail in
       let same : times_in (ready priority) thread ≡ times_in (ready tail) thread = ap (λ (n : ℕ). times_in (ready n) thread) here.1 in
       omega (arith, one, same, stands)
-  | inr apart ↦ let none = times-moved_elsewhere ready thread tail priority apart.0 in omega (arith, none)
+  | inr apart ↦ times-moved_elsewhere ready thread tail priority apart.0 ∙ sym (nowhere apart.1)
 ]
+
+one-there : (b : Bool) (n : ℕ) → n ≡ (if b then 1 else 0) → 1 ≤ n → n ≡ 1
+one-there true n is some = is
+one-there false n is some = absurd (omega (arith, is, some))
+
+and-false : (b : Bool) → (b && false) ≡ false
+and-false true = refl
+and-false false = refl
 
 -- ---- the tick
 
@@ -121,9 +129,9 @@ module _ (s : State) (sound : ThreadsAreSound s) (thread : ℕ) (is : current s 
 
   within : (slice : ℕ) (ready : ℕ → List ℕ)
       → ((priority : ℕ) → without thread (ready priority) ≡ without thread (s.ready priority))
-      → ((priority : ℕ) → times_in (ready priority) thread ≤ times_in (s.ready priority) thread)
+      → ((priority : ℕ) → times_in (ready priority) thread ≡ times_in (s.ready priority) thread)
       → WithinTick s (record (with_thread s thread (record (thread_at s thread) { slice = slice })) { ready = ready })
-  within slice ready same fewer = record {
+  within slice ready same often = record {
     store = record { memory_bits = refl; boot_radix = refl; slots = λ slot. refl; bytes = λ place. refl };
     masked = λ number. refl;
     pending = λ number. refl;
@@ -144,16 +152,33 @@ module _ (s : State) (sound : ThreadsAreSound s) (thread : ℕ) (is : current s 
         let e : Some thread ≡ Some other = sym is ∙ now in
         let here : thread ≡ other = cc in
         subst (λ (n : ℕ). without n (ready priority) ≡ without n (s.ready priority)) here (same priority);
-    once = λ other priority now.
+    as_often = λ other priority now.
         let e : Some thread ≡ Some other = sym is ∙ now in
         let here : thread ≡ other = cc in
-        subst (λ (n : ℕ). times_in (ready priority) n ≤ times_in (s.ready priority) n) here (fewer priority);
+        subst (λ (n : ℕ). times_in (ready priority) n ≡ times_in (s.ready priority) n) here (often priority);
   }
 
-  stands : 1 ≤ times_in (s.ready (thread_at s thread).priority) thread
+  at : (thread_at s thread).priority ≡ Runs.priority runs
+  at = ap (λ (t : ThreadState). t.priority) own-is ∙ Runs.at runs
+
+  -- the thread stands once in the list of its priority, and in no other
+  counted : (priority : ℕ) → times_in (s.ready priority) thread ≡ (if is_runnable (Runs.own runs).status && (Runs.own runs).priority == priority then 1 else 0)
+  counted priority =
+      sound.ready thread priority
+      ∙ ap (λ (o : Option Object). if option_map_or (λ t. is_runnable t.status && t.priority == priority) (as_thread o) false then 1 else 0) (Runs.is runs)
+
+  stands : times_in (s.ready (thread_at s thread).priority) thread ≡ 1
   stands =
-      let at : (thread_at s thread).priority ≡ Runs.priority runs = ap (λ (t : ThreadState). t.priority) own-is ∙ Runs.at runs in
-      subst (λ (n : ℕ). 1 ≤ times_in (s.ready n) thread) (sym at) (head-counts (s.ready (Runs.priority runs)) thread (Runs.first runs))
+      let some = head-counts (s.ready (Runs.priority runs)) thread (Runs.first runs) in
+      subst (λ (n : ℕ). times_in (s.ready n) thread ≡ 1) (sym at)
+      (one-there (is_runnable (Runs.own runs).status && (Runs.own runs).priority == Runs.priority runs) (times_in (s.ready (Runs.priority runs)) thread) (counted (Runs.priority runs)) some)
+
+  nowhere : (priority : ℕ) → priority ≢ (thread_at s thread).priority → times_in (s.ready priority) thread ≡ 0
+  nowhere priority differs =
+      let apart : ((Runs.own runs).priority == priority) ≡ false =
+      ne_eqb (Runs.own runs).priority priority (λ same. differs (sym same ∙ sym (ap (λ (t : ThreadState). t.priority) own-is))) in
+      counted priority ∙ ap (λ (b : Bool). if is_runnable (Runs.own runs).status && b then 1 else 0) apart
+      ∙ ap (λ (b : Bool). if b then 1 else 0) (and-false (is_runnable (Runs.own runs).status))
 
   tail-is : (t : ThreadState) → (option_map_or (λ (u : ThreadState). u) (as_thread (put s.objects thread (Some (ThreadObject t)) thread)) new_thread).priority ≡ t.priority
   tail-is t = ap (λ (b : Bool). (option_map_or (λ (u : ThreadState). u) (as_thread (if b then Some (ThreadObject t) else s.objects thread)) new_thread).priority) (eq-eqb thread thread refl)
@@ -162,15 +187,16 @@ module _ (s : State) (sound : ThreadsAreSound s) (thread : ℕ) (is : current s 
   yielded-within =
       let t : ThreadState = record (thread_at s thread) { slice = full_slice } in
       let tail : ℕ = (option_map_or (λ (u : ThreadState). u) (as_thread (put s.objects thread (Some (ThreadObject t)) thread)) new_thread).priority in
-      let there : 1 ≤ times_in (s.ready tail) thread = subst (λ (n : ℕ). 1 ≤ times_in (s.ready n) thread) (sym (tail-is t)) stands in
-      within full_slice (moved s.ready thread tail) (moved-without s.ready thread tail) (λ priority. moved-once s.ready thread tail priority there)
+      let there : times_in (s.ready tail) thread ≡ 1 = subst (λ (n : ℕ). times_in (s.ready n) thread ≡ 1) (sym (tail-is t)) stands in
+      within full_slice (moved s.ready thread tail) (moved-without s.ready thread tail)
+      (λ priority. moved-as_often s.ready thread tail priority there (λ differs. nowhere priority (λ same. differs (same ∙ sym (tail-is t)))))
 
   ticked-within : WithinTick s (ticked s thread)
   ticked-within =
       let slice = (thread_at s thread).slice in
       elim (nat_le slice 1) as (λ b. WithinTick s (if b then yielded s thread else with_thread s thread (record (thread_at s thread) { slice = slice - 1 }))) [
         | true ↦ yielded-within
-        | false ↦ within (slice - 1) s.ready (λ priority. refl) (λ priority. omega arith)
+        | false ↦ within (slice - 1) s.ready (λ priority. refl) (λ priority. refl)
       ]
 
 nothing-within : (s : State) → current s ≡ None → WithinTick s s
@@ -182,7 +208,7 @@ nothing-within s none = record {
   runs = λ other old now there. (old.slice, there);
   idle = λ _ priority. refl;
   ready = λ other priority now. refl;
-  once = λ other priority now. omega arith;
+  as_often = λ other priority now. refl;
 }
 
 tick-by : (s : State) → ThreadsAreSound s → (o : Option ℕ) → current s ≡ o → WithinTick s (option_map_or (ticked s) o s)

@@ -3,13 +3,21 @@ use Rattle.std.specs.Prelude.{ℕ, ◌≡◌, ◌≢◌, ◌+◌, ◌^◌, ◌�
 use Rattle.model.specs.declared.capabilities.Cap.{Cap}
 use Rattle.model.specs.declared.capabilities.Cap.TheVariants.{Empty, Untyped}
 use Rattle.model.specs.declared.errors.KError.{KError}
+use Rattle.model.specs.declared.invocations.FrameCall.TheVariants.{MapFrame}
+use Rattle.model.specs.declared.invocations.Invocation.{Invocation}
+use Rattle.model.specs.declared.invocations.Invocation.TheVariants.{OnControl, OnFrame}
+use Rattle.model.specs.declared.invocations.SlotName.{SlotName}
+use Rattle.model.specs.declared.rights.Rights.{Rights}
 use Rattle.model.specs.Acceptance.Authority.{IsOwnSlot, self_of}
+use Rattle.model.specs.Images.Places.{offset_of}
 use Rattle.model.specs.Capabilities.Slots.{capability_at, recapped}
 use Rattle.model.specs.declared.instructions.Access.TheVariants.{Store}
 use Rattle.model.specs.Kernel.AddressSpaces.{content_of}
 use Rattle.model.specs.Images.Image.{Image, Thread}
-use Rattle.model.specs.Kernel.Arguments.{Call}
+use Rattle.model.specs.Kernel.Arguments.{Call, destination_slot}
+use Rattle.model.specs.Kernel.CallForms.{decode}
 use Rattle.model.specs.Kernel.Invocations.{invoke}
+use Rattle.model.specs.Kernel.MappingCalls.{root_named}
 use Rattle.model.specs.Kernel.Messages.{a1, a7, extra_capabilities_of, message_of}
 use Rattle.model.specs.Kernel.Retype.{NewObjects, NewEndpoint, with_new}
 use Rattle.model.specs.Kernel.State.{State, Runnable, AwaitsReply, ThreadObject, ThreadState, thread_at, with_slots}
@@ -69,3 +77,30 @@ pub record MakesEndpoint (image : Image) (t : Thread) (s : State) (slot offset b
   pub own : IsOwnSlot image t window
   pub empty : capability_at s.slots window ≡ Empty
   pub made : invoked s (self_of image t) slot ≡ Ok (with_endpoint_made s slot offset bits used first window)
+
+-- the call that a thread's message asks for
+abbrev pub asked : State → ℕ → ℕ → Result Invocation KError
+asked s thread slot =
+    let message = message_of (thread_at s thread) in
+    decode (capability_at s.slots slot) message.label (extra_capabilities_of (read (registers_of s thread) a1)) message.words
+
+-- Map of a frame under the thread's own root table goes through
+pub record MapsFrame (image : Image) (t : Thread) (s : State) (slot : ℕ) (allowed : Rights) : Type 0 where
+  pub name : SlotName
+  pub address : ℕ
+  pub word : ℕ
+  pub asks : asked s (self_of image t) slot ≡ Ok (OnFrame allowed (MapFrame name address word))
+  pub root : root_named s.slots (cspace_of s (self_of image t)) name ≡ Ok (offset_of image t.header.root)
+  pub after : State
+  pub passes : invoked s (self_of image t) slot ≡ Ok after
+
+-- Get of a line's handler, for an empty slot of the thread's own, goes through
+pub record GetsHandler (image : Image) (t : Thread) (s : State) (slot : ℕ) : Type 0 where
+  pub number : ℕ
+  pub name : SlotName
+  pub asks : asked s (self_of image t) slot ≡ Ok (OnControl number name)
+  pub window : ℕ
+  pub named : destination_slot s.slots (cspace_of s (self_of image t)) name ≡ Ok window
+  pub own : IsOwnSlot image t window
+  pub after : State
+  pub passes : invoked s (self_of image t) slot ≡ Ok after

@@ -1,8 +1,9 @@
 //! What authority rules out, case by case.
 
-ghost use Rattle.std.specs.Prelude.{ℕ, ◌≡◌, ◌≢◌, [], ◌∷◌, Some, None};
-ghost use Rattle.model.specs.declared.capabilities.Cap.TheVariants.{CNode, Empty, Endpoint, Frame, InterruptControl, InterruptHandler, PageTable, Tcb, Untyped};
+ghost use Rattle.std.specs.Prelude.{ℕ, ◌≡◌, ◌≢◌, ◌<◌, false, [], ◌∷◌, List, Some, None, Ok, Err};
+ghost use Rattle.model.specs.declared.capabilities.Cap.TheVariants.{CNode, Empty, Endpoint, Frame, InterruptControl, InterruptHandler, Notification, PageTable, Tcb, Untyped};
 ghost use Rattle.model.specs.declared.rights.Rights.{Rights};
+ghost use Rattle.model.specs.declared.lookup_failures.LookupFailure.{LookupFailure};
 ghost use Rattle.model.specs.Acceptance.Authority.{WithinAuthority, WithinInterrupt, WithinTick, self_of};
 ghost use Rattle.model.specs.Capabilities.Rights.{rights};
 ghost use Rattle.model.specs.Capabilities.Slots.{capability_at};
@@ -11,9 +12,10 @@ ghost use Rattle.model.specs.Images.Places.{offset_of};
 ghost use Rattle.model.specs.Kernel.Deliveries.{woken};
 ghost use Rattle.model.specs.Kernel.Interrupts.{binding};
 ghost use Rattle.model.specs.Kernel.Kinds.{frame_around};
-ghost use Rattle.model.specs.Kernel.Messages.{a0};
+ghost use Rattle.model.specs.Kernel.Messages.{a0, delivered, message_of};
 ghost use Rattle.model.specs.Kernel.Scheduling.{current};
-ghost use Rattle.model.specs.Kernel.State.{State, Inactive, Blocked, AwaitsReply, CNodeObject, FrameObject, NotificationObject, NotificationState, ThreadObject, ThreadState, endpoint_at, thread_at};
+ghost use Rattle.model.specs.Kernel.State.{State, Inactive, Blocked, AwaitsReply, Sender, BySend, ByCall, CNodeObject, FrameObject, NotificationObject, NotificationState, ThreadObject, ThreadState, endpoint_at, thread_at};
+ghost use Rattle.model.specs.Kernel.Steps.{named_slot};
 ghost use Rattle.model.specs.Machine.Effects.{advanced};
 ghost use Rattle.model.specs.Machine.ProgramMemory.{write};
 ghost use Rattle.model_laws.specs.Scenarios.{HoldsOnly};
@@ -108,4 +110,88 @@ pub fn objects_stay_what_they_are()
         → capability_at after.slots slot ≡ PageTable 0xA000 None → WithinAuthority image t s after → ⊥ }
     ensures memory { (image : Image) (t : Thread) (s after : State) → s.memory_bits ≢ after.memory_bits → WithinAuthority image t s after → ⊥ }
     ensures boot_area { (image : Image) (t : Thread) (s after : State) → s.boot_radix ≢ after.boot_radix → WithinAuthority image t s after → ⊥ }
+{}
+
+/// A thread gets the right to reply to the first sender of an endpoint that it may read, where that one called with
+/// grant-reply: to nobody where no sender waits, to none behind the first, and not to one that only sent, or called
+/// without grant-reply, or by a capability that does not read.
+pub fn a_right_to_reply_comes_with_a_call()
+    ensures nobody { (image : Image) (t : Thread) (s after : State) (endpoint third : ℕ) (r : Rights) (badge : ℕ) (old new : ThreadState)
+        → HoldsOnly image t s (Endpoint endpoint r badge) → s.objects (self_of image t) ≡ Some (ThreadObject old)
+        → after.objects (self_of image t) ≡ Some (ThreadObject new) → old.caller ≡ None → new.caller ≡ Some third
+        → (endpoint_at s endpoint).senders ≡ [] → WithinAuthority image t s after → ⊥ }
+    ensures second { (image : Image) (t : Thread) (s after : State) (endpoint third : ℕ) (r : Rights) (badge : ℕ) (old new : ThreadState)
+        (first : Sender) (others : List Sender)
+        → HoldsOnly image t s (Endpoint endpoint r badge) → s.objects (self_of image t) ≡ Some (ThreadObject old)
+        → after.objects (self_of image t) ≡ Some (ThreadObject new) → old.caller ≡ None → new.caller ≡ Some third
+        → (endpoint_at s endpoint).senders ≡ first ∷ others → first.thread ≢ third → WithinAuthority image t s after → ⊥ }
+    ensures sent { (image : Image) (t : Thread) (s after : State) (endpoint third : ℕ) (r : Rights) (badge : ℕ) (old new : ThreadState)
+        (first : Sender) (others : List Sender)
+        → HoldsOnly image t s (Endpoint endpoint r badge) → s.objects (self_of image t) ≡ Some (ThreadObject old)
+        → after.objects (self_of image t) ≡ Some (ThreadObject new) → old.caller ≡ None → new.caller ≡ Some third
+        → (endpoint_at s endpoint).senders ≡ first ∷ others → first.sent ≡ BySend → WithinAuthority image t s after → ⊥ }
+    ensures ungranted { (image : Image) (t : Thread) (s after : State) (endpoint third : ℕ) (r : Rights) (badge : ℕ) (old new : ThreadState)
+        (first : Sender) (others : List Sender)
+        → HoldsOnly image t s (Endpoint endpoint r badge) → s.objects (self_of image t) ≡ Some (ThreadObject old)
+        → after.objects (self_of image t) ≡ Some (ThreadObject new) → old.caller ≡ None → new.caller ≡ Some third
+        → (endpoint_at s endpoint).senders ≡ first ∷ others → first.sent ≡ ByCall → first.grant_reply ≡ false
+        → WithinAuthority image t s after → ⊥ }
+    ensures unread { (image : Image) (t : Thread) (s after : State) (endpoint third : ℕ) (badge : ℕ) (old new : ThreadState)
+        → HoldsOnly image t s (Endpoint endpoint (rights 9) badge) → s.objects (self_of image t) ≡ Some (ThreadObject old)
+        → after.objects (self_of image t) ≡ Some (ThreadObject new) → old.caller ≡ None → new.caller ≡ Some third
+        → WithinAuthority image t s after → ⊥ }
+{}
+
+/// An interrupt of a line above 63 changes no bit of a line, no object and no list.
+pub fn an_interrupt_of_no_line_changes_nothing()
+    ensures masked { (number line : ℕ) (s after : State) → 63 < number → s.masked line ≢ after.masked line → WithinInterrupt number s after → ⊥ }
+    ensures pending { (number line : ℕ) (s after : State) → 63 < number → s.pending line ≢ after.pending line → WithinInterrupt number s after → ⊥ }
+    ensures object { (number offset : ℕ) (s after : State) → 63 < number → s.objects offset ≢ after.objects offset → WithinInterrupt number s after → ⊥ }
+    ensures list { (number priority : ℕ) (s after : State) → 63 < number → s.ready priority ≢ after.ready priority → WithinInterrupt number s after → ⊥ }
+{}
+
+/// A tick leaves the current thread in the list where it stands, and puts it into no other.
+pub fn a_tick_loses_nobody()
+    ensures itself { (s after : State) (thread priority : ℕ) → current s ≡ Some thread → s.ready priority ≡ thread ∷ []
+        → after.ready priority ≡ [] → WithinTick s after → ⊥ }
+    ensures elsewhere { (s after : State) (thread priority : ℕ) → current s ≡ Some thread → s.ready priority ≡ []
+        → after.ready priority ≡ thread ∷ [] → WithinTick s after → ⊥ }
+{}
+
+/// Who waits at a queue that stays, where nobody sends, gets the badge of the capability that the call names, and no other
+/// that the thread may hold; and nothing where the call names none.
+pub fn a_badge_is_that_of_the_named_capability()
+    ensures endpoint { (image : Image) (t : Thread) (s after : State) (slot other endpoint badge : ℕ) (r : Rights) (old new : ThreadState)
+        → other ≢ self_of image t → named_slot s (self_of image t) ≡ Ok slot → capability_at s.slots slot ≡ Endpoint endpoint r badge
+        → s.objects other ≡ Some (ThreadObject old) → old.status ≡ Blocked endpoint → (endpoint_at s endpoint).senders ≡ []
+        → after.objects other ≡ Some (ThreadObject new) → old ≢ new → after.objects endpoint ≢ None
+        → new.registers ≢ advanced (delivered old.registers badge (message_of (thread_at s (self_of image t)))) → WithinAuthority image t s after → ⊥ }
+    ensures notification { (image : Image) (t : Thread) (s after : State) (slot other notification badge : ℕ) (r : Rights) (old new : ThreadState)
+        → other ≢ self_of image t → named_slot s (self_of image t) ≡ Ok slot → capability_at s.slots slot ≡ Notification notification r badge
+        → s.objects other ≡ Some (ThreadObject old) → old.status ≡ Blocked notification
+        → after.objects other ≡ Some (ThreadObject new) → old ≢ new → after.objects notification ≢ None
+        → new.registers ≢ advanced (write old.registers a0 badge) → WithinAuthority image t s after → ⊥ }
+    ensures nothing { (image : Image) (t : Thread) (s after : State) (other queue : ℕ) (failure : LookupFailure) (old new : ThreadState)
+        → other ≢ self_of image t → named_slot s (self_of image t) ≡ Err failure
+        → s.objects other ≡ Some (ThreadObject old) → old.status ≡ Blocked queue
+        → after.objects other ≡ Some (ThreadObject new) → old ≢ new → after.objects queue ≢ None → WithinAuthority image t s after → ⊥ }
+{}
+
+/// A mapping does not write by a frame that may be read alone, or execute by one that may not be read.
+pub fn a_mapping_has_rights_of_its_capability()
+    ensures writes { (image : Image) (t : Thread) (s after : State) (slot root page : ℕ) → HoldsOnly image t s (Frame 0x9000 (rights 2) None)
+        → capability_at s.slots slot ≡ Frame 0x9000 (rights 2) None
+        → capability_at after.slots slot ≡ Frame 0x9000 (rights 2) (Some (record { root = root; page = page; rights = rights 3 }))
+        → WithinAuthority image t s after → ⊥ }
+    ensures executes { (image : Image) (t : Thread) (s after : State) (slot root page : ℕ) → HoldsOnly image t s (Frame 0x9000 (rights 1) None)
+        → capability_at s.slots slot ≡ Frame 0x9000 (rights 1) None
+        → capability_at after.slots slot ≡ Frame 0x9000 (rights 1) (Some (record { root = root; page = page; rights = rights 4 }))
+        → WithinAuthority image t s after → ⊥ }
+{}
+
+/// Interrupt control makes handlers of the 64 lines alone.
+pub fn a_handler_is_of_a_line()
+    ensures { (image : Image) (t : Thread) (s after : State) (slot number : ℕ) → HoldsOnly image t s InterruptControl
+        → capability_at s.slots slot ≡ Empty → capability_at after.slots slot ≡ InterruptHandler number → 63 < number
+        → WithinAuthority image t s after → ⊥ }
 {}

@@ -1,18 +1,18 @@
 //! Laws of sound states: ticks, interrupts, plain steps and messages between threads stay within authority.
 
-ghost use Rattle.std.specs.Prelude.{ℕ, ◌≡◌, true, Option, Some, List, ◌∷◌};
-ghost use Rattle.model.specs.declared.capabilities.Cap.TheVariants.{Endpoint, Notification, Untyped};
+ghost use Rattle.std.specs.Prelude.{ℕ, ◌≡◌, true, Option, Some, None, List, ◌∷◌};
+ghost use Rattle.model.specs.declared.capabilities.Cap.TheVariants.{Endpoint, Frame, InterruptControl, Notification, Untyped};
 ghost use Rattle.model.specs.declared.rights.Rights.{Rights};
 ghost use Rattle.model.specs.Acceptance.Authority.{WithinAuthority, WithinInterrupt, WithinTick, self_of};
-ghost use Rattle.model.specs.Capabilities.Rights.{may_write};
+ghost use Rattle.model.specs.Capabilities.Rights.{may_read, may_write};
 ghost use Rattle.model.specs.Images.Image.{Image, Thread};
 ghost use Rattle.model.specs.Kernel.Interrupts.{raise};
 ghost use Rattle.model.specs.Kernel.Messages.{with_registers};
 ghost use Rattle.model.specs.Machine.ProgramMemory.{RegisterFile};
-ghost use Rattle.model_laws.specs.Scenarios.{CallsOn, MakesEndpoint, RepliesTo, WritesOwnBytes};
+ghost use Rattle.model_laws.specs.Scenarios.{CallsOn, GetsHandler, MakesEndpoint, MapsFrame, RepliesTo, WritesOwnBytes};
 ghost use Rattle.model.specs.Kernel.Scheduling.{tick};
 ghost use Rattle.model.specs.Kernel.Soundness.{IsSound};
-ghost use Rattle.model.specs.Kernel.State.{State, ThreadObject, ThreadState, endpoint_at, notification_at};
+ghost use Rattle.model.specs.Kernel.State.{State, ByCall, Sender, ThreadObject, ThreadState, endpoint_at, notification_at};
 ghost use Rattle.model.specs.Kernel.Steps.{system_call};
 
 /// A tick stays within authority.
@@ -53,6 +53,25 @@ pub fn a_reply_stays_within_authority()
 pub fn a_new_endpoint_stays_within_authority()
     ensures { (image : Image) (t : Thread) (s : State) (offset bits watermark used first window : ℕ) (call : CallsOn image t s 3 (Untyped offset bits watermark))
         → MakesEndpoint image t s call.slot offset bits used first window → WithinAuthority image t s (system_call s (self_of image t)).0 }
+{}
+
+/// A Recv of a Call with grant-reply, by which the thread gets the right to reply to the first sender, stays within authority.
+pub fn a_received_call_stays_within_authority()
+    ensures { (image : Image) (t : Thread) (s : State) → IsSound s → (endpoint badge : ℕ) (allowed : Rights) (first : Sender) (others : List Sender)
+        → CallsOn image t s 5 (Endpoint endpoint allowed badge) → may_read allowed ≡ true → (endpoint_at s endpoint).senders ≡ first ∷ others
+        → first.sent ≡ ByCall → first.grant_reply ≡ true → WithinAuthority image t s (system_call s (self_of image t)).0 }
+{}
+
+/// A Map, by Send, of a frame of the thread's own under its own root table stays within authority.
+pub fn a_new_mapping_stays_within_authority()
+    ensures { (image : Image) (t : Thread) (s : State) (offset : ℕ) (allowed : Rights) (call : CallsOn image t s 3 (Frame offset allowed None))
+        → MapsFrame image t s call.slot allowed → WithinAuthority image t s (system_call s (self_of image t)).0 }
+{}
+
+/// A Get, by Send, of a line's handler, by interrupt control of the thread's own, stays within authority.
+pub fn a_new_handler_stays_within_authority()
+    ensures { (image : Image) (t : Thread) (s : State) (call : CallsOn image t s 3 InterruptControl)
+        → GetsHandler image t s call.slot → WithinAuthority image t s (system_call s (self_of image t)).0 }
 {}
 
 /// An interrupt stays within authority.

@@ -1,7 +1,7 @@
 -- Authority: what an event may change. A thread holds what stands in the slots of the CNodes that the image gives it, before
 -- its step.
 -- seL4 Reference Manual, "Capability-based Access Control"; the clauses are our own.
-use Rattle.std.specs.Prelude.{ℕ, ◌≡◌, ◌≢◌, ◌+◌, ◌^◌, ◌≤◌, ◌⊎◌, false, IsSome, IsTrue, bit_and, bit_or, Contains, Some, None, List, [], ◌∷◌, ◌++◌}
+use Rattle.std.specs.Prelude.{ℕ, ◌≡◌, ◌≢◌, ◌+◌, ◌^◌, ◌<◌, ◌≤◌, ◌⊎◌, Bool, true, false, IsSome, IsTrue, bit_and, bit_or, Contains, Option, Some, None, Ok, List, [], ◌∷◌, ◌++◌}
 use Rattle.std.specs.List.{list_any}
 use Rattle.model.specs.declared.capabilities.Cap.{Cap}
 use Rattle.model.specs.declared.capabilities.Cap.TheVariants.{Empty, Untyped, Endpoint, Notification, Frame, InterruptControl, InterruptHandler}
@@ -14,19 +14,20 @@ use Rattle.model.specs.declared.rights.Rights.{Rights}
 use Rattle.model.specs.Acceptance.NotedKernel.{stands_in}
 use Rattle.model.specs.Acceptance.ThreadRules.{reached}
 use Rattle.model.specs.Capabilities.CapabilityKinds.{frame_mapping, table_mapping, unmapped}
-use Rattle.model.specs.Capabilities.Rights.{rights}
+use Rattle.model.specs.Capabilities.Rights.{mapping_rights, rights}
 use Rattle.model.specs.Capabilities.Slots.{capability_at}
 use Rattle.model.specs.Images.Image.{Image, Thread}
 use Rattle.model.specs.Images.Places.{offset_of}
 use Rattle.model.specs.Kernel.AddressSpaces.{content_of}
-use Rattle.model.specs.Kernel.Deliveries.{Reason, woken}
+use Rattle.model.specs.Kernel.Deliveries.{Reason, ReceivesFrom, woken}
 use Rattle.model.specs.Kernel.Interrupts.{binding}
 use Rattle.model.specs.Shared.Lists.{times_in, without}
 use Rattle.model.specs.Kernel.Kinds.{Names, frame_around, kind_at}
 use Rattle.model.specs.Kernel.Messages.{a0}
 use Rattle.model.specs.Kernel.Retype.{NewObject, NewEndpoint, NewNotification, NewFrame, object, object_bits}
 use Rattle.model.specs.Kernel.Scheduling.{current, head_of, is_runnable}
-use Rattle.model.specs.Kernel.State.{State, Runnable, ThreadObject, EndpointObject, NotificationObject, EndpointState, NotificationState, ThreadState, notification_at}
+use Rattle.model.specs.Kernel.State.{State, Runnable, ThreadObject, EndpointObject, NotificationObject, EndpointState, NotificationState, Sender, Sent, BySend, ByCall, ByFault, ThreadState, endpoint_at, notification_at}
+use Rattle.model.specs.Kernel.Steps.{named_slot}
 use Rattle.model.specs.Machine.Effects.{advanced}
 use Rattle.model.specs.Machine.ProgramMemory.{write}
 
@@ -63,6 +64,13 @@ IsOwnSlot image t slot = IsTrue (list_any (stands_in image slot) (reached image 
 pub record Holds (image : Image) (t : Thread) (s : State) (Such : Cap → Type 0) : Type 0 where
   pub slot : ℕ
   pub own : IsOwnSlot image t slot
+  pub such : Such (capability_at s.slots slot)
+
+-- the thread's system call names such a capability, in a slot that is its own
+pub record CallNames (image : Image) (t : Thread) (s : State) (Such : Cap → Type 0) : Type 0 where
+  pub slot : ℕ
+  pub own : IsOwnSlot image t slot
+  pub named : named_slot s (self_of image t) ≡ Ok slot
   pub such : Such (capability_at s.slots slot)
 
 -- untyped memory around all bytes of a piece of memory
@@ -103,7 +111,34 @@ pub data Granted (image : Image) (t : Thread) (s after : State) : Cap → Type 0
   -- untyped memory inside untyped memory that it held
   pool : (offset bits watermark : ℕ) → Holds image t s (IsUntypedAround offset (2 ^ bits)) → Granted image t s after (Untyped offset bits watermark)
   handler : (number : ℕ) → Holds image t s (λ capability. capability ≡ InterruptHandler number) → Granted image t s after (InterruptHandler number)
+  -- interrupt control makes the handlers of the 64 lines
+  made_handler : (number : ℕ) → number < 64 → Holds image t s (λ capability. capability ≡ InterruptControl)
+      → Granted image t s after (InterruptHandler number)
   control : Holds image t s (λ capability. capability ≡ InterruptControl) → Granted image t s after InterruptControl
+
+-- why a frame's capability may have a mapping that is new in its slot
+pub data MappingGranted (image : Image) (t : Thread) (s : State) (capability : Cap) (mapping : FrameMapping) : Type 0 where
+  -- it is made, with rights that those of the capability give to some rights word
+  given : (word : ℕ) → mapping.rights ≡ mapping_rights (rights_of capability) word → MappingGranted image t s capability mapping
+  -- the thread held the capability with this mapping, and moved it
+  moved_along : Holds image t s (λ held. held ≡ capability) → MappingGranted image t s capability mapping
+
+-- ---- the right to reply
+
+-- whether who receives from a sender gets the right to reply to it: it called with grant-reply, or tells a fault
+abbrev pub gives_right : Sender → Sent → Bool
+gives_right sender BySend = false
+gives_right sender ByCall = sender.grant_reply
+gives_right sender (ByFault fault) = true
+
+-- What becomes of the thread's own right to reply: it stays, it goes, or the thread's call receives from the first sender of an
+-- endpoint, and gets the right to reply to that one.
+pub data RightChange (image : Image) (t : Thread) (s : State) (before after : Option ℕ) : Type 0 where
+  kept : after ≡ before → RightChange image t s before after
+  dropped : after ≡ None → RightChange image t s before after
+  of_sender : (endpoint : ℕ) (first : Sender) → CallNames image t s (ReceivesFrom endpoint)
+      → head_of (endpoint_at s endpoint).senders ≡ Some first → gives_right first first.sent ≡ true → after ≡ Some first.thread
+      → RightChange image t s before after
 
 -- ---- objects and bytes
 
@@ -162,6 +197,9 @@ pub record WithinAuthority (image : Image) (t : Thread) (s after : State) : Type
       → table_mapping (capability_at s.slots slot) ≢ table_mapping (capability_at after.slots slot)
       → (table_mapping (capability_at s.slots slot) ≡ Some mapping) ⊎ (table_mapping (capability_at after.slots slot) ≡ Some mapping)
       → mapping.root ≡ offset_of image t.header.root
+  -- a frame's mapping that is new in a slot was granted
+  pub mapped : (slot : ℕ) (mapping : FrameMapping) → frame_mapping (capability_at s.slots slot) ≢ Some mapping
+      → frame_mapping (capability_at after.slots slot) ≡ Some mapping → MappingGranted image t s (capability_at after.slots slot) mapping
   -- a capability that is new in a slot was granted
   pub capabilities : (slot : ℕ) → without_use (capability_at s.slots slot) ≢ without_use (capability_at after.slots slot)
       → capability_at after.slots slot ≢ Empty → Granted image t s after (capability_at after.slots slot)
@@ -171,9 +209,12 @@ pub record WithinAuthority (image : Image) (t : Thread) (s after : State) : Type
   pub notifications : (offset : ℕ) (old new : NotificationState) → s.objects offset ≡ Some (NotificationObject old)
       → after.objects offset ≡ Some (NotificationObject new) → old ≢ new
       → Holds image t s (Names NewNotification offset) ⊎ Holds image t s (HandlesBinding s offset)
-  -- another thread changes only for one of the reasons
+  -- what becomes of its own right to reply
+  pub right : (old new : ThreadState) → s.objects (self_of image t) ≡ Some (ThreadObject old)
+      → after.objects (self_of image t) ≡ Some (ThreadObject new) → RightChange image t s old.caller new.caller
+  -- another thread changes only for one of the reasons, by the capability that the call names
   pub threads : (other : ℕ) (old new : ThreadState) → other ≢ self_of image t → s.objects other ≡ Some (ThreadObject old)
-      → after.objects other ≡ Some (ThreadObject new) → old ≢ new → Reason s after (self_of image t) (Holds image t s) other old new
+      → after.objects other ≡ Some (ThreadObject new) → old ≢ new → Reason s after (self_of image t) (CallNames image t s) other old new
   -- lines change only where it holds the handler
   pub lines : (number : ℕ) → (s.masked number ≢ after.masked number) ⊎ (s.pending number ≢ after.pending number)
       → Holds image t s (λ capability. capability ≡ InterruptHandler number)
@@ -188,7 +229,7 @@ pub record SameStore (s after : State) : Type 0 where
   pub slots : (slot : ℕ) → after.slots slot ≡ s.slots slot
   pub bytes : (place : ℕ) → after.bytes place ≡ s.bytes place
 
--- a tick changes the current thread's slice and place alone
+-- a tick changes the current thread's slice alone, and where it stands in the list of its priority
 pub record WithinTick (s after : State) : Type 0 where
   pub store : SameStore s after
   pub masked : (number : ℕ) → after.masked number ≡ s.masked number
@@ -198,7 +239,7 @@ pub record WithinTick (s after : State) : Type 0 where
       → (slice : ℕ) × (after.objects thread ≡ Some (ThreadObject (record old { slice = slice })))
   pub idle : current s ≡ None → (priority : ℕ) → after.ready priority ≡ s.ready priority
   pub ready : (thread priority : ℕ) → current s ≡ Some thread → without thread (after.ready priority) ≡ without thread (s.ready priority)
-  pub once : (thread priority : ℕ) → current s ≡ Some thread → times_in (after.ready priority) thread ≤ times_in (s.ready priority) thread
+  pub as_often : (thread priority : ℕ) → current s ≡ Some thread → times_in (after.ready priority) thread ≡ times_in (s.ready priority) thread
 
 -- ---- interrupts
 
@@ -232,8 +273,10 @@ pub data InterruptReady (number : ℕ) (s after : State) (priority : ℕ) : Type
       → head_of (notification_at s notification).waiters ≡ Some thread → IsWoken s after priority thread
       → after.ready priority ≡ s.ready priority ++ thread ∷ [] → InterruptReady number s after priority
 
--- an interrupt changes its line, the notification that is bound to it, and the first thread that waits there
+-- An interrupt changes its line, the notification that is bound to it, and the first thread that waits there. There are 64 lines, and
+-- one of a greater number changes nothing.
 pub record WithinInterrupt (number : ℕ) (s after : State) : Type 0 where
+  pub beyond : 63 < number → after ≡ s
   pub store : SameStore s after
   pub masked : (other : ℕ) → other ≢ number → after.masked other ≡ s.masked other
   pub pending : (other : ℕ) → other ≢ number → after.pending other ≡ s.pending other

@@ -62,32 +62,32 @@ once_handled handler t =
     then woken t (record t.registers { pc = resumption t.registers.pc message.words })
     else record t { status = Inactive }
 
--- Why a step of the thread `self`, which held such capabilities, changed another thread from one state to another.
-pub data Reason (s after : State) (self : ℕ) (Held : (Cap → Type 0) → Type 0) (other : ℕ) (before changed : ThreadState) : Type 0 where
+-- Why a step of the thread `self`, whose system call names such a capability, changed another thread from one state to another.
+pub data Reason (s after : State) (self : ℕ) (Named : (Cap → Type 0) → Type 0) (other : ℕ) (before changed : ThreadState) : Type 0 where
   -- the first receiver of an endpoint got the message of this thread
   receiver : (endpoint badge : ℕ) (caller : Option ℕ)
-      → head_of (endpoint_at s endpoint).receivers ≡ Some other → before.status ≡ Blocked endpoint → Held (SendsTo endpoint badge)
+      → head_of (endpoint_at s endpoint).receivers ≡ Some other → before.status ≡ Blocked endpoint → Named (SendsTo endpoint badge)
       → MayReply after self before.caller caller
       → changed ≡ record (woken before (advanced (delivered before.registers badge (message_of (thread_at s self))))) { caller = caller }
-      → Reason s after self Held other before changed
+      → Reason s after self Named other before changed
   -- this thread received the message of the first sender
   sender : (endpoint : ℕ) (first : Sender)
       → head_of (endpoint_at s endpoint).senders ≡ Some first → first.thread ≡ other → before.status ≡ Blocked endpoint
-      → Held (ReceivesFrom endpoint) → changed ≡ once_received first first.sent before
-      → Reason s after self Held other before changed
+      → Named (ReceivesFrom endpoint) → changed ≡ once_received first first.sent before
+      → Reason s after self Named other before changed
   -- the first waiter of a notification got the badge of a signal
   waiter : (notification badge : ℕ)
       → head_of (notification_at s notification).waiters ≡ Some other → before.status ≡ Blocked notification
-      → Held (Signals s notification badge) → changed ≡ woken before (advanced (write before.registers a0 badge))
-      → Reason s after self Held other before changed
+      → Named (Signals s notification badge) → changed ≡ woken before (advanced (write before.registers a0 badge))
+      → Reason s after self Named other before changed
   -- this thread replied to its caller
   caller : (thread_at s self).caller ≡ Some other → before.status ≡ AwaitsReply
       → changed ≡ woken before (advanced (delivered before.registers 0 (message_of (thread_at s self))))
-      → Reason s after self Held other before changed
+      → Reason s after self Named other before changed
   -- or to one whose fault it handles
   faulted : (thread_at s self).caller ≡ Some other → before.status ≡ AwaitsHandler → changed ≡ once_handled (thread_at s self) before
-      → Reason s after self Held other before changed
+      → Reason s after self Named other before changed
   -- what it waited on ended, and it stands at its call again
   set_back : (queue : ℕ) → before.status ≡ Blocked queue → s.objects queue ≢ None → after.objects queue ≡ None
       → changed ≡ woken before before.registers
-      → Reason s after self Held other before changed
+      → Reason s after self Named other before changed

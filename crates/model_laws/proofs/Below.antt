@@ -1,0 +1,3 @@
+-- What laws below say that serves here: what stands where an object has a type, and what an empty slot holds.
+pub use Rattle.soundness.proofs.Inserted.{empty-capability}
+pub use Rattle.soundness.proofs.Rest.{endpoint-kind, notification-kind, thread-kind}
