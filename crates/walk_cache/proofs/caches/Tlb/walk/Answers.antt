@@ -1,0 +1,26 @@
+-- The leaf of a page gives what the walk gives.
+use Rattle.std.proofs.Common.{◌≡◌, ◌∙◌, ◌/◌, ◌%◌, ◌^◌, Some, sym, ap}
+use Rattle.std.specs.Option.{ok_or}
+use Rattle.model.specs.Machine.Sv32.{page_fault}
+use Rattle.walk_cache.specs.KeptLeaves.{leaf_of}
+use Rattle.walk_cache.proofs.Walks.{walk_leaf}
+use Rattle.walk_cache.proofs.caches.Tlb.walk.Goals as goal
+
+pub returns-in-Some-clause-value : goal.returns-in-Some-clause-value
+returns-in-Some-clause-value c =
+    let kept = c.in-Some.kept in
+    let is = c.in-Some.is in
+    let page = c.args.address / 2 ^ 12 in
+    let found : leaf_of c.args.memory.now c.args.root page ≡ Some kept.leaf =
+    ap (λ r. leaf_of c.args.memory.now r page) (sym (c.find.ensures.root kept is))
+    ∙ ap (λ p. leaf_of c.args.memory.now kept.root p) (sym (c.find.ensures.page kept is))
+    ∙ c.requires.each (page % 64) kept (c.find.ensures.kept kept is) in
+    c.ok_or.ensures.value
+    ∙ ap (λ o. ok_or o page_fault) (c.place_in.ensures ∙ sym (walk_leaf c.args.memory.now c.args.root c.args.address kept.leaf c.args.access found))
+
+pub returns-in-Some-leaf_of-clause-value : goal.returns-in-Some-leaf_of-clause-value
+returns-in-Some-leaf_of-clause-value c =
+    let found : leaf_of c.args.memory.now c.args.root (c.args.address / 2 ^ 12) ≡ Some c.in-Some-leaf_of.leaf.0 = sym c.in-Some-leaf_of.ensures in
+    c.ok_or-in-Some-leaf_of.ensures.value
+    ∙ ap (λ o. ok_or o page_fault)
+    (c.place_in-in-Some-leaf_of.ensures ∙ sym (walk_leaf c.args.memory.now c.args.root c.args.address c.in-Some-leaf_of.leaf.0 c.args.access found))

@@ -1,0 +1,2 @@
+pub mod KeptLeaves
+pub mod Laws
