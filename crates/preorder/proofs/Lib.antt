@@ -1,0 +1,11 @@
+mod BackTests
+mod Changes
+mod Counting
+mod DepthChanges
+mod Descents
+pub mod Laws
+mod Linked
+mod Paths
+mod RowDepths
+mod Splices
+mod Walking
