@@ -1,0 +1,139 @@
+//! What a text declares, with the lines that it stands on. Numbers count what stands in the text from 0.
+
+use crate::source_threads::SourceThread;
+
+/// `untyped NAME OFFSET BITS`
+#[derive(Clone, Copy, Debug)]
+pub struct UntypedLine<'a> {
+    pub line: u64,
+    pub name: &'a str,
+    pub offset: u32,
+    pub bits: u32,
+}
+
+/// `object NAME UNTYPED KIND [SIZE]`
+#[derive(Clone, Copy, Debug)]
+pub struct ObjectLine<'a> {
+    pub line: u64,
+    pub name: &'a str,
+    pub untyped: usize,
+    /// The number of its kind, 1 to 8.
+    pub kind: u32,
+    pub size: u32,
+}
+
+/// `irq NAME LINE NOTIFICATION BADGE`
+#[derive(Clone, Copy, Debug)]
+pub struct InterruptLine<'a> {
+    pub line: u64,
+    pub name: &'a str,
+    /// The machine's line, 0 to 63.
+    pub number: u32,
+    pub notification: usize,
+    pub badge: u32,
+}
+
+/// What a capability is made from.
+#[derive(Clone, Copy, Debug, PartialEq, Eq)]
+pub enum Source {
+    Object(usize),
+    /// The handler of an interrupt.
+    Interrupt(usize),
+}
+
+/// `cap CNODE INDEX SOURCE RIGHTS DATA`
+#[derive(Clone, Copy, Debug)]
+pub struct CapabilityLine {
+    pub line: u64,
+    pub cnode: usize,
+    pub index: u32,
+    pub source: Source,
+    pub rights: u32,
+    pub payload: u32,
+}
+
+/// `table ROOT ADDRESS TABLE`
+#[derive(Clone, Copy, Debug)]
+pub struct TableLine {
+    pub line: u64,
+    pub root: usize,
+    pub address: u32,
+    pub table: usize,
+}
+
+/// `map ROOT ADDRESS FRAME RIGHTS`
+#[derive(Clone, Copy, Debug)]
+pub struct FrameLine {
+    pub line: u64,
+    pub root: usize,
+    pub address: u32,
+    pub frame: usize,
+    pub rights: u32,
+}
+
+/// `data FRAME WORD ..`
+#[derive(Clone, Copy, Debug)]
+pub struct ContentLine {
+    pub line: u64,
+    pub frame: usize,
+}
+
+/// All that a text declares, each section in the order of its lines.
+#[derive(Drop)]
+pub struct SourceText<'a> {
+    pub untypeds: Vec<UntypedLine<'a>>,
+    pub objects: Vec<ObjectLine<'a>>,
+    pub interrupts: Vec<InterruptLine<'a>>,
+    pub capabilities: Vec<CapabilityLine>,
+    pub tables: Vec<TableLine>,
+    pub frames: Vec<FrameLine>,
+    pub contents: Vec<ContentLine>,
+    pub threads: Vec<SourceThread<'a>>,
+}
+
+impl<'a> SourceText<'a> {
+    /// The name of an object, by its number.
+    pub fn object_name(&self, number: usize) -> &'a str {
+        match self.objects.get(number) {
+            Some(object) => object.name,
+            None => "?",
+        }
+    }
+
+    /// The name of what a capability is made from.
+    pub fn source_name(&self, source: Source) -> &'a str {
+        match source {
+            Source::Object(number) => self.object_name(number),
+            Source::Interrupt(number) => match self.interrupts.get(number) {
+                Some(interrupt) => interrupt.name,
+                None => "?",
+            },
+        }
+    }
+
+    /// The number of an object's kind, or 0 if there is no such object.
+    pub fn kind(&self, number: usize) -> u32 {
+        match self.objects.get(number) {
+            Some(object) => object.kind,
+            None => 0,
+        }
+    }
+
+    /// The size of an object, or 0 if there is no such object.
+    pub fn size(&self, number: usize) -> u32 {
+        match self.objects.get(number) {
+            Some(object) => object.size,
+            None => 0,
+        }
+    }
+
+    /// What stands in a slot of a CNode.
+    pub fn capability(&self, cnode: usize, index: u32) -> Option<CapabilityLine> {
+        for capability in &self.capabilities {
+            if capability.cnode == cnode && capability.index == index {
+                return Some(*capability);
+            }
+        }
+        None
+    }
+}

@@ -1,0 +1,19 @@
+//! What the text of an image declares, by its names and the lines that it stands on.
+#![tactic(auto)]
+
+mod automatic;
+mod declared;
+mod faults;
+mod names;
+mod reading;
+mod source_threads;
+
+pub use automatic::{Budgets, has_automatic_budget, with_budgets};
+pub use declared::{
+    CapabilityLine, ContentLine, FrameLine, InterruptLine, ObjectLine, Source, SourceText,
+    TableLine, UntypedLine,
+};
+pub use faults::TextFault;
+pub use names::word_at;
+pub use reading::read;
+pub use source_threads::{RecordLine, SourceThread};
