@@ -1,0 +1,57 @@
+//! A system as a graph.
+
+use crate::faults::DrawingFault;
+use crate::scenes::Scene;
+use sinks::{Sink, put_all};
+use source_texts::{SourceText, read, with_budgets};
+use std::alloc::{AllocError, Global};
+
+/// What stands at the head of each graph.
+const HEAD: &str =
+    "digraph system {\n  graph [rankdir=LR, bgcolor=white, pad=0.3, nodesep=0.35, ranksep=0.7, fontname=\"Helvetica\"];\n  node [fontname=\"Helvetica\", fontsize=12, margin=\"0.14,0.08\"];\n  edge [fontname=\"Helvetica\", fontsize=10, fontcolor=\"#333333\", color=\"#555555\", arrowsize=0.7];\n";
+
+/// Whether an object of this kind is drawn where a capability names it: untyped memory, an endpoint, or a notification.
+fn is_drawn(kind: u32) -> bool {
+    kind == 1 || kind == 3 || kind == 4
+}
+
+/// The graph of a text.
+fn graph_of(alloc: Global, text: &SourceText<'_>, automatic: &[u64]) -> Result<String, AllocError> {
+    let mut scene = Scene {
+        text,
+        automatic,
+        graph: String::new(alloc),
+    };
+    scene.graph.push_str(HEAD)?;
+    for thread in &text.threads {
+        scene.push_thread(thread)?;
+    }
+    for number in 0..text.objects.len() {
+        let kind = text.kind(number);
+        let is_used = scene.is_held(number) || scene.is_signalled(number);
+        if (is_drawn(kind) && is_used) || (kind == 6 && scene.is_shared(number)) {
+            scene.push_object(number)?;
+        }
+    }
+    scene.push_interrupts()?;
+    for thread in &text.threads {
+        scene.push_links(alloc, thread)?;
+    }
+    scene.graph.push_str("}\n")?;
+    Ok(scene.graph)
+}
+
+/// Puts the system that a text describes as text for Graphviz: threads with priority, budget and the pages that are theirs alone;
+/// endpoints and notifications between them, with rights and badges; frames that are shared; untyped memory; interrupt lines.
+/// A budget may be `auto`.
+///
+/// # Errors
+///
+/// The first line that is at fault, an output that takes no more, or want of memory. Only the second has put anything.
+pub fn draw<S: Sink>(alloc: Global, text: &str, output: &mut S) -> Result<(), DrawingFault> {
+    let budgets = with_budgets(alloc, text)?;
+    let source = read(alloc, &budgets.text)?;
+    let graph = graph_of(alloc, &source, &budgets.lines)?;
+    put_all(output, graph.as_bytes())?;
+    Ok(())
+}

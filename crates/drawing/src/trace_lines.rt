@@ -1,0 +1,98 @@
+//! The lines of a trace.
+
+/// What came of an instruction.
+#[derive(Clone, Copy, Debug, PartialEq, Eq)]
+pub(crate) enum Mark {
+    Plain,
+    Wait,
+    Completed,
+    Refused(u8),
+    Put(u8),
+    Faulted(u8),
+}
+
+/// What one line of a trace tells.
+#[derive(Clone, Copy, Debug, PartialEq, Eq)]
+pub(crate) enum Happening {
+    Idle,
+    Tick,
+    Interrupt(u8),
+    Ran { thread: u32, pc: u32, mark: Mark },
+}
+
+/// The value of a hexadecimal digit.
+fn hex_digit(byte: u8) -> Option<u8> {
+    match byte {
+        b'0'..=b'9' => Some(byte - b'0'),
+        b'a'..=b'f' => Some(byte - b'a' + 10),
+        _ => None,
+    }
+}
+
+/// The number that hexadecimal digits spell.
+fn hex_word(digits: &[u8]) -> Option<u32> {
+    let mut value = 0u32;
+    for byte in digits {
+        let digit = hex_digit(*byte)?;
+        value = value.checked_mul(16)?.checked_add(u32::from(digit))?;
+    }
+    Some(value)
+}
+
+/// The number below 256 that decimal digits spell.
+fn small_number(digits: &[u8]) -> Option<u8> {
+    if digits.is_empty() {
+        return None;
+    }
+    let mut value = 0u8;
+    for byte in digits {
+        if !byte.is_ascii_digit() {
+            return None;
+        }
+        value = value.checked_mul(10)?.checked_add(*byte - b'0')?;
+    }
+    Some(value)
+}
+
+/// What came of an instruction, as a line's end tells.
+fn mark_of(text: &[u8]) -> Option<Mark> {
+    match text {
+        b"plain" => Some(Mark::Plain),
+        b"wait" => Some(Mark::Wait),
+        b"ok" => Some(Mark::Completed),
+        [b'e', b'r', b'r', b'o', b'r', b' ', digits @ ..] => Some(Mark::Refused(small_number(
+            digits,
+        )?)),
+        [b'f', b'a', b'u', b'l', b't', b' ', digits @ ..] => Some(Mark::Faulted(small_number(
+            digits,
+        )?)),
+        [b'b', b'y', b't', b'e', b' ', high, low] => Some(Mark::Put(
+            hex_digit(*high)?
+                .saturating_mul(16)
+                .saturating_add(hex_digit(*low)?),
+        )),
+        _ => None,
+    }
+}
+
+/// An instruction that a thread ran.
+fn ran(line: &[u8]) -> Option<Happening> {
+    if line.len() < 19 || line[8] != b' ' || line[17] != b' ' {
+        return None;
+    }
+    Some(Happening::Ran {
+        thread: hex_word(&line[..8])?,
+        pc: hex_word(&line[9..17])?,
+        mark: mark_of(&line[18..])?,
+    })
+}
+
+/// What a line of a trace tells, without its line feed.
+pub(crate) fn told_by(line: &[u8]) -> Option<Happening> {
+    match line {
+        b"idle" => Some(Happening::Idle),
+        b"tick" => Some(Happening::Tick),
+        [b'i', b'r', b'q', b' ', digits @ ..] => Some(Happening::Interrupt(small_number(digits)?)),
+        line => ran(line),
+    }
+}
