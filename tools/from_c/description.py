@@ -1,0 +1,127 @@
+"""The system that a text describes, as far as its threads' programs from C need it: what is mapped and named how.
+
+The text is that of `microsys build`, with a line `program FILE.c .. [data ADDRESS] [stack ADDRESS]` in a thread in the
+place of its instructions.
+"""
+
+from __future__ import annotations
+
+import re
+from dataclasses import dataclass, field
+
+from faults import Fault, Place
+
+PAGE = 4096
+WRITE, READ, EXECUTE = 1, 2, 4
+
+
+@dataclass(frozen=True)
+class Mapped:
+    """A page of an address space."""
+
+    frame: str
+    rights: int
+
+
+@dataclass(frozen=True)
+class Wanted:
+    """A line `program`: its place, the files, and the addresses of its data and of its stack's end."""
+
+    place: Place
+    files: tuple[str, ...]
+    data: int | None
+    stack: int | None
+
+
+@dataclass
+class Thread:
+    """A thread whose program comes from C."""
+
+    place: Place
+    name: str
+    cnode: str
+    root: str
+    entry: str
+    base: int
+    wanted: Wanted | None = None
+    sets_stack: bool = False
+
+
+@dataclass
+class Description:
+    """The lines of a text, and what was read of them."""
+
+    lines: list[str]
+    threads: list[Thread] = field(default_factory=list)
+    pages: dict[str, dict[int, Mapped]] = field(default_factory=dict)
+    slots: dict[str, dict[int, str]] = field(default_factory=dict)
+    filled: set[str] = field(default_factory=set)
+
+    def names(self, thread: Thread) -> dict[str, int]:
+        """The names that the thread's program may use: CAP_NAME, the index of its CNode's slot with the object or
+        handler of that name, and PAGE_NAME, the address of the frame under its root table. What is there twice has
+        none."""
+        found: dict[str, list[int]] = {}
+        for index, source in self.slots.get(thread.cnode, {}).items():
+            found.setdefault(f"CAP_{source.upper()}", []).append(index)
+        for address, page in self.pages.get(thread.root, {}).items():
+            found.setdefault(f"PAGE_{page.frame.upper()}", []).append(address)
+        return {name: numbers[0] for name, numbers in found.items() if len(numbers) == 1}
+
+
+def read(text: str, file: str) -> Description:
+    """Reads a description."""
+    described = Description(text.split("\n"))
+    thread: Thread | None = None
+    for number, line in enumerate(described.lines, 1):
+        words = re.split(r"[ \t,]+", line.split("#")[0].strip(" \t\r,"))
+        place = Place(file, number)
+        try:
+            if thread is None:
+                thread = declaration(words, place, described)
+            elif words[0] == "program":
+                thread.wanted = wanted(words, place)
+            elif words[0] == "reg" and words[1] == "x2":
+                thread.sets_stack = True
+            elif words[0] == "end":
+                thread = None
+        except (IndexError, ValueError) as error:
+            raise Fault(place, f"not understood: {line.strip()}") from error
+    return described
+
+
+def declaration(words: list[str], place: Place, described: Description) -> Thread | None:
+    """Notes a line outside threads; the thread that it begins, if it begins one."""
+    if words[0] == "map":
+        described.pages.setdefault(words[1], {})[number_of(words[2])] = Mapped(words[3], number_of(words[4]))
+    elif words[0] == "cap":
+        described.slots.setdefault(words[1], {})[number_of(words[2])] = words[3]
+    elif words[0] == "data":
+        described.filled.add(words[1])
+    elif words[0] == "thread":
+        thread = Thread(place, words[1], words[2], words[4], words[8], number_of(words[9]))
+        described.threads.append(thread)
+        return thread
+    return None
+
+
+def wanted(words: list[str], place: Place) -> Wanted:
+    """Reads a line `program`."""
+    files: list[str] = []
+    addresses: dict[str, int] = {}
+    rest = iter(words[1:])
+    for word in rest:
+        if word in ("data", "stack"):
+            addresses[word] = number_of(next(rest, ""))
+        else:
+            files.append(word)
+    if not files:
+        raise Fault(place, "the line is `program FILE.c .. [data ADDRESS] [stack ADDRESS]`")
+    if addresses.get("data", 0) % PAGE or addresses.get("stack", 0) % 16:
+        raise Fault(place, "data begin at a multiple of 4096, and a stack ends at a multiple of 16")
+    return Wanted(place, tuple(files), addresses.get("data"), addresses.get("stack"))
+
+
+def number_of(word: str) -> int:
+    """A number of the text form."""
+    return int(word, 16) if word[:2] in ("0x", "0X") else int(word)

@@ -1,0 +1,357 @@
+/* The system calls and invocations of microsys, for threads that are written in C.
+ *
+ * Each function is one ECALL, put in line at its call; docs/MANUAL.md, "System calls" and "Invocations", says what the
+ * kernel does with it. Capabilities are named by an address, which is the number of a slot for a thread with guard word
+ * 28 and a CNode of 16 slots. The verifier wants each capability, and each word of an invocation, to be one known value
+ * at its call: give constants.
+ *
+ * docs/FROM_C.md says how such C becomes a text that can be certified, built, verified and run.
+ */
+#ifndef MICROSYS_H
+#define MICROSYS_H
+
+#include <stdint.h>
+
+#define MICROSYS_INLINE static inline __attribute__((always_inline))
+
+/* A thread's function, which never returns: `THREAD control(void) { for (;;) { .. } }`. Its name is the label at which
+ * the thread starts, so it is written in lower case. What it calls in its file is put in line by the compiler. */
+#define THREAD __attribute__((noreturn, flatten)) void
+
+/* The words of a page that the system maps at a known address, as `words_at(0x3000)[0]`. Each use is one load or store,
+ * in the order of the program, as memory that threads share wants it. */
+#define words_at(address) ((volatile uint32_t *)(address))
+/* The same by bytes. */
+#define bytes_at(address) ((volatile uint8_t *)(address))
+
+/* The value where it is below the limit, and else 0. It shows the verifier a limit that it cannot know by itself, as of
+ * what is loaded or of a remainder. The compiler drops a test that it knows to be true, but not this one. */
+MICROSYS_INLINE uint32_t below(uint32_t limit, uint32_t value) {
+    __asm__("" : "+r"(value));
+    return value < limit ? value : 0;
+}
+
+/* --- Products and quotients --------------------------------------------------------------------------------------- */
+
+/* RV32I has no instructions for these. `a * b`, `a / b` and `a % b` are calls of the same loops, but a call costs the
+ * compiler registers; where it runs out of them, and keeps a counter or an address on the stack, the verifier knows
+ * nothing of it any more. */
+
+/* The low word of the product, in 32 rounds. */
+MICROSYS_INLINE uint32_t product(uint32_t a, uint32_t b) {
+    uint32_t sum = 0;
+    for (uint32_t bit = 0; bit < 32; bit++) {
+        if (b & 1)
+            sum += a;
+        a <<= 1;
+        b >>= 1;
+    }
+    return sum;
+}
+
+/* Both results of a division. */
+struct division {
+    uint32_t quotient, remainder;
+};
+
+/* Long division, a bit in each of 32 rounds. By 0 the quotient is all ones and the remainder the dividend, as of
+ * RISC-V's instructions. */
+MICROSYS_INLINE struct division division(uint32_t dividend, uint32_t divisor) {
+    uint32_t quotient = 0, remainder = 0;
+    for (uint32_t bit = 0; bit < 32; bit++) {
+        uint32_t above = remainder >> 31;
+        remainder = remainder << 1 | dividend >> 31;
+        dividend <<= 1;
+        quotient <<= 1;
+        if (above || remainder >= divisor) {
+            remainder -= divisor;
+            quotient |= 1;
+        }
+    }
+    return (struct division){quotient, remainder};
+}
+
+/* --- Messages ------------------------------------------------------------------------------------------------- */
+
+/* A message of 0 to 8 words. */
+struct message {
+    uint32_t badge;    /* of the sender's capability; a receive sets it, and a send does not look at it */
+    uint32_t label;    /* below 2^20: what the two have agreed on */
+    uint32_t length;   /* how many words count, 0 to 8 */
+    uint32_t words[8]; /* word 0 in a2, .., word 3 in a5, word 4 in s2, .., word 7 in s5 */
+};
+
+/* A message to be sent: `MESSAGE(7)` has label 7 and no words, `MESSAGE(0, a, b)` label 0 and two. */
+#define MESSAGE(name, ...)                                                                                             \
+    ((struct message){.label = (name),                                                                                 \
+                      .length = sizeof((uint32_t[]){__VA_ARGS__}) / sizeof(uint32_t),                                  \
+                      .words = {__VA_ARGS__}})
+
+/* --- Names of numbers ------------------------------------------------------------------------------------------- */
+
+/* What Call answers of an invocation. In an accepted system it is always DONE. */
+enum error {
+    DONE = 0,
+    INVALID_ARGUMENT = 1,
+    INVALID_CAPABILITY = 2,
+    ILLEGAL_OPERATION = 3,
+    RANGE_ERROR = 4,
+    ALIGNMENT_ERROR = 5,
+    FAILED_LOOKUP = 6,
+    TRUNCATED_MESSAGE = 7,
+    DELETE_FIRST = 8,
+    REVOKE_FIRST = 9,
+    NOT_ENOUGH_MEMORY = 10,
+};
+
+/* The types that an accepted thread may retype memory to. */
+enum object_type {
+    ENDPOINT = 3,     /* 16 bytes */
+    NOTIFICATION = 4, /* 16 bytes */
+    FRAME = 6,        /* 4096 bytes */
+};
+
+/* Rights, to be joined by `|`: of a capability the first three, of a mapping WRITE and READ. */
+enum rights {
+    WRITE = 1,
+    READ = 2,
+    GRANT_REPLY = 8,
+};
+
+/* The two words that name a slot: its address, and how many bits of the address count. */
+struct slot {
+    uint32_t address;
+    uint32_t bits;
+};
+
+/* A slot of the thread's own CNode, and by CNode capabilities with guard word 28 a slot of that CNode. */
+MICROSYS_INLINE struct slot slot(uint32_t index) {
+    return (struct slot){.address = index, .bits = 32};
+}
+
+/* For Retype: the thread's own CNode. */
+#define OWN_CNODE ((struct slot){.address = 0, .bits = 0})
+
+/* --- How a call is made ------------------------------------------------------------------------------------------ */
+
+/* a0: the capability; a1: the number of words and the label; a2 to a5 and s2 to s5: the words; a7: the call's number.
+ * */
+#define MICROSYS_WORD(number, name, message)                                                                           \
+    register uint32_t name __asm__(#name);                                                                             \
+    if (!__builtin_constant_p((message).length) || (message).length > (number))                                        \
+        name = (message).words[number]
+#define MICROSYS_WORDS(message)                                                                                        \
+    MICROSYS_WORD(0, a2, message);                                                                                     \
+    MICROSYS_WORD(1, a3, message);                                                                                     \
+    MICROSYS_WORD(2, a4, message);                                                                                     \
+    MICROSYS_WORD(3, a5, message);                                                                                     \
+    MICROSYS_WORD(4, s2, message);                                                                                     \
+    MICROSYS_WORD(5, s3, message);                                                                                     \
+    MICROSYS_WORD(6, s4, message);                                                                                     \
+    MICROSYS_WORD(7, s5, message)
+#define MICROSYS_HEAD(number, capability, information)                                                                 \
+    register uint32_t a7 __asm__("a7") = (number);                                                                     \
+    register uint32_t a0 __asm__("a0") = (capability);                                                                 \
+    register uint32_t a1 __asm__("a1") = (information)
+
+#pragma GCC diagnostic push
+/* A word that the message does not have is left as it is. */
+#pragma GCC diagnostic ignored "-Wuninitialized"
+#pragma GCC diagnostic ignored "-Wmaybe-uninitialized"
+
+MICROSYS_INLINE uint32_t microsys_information(struct message message) {
+    return message.label << 12 | message.length;
+}
+
+/* A call that writes no register: Send, NBSend and Reply. */
+MICROSYS_INLINE void microsys_give(uint32_t number, uint32_t capability, struct message message) {
+    MICROSYS_WORDS(message);
+    MICROSYS_HEAD(number, capability, microsys_information(message));
+    __asm__ volatile("ecall"
+                     :
+                     : "r"(a7), "r"(a0), "r"(a1), "r"(a2), "r"(a3), "r"(a4), "r"(a5), "r"(s2), "r"(s3), "r"(s4), "r"(s5)
+                     : "memory");
+}
+
+/* A call that gives a message and takes one: Call and ReplyRecv. */
+MICROSYS_INLINE struct message microsys_exchange(uint32_t number, uint32_t capability, struct message message) {
+    MICROSYS_WORDS(message);
+    MICROSYS_HEAD(number, capability, microsys_information(message));
+    __asm__ volatile("ecall"
+                     : "+r"(a0), "+r"(a1), "+r"(a2), "+r"(a3), "+r"(a4), "+r"(a5), "+r"(s2), "+r"(s3), "+r"(s4),
+                       "+r"(s5)
+                     : "r"(a7)
+                     : "memory");
+    return (struct message){a0, a1 >> 12, a1 & 127, {a2, a3, a4, a5, s2, s3, s4, s5}};
+}
+
+/* A call that takes a message: Recv and NBRecv. */
+MICROSYS_INLINE struct message microsys_take(uint32_t number, uint32_t endpoint) {
+    register uint32_t a7 __asm__("a7") = number;
+    register uint32_t a0 __asm__("a0") = endpoint;
+    register uint32_t a1 __asm__("a1");
+    register uint32_t a2 __asm__("a2");
+    register uint32_t a3 __asm__("a3");
+    register uint32_t a4 __asm__("a4");
+    register uint32_t a5 __asm__("a5");
+    register uint32_t s2 __asm__("s2");
+    register uint32_t s3 __asm__("s3");
+    register uint32_t s4 __asm__("s4");
+    register uint32_t s5 __asm__("s5");
+    __asm__ volatile("ecall"
+                     : "+r"(a0), "=r"(a1), "=r"(a2), "=r"(a3), "=r"(a4), "=r"(a5), "=r"(s2), "=r"(s3), "=r"(s4),
+                       "=r"(s5)
+                     : "r"(a7)
+                     : "memory");
+    return (struct message){a0, a1 >> 12, a1 & 127, {a2, a3, a4, a5, s2, s3, s4, s5}};
+}
+
+/* Call on a capability that is no endpoint: the answer is 0 in a0, and 4096 times the error in a1. */
+MICROSYS_INLINE enum error microsys_invoke(uint32_t capability, struct message message) {
+    MICROSYS_WORDS(message);
+    MICROSYS_HEAD(1, capability, microsys_information(message));
+    __asm__ volatile("ecall"
+                     : "+r"(a0), "+r"(a1)
+                     : "r"(a7), "r"(a2), "r"(a3), "r"(a4), "r"(a5), "r"(s2), "r"(s3), "r"(s4), "r"(s5)
+                     : "memory");
+    return (enum error)(a1 >> 12);
+}
+
+#pragma GCC diagnostic pop
+
+/* --- System calls on endpoints ------------------------------------------------------------------------------------ */
+
+/* Call (1): sends the request, and waits for the reply, which it gives back. The capability needs WRITE and
+ * GRANT_REPLY. A wait: the thread has its whole budget behind it. */
+MICROSYS_INLINE struct message sys_call(uint32_t endpoint, struct message request) {
+    return microsys_exchange(1, endpoint, request);
+}
+
+/* ReplyRecv (2): answers whoever called last, and waits for the next message. The capability needs READ. A wait. */
+MICROSYS_INLINE struct message sys_reply_recv(uint32_t endpoint, struct message answer) {
+    return microsys_exchange(2, endpoint, answer);
+}
+
+/* Send (3): waits until a receiver takes the message. The capability needs WRITE. A wait. */
+MICROSYS_INLINE void sys_send(uint32_t endpoint, struct message message) {
+    microsys_give(3, endpoint, message);
+}
+
+/* NBSend (4): sends the message if a receiver waits for it; else nothing comes of it. The capability needs WRITE. */
+MICROSYS_INLINE void sys_nb_send(uint32_t endpoint, struct message message) {
+    microsys_give(4, endpoint, message);
+}
+
+/* Recv (5): waits for a message. The capability needs READ. A wait. */
+MICROSYS_INLINE struct message sys_recv(uint32_t endpoint) {
+    return microsys_take(5, endpoint);
+}
+
+/* Reply (6): answers whoever called last; nothing comes of it where nobody waits for an answer. */
+MICROSYS_INLINE void sys_reply(struct message answer) {
+    microsys_give(6, 0, answer);
+}
+
+/* NBRecv (8): takes a message if a sender waits. Else the badge is 0, and the rest means nothing; so give senders
+ * badges. The capability needs READ. */
+MICROSYS_INLINE struct message sys_nb_recv(uint32_t endpoint) {
+    return microsys_take(8, endpoint);
+}
+
+/* --- System calls on notifications -------------------------------------------------------------------------------- */
+
+/* Send (3): joins the capability's badge to the notification's word, and wakes who waits for it. The capability needs
+ * WRITE. No wait. */
+MICROSYS_INLINE void sys_signal(uint32_t notification) {
+    register uint32_t a7 __asm__("a7") = 3;
+    register uint32_t a0 __asm__("a0") = notification;
+    __asm__ volatile("ecall" : : "r"(a7), "r"(a0) : "memory");
+}
+
+MICROSYS_INLINE uint32_t microsys_take_word(uint32_t number, uint32_t notification) {
+    register uint32_t a7 __asm__("a7") = number;
+    register uint32_t a0 __asm__("a0") = notification;
+    __asm__ volatile("ecall" : "+r"(a0) : "r"(a7) : "memory");
+    return a0;
+}
+
+/* Recv (5): waits for a signal, and takes the notification's word, the badges joined by `|`. The capability needs READ.
+ * A wait. */
+MICROSYS_INLINE uint32_t sys_wait(uint32_t notification) {
+    return microsys_take_word(5, notification);
+}
+
+/* NBRecv (8): takes the notification's word, which is 0 where there was no signal. The capability needs READ. */
+MICROSYS_INLINE uint32_t sys_poll(uint32_t notification) {
+    return microsys_take_word(8, notification);
+}
+
+/* --- The others --------------------------------------------------------------------------------------------------- */
+
+/* Yield (7): the thread goes to the end of its priority's turn. */
+MICROSYS_INLINE void sys_yield(void) {
+    register uint32_t a7 __asm__("a7") = 7;
+    __asm__ volatile("ecall" : : "r"(a7) : "memory");
+}
+
+/* PutChar (9): the byte goes to the trace. */
+MICROSYS_INLINE void sys_put_char(uint8_t byte) {
+    register uint32_t a7 __asm__("a7") = 9;
+    register uint32_t a0 __asm__("a0") = byte;
+    __asm__ volatile("ecall" : : "r"(a7), "r"(a0));
+}
+
+/* --- Invocations -------------------------------------------------------------------------------------------------- */
+
+/* Retype (label 1, 6 words) of untyped memory: objects of the type, as many as `count` says, 1 to 256, with their
+ * capabilities from slot `first` of the CNode on. Accepted threads make the three types of `enum object_type`, and of
+ * these `size` is 0. */
+MICROSYS_INLINE enum error untyped_retype(uint32_t untyped, enum object_type type, uint32_t size, struct slot cnode,
+                                          uint32_t first, uint32_t count) {
+    return microsys_invoke(untyped, MESSAGE(1, type, size, cnode.address, cnode.bits, first, count));
+}
+
+/* Copy (label 7, 5 words): the slot `to` of the CNode gets a child of what `from` of the thread's own slots holds, with
+ * those of its rights that are in `rights`. A frame's copy is not mapped. */
+MICROSYS_INLINE enum error cnode_copy(uint32_t cnode, struct slot to, struct slot from, uint32_t rights) {
+    return microsys_invoke(cnode, MESSAGE(7, to.address, to.bits, from.address, from.bits, rights));
+}
+
+/* Mint (label 8, 6 words): as Copy, and an endpoint's or notification's copy has the badge, below 2^28. */
+MICROSYS_INLINE enum error cnode_mint(uint32_t cnode, struct slot to, struct slot from, uint32_t rights,
+                                      uint32_t badge) {
+    return microsys_invoke(cnode, MESSAGE(8, to.address, to.bits, from.address, from.bits, rights, badge));
+}
+
+/* Move (label 9, 4 words): from one slot to another, with its mapping and its children. */
+MICROSYS_INLINE enum error cnode_move(uint32_t cnode, struct slot to, struct slot from) {
+    return microsys_invoke(cnode, MESSAGE(9, to.address, to.bits, from.address, from.bits));
+}
+
+/* Delete (label 11, 2 words): empties the slot. Its children become its parent's. */
+MICROSYS_INLINE enum error cnode_delete(uint32_t cnode, struct slot of) {
+    return microsys_invoke(cnode, MESSAGE(11, of.address, of.bits));
+}
+
+/* Revoke (label 12, 2 words): takes all that descends from the slot's capability; untyped memory is whole again. */
+MICROSYS_INLINE enum error cnode_revoke(uint32_t cnode, struct slot of) {
+    return microsys_invoke(cnode, MESSAGE(12, of.address, of.bits));
+}
+
+/* Map (label 13, 4 words) of a frame under the root table in the slot, at an address that is a multiple of 4096 and has
+ * a page table, with READ or READ | WRITE. */
+MICROSYS_INLINE enum error frame_map(uint32_t frame, struct slot root, uint32_t address, uint32_t rights) {
+    return microsys_invoke(frame, MESSAGE(13, root.address, root.bits, address, rights));
+}
+
+/* Unmap (label 14, no words) of a frame. */
+MICROSYS_INLINE enum error frame_unmap(uint32_t frame) {
+    return microsys_invoke(frame, MESSAGE(14));
+}
+
+/* Ack (label 18, no words): lets the handler's interrupt line signal again. A driver says it before it waits. */
+MICROSYS_INLINE enum error handler_ack(uint32_t handler) {
+    return microsys_invoke(handler, MESSAGE(18));
+}
+
+#endif
