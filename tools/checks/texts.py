@@ -2,7 +2,7 @@
 """What the gate asks of the texts of all crates before it proves anything: layout, names, links and edits. At the top of the repository.
 
 Also that no crate imports more lines of another's proofs than proof_imports.txt has for it: a law crate is used through its one public
-module of proofs, `Laws`, and a crate with code through its contracts.
+module of proofs, `Laws`, and a crate with code through its contracts. And that none but `objects` sees which form its tables have.
 """
 import os
 import re
@@ -14,6 +14,9 @@ from libraries import RT  # noqa: E402
 
 ALLOWED = os.path.join(os.path.dirname(os.path.realpath(__file__)), "proof_imports.txt")
 IMPORT = re.compile(r"^(?:ghost )?(?:pub )?use Rattle\.(\w+)\.proofs\.(?!Laws\b)", re.M)
+
+
+FORM = re.compile(r"\btold_by\b|use Rattle\.objects\.specs\.(?:Rights\.|Tables\.(?!\{(?:Tables|state_of)(?:, (?:Tables|state_of))*\}))")
 
 
 def allowed_imports():
@@ -43,6 +46,19 @@ def miscounted(crates):
     return other
 
 
+def forms_seen(crates):
+    """The crates that see what `told_by` hides, or a definition of the tables beside `Tables` and `state_of`; each file is printed."""
+    found = []
+    for crate in crates:
+        for file in RT.rtlib.files_of(crate.folder) if crate.name != "objects" else []:
+            if file.endswith((".rt", ".antt")):
+                with open(file, encoding="utf-8") as text:
+                    if FORM.search(text.read()):
+                        print(f"{file}: sees which form the tables of objects have")
+                        found.append(crate.name)
+    return found
+
+
 def refusals(crate, crates):
     """How many of the gate's demands the crate's texts do not meet; each is printed."""
     found = 0
@@ -66,7 +82,7 @@ def refusals(crate, crates):
 def main():
     RT.rtlib.Crate = RT.Crate
     crates = RT.rtlib.crates_below(os.getcwd())
-    refused = [it.name for it in crates if refusals(it, crates)] + miscounted(crates)
+    refused = [it.name for it in crates if refusals(it, crates)] + miscounted(crates) + forms_seen(crates)
     print("refused: " + " ".join(refused) if refused else "all texts are as the gate asks")
     return 1 if refused else 0
 

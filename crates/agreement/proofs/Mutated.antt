@@ -3,7 +3,7 @@ use Rattle.std.proofs.Common.{ℕ, ◌≡◌, ◌≢◌, ◌∙◌, ◌==◌, in
 use Rattle.std.specs.Option.{option_map_or}
 use Rattle.std.proofs.lemmas.Bool.Decides.{eqb_tells}
 use Rattle.agreement.proofs.Puts.{capability_of, changed-agrees, is-open, moved-closes, moved-named, moved_entry, put-closes, put-named}
-use Rattle.agreement.specs.Agreement.{Agrees}
+use Rattle.agreement.specs.Wholeness.{Agreed}
 use Rattle.model.specs.Capabilities.CapabilityKinds.{carries_messages, with_payload}
 use Rattle.model.specs.Capabilities.CapabilityWords.{IsCapability}
 use Rattle.model.specs.Capabilities.Slots.{SameOutside, Slots, capability_at, empty_entry, parent_at, recapped, relocated}
@@ -89,11 +89,11 @@ module _ (o : Tables) (slots : Slots) (old new : List ℕ) (from to payload : �
   mutate-closes x none =
       put-closes moved to made (parent_at moved to) (is-open moved to e here) x (moved-closes slots from to (is-open slots from e from_held) (is-open slots to empty_entry empty) x none)
 
-  pub mutate-agrees : Agrees (state_of o slots old) old → SameOutside slots old new → carries_messages (capability_at slots from) ≡ false → IsCapability made
-      → Agrees (state_of o (recapped moved to made) new) new
+  pub mutate-agrees : Agreed o slots old → SameOutside slots old new → carries_messages (capability_at slots from) ≡ false → IsCapability made
+      → Agreed o (recapped moved to made) new
   unfolding state_of
   mutate-agrees agrees same silent valid =
-      let now = agree-moved slots new from to (agree-outside slots old new agrees.tables same) apart (is-open slots from e from_held) (is-open slots to empty_entry empty) (ap capability_of empty) in
+      let now = agree-moved slots new from to (agree-outside slots old new agrees.0.tables same) apart (is-open slots from e from_held) (is-open slots to empty_entry empty) (ap capability_of empty) in
       let held : capability_at moved to ≡ capability_at slots from = ap capability_of (moved-here slots from to apart) in
       changed-agrees o slots (recapped moved to made) old new agrees same mutate-closes (guarded-tables moved new to payload e here now (capability_at slots from) held silent valid)
       (λ table named. moved-named slots from to table (put-named moved to made (parent_at moved to) table

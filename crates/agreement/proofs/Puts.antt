@@ -2,8 +2,9 @@
 use Rattle.std.proofs.Common.{ℕ, ◌≡◌, ◌≢◌, ◌∙◌, ◌==◌, ◌/◌, inl, inr, Bool, true, false, if◌then◌else◌, Option, Some, None, IsSome, List, refl, sym, ap, subst}
 use Rattle.std.specs.Option.{option_map, option_map_or}
 use Rattle.std.proofs.lemmas.Bool.Decides.{eqb_tells}
-use Rattle.agreement.proofs.Laws.{follows-law}
+use Rattle.agreement.proofs.Laws.{follows-law, stands-law}
 use Rattle.agreement.specs.Agreement.{Agrees}
+use Rattle.agreement.specs.Wholeness.{Agreed}
 use Rattle.model.proofs.SlotChanges.{capability-adopted}
 use Rattle.model.specs.Capabilities.CapabilityKinds.{frame_mapping}
 use Rattle.model.specs.Capabilities.CapabilityWords.{IsCapability}
@@ -27,7 +28,7 @@ abbrev pub capability_of : Option Entry → Cap
 capability_of held = option_map_or (λ e. e.capability) held Empty
 
 -- slots change, and bytes of slots; none is opened, and no other table is named
-module _ (o : Tables) (slots now : Slots) (old new : List ℕ) (agrees : Agrees (state_of o slots old) old) (same : SameOutside slots old new)
+module _ (o : Tables) (slots now : Slots) (old new : List ℕ) (agreed : Agreed o slots old) (same : SameOutside slots old new)
     (closes : (slot : ℕ) → slots slot ≡ None → now slot ≡ None) where
   open-before : (slot : ℕ) → IsOpen now slot → IsOpen slots slot
   open-before slot is_open = elim (slots slot) as (λ e. slots slot ≡ e → IsOpen slots slot) [
@@ -35,15 +36,18 @@ module _ (o : Tables) (slots now : Slots) (old new : List ℕ) (agrees : Agrees 
     | Some e ↦ λ is. subst (λ (x : Option Entry). IsSome x) (sym is) refl
   ] refl
 
-  pub changed-agrees : TablesAgree now new → ((table : ℕ) → IsNamedTable now table → IsNamedTable slots table) → Agrees (state_of o now new) new
+  pub changed-agrees : TablesAgree now new → ((table : ℕ) → IsNamedTable now table → IsNamedTable slots table) → Agreed o now new
   unfolding state_of
-  changed-agrees tables names = subst (λ (t : State). Agrees t new) (sym (follows-law o slots now old new agrees same closes)) (record {
-    tables = tables;
-    size = agrees.size ∙ sym same.size;
-    slots = λ place is_open. agrees.slots place (open-before (place / 16) is_open);
-    frames = λ table place named low high. agrees.frames table place (names table named) low high;
-    records = λ table place offset kind named low high there kept. agrees.records table place offset kind (names table named) low high there kept;
-  })
+  changed-agrees tables names = (
+    subst (λ (t : State). Agrees t new) (sym (follows-law o slots now old new agreed same closes)) (record {
+      tables = tables;
+      size = agreed.0.size ∙ sym same.size;
+      slots = λ place is_open. agreed.0.slots place (open-before (place / 16) is_open);
+      frames = λ table place named low high. agreed.0.frames table place (names table named) low high;
+      records = λ table place offset kind named low high there kept. agreed.0.records table place offset kind (names table named) low high there kept;
+    }),
+    stands-law o slots now old new agreed.1 same closes,
+  )
 
 pub is-open : (slots : Slots) (slot : ℕ) (e : Entry) → slots slot ≡ Some e → IsOpen slots slot
 is-open slots slot e is = subst (λ (x : Option Entry). IsSome x) (sym is) refl
@@ -68,14 +72,14 @@ put-named slots slot made parent table has named =
       | inr apart ↦ (named.0, subst held apart.0 named.1)
     ]
 
-pub put-agrees : (o : Tables) (slots : Slots) (old new : List ℕ) (slot : ℕ) (made : Cap) (parent : Option ℕ) → Agrees (state_of o slots old) old → SameOutside slots old new
+pub put-agrees : (o : Tables) (slots : Slots) (old new : List ℕ) (slot : ℕ) (made : Cap) (parent : Option ℕ) → Agreed o slots old → SameOutside slots old new
     → slots slot ≡ Some empty_entry → MayBePut slots new made → ((table : ℕ) → NamesTable made table → IsNamedTable slots table)
-    → Agrees (state_of o (inserted slots slot made parent) new) new
+    → Agreed o (inserted slots slot made parent) new
 unfolding state_of
 put-agrees o slots old new slot made parent agrees same empty may names =
     let is_open = is-open slots slot empty_entry empty in
     changed-agrees o slots (inserted slots slot made parent) old new agrees same (put-closes slots slot made parent is_open)
-    (agree-put slots new slot made parent (agree-outside slots old new agrees.tables same) is_open (ap capability_of empty) may)
+    (agree-put slots new slot made parent (agree-outside slots old new agrees.0.tables same) is_open (ap capability_of empty) may)
     (λ table named. put-named slots slot made parent table (names table) named)
 
 -- ---- a copy: a page table is not copied, a frame's copy is not mapped, and a root table is named already
@@ -110,9 +114,9 @@ copy-named slots source (Tcb a) table single object names = absurd names
 copy-named slots source InterruptControl table single object names = absurd names
 copy-named slots source (InterruptHandler a) table single object names = absurd names
 
-pub copy-agrees : (o : Tables) (slots : Slots) (old new : List ℕ) (slot source : ℕ) (made : Cap) → Agrees (state_of o slots old) old → SameOutside slots old new
+pub copy-agrees : (o : Tables) (slots : Slots) (old new : List ℕ) (slot source : ℕ) (made : Cap) → Agreed o slots old → SameOutside slots old new
     → slots slot ≡ Some empty_entry → IsCapability made → is_single made ≡ false → frame_mapping made ≡ None → object_named made ≡ object_named (capability_at slots source)
-    → Agrees (state_of o (inserted slots slot made (Some source)) new) new
+    → Agreed o (inserted slots slot made (Some source)) new
 copy-agrees o slots old new slot source made agrees same empty valid single plain object =
     put-agrees o slots old new slot made (Some source) agrees same empty (copy-may slots new source made valid single plain object)
     (λ table names. copy-named slots source made table single object names)
@@ -144,11 +148,11 @@ moved-named slots from to table named =
           ]
     ]
 
-pub move-agrees : (o : Tables) (slots : Slots) (old new : List ℕ) (from to : ℕ) → Agrees (state_of o slots old) old → SameOutside slots old new
-    → IsOpen slots from → slots to ≡ Some empty_entry → from ≢ to → Agrees (state_of o (relocated slots from to) new) new
+pub move-agrees : (o : Tables) (slots : Slots) (old new : List ℕ) (from to : ℕ) → Agreed o slots old → SameOutside slots old new
+    → IsOpen slots from → slots to ≡ Some empty_entry → from ≢ to → Agreed o (relocated slots from to) new
 unfolding state_of
 move-agrees o slots old new from to agrees same from_open empty apart =
     let to_open = is-open slots to empty_entry empty in
     changed-agrees o slots (relocated slots from to) old new agrees same (moved-closes slots from to from_open to_open)
-    (agree-moved slots new from to (agree-outside slots old new agrees.tables same) apart from_open to_open (ap capability_of empty))
+    (agree-moved slots new from to (agree-outside slots old new agrees.0.tables same) apart from_open to_open (ap capability_of empty))
     (λ table named. moved-named slots from to table named)

@@ -1,5 +1,5 @@
 -- What a removal does to objects and mappings leaves them in agreement.
-use Rattle.std.proofs.Common.{ℕ, ◌≡◌, ◌∙◌, ◌==◌, ◌+◌, ◌-◌, ◌/◌, ◌%◌, inl, inr, Bool, true, false, if◌then◌else◌, Option, Some, None, option_map, List, [], ◌∷◌, IsSome, filter, fold, refl, sym, ap, subst}
+use Rattle.std.proofs.Common.{ℕ, ◌≡◌, ◌∙◌, ◌==◌, ◌+◌, ◌-◌, ◌/◌, ◌%◌, inl, inr, Bool, true, false, if◌then◌else◌, Option, Some, None, option_map, List, [], ◌∷◌, IsSome, filter, fold, refl, sym, ap, subst, arith}
 use Rattle.std.specs.Prelude.{All}
 use Rattle.std.specs.Option.{option_map_or}
 use Rattle.std.proofs.lemmas.Bool.{cases_lt}
@@ -17,8 +17,10 @@ use Rattle.model.specs.declared.slot_entries.Entry.{Entry}
 use Rattle.agreement.proofs.Agreeing.{agrees-less}
 use Rattle.agreement.proofs.Lessened.{Lessened, less-same}
 use Rattle.agreement.specs.Agreement.{Agrees}
-use Rattle.objects.proofs.Following.{follows-bytes}
-use Rattle.objects.specs.Frames.{SameBesideObjects}
+use Rattle.agreement.specs.Wholeness.{Agreed}
+use Rattle.objects.proofs.Following.{follows-kept, not-open, stands-kept, still-open}
+use Rattle.objects.specs.Frames.{IsInRecord, SameBesideObjects, SameElsewhere, SameKept}
+use Rattle.objects.specs.Standing.{Standing}
 use Rattle.objects.specs.Tables.{Tables, state_of}
 use Rattle.removals.proofs.Named.{kind-threads}
 use Rattle.removals.specs.Finishing.{is_stranded, waits_nowhere, woken}
@@ -49,25 +51,64 @@ module _ (s : State) (memory : List ℕ) (agrees : Agrees s memory) (place byte 
         ]
   ]
 
-module _ (o : Tables) (slots now : Slots) (old new : List ℕ) (agrees : Agrees (state_of o slots old) old) (same : SameBesideTables slots old new) where
-  pub unmapped-state : state_of o now new ≡ with_slots (state_of o slots old) now
-  unfolding state_of
-  unmapped-state = follows-bytes o slots old new now
-      (λ place byte is. same.bytes place (no-slot (state_of o slots old) old agrees place byte is) (no-table (state_of o slots old) old agrees place byte is))
+-- nor does a table stand where the record of an object does
+record-table : (s : State) (memory : List ℕ) → Agrees s memory → (place : ℕ) → IsInRecord s.objects place → (table : ℕ) → IsNamedTable s.slots table → IsBeside place table
+record-table s memory agrees place held table named = elim (cases_lt place table) [
+  | inl before ↦ inl before
+  | inr from ↦
+      elim (cases_lt place (table + page_size)) [
+        | inl within ↦
+            let low = held.from in
+            let high = held.below in
+            absurd (elim (agrees.records table place held.offset held.kind named from within held.there held.kept) [
+              | inl before ↦ omega (arith, before, low)
+              | inr behind ↦ omega (arith, behind, high)
+            ])
+        | inr behind ↦ inr behind
+      ]
+]
 
-  pub unmapped-agrees : TablesAgree now new → Lessened slots now → Agrees (state_of o now new) new
+module _ (o : Tables) (slots now : Slots) (old new : List ℕ) (agreed : Agreed o slots old) (same : SameBesideTables slots old new) where
+  abbrev before : State
+  before = state_of o slots old
+
+  same-kept : SameKept before old new
   unfolding state_of
-  unmapped-agrees tables less =
-      subst (λ (t : State). Agrees t new) (sym unmapped-state)
-      (agrees-less (state_of o slots old) (with_slots (state_of o slots old) now) old new agrees tables refl same.size less (λ place none. none) (λ offset kind is. is))
+  same-kept = record {
+    size = same.size;
+    frames = λ place byte is. same.bytes place (no-slot before old agreed.0 place byte is) (no-table before old agreed.0 place byte is);
+    records = λ place held. same.bytes place (not-open slots (place / 16) (λ is_open. agreed.1.fits.records place is_open held)) (record-table before old agreed.0 place held);
+  }
+
+  pub unmapped-state : state_of o now new ≡ with_slots before now
+  unmapped-state = follows-kept o slots old new now agreed.1 same-kept
+
+  -- no slot is opened
+  pub unmapped-stands : ((slot : ℕ) → slots slot ≡ None → now slot ≡ None) → Standing o now new
+  unfolding state_of
+  unmapped-stands closes =
+      stands-kept o slots old new now agreed.1 same-kept (λ place is_open. agreed.1.fits.frames place (still-open slots now closes (place / 16) is_open))
+      (λ place is_open held. agreed.1.fits.records place (still-open slots now closes (place / 16) is_open) held)
+
+  pub unmapped-agrees : TablesAgree now new → Lessened slots now → Agreed o now new
+  unfolding state_of
+  unmapped-agrees tables less = (
+    subst (λ (t : State). Agrees t new) (sym unmapped-state)
+        (agrees-less before (with_slots before now) old new agreed.0 tables refl same.size less (λ place none. none) (λ offset kind is. is)),
+    unmapped-stands less.closed,
+  )
 
 -- ---- objects
 
-pub tables-beside : (s : State) (old new : List ℕ) → Agrees s old → SameBesideObjects s old new → TablesAgree s.slots new
+pub tables-beside : (s : State) (old new : List ℕ) → Agrees s old → SameElsewhere s old new → TablesAgree s.slots new
 tables-beside s old new agrees same = agree-beside s.slots old new agrees.tables (record {
   size = same.size;
-  bytes = λ table place named low high. same.bytes place (λ offset kind there kept. agrees.records table place offset kind named low high there kept);
+  bytes = λ table place named low high.
+      same.bytes place (agrees.frames table place named low high) (λ offset kind there kept. agrees.records table place offset kind named low high there kept);
 })
+
+elsewhere : (s : State) (old new : List ℕ) → SameBesideObjects s old new → SameElsewhere s old new
+elsewhere s old new same = record { size = same.size; bytes = λ place none outside. same.bytes place outside }
 
 kind-left : (b : Bool) (gone : ℕ → Bool) (o : Option Object) (k : NewObject)
     → option_map kind_of (if b then None else option_map (without_threads gone) o) ≡ Some k → option_map kind_of o ≡ Some k
@@ -80,7 +121,7 @@ none-left false o none = none
 
 pub ended-agrees : (s : State) (offset : ℕ) (old new : List ℕ) → Agrees s old → SameBesideObjects s old new → Agrees (object_ended s offset) new
 ended-agrees s offset old new agrees same =
-    agrees-less s (object_ended s offset) old new agrees (tables-beside s old new agrees same) refl same.size (less-same s.slots)
+    agrees-less s (object_ended s offset) old new agrees (tables-beside s old new agrees (elsewhere s old new same)) refl same.size (less-same s.slots)
     (λ place none. none-left (offset == place - place % page_size) (s.bytes place) none)
     (λ other kind is. kind-left (offset == other) (ends_thread s offset) (s.objects other) kind is)
 
@@ -125,7 +166,7 @@ woken-agrees s old new agrees same =
     let threads = woken-all s (filter (is_stranded s) (thread_places s))
     (All-weaker (λ (x : ℕ). is_stranded s x ≡ true) (λ (x : ℕ). kind_at s x ≡ Some NewThread) (λ x is. stranded-kind (s.objects x) s is)
     (filter (is_stranded s) (thread_places s)) (filter_passes (is_stranded s) (thread_places s))) in
-    agrees-less s (woken s) old new agrees (subst (λ (x : Slots). TablesAgree x new) (sym threads.slots) (tables-beside s old new agrees same)) threads.bits same.size
+    agrees-less s (woken s) old new agrees (subst (λ (x : Slots). TablesAgree x new) (sym threads.slots) (tables-beside s old new agrees (elsewhere s old new same))) threads.bits same.size
     (subst (λ (x : Slots). Lessened s.slots x) (sym threads.slots) (less-same s.slots))
     (λ place none. ap (λ (f : ℕ → Option ℕ). f place) threads.bytes ∙ none) (λ offset kind is. sym (threads.kinds offset) ∙ is)
 

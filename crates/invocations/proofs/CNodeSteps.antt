@@ -5,10 +5,9 @@ use Rattle.std.proofs.lemmas.Bool.{not-true}
 use Rattle.agreement.proofs.Laws.{follows-law}
 use Rattle.agreement.proofs.Mutated.{mutate-agrees, mutate-closes}
 use Rattle.agreement.proofs.Puts.{copy-agrees, move-agrees, moved-closes, put-closes}
-use Rattle.agreement.specs.Agreement.{Agrees}
 use Rattle.cnode_ops.specs.Outcomes.{Gives, GivesCopy, GivesMint, GivesMove, GivesMutate, GivesOn, GivesState}
 use Rattle.cnode_ops.specs.declared.named.NodeCall.{NodeCall}
-use Rattle.agreement.specs.Wholeness.{IsWhole}
+use Rattle.agreement.specs.Wholeness.{Agreed, IsWhole}
 use Rattle.invocations.proofs.Standing.{Whole, refused-whole}
 use Rattle.model.proofs.Ancestors.{full-open}
 use Rattle.model.specs.Capabilities.CapabilityKinds.{badge_fits, carries_messages, copied, guard_fits, is_badged, may_be_copied, with_payload}
@@ -34,7 +33,7 @@ use Rattle.soundness.specs.Calls.{IsCall}
 
 pub record Left (o : Tables) (slots now : Slots) (old new : List ℕ) : Type 0 where
   pub closes : (slot : ℕ) → slots slot ≡ None → now slot ≡ None
-  pub agrees : Agrees (state_of o now new) new
+  pub agreed : Agreed o now new
   pub sound : IsSound (with_slots (state_of o slots old) now)
 
 left-subst : (o : Tables) (slots made now : Slots) (old new : List ℕ) → made ≡ now → Left o slots made old new → Left o slots now old new
@@ -46,7 +45,7 @@ full-held slots slot full = elim (slots slot) as (λ h. slots slot ≡ h → (e 
   | Some e ↦ λ some. (e, some)
 ] refl
 
-module _ (o : Tables) (slots now : Slots) (old new : List ℕ) (call : Call) (to from : SlotName) (sound : IsSound (state_of o slots old)) (agrees : Agrees (state_of o slots old) old)
+module _ (o : Tables) (slots now : Slots) (old new : List ℕ) (call : Call) (to from : SlotName) (sound : IsSound (state_of o slots old)) (agreed : Agreed o slots old)
     (same : SameOutside slots old new) (is_call : IsCall (state_of o slots old) call) where
   abbrev s : State
   s = state_of o slots old
@@ -69,7 +68,7 @@ module _ (o : Tables) (slots now : Slots) (old new : List ℕ) (call : Call) (to
       let empty = empty-at one.value two.value named in
       left-subst o slots (inserted slots one.value (copied capability word) (Some two.value)) now old new (ap (λ (t : State). t.slots) after) (record {
         closes = put-closes slots one.value (copied capability word) (Some two.value) (subst (λ (x : Option Entry). IsSome x) (sym empty) refl);
-        agrees = copy-agrees o slots old new one.value two.value (copied capability word) agrees same empty (copied-valid capability word (sound.slots.derivation.valid two.value))
+        agreed = copy-agrees o slots old new one.value two.value (copied capability word) agreed same empty (copied-valid capability word (sound.slots.derivation.valid two.value))
             ((copied-alike capability word).single ∙ copies-shared capability may) (copied-unmapped capability word) (copied-alike capability word).object;
         sound = subst IsSound (sym after) (copy-sound s (with_slots s now) call to from word sound is_call is);
       })
@@ -95,7 +94,7 @@ module _ (o : Tables) (slots now : Slots) (old new : List ℕ) (call : Call) (to
       let empty = empty-at one.value two.value named in
       left-subst o slots (inserted slots one.value minted (Some two.value)) now old new (ap (λ (t : State). t.slots) after) (record {
         closes = put-closes slots one.value minted (Some two.value) (subst (λ (x : Option Entry). IsSome x) (sym empty) refl);
-        agrees = copy-agrees o slots old new one.value two.value minted agrees same empty
+        agreed = copy-agrees o slots old new one.value two.value minted agreed same empty
             (payload-valid (copied capability word) payload (copied-valid capability word (sound.slots.derivation.valid two.value)) (copied-badge_fits capability word payload ∙ badge) (copied-guard_fits capability word payload ∙ guard))
             (alike.single ∙ copies-shared capability may) (payload-mapping (copied capability word) payload ∙ copied-unmapped capability word) alike.object;
         sound = subst IsSound (sym after) (mint-sound s (with_slots s now) call to from word payload sound is_call is);
@@ -112,7 +111,7 @@ module _ (o : Tables) (slots now : Slots) (old new : List ℕ) (call : Call) (to
       let from_open = full-open slots two.value named.full in
       left-subst o slots (relocated slots two.value one.value) now old new (ap (λ (t : State). t.slots) after) (record {
         closes = moved-closes slots two.value one.value from_open (subst (λ (x : Option Entry). IsSome x) (sym empty) refl);
-        agrees = move-agrees o slots old new two.value one.value agrees same from_open empty
+        agreed = move-agrees o slots old new two.value one.value agreed same from_open empty
             (λ same_slot. let clash : true ≡ false = sym named.full ∙ ap (is_full slots) same_slot ∙ named.empty in cc);
         sound = subst IsSound (sym after) (move-sound s (with_slots s now) call to from sound is_call is);
       })
@@ -135,7 +134,7 @@ module _ (o : Tables) (slots now : Slots) (old new : List ℕ) (call : Call) (to
       let apart : two.value ≢ one.value = λ same_slot. let clash : true ≡ false = sym named.full ∙ ap (is_full slots) same_slot ∙ named.empty in cc in
       left-subst o slots guarded now old new (ap (λ (t : State). t.slots) after) (record {
         closes = mutate-closes o slots old new two.value one.value payload there.0 there.1 empty apart;
-        agrees = mutate-agrees o slots old new two.value one.value payload there.0 there.1 empty apart agrees same silent
+        agreed = mutate-agrees o slots old new two.value one.value payload there.0 there.1 empty apart agreed same silent
             (payload-valid capability payload (sound.slots.derivation.valid two.value) (no-badge capability payload silent) guard);
         sound = subst IsSound (sym after) (mutate-sound s (with_slots s now) call to from payload sound is_call is);
       })
@@ -148,17 +147,17 @@ unfolding state_of
 given o slots memory defined on now (Ok x) gives call root node = gives (state_of o slots memory) call root node
 given o slots memory defined on now (Err e) gives call root node = gives (state_of o slots memory) call root node
 
-module _ (o : Tables) (slots now : Slots) (old new : List ℕ) (agrees : Agrees (state_of o slots old) old) (same : SameOutside slots old new) where
+module _ (o : Tables) (slots now : Slots) (old new : List ℕ) (agreed : Agreed o slots old) (same : SameOutside slots old new) where
   after-state : Left o slots now old new → state_of o now new ≡ with_slots (state_of o slots old) now
-  after-state left = follows-law o slots now old new agrees same left.closes
+  after-state left = follows-law o slots now old new agreed same left.closes
 
   gives-after : {A : Type 0} (defined : Result State KError) (result : Result A KError) → (defined ≡ Ok (with_slots (state_of o slots old) now) → Left o slots now old new)
       → Gives defined (state_of o slots old) now result → GivesState defined result (state_of o now new)
   gives-after defined (Ok x) leaves gives = gives ∙ ap (λ (t : State). Ok t) (sym (after-state (leaves gives)))
   gives-after defined (Err e) leaves gives = gives
 
-  whole-after : Left o slots now old new → IsWhole (state_of o now new) new
-  whole-after left = record { sound = subst IsSound (sym (after-state left)) left.sound; agrees = left.agrees }
+  whole-after : Left o slots now old new → IsWhole o now new
+  whole-after left = record { sound = subst IsSound (sym (after-state left)) left.sound; agrees = left.agreed.0; stands = left.agreed.1 }
 
 -- what a call leaves is what its definition says, and whole
 called : {A S : Type 0} (slots_in : S → Slots) (memory_in : S → List ℕ) (o : Tables) (store now : S) (defined : State → Call → Result State KError) (on : NodeCall) (call : Call)
@@ -170,9 +169,9 @@ called : {A S : Type 0} (slots_in : S → Slots) (memory_in : S → List ℕ) (o
 called slots_in memory_in o store now defined on call result whole same leaves gives root node unchanged =
     let s : State = state_of o (slots_in store) (memory_in store) in
     let known = given o (slots_in store) (memory_in store) defined on (slots_in now) result gives call root node in (
-      gives-after o (slots_in store) (slots_in now) (memory_in store) (memory_in now) whole.agrees same (defined s call) result leaves known,
+      gives-after o (slots_in store) (slots_in now) (memory_in store) (memory_in now) (whole.agrees, whole.stands) same (defined s call) result leaves known,
       refused-whole slots_in memory_in result store now o whole unchanged
-          (λ x is. whole-after o (slots_in store) (slots_in now) (memory_in store) (memory_in now) whole.agrees same
+          (λ x is. whole-after o (slots_in store) (slots_in now) (memory_in store) (memory_in now) (whole.agrees, whole.stands) same
           (leaves (subst (λ r. Gives (defined s call) s (slots_in now) r) is known))),
     )
 
@@ -183,7 +182,7 @@ pub copy-made : {A S : Type 0} (slots_in : S → Slots) (memory_in : S → List 
     → GivesState (copy (state_of o (slots_in store) (memory_in store)) call to from word) result (state_of o (slots_in now) (memory_in now)) × Whole slots_in memory_in o now
 copy-made slots_in memory_in o store now on call to from word result whole is_call same gives root node unchanged =
     called slots_in memory_in o store now (λ s made. copy s made to from word) on call result whole same
-    (copy-left o (slots_in store) (slots_in now) (memory_in store) (memory_in now) call to from whole.sound whole.agrees same is_call word) gives root node unchanged
+    (copy-left o (slots_in store) (slots_in now) (memory_in store) (memory_in now) call to from whole.sound (whole.agrees, whole.stands) same is_call word) gives root node unchanged
 
 pub mint-made : {A S : Type 0} (slots_in : S → Slots) (memory_in : S → List ℕ) (o : Tables) (store now : S) (on : NodeCall) (call : Call) (to from : SlotName) (word payload : ℕ)
     (result : Result A KError) → Whole slots_in memory_in o store → IsCall (state_of o (slots_in store) (memory_in store)) call
@@ -192,7 +191,7 @@ pub mint-made : {A S : Type 0} (slots_in : S → Slots) (memory_in : S → List 
     → GivesState (mint (state_of o (slots_in store) (memory_in store)) call to from word payload) result (state_of o (slots_in now) (memory_in now)) × Whole slots_in memory_in o now
 mint-made slots_in memory_in o store now on call to from word payload result whole is_call same gives root node unchanged =
     called slots_in memory_in o store now (λ s made. mint s made to from word payload) on call result whole same
-    (mint-left o (slots_in store) (slots_in now) (memory_in store) (memory_in now) call to from whole.sound whole.agrees same is_call word payload) gives root node unchanged
+    (mint-left o (slots_in store) (slots_in now) (memory_in store) (memory_in now) call to from whole.sound (whole.agrees, whole.stands) same is_call word payload) gives root node unchanged
 
 pub move-made : {A S : Type 0} (slots_in : S → Slots) (memory_in : S → List ℕ) (o : Tables) (store now : S) (on : NodeCall) (call : Call) (to from : SlotName)
     (result : Result A KError) → Whole slots_in memory_in o store → IsCall (state_of o (slots_in store) (memory_in store)) call
@@ -201,7 +200,7 @@ pub move-made : {A S : Type 0} (slots_in : S → Slots) (memory_in : S → List 
     → GivesState (move (state_of o (slots_in store) (memory_in store)) call to from) result (state_of o (slots_in now) (memory_in now)) × Whole slots_in memory_in o now
 move-made slots_in memory_in o store now on call to from result whole is_call same gives root node unchanged =
     called slots_in memory_in o store now (λ s made. move s made to from) on call result whole same
-    (move-left o (slots_in store) (slots_in now) (memory_in store) (memory_in now) call to from whole.sound whole.agrees same is_call) gives root node unchanged
+    (move-left o (slots_in store) (slots_in now) (memory_in store) (memory_in now) call to from whole.sound (whole.agrees, whole.stands) same is_call) gives root node unchanged
 
 pub mutate-made : {A S : Type 0} (slots_in : S → Slots) (memory_in : S → List ℕ) (o : Tables) (store now : S) (on : NodeCall) (call : Call) (to from : SlotName) (payload : ℕ)
     (result : Result A KError) → Whole slots_in memory_in o store → IsCall (state_of o (slots_in store) (memory_in store)) call
@@ -210,4 +209,4 @@ pub mutate-made : {A S : Type 0} (slots_in : S → Slots) (memory_in : S → Lis
     → GivesState (mutate (state_of o (slots_in store) (memory_in store)) call to from payload) result (state_of o (slots_in now) (memory_in now)) × Whole slots_in memory_in o now
 mutate-made slots_in memory_in o store now on call to from payload result whole is_call same gives root node unchanged =
     called slots_in memory_in o store now (λ s made. mutate s made to from payload) on call result whole same
-    (mutate-left o (slots_in store) (slots_in now) (memory_in store) (memory_in now) call to from whole.sound whole.agrees same is_call payload) gives root node unchanged
+    (mutate-left o (slots_in store) (slots_in now) (memory_in store) (memory_in now) call to from whole.sound (whole.agrees, whole.stands) same is_call payload) gives root node unchanged

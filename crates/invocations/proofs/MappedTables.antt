@@ -4,9 +4,9 @@ use Rattle.std.specs.Option.{option_map_or}
 use Rattle.std.specs.Prelude.{OnErr}
 use Rattle.std.proofs.lemmas.Bool.Decides.{eqb_tells}
 use Rattle.agreement.proofs.Puts.{put-closes, put-named}
-use Rattle.agreement.proofs.Steps.{unmapped-state}
+use Rattle.agreement.proofs.Steps.{unmapped-stands, unmapped-state}
 use Rattle.agreement.specs.Agreement.{Agrees}
-use Rattle.agreement.specs.Wholeness.{IsWhole}
+use Rattle.agreement.specs.Wholeness.{Agreed, IsWhole}
 use Rattle.cnode_ops.specs.Outcomes.{GivesState}
 use Rattle.invocations.proofs.Roots.{held-at}
 use Rattle.invocations.proofs.Standing.{Whole}
@@ -54,7 +54,7 @@ pub all-near : (o : Tables) (slots : Slots) (memory : List ℕ) → IsSound (sta
 unfolding state_of
 all-near o slots memory sound = λ slot full. full-near (state_of o slots memory) sound.shape sound.slots sound.memory slot full
 
-module _ (o : Tables) (slots now : Slots) (old new : List ℕ) (whole : IsWhole (state_of o slots old) old) (same : SameBesideTables slots old new) (tables : TablesAgree now new)
+module _ (o : Tables) (slots now : Slots) (old new : List ℕ) (whole : IsWhole o slots old) (same : SameBesideTables slots old new) (tables : TablesAgree now new)
     (sound : IsSound (with_slots (state_of o slots old) now)) where
   open-before : ((slot : ℕ) → slots slot ≡ None → now slot ≡ None) → (slot : ℕ) → IsOpen now slot → IsOpen slots slot
   open-before closes slot is_open = elim (slots slot) as (λ e. slots slot ≡ e → IsOpen slots slot) [
@@ -63,42 +63,43 @@ module _ (o : Tables) (slots now : Slots) (old new : List ℕ) (whole : IsWhole 
   ] refl
 
   after : state_of o now new ≡ with_slots (state_of o slots old) now
-  after = unmapped-state o slots now old new whole.agrees same
+  after = unmapped-state o slots now old new (whole.agrees, whole.stands) same
 
   -- where a mapping came: no slot was opened, and no other table is named
-  mapped-whole : ((slot : ℕ) → slots slot ≡ None → now slot ≡ None) → ((table : ℕ) → IsNamedTable now table → IsNamedTable slots table) → IsWhole (state_of o now new) new
+  mapped-whole : ((slot : ℕ) → slots slot ≡ None → now slot ≡ None) → ((table : ℕ) → IsNamedTable now table → IsNamedTable slots table) → IsWhole o now new
   unfolding state_of
-  mapped-whole closes names = subst (λ (t : State). IsWhole t new) (sym after) (record {
-    sound = sound;
-    agrees = record {
+  mapped-whole closes names = record {
+    sound = subst IsSound (sym after) sound;
+    agrees = subst (λ (t : State). Agrees t new) (sym after) (record {
       tables = tables;
       size = whole.agrees.size ∙ sym same.size;
       slots = λ place is_open. whole.agrees.slots place (open-before closes (place / 16) is_open);
       frames = λ table place named low high. whole.agrees.frames table place (names table named) low high;
       records = λ table place offset kind named low high there kept. whole.agrees.records table place offset kind (names table named) low high there kept;
-    };
-  })
+    });
+    stands = unmapped-stands o slots now old new (whole.agrees, whole.stands) same closes;
+  }
 
 -- ---- frames
 
 -- a frame lies in memory
-pub frame-within : (o : Tables) (slots : Slots) (memory : List ℕ) (slot offset : ℕ) (held : Rights) (mapping : Option FrameMapping) → IsWhole (state_of o slots memory) memory
+pub frame-within : (o : Tables) (slots : Slots) (memory : List ℕ) (slot offset : ℕ) (held : Rights) (mapping : Option FrameMapping) → IsWhole o slots memory
     → capability_at slots slot ≡ Frame offset held mapping → offset + 2 ^ 12 ≤ length memory
 unfolding state_of
 frame-within o slots memory slot offset held mapping whole is =
-    let inside : offset + 2 ^ 12 ≤ 2 ^ o.bits = (whole.sound.memory.inside slot (record { first = offset; size = 2 ^ 12 }) (ap piece_of is)).1 in
+    let inside : offset + 2 ^ 12 ≤ 2 ^ (state_of o slots memory).memory_bits = (whole.sound.memory.inside slot (record { first = offset; size = 2 ^ 12 }) (ap piece_of is)).1 in
     subst (λ (n : ℕ). offset + 2 ^ 12 ≤ n) whole.agrees.size inside
 
 names-none : (c : Cap) (offset : ℕ) (r : Rights) (before after : Option FrameMapping) (table : ℕ) → c ≡ Frame offset r before → NamesTable (with_frame_mapping c after) table → ⊥
 names-none c offset r before after table is names = subst (λ (k : Cap). NamesTable (with_frame_mapping k after) table) is names
 
 module _ (o : Tables) (slots now : Slots) (old new : List ℕ) (call : Call) (offset : ℕ) (held : Rights) (mapping : Option FrameMapping)
-    (whole : IsWhole (state_of o slots old) old) (is_call : IsCall (state_of o slots old) call) (is : call.capability ≡ Frame offset held mapping)
+    (whole : IsWhole o slots old) (is_call : IsCall (state_of o slots old) call) (is : call.capability ≡ Frame offset held mapping)
     (same : SameBesideTables slots old new) (tables : TablesAgree now new) where
   abbrev s : State
   s = state_of o slots old
 
-  frame-whole : (name : SlotName) (address word : ℕ) → map_frame s call held name address word ≡ Ok (with_slots s now) → IsWhole (state_of o now new) new
+  frame-whole : (name : SlotName) (address word : ℕ) → map_frame s call held name address word ≡ Ok (with_slots s now) → IsWhole o now new
   unfolding state_of
   frame-whole name address word done =
       let allowed = mapping_rights held word in
@@ -137,7 +138,7 @@ mapped-at : {A S : Type 0} (slots_in : S → Slots) (memory_in : S → List ℕ)
     × Whole slots_in memory_in o now
 mapped-at slots_in memory_in o store now call offset held mapping name address word (Ok x) whole is_call is same tables unchanged gives =
     let done = frame-given o (slots_in store) (slots_in now) (memory_in store) (memory_in now) call offset held mapping whole is_call is same tables name address word (Ok x) gives in (
-      done ∙ ap (λ (t : State). Ok t) (sym (unmapped-state o (slots_in store) (slots_in now) (memory_in store) (memory_in now) whole.agrees same)),
+      done ∙ ap (λ (t : State). Ok t) (sym (unmapped-state o (slots_in store) (slots_in now) (memory_in store) (memory_in now) (whole.agrees, whole.stands) same)),
       frame-whole o (slots_in store) (slots_in now) (memory_in store) (memory_in now) call offset held mapping whole is_call is same tables name address word done,
     )
 mapped-at {A} {S} slots_in memory_in o store now call offset held mapping name address word (Err e) whole is_call is same tables unchanged gives = (
@@ -174,16 +175,17 @@ pub frame-unmapped : {S : Type 0} (slots_in : S → Slots) (memory_in : S → Li
     → Whole slots_in memory_in o store → IsCall (state_of o (slots_in store) (memory_in store)) call → call.capability ≡ Frame offset held mapping
     → slots_in now ≡ unmapped_at (slots_in store) call.slot
     → state_of left (slots_in now) (memory_in now) ≡ with_slots (state_of o (slots_in store) (memory_in store)) (slots_in now)
-    → Agrees (state_of left (slots_in now) (memory_in now)) (memory_in now)
+    → Agreed left (slots_in now) (memory_in now)
     → (unmap_frame (state_of o (slots_in store) (memory_in store)) call ≡ state_of left (slots_in now) (memory_in now)) × Whole slots_in memory_in left now
-frame-unmapped slots_in memory_in o left store now call offset held mapping whole is_call is removed state agrees =
+frame-unmapped slots_in memory_in o left store now call offset held mapping whole is_call is removed state agreed =
     let s : State = state_of o (slots_in store) (memory_in store) in
     let at = held-at o (slots_in store) (memory_in store) call (Frame offset held mapping) is_call is refl in
     let done = frame-taken o (slots_in store) (slots_in now) (memory_in store) call offset held mapping at is removed in (
       done ∙ sym state,
       record {
         sound = subst IsSound (sym state) (frame-sound s (with_slots s (slots_in now)) call offset held mapping UnmapFrame whole.sound is_call is (ap (λ (t : State). Ok t) done));
-        agrees = agrees;
+        agrees = agreed.0;
+        stands = agreed.1;
       },
     )
 
@@ -209,7 +211,7 @@ table-names slots slot offset root before m c at is rooted table names =
     ]
 
 module _ (o : Tables) (slots now : Slots) (old new : List ℕ) (call : Call) (offset : ℕ) (mapping : Option TableMapping)
-    (whole : IsWhole (state_of o slots old) old) (is_call : IsCall (state_of o slots old) call) (is : call.capability ≡ PageTable offset mapping)
+    (whole : IsWhole o slots old) (is_call : IsCall (state_of o slots old) call) (is : call.capability ≡ PageTable offset mapping)
     (same : SameBesideTables slots old new) (tables : TablesAgree now new) where
   abbrev before : State
   before = state_of o slots old
@@ -221,7 +223,7 @@ module _ (o : Tables) (slots now : Slots) (old new : List ℕ) (call : Call) (of
       let live = whole.sound.memory.live root NewRootTable there in
       (live.0, subst (λ (c : Cap). NamesTable c root) (sym (root-kind (capability_at slots live.0) root live.1)) refl)
 
-  table-whole : (name : SlotName) (address : ℕ) → map_table before call name address ≡ Ok (with_slots before now) → IsWhole (state_of o now new) new
+  table-whole : (name : SlotName) (address : ℕ) → map_table before call name address ≡ Ok (with_slots before now) → IsWhole o now new
   unfolding state_of
   table-whole name address done =
       let one = passes-both (check (not (is_mapped (table_mapping call.capability))) InvalidCapability) _ _ done in
@@ -261,7 +263,7 @@ pub table-mapped : {A S : Type 0} (slots_in : S → Slots) (memory_in : S → Li
 table-mapped slots_in memory_in o store now call slot offset mapping name address (Ok x) at whole is_call is same tables unchanged gives =
     let done = table-given o (slots_in store) (slots_in now) (memory_in store) (memory_in now) call offset mapping whole is_call is same tables name address (Ok x)
     (subst (λ (n : ℕ). GivesTableMapped (slots_in store) call.root n offset mapping name address (slots_in now) (Ok x)) at gives) in (
-      done ∙ ap (λ (t : State). Ok t) (sym (unmapped-state o (slots_in store) (slots_in now) (memory_in store) (memory_in now) whole.agrees same)),
+      done ∙ ap (λ (t : State). Ok t) (sym (unmapped-state o (slots_in store) (slots_in now) (memory_in store) (memory_in now) (whole.agrees, whole.stands) same)),
       table-whole o (slots_in store) (slots_in now) (memory_in store) (memory_in now) call offset mapping whole is_call is same tables name address done,
     )
 table-mapped {A} {S} slots_in memory_in o store now call slot offset mapping name address (Err e) at whole is_call is same tables unchanged gives = (
@@ -285,15 +287,16 @@ pub table-unmapped : {S : Type 0} (slots_in : S → Slots) (memory_in : S → Li
     → Whole slots_in memory_in o store → IsCall (state_of o (slots_in store) (memory_in store)) call → call.capability ≡ PageTable offset mapping
     → slots_in now ≡ unmapped_at (slots_in store) call.slot
     → state_of left (slots_in now) (memory_in now) ≡ with_slots (state_of o (slots_in store) (memory_in store)) (slots_in now)
-    → Agrees (state_of left (slots_in now) (memory_in now)) (memory_in now)
+    → Agreed left (slots_in now) (memory_in now)
     → (unmap_table (state_of o (slots_in store) (memory_in store)) call ≡ state_of left (slots_in now) (memory_in now)) × Whole slots_in memory_in left now
-table-unmapped slots_in memory_in o left store now call offset mapping whole is_call is removed state agrees =
+table-unmapped slots_in memory_in o left store now call offset mapping whole is_call is removed state agreed =
     let s : State = state_of o (slots_in store) (memory_in store) in
     let at = held-at o (slots_in store) (memory_in store) call (PageTable offset mapping) is_call is refl in
     let done = table-taken o (slots_in store) (slots_in now) (memory_in store) call offset mapping at is removed in (
       done ∙ sym state,
       record {
         sound = subst IsSound (sym state) (table-sound s (with_slots s (slots_in now)) call offset mapping UnmapTable whole.sound is_call is (ap (λ (t : State). Ok t) done));
-        agrees = agrees;
+        agrees = agreed.0;
+        stands = agreed.1;
       },
     )

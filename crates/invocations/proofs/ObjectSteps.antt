@@ -14,8 +14,8 @@ use Rattle.model.specs.Kernel.ThreadCalls.{is_caller, set_priority, set_register
 use Rattle.model.specs.declared.capabilities.Cap.TheVariants.{Tcb}
 use Rattle.model.specs.declared.errors.KError.{KError}
 use Rattle.model.specs.declared.errors.KError.TheVariants.{AlignmentError, IllegalOperation, RangeError}
-use Rattle.objects.proofs.Following.{own-slots}
 use Rattle.objects.specs.Frames.{SameObjects}
+use Rattle.objects.specs.Standing.{Standing}
 use Rattle.objects.specs.Tables.{Tables, state_of}
 use Rattle.soundness.proofs.Lookups.{passes-both}
 use Rattle.soundness.proofs.Machines.{with_priority-machine, with_register-machine}
@@ -30,20 +30,20 @@ pub record Keeps (s t : State) : Type 0 where
 pub kept-whole : {S : Type 0} (slots_in : S → Slots) (memory_in : S → List ℕ) (o left : Tables) (store now : S) (t : State) → Whole slots_in memory_in o store
     → state_of left (slots_in now) (memory_in now) ≡ t → Keeps (state_of o (slots_in store) (memory_in store)) t → slots_in now ≡ slots_in store
     → SameObjects (state_of o (slots_in store) (memory_in store)) (state_of left (slots_in now) (memory_in now)) (memory_in store) (memory_in now)
-    → Whole slots_in memory_in left now
-kept-whole slots_in memory_in o left store now t whole is keeps same_slots same =
-    whole-kept (state_of o (slots_in store) (memory_in store)) (state_of left (slots_in now) (memory_in now)) (memory_in store) (memory_in now) whole (subst IsSound (sym is) keeps.sound)
-    (own-slots left (slots_in now) (memory_in now) ∙ same_slots ∙ sym (own-slots o (slots_in store) (memory_in store))) (ap (λ (x : State). x.memory_bits) is ∙ keeps.bits) same
+    → Standing left (slots_in now) (memory_in now) → Whole slots_in memory_in left now
+kept-whole slots_in memory_in o left store now t whole is keeps same_slots same stands =
+    whole-kept o left (slots_in store) (slots_in now) (memory_in store) (memory_in now) whole (subst IsSound (sym is) keeps.sound) same_slots
+    (ap (λ (x : State). x.memory_bits) is ∙ keeps.bits) same stands
 
 pub given-whole : {A S : Type 0} (slots_in : S → Slots) (memory_in : S → List ℕ) (defined : Result State KError) (result : Result A KError) (o left : Tables) (store now : S)
     → Whole slots_in memory_in o store → GivesState defined result (state_of left (slots_in now) (memory_in now)) → OnErr result (now ≡ store) → OnErr result (left ≡ o)
     → ((t : State) → defined ≡ Ok t → Keeps (state_of o (slots_in store) (memory_in store)) t) → slots_in now ≡ slots_in store
     → SameObjects (state_of o (slots_in store) (memory_in store)) (state_of left (slots_in now) (memory_in now)) (memory_in store) (memory_in now)
-    → Whole slots_in memory_in left now
-given-whole slots_in memory_in defined (Ok x) o left store now whole gives unchanged others keeps same_slots same =
+    → Standing left (slots_in now) (memory_in now) → Whole slots_in memory_in left now
+given-whole slots_in memory_in defined (Ok x) o left store now whole gives unchanged others keeps same_slots same stands =
     let t : State = state_of left (slots_in now) (memory_in now) in
-    kept-whole slots_in memory_in o left store now t whole refl (keeps t gives) same_slots same
-given-whole slots_in memory_in defined (Err e) o left store now whole gives unchanged others keeps same_slots same =
+    kept-whole slots_in memory_in o left store now t whole refl (keeps t gives) same_slots same stands
+given-whole slots_in memory_in defined (Err e) o left store now whole gives unchanged others keeps same_slots same stands =
     subst (λ x. Whole slots_in memory_in left x) (sym unchanged) (subst (λ (p : Tables). Whole slots_in memory_in p store) (sym others) whole)
 
 -- ---- threads

@@ -41,7 +41,7 @@ pub record MayCall (slots : Slots) (call : Call) : Type 0 where
   pub node : HasOpenSlots slots call.capability
   pub nodes : CNodesAreOpen slots
 
-pub may-call : (o : Tables) (slots : Slots) (memory : List ℕ) (call : Call) → IsWhole (state_of o slots memory) memory → IsCall (state_of o slots memory) call → MayCall slots call
+pub may-call : (o : Tables) (slots : Slots) (memory : List ℕ) (call : Call) → IsWhole o slots memory → IsCall (state_of o slots memory) call → MayCall slots call
 unfolding state_of
 may-call o slots memory call whole is_call =
     let s : State = state_of o slots memory in

@@ -1,8 +1,7 @@
 -- What a call leaves is whole: where it passes its definition keeps soundness, and where it is refused nothing changes.
 use Rattle.std.proofs.Common.{ℕ, ◌≡◌, List, Result, Ok, Err, refl, sym, subst}
 use Rattle.std.specs.Prelude.{OnErr}
-use Rattle.agreement.specs.Agreement.{Agrees}
-use Rattle.agreement.specs.Wholeness.{IsWhole}
+use Rattle.agreement.specs.Wholeness.{Agreed, IsWhole}
 use Rattle.cnode_ops.specs.Outcomes.{GivesState}
 use Rattle.model.specs.Capabilities.Slots.{Slots}
 use Rattle.model.specs.Kernel.Soundness.{IsSound}
@@ -12,16 +11,17 @@ use Rattle.objects.specs.Tables.{Tables, state_of}
 
 -- a store's slots and bytes, beside the tables
 abbrev pub Whole : {S : Type 0} → (S → Slots) → (S → List ℕ) → Tables → S → Type 0
-Whole slots memory o store = IsWhole (state_of o (slots store) (memory store)) (memory store)
+Whole slots memory o store = IsWhole o (slots store) (memory store)
 
 pub still-whole : {A S : Type 0} (slots : S → Slots) (memory : S → List ℕ) (defined : Result State KError) (result : Result A KError) (store now : S) (o then : Tables)
     → Whole slots memory o store → GivesState defined result (state_of then (slots now) (memory now)) → OnErr result (now ≡ store) → OnErr result (then ≡ o)
-    → ((t : State) → defined ≡ Ok t → IsSound t) → Agrees (state_of then (slots now) (memory now)) (memory now) → Whole slots memory then now
-still-whole slots memory defined (Ok x) store now o then whole gives same others keeps agrees = record {
+    → ((t : State) → defined ≡ Ok t → IsSound t) → Agreed then (slots now) (memory now) → Whole slots memory then now
+still-whole slots memory defined (Ok x) store now o then whole gives same others keeps agreed = record {
   sound = keeps (state_of then (slots now) (memory now)) gives;
-  agrees = agrees;
+  agrees = agreed.0;
+  stands = agreed.1;
 }
-still-whole slots memory defined (Err e) store now o then whole gives same others keeps agrees =
+still-whole slots memory defined (Err e) store now o then whole gives same others keeps agreed =
     subst (λ x. Whole slots memory then x) (sym same) (subst (λ (p : Tables). Whole slots memory p store) (sym others) whole)
 
 -- where a definition gives a state with other slots

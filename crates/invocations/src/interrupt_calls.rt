@@ -25,14 +25,14 @@ pub(crate) fn on_control<S: SlotStore>(
     line: u32,
     destination: SlotName,
 ) -> Result<(), KError>
-    requires whole { IsWhole (state_of kernel.old (S.slots store.old) (S.memory store.old)) (S.memory store.old) }
+    requires whole { IsWhole kernel.old (S.slots store.old) (S.memory store.old) }
     requires call { IsCall (state_of kernel.old (S.slots store.old) (S.memory store.old)) (call_of call) }
     requires applies { AppliesTo call.capability (OnControl line destination) }
     ensures outcome { GivesState (perform (state_of kernel.old (S.slots store.old) (S.memory store.old)) (call_of call) (OnControl line destination)) result
         (state_of kernel.new (S.slots store.new) (S.memory store.new)) }
     ensures unchanged { OnErr result (store.new ≡ store.old) }
     ensures same { OnErr result (kernel.new ≡ kernel.old) }
-    ensures whole { IsWhole (state_of kernel.new (S.slots store.new) (S.memory store.new)) (S.memory store.new) }
+    ensures whole { IsWhole kernel.new (S.slots store.new) (S.memory store.new) }
 {
     get_handler(store, kernel, call.root, call.slot, line, destination)
 }
@@ -47,14 +47,14 @@ pub(crate) fn on_handler<S: SlotStore>(
     line: u8,
     asked: HandlerCall,
 ) -> Result<(), KError>
-    requires whole { IsWhole (state_of kernel.old (S.slots store.old) (S.memory store.old)) (S.memory store.old) }
+    requires whole { IsWhole kernel.old (S.slots store.old) (S.memory store.old) }
     requires call { IsCall (state_of kernel.old (S.slots store.old) (S.memory store.old)) (call_of call) }
     requires applies { AppliesTo call.capability (OnHandler line asked) }
     ensures outcome { GivesState (perform (state_of kernel.old (S.slots store.old) (S.memory store.old)) (call_of call) (OnHandler line asked)) result
         (state_of kernel.new (S.slots store.new) (S.memory store.new)) }
     ensures unchanged { OnErr result (store.new ≡ store.old) }
     ensures same { OnErr result (kernel.new ≡ kernel.old) }
-    ensures whole { IsWhole (state_of kernel.new (S.slots store.new) (S.memory store.new)) (S.memory store.new) }
+    ensures whole { IsWhole kernel.new (S.slots store.new) (S.memory store.new) }
 {
     match asked {
         HandlerCall::Acknowledge => {

@@ -65,13 +65,13 @@ pub fn configure_with_guard<S: SlotStore>(
     call: KernelCall,
     words: &[u32],
 ) -> Result<(), KError>
-    requires whole { IsWhole (state_of kernel.old (S.slots store.old) (S.memory store.old)) (S.memory store.old) }
+    requires whole { IsWhole kernel.old (S.slots store.old) (S.memory store.old) }
     requires call { IsCall (state_of kernel.old (S.slots store.old) (S.memory store.old)) (call_of call) }
     ensures outcome { GivesState (configure_with_guard (state_of kernel.old (S.slots store.old) (S.memory store.old)) (call_of call) words.now) result
         (state_of kernel.new (S.slots store.new) (S.memory store.new)) }
     ensures unchanged { OnErr result (store.new ≡ store.old) }
     ensures same { OnErr result (kernel.new ≡ kernel.old) }
-    ensures whole { IsWhole (state_of kernel.new (S.slots store.new) (S.memory store.new)) (S.memory store.new) }
+    ensures whole { IsWhole kernel.new (S.slots store.new) (S.memory store.new) }
 {
     let Some(thread) = thread_of(call.capability) else {
         return Err(KError::IllegalOperation);

@@ -28,14 +28,14 @@ pub fn perform<S: SlotStore>(
     call: KernelCall,
     invocation: Invocation,
 ) -> Result<(), KError>
-    requires whole { IsWhole (state_of kernel.old (S.slots store.old) (S.memory store.old)) (S.memory store.old) }
+    requires whole { IsWhole kernel.old (S.slots store.old) (S.memory store.old) }
     requires call { IsCall (state_of kernel.old (S.slots store.old) (S.memory store.old)) (call_of call) }
     requires applies { AppliesTo call.capability invocation }
     ensures outcome { GivesState (perform (state_of kernel.old (S.slots store.old) (S.memory store.old)) (call_of call) invocation) result
         (state_of kernel.new (S.slots store.new) (S.memory store.new)) }
     ensures unchanged { OnErr result (store.new ≡ store.old) }
     ensures same { OnErr result (kernel.new ≡ kernel.old) }
-    ensures whole { IsWhole (state_of kernel.new (S.slots store.new) (S.memory store.new)) (S.memory store.new) }
+    ensures whole { IsWhole kernel.new (S.slots store.new) (S.memory store.new) }
 {
     match invocation {
         Invocation::OnUntyped {
@@ -69,13 +69,13 @@ pub fn invoke<S: SlotStore>(
     extra: u32,
     words: &[u32],
 ) -> Result<(), KError>
-    requires whole { IsWhole (state_of kernel.old (S.slots store.old) (S.memory store.old)) (S.memory store.old) }
+    requires whole { IsWhole kernel.old (S.slots store.old) (S.memory store.old) }
     requires call { IsCall (state_of kernel.old (S.slots store.old) (S.memory store.old)) (call_of call) }
     ensures outcome { GivesState (invoke (state_of kernel.old (S.slots store.old) (S.memory store.old)) (call_of call) label extra words.now) result
         (state_of kernel.new (S.slots store.new) (S.memory store.new)) }
     ensures unchanged { OnErr result (store.new ≡ store.old) }
     ensures same { OnErr result (kernel.new ≡ kernel.old) }
-    ensures whole { IsWhole (state_of kernel.new (S.slots store.new) (S.memory store.new)) (S.memory store.new) }
+    ensures whole { IsWhole kernel.new (S.slots store.new) (S.memory store.new) }
 {
     match decode_call(call.capability, label, extra, words) {
         Ok(invocation) => perform(store, kernel, call, invocation),

@@ -24,14 +24,14 @@ pub(crate) fn give_spaces<S: SlotStore>(
     thread: u32,
     spaces: Spaces,
 ) -> Result<(), KError>
-    requires whole { IsWhole (state_of objects.old (S.slots store.old) (S.memory store.old)) (S.memory store.old) }
+    requires whole { IsWhole objects.old (S.slots store.old) (S.memory store.old) }
     requires call { IsCall (state_of objects.old (S.slots store.old) (S.memory store.old)) (call_of call) }
     requires applies { call.capability ≡ Cap.Tcb thread }
     ensures outcome { GivesState (configure (state_of objects.old (S.slots store.old) (S.memory store.old)) call.root thread spaces.guard spaces.fault_address spaces.cspace spaces.vspace) result
         (state_of objects.new (S.slots store.new) (S.memory store.new)) }
     ensures unchanged { OnErr result (store.new ≡ store.old) }
     ensures same { OnErr result (objects.new ≡ objects.old) }
-    ensures whole { IsWhole (state_of objects.new (S.slots store.new) (S.memory store.new)) (S.memory store.new) }
+    ensures whole { IsWhole objects.new (S.slots store.new) (S.memory store.new) }
 {
     configure(store, objects, call.root, thread, spaces)
 }
@@ -46,14 +46,14 @@ pub(crate) fn on_thread<S: SlotStore>(
     thread: u32,
     asked: ThreadCall,
 ) -> Result<(), KError>
-    requires whole { IsWhole (state_of objects.old (S.slots store.old) (S.memory store.old)) (S.memory store.old) }
+    requires whole { IsWhole objects.old (S.slots store.old) (S.memory store.old) }
     requires call { IsCall (state_of objects.old (S.slots store.old) (S.memory store.old)) (call_of call) }
     requires applies { AppliesTo call.capability (OnThread thread asked) }
     ensures outcome { GivesState (perform (state_of objects.old (S.slots store.old) (S.memory store.old)) (call_of call) (OnThread thread asked)) result
         (state_of objects.new (S.slots store.new) (S.memory store.new)) }
     ensures unchanged { OnErr result (store.new ≡ store.old) }
     ensures same { OnErr result (objects.new ≡ objects.old) }
-    ensures whole { IsWhole (state_of objects.new (S.slots store.new) (S.memory store.new)) (S.memory store.new) }
+    ensures whole { IsWhole objects.new (S.slots store.new) (S.memory store.new) }
 {
     match asked {
         ThreadCall::Configure {

@@ -25,14 +25,14 @@ pub(crate) fn on_untyped<S: SlotStore>(
     memory: UntypedMemory,
     asked: RetypeCall,
 ) -> Result<(), KError>
-    requires whole { IsWhole (state_of kernel.old (S.slots store.old) (S.memory store.old)) (S.memory store.old) }
+    requires whole { IsWhole kernel.old (S.slots store.old) (S.memory store.old) }
     requires call { IsCall (state_of kernel.old (S.slots store.old) (S.memory store.old)) (call_of call) }
     requires applies { AppliesTo call.capability (OnUntyped memory asked) }
     ensures outcome { GivesState (perform (state_of kernel.old (S.slots store.old) (S.memory store.old)) (call_of call) (OnUntyped memory asked)) result
         (state_of kernel.new (S.slots store.new) (S.memory store.new)) }
     ensures unchanged { OnErr result (store.new ≡ store.old) }
     ensures same { OnErr result (kernel.new ≡ kernel.old) }
-    ensures whole { IsWhole (state_of kernel.new (S.slots store.new) (S.memory store.new)) (S.memory store.new) }
+    ensures whole { IsWhole kernel.new (S.slots store.new) (S.memory store.new) }
 {
     retype(store, kernel, call.root, call.slot, memory, asked)
 }

@@ -5,6 +5,7 @@ ghost use Rattle.model.specs.Kernel.Kinds.{kind_at};
 ghost use Rattle.model.specs.Kernel.Messages.{deliver, deliver_word, message_sent, passes, passes_with};
 ghost use Rattle.model.specs.Kernel.Retype.{NewThread};
 ghost use Rattle.objects.specs.Frames.{SameObjects};
+ghost use Rattle.objects.specs.Standing.{Standing};
 ghost use Rattle.objects.specs.Tables.{state_of};
 ghost use Rattle.objects.specs.Threads.{sender_of, sent_of};
 
@@ -15,12 +16,14 @@ use slots::SlotStore;
 
 /// A thread goes on behind its call.
 pub fn pass<S: SlotStore>(store: &mut S, objects: &mut Objects, thread: u32)
-    requires { kind_at (state_of objects.old (S.slots store.old) (S.memory store.old)) thread ≡ Some NewThread }
+    requires there { kind_at (state_of objects.old (S.slots store.old) (S.memory store.old)) thread ≡ Some NewThread }
+    requires stands { Standing objects.old (S.slots store.old) (S.memory store.old) }
     ensures state { state_of objects.new (S.slots store.new) (S.memory store.new)
         ≡ passes (state_of objects.old (S.slots store.old) (S.memory store.old)) thread }
     ensures slots { S.slots store.new ≡ S.slots store.old }
     ensures bytes { SameObjects (state_of objects.old (S.slots store.old) (S.memory store.old)) (state_of objects.new (S.slots store.new) (S.memory store.new)) (S.memory store.old) (S.memory store.new) }
     ensures order { S.order store.new ≡ S.order store.old }
+    ensures stands { Standing objects.new (S.slots store.new) (S.memory store.new) }
 {
     let registers = objects.registers(store, thread);
     objects.set_registers(store, thread, advanced(registers));
@@ -28,12 +31,14 @@ pub fn pass<S: SlotStore>(store: &mut S, objects: &mut Objects, thread: u32)
 
 /// A thread goes on behind its call with these registers.
 pub fn pass_with<S: SlotStore>(store: &mut S, objects: &mut Objects, thread: u32, registers: Regs)
-    requires { kind_at (state_of objects.old (S.slots store.old) (S.memory store.old)) thread ≡ Some NewThread }
+    requires there { kind_at (state_of objects.old (S.slots store.old) (S.memory store.old)) thread ≡ Some NewThread }
+    requires stands { Standing objects.old (S.slots store.old) (S.memory store.old) }
     ensures state { state_of objects.new (S.slots store.new) (S.memory store.new)
         ≡ passes_with (state_of objects.old (S.slots store.old) (S.memory store.old)) thread registers }
     ensures slots { S.slots store.new ≡ S.slots store.old }
     ensures bytes { SameObjects (state_of objects.old (S.slots store.old) (S.memory store.old)) (state_of objects.new (S.slots store.new) (S.memory store.new)) (S.memory store.old) (S.memory store.new) }
     ensures order { S.order store.new ≡ S.order store.old }
+    ensures stands { Standing objects.new (S.slots store.new) (S.memory store.new) }
 {
     objects.set_registers(store, thread, registers);
     pass(store, objects, thread);
@@ -47,12 +52,14 @@ pub(crate) fn deliver<S: SlotStore>(
     badge: u32,
     message: &Message,
 )
-    requires { kind_at (state_of objects.old (S.slots store.old) (S.memory store.old)) thread ≡ Some NewThread }
+    requires there { kind_at (state_of objects.old (S.slots store.old) (S.memory store.old)) thread ≡ Some NewThread }
+    requires stands { Standing objects.old (S.slots store.old) (S.memory store.old) }
     ensures state { state_of objects.new (S.slots store.new) (S.memory store.new)
         ≡ deliver (state_of objects.old (S.slots store.old) (S.memory store.old)) thread badge message.now }
     ensures slots { S.slots store.new ≡ S.slots store.old }
     ensures bytes { SameObjects (state_of objects.old (S.slots store.old) (S.memory store.old)) (state_of objects.new (S.slots store.new) (S.memory store.new)) (S.memory store.old) (S.memory store.new) }
     ensures order { S.order store.new ≡ S.order store.old }
+    ensures stands { Standing objects.new (S.slots store.new) (S.memory store.new) }
 {
     let registers = objects.registers(store, thread);
     pass_with(store, objects, thread, delivered(registers, badge, message));
@@ -60,12 +67,14 @@ pub(crate) fn deliver<S: SlotStore>(
 
 /// A thread gets a word in a0 alone, and goes on.
 pub fn deliver_word<S: SlotStore>(store: &mut S, objects: &mut Objects, thread: u32, word: u32)
-    requires { kind_at (state_of objects.old (S.slots store.old) (S.memory store.old)) thread ≡ Some NewThread }
+    requires there { kind_at (state_of objects.old (S.slots store.old) (S.memory store.old)) thread ≡ Some NewThread }
+    requires stands { Standing objects.old (S.slots store.old) (S.memory store.old) }
     ensures state { state_of objects.new (S.slots store.new) (S.memory store.new)
         ≡ deliver_word (state_of objects.old (S.slots store.old) (S.memory store.old)) thread word }
     ensures slots { S.slots store.new ≡ S.slots store.old }
     ensures bytes { SameObjects (state_of objects.old (S.slots store.old) (S.memory store.old)) (state_of objects.new (S.slots store.new) (S.memory store.new)) (S.memory store.old) (S.memory store.new) }
     ensures order { S.order store.new ≡ S.order store.old }
+    ensures stands { Standing objects.new (S.slots store.new) (S.memory store.new) }
 {
     let registers = objects.registers(store, thread);
     pass_with(store, objects, thread, with_word(registers, word));

@@ -7,6 +7,7 @@ ghost use Rattle.model.specs.Kernel.Retype.{NewThread};
 ghost use Rattle.model.specs.Kernel.Scheduling.{block, wake};
 ghost use Rattle.model.specs.Kernel.State.{AwaitsReply, Inactive};
 ghost use Rattle.objects.specs.Frames.{SameObjects};
+ghost use Rattle.objects.specs.Standing.{Standing};
 ghost use Rattle.objects.specs.Tables.{state_of};
 ghost use Rattle.objects.specs.Threads.{sender_of, sent_of, status_of};
 
@@ -24,11 +25,13 @@ fn await_answer<S: SlotStore>(
 )
     requires there { kind_at (state_of objects.old (S.slots store.old) (S.memory store.old)) thread ≡ Some NewThread }
     requires receiver { kind_at (state_of objects.old (S.slots store.old) (S.memory store.old)) receiver ≡ Some NewThread }
+    requires stands { Standing objects.old (S.slots store.old) (S.memory store.old) }
     ensures state { state_of objects.new (S.slots store.new) (S.memory store.new)
         ≡ with_caller (block (state_of objects.old (S.slots store.old) (S.memory store.old)) thread (status_of status)) receiver (Some thread) }
     ensures slots { S.slots store.new ≡ S.slots store.old }
     ensures bytes { SameObjects (state_of objects.old (S.slots store.old) (S.memory store.old)) (state_of objects.new (S.slots store.new) (S.memory store.new)) (S.memory store.old) (S.memory store.new) }
     ensures order { S.order store.new ≡ S.order store.old }
+    ensures stands { Standing objects.new (S.slots store.new) (S.memory store.new) }
 {
     objects.block(store, thread, status);
     objects.set_caller(store, receiver, Some(thread));
@@ -44,11 +47,13 @@ fn call_received<S: SlotStore>(
 )
     requires there { kind_at (state_of objects.old (S.slots store.old) (S.memory store.old)) thread ≡ Some NewThread }
     requires receiver { kind_at (state_of objects.old (S.slots store.old) (S.memory store.old)) receiver ≡ Some NewThread }
+    requires stands { Standing objects.old (S.slots store.old) (S.memory store.old) }
     ensures state { state_of objects.new (S.slots store.new) (S.memory store.new)
         ≡ (if grant_reply then with_caller (block (state_of objects.old (S.slots store.old) (S.memory store.old)) thread AwaitsReply) receiver (Some thread) else block (state_of objects.old (S.slots store.old) (S.memory store.old)) thread Inactive) }
     ensures slots { S.slots store.new ≡ S.slots store.old }
     ensures bytes { SameObjects (state_of objects.old (S.slots store.old) (S.memory store.old)) (state_of objects.new (S.slots store.new) (S.memory store.new)) (S.memory store.old) (S.memory store.new) }
     ensures order { S.order store.new ≡ S.order store.old }
+    ensures stands { Standing objects.new (S.slots store.new) (S.memory store.new) }
 {
     if grant_reply {
         await_answer(store, objects, thread, Status::AwaitsReply, receiver);
@@ -66,11 +71,13 @@ pub(crate) fn received<S: SlotStore>(
 )
     requires sender { kind_at (state_of objects.old (S.slots store.old) (S.memory store.old)) sender.thread ≡ Some NewThread }
     requires receiver { kind_at (state_of objects.old (S.slots store.old) (S.memory store.old)) receiver ≡ Some NewThread }
+    requires stands { Standing objects.old (S.slots store.old) (S.memory store.old) }
     ensures state { state_of objects.new (S.slots store.new) (S.memory store.new)
         ≡ received (state_of objects.old (S.slots store.old) (S.memory store.old)) (sender_of sender.thread sender.sending) (sent_of sender.sending.sent) receiver }
     ensures slots { S.slots store.new ≡ S.slots store.old }
     ensures bytes { SameObjects (state_of objects.old (S.slots store.old) (S.memory store.old)) (state_of objects.new (S.slots store.new) (S.memory store.new)) (S.memory store.old) (S.memory store.new) }
     ensures order { S.order store.new ≡ S.order store.old }
+    ensures stands { Standing objects.new (S.slots store.new) (S.memory store.new) }
 {
     match sender.sending.sent {
         Sent::Send => pass(store, objects, sender.thread),
@@ -93,12 +100,14 @@ pub(crate) fn received<S: SlotStore>(
 
 /// A thread goes on behind its call, and runs again.
 fn pass_and_wake<S: SlotStore>(store: &mut S, objects: &mut Objects, thread: u32)
-    requires { kind_at (state_of objects.old (S.slots store.old) (S.memory store.old)) thread ≡ Some NewThread }
+    requires there { kind_at (state_of objects.old (S.slots store.old) (S.memory store.old)) thread ≡ Some NewThread }
+    requires stands { Standing objects.old (S.slots store.old) (S.memory store.old) }
     ensures state { state_of objects.new (S.slots store.new) (S.memory store.new)
         ≡ wake (passes (state_of objects.old (S.slots store.old) (S.memory store.old)) thread) thread }
     ensures slots { S.slots store.new ≡ S.slots store.old }
     ensures bytes { SameObjects (state_of objects.old (S.slots store.old) (S.memory store.old)) (state_of objects.new (S.slots store.new) (S.memory store.new)) (S.memory store.old) (S.memory store.new) }
     ensures order { S.order store.new ≡ S.order store.old }
+    ensures stands { Standing objects.new (S.slots store.new) (S.memory store.new) }
 {
     pass(store, objects, thread);
     objects.wake(store, thread);
@@ -113,11 +122,13 @@ pub(crate) fn received_waiting<S: SlotStore>(
 )
     requires sender { kind_at (state_of objects.old (S.slots store.old) (S.memory store.old)) sender.thread ≡ Some NewThread }
     requires receiver { kind_at (state_of objects.old (S.slots store.old) (S.memory store.old)) receiver ≡ Some NewThread }
+    requires stands { Standing objects.old (S.slots store.old) (S.memory store.old) }
     ensures state { state_of objects.new (S.slots store.new) (S.memory store.new)
         ≡ received_waiting (state_of objects.old (S.slots store.old) (S.memory store.old)) (sender_of sender.thread sender.sending) (sent_of sender.sending.sent) receiver }
     ensures slots { S.slots store.new ≡ S.slots store.old }
     ensures bytes { SameObjects (state_of objects.old (S.slots store.old) (S.memory store.old)) (state_of objects.new (S.slots store.new) (S.memory store.new)) (S.memory store.old) (S.memory store.new) }
     ensures order { S.order store.new ≡ S.order store.old }
+    ensures stands { Standing objects.new (S.slots store.new) (S.memory store.new) }
 {
     match sender.sending.sent {
         Sent::Send => pass_and_wake(store, objects, sender.thread),

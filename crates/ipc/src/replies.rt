@@ -8,6 +8,7 @@ ghost use Rattle.model.specs.Kernel.Retype.{NewThread};
 ghost use Rattle.model.specs.Kernel.Soundness.{IsSound};
 ghost use Rattle.model.specs.Kernel.State.{thread_at};
 ghost use Rattle.objects.specs.Frames.{SameObjects};
+ghost use Rattle.objects.specs.Standing.{Standing};
 ghost use Rattle.objects.specs.Tables.{state_of};
 ghost use Rattle.objects.specs.Threads.{status_of};
 
@@ -18,12 +19,14 @@ use slots::SlotStore;
 
 /// A caller gets the reply as a message with badge 0, and runs again.
 fn reply_to_call<S: SlotStore>(store: &mut S, objects: &mut Objects, caller: u32, message: &Message)
-    requires { kind_at (state_of objects.old (S.slots store.old) (S.memory store.old)) caller ≡ Some NewThread }
+    requires there { kind_at (state_of objects.old (S.slots store.old) (S.memory store.old)) caller ≡ Some NewThread }
+    requires stands { Standing objects.old (S.slots store.old) (S.memory store.old) }
     ensures state { state_of objects.new (S.slots store.new) (S.memory store.new)
         ≡ reply_to_call (state_of objects.old (S.slots store.old) (S.memory store.old)) caller message.now }
     ensures slots { S.slots store.new ≡ S.slots store.old }
     ensures bytes { SameObjects (state_of objects.old (S.slots store.old) (S.memory store.old)) (state_of objects.new (S.slots store.new) (S.memory store.new)) (S.memory store.old) (S.memory store.new) }
     ensures order { S.order store.new ≡ S.order store.old }
+    ensures stands { Standing objects.new (S.slots store.new) (S.memory store.new) }
 {
     deliver(store, objects, caller, 0, message);
     objects.wake(store, caller);
@@ -31,12 +34,14 @@ fn reply_to_call<S: SlotStore>(store: &mut S, objects: &mut Objects, caller: u32
 
 /// A thread that faulted goes on where its handler says, and runs again.
 fn resume<S: SlotStore>(store: &mut S, objects: &mut Objects, thread: u32, message: &Message)
-    requires { kind_at (state_of objects.old (S.slots store.old) (S.memory store.old)) thread ≡ Some NewThread }
+    requires there { kind_at (state_of objects.old (S.slots store.old) (S.memory store.old)) thread ≡ Some NewThread }
+    requires stands { Standing objects.old (S.slots store.old) (S.memory store.old) }
     ensures state { state_of objects.new (S.slots store.new) (S.memory store.new)
         ≡ resumed (state_of objects.old (S.slots store.old) (S.memory store.old)) thread message.now }
     ensures slots { S.slots store.new ≡ S.slots store.old }
     ensures bytes { SameObjects (state_of objects.old (S.slots store.old) (S.memory store.old)) (state_of objects.new (S.slots store.new) (S.memory store.new)) (S.memory store.old) (S.memory store.new) }
     ensures order { S.order store.new ≡ S.order store.old }
+    ensures stands { Standing objects.new (S.slots store.new) (S.memory store.new) }
 {
     let registers = objects.registers(store, thread);
     objects.set_registers(store, thread, message.resumed(registers));
@@ -50,12 +55,14 @@ fn reply_to_fault<S: SlotStore>(
     thread: u32,
     message: &Message,
 )
-    requires { kind_at (state_of objects.old (S.slots store.old) (S.memory store.old)) thread ≡ Some NewThread }
+    requires there { kind_at (state_of objects.old (S.slots store.old) (S.memory store.old)) thread ≡ Some NewThread }
+    requires stands { Standing objects.old (S.slots store.old) (S.memory store.old) }
     ensures state { state_of objects.new (S.slots store.new) (S.memory store.new)
         ≡ reply_to_fault (state_of objects.old (S.slots store.old) (S.memory store.old)) thread message.now }
     ensures slots { S.slots store.new ≡ S.slots store.old }
     ensures bytes { SameObjects (state_of objects.old (S.slots store.old) (S.memory store.old)) (state_of objects.new (S.slots store.new) (S.memory store.new)) (S.memory store.old) (S.memory store.new) }
     ensures order { S.order store.new ≡ S.order store.old }
+    ensures stands { Standing objects.new (S.slots store.new) (S.memory store.new) }
 {
     if message.resumes() {
         resume(store, objects, thread, message);
@@ -72,12 +79,14 @@ fn answer<S: SlotStore>(
     status: Status,
     message: &Message,
 )
-    requires { kind_at (state_of objects.old (S.slots store.old) (S.memory store.old)) caller ≡ Some NewThread }
+    requires there { kind_at (state_of objects.old (S.slots store.old) (S.memory store.old)) caller ≡ Some NewThread }
+    requires stands { Standing objects.old (S.slots store.old) (S.memory store.old) }
     ensures state { state_of objects.new (S.slots store.new) (S.memory store.new)
         ≡ replied (state_of objects.old (S.slots store.old) (S.memory store.old)) caller (status_of status) message.now }
     ensures slots { S.slots store.new ≡ S.slots store.old }
     ensures bytes { SameObjects (state_of objects.old (S.slots store.old) (S.memory store.old)) (state_of objects.new (S.slots store.new) (S.memory store.new)) (S.memory store.old) (S.memory store.new) }
     ensures order { S.order store.new ≡ S.order store.old }
+    ensures stands { Standing objects.new (S.slots store.new) (S.memory store.new) }
 {
     match status {
         Status::AwaitsReply => reply_to_call(store, objects, caller, message),
@@ -90,11 +99,13 @@ fn answer<S: SlotStore>(
 fn reply_to<S: SlotStore>(store: &mut S, objects: &mut Objects, thread: u32, caller: u32)
     requires there { kind_at (state_of objects.old (S.slots store.old) (S.memory store.old)) thread ≡ Some NewThread }
     requires caller { kind_at (state_of objects.old (S.slots store.old) (S.memory store.old)) caller ≡ Some NewThread }
+    requires stands { Standing objects.old (S.slots store.old) (S.memory store.old) }
     ensures state { state_of objects.new (S.slots store.new) (S.memory store.new)
         ≡ replied (with_caller (state_of objects.old (S.slots store.old) (S.memory store.old)) thread None) caller (thread_at (state_of objects.old (S.slots store.old) (S.memory store.old)) caller).status (message_of (thread_at (state_of objects.old (S.slots store.old) (S.memory store.old)) thread)) }
     ensures slots { S.slots store.new ≡ S.slots store.old }
     ensures bytes { SameObjects (state_of objects.old (S.slots store.old) (S.memory store.old)) (state_of objects.new (S.slots store.new) (S.memory store.new)) (S.memory store.old) (S.memory store.new) }
     ensures order { S.order store.new ≡ S.order store.old }
+    ensures stands { Standing objects.new (S.slots store.new) (S.memory store.new) }
 {
     let message = Message::of(&objects.registers(store, thread));
     let status = objects.status(store, caller);
@@ -106,11 +117,13 @@ fn reply_to<S: SlotStore>(store: &mut S, objects: &mut Objects, thread: u32, cal
 pub fn reply<S: SlotStore>(store: &mut S, objects: &mut Objects, thread: u32)
     requires sound { IsSound (state_of objects.old (S.slots store.old) (S.memory store.old)) }
     requires there { kind_at (state_of objects.old (S.slots store.old) (S.memory store.old)) thread ≡ Some NewThread }
+    requires stands { Standing objects.old (S.slots store.old) (S.memory store.old) }
     ensures state { state_of objects.new (S.slots store.new) (S.memory store.new)
         ≡ reply (state_of objects.old (S.slots store.old) (S.memory store.old)) thread }
     ensures slots { S.slots store.new ≡ S.slots store.old }
     ensures bytes { SameObjects (state_of objects.old (S.slots store.old) (S.memory store.old)) (state_of objects.new (S.slots store.new) (S.memory store.new)) (S.memory store.old) (S.memory store.new) }
     ensures order { S.order store.new ≡ S.order store.old }
+    ensures stands { Standing objects.new (S.slots store.new) (S.memory store.new) }
 {
     if let Some(caller) = objects.caller(store, thread) {
         reply_to(store, objects, thread, caller);

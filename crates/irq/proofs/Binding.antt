@@ -1,7 +1,6 @@
 -- A line is bound to a notification, in place of what it was bound to.
 use Rattle.std.proofs.Common.{ℕ, ◌≡◌, ◌∙◌, ◌==◌, ◌<◌, ◌^◌, ◌+◌, Bool, true, false, not, nat_lt, Some, None, List, Result, Ok, Err, if◌then◌else◌, refl, sym, ap, subst}
-use Rattle.agreement.specs.Agreement.{Agrees}
-use Rattle.agreement.specs.Wholeness.{IsWhole}
+use Rattle.agreement.specs.Wholeness.{Agreed, IsWhole}
 use Rattle.irq.proofs.Left.{Child, child-state, child-whole}
 use Rattle.irq.specs.Handlers.{bound_source}
 use Rattle.model.specs.Capabilities.Slots.{IsFull, SameOutside, Slots, capability_at, depth_of, empty_entry, inserted, is_empty, is_full}
@@ -126,7 +125,7 @@ module _ (o : Tables) (slots : Slots) (memory : List ℕ) (root : Cap) (line : �
       })
 
   -- what the removal leaves, and then the insertion
-  module _ (left : Tables) (bare : Slots) (old : List ℕ) (source slot : ℕ) (whole : IsWhole s memory) (is_root : IsRoot s root) (less : line < 64)
+  module _ (left : Tables) (bare : Slots) (old : List ℕ) (source slot : ℕ) (whole : IsWhole o slots memory) (is_root : IsRoot s root) (less : line < 64)
       (told : Ok source ≡ source_of) (here : slot ≡ binding_slot s line) (gone : delete s slot ≡ Ok (state_of left bare old)) where
     abbrev t : State
     t = state_of left bare old
@@ -157,7 +156,7 @@ module _ (o : Tables) (slots : Slots) (memory : List ℕ) (root : Cap) (line : �
     unfolding state_of
     source-room = bare-line.room
 
-    module _ (now : Slots) (new : List ℕ) (agrees : Agrees t old) (same : SameOutside bare old new)
+    module _ (now : Slots) (new : List ℕ) (agreed : Agreed left bare old) (same : SameOutside bare old new)
         (is : now ≡ inserted bare slot (capability_at slots source) (Some source)) where
       child : Child bare slot source (capability_at slots source)
       unfolding state_of
@@ -178,10 +177,10 @@ module _ (o : Tables) (slots : Slots) (memory : List ℕ) (root : Cap) (line : �
       pub bind-left : (call : Call) → call.root ≡ root → bind s call line name ≡ Ok (state_of left now new)
       bind-left call at =
           bind-passes source t passes gone-there call at
-          ∙ ap (λ (after : State). Ok after) (sym (child-state left bare now old new slot source (capability_at slots source) agrees same child is ∙ put-there))
+          ∙ ap (λ (after : State). Ok after) (sym (child-state left bare now old new slot source (capability_at slots source) agreed same child is ∙ put-there))
 
-      pub bind-whole : IsWhole (state_of left now new) new
+      pub bind-whole : IsWhole left now new
       bind-whole =
-          child-whole left bare now old new slot source (capability_at slots source) agrees same child is
+          child-whole left bare now old new slot source (capability_at slots source) agreed same child is
           (subst IsSound (sym put-there) (bind-sound s (put_in source t) call_of line name whole.sound (record { root = is_root; invoked = boot refl }) less
           (bind-passes source t passes gone-there call_of refl)))

@@ -118,7 +118,7 @@ module _ (o : Tables) (slots : Slots) (memory : List ℕ) (root : Cap) (slot lin
       }
 
   -- what the insertion leaves
-  module _ (now : Slots) (new : List ℕ) (place : ℕ) (whole : IsWhole s memory) (is_root : IsRoot s root) (control : capability_at slots slot ≡ InterruptControl)
+  module _ (now : Slots) (new : List ℕ) (place : ℕ) (whole : IsWhole o slots memory) (is_root : IsRoot s root) (control : capability_at slots slot ≡ InterruptControl)
       (same : SameOutside slots memory new) (passes : Ok place ≡ place_of) (is : now ≡ inserted slots place (InterruptHandler line) (Some slot)) where
     child : Child slots place slot (InterruptHandler line)
     child =
@@ -134,11 +134,11 @@ module _ (o : Tables) (slots : Slots) (memory : List ℕ) (root : Cap) (slot lin
     pub handler-left : (call : Call) → call.root ≡ root → call.slot ≡ slot → get_handler s call line name ≡ Ok (state_of o now new)
     handler-left call at here =
         any-call call at here ∙ handler-passes whole.agrees place (sym passes)
-        ∙ ap (λ (t : State). Ok t) (sym (child-state o slots now memory new place slot (InterruptHandler line) whole.agrees same child is))
+        ∙ ap (λ (t : State). Ok t) (sym (child-state o slots now memory new place slot (InterruptHandler line) (whole.agrees, whole.stands) same child is))
 
-    pub handler-whole : IsWhole (state_of o now new) new
+    pub handler-whole : IsWhole o now new
     unfolding state_of
     handler-whole =
-        child-whole o slots now memory new place slot (InterruptHandler line) whole.agrees same child is
+        child-whole o slots now memory new place slot (InterruptHandler line) (whole.agrees, whole.stands) same child is
         (get-sound s (made place) call_of line name whole.sound (record { root = is_root; invoked = held control (control-full slots slot control) }) refl
         (handler-passes whole.agrees place (sym passes)))

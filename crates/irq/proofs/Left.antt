@@ -2,8 +2,7 @@
 use Rattle.std.proofs.Common.{ℕ, ◌≡◌, ◌∙◌, false, IsSome, List, Option, Some, None, Result, Ok, Err, OnErr, refl, sym, ap, subst}
 use Rattle.agreement.proofs.Laws.{follows-law}
 use Rattle.agreement.proofs.Puts.{copy-agrees, put-closes}
-use Rattle.agreement.specs.Agreement.{Agrees}
-use Rattle.agreement.specs.Wholeness.{IsWhole}
+use Rattle.agreement.specs.Wholeness.{Agreed, IsWhole}
 use Rattle.cnode_ops.specs.Outcomes.{GivesState}
 use Rattle.model.specs.Capabilities.CapabilityKinds.{frame_mapping}
 use Rattle.model.specs.Capabilities.CapabilityWords.{IsCapability}
@@ -21,17 +20,18 @@ use Rattle.soundness.proofs.Removed.{deleted-sound}
 
 -- a removal, or nothing where it is refused
 pub removed-whole : {A : Type 0} {T : Type 0} (slots_of : T → Slots) (memory_of : T → List ℕ) (store now : T) (o then : Tables) (slot : ℕ) (result : Result A KError)
-    → IsWhole (state_of o (slots_of store) (memory_of store)) (memory_of store)
+    → IsWhole o (slots_of store) (memory_of store)
     → GivesState (delete (state_of o (slots_of store) (memory_of store)) slot) result (state_of then (slots_of now) (memory_of now))
-    → OnErr result (now ≡ store) → OnErr result (then ≡ o) → Agrees (state_of then (slots_of now) (memory_of now)) (memory_of now)
-    → IsWhole (state_of then (slots_of now) (memory_of now)) (memory_of now)
-removed-whole slots_of memory_of store now o then slot (Ok x) whole gives unchanged same agrees = record {
+    → OnErr result (now ≡ store) → OnErr result (then ≡ o) → Agreed then (slots_of now) (memory_of now)
+    → IsWhole then (slots_of now) (memory_of now)
+removed-whole slots_of memory_of store now o then slot (Ok x) whole gives unchanged same agreed = record {
   sound = deleted-sound (state_of o (slots_of store) (memory_of store)) (state_of then (slots_of now) (memory_of now)) slot whole.sound gives;
-  agrees = agrees;
+  agrees = agreed.0;
+  stands = agreed.1;
 }
-removed-whole {A} {T} slots_of memory_of store now o then slot (Err e) whole gives unchanged same agrees =
-    subst (λ (x : T). IsWhole (state_of then (slots_of x) (memory_of x)) (memory_of x)) (sym unchanged)
-    (subst (λ (k : Tables). IsWhole (state_of k (slots_of store) (memory_of store)) (memory_of store)) (sym same) whole)
+removed-whole {A} {T} slots_of memory_of store now o then slot (Err e) whole gives unchanged same agreed =
+    subst (λ (x : T). IsWhole then (slots_of x) (memory_of x)) (sym unchanged)
+    (subst (λ (k : Tables). IsWhole k (slots_of store) (memory_of store)) (sym same) whole)
 
 -- a child that names what its parent names
 pub record Child (slots : Slots) (slot source : ℕ) (made : Cap) : Type 0 where
@@ -41,17 +41,16 @@ pub record Child (slots : Slots) (slot source : ℕ) (made : Cap) : Type 0 where
   pub unmapped : frame_mapping made ≡ None
   pub object : object_named made ≡ object_named (capability_at slots source)
 
-module _ (o : Tables) (slots now : Slots) (old new : List ℕ) (slot source : ℕ) (made : Cap) (agrees : Agrees (state_of o slots old) old) (same : SameOutside slots old new)
+module _ (o : Tables) (slots now : Slots) (old new : List ℕ) (slot source : ℕ) (made : Cap) (agreed : Agreed o slots old) (same : SameOutside slots old new)
     (child : Child slots slot source made) (is : now ≡ inserted slots slot made (Some source)) where
   pub child-state : state_of o now new ≡ with_slots (state_of o slots old) (inserted slots slot made (Some source))
   child-state =
       ap (λ (n : Slots). state_of o n new) is
-      ∙ follows-law o slots (inserted slots slot made (Some source)) old new agrees same
+      ∙ follows-law o slots (inserted slots slot made (Some source)) old new agreed same
       (put-closes slots slot made (Some source) (subst (λ (x : Option Entry). IsSome x) (sym child.empty) refl))
 
-  pub child-whole : IsSound (with_slots (state_of o slots old) (inserted slots slot made (Some source))) → IsWhole (state_of o now new) new
-  child-whole sound = record {
-    sound = subst IsSound (sym child-state) sound;
-    agrees = subst (λ (n : Slots). Agrees (state_of o n new) new) (sym is)
-        (copy-agrees o slots old new slot source made agrees same child.empty child.valid child.single child.unmapped child.object);
-  }
+  pub child-whole : IsSound (with_slots (state_of o slots old) (inserted slots slot made (Some source))) → IsWhole o now new
+  child-whole sound =
+      let after = subst (λ (n : Slots). Agreed o n new) (sym is)
+      (copy-agrees o slots old new slot source made agreed same child.empty child.valid child.single child.unmapped child.object) in
+      record { sound = subst IsSound (sym child-state) sound; agrees = after.0; stands = after.1 }

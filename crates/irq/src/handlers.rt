@@ -84,7 +84,7 @@ pub fn get_handler<S: SlotStore>(
     line: u32,
     destination: SlotName,
 ) -> Result<(), KError>
-    requires whole { IsWhole (state_of kernel.old (S.slots store.old) (S.memory store.old)) (S.memory store.old) }
+    requires whole { IsWhole kernel.old (S.slots store.old) (S.memory store.old) }
     requires root { IsRoot (state_of kernel.old (S.slots store.old) (S.memory store.old)) root }
     requires held { capability_at (S.slots store.old) slot ≡ InterruptControl }
     ensures outcome { (call : Call) → call.root ≡ root → call.slot ≡ slot
@@ -92,7 +92,7 @@ pub fn get_handler<S: SlotStore>(
         (state_of kernel.new (S.slots store.new) (S.memory store.new)) }
     ensures unchanged { OnErr result (store.new ≡ store.old) }
     ensures same { OnErr result (kernel.new ≡ kernel.old) }
-    ensures whole { IsWhole (state_of kernel.new (S.slots store.new) (S.memory store.new)) (S.memory store.new) }
+    ensures whole { IsWhole kernel.new (S.slots store.new) (S.memory store.new) }
 {
     let place = handler_place(store, root, slot, line, destination)?;
     let handler = Cap::InterruptHandler { line: line as u8 };
@@ -139,14 +139,14 @@ pub fn bind<S: SlotStore>(
     notification: SlotName,
 ) -> Result<(), KError>
     requires line { line < 64 }
-    requires whole { IsWhole (state_of kernel.old (S.slots store.old) (S.memory store.old)) (S.memory store.old) }
+    requires whole { IsWhole kernel.old (S.slots store.old) (S.memory store.old) }
     requires root { IsRoot (state_of kernel.old (S.slots store.old) (S.memory store.old)) root }
     ensures outcome { (call : Call) → call.root ≡ root
         → GivesState (bind (state_of kernel.old (S.slots store.old) (S.memory store.old)) call line notification) result
         (state_of kernel.new (S.slots store.new) (S.memory store.new)) }
     ensures unchanged { OnErr result (store.new ≡ store.old) }
     ensures same { OnErr result (kernel.new ≡ kernel.old) }
-    ensures whole { IsWhole (state_of kernel.new (S.slots store.new) (S.memory store.new)) (S.memory store.new) }
+    ensures whole { IsWhole kernel.new (S.slots store.new) (S.memory store.new) }
 {
     let source = bound_source(store, root, notification)?;
     let capability = store.capability(source);
@@ -166,12 +166,12 @@ pub fn clear<S: SlotStore>(
     line: u8,
 ) -> Result<(), KError>
     requires line { line < 64 }
-    requires whole { IsWhole (state_of kernel.old (S.slots store.old) (S.memory store.old)) (S.memory store.old) }
+    requires whole { IsWhole kernel.old (S.slots store.old) (S.memory store.old) }
     ensures outcome { GivesState (delete (state_of kernel.old (S.slots store.old) (S.memory store.old)) (binding_slot (state_of kernel.old (S.slots store.old) (S.memory store.old)) line)) result
         (state_of kernel.new (S.slots store.new) (S.memory store.new)) }
     ensures unchanged { OnErr result (store.new ≡ store.old) }
     ensures same { OnErr result (kernel.new ≡ kernel.old) }
-    ensures whole { IsWhole (state_of kernel.new (S.slots store.new) (S.memory store.new)) (S.memory store.new) }
+    ensures whole { IsWhole kernel.new (S.slots store.new) (S.memory store.new) }
 {
     let binding = kernel.binding(line);
     remove_slot(store, kernel, binding)

@@ -7,6 +7,7 @@ ghost use Rattle.model.specs.Kernel.Kinds.{kind_at};
 ghost use Rattle.model.specs.Kernel.Retype.{NewNotification};
 ghost use Rattle.model.specs.Kernel.Soundness.{IsSound};
 ghost use Rattle.objects.specs.Frames.{SameObjects};
+ghost use Rattle.objects.specs.Standing.{Standing};
 ghost use Rattle.objects.specs.Tables.{state_of};
 
 use model::Cap;
@@ -46,11 +47,13 @@ fn binding<S: SlotStore>(store: &S, objects: &Objects, line: u8) -> Option<Signa
 fn deliver<S: SlotStore>(store: &mut S, objects: &mut Objects, line: u8, bound: Signal)
     requires line { line < 64 }
     requires there { kind_at (state_of objects.old (S.slots store.old) (S.memory store.old)) bound.notification ≡ Some NewNotification }
+    requires stands { Standing objects.old (S.slots store.old) (S.memory store.old) }
     ensures state { state_of objects.new (S.slots store.new) (S.memory store.new)
         ≡ interrupt (state_of objects.old (S.slots store.old) (S.memory store.old)) line (as_signal bound) }
     ensures slots { S.slots store.new ≡ S.slots store.old }
     ensures bytes { SameObjects (state_of objects.old (S.slots store.old) (S.memory store.old)) (state_of objects.new (S.slots store.new) (S.memory store.new)) (S.memory store.old) (S.memory store.new) }
     ensures order { S.order store.new ≡ S.order store.old }
+    ensures stands { Standing objects.new (S.slots store.new) (S.memory store.new) }
 {
     signal(store, objects, bound.notification, bound.badge);
     objects.set_masked(store, line, true);
@@ -61,11 +64,13 @@ fn deliver<S: SlotStore>(store: &mut S, objects: &mut Objects, line: u8, bound: 
 fn deliver_pending<S: SlotStore>(store: &mut S, objects: &mut Objects, line: u8, bound: Signal)
     requires line { line < 64 }
     requires there { kind_at (state_of objects.old (S.slots store.old) (S.memory store.old)) bound.notification ≡ Some NewNotification }
+    requires stands { Standing objects.old (S.slots store.old) (S.memory store.old) }
     ensures state { state_of objects.new (S.slots store.new) (S.memory store.new)
         ≡ interrupt (with_pending (state_of objects.old (S.slots store.old) (S.memory store.old)) line false) line (as_signal bound) }
     ensures slots { S.slots store.new ≡ S.slots store.old }
     ensures bytes { SameObjects (state_of objects.old (S.slots store.old) (S.memory store.old)) (state_of objects.new (S.slots store.new) (S.memory store.new)) (S.memory store.old) (S.memory store.new) }
     ensures order { S.order store.new ≡ S.order store.old }
+    ensures stands { Standing objects.new (S.slots store.new) (S.memory store.new) }
 {
     objects.set_pending(store, line, false);
     deliver(store, objects, line, bound);
@@ -77,11 +82,13 @@ fn deliver_pending<S: SlotStore>(store: &mut S, objects: &mut Objects, line: u8,
 /// seL4 Reference Manual, "Interrupt Delivery".
 pub fn raise<S: SlotStore>(store: &mut S, objects: &mut Objects, line: u8)
     requires sound { IsSound (state_of objects.old (S.slots store.old) (S.memory store.old)) }
+    requires stands { Standing objects.old (S.slots store.old) (S.memory store.old) }
     ensures state { state_of objects.new (S.slots store.new) (S.memory store.new)
         ≡ raise (state_of objects.old (S.slots store.old) (S.memory store.old)) line }
     ensures slots { S.slots store.new ≡ S.slots store.old }
     ensures bytes { SameObjects (state_of objects.old (S.slots store.old) (S.memory store.old)) (state_of objects.new (S.slots store.new) (S.memory store.new)) (S.memory store.old) (S.memory store.new) }
     ensures order { S.order store.new ≡ S.order store.old }
+    ensures stands { Standing objects.new (S.slots store.new) (S.memory store.new) }
 {
     if line > 63 {
         return;
@@ -103,11 +110,13 @@ pub fn raise<S: SlotStore>(store: &mut S, objects: &mut Objects, line: u8)
 pub fn ack<S: SlotStore>(store: &mut S, objects: &mut Objects, line: u8)
     requires line { line < 64 }
     requires sound { IsSound (state_of objects.old (S.slots store.old) (S.memory store.old)) }
+    requires stands { Standing objects.old (S.slots store.old) (S.memory store.old) }
     ensures state { state_of objects.new (S.slots store.new) (S.memory store.new)
         ≡ acknowledge (state_of objects.old (S.slots store.old) (S.memory store.old)) line }
     ensures slots { S.slots store.new ≡ S.slots store.old }
     ensures bytes { SameObjects (state_of objects.old (S.slots store.old) (S.memory store.old)) (state_of objects.new (S.slots store.new) (S.memory store.new)) (S.memory store.old) (S.memory store.new) }
     ensures order { S.order store.new ≡ S.order store.old }
+    ensures stands { Standing objects.new (S.slots store.new) (S.memory store.new) }
 {
     let pending = objects.is_pending(store, line);
     objects.set_masked(store, line, false);

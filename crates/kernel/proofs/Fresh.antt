@@ -6,12 +6,13 @@ use Rattle.std.proofs.lemmas.Bool.{le-leb}
 use Rattle.std.proofs.lemmas.Nat.{pow-add}
 use Rattle.agreement.proofs.Bare.{bare-agrees}
 use Rattle.agreement.specs.Agreement.{Agrees}
-use Rattle.kernel.specs.Setups.{IsWhole, Parts, state_in}
+use Rattle.kernel.specs.Setups.{IsWhole, Parts, slots_in, state_in}
 use Rattle.model.specs.Capabilities.Slots.{Slots, empty_entry, opened}
 use Rattle.model.specs.Kernel.Setup.{boot_area}
 use Rattle.model.specs.Kernel.Soundness.{IsSound}
 use Rattle.model.specs.Kernel.State.{State, boot_area_slots, with_slots}
 use Rattle.model.specs.declared.capabilities.Cap.TheVariants.{Empty}
+use Rattle.objects.specs.Standing.{Standing}
 use Rattle.objects.specs.Tables.{Tables, state_of}
 use Rattle.soundness.proofs.FreshMachines.{fresh-sound}
 
@@ -46,10 +47,11 @@ unfolding boot_area
 boot-agrees bits radix memory size = bare-agrees (boot_area bits radix) memory (λ slot. empty-at (nat_lt slot (boot_area_slots radix))) (λ place. refl) size
 
 pub boot-whole : (bits radix : ℕ) (parts : Parts) → 16 ≤ bits → bits ≤ 24 → 1 ≤ radix → radix ≤ 14 → radix + 5 ≤ bits → 2 ^ bits ≡ length parts.memory
-    → state_in parts ≡ boot_area bits radix → IsWhole parts
-boot-whole bits radix parts least most low high room size is = record {
+    → state_in parts ≡ boot_area bits radix → Standing parts.tables (slots_in parts) parts.memory → IsWhole parts
+boot-whole bits radix parts least most low high room size is stands = record {
   sound = subst IsSound (sym is) (fresh-sound bits radix least most low high room);
   agrees = subst (λ (s : State). Agrees s parts.memory) (sym is) (boot-agrees bits radix parts.memory size);
+  stands = stands;
 }
 
 same-slots : (bits radix : ℕ) (slots : Slots) → slots ≡ (boot_area bits radix).slots → with_slots (boot_area bits radix) slots ≡ boot_area bits radix

@@ -3,7 +3,7 @@ use Rattle.std.proofs.Common.{ℕ, ◌≡◌, ◌∙◌, ◌^◌, ◌<◌, ◌&&
 use Rattle.std.proofs.lemmas.Bool.{and_parts, ltb-true, not-true}
 use Rattle.agreement.proofs.Laws.{follows-law}
 use Rattle.agreement.proofs.Puts.{put-agrees, put-closes}
-use Rattle.agreement.specs.Agreement.{Agrees}
+use Rattle.agreement.specs.Wholeness.{Agreed}
 use Rattle.model.specs.Capabilities.CapabilityWords.{IsCapability}
 use Rattle.model.specs.Capabilities.Slots.{IsOpen, SameOutside, Slots, empty_entry, inserted, is_full}
 use Rattle.model.specs.Kernel.Setup.{put_in_boot_slot}
@@ -63,11 +63,11 @@ module _ (o : Tables) (slots : Slots) (old : List ℕ) (count index : ℕ) (capa
   unfolding state_of
   put-empty sound is =
       let parts = and_parts (nat_lt index count) (not (is_full slots index)) (sym tells ∙ is) in
-      let few : index < 2 ^ o.radix = subst (λ (n : ℕ). index < n) many (ltb-true index count parts.0) in
+      let few : index < 2 ^ (state_of o slots old).boot_radix = subst (λ (n : ℕ). index < n) many (ltb-true index count parts.0) in
       empty-open slots index sound.slots.derivation (plain-open (state_of o slots old) sound.slots index (of_boot_cnode few)) (not-true (is_full slots index) parts.1)
 
 -- what is left then
-module _ (o : Tables) (slots now : Slots) (old new : List ℕ) (index : ℕ) (capability : Cap) (agrees : Agrees (state_of o slots old) old) (same : SameOutside slots old new)
+module _ (o : Tables) (slots now : Slots) (old new : List ℕ) (index : ℕ) (capability : Cap) (agreed : Agreed o slots old) (same : SameOutside slots old new)
     (empty : slots index ≡ Some empty_entry) (is : now ≡ inserted slots index capability None) where
   here-open : IsOpen slots index
   here-open = subst (λ (x : Option Entry). IsSome x) (sym empty) refl
@@ -75,9 +75,9 @@ module _ (o : Tables) (slots now : Slots) (old new : List ℕ) (index : ℕ) (ca
   pub root-state : state_of o now new ≡ with_slots (state_of o slots old) (inserted slots index capability None)
   root-state =
       ap (λ (n : Slots). state_of o n new) is
-      ∙ follows-law o slots (inserted slots index capability None) old new agrees same (put-closes slots index capability None here-open)
+      ∙ follows-law o slots (inserted slots index capability None) old new agreed same (put-closes slots index capability None here-open)
 
-  pub root-agrees : IsWithoutTables capability → IsCapability capability → Agrees (state_of o now new) new
+  pub root-agrees : IsWithoutTables capability → IsCapability capability → Agreed o now new
   root-agrees plain valid =
-      subst (λ (n : Slots). Agrees (state_of o n new) new) (sym is)
-      (put-agrees o slots old new index capability None agrees same empty (plain-may slots new capability plain valid) (λ table names. plain-named slots capability table plain names))
+      subst (λ (n : Slots). Agreed o n new) (sym is)
+      (put-agrees o slots old new index capability None agreed same empty (plain-may slots new capability plain valid) (λ table names. plain-named slots capability table plain names))

@@ -26,7 +26,7 @@ pub may-tested : (o : Tables) (slots : Slots) (memory : List ℕ) (offset bits f
     → first ≡ boot_area_end (state_of o slots memory).boot_radix → may_be_untyped (state_of o slots memory) offset bits ≡ tested slots offset bits (length memory) first
 unfolding state_of some_slot slot_numbers
 may-tested o slots memory offset bits first agrees at =
-    ap (λ (n : ℕ). tested slots offset bits n (boot_area_end o.radix)) agrees.size ∙ ap (tested slots offset bits (length memory)) (sym at)
+    ap (λ (n : ℕ). tested slots offset bits n (boot_area_end (state_of o slots memory).boot_radix)) agrees.size ∙ ap (tested slots offset bits (length memory)) (sym at)
 
 pub untyped-put : (s : State) (index offset bits : ℕ) → may_be_untyped s offset bits ≡ true → put_untyped s index offset bits ≡ put_in_boot_slot s index (Untyped offset bits 0)
 unfolding put_untyped

@@ -27,7 +27,7 @@ state_in parts = state_of parts.tables (slots_in parts) parts.memory
 
 -- what each call relies on, and leaves true
 abbrev pub IsWhole : Parts → Type 0
-IsWhole parts = wholeness.IsWhole (state_in parts) parts.memory
+IsWhole parts = wholeness.IsWhole parts.tables (slots_in parts) parts.memory
 
 -- what an operation answers and leaves: nothing changes where its definition gives nothing
 abbrev pub GivesIf : Option State → Bool → Parts → Parts → Type 0

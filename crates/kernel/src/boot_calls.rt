@@ -25,7 +25,7 @@ const BOOT_CNODE: u32 = 0xFFFF_FFFF;
 /// The root of the capability space in which the system is set up: the boot CNode, whose slots are named by their
 /// numbers at 32 bits.
 fn boot_root<S: SlotStore>(store: &S, objects: &Objects) -> Cap
-    requires { IsWhole (state_of objects.now (S.slots store.now) (S.memory store.now)) (S.memory store.now) }
+    requires { IsWhole objects.now (S.slots store.now) (S.memory store.now) }
     ensures value { result ≡ boot_root (state_of objects.now (S.slots store.now) (S.memory store.now)).boot_radix }
     ensures valid { IsCapability result }
 {
@@ -41,7 +41,7 @@ fn boot_root<S: SlotStore>(store: &S, objects: &Objects) -> Cap
 /// failed (`FailedLookup`).
 #[tactic(auto, unfolding(objects::specs::Tables::state_of))]
 fn called<S: SlotStore>(store: &S, objects: &Objects, address: u32) -> Result<KernelCall, KError>
-    requires whole { IsWhole (state_of objects.now (S.slots store.now) (S.memory store.now)) (S.memory store.now) }
+    requires whole { IsWhole objects.now (S.slots store.now) (S.memory store.now) }
     ensures call { IfOk result (λ call. boot_call (state_of objects.now (S.slots store.now) (S.memory store.now)) address ≡ Ok (call_of call)) }
     ensures sound { IfOk result (λ call. IsCall (state_of objects.now (S.slots store.now) (S.memory store.now)) (call_of call)) }
     ensures refused { IfErr result (λ error. boot_call (state_of objects.now (S.slots store.now) (S.memory store.now)) address ≡ Err error) }
@@ -74,13 +74,13 @@ fn perform<S: SlotStore>(
     label: u32,
     words: &[u32],
 ) -> Result<(), KError>
-    requires whole { IsWhole (state_of kernel.old (S.slots store.old) (S.memory store.old)) (S.memory store.old) }
+    requires whole { IsWhole kernel.old (S.slots store.old) (S.memory store.old) }
     requires call { IsCall (state_of kernel.old (S.slots store.old) (S.memory store.old)) (call_of call) }
     ensures outcome { GivesState (performed (state_of kernel.old (S.slots store.old) (S.memory store.old)) label words.now (call_of call)) result
         (state_of kernel.new (S.slots store.new) (S.memory store.new)) }
     ensures unchanged { OnErr result (store.new ≡ store.old) }
     ensures same { OnErr result (kernel.new ≡ kernel.old) }
-    ensures whole { IsWhole (state_of kernel.new (S.slots store.new) (S.memory store.new)) (S.memory store.new) }
+    ensures whole { IsWhole kernel.new (S.slots store.new) (S.memory store.new) }
 {
     if label == CONFIGURE {
         configure_with_guard(store, kernel, call, words)
@@ -98,12 +98,12 @@ pub(crate) fn make_call<S: SlotStore>(
     label: u32,
     words: &[u32],
 ) -> Result<(), KError>
-    requires whole { IsWhole (state_of kernel.old (S.slots store.old) (S.memory store.old)) (S.memory store.old) }
+    requires whole { IsWhole kernel.old (S.slots store.old) (S.memory store.old) }
     ensures outcome { GivesState (made (state_of kernel.old (S.slots store.old) (S.memory store.old)) (loader_call address label words.now)) result
         (state_of kernel.new (S.slots store.new) (S.memory store.new)) }
     ensures unchanged { OnErr result (store.new ≡ store.old) }
     ensures same { OnErr result (kernel.new ≡ kernel.old) }
-    ensures whole { IsWhole (state_of kernel.new (S.slots store.new) (S.memory store.new)) (S.memory store.new) }
+    ensures whole { IsWhole kernel.new (S.slots store.new) (S.memory store.new) }
 {
     let call = match called(store, &kernel.objects, address) {
         Ok(call) => call,

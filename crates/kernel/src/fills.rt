@@ -16,11 +16,11 @@ pub(crate) fn fill_frame<S: SlotStore>(
     offset: u32,
     bytes: &[u8],
 ) -> bool
-    requires whole { IsWhole (state_of kernel.now (S.slots store.old) (S.memory store.old)) (S.memory store.old) }
+    requires whole { IsWhole kernel.now (S.slots store.old) (S.memory store.old) }
     ensures outcome { fill (state_of kernel.now (S.slots store.old) (S.memory store.old)) offset bytes.now
         ≡ (if result then Some (state_of kernel.now (S.slots store.new) (S.memory store.new)) else None) }
     ensures unchanged { result ≡ false → store.new ≡ store.old }
-    ensures whole { IsWhole (state_of kernel.now (S.slots store.new) (S.memory store.new)) (S.memory store.new) }
+    ensures whole { IsWhole kernel.now (S.slots store.new) (S.memory store.new) }
 {
     user_memory::fill(store, &kernel.objects, offset, bytes)
 }

@@ -2,13 +2,16 @@
 use Rattle.std.proofs.Common.{ℕ, ◌≡◌, ◌≢◌, ◌∙◌, ◌+◌, ◌-◌, ◌*◌, ◌^◌, ◌<◌, ◌≤◌, inl, inr, not, true, false, Option, Some, IsSome, List, refl, sym, ap, subst, arith}
 use Rattle.std.proofs.Math.Pow.{pow_mono}
 use Rattle.std.proofs.lemmas.Bool.Decides.{eqb_tells}
+use Rattle.agreement.proofs.Laws.{slots-law, stands-law}
 use Rattle.agreement.proofs.NewBegin.{growing-base}
-use Rattle.agreement.specs.Agreement.{Agrees}
+use Rattle.agreement.proofs.Puts.{put-closes}
+use Rattle.agreement.specs.Wholeness.{Agreed}
 use Rattle.agreement.specs.Growing.{Growing}
 use Rattle.cnode_ops.specs.Placed.{IsPlaced, used_to}
 use Rattle.cnode_ops.specs.declared.beginnings.Placing.{Placing}
 use Rattle.lifecycles.proofs.OneAfterAnother.{made-none}
 use Rattle.lifecycles.specs.Beginnings.{AreLaid, AreMade, MayUse}
+use Rattle.model.proofs.Ancestors.{full-open}
 use Rattle.model.proofs.Depths.{depth-same}
 use Rattle.model.proofs.Derivations.{derivation-recapped}
 use Rattle.model.proofs.SlotChanges.{entry-other, entry-same, full-not-empty, full-recapped, parent_of}
@@ -20,7 +23,7 @@ use Rattle.model.specs.Kernel.State.{State, with_slots}
 use Rattle.model.specs.declared.capabilities.Cap.{Cap}
 use Rattle.model.specs.declared.capabilities.Cap.TheVariants.{Empty, Untyped}
 use Rattle.model.specs.declared.slot_entries.Entry.{Entry}
-use Rattle.objects.proofs.Following.{follows}
+use Rattle.objects.specs.Standing.{Standing}
 use Rattle.objects.specs.Tables.{Tables, state_of}
 use Rattle.soundness.proofs.Places.{slot-near}
 use Rattle.soundness.proofs.UnusedMemory.{unused-free}
@@ -73,7 +76,7 @@ module _ (s : State) (new : NewObjects) (at : Placing) (placed : IsPlaced s new 
 
 -- ---- the state
 
-module _ (o : Tables) (slots now : Slots) (old memory : List ℕ) (new : NewObjects) (at : Placing) (agrees : Agrees (state_of o slots old) old)
+module _ (o : Tables) (slots now : Slots) (old memory : List ℕ) (new : NewObjects) (at : Placing) (agreed : Agreed o slots old)
     (sound : IsSound (state_of o slots old)) (placed : IsPlaced (state_of o slots old) new at)
     (marked : now ≡ recapped slots at.parent (used_to at.watermark (capability_at slots at.parent))) (same : SameOutside slots old memory) where
   abbrev s : State
@@ -87,19 +90,28 @@ module _ (o : Tables) (slots now : Slots) (old memory : List ℕ) (new : NewObje
   marked-slots = marked ∙ ap (λ (c : Cap). recapped slots at.parent (used_to at.watermark c)) placed.memory
 
   marked-state : state_of o now memory ≡ with_slots s now
-  marked-state = follows o slots old memory now (record { size = agrees.size; apart = agrees.slots }) same
+  marked-state = slots-law o slots now old memory agreed.1 same
 
   pub placed-state : state_of o now memory
       ≡ with_slots s (recapped s.slots at.parent (used_to at.watermark (capability_at s.slots at.parent)))
   unfolding state_of
   placed-state = marked-state ∙ ap (with_slots s) marked
 
+  marked-full-before : IsFull slots at.parent
+  unfolding state_of
+  marked-full-before = parent-full s new at placed
+
+  pub marked-stands : Standing o now memory
+  marked-stands =
+      stands-law o slots now old memory agreed.1 same (λ x none. ap (λ (f : Slots). f x) marked-slots ∙ put-closes slots at.parent used (parent_at slots at.parent)
+      (full-open slots at.parent marked-full-before) x none)
+
   growing-marked : Growing (state_of o now memory) memory new.first (new.first + new.count * size_of new)
   unfolding state_of
   growing-marked =
       subst (λ (t : State). Growing t memory new.first (new.first + new.count * size_of new)) (sym (marked-state ∙ ap (with_slots s) marked-slots))
       (growing-base s old memory at.parent placed.offset placed.bits placed.used at.watermark new.first (new.first + new.count * size_of new) sound placed.memory placed.behind placed.within
-      placed.fits agrees same)
+      placed.fits agreed.0 same)
 
   module _ (window : (i : ℕ) → i < new.count → slots (at.window + i) ≡ Some empty_entry) (room : depth_of slots at.parent < 255) where
     was-full : IsFull slots at.parent

@@ -1,8 +1,8 @@
 -- The state once one object was made: its room, its record, and its capability.
-use Rattle.std.proofs.Common.{ℕ, ◌≡◌, ◌∙◌, ◌+◌, ◌/◌, ◌%◌, ◌^◌, ◌<◌, ◌≤◌, ◌⊎◌, inl, inr, Bool, true, false, if◌then◌else◌, Option, Some, None, IsSome, option_map, List, length, refl, sym, ap, subst, arith}
-use Rattle.std.specs.Prelude.{slice_index}
+use Rattle.std.proofs.Common.{ℕ, ◌≡◌, ◌∙◌, ◌+◌, ◌%◌, ◌^◌, ◌<◌, ◌≤◌, ◌⊎◌, inl, inr, Bool, true, false, if◌then◌else◌, Option, Some, IsSome, option_map, List, refl, sym, ap, subst, arith}
 use Rattle.std.proofs.lemmas.Bool.Decides.{eqb_tells}
 use Rattle.agreement.proofs.Grown.{grown}
+use Rattle.agreement.proofs.Laws.{slots-law, stands-law}
 use Rattle.agreement.proofs.NewPlaced.{inserted-first, placed-object, placed-untyped}
 use Rattle.agreement.proofs.NewStates.{room-state, sixteen}
 use Rattle.agreement.specs.Growing.{Growing, one_placed}
@@ -10,19 +10,19 @@ use Rattle.agreement.specs.Rooms.{RoomMade, has_page}
 use Rattle.cnode_ops.specs.Placed.{new_type}
 use Rattle.cnode_ops.specs.declared.beginnings.NewType.{NewType}
 use Rattle.cnode_ops.specs.declared.beginnings.NewType.TheVariants.{Untyped, Object}
-use Rattle.lifecycles.proofs.Places.{no-old_byte, no-slot_there}
+use Rattle.lifecycles.proofs.Places.{room-of_open}
 use Rattle.lifecycles.specs.Beginnings.{with_begun}
-use Rattle.model.specs.Capabilities.Slots.{IsOpen, SameOutside, Slots, empty_entry, inserted}
+use Rattle.model.specs.Capabilities.Slots.{SameOutside, Slots, empty_entry, inserted}
 use Rattle.model.specs.Kernel.AddressSpaces.{page_size}
-use Rattle.model.specs.Kernel.Kinds.{frame_around, kind_at, kind_of}
-use Rattle.model.specs.Kernel.Retype.{NewObject, NewThread, NewEndpoint, NewNotification, NewCNode, NewFrame, NewPageTable, NewRootTable, first_capability, is_large_enough, is_small_enough, object_bits, with_first_capabilities, with_new_slots}
-use Rattle.model.specs.Kernel.State as states
-use Rattle.model.specs.Kernel.State.{State, put, with_slots}
+use Rattle.model.specs.Kernel.Kinds.{kind_at, kind_of}
+use Rattle.model.specs.Kernel.Retype.{NewObject, first_capability, is_large_enough, is_small_enough, object_bits, with_first_capabilities, with_new_slots}
+use Rattle.model.specs.Kernel.State.{State, with_slots}
 use Rattle.model.specs.declared.slot_entries.Entry.{Entry}
+use Rattle.agreement.proofs.Puts.{is-open, put-closes}
 use Rattle.agreement.proofs.RoomsMade.{alone}
-use Rattle.objects.proofs.Following.{follows}
 use Rattle.objects.specs.Changes.{begun, is_frame_kind}
-use Rattle.objects.specs.Frames.{FitsMemory, SameBesideObjects}
+use Rattle.objects.specs.Frames.{SameBesideObjects}
+use Rattle.objects.specs.Standing.{Standing}
 use Rattle.objects.specs.Tables.{Tables, state_of}
 use Rattle.objects.specs.Threads.{new_object}
 use Rattle.objects.specs.declared.records.Kind.{Kind}
@@ -66,37 +66,6 @@ kind-begun : (s : State) (kind : NewType) (place : ℕ) (made : List ℕ) (offse
 kind-begun s (Untyped bits) place made offset k is = inl is
 kind-begun s (Object kind) place made offset k is = kind-put s kind place made offset k is
 
--- a byte of a new frame stands in no open slot
-byte-begun : (s : State) (k : Kind) (place : ℕ) (old made : List ℕ) (room : Slots) → Growing s old place (place + 2 ^ object_bits (kind_of (new_object k)))
-    → place % 16 ≡ 0 → RoomMade s.slots room old made (kind_of (new_object k)) place → (other : ℕ) → IsOpen room (other / 16)
-    → (begun (with_slots s room) made k place).bytes other ≡ None
-byte-begun s kinds.Frame place old made room growing sixteenth is_made = λ other is_open. elim (eqb_tells place (frame_around other)) [
-  | inl here ↦
-      let none = no-slot_there s NewFrame place old growing room sixteenth is_made.slots refl other (omega (arith, here.1)) (omega (arith, here.1)) in
-      absurd (let clash : false ≡ true = subst (λ (e : Option Entry). IsSome e) none is_open in cc)
-  | inr apart ↦
-      ap (λ (b : Bool). if b then Some (slice_index made other) else s.bytes other) apart.0
-      ∙ no-old_byte s NewFrame place old growing room sixteenth is_made.slots other is_open
-]
-byte-begun s kinds.Thread place old made room growing sixteenth is_made = no-old_byte s NewThread place old growing room sixteenth is_made.slots
-byte-begun s kinds.Endpoint place old made room growing sixteenth is_made = no-old_byte s NewEndpoint place old growing room sixteenth is_made.slots
-byte-begun s kinds.Notification place old made room growing sixteenth is_made = no-old_byte s NewNotification place old growing room sixteenth is_made.slots
-byte-begun s (kinds.CNode radix) place old made room growing sixteenth is_made = no-old_byte s (NewCNode radix) place old growing room sixteenth is_made.slots
-byte-begun s kinds.PageTable place old made room growing sixteenth is_made = no-old_byte s NewPageTable place old growing room sixteenth is_made.slots
-byte-begun s kinds.RootTable place old made room growing sixteenth is_made = no-old_byte s NewRootTable place old growing room sixteenth is_made.slots
-
-fits-begun : (s : State) (kind : NewType) (place : ℕ) (old made now : List ℕ) (room : Slots) → Growing s old place (place + 2 ^ object_bits (new_type kind))
-    → place % 16 ≡ 0 → RoomMade s.slots room old made (new_type kind) place → length now ≡ length made
-    → FitsMemory (with_begun (with_slots s room) made kind place) now
-fits-begun s (Untyped bits) place old made now room growing sixteenth is_made size = record {
-  size = growing.agrees.size ∙ sym is_made.size ∙ sym size;
-  apart = no-old_byte s (new_type (Untyped bits)) place old growing room sixteenth is_made.slots;
-}
-fits-begun s (Object k) place old made now room growing sixteenth is_made size = record {
-  size = growing.agrees.size ∙ sym is_made.size ∙ sym size;
-  apart = byte-begun s k place old made room growing sixteenth is_made;
-}
-
 -- ---- the capability
 
 placed-begun : (s : State) (kind : NewType) (place slot parent : ℕ) (room now : Slots) (old made : List ℕ) → place % 2 ^ object_bits (new_type kind) ≡ 0
@@ -110,11 +79,11 @@ placed-begun s (Object k) place slot parent room now old made aligned is_made sl
 -- ---- all three
 
 module _ (o after : Tables) (slots room begun_slots now : Slots) (old made begun_bytes new : List ℕ) (kind : NewType) (place slot parent : ℕ)
-    (growing : Growing (state_of o slots old) old place (place + 2 ^ object_bits (new_type kind)))
+    (stood : Standing o slots old) (growing : Growing (state_of o slots old) old place (place + 2 ^ object_bits (new_type kind)))
     (aligned : place % 2 ^ object_bits (new_type kind) ≡ 0) (large : is_large_enough (new_type kind) ≡ true)
     (is_made : RoomMade slots room old made (new_type kind) place) (same_slots : begun_slots ≡ room)
     (state : state_of after begun_slots begun_bytes ≡ with_begun (state_of o room made) made kind place)
-    (beside : SameBesideObjects (state_of after begun_slots begun_bytes) made begun_bytes)
+    (beside : SameBesideObjects (state_of after begun_slots begun_bytes) made begun_bytes) (stands : Standing after begun_slots begun_bytes)
     (puts : now ≡ inserted begun_slots slot (first_capability (new_type kind) place) (Some parent)) (same : SameOutside begun_slots begun_bytes new) where
   abbrev s : State
   s = state_of o slots old
@@ -127,10 +96,7 @@ module _ (o after : Tables) (slots room begun_slots now : Slots) (old made begun
   own-room = is_made
 
   begun-state : state_of after begun_slots begun_bytes ≡ with_begun (with_slots s room) made kind place
-  begun-state = state ∙ ap (λ (t : State). with_begun t made kind place) (room-state o slots room old made (new_type kind) place _ growing (omega arith) sixteenth is_made)
-
-  fits-memory : FitsMemory (state_of after begun_slots begun_bytes) begun_bytes
-  fits-memory = subst (λ (t : State). FitsMemory t begun_bytes) (sym begun-state) (fits-begun s kind place old made begun_bytes room growing sixteenth own-room beside.size)
+  begun-state = state ∙ ap (λ (t : State). with_begun t made kind place) (room-state o slots room old made (new_type kind) place _ growing (omega arith) sixteenth is_made stood)
 
   placed-slots : now ≡ with_first_capabilities (alone (new_type kind) place) slot parent (with_new_slots (alone (new_type kind) place) s.slots)
   placed-slots =
@@ -139,10 +105,22 @@ module _ (o after : Tables) (slots room begun_slots now : Slots) (old made begun
 
   pub state-made : state_of after now new ≡ one_placed s (new_type kind) place slot parent
   state-made =
-      follows after begun_slots begun_bytes new now fits-memory same ∙ ap (λ (t : State). with_slots t now) begun-state
+      slots-law after begun_slots now begun_bytes new stands same ∙ ap (λ (t : State). with_slots t now) begun-state
       ∙ placed-begun s kind place slot parent room now old made aligned own-room placed-slots
 
   module _ (small : is_small_enough (new_type kind) ≡ true) (near : place < 2 ^ 24) (empty : s.slots slot ≡ Some empty_entry) where
+    -- the capability's slot is open where it is put
+    still-empty : begun_slots slot ≡ Some empty_entry
+    still-empty =
+        ap (λ (f : Slots). f slot) same_slots
+        ∙ room-of_open s (new_type kind) place old growing room sixteenth own-room.slots slot (subst (λ (e : Option Entry). IsSome e) (sym empty) refl) ∙ empty
+
+    pub stands-made : Standing after now new
+    stands-made =
+        stands-law after begun_slots now begun_bytes new stands same
+        (λ x none. ap (λ (f : Slots). f x) puts ∙ put-closes begun_slots slot (first_capability (new_type kind) place) (Some parent)
+        (is-open begun_slots slot empty_entry still-empty) x none)
+
     pub growing-made : (to : ℕ) → Growing s old place to → place + 2 ^ object_bits (new_type kind) ≤ to
         → Growing (state_of after now new) new (place + 2 ^ object_bits (new_type kind)) to
     growing-made to more fits =

@@ -1,12 +1,11 @@
 -- The place of a new object: nothing stands there, and what is at it when its room is made.
-use Rattle.std.proofs.Common.{ℕ, ◌≡◌, ◌∙◌, ◌+◌, ◌/◌, ◌%◌, ◌^◌, ◌<◌, ◌≤◌, ◌⊎◌, inl, inr, Bool, true, false, if◌then◌else◌, Option, Some, None, IsSome, option_map, List, pow_pos, refl, sym, ap, subst, arith}
+use Rattle.std.proofs.Common.{ℕ, ◌≡◌, ◌∙◌, ◌+◌, ◌/◌, ◌%◌, ◌^◌, ◌<◌, inl, inr, Bool, true, false, if◌then◌else◌, Option, Some, None, IsSome, option_map, List, pow_pos, refl, sym, ap, subst, arith}
 use Rattle.agreement.proofs.NewBeside.{window-apart}
-use Rattle.agreement.proofs.NewStates.{slots-within}
 use Rattle.agreement.proofs.OneMore.{some-one}
-use Rattle.agreement.proofs.RoomsMade.{alone, no-slots, slots-alone}
+use Rattle.agreement.proofs.RoomsMade.{alone, slots-alone}
 use Rattle.agreement.specs.Growing.{Growing}
 use Rattle.model.proofs.Ancestors.{full-open}
-use Rattle.model.proofs.SlotChanges.{capability_of, full-same, parent_of, within-bounds}
+use Rattle.model.proofs.SlotChanges.{capability_of, full-same, parent_of}
 use Rattle.model.specs.Capabilities.Slots.{IsFull, IsOpen, OutsideSlots, Slots, depth_of, depth_within, empty_entry, is_within, parent_at}
 use Rattle.model.specs.Kernel.Kinds.{kind_of}
 use Rattle.model.specs.Kernel.Removal.{slot_count}
@@ -35,32 +34,6 @@ module _ (s : State) (kind : NewObject) (place : ℕ) (old : List ℕ) (growing 
   place-near = let inside = growing.inside in let new = pow_pos (object_bits kind) in omega (arith, inside, new)
 
   module _ (room : Slots) (sixteenth : place % 16 ≡ 0) (opens : room ≡ with_new_slots (alone kind place) s.slots) where
-    -- what a slot was that is open now
-    old-or-new : (other : ℕ) → IsOpen room (other / 16) → IsOpen s.slots (other / 16) ⊎ ((place ≤ other) × (other < place + 2 ^ object_bits kind))
-    old-or-new other is_open =
-        elim (is_within (place / 16) (slot_count (object kind)) (other / 16)) as (λ b. is_within (place / 16) (slot_count (object kind)) (other / 16) ≡ b
-        → IsSome (if b then Some empty_entry else s.slots (other / 16)) → IsOpen s.slots (other / 16) ⊎ ((place ≤ other) × (other < place + 2 ^ object_bits kind))) [
-          | true ↦ λ is here.
-              let bounds = within-bounds (place / 16) (slot_count (object kind)) (other / 16) is in
-              let low = bounds.0 in
-              let high = bounds.1 in
-              let size = slots-within kind in
-              inr (omega (arith, low, sixteenth), omega (arith, high, size, sixteenth))
-          | false ↦ λ is here. inl here
-        ] refl (subst (λ (e : Option Entry). IsSome e) (ap (λ (f : Slots). f (other / 16)) opens ∙ slots-alone kind place (other / 16) s.slots) is_open)
-
-    -- no byte of a frame stands in an open slot
-    pub no-old_byte : (other : ℕ) → IsOpen room (other / 16) → s.bytes other ≡ None
-    no-old_byte other is_open = elim (old-or-new other is_open) [
-      | inl was ↦ growing.agrees.slots other was
-      | inr new ↦ growing.free.bytes other new.0 new.1
-    ]
-
-    -- an object without slots has none open at its place
-    pub no-slot_there : slot_count (object kind) ≡ 0 → (other : ℕ) → place ≤ other → other < place + 2 ^ object_bits kind → room (other / 16) ≡ None
-    no-slot_there none other low high =
-        ap (λ (f : Slots). f (other / 16)) (opens ∙ no-slots kind place s.slots none) ∙ growing.free.slots other low high
-
     pub room-of_open : (x : ℕ) → IsOpen s.slots x → room x ≡ s.slots x
     room-of_open x was =
         ap (λ (f : Slots). f x) opens

@@ -3,11 +3,13 @@
 ghost use Rattle.std.specs.Prelude.{ℕ, ◌≡◌, ◌+◌, ◌*◌, ◌^◌, ◌≤◌, true};
 ghost use Rattle.agreement.proofs.Laws.{of_memory-law, of_slots-law};
 ghost use Rattle.agreement.specs.Agreement.{Agrees};
+ghost use Rattle.agreement.specs.Wholeness.{Agreed};
 ghost use Rattle.cnode_ops.specs.Placed.{new_objects, new_type, used_to};
 ghost use Rattle.lifecycles.specs.Beginnings.{AreLaid, AreMade, MayUse};
 ghost use Rattle.model.specs.Capabilities.Slots.{SameOutside, capability_at, recapped};
 ghost use Rattle.model.specs.Kernel.Kinds.{kind_of};
 ghost use Rattle.model.specs.Kernel.Retype.{is_small_enough, object_bits, with_new};
+ghost use Rattle.objects.specs.Standing.{Standing};
 ghost use Rattle.objects.specs.Tables.{state_of};
 ghost use Rattle.objects.specs.Threads.{new_object};
 
@@ -64,9 +66,11 @@ fn make_all<S: SlotStore>(objects: &mut Objects, store: &mut S, new: NewRange, a
     requires none_yet { AreMade (state_of objects.old (S.slots store.old) (S.memory store.old))
         (state_of objects.old (S.slots store.old) (S.memory store.old)) (S.memory store.old) (new_objects new) at.window at.parent 0 }
     requires near { at.window + new.count ≤ 2 ^ 20 }
+    requires stands { Standing objects.old (S.slots store.old) (S.memory store.old) }
     ensures state { state_of objects.new (S.slots store.new) (S.memory store.new)
         ≡ with_new (state_of objects.old (S.slots store.old) (S.memory store.old)) (new_objects new) at.window at.parent }
     ensures agree { Agrees (state_of objects.new (S.slots store.new) (S.memory store.new)) (S.memory store.new) }
+    ensures stands { Standing objects.new (S.slots store.new) (S.memory store.new) }
 {
     let size = new_size(new.kind);
     let window = at.window.number();
@@ -87,7 +91,7 @@ fn make_all<S: SlotStore>(objects: &mut Objects, store: &mut S, new: NewRange, a
 impl Begins for KernelObjects {
     ghost state = { state_of };
 
-    ghost Agree = { λ objects slots memory. Agrees (state_of objects slots memory) memory };
+    ghost Agree = { Agreed };
 
     fn begin<S: SlotStore>(&mut self, store: &mut S, new: NewRange, at: Placing) {
         use_memory(store, at.parent, at.watermark);

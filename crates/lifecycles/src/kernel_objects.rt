@@ -2,7 +2,7 @@
 
 ghost use Rattle.std.specs.Prelude.{ℕ, ◌≡◌, List};
 ghost use Rattle.agreement.proofs.Laws.{agree_bytes-law, agree_closed-law, agree_unused-law, agree_without-law, follows-law, of_memory-law, of_slots-law};
-ghost use Rattle.agreement.specs.Agreement.{Agrees};
+ghost use Rattle.agreement.specs.Wholeness.{Agreed};
 ghost use Rattle.objects.specs.Tables.{state_of};
 
 use cnode_ops::Ends;
@@ -32,7 +32,7 @@ impl Model for KernelObjects {
 impl Ends for KernelObjects {
     ghost state = { state_of };
 
-    ghost Agree = { λ objects slots memory. Agrees (state_of objects slots memory) memory };
+    ghost Agree = { Agreed };
 
     fn unmap<S: SlotStore>(&mut self, store: &mut S, slot: Slot) {
         unmap_cap(store, slot);

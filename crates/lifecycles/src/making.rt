@@ -8,7 +8,8 @@ ghost use Rattle.model.specs.Capabilities.Slots.{IsFull, OutsideSlots, SameOutsi
 ghost use Rattle.model.specs.Kernel.Kinds.{kind_of};
 ghost use Rattle.model.specs.Kernel.Retype.{first_capability, is_large_enough, is_small_enough, object_bits};
 ghost use Rattle.lifecycles.specs.Beginnings.{with_begun};
-ghost use Rattle.objects.specs.Frames.{SameBesideObjects};
+ghost use Rattle.objects.specs.Frames.{IsRoom, SameBesideObjects};
+ghost use Rattle.objects.specs.Standing.{Standing};
 ghost use Rattle.objects.specs.Tables.{state_of};
 ghost use Rattle.objects.specs.Threads.{new_object};
 
@@ -121,10 +122,13 @@ fn begin_object<S: SlotStore>(objects: &mut Objects, store: &mut S, kind: NewTyp
     requires aligned { place % 2 ^ object_bits (new_type kind) ≡ 0 }
     requires large { is_large_enough (new_type kind) ≡ true }
     requires small { is_small_enough (new_type kind) ≡ true }
+    requires room { IsRoom (state_of objects.old (S.slots store.old) (S.memory store.old)) (new_type kind) place }
+    requires stands { Standing objects.old (S.slots store.old) (S.memory store.old) }
     ensures state { state_of objects.new (S.slots store.new) (S.memory store.new)
         ≡ with_begun (state_of objects.old (S.slots store.old) (S.memory store.old)) (S.memory store.old) kind place }
     ensures slots { S.slots store.new ≡ S.slots store.old }
     ensures bytes { SameBesideObjects (state_of objects.new (S.slots store.new) (S.memory store.new)) (S.memory store.old) (S.memory store.new) }
+    ensures stands { Standing objects.new (S.slots store.new) (S.memory store.new) }
 {
     if let NewType::Object(kind) = kind {
         objects.begin(store, place, kind);
@@ -150,11 +154,13 @@ pub(crate) fn make_one<S: SlotStore>(
     requires empty { S.slots store.old slot ≡ Some empty_entry }
     requires full { IsFull (S.slots store.old) parent }
     requires room { depth_of (S.slots store.old) parent < 255 }
+    requires stands { Standing objects.old (S.slots store.old) (S.memory store.old) }
     ensures state { state_of objects.new (S.slots store.new) (S.memory store.new)
         ≡ one_placed (state_of objects.old (S.slots store.old) (S.memory store.old)) (new_type kind) place slot parent }
     ensures growing { (to : ℕ) → Growing (state_of objects.old (S.slots store.old) (S.memory store.old)) (S.memory store.old) place to
         → place + 2 ^ object_bits (new_type kind) ≤ to
         → Growing (state_of objects.new (S.slots store.new) (S.memory store.new)) (S.memory store.new) (place + 2 ^ object_bits (new_type kind)) to }
+    ensures stands { Standing objects.new (S.slots store.new) (S.memory store.new) }
 {
     make_room(store, kind, place);
     begin_object(objects, store, kind, place);

@@ -7,6 +7,7 @@ ghost use Rattle.model.specs.Kernel.Retype.{NewNotification, NewThread};
 ghost use Rattle.model.specs.Kernel.Soundness.{IsSound};
 ghost use Rattle.model.specs.Kernel.State.{Runnable, thread_at};
 ghost use Rattle.objects.specs.Frames.{SameObjects};
+ghost use Rattle.objects.specs.Standing.{Standing};
 ghost use Rattle.objects.specs.Tables.{state_of};
 ghost use Rattle.objects.specs.Waiting.{StandsNowhere, with_word};
 
@@ -24,11 +25,13 @@ fn wait_for_signal<S: SlotStore>(
     requires notification { kind_at (state_of objects.old (S.slots store.old) (S.memory store.old)) notification ≡ Some NewNotification }
     requires there { kind_at (state_of objects.old (S.slots store.old) (S.memory store.old)) thread ≡ Some NewThread }
     requires apart { StandsNowhere (state_of objects.old (S.slots store.old) (S.memory store.old)).objects thread }
+    requires stands { Standing objects.old (S.slots store.old) (S.memory store.old) }
     ensures state { state_of objects.new (S.slots store.new) (S.memory store.new)
         ≡ waits_for_signal (state_of objects.old (S.slots store.old) (S.memory store.old)) notification thread }
     ensures slots { S.slots store.new ≡ S.slots store.old }
     ensures bytes { SameObjects (state_of objects.old (S.slots store.old) (S.memory store.old)) (state_of objects.new (S.slots store.new) (S.memory store.new)) (S.memory store.old) (S.memory store.new) }
     ensures order { S.order store.new ≡ S.order store.old }
+    ensures stands { Standing objects.new (S.slots store.new) (S.memory store.new) }
 {
     objects.push_waiter(store, notification, thread);
     objects.block(
@@ -50,11 +53,13 @@ fn take_word<S: SlotStore>(
 )
     requires notification { kind_at (state_of objects.old (S.slots store.old) (S.memory store.old)) notification ≡ Some NewNotification }
     requires there { kind_at (state_of objects.old (S.slots store.old) (S.memory store.old)) thread ≡ Some NewThread }
+    requires stands { Standing objects.old (S.slots store.old) (S.memory store.old) }
     ensures state { state_of objects.new (S.slots store.new) (S.memory store.new)
         ≡ deliver_word (with_word (state_of objects.old (S.slots store.old) (S.memory store.old)) notification 0) thread word }
     ensures slots { S.slots store.new ≡ S.slots store.old }
     ensures bytes { SameObjects (state_of objects.old (S.slots store.old) (S.memory store.old)) (state_of objects.new (S.slots store.new) (S.memory store.new)) (S.memory store.old) (S.memory store.new) }
     ensures order { S.order store.new ≡ S.order store.old }
+    ensures stands { Standing objects.new (S.slots store.new) (S.memory store.new) }
 {
     objects.set_word(store, notification, 0);
     deliver_word(store, objects, thread, word);
@@ -65,11 +70,13 @@ pub fn wait<S: SlotStore>(store: &mut S, objects: &mut Objects, notification: u3
     requires sound { IsSound (state_of objects.old (S.slots store.old) (S.memory store.old)) }
     requires notification { kind_at (state_of objects.old (S.slots store.old) (S.memory store.old)) notification ≡ Some NewNotification }
     requires runs { (thread_at (state_of objects.old (S.slots store.old) (S.memory store.old)) thread).status ≡ Runnable }
+    requires stands { Standing objects.old (S.slots store.old) (S.memory store.old) }
     ensures state { state_of objects.new (S.slots store.new) (S.memory store.new)
         ≡ wait (state_of objects.old (S.slots store.old) (S.memory store.old)) notification thread }
     ensures slots { S.slots store.new ≡ S.slots store.old }
     ensures bytes { SameObjects (state_of objects.old (S.slots store.old) (S.memory store.old)) (state_of objects.new (S.slots store.new) (S.memory store.new)) (S.memory store.old) (S.memory store.new) }
     ensures order { S.order store.new ≡ S.order store.old }
+    ensures stands { Standing objects.new (S.slots store.new) (S.memory store.new) }
 {
     let word = objects.word(store, notification);
     if word == 0 {
@@ -83,11 +90,13 @@ pub fn wait<S: SlotStore>(store: &mut S, objects: &mut Objects, notification: u3
 pub fn poll<S: SlotStore>(store: &mut S, objects: &mut Objects, notification: u32, thread: u32)
     requires notification { kind_at (state_of objects.old (S.slots store.old) (S.memory store.old)) notification ≡ Some NewNotification }
     requires there { kind_at (state_of objects.old (S.slots store.old) (S.memory store.old)) thread ≡ Some NewThread }
+    requires stands { Standing objects.old (S.slots store.old) (S.memory store.old) }
     ensures state { state_of objects.new (S.slots store.new) (S.memory store.new)
         ≡ poll (state_of objects.old (S.slots store.old) (S.memory store.old)) notification thread }
     ensures slots { S.slots store.new ≡ S.slots store.old }
     ensures bytes { SameObjects (state_of objects.old (S.slots store.old) (S.memory store.old)) (state_of objects.new (S.slots store.new) (S.memory store.new)) (S.memory store.old) (S.memory store.new) }
     ensures order { S.order store.new ≡ S.order store.old }
+    ensures stands { Standing objects.new (S.slots store.new) (S.memory store.new) }
 {
     let word = objects.word(store, notification);
     if word == 0 {

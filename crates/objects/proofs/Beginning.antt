@@ -12,7 +12,7 @@ use Rattle.objects.proofs.Ends.{not-queued}
 use Rattle.objects.proofs.Kept.{put-here, put-there}
 use Rattle.objects.proofs.Vacating.{other-same}
 use Rattle.objects.specs.Changes.{begun, is_frame_kind}
-use Rattle.objects.specs.Tables.{AreTables, Tables, WaitsThere, byte_in, has_queue, is_frame, object_from, object_in, object_of, record_in, record_of, sending_in, state_of, thread_in}
+use Rattle.objects.specs.Tables.{AreTables, Tables, WaitsThere, byte_in, has_queue, is_frame, object_from, object_in, object_of, record_in, record_of, sending_in, state_of, thread_in, told_by}
 use Rattle.objects.specs.Threads.{new_object, thread_state}
 use Rattle.objects.specs.declared.records.Kind.{Kind}
 use Rattle.objects.specs.declared.records.Kind.TheVariants as kinds
@@ -106,7 +106,7 @@ module _ (o : Tables) (offset : ℕ) (are : AreTables o) (free : object_in o off
     ]
 
     pub begun-thread : (slots : Slots) (memory : List ℕ) → state_of (record o { threads = threads }) slots memory ≡ begun (state_of o slots memory) memory kinds.Thread offset
-    unfolding state_of
+    unfolding state_of told_by
     begun-thread slots memory = λ i. record (state_of o slots memory) { objects = λ other. object-threaded other i }
 
   -- ---- another object
@@ -154,7 +154,7 @@ module _ (o : Tables) (offset : ℕ) (are : AreTables o) (free : object_in o off
     ]
 
     pub begun-record : (slots : Slots) (memory : List ℕ) → state_of (record o { records = records }) slots memory ≡ begun (state_of o slots memory) memory kind offset
-    unfolding state_of
+    unfolding state_of told_by
     begun-record slots memory = λ i. record (state_of o slots memory) {
       objects = λ other. object-recorded other i;
       bytes = λ place. byte-recorded memory place i;

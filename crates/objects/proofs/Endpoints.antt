@@ -10,7 +10,7 @@ use Rattle.model.specs.Kernel.Scheduling.{head_of}
 use Rattle.model.specs.Kernel.State.{CNodeObject, EndpointObject, EndpointState, FrameObject, NotificationObject, NotificationState, Object, PageTableObject, RootTableObject, State, ThreadObject, as_endpoint, as_notification, endpoint_at, new_endpoint, new_notification, notification_at, put, with_object}
 use Rattle.objects.proofs.Kept.{put-here, put-there}
 use Rattle.objects.proofs.Serving.{first-receives, first-sends}
-use Rattle.objects.specs.Tables.{Tables, is_frame, kind_in, object_from, object_in, object_of, receivers_in, record_in, sending_in, senders_in, state_of, thread_in}
+use Rattle.objects.specs.Tables.{Tables, is_frame, kind_in, object_from, object_in, object_of, receivers_in, record_in, senders_in, sending_in, state_of, thread_in, told_by}
 use Rattle.objects.specs.Threads.{sender_of}
 use Rattle.objects.specs.Waiting.{IsOneSided, changed_at, with_word}
 use Rattle.objects.specs.declared.records.Record.{Record}
@@ -55,7 +55,7 @@ changed-notification s notification change is =
 -- ---- in the state of tables
 
 pub kind-state : (o : Tables) (offset : ℕ) (slots : Slots) (memory : List ℕ) → kind_at (state_of o slots memory) offset ≡ kind_in o offset
-unfolding state_of
+unfolding state_of told_by
 kind-state o offset slots memory = refl
 
 endpoint-from : (threads : List (Option Thread)) (waiting : List ℕ) (t : Option Thread) (r : Option Record)
@@ -102,7 +102,7 @@ module _ (o : Tables) (endpoint : ℕ) (is : kind_in o endpoint ≡ Some NewEndp
   waiting = queue_at o.waiting.entries endpoint
 
   endpoint-in : e ≡ record { senders = senders_in o.threads waiting; receivers = receivers_in o.threads waiting }
-  unfolding state_of
+  unfolding state_of told_by
   endpoint-in = endpoint-from o.threads waiting (thread_in o.threads endpoint) (record_in o.records endpoint) is
 
   pub nobody-sends : head_of waiting ≡ None → e.senders ≡ []
@@ -145,7 +145,7 @@ module _ (o : Tables) (notification : ℕ) (is : kind_in o notification ≡ Some
   queue = queue_at o.waiting.entries notification
 
   waiters-in : n.waiters ≡ queue
-  unfolding state_of
+  unfolding state_of told_by
   waiters-in = waiters-from o.threads queue (thread_in o.threads notification) (record_in o.records notification) is
 
   pub nobody-waits : head_of queue ≡ None → n.waiters ≡ []
@@ -213,7 +213,7 @@ module _ (o : Tables) (records : List (Option Record)) (notification word : ℕ)
   ]
 
   pub word-state : (slots : Slots) (memory : List ℕ) → state_of now slots memory ≡ with_word (state_of o slots memory) notification word
-  unfolding state_of
+  unfolding state_of told_by
   word-state slots memory = λ i. record (state_of o slots memory) {
     objects = λ other. object-word other i;
     bytes = λ place. ap (λ b. if b then Some (slice_index memory place) else None) (frame-word (frame_around place)) i;

@@ -8,7 +8,7 @@ use Rattle.std.proofs.lemmas.List.Elements.{All-head, All-tail}
 use Rattle.model.specs.Capabilities.Slots.{Slots}
 use Rattle.model.specs.Kernel.Scheduling.{all_leave, leaves, without_threads}
 use Rattle.model.specs.Kernel.State.{Object, State, ThreadState, as_thread}
-use Rattle.objects.specs.Tables.{Tables, WaitsThere, object_from, object_in, object_of, record_in, state_of, thread_in}
+use Rattle.objects.specs.Tables.{Tables, WaitsThere, object_from, object_in, object_of, record_in, state_of, thread_in, told_by}
 use Rattle.objects.specs.Threads.{thread_state}
 use Rattle.objects.specs.declared.records.Record.{Record}
 use Rattle.objects.specs.declared.records.Record.TheVariants.{Endpoint, Notification, CNode, Frame, PageTable, RootTable}
@@ -53,7 +53,7 @@ module _ (o : Tables) (offset : ℕ) (slots : Slots) (memory : List ℕ) where
   s = state_of o slots memory
 
   ends-at : (other : ℕ) → ends_thread s offset other ≡ option_map_or (λ _. offset == other) (option_map thread_state (thread_in o.threads other)) false
-  unfolding state_of
+  unfolding state_of told_by
   ends-at other = ap (λ t. option_map_or (λ _. offset == other) t false) (as-thread o other)
 
   ends-elsewhere : (other : ℕ) → (offset == other) ≡ false → ends_thread s offset other ≡ false

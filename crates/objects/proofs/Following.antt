@@ -1,27 +1,45 @@
--- The state goes along with slots, since no byte of a frame stands in one.
-use Rattle.std.proofs.Common.{ℕ, ◌≡◌, ◌∙◌, ◌/◌, Bool, true, false, if◌then◌else◌, Option, Some, None, IsSome, List, refl, sym, ap, subst}
+-- The state goes along with slots and with the bytes of frames, since neither a byte of a frame nor one of a record stands in an open slot.
+use Rattle.std.proofs.Common.{ℕ, ◌≡◌, ◌∙◌, ◌/◌, Bool, true, false, if◌then◌else◌, Option, Some, None, IsSome, option_map, List, refl, sym, ap, subst}
 use Rattle.std.specs.Prelude.{slice_index}
 use Rattle.std.specs.Option.{option_map_or}
 use Rattle.model.specs.Capabilities.Slots.{IsOpen, SameOutside, Slots}
 use Rattle.model.specs.Kernel.Kinds.{frame_around}
-use Rattle.model.specs.Kernel.State.{with_slots}
+use Rattle.model.specs.Kernel.State.{State, with_slots}
 use Rattle.model.specs.declared.slot_entries.Entry.{Entry}
-use Rattle.objects.specs.Frames.{FitsMemory}
-use Rattle.objects.specs.Tables.{Tables, byte_in, is_frame, record_in, state_of}
+use Rattle.objects.specs.Frames.{FitsMemory, IsInRecord, SameBesideFrames, SameKept}
+use Rattle.objects.specs.Standing.{Standing}
+use Rattle.objects.specs.Tables.{Tables, byte_in, is_frame, record_in, state_of, told_by}
 
 pub own-slots : (o : Tables) (slots : Slots) (memory : List ℕ) → (state_of o slots memory).slots ≡ slots
 unfolding state_of
 own-slots o slots memory = refl
 
+-- a slot that was not opened
+pub still-open : (slots now : Slots) → ((slot : ℕ) → slots slot ≡ None → now slot ≡ None) → (slot : ℕ) → IsOpen now slot → IsOpen slots slot
+still-open slots now closes slot open_now = elim (slots slot) as (λ e. slots slot ≡ e → IsOpen slots slot) [
+  | None ↦ λ is. absurd (let clash : false ≡ true = subst (λ (x : Option Entry). IsSome x) (closes slot is) open_now in cc)
+  | Some e ↦ λ is. subst (λ (x : Option Entry). IsSome x) (sym is) refl
+] refl
+
+-- where no open slot is, none is
+pub not-open : (slots : Slots) (slot : ℕ) → (IsOpen slots slot → ⊥) → slots slot ≡ None
+not-open slots slot closed = elim (slots slot) as (λ e. slots slot ≡ e → slots slot ≡ None) [
+  | None ↦ λ is. is
+  | Some e ↦ λ is. absurd (closed (subst (λ (x : Option Entry). IsSome x) (sym is) refl))
+] refl
+
 module _ (o : Tables) (slots : Slots) (old new : List ℕ) where
+  abbrev s : State
+  s = state_of o slots old
+
   abbrev in_frame : ℕ → Bool
   in_frame place = option_map_or is_frame (record_in o.records (frame_around place)) false
 
-  framed : (place : ℕ) → in_frame place ≡ true → (state_of o slots old).bytes place ≡ Some (slice_index old place)
-  unfolding state_of
+  framed : (place : ℕ) → in_frame place ≡ true → s.bytes place ≡ Some (slice_index old place)
+  unfolding state_of told_by
   framed place is = ap (λ b. if b then Some (slice_index old place) else None) is
 
-  byte-same : ((place byte : ℕ) → (state_of o slots old).bytes place ≡ Some byte → slice_index new place ≡ slice_index old place) → (place : ℕ)
+  byte-same : ((place byte : ℕ) → s.bytes place ≡ Some byte → slice_index new place ≡ slice_index old place) → (place : ℕ)
       → byte_in o.records new place ≡ byte_in o.records old place
   byte-same same place = elim (in_frame place) as (λ b. in_frame place ≡ b
       → (if b then Some (slice_index new place) else None) ≡ (if b then Some (slice_index old place) else None)) [
@@ -29,34 +47,80 @@ module _ (o : Tables) (slots : Slots) (old new : List ℕ) where
         | false ↦ λ is. refl
       ] refl
 
-  pub follows-bytes : (now : Slots) → ((place byte : ℕ) → (state_of o slots old).bytes place ≡ Some byte → slice_index new place ≡ slice_index old place)
-      → state_of o now new ≡ with_slots (state_of o slots old) now
-  unfolding state_of
+  follows-bytes : (now : Slots) → ((place byte : ℕ) → s.bytes place ≡ Some byte → slice_index new place ≡ slice_index old place)
+      → state_of o now new ≡ with_slots s now
+  unfolding state_of told_by
   follows-bytes now same = λ i. record (state_of o now new) { bytes = λ place. byte-same same place i }
 
-  -- where a byte of a frame is, no slot is open
-  outside : FitsMemory (state_of o slots old) old → SameOutside slots old new → (place byte : ℕ) → (state_of o slots old).bytes place ≡ Some byte
-      → slice_index new place ≡ slice_index old place
-  outside fits same place byte is = elim (slots (place / 16)) as (λ e. slots (place / 16) ≡ e → slice_index new place ≡ slice_index old place) [
-    | None ↦ λ none. same.bytes place none
-    | Some e ↦ λ some.
-        let none = fits.apart place (subst (λ (x : Option Entry). IsSome x) (sym (ap (λ (f : Slots). f (place / 16)) (own-slots o slots old) ∙ some)) refl) in
-        absurd (let clash : None ≡ Some byte = sym none ∙ is in cc)
-  ] refl
+  -- ---- the bytes of frames and of records are the same
 
-  pub follows : (now : Slots) → FitsMemory (state_of o slots old) old → SameOutside slots old new → state_of o now new ≡ with_slots (state_of o slots old) now
-  follows now fits same = follows-bytes now (outside fits same)
+  pub follows-kept : (now : Slots) → Standing o slots old → SameKept s old new → state_of o now new ≡ with_slots s now
+  follows-kept now stands same = follows-bytes now same.frames
 
-  still-open : (now : Slots) → ((slot : ℕ) → slots slot ≡ None → now slot ≡ None) → (slot : ℕ) → IsOpen now slot → IsOpen slots slot
-  still-open now closes slot open_now = elim (slots slot) as (λ e. slots slot ≡ e → IsOpen slots slot) [
-    | None ↦ λ is. absurd (let clash : false ≡ true = subst (λ (x : Option Entry). IsSome x) (closes slot is) open_now in cc)
-    | Some e ↦ λ is. subst (λ (x : Option Entry). IsSome x) (sym is) refl
-  ] refl
-
-  pub fits-still : (now : Slots) → FitsMemory (state_of o slots old) old → SameOutside slots old new → ((slot : ℕ) → slots slot ≡ None → now slot ≡ None)
-      → FitsMemory (state_of o now new) new
-  unfolding state_of
-  fits-still now fits same closes = record {
-    size = fits.size ∙ sym same.size;
-    apart = λ place is_open. byte-same (outside fits same) place ∙ fits.apart place (still-open now closes (place / 16) is_open);
+  pub stands-kept : (now : Slots) → Standing o slots old → SameKept s old new → ((place : ℕ) → IsOpen now (place / 16) → s.bytes place ≡ None)
+      → ((place : ℕ) → IsOpen now (place / 16) → IsInRecord s.objects place → ⊥) → Standing o now new
+  stands-kept now stands same frames records = record {
+    fits = subst (λ (t : State). FitsMemory t new) (sym (follows-kept now stands same)) (record {
+      size = stands.fits.size ∙ sym same.size;
+      frames = frames;
+      records = records;
+      apart = stands.fits.apart;
+    });
   }
+
+  -- ---- only bytes of open slots changed
+
+  pub same-outside : Standing o slots old → SameOutside slots old new → SameKept s old new
+  same-outside stands same = record {
+    size = same.size;
+    frames = λ place byte is. same.bytes place (not-open slots (place / 16) (λ is_open.
+        let none = stands.fits.frames place (subst (λ (f : Slots). IsOpen f (place / 16)) (sym (own-slots o slots old)) is_open) in
+        let clash : None ≡ Some byte = sym none ∙ is in absurd cc));
+    records = λ place held. same.bytes place (not-open slots (place / 16) (λ is_open.
+        stands.fits.records place (subst (λ (f : Slots). IsOpen f (place / 16)) (sym (own-slots o slots old)) is_open) held));
+  }
+
+  pub follows : (now : Slots) → Standing o slots old → SameOutside slots old new → state_of o now new ≡ with_slots s now
+  follows now stands same = follows-kept now stands (same-outside stands same)
+
+  pub stands-still : (now : Slots) → Standing o slots old → SameOutside slots old new → ((slot : ℕ) → slots slot ≡ None → now slot ≡ None) → Standing o now new
+  stands-still now stands same closes =
+      let was : (place : ℕ) → IsOpen now (place / 16) → IsOpen s.slots (place / 16) =
+      λ place is_open. subst (λ (f : Slots). IsOpen f (place / 16)) (sym (own-slots o slots old)) (still-open slots now closes (place / 16) is_open) in
+      stands-kept now stands (same-outside stands same) (λ place is_open. stands.fits.frames place (was place is_open))
+      (λ place is_open held. stands.fits.records place (was place is_open) held)
+
+  -- ---- only bytes of frames changed
+
+  seen : (place : ℕ) → byte_in o.records new place ≡ option_map (λ _. slice_index new place) (byte_in o.records old place)
+  seen place = elim (in_frame place) as (λ b. (if b then Some (slice_index new place) else None) ≡ option_map (λ _. slice_index new place) (if b then Some (slice_index old place) else None)) [
+    | true ↦ refl
+    | false ↦ refl
+  ]
+
+  pub follows-frames : Standing o slots old → SameBesideFrames s old new
+      → state_of o slots new ≡ record s { bytes = λ place. option_map (λ _. slice_index new place) (s.bytes place) }
+  unfolding state_of told_by
+  follows-frames stands same = λ i. record s { bytes = λ place. seen place i }
+
+  pub stands-frames : Standing o slots old → SameBesideFrames s old new → Standing o slots new
+  stands-frames stands same =
+      let none : (b : Option ℕ) (byte : ℕ) → b ≡ None → option_map (λ _. byte) b ≡ None = λ b byte is. ap (option_map (λ _. byte)) is in
+      record {
+        fits = subst (λ (t : State). FitsMemory t new) (sym (follows-frames stands same)) (record {
+          size = stands.fits.size ∙ sym same.size;
+          frames = λ place is_open. none (s.bytes place) (slice_index new place) (stands.fits.frames place is_open);
+          records = stands.fits.records;
+          apart = λ place held. none (s.bytes place) (slice_index new place)
+              (stands.fits.apart place held);
+        });
+      }
+
+framed-byte : (b : Bool) (now byte : ℕ) → (if b then Some now else None) ≡ Some byte → byte ≡ now
+framed-byte true now byte is = let same : now ≡ byte = cc in sym same
+framed-byte false now byte is = absurd (let clash : None ≡ Some byte = is in cc)
+
+-- where a state has a byte, memory has it
+pub byte-there : (o : Tables) (slots : Slots) (memory : List ℕ) (place byte : ℕ) → (state_of o slots memory).bytes place ≡ Some byte → byte ≡ slice_index memory place
+unfolding state_of told_by
+byte-there o slots memory place byte is = framed-byte (option_map_or is_frame (record_in o.records (frame_around place)) false) (slice_index memory place) byte is

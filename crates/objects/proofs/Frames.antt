@@ -1,17 +1,20 @@
--- Calls that change records of objects leave the same objects.
-use Rattle.std.proofs.Common.{ℕ, ◌≡◌, ◌∙◌, inl, inr, Bool, true, false, if◌then◌else◌, Option, Some, None, option_map, List, refl, sym, ap}
+-- Calls that change records of objects leave the same objects, and what stands stands.
+use Rattle.std.proofs.Common.{ℕ, ◌≡◌, ◌∙◌, ◌/◌, ◌^◌, inl, inr, Bool, true, false, if◌then◌else◌, Option, Some, None, option_map, List, length, refl, sym, ap, subst}
 use Rattle.std.proofs.lemmas.Bool.Decides.{eqb_tells}
+use Rattle.model.specs.Capabilities.Slots.{IsOpen, Slots}
 use Rattle.model.specs.Kernel.Kinds.{kind_at, kind_of}
-use Rattle.model.specs.Kernel.Retype.{NewEndpoint, NewNotification, NewThread}
+use Rattle.model.specs.Kernel.Retype.{NewObject, NewEndpoint, NewNotification, NewThread}
 use Rattle.model.specs.Kernel.Scheduling.{at_tail, is_runnable, unready, without_threads}
-use Rattle.model.specs.Kernel.State.{Object, CNodeObject, EndpointObject, FrameObject, NotificationObject, PageTableObject, RootTableObject, State, ThreadObject, ThreadState, put, thread_at, with_thread}
+use Rattle.model.specs.Kernel.State.{Object, CNodeObject, EndpointObject, FrameObject, NotificationObject, PageTableObject, RootTableObject, State, ThreadObject, ThreadState, put, thread_at, with_object, with_thread}
 use Rattle.model.specs.Kernel.ThreadCalls.{with_priority}
 use Rattle.objects.proofs.Kept.{put-there}
-use Rattle.objects.specs.Frames.{SameBesideObjects, SameObjects}
+use Rattle.objects.specs.Frames.{FitsMemory, IsInRecord, SameElsewhere, SameObjects}
+use Rattle.objects.specs.Standing.{Standing}
+use Rattle.objects.specs.Tables.{Tables, state_of}
 use Rattle.objects.specs.Waiting.{ReceiverTaken, SenderTaken, WaiterTaken}
 use Rattle.objects.specs.declared.records.WaitingSender.{WaitingSender}
 
--- ---- one call
+-- ---- kinds
 
 -- an object in the place of one of its kind
 pub kind-put : (objects : ℕ → Option Object) (place : ℕ) (object : Object) → option_map kind_of (objects place) ≡ Some (kind_of object)
@@ -33,46 +36,101 @@ kind-left gone (Some FrameObject) = refl
 kind-left gone (Some PageTableObject) = refl
 kind-left gone (Some RootTableObject) = refl
 
-pub kind-priority : (s : State) (thread priority : ℕ) → kind_at s thread ≡ Some NewThread → (offset : ℕ) → kind_at (with_priority s thread priority) offset ≡ kind_at s offset
-kind-priority s thread priority is offset =
+-- ---- the same objects, with the same slots and bytes
+
+pub record Unmoved (s t : State) : Type 0 where
+  pub kinds : (offset : ℕ) → kind_at t offset ≡ kind_at s offset
+  pub bytes : t.bytes ≡ s.bytes
+  pub slots : t.slots ≡ s.slots
+  pub bits : t.memory_bits ≡ s.memory_bits
+
+pub moved-to : (s t u : State) → t ≡ u → Unmoved s u → Unmoved s t
+moved-to s t u is unmoved = subst (Unmoved s) (sym is) unmoved
+
+pub same-state : (s : State) → Unmoved s s
+same-state s = record { kinds = λ offset. refl; bytes = refl; slots = refl; bits = refl }
+
+-- an object in the place of one of its kind
+pub one-put : (s : State) (place : ℕ) (object : Object) → kind_at s place ≡ Some (kind_of object) → Unmoved s (with_object s place object)
+one-put s place object is = record { kinds = kind-put s.objects place object is; bytes = refl; slots = refl; bits = refl }
+
+pub with-priority : (s : State) (thread priority : ℕ) → kind_at s thread ≡ Some NewThread → Unmoved s (with_priority s thread priority)
+with-priority s thread priority is =
     let t : ThreadState = record (thread_at s thread) { priority = priority } in
-    elim (is_runnable t.status) as (λ b. kind_at (if b then at_tail (with_thread (unready s thread) thread t) thread else with_thread s thread t) offset ≡ kind_at s offset) [
-      | true ↦ kind-put s.objects thread (ThreadObject t) is offset
-      | false ↦ kind-put s.objects thread (ThreadObject t) is offset
+    elim (is_runnable t.status) as (λ b. Unmoved s (if b then at_tail (with_thread (unready s thread) thread t) thread else with_thread s thread t)) [
+      | true ↦ record { kinds = kind-put s.objects thread (ThreadObject t) is; bytes = refl; slots = refl; bits = refl }
+      | false ↦ record { kinds = kind-put s.objects thread (ThreadObject t) is; bytes = refl; slots = refl; bits = refl }
     ]
 
-pub same-bytes : (s : State) (memory : List ℕ) → SameBesideObjects s memory memory
-same-bytes s memory = record { size = refl; bytes = λ place outside. refl }
+pub sender-taken : (s : State) (endpoint : ℕ) (result : Option WaitingSender) (t : State) → kind_at s endpoint ≡ Some NewEndpoint
+    → SenderTaken s endpoint result t → Unmoved s t
+sender-taken s endpoint None t is taken = moved-to s t s taken.state (same-state s)
+sender-taken s endpoint (Some w) t is taken = moved-to s t _ taken.state (one-put s endpoint (EndpointObject _) is)
 
-pub same-objects : (s t u : State) (memory : List ℕ) → t ≡ u → ((offset : ℕ) → kind_at u offset ≡ kind_at s offset) → SameObjects s t memory memory
-same-objects s t u memory is kinds = record { kinds = λ offset. ap (λ x. kind_at x offset) is ∙ kinds offset; bytes = same-bytes s memory }
+pub receiver-taken : (s : State) (endpoint : ℕ) (result : Option ℕ) (t : State) → kind_at s endpoint ≡ Some NewEndpoint
+    → ReceiverTaken s endpoint result t → Unmoved s t
+receiver-taken s endpoint None t is taken = moved-to s t s taken.state (same-state s)
+receiver-taken s endpoint (Some thread) t is taken = moved-to s t _ taken.state (one-put s endpoint (EndpointObject _) is)
 
-pub same-sender : (s : State) (endpoint : ℕ) (result : Option WaitingSender) (t : State) (memory : List ℕ) → kind_at s endpoint ≡ Some NewEndpoint
-    → SenderTaken s endpoint result t → SameObjects s t memory memory
-same-sender s endpoint None t memory is taken = same-objects s t s memory taken.state (λ offset. refl)
-same-sender s endpoint (Some w) t memory is taken = same-objects s t _ memory taken.state (kind-put s.objects endpoint (EndpointObject _) is)
+pub waiter-taken : (s : State) (notification : ℕ) (result : Option ℕ) (t : State) → kind_at s notification ≡ Some NewNotification
+    → WaiterTaken s notification result t → Unmoved s t
+waiter-taken s notification None t is taken = moved-to s t s taken.state (same-state s)
+waiter-taken s notification (Some thread) t is taken = moved-to s t _ taken.state (one-put s notification (NotificationObject _) is)
 
-pub same-receiver : (s : State) (endpoint : ℕ) (result : Option ℕ) (t : State) (memory : List ℕ) → kind_at s endpoint ≡ Some NewEndpoint
-    → ReceiverTaken s endpoint result t → SameObjects s t memory memory
-same-receiver s endpoint None t memory is taken = same-objects s t s memory taken.state (λ offset. refl)
-same-receiver s endpoint (Some thread) t memory is taken = same-objects s t _ memory taken.state (kind-put s.objects endpoint (EndpointObject _) is)
+-- ---- one call
 
-pub same-waiter : (s : State) (notification : ℕ) (result : Option ℕ) (t : State) (memory : List ℕ) → kind_at s notification ≡ Some NewNotification
-    → WaiterTaken s notification result t → SameObjects s t memory memory
-same-waiter s notification None t memory is taken = same-objects s t s memory taken.state (λ offset. refl)
-same-waiter s notification (Some thread) t memory is taken = same-objects s t _ memory taken.state (kind-put s.objects notification (NotificationObject _) is)
+pub same-bytes : (s : State) (memory : List ℕ) → SameElsewhere s memory memory
+same-bytes s memory = record { size = refl; bytes = λ place none outside. refl }
+
+pub same-objects : (s t : State) (memory : List ℕ) → Unmoved s t → SameObjects s t memory memory
+same-objects s t memory unmoved = record {
+  kinds = unmoved.kinds;
+  frames = λ place none. ap (λ (f : ℕ → Option ℕ). f place) unmoved.bytes ∙ none;
+  bytes = same-bytes s memory;
+}
+
+-- what fits does where fewer objects, bytes of frames and open slots are
+pub fits-less : (s t : State) (old new : List ℕ) → FitsMemory s old → t.memory_bits ≡ s.memory_bits → length new ≡ length old
+    → ((slot : ℕ) → IsOpen t.slots slot → IsOpen s.slots slot) → ((place : ℕ) → s.bytes place ≡ None → t.bytes place ≡ None)
+    → ((offset : ℕ) (kind : NewObject) → kind_at t offset ≡ Some kind → kind_at s offset ≡ Some kind) → FitsMemory t new
+fits-less s t old new fits bits long opens none kinds =
+    let before : (place : ℕ) → IsInRecord t.objects place → IsInRecord s.objects place = λ place held. record {
+      offset = held.offset;
+      kind = held.kind;
+      there = kinds held.offset held.kind held.there;
+      kept = held.kept;
+      from = held.from;
+      below = held.below;
+    } in
+    record {
+      size = ap (λ (n : ℕ). 2 ^ n) bits ∙ fits.size ∙ sym long;
+      frames = λ place is_open. none place (fits.frames place (opens (place / 16) is_open));
+      records = λ place is_open held. fits.records place (opens (place / 16) is_open) (before place held);
+      apart = λ place held. none place (fits.apart place (before place held));
+    }
+
+-- the tables change, and the store does not
+pub stands-unmoved : (o n : Tables) (slots : Slots) (memory : List ℕ) → Standing o slots memory → Unmoved (state_of o slots memory) (state_of n slots memory)
+    → Standing n slots memory
+stands-unmoved o n slots memory stands unmoved = record {
+  fits = fits-less (state_of o slots memory) (state_of n slots memory) memory memory stands.fits unmoved.bits refl
+      (λ slot is_open. subst (λ (f : Slots). IsOpen f slot) unmoved.slots is_open)
+      (λ place none. ap (λ (f : ℕ → Option ℕ). f place) unmoved.bytes ∙ none)
+      (λ offset kind is. sym (unmoved.kinds offset) ∙ is);
+}
 
 -- ---- one call after another
 
-pub beside-then : (s t : State) (a b c : List ℕ) → ((offset : ℕ) → kind_at t offset ≡ kind_at s offset)
-    → SameBesideObjects s a b → SameBesideObjects t b c → SameBesideObjects s a c
-beside-then s t a b c kinds one two = record {
-  size = two.size ∙ one.size;
-  bytes = λ place outside. two.bytes place (λ offset kind is. outside offset kind (sym (kinds offset) ∙ is)) ∙ one.bytes place outside;
+pub beside-then : (s t : State) (a b c : List ℕ) → SameObjects s t a b → SameElsewhere t b c → SameElsewhere s a c
+beside-then s t a b c one two = record {
+  size = two.size ∙ one.bytes.size;
+  bytes = λ place none outside.
+      two.bytes place (one.frames place none) (λ offset kind is. outside offset kind (sym (one.kinds offset) ∙ is)) ∙ one.bytes.bytes place none outside;
 }
 
 pub objects-then : (s t u : State) (a b c : List ℕ) → SameObjects s t a b → SameObjects t u b c → SameObjects s u a c
 objects-then s t u a b c one two = record {
   kinds = λ offset. two.kinds offset ∙ one.kinds offset;
-  bytes = beside-then s t a b c one.kinds one.bytes two.bytes;
+  frames = λ place none. two.frames place (one.frames place none);
+  bytes = beside-then s t a b c one two.bytes;
 }

@@ -1,5 +1,5 @@
 -- Tables without objects.
-use Rattle.std.proofs.Common.{ℕ, ◌≡◌, ◌∙◌, ◌==◌, ◌*◌, ◌-◌, ◌/◌, ◌%◌, ◌^◌, ◌≤◌, inl, inr, Bool, true, false, if◌then◌else◌, Option, Some, None, List, [], length, replicate, refl, sym, ap, arith}
+use Rattle.std.proofs.Common.{ℕ, ◌≡◌, ◌∙◌, ◌==◌, ◌*◌, ◌-◌, ◌/◌, ◌%◌, ◌^◌, ◌≤◌, inl, inr, Bool, true, false, if◌then◌else◌, Option, Some, None, List, [], length, replicate, refl, sym, ap, subst, arith}
 use Rattle.std.specs.Prelude.{slice_index_or}
 use Rattle.std.proofs.lemmas.List.{get_or-replicate, get_or_past, length-replicate}
 use Rattle.std.proofs.lemmas.List.Elements.{All-nil}
@@ -7,8 +7,10 @@ use Rattle.std.proofs.lemmas.Bool.{cases_lt}
 use Rattle.std.proofs.lemmas.Nat.{pow-add}
 use Rattle.model.specs.Capabilities.Slots.{Slots}
 use Rattle.model.specs.Kernel.Setup.{boot_area}
-use Rattle.model.specs.Kernel.State.{with_slots}
-use Rattle.objects.specs.Tables.{AreTables, Tables, WaitsThere, byte_in, object_in, placed, state_of}
+use Rattle.model.specs.Kernel.State.{State, with_slots}
+use Rattle.objects.specs.Frames.{FitsMemory}
+use Rattle.objects.specs.Standing.{Standing}
+use Rattle.objects.specs.Tables.{AreTables, Tables, WaitsThere, byte_in, object_in, placed, state_of, told_by}
 use Rattle.objects.specs.declared.records.Record.{Record}
 use Rattle.objects.specs.declared.records.Record.TheVariants.{CNode}
 use Rattle.objects.specs.declared.records.Thread.{Thread}
@@ -70,10 +72,17 @@ module _ (bits radix : ℕ) where
   no-byte memory place = rw (placed-nothing {A = Record} 16 (2 ^ bits / 16) (frame_around place)) refl
 
   pub fresh-state : (slots : Slots) (memory : List ℕ) → state_of (fresh bits radix) slots memory ≡ with_slots (boot_area bits radix) slots
-  unfolding state_of boot_area
+  unfolding state_of told_by boot_area
   fresh-state slots memory = λ i. record (with_slots (boot_area bits radix) slots) {
     objects = λ offset. no-object offset i;
     bytes = λ place. no-byte memory place i;
     masked = λ line. never-masked 64 line i;
     pending = λ line. never-masked 64 line i;
+  }
+
+  pub fresh-stands : (slots : Slots) (memory : List ℕ) → 2 ^ bits ≡ length memory → Standing (fresh bits radix) slots memory
+  unfolding boot_area
+  fresh-stands slots memory size = record {
+    fits = subst (λ (t : State). FitsMemory t memory) (sym (fresh-state slots memory))
+        (record { size = size; frames = λ place is_open. refl; records = λ place is_open held. absurd (let clash : None ≡ Some held.kind = held.there in cc); apart = λ place held. refl });
   }

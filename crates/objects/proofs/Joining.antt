@@ -10,7 +10,7 @@ use Rattle.model.specs.Shared.Lists.{times_in, without}
 use Rattle.objects.proofs.Kept.{put-here, put-there}
 use Rattle.objects.proofs.Lists.{receivers-by, receivers-same, senders-by, senders-same}
 use Rattle.objects.proofs.Vacating.{other-same}
-use Rattle.objects.specs.Tables.{Tables, kind_in, object_from, object_in, object_of, record_in, sending_in, state_of, thread_in}
+use Rattle.objects.specs.Tables.{Tables, kind_in, object_from, object_in, object_of, record_in, sending_in, state_of, thread_in, told_by}
 use Rattle.objects.specs.Threads.{sender_of}
 use Rattle.objects.specs.Waiting.{StandsNowhere, changed_at, has_waiting, joined}
 use Rattle.objects.specs.declared.records.Record.{Record}
@@ -92,7 +92,7 @@ module _ (o : Tables) (waiting : QueuedThreads) (thread : ℕ) (left : waiting.e
       ∙ other-parted (queue_at o.waiting.entries other) (thread_in o.threads other) (record_in o.records other) (stands.nowhere other)
 
   pub parted-state : (slots : Slots) (memory : List ℕ) → state_of parted slots memory ≡ state_of o slots memory
-  unfolding state_of
+  unfolding state_of told_by
   parted-state slots memory = λ i. record (state_of o slots memory) { objects = λ other. object-parted other i }
 
 -- ---- it stands behind all others
@@ -197,5 +197,5 @@ module _ (o : Tables) (threads : List (Option Thread)) (waiting : QueuedThreads)
   ]
 
   pub joined-state : (slots : Slots) (memory : List ℕ) → state_of now slots memory ≡ changed_at (state_of o slots memory) queue (joined thread sending)
-  unfolding state_of
+  unfolding state_of told_by
   joined-state slots memory = λ i. record (state_of o slots memory) { objects = λ other. object-joined other i }

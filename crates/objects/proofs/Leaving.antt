@@ -6,7 +6,7 @@ use Rattle.model.specs.Kernel.Scheduling.{leaves, without_threads}
 use Rattle.model.specs.Kernel.State.{Object, EndpointObject, NotificationObject}
 use Rattle.objects.proofs.Lists.{receivers-by, receivers-part, senders-by, senders-part}
 use Rattle.objects.specs.Changes.{voided}
-use Rattle.objects.specs.Tables.{Tables, object_from, object_in, object_of, record_in, receivers_in, sending_in, senders_in, state_of, thread_in}
+use Rattle.objects.specs.Tables.{Tables, object_from, object_in, object_of, receivers_in, record_in, senders_in, sending_in, state_of, thread_in, told_by}
 use Rattle.objects.specs.declared.records.Record.{Record}
 use Rattle.objects.specs.declared.records.Record.TheVariants.{Endpoint, Notification, CNode, Frame, PageTable, RootTable}
 use Rattle.objects.specs.declared.records.Thread.{Thread}
@@ -68,7 +68,7 @@ module _ (o : Tables) (threads : List (Option Thread)) (waiting ready : QueuedTh
       ∙ from-left (thread_in o.threads offset) _ _ (other-left offset (record_in o.records offset))
 
   pub left-state : (slots : Slots) (memory : List ℕ) → state_of now slots memory ≡ leaves (state_of o slots memory) thread
-  unfolding state_of
+  unfolding state_of told_by
   left-state slots memory = λ i. record (state_of o slots memory) {
     objects = λ offset. object-left offset i;
     ready = λ priority. (ap (λ entries. queue_at entries priority) unready ∙ queue-part o.ready.entries gone priority) i;

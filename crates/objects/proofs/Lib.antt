@@ -1,5 +1,6 @@
 pub mod Alignments
 pub mod Beginning
+pub mod Begun
 pub mod Endpoints
 pub mod Ends
 pub mod Following

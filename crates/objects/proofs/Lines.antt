@@ -5,7 +5,7 @@ use Rattle.std.proofs.lemmas.List.{get_or-set_other, get_or-set_same}
 use Rattle.model.specs.Capabilities.Slots.{Slots}
 use Rattle.model.specs.Kernel.Interrupts.{with_pending}
 use Rattle.model.specs.Kernel.State.{put}
-use Rattle.objects.specs.Tables.{Tables, state_of}
+use Rattle.objects.specs.Tables.{Tables, state_of, told_by}
 
 bit-set : (bits : List Bool) (line : ℕ) (bit : Bool) → line < length bits → (other : ℕ)
     → get_or (set bits line bit) other false ≡ put (λ l. get_or bits l false) line bit other
@@ -22,7 +22,7 @@ module _ (o before : Tables) (index line : ℕ) (bit : Bool) (here : index ≡ l
   masked-at : index < length o.masked
       → state_of (record o { masked = set o.masked index bit }) slots memory
       ≡ record (state_of o slots memory) { masked = put (state_of o slots memory).masked index bit }
-  unfolding state_of
+  unfolding state_of told_by
   masked-at less = λ i. record (state_of o slots memory) { masked = λ other. bit-set o.masked index bit less other i }
 
   pub masked-state : index < length o.masked
@@ -35,7 +35,7 @@ module _ (o before : Tables) (index line : ℕ) (bit : Bool) (here : index ≡ l
 
   pending-at : index < length o.pending
       → state_of (record o { pending = set o.pending index bit }) slots memory ≡ with_pending (state_of o slots memory) index bit
-  unfolding state_of
+  unfolding state_of told_by
   pending-at less = λ i. record (state_of o slots memory) { pending = λ other. bit-set o.pending index bit less other i }
 
   pub pending-state : index < length o.pending

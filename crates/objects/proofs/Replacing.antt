@@ -18,7 +18,7 @@ use Rattle.objects.proofs.Ends.{as-thread}
 use Rattle.objects.proofs.Kept.{put-here, put-there}
 use Rattle.objects.proofs.Lists.{receivers-by, senders-by}
 use Rattle.objects.specs.Changes.{registered}
-use Rattle.objects.specs.Tables.{Tables, kind_in, object_from, object_in, object_of, placed, record_in, sending_in, state_of, thread_in}
+use Rattle.objects.specs.Tables.{Tables, kind_in, object_from, object_in, object_of, placed, record_in, sending_in, state_of, thread_in, told_by}
 use Rattle.objects.specs.Threads.{status_of, thread_state}
 use Rattle.objects.specs.declared.records.Record.{Record}
 use Rattle.objects.specs.declared.records.Record.TheVariants.{Endpoint, Notification, CNode, Frame, PageTable, RootTable}
@@ -32,7 +32,7 @@ use Rattle.queues.specs.Queues.{QueuedThreads, queue_at, without_thread}
 -- the state's thread at an offset
 pub thread-state : (o : Tables) (offset : ℕ) (slots : Slots) (memory : List ℕ)
     → thread_at (state_of o slots memory) offset ≡ option_map_or (λ t. t) (option_map thread_state (thread_in o.threads offset)) new_thread
-unfolding state_of
+unfolding state_of told_by
 thread-state o offset slots memory = ap (λ t. option_map_or (λ t. t) t new_thread) (as-thread o offset)
 
 pub registers-of : (o : Tables) (offset : ℕ) (slots : Slots) (memory : List ℕ)
@@ -137,7 +137,7 @@ module _ (o : Tables) (threads : List (Option Thread)) (thread : ℕ) (after : T
       (other-still (queue_at o.waiting.entries other) (record_in o.records other))
 
   pub replaced-state : (slots : Slots) (memory : List ℕ) → state_of now slots memory ≡ with_thread (state_of o slots memory) thread (thread_state after)
-  unfolding state_of
+  unfolding state_of told_by
   replaced-state slots memory = λ i. record (state_of o slots memory) { objects = λ other. object-replaced other i }
 
 -- ---- the state with other registers of a thread
@@ -162,7 +162,7 @@ registered-state o threads offset registers changed there slots memory =
 
 pub unready-state : (o : Tables) (ready : QueuedThreads) (thread : ℕ) → ready.entries ≡ without_thread o.ready.entries thread → (slots : Slots) (memory : List ℕ)
     → state_of (record o { ready = ready }) slots memory ≡ unready (state_of o slots memory) thread
-unfolding state_of
+unfolding state_of told_by
 unready-state o ready thread left slots memory = λ i. record (state_of o slots memory) {
   ready = λ priority. (ap (λ entries. queue_at entries priority) left ∙ queue-part o.ready.entries (λ other. other == thread) priority) i;
 }
@@ -180,7 +180,7 @@ module _ (o : Tables) (ready : QueuedThreads) (thread priority : ℕ) (slots : S
       (queue-part o.ready.entries (λ other. other == thread) priority i ++ thread ∷ []) other)
 
   pub tail-state : state_of (record o { ready = ready }) slots memory ≡ to_tail (state_of o slots memory) thread
-  unfolding state_of
+  unfolding state_of told_by
   tail-state = λ i. record (state_of o slots memory) {
     ready = λ other. (ready-pushed other
         ∙ ap (λ (p : ℕ). put (λ q. without thread (queue_at o.ready.entries q)) p (without thread (queue_at o.ready.entries p) ++ thread ∷ []) other) own) i;
@@ -190,7 +190,7 @@ module _ (o : Tables) (ready : QueuedThreads) (thread priority : ℕ) (slots : S
 
 pub replaced-there : (o n : Tables) (offset : ℕ) (t : ThreadState)
     → ((slots : Slots) (memory : List ℕ) → state_of n slots memory ≡ with_thread (state_of o slots memory) offset t) → kind_in n offset ≡ Some NewThread
-unfolding state_of
+unfolding state_of told_by
 replaced-there o n offset t is = ap (λ (s : State). kind_at s offset) (is (λ _. None) []) ∙ ap (option_map kind_of) (put-here (object_in o) offset (Some (ThreadObject t)))
 
 -- a thread that runs goes to the tail of its new priority

@@ -9,7 +9,7 @@ use Rattle.model.specs.Kernel.Scheduling.{head_of}
 use Rattle.model.specs.Kernel.State.{EndpointObject, Object, put}
 use Rattle.objects.proofs.Ends.{not-queued}
 use Rattle.objects.proofs.Lists.{receivers-by, senders-by}
-use Rattle.objects.specs.Tables.{Tables, WaitsThere, kind_in, object_from, object_in, object_of, record_in, sending_in, state_of, thread_in}
+use Rattle.objects.specs.Tables.{Tables, WaitsThere, kind_in, object_from, object_in, object_of, record_in, sending_in, state_of, thread_in, told_by}
 use Rattle.objects.specs.Threads.{sender_of}
 use Rattle.objects.specs.Waiting.{changed_at, served}
 use Rattle.objects.specs.declared.records.Record.{Record}
@@ -116,5 +116,5 @@ module _ (o : Tables) (waiting : QueuedThreads) (queue thread : ℕ)
       ])
 
   pub served-state : (slots : Slots) (memory : List ℕ) → state_of now slots memory ≡ changed_at (state_of o slots memory) queue (served sending)
-  unfolding state_of
+  unfolding state_of told_by
   served-state slots memory = λ i. record (state_of o slots memory) { objects = λ other. object-served other i }

@@ -8,7 +8,7 @@ use Rattle.model.specs.Kernel.Scheduling.{full_slice, wake}
 use Rattle.model.specs.Kernel.State.{Object, State, Status, Inactive, Runnable, Blocked, AwaitsReply, AwaitsHandler, ThreadObject, ThreadState, as_thread, put, slot_numbers, thread_at}
 use Rattle.objects.proofs.Ends.{as-thread}
 use Rattle.objects.proofs.Kept.{put-there}
-use Rattle.objects.specs.Tables.{Tables, state_of, thread_in}
+use Rattle.objects.specs.Tables.{Tables, state_of, thread_in, told_by}
 use Rattle.objects.specs.Threads.{status_of, thread_state}
 use Rattle.objects.specs.declared.records.Thread.{Thread}
 use Rattle.removals.specs.Finishing.{is_stranded, waits_nowhere, woken}
@@ -17,13 +17,13 @@ use Rattle.removals.specs.Finishing.{is_stranded, waits_nowhere, woken}
 
 pub stranded-at : (o : Tables) (offset : ℕ) (t : Thread) (slots : Slots) (memory : List ℕ) → thread_in o.threads offset ≡ Some t
     → is_stranded (state_of o slots memory) offset ≡ waits_nowhere (state_of o slots memory) (status_of t.status)
-unfolding state_of
+unfolding state_of told_by
 stranded-at o offset t slots memory there =
     ap (λ p. option_map_or (λ x. waits_nowhere (state_of o slots memory) x.status) p false) (as-thread o offset ∙ ap (option_map thread_state) there)
 
 pub stranded-nobody : (o : Tables) (offset : ℕ) (slots : Slots) (memory : List ℕ) → thread_in o.threads offset ≡ None
     → is_stranded (state_of o slots memory) offset ≡ false
-unfolding state_of
+unfolding state_of told_by
 stranded-nobody o offset slots memory none =
     ap (λ p. option_map_or (λ x. waits_nowhere (state_of o slots memory) x.status) p false) (as-thread o offset ∙ ap (option_map thread_state) none)
 
@@ -91,7 +91,7 @@ sweep-step s first count =
 -- all places are those of all threads
 pub swept-all : (o : Tables) (slots : Slots) (memory : List ℕ) (count : ℕ) → count ≡ 2 ^ o.bits / 16
     → swept (state_of o slots memory) 0 (count - 0) ≡ woken (state_of o slots memory)
-unfolding state_of slot_numbers
+unfolding state_of told_by slot_numbers
 swept-all o slots memory count is =
     let all : count - 0 ≡ 2 ^ o.bits / 16 = omega (arith, is) in ap (λ (n : ℕ). swept (state_of o slots memory) 0 n) all
 

@@ -10,7 +10,7 @@ use Rattle.model.specs.Shared.Lists.{times_in}
 use Rattle.objects.proofs.Kept.{put-here, put-there}
 use Rattle.objects.proofs.Lists.{receivers-same, senders-same}
 use Rattle.objects.specs.Changes.{vacated}
-use Rattle.objects.specs.Tables.{Tables, byte_in, is_frame, object_from, object_in, object_of, record_in, sending_in, state_of, thread_in}
+use Rattle.objects.specs.Tables.{Tables, byte_in, is_frame, object_from, object_in, object_of, record_in, sending_in, state_of, thread_in, told_by}
 use Rattle.objects.specs.declared.records.Record.{Record}
 use Rattle.objects.specs.declared.records.Record.TheVariants.{Endpoint, Notification, CNode, Frame, PageTable, RootTable}
 use Rattle.objects.specs.declared.records.Thread.{Thread}
@@ -91,7 +91,7 @@ module _ (o : Tables) (records : List (Option Record)) (threads : List (Option T
   ]
 
   pub vacated-state : (slots : Slots) (memory : List ℕ) → state_of now slots memory ≡ vacated (state_of o slots memory) offset
-  unfolding state_of
+  unfolding state_of told_by
   vacated-state slots memory = λ i. record (state_of o slots memory) {
     objects = λ other. object-vacated other i;
     bytes = λ place. byte-vacated memory place i;

@@ -9,7 +9,7 @@ use Rattle.model.specs.Kernel.State.{Object, Runnable, ThreadObject, ThreadState
 use Rattle.model.specs.Shared.Lists.{without}
 use Rattle.objects.proofs.Kept.{put-here, put-there}
 use Rattle.objects.proofs.Lists.{receivers-by, senders-by}
-use Rattle.objects.specs.Tables.{Tables, object_from, object_in, object_of, record_in, sending_in, state_of, thread_in}
+use Rattle.objects.specs.Tables.{Tables, object_from, object_in, object_of, record_in, sending_in, state_of, thread_in, told_by}
 use Rattle.objects.specs.Threads.{thread_state}
 use Rattle.objects.specs.declared.records.Record.{Record}
 use Rattle.objects.specs.declared.records.Record.TheVariants.{Endpoint, Notification, CNode, Frame, PageTable, RootTable}
@@ -74,7 +74,7 @@ module _ (o : Tables) (threads : List (Option Thread)) (thread : ℕ) (before af
         (queue-part o.ready.entries (λ other. other == thread) before.priority i ++ thread ∷ []) priority)
 
     was : thread_at (state_of o (λ slot. None) []) thread ≡ thread_state before
-    unfolding state_of
+    unfolding state_of told_by
     was = ap (λ t. option_map_or (λ t. t) (as_thread (object_from t (option_map (object_of o.threads (queue_at o.waiting.entries thread)) (record_in o.records thread)))) new_thread) there
 
     abbrev running : ThreadState → ThreadState
@@ -85,7 +85,7 @@ module _ (o : Tables) (threads : List (Option Thread)) (thread : ℕ) (before af
     own-priority t = ap (λ p. (option_map_or (λ t. t) (as_thread p) new_thread).priority) (put-here (object_in o) thread (Some (ThreadObject t)))
 
     pub woken-state : (slots : Slots) (memory : List ℕ) → state_of (record now { ready = ready }) slots memory ≡ wake (state_of o slots memory) thread
-    unfolding state_of
+    unfolding state_of told_by
     woken-state slots memory =
         let after-is : thread_state after ≡ running (thread_at (state_of o slots memory) thread) =
         ap thread_state is ∙ ap running (sym was) in

@@ -5,7 +5,7 @@ use Rattle.std.specs.Option.{option_map_or}
 use Rattle.model.specs.Capabilities.Slots.{Slots}
 use Rattle.model.specs.Kernel.Kinds.{frame_around, kind_of}
 use Rattle.model.specs.Kernel.Retype.{NewObject}
-use Rattle.model.specs.Kernel.State.{State, Object, Sender, ThreadObject, EndpointObject, NotificationObject, CNodeObject, FrameObject, PageTableObject, RootTableObject}
+use Rattle.model.specs.Kernel.State.{State, Object, Sender, ThreadObject, EndpointObject, NotificationObject, CNodeObject, FrameObject, PageTableObject, RootTableObject, with_slots}
 use Rattle.objects.specs.Threads.{sender_of, thread_state}
 use Rattle.objects.specs.declared.records.Kind.{Kind}
 use Rattle.objects.specs.declared.records.Kind.TheVariants as kinds
@@ -89,17 +89,22 @@ abbrev pub byte_in : List (Option Record) → List ℕ → ℕ → Option ℕ
 byte_in records memory place =
     if option_map_or is_frame (record_in records (frame_around place)) false then Some (slice_index memory place) else None
 
-unfoldable pub state_of : Tables → Slots → List ℕ → State
-state_of o slots memory = record {
+-- what the tables and the bytes of memory tell of a state: all but its slots
+unfoldable pub told_by : Tables → List ℕ → State
+told_by o memory = record {
   memory_bits = o.bits;
   boot_radix = o.radix;
-  slots = slots;
+  slots = λ slot. None;
   objects = object_in o;
   bytes = byte_in o.records memory;
   ready = queue_at o.ready.entries;
   masked = λ line. slice_index_or o.masked line false;
   pending = λ line. slice_index_or o.pending line false;
 }
+
+-- whatever the form of the tables is, the slots are the store's
+unfoldable pub state_of : Tables → Slots → List ℕ → State
+state_of o slots memory = with_slots (told_by o memory) slots
 
 -- ---- what is always true of the tables
 

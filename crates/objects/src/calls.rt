@@ -3,12 +3,15 @@
 
 ghost use Rattle.std.specs.Prelude.{ℕ, ◌≡◌, ◌^◌, ◌<◌, ◌≤◌, List, None, is_some, length};
 ghost use Rattle.model.specs.Capabilities.Slots.{Slots};
+ghost use Rattle.model.specs.Kernel.Kinds.{kind_of};
 ghost use Rattle.model.specs.Kernel.Removal.{slot_count};
 ghost use Rattle.model.specs.Kernel.Setup.{is_frame_object};
 ghost use Rattle.model.specs.Kernel.State.{as_thread, binding_slot};
 ghost use Rattle.objects.specs.Changes.{MayStand, begun};
-ghost use Rattle.objects.specs.Frames.{SameBesideObjects};
+ghost use Rattle.objects.specs.Frames.{IsRoom, SameBesideObjects};
+ghost use Rattle.objects.specs.Standing.{Standing};
 ghost use Rattle.objects.specs.Tables.{state_of};
+ghost use Rattle.objects.specs.Threads.{new_object};
 ghost use Rattle.removals.specs.Finishing.{woken};
 ghost use Rattle.removals.specs.Steps.{object_ended};
 
@@ -26,7 +29,7 @@ impl Objects {
     }
 
     /// The boot CNode has 2^`radix` slots.
-    #[tactic(auto, unfolding(crate::specs::Tables::state_of))]
+    #[tactic(auto, unfolding(crate::specs::Tables::state_of, crate::specs::Tables::told_by))]
     pub fn boot_radix(&self) -> u32
         ensures value { (slots : Slots) (memory : List ℕ) → result ≡ (state_of self.now slots memory).boot_radix }
         ensures most { result ≤ 14 }
@@ -35,7 +38,7 @@ impl Objects {
     }
 
     /// How many slots the object has that starts at an offset: none, where there is no object.
-    #[tactic(auto, unfolding(crate::specs::Tables::state_of))]
+    #[tactic(auto, unfolding(crate::specs::Tables::state_of, crate::specs::Tables::told_by))]
     pub fn slots_of<S: SlotStore>(&self, store: &S, offset: u32) -> u32
         ensures { result ≡ slot_count ((state_of self.now (S.slots store.now) (S.memory store.now)).objects offset) }
     {
@@ -43,7 +46,7 @@ impl Objects {
     }
 
     /// Whether the object at an offset is a thread.
-    #[tactic(auto, unfolding(crate::specs::Tables::state_of))]
+    #[tactic(auto, unfolding(crate::specs::Tables::state_of, crate::specs::Tables::told_by))]
     pub fn is_thread<S: SlotStore>(&self, store: &S, offset: u32) -> bool
         ensures { result ≡ is_some (as_thread ((state_of self.now (S.slots store.now) (S.memory store.now)).objects offset)) }
     {
@@ -51,7 +54,7 @@ impl Objects {
     }
 
     /// Whether the object at an offset is a frame.
-    #[tactic(auto, unfolding(crate::specs::Tables::state_of))]
+    #[tactic(auto, unfolding(crate::specs::Tables::state_of, crate::specs::Tables::told_by))]
     pub fn is_frame<S: SlotStore>(&self, store: &S, offset: u32) -> bool
         ensures { result ≡ is_frame_object ((state_of self.now (S.slots store.now) (S.memory store.now)).objects offset) }
     {
@@ -59,7 +62,7 @@ impl Objects {
     }
 
     /// The byte at a place in memory, if a frame is there.
-    #[tactic(auto, unfolding(crate::specs::Tables::state_of))]
+    #[tactic(auto, unfolding(crate::specs::Tables::state_of, crate::specs::Tables::told_by))]
     pub fn byte<S: SlotStore>(&self, store: &S, place: u32) -> Option<u8>
         requires size { 2 ^ (state_of self.now (S.slots store.now) (S.memory store.now)).memory_bits ≡ length (S.memory store.now) }
         ensures { result ≡ (state_of self.now (S.slots store.now) (S.memory store.now)).bytes place }
@@ -74,36 +77,43 @@ impl Objects {
     /// The object at an offset ends, if there is one: a thread leaves every queue, and the rights to reply
     /// to it are void.
     pub fn end<S: SlotStore>(&mut self, store: &mut S, offset: u32)
+        requires stands { Standing self.old (S.slots store.old) (S.memory store.old) }
         ensures state { state_of self.new (S.slots store.new) (S.memory store.new)
             ≡ object_ended (state_of self.old (S.slots store.old) (S.memory store.old)) offset }
         ensures slots { S.slots store.new ≡ S.slots store.old }
         ensures bytes { SameBesideObjects (state_of self.old (S.slots store.old) (S.memory store.old)) (S.memory store.old) (S.memory store.new) }
         ensures order { S.order store.new ≡ S.order store.old }
+        ensures stands { Standing self.new (S.slots store.new) (S.memory store.new) }
     {
         self.end_at(offset);
     }
 
-    /// A new object stands at an offset where none is. What memory holds there are the bytes of a frame.
-    #[tactic(auto, unfolding(crate::specs::Tables::state_of))]
+    /// A new object stands at an offset where nothing does. What memory holds there are the bytes of a frame.
+    #[tactic(auto, unfolding(crate::specs::Tables::state_of, crate::specs::Tables::told_by))]
     pub fn begin<S: SlotStore>(&mut self, store: &mut S, offset: u32, kind: Kind)
         requires free { (state_of self.old (S.slots store.old) (S.memory store.old)).objects offset ≡ None }
         requires fits { MayStand (state_of self.old (S.slots store.old) (S.memory store.old)).memory_bits kind offset }
+        requires room { IsRoom (state_of self.old (S.slots store.old) (S.memory store.old)) (kind_of (new_object kind)) offset }
+        requires stands { Standing self.old (S.slots store.old) (S.memory store.old) }
         ensures state { state_of self.new (S.slots store.new) (S.memory store.new)
             ≡ begun (state_of self.old (S.slots store.old) (S.memory store.old)) (S.memory store.old) kind offset }
         ensures slots { S.slots store.new ≡ S.slots store.old }
         ensures bytes { SameBesideObjects (state_of self.new (S.slots store.new) (S.memory store.new)) (S.memory store.old) (S.memory store.new) }
         ensures order { S.order store.new ≡ S.order store.old }
+        ensures stands { Standing self.new (S.slots store.new) (S.memory store.new) }
     {
         self.begin_at(offset, kind);
     }
 
     /// Threads that wait at objects that are gone run again, in rising order of their offsets.
     pub fn wake_stranded<S: SlotStore>(&mut self, store: &mut S)
+        requires stands { Standing self.old (S.slots store.old) (S.memory store.old) }
         ensures state { state_of self.new (S.slots store.new) (S.memory store.new)
             ≡ woken (state_of self.old (S.slots store.old) (S.memory store.old)) }
         ensures slots { S.slots store.new ≡ S.slots store.old }
         ensures bytes { SameBesideObjects (state_of self.old (S.slots store.old) (S.memory store.old)) (S.memory store.old) (S.memory store.new) }
         ensures order { S.order store.new ≡ S.order store.old }
+        ensures stands { Standing self.new (S.slots store.new) (S.memory store.new) }
     {
         self.wake_all_stranded();
     }

@@ -17,8 +17,9 @@ mod threads;
 mod waiting;
 
 pub use laws::{
-    a_state_follows_its_slots, a_state_follows_other_bytes, a_state_has_its_slots,
-    what_fits_still_does,
+    a_byte_is_in_memory, a_state_follows_its_frames, a_state_follows_its_slots,
+    a_state_follows_other_bytes, a_state_has_its_slots, what_stands_beside_frames,
+    what_stands_beside_other_bytes, what_stands_still_does,
 };
 pub use records::{Fault, Kind, Sending, Sent, Status, Thread, WaitingSender};
 pub use tables::{FULL_SLICE, Objects};

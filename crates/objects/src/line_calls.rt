@@ -6,6 +6,7 @@ ghost use Rattle.model.specs.Capabilities.Slots.{Slots};
 ghost use Rattle.model.specs.Kernel.Interrupts.{with_pending};
 ghost use Rattle.model.specs.Kernel.State.{put};
 ghost use Rattle.objects.specs.Frames.{SameObjects};
+ghost use Rattle.objects.specs.Standing.{Standing};
 ghost use Rattle.objects.specs.Tables.{state_of};
 
 use crate::tables::Objects;
@@ -13,7 +14,7 @@ use slots::SlotStore;
 
 impl Objects {
     /// Whether the interrupts of a line, 0 to 63, wait for an acknowledgement.
-    #[tactic(auto, unfolding(crate::specs::Tables::state_of))]
+    #[tactic(auto, unfolding(crate::specs::Tables::state_of, crate::specs::Tables::told_by))]
     pub fn is_masked<S: SlotStore>(&self, store: &S, line: u8) -> bool
         requires { line < 64 }
         ensures { result ≡ (state_of self.now (S.slots store.now) (S.memory store.now)).masked line }
@@ -22,20 +23,22 @@ impl Objects {
     }
 
     /// Masks a line, 0 to 63, or takes its mask away.
-    #[tactic(auto, unfolding(crate::specs::Tables::state_of))]
+    #[tactic(auto, unfolding(crate::specs::Tables::state_of, crate::specs::Tables::told_by))]
     pub fn set_masked<S: SlotStore>(&mut self, store: &mut S, line: u8, bit: bool)
-        requires { line < 64 }
+        requires line { line < 64 }
+        requires stands { Standing self.old (S.slots store.old) (S.memory store.old) }
         ensures state { state_of self.new (S.slots store.new) (S.memory store.new)
             ≡ record (state_of self.old (S.slots store.old) (S.memory store.old)) { masked = put (state_of self.old (S.slots store.old) (S.memory store.old)).masked line bit } }
         ensures slots { S.slots store.new ≡ S.slots store.old }
         ensures bytes { SameObjects (state_of self.old (S.slots store.old) (S.memory store.old)) (state_of self.new (S.slots store.new) (S.memory store.new)) (S.memory store.old) (S.memory store.new) }
         ensures order { S.order store.new ≡ S.order store.old }
+        ensures stands { Standing self.new (S.slots store.new) (S.memory store.new) }
     {
         self.set_masked_at(line, bit);
     }
 
     /// Whether a line, 0 to 63, was raised while its interrupt could not be delivered.
-    #[tactic(auto, unfolding(crate::specs::Tables::state_of))]
+    #[tactic(auto, unfolding(crate::specs::Tables::state_of, crate::specs::Tables::told_by))]
     pub fn is_pending<S: SlotStore>(&self, store: &S, line: u8) -> bool
         requires { line < 64 }
         ensures { result ≡ (state_of self.now (S.slots store.now) (S.memory store.now)).pending line }
@@ -44,14 +47,16 @@ impl Objects {
     }
 
     /// An interrupt of a line, 0 to 63, stands pending, or none does.
-    #[tactic(auto, unfolding(crate::specs::Tables::state_of))]
+    #[tactic(auto, unfolding(crate::specs::Tables::state_of, crate::specs::Tables::told_by))]
     pub fn set_pending<S: SlotStore>(&mut self, store: &mut S, line: u8, bit: bool)
-        requires { line < 64 }
+        requires line { line < 64 }
+        requires stands { Standing self.old (S.slots store.old) (S.memory store.old) }
         ensures state { state_of self.new (S.slots store.new) (S.memory store.new)
             ≡ with_pending (state_of self.old (S.slots store.old) (S.memory store.old)) line bit }
         ensures slots { S.slots store.new ≡ S.slots store.old }
         ensures bytes { SameObjects (state_of self.old (S.slots store.old) (S.memory store.old)) (state_of self.new (S.slots store.new) (S.memory store.new)) (S.memory store.old) (S.memory store.new) }
         ensures order { S.order store.new ≡ S.order store.old }
+        ensures stands { Standing self.new (S.slots store.new) (S.memory store.new) }
     {
         self.set_pending_at(line, bit);
     }

@@ -1,11 +1,12 @@
 //! The calls on those that wait at endpoints and notifications, which are lent the store beside which the
 //! objects stand.
 
-ghost use Rattle.std.specs.Prelude.{ℕ, ◌≡◌, Some};
+ghost use Rattle.std.specs.Prelude.{ℕ, ◌≡◌, [], Some};
 ghost use Rattle.model.specs.Kernel.Kinds.{kind_at};
 ghost use Rattle.model.specs.Kernel.Retype.{NewEndpoint, NewNotification, NewThread};
 ghost use Rattle.model.specs.Kernel.State.{endpoint_at, notification_at};
 ghost use Rattle.objects.specs.Frames.{SameObjects};
+ghost use Rattle.objects.specs.Standing.{Standing};
 ghost use Rattle.objects.specs.Tables.{state_of};
 ghost use Rattle.objects.specs.Threads.{sender_of};
 ghost use Rattle.objects.specs.Waiting.{IsOneSided, ReceiverTaken, SenderTaken, StandsNowhere, WaiterTaken, with_receiver, with_sender, with_waiter, with_word};
@@ -15,8 +16,8 @@ use crate::tables::Objects;
 use slots::SlotStore;
 
 impl Objects {
-    /// A thread that waits nowhere waits behind the others at an endpoint, to send this.
-    #[tactic(auto, unfolding(crate::specs::Tables::state_of))]
+    /// A thread that waits nowhere waits behind the others at an endpoint where nobody receives, to send this.
+    #[tactic(auto, unfolding(crate::specs::Tables::state_of, crate::specs::Tables::told_by))]
     pub fn push_sender<S: SlotStore>(
         &mut self,
         store: &mut S,
@@ -27,47 +28,55 @@ impl Objects {
         requires endpoint { kind_at (state_of self.old (S.slots store.old) (S.memory store.old)) endpoint ≡ Some NewEndpoint }
         requires there { kind_at (state_of self.old (S.slots store.old) (S.memory store.old)) thread ≡ Some NewThread }
         requires apart { StandsNowhere (state_of self.old (S.slots store.old) (S.memory store.old)).objects thread }
+        requires alone { (endpoint_at (state_of self.old (S.slots store.old) (S.memory store.old)) endpoint).receivers ≡ [] }
+        requires stands { Standing self.old (S.slots store.old) (S.memory store.old) }
         ensures state { state_of self.new (S.slots store.new) (S.memory store.new)
             ≡ with_sender (state_of self.old (S.slots store.old) (S.memory store.old)) endpoint (sender_of thread sending) }
         ensures slots { S.slots store.new ≡ S.slots store.old }
         ensures bytes { SameObjects (state_of self.old (S.slots store.old) (S.memory store.old)) (state_of self.new (S.slots store.new) (S.memory store.new)) (S.memory store.old) (S.memory store.new) }
         ensures order { S.order store.new ≡ S.order store.old }
+        ensures stands { Standing self.new (S.slots store.new) (S.memory store.new) }
     {
         self.push_sender_at(endpoint, thread, sending);
     }
 
-    /// A thread that waits nowhere waits behind the others at an endpoint, to receive.
-    #[tactic(auto, unfolding(crate::specs::Tables::state_of))]
+    /// A thread that waits nowhere waits behind the others at an endpoint where nobody sends, to receive.
+    #[tactic(auto, unfolding(crate::specs::Tables::state_of, crate::specs::Tables::told_by))]
     pub fn push_receiver<S: SlotStore>(&mut self, store: &mut S, endpoint: u32, thread: u32)
         requires endpoint { kind_at (state_of self.old (S.slots store.old) (S.memory store.old)) endpoint ≡ Some NewEndpoint }
         requires there { kind_at (state_of self.old (S.slots store.old) (S.memory store.old)) thread ≡ Some NewThread }
         requires apart { StandsNowhere (state_of self.old (S.slots store.old) (S.memory store.old)).objects thread }
+        requires alone { (endpoint_at (state_of self.old (S.slots store.old) (S.memory store.old)) endpoint).senders ≡ [] }
+        requires stands { Standing self.old (S.slots store.old) (S.memory store.old) }
         ensures state { state_of self.new (S.slots store.new) (S.memory store.new)
             ≡ with_receiver (state_of self.old (S.slots store.old) (S.memory store.old)) endpoint thread }
         ensures slots { S.slots store.new ≡ S.slots store.old }
         ensures bytes { SameObjects (state_of self.old (S.slots store.old) (S.memory store.old)) (state_of self.new (S.slots store.new) (S.memory store.new)) (S.memory store.old) (S.memory store.new) }
         ensures order { S.order store.new ≡ S.order store.old }
+        ensures stands { Standing self.new (S.slots store.new) (S.memory store.new) }
     {
         self.push_receiver_at(endpoint, thread);
     }
 
     /// A thread that waits nowhere waits behind the others at a notification.
-    #[tactic(auto, unfolding(crate::specs::Tables::state_of))]
+    #[tactic(auto, unfolding(crate::specs::Tables::state_of, crate::specs::Tables::told_by))]
     pub fn push_waiter<S: SlotStore>(&mut self, store: &mut S, notification: u32, thread: u32)
         requires notification { kind_at (state_of self.old (S.slots store.old) (S.memory store.old)) notification ≡ Some NewNotification }
         requires there { kind_at (state_of self.old (S.slots store.old) (S.memory store.old)) thread ≡ Some NewThread }
         requires apart { StandsNowhere (state_of self.old (S.slots store.old) (S.memory store.old)).objects thread }
+        requires stands { Standing self.old (S.slots store.old) (S.memory store.old) }
         ensures state { state_of self.new (S.slots store.new) (S.memory store.new)
             ≡ with_waiter (state_of self.old (S.slots store.old) (S.memory store.old)) notification thread }
         ensures slots { S.slots store.new ≡ S.slots store.old }
         ensures bytes { SameObjects (state_of self.old (S.slots store.old) (S.memory store.old)) (state_of self.new (S.slots store.new) (S.memory store.new)) (S.memory store.old) (S.memory store.new) }
         ensures order { S.order store.new ≡ S.order store.old }
+        ensures stands { Standing self.new (S.slots store.new) (S.memory store.new) }
     {
         self.push_waiter_at(notification, thread);
     }
 
     /// Takes the first thread that waits at an endpoint to send, with what it sends.
-    #[tactic(auto, unfolding(crate::specs::Tables::state_of))]
+    #[tactic(auto, unfolding(crate::specs::Tables::state_of, crate::specs::Tables::told_by))]
     pub fn take_sender<S: SlotStore>(
         &mut self,
         store: &mut S,
@@ -75,35 +84,41 @@ impl Objects {
     ) -> Option<WaitingSender>
         requires endpoint { kind_at (state_of self.old (S.slots store.old) (S.memory store.old)) endpoint ≡ Some NewEndpoint }
         requires one_sided { IsOneSided (endpoint_at (state_of self.old (S.slots store.old) (S.memory store.old)) endpoint) }
+        requires stands { Standing self.old (S.slots store.old) (S.memory store.old) }
         ensures state { SenderTaken (state_of self.old (S.slots store.old) (S.memory store.old)) endpoint result (state_of self.new (S.slots store.new) (S.memory store.new)) }
         ensures slots { S.slots store.new ≡ S.slots store.old }
         ensures bytes { SameObjects (state_of self.old (S.slots store.old) (S.memory store.old)) (state_of self.new (S.slots store.new) (S.memory store.new)) (S.memory store.old) (S.memory store.new) }
         ensures order { S.order store.new ≡ S.order store.old }
+        ensures stands { Standing self.new (S.slots store.new) (S.memory store.new) }
     {
         self.take_sender_at(endpoint)
     }
 
     /// Takes the first thread that waits at an endpoint to receive.
-    #[tactic(auto, unfolding(crate::specs::Tables::state_of))]
+    #[tactic(auto, unfolding(crate::specs::Tables::state_of, crate::specs::Tables::told_by))]
     pub fn take_receiver<S: SlotStore>(&mut self, store: &mut S, endpoint: u32) -> Option<u32>
         requires endpoint { kind_at (state_of self.old (S.slots store.old) (S.memory store.old)) endpoint ≡ Some NewEndpoint }
         requires one_sided { IsOneSided (endpoint_at (state_of self.old (S.slots store.old) (S.memory store.old)) endpoint) }
+        requires stands { Standing self.old (S.slots store.old) (S.memory store.old) }
         ensures state { ReceiverTaken (state_of self.old (S.slots store.old) (S.memory store.old)) endpoint result (state_of self.new (S.slots store.new) (S.memory store.new)) }
         ensures slots { S.slots store.new ≡ S.slots store.old }
         ensures bytes { SameObjects (state_of self.old (S.slots store.old) (S.memory store.old)) (state_of self.new (S.slots store.new) (S.memory store.new)) (S.memory store.old) (S.memory store.new) }
         ensures order { S.order store.new ≡ S.order store.old }
+        ensures stands { Standing self.new (S.slots store.new) (S.memory store.new) }
     {
         self.take_receiver_at(endpoint)
     }
 
     /// Takes the first thread that waits at a notification.
-    #[tactic(auto, unfolding(crate::specs::Tables::state_of))]
+    #[tactic(auto, unfolding(crate::specs::Tables::state_of, crate::specs::Tables::told_by))]
     pub fn take_waiter<S: SlotStore>(&mut self, store: &mut S, notification: u32) -> Option<u32>
-        requires { kind_at (state_of self.old (S.slots store.old) (S.memory store.old)) notification ≡ Some NewNotification }
+        requires there { kind_at (state_of self.old (S.slots store.old) (S.memory store.old)) notification ≡ Some NewNotification }
+        requires stands { Standing self.old (S.slots store.old) (S.memory store.old) }
         ensures state { WaiterTaken (state_of self.old (S.slots store.old) (S.memory store.old)) notification result (state_of self.new (S.slots store.new) (S.memory store.new)) }
         ensures slots { S.slots store.new ≡ S.slots store.old }
         ensures bytes { SameObjects (state_of self.old (S.slots store.old) (S.memory store.old)) (state_of self.new (S.slots store.new) (S.memory store.new)) (S.memory store.old) (S.memory store.new) }
         ensures order { S.order store.new ≡ S.order store.old }
+        ensures stands { Standing self.new (S.slots store.new) (S.memory store.new) }
     {
         self.take_waiter_at(notification)
     }
@@ -116,14 +131,16 @@ impl Objects {
     }
 
     /// Sets the word of a notification.
-    #[tactic(auto, unfolding(crate::specs::Tables::state_of))]
+    #[tactic(auto, unfolding(crate::specs::Tables::state_of, crate::specs::Tables::told_by))]
     pub fn set_word<S: SlotStore>(&mut self, store: &mut S, notification: u32, word: u32)
-        requires { kind_at (state_of self.old (S.slots store.old) (S.memory store.old)) notification ≡ Some NewNotification }
+        requires there { kind_at (state_of self.old (S.slots store.old) (S.memory store.old)) notification ≡ Some NewNotification }
+        requires stands { Standing self.old (S.slots store.old) (S.memory store.old) }
         ensures state { state_of self.new (S.slots store.new) (S.memory store.new)
             ≡ with_word (state_of self.old (S.slots store.old) (S.memory store.old)) notification word }
         ensures slots { S.slots store.new ≡ S.slots store.old }
         ensures bytes { SameObjects (state_of self.old (S.slots store.old) (S.memory store.old)) (state_of self.new (S.slots store.new) (S.memory store.new)) (S.memory store.old) (S.memory store.new) }
         ensures order { S.order store.new ≡ S.order store.old }
+        ensures stands { Standing self.new (S.slots store.new) (S.memory store.new) }
     {
         self.set_word_at(notification, word);
     }

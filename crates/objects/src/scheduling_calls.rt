@@ -8,6 +8,7 @@ ghost use Rattle.model.specs.Kernel.Scheduling.{current, leaves, to_tail};
 ghost use Rattle.model.specs.Kernel.State.{thread_at, with_thread};
 ghost use Rattle.model.specs.Kernel.ThreadCalls.{with_priority};
 ghost use Rattle.objects.specs.Frames.{SameObjects};
+ghost use Rattle.objects.specs.Standing.{Standing};
 ghost use Rattle.objects.specs.Tables.{state_of};
 
 use crate::tables::Objects;
@@ -29,53 +30,61 @@ impl Objects {
     }
 
     /// Sets how many ticks a thread runs on.
-    #[tactic(auto, unfolding(crate::specs::Tables::state_of))]
+    #[tactic(auto, unfolding(crate::specs::Tables::state_of, crate::specs::Tables::told_by))]
     pub fn set_slice<S: SlotStore>(&mut self, store: &mut S, thread: u32, slice: u8)
-        requires { kind_at (state_of self.old (S.slots store.old) (S.memory store.old)) thread ≡ Some NewThread }
+        requires there { kind_at (state_of self.old (S.slots store.old) (S.memory store.old)) thread ≡ Some NewThread }
+        requires stands { Standing self.old (S.slots store.old) (S.memory store.old) }
         ensures state { state_of self.new (S.slots store.new) (S.memory store.new)
             ≡ with_thread (state_of self.old (S.slots store.old) (S.memory store.old)) thread (record (thread_at (state_of self.old (S.slots store.old) (S.memory store.old)) thread) { slice = slice }) }
         ensures slots { S.slots store.new ≡ S.slots store.old }
         ensures bytes { SameObjects (state_of self.old (S.slots store.old) (S.memory store.old)) (state_of self.new (S.slots store.new) (S.memory store.new)) (S.memory store.old) (S.memory store.new) }
         ensures order { S.order store.new ≡ S.order store.old }
+        ensures stands { Standing self.new (S.slots store.new) (S.memory store.new) }
     {
         self.set_slice_at(thread, slice);
     }
 
     /// A thread goes to the tail of its priority.
-    #[tactic(auto, unfolding(crate::specs::Tables::state_of))]
+    #[tactic(auto, unfolding(crate::specs::Tables::state_of, crate::specs::Tables::told_by))]
     pub fn to_tail<S: SlotStore>(&mut self, store: &mut S, thread: u32)
-        requires { kind_at (state_of self.old (S.slots store.old) (S.memory store.old)) thread ≡ Some NewThread }
+        requires there { kind_at (state_of self.old (S.slots store.old) (S.memory store.old)) thread ≡ Some NewThread }
+        requires stands { Standing self.old (S.slots store.old) (S.memory store.old) }
         ensures state { state_of self.new (S.slots store.new) (S.memory store.new)
             ≡ to_tail (state_of self.old (S.slots store.old) (S.memory store.old)) thread }
         ensures slots { S.slots store.new ≡ S.slots store.old }
         ensures bytes { SameObjects (state_of self.old (S.slots store.old) (S.memory store.old)) (state_of self.new (S.slots store.new) (S.memory store.new)) (S.memory store.old) (S.memory store.new) }
         ensures order { S.order store.new ≡ S.order store.old }
+        ensures stands { Standing self.new (S.slots store.new) (S.memory store.new) }
     {
         self.to_tail_at(thread);
     }
 
     /// Sets the priority of a thread: one that runs goes to its tail, with the slice that it has.
-    #[tactic(auto, unfolding(crate::specs::Tables::state_of))]
+    #[tactic(auto, unfolding(crate::specs::Tables::state_of, crate::specs::Tables::told_by))]
     pub fn set_priority<S: SlotStore>(&mut self, store: &mut S, thread: u32, priority: u8)
-        requires { kind_at (state_of self.old (S.slots store.old) (S.memory store.old)) thread ≡ Some NewThread }
+        requires there { kind_at (state_of self.old (S.slots store.old) (S.memory store.old)) thread ≡ Some NewThread }
+        requires stands { Standing self.old (S.slots store.old) (S.memory store.old) }
         ensures state { state_of self.new (S.slots store.new) (S.memory store.new)
             ≡ with_priority (state_of self.old (S.slots store.old) (S.memory store.old)) thread priority }
         ensures slots { S.slots store.new ≡ S.slots store.old }
         ensures bytes { SameObjects (state_of self.old (S.slots store.old) (S.memory store.old)) (state_of self.new (S.slots store.new) (S.memory store.new)) (S.memory store.old) (S.memory store.new) }
         ensures order { S.order store.new ≡ S.order store.old }
+        ensures stands { Standing self.new (S.slots store.new) (S.memory store.new) }
     {
         self.set_priority_at(thread, priority);
     }
 
     /// A thread leaves every queue and the ready list, and nobody has the right to reply to it any more.
-    #[tactic(auto, unfolding(crate::specs::Tables::state_of))]
+    #[tactic(auto, unfolding(crate::specs::Tables::state_of, crate::specs::Tables::told_by))]
     pub fn leave<S: SlotStore>(&mut self, store: &mut S, thread: u32)
-        requires { kind_at (state_of self.old (S.slots store.old) (S.memory store.old)) thread ≡ Some NewThread }
+        requires there { kind_at (state_of self.old (S.slots store.old) (S.memory store.old)) thread ≡ Some NewThread }
+        requires stands { Standing self.old (S.slots store.old) (S.memory store.old) }
         ensures state { state_of self.new (S.slots store.new) (S.memory store.new)
             ≡ leaves (state_of self.old (S.slots store.old) (S.memory store.old)) thread }
         ensures slots { S.slots store.new ≡ S.slots store.old }
         ensures bytes { SameObjects (state_of self.old (S.slots store.old) (S.memory store.old)) (state_of self.new (S.slots store.new) (S.memory store.new)) (S.memory store.old) (S.memory store.new) }
         ensures order { S.order store.new ≡ S.order store.old }
+        ensures stands { Standing self.new (S.slots store.new) (S.memory store.new) }
     {
         self.forget(thread);
     }

@@ -9,6 +9,7 @@ ghost use Rattle.model.specs.Kernel.Scheduling.{all_leave, leaves, wake};
 ghost use Rattle.model.specs.Kernel.Setup.{boot_area, is_frame_object};
 ghost use Rattle.model.specs.Kernel.State.{as_thread, binding_slot, with_slots};
 ghost use Rattle.objects.specs.Changes.{MayStand, begun, vacated, voided};
+ghost use Rattle.objects.specs.Standing.{Standing};
 ghost use Rattle.objects.specs.Tables.{is_frame, object_in, record_in, record_of, state_of, thread_in};
 ghost use Rattle.objects.specs.Threads.{status_of};
 ghost use Rattle.queues.specs.Queues.{times_queued};
@@ -79,12 +80,13 @@ impl Model for Objects {
 impl Objects {
     /// No objects yet in memory of 2^`bits` bytes, with room for all that may come; the boot CNode has
     /// 2^`radix` slots.
-    #[tactic(auto, unfolding(crate::specs::Tables::state_of, model::specs::Kernel::Setup::boot_area))]
+    #[tactic(auto, unfolding(crate::specs::Tables::state_of, crate::specs::Tables::told_by, model::specs::Kernel::Setup::boot_area))]
     pub fn new(alloc: Global, bits: u32, radix: u32) -> Result<Self, AllocError>
         requires least { 16 ≤ bits }
         requires most { bits ≤ 24 }
         requires radix { radix ≤ 14 }
-        ensures { IfOk result (λ o. (slots : Slots) (memory : List ℕ) → state_of o slots memory ≡ with_slots (boot_area bits radix) slots) }
+        ensures state { IfOk result (λ o. (slots : Slots) (memory : List ℕ) → state_of o slots memory ≡ with_slots (boot_area bits radix) slots) }
+        ensures stands { IfOk result (λ o. (slots : Slots) (memory : List ℕ) → 2 ^ bits ≡ length memory → Standing o slots memory) }
     {
         let size = power(bits);
         let places = size / THREAD_SIZE;
@@ -101,7 +103,7 @@ impl Objects {
     }
 
     /// The slot of the interrupt table that holds what a line signals.
-    #[tactic(auto, unfolding(crate::specs::Tables::state_of))]
+    #[tactic(auto, unfolding(crate::specs::Tables::state_of, crate::specs::Tables::told_by))]
     pub(crate) fn binding_of(&self, line: u8) -> Slot
         requires { line < 64 }
         ensures { (slots : Slots) (memory : List ℕ) → result ≡ binding_slot (state_of self.now slots memory) line }
@@ -228,7 +230,7 @@ impl Objects {
     }
 
     /// Whether a thread waits at an object that is gone.
-    #[tactic(auto, unfolding(crate::specs::Tables::state_of))]
+    #[tactic(auto, unfolding(crate::specs::Tables::state_of, crate::specs::Tables::told_by))]
     fn waits_nowhere(&self, thread: &Thread) -> bool
         ensures { (slots : Slots) (memory : List ℕ)
             → result ≡ waits_nowhere (state_of self.now slots memory) (status_of thread.now.status) }
@@ -242,7 +244,7 @@ impl Objects {
     }
 
     /// Wakes the thread at an offset, if one is there that waits at an object that is gone.
-    #[tactic(auto, unfolding(crate::specs::Tables::state_of))]
+    #[tactic(auto, unfolding(crate::specs::Tables::state_of, crate::specs::Tables::told_by))]
     fn wake_if_stranded(&mut self, offset: u32)
         ensures { (slots : Slots) (memory : List ℕ) → state_of self.new slots memory
             ≡ (if is_stranded (state_of self.old slots memory) offset

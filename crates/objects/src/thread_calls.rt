@@ -7,6 +7,7 @@ ghost use Rattle.model.specs.Kernel.Retype.{NewThread};
 ghost use Rattle.model.specs.Kernel.Scheduling.{block, wake};
 ghost use Rattle.model.specs.Kernel.State.{thread_at, with_thread};
 ghost use Rattle.objects.specs.Frames.{SameObjects};
+ghost use Rattle.objects.specs.Standing.{Standing};
 ghost use Rattle.objects.specs.Tables.{state_of};
 ghost use Rattle.objects.specs.Threads.{status_of};
 
@@ -59,66 +60,76 @@ impl Objects {
     }
 
     /// Sets the registers of a thread.
-    #[tactic(auto, unfolding(crate::specs::Tables::state_of))]
+    #[tactic(auto, unfolding(crate::specs::Tables::state_of, crate::specs::Tables::told_by))]
     pub fn set_registers<S: SlotStore>(&mut self, store: &mut S, thread: u32, registers: Regs)
-        requires { kind_at (state_of self.old (S.slots store.old) (S.memory store.old)) thread ≡ Some NewThread }
+        requires there { kind_at (state_of self.old (S.slots store.old) (S.memory store.old)) thread ≡ Some NewThread }
+        requires stands { Standing self.old (S.slots store.old) (S.memory store.old) }
         ensures state { state_of self.new (S.slots store.new) (S.memory store.new)
             ≡ with_registers (state_of self.old (S.slots store.old) (S.memory store.old)) thread registers }
         ensures slots { S.slots store.new ≡ S.slots store.old }
         ensures bytes { SameObjects (state_of self.old (S.slots store.old) (S.memory store.old)) (state_of self.new (S.slots store.new) (S.memory store.new)) (S.memory store.old) (S.memory store.new) }
         ensures order { S.order store.new ≡ S.order store.old }
+        ensures stands { Standing self.new (S.slots store.new) (S.memory store.new) }
     {
         self.set_registers_at(thread, registers);
     }
 
     /// A thread has the right to reply to this one, or no such right.
-    #[tactic(auto, unfolding(crate::specs::Tables::state_of))]
+    #[tactic(auto, unfolding(crate::specs::Tables::state_of, crate::specs::Tables::told_by))]
     pub fn set_caller<S: SlotStore>(&mut self, store: &mut S, thread: u32, caller: Option<u32>)
-        requires { kind_at (state_of self.old (S.slots store.old) (S.memory store.old)) thread ≡ Some NewThread }
+        requires there { kind_at (state_of self.old (S.slots store.old) (S.memory store.old)) thread ≡ Some NewThread }
+        requires stands { Standing self.old (S.slots store.old) (S.memory store.old) }
         ensures state { state_of self.new (S.slots store.new) (S.memory store.new)
             ≡ with_caller (state_of self.old (S.slots store.old) (S.memory store.old)) thread caller }
         ensures slots { S.slots store.new ≡ S.slots store.old }
         ensures bytes { SameObjects (state_of self.old (S.slots store.old) (S.memory store.old)) (state_of self.new (S.slots store.new) (S.memory store.new)) (S.memory store.old) (S.memory store.new) }
         ensures order { S.order store.new ≡ S.order store.old }
+        ensures stands { Standing self.new (S.slots store.new) (S.memory store.new) }
     {
         self.set_caller_at(thread, caller);
     }
 
     /// Sets the capability address of the endpoint that takes a thread's faults; 0 is none.
-    #[tactic(auto, unfolding(crate::specs::Tables::state_of))]
+    #[tactic(auto, unfolding(crate::specs::Tables::state_of, crate::specs::Tables::told_by))]
     pub fn set_fault_address<S: SlotStore>(&mut self, store: &mut S, thread: u32, address: u32)
-        requires { kind_at (state_of self.old (S.slots store.old) (S.memory store.old)) thread ≡ Some NewThread }
+        requires there { kind_at (state_of self.old (S.slots store.old) (S.memory store.old)) thread ≡ Some NewThread }
+        requires stands { Standing self.old (S.slots store.old) (S.memory store.old) }
         ensures state { state_of self.new (S.slots store.new) (S.memory store.new)
             ≡ with_thread (state_of self.old (S.slots store.old) (S.memory store.old)) thread (record (thread_at (state_of self.old (S.slots store.old) (S.memory store.old)) thread) { fault_address = address }) }
         ensures slots { S.slots store.new ≡ S.slots store.old }
         ensures bytes { SameObjects (state_of self.old (S.slots store.old) (S.memory store.old)) (state_of self.new (S.slots store.new) (S.memory store.new)) (S.memory store.old) (S.memory store.new) }
         ensures order { S.order store.new ≡ S.order store.old }
+        ensures stands { Standing self.new (S.slots store.new) (S.memory store.new) }
     {
         self.set_fault_address_at(thread, address);
     }
 
     /// A thread stops running, for this reason.
-    #[tactic(auto, unfolding(crate::specs::Tables::state_of))]
+    #[tactic(auto, unfolding(crate::specs::Tables::state_of, crate::specs::Tables::told_by))]
     pub fn block<S: SlotStore>(&mut self, store: &mut S, thread: u32, status: Status)
-        requires { kind_at (state_of self.old (S.slots store.old) (S.memory store.old)) thread ≡ Some NewThread }
+        requires there { kind_at (state_of self.old (S.slots store.old) (S.memory store.old)) thread ≡ Some NewThread }
+        requires stands { Standing self.old (S.slots store.old) (S.memory store.old) }
         ensures state { state_of self.new (S.slots store.new) (S.memory store.new)
             ≡ block (state_of self.old (S.slots store.old) (S.memory store.old)) thread (status_of status) }
         ensures slots { S.slots store.new ≡ S.slots store.old }
         ensures bytes { SameObjects (state_of self.old (S.slots store.old) (S.memory store.old)) (state_of self.new (S.slots store.new) (S.memory store.new)) (S.memory store.old) (S.memory store.new) }
         ensures order { S.order store.new ≡ S.order store.old }
+        ensures stands { Standing self.new (S.slots store.new) (S.memory store.new) }
     {
         self.block_at(thread, status);
     }
 
     /// Makes a thread runnable that does not run: it goes to the tail of its priority, with a full slice.
-    #[tactic(auto, unfolding(crate::specs::Tables::state_of))]
+    #[tactic(auto, unfolding(crate::specs::Tables::state_of, crate::specs::Tables::told_by))]
     pub fn wake<S: SlotStore>(&mut self, store: &mut S, thread: u32)
-        requires { kind_at (state_of self.old (S.slots store.old) (S.memory store.old)) thread ≡ Some NewThread }
+        requires there { kind_at (state_of self.old (S.slots store.old) (S.memory store.old)) thread ≡ Some NewThread }
+        requires stands { Standing self.old (S.slots store.old) (S.memory store.old) }
         ensures state { state_of self.new (S.slots store.new) (S.memory store.new)
             ≡ wake (state_of self.old (S.slots store.old) (S.memory store.old)) thread }
         ensures slots { S.slots store.new ≡ S.slots store.old }
         ensures bytes { SameObjects (state_of self.old (S.slots store.old) (S.memory store.old)) (state_of self.new (S.slots store.new) (S.memory store.new)) (S.memory store.old) (S.memory store.new) }
         ensures order { S.order store.new ≡ S.order store.old }
+        ensures stands { Standing self.new (S.slots store.new) (S.memory store.new) }
     {
         self.wake_thread_at(thread);
     }

@@ -123,7 +123,7 @@ impl Objects {
     }
 
     /// The thread that runs: the first of the greatest priority.
-    #[tactic(auto, unfolding(crate::specs::Tables::state_of))]
+    #[tactic(auto, unfolding(crate::specs::Tables::state_of, crate::specs::Tables::told_by))]
     pub(crate) fn running(&self) -> Option<u32>
         ensures { (slots : Slots) (memory : List ℕ) → result ≡ current (state_of self.now slots memory) }
     {

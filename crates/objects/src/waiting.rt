@@ -150,7 +150,7 @@ impl Objects {
     }
 
     /// The word of the notification at an offset, or 0 where none is.
-    #[tactic(auto, unfolding(crate::specs::Tables::state_of))]
+    #[tactic(auto, unfolding(crate::specs::Tables::state_of, crate::specs::Tables::told_by))]
     pub(crate) fn word_at(&self, notification: u32) -> u32
         ensures { (slots : Slots) (memory : List ℕ)
             → result ≡ (notification_at (state_of self.now slots memory) notification).word }

@@ -6,6 +6,7 @@ ghost use Rattle.model.specs.Kernel.Retype.{NewThread};
 ghost use Rattle.model.specs.Kernel.Scheduling.{current, tick, ticked, yielded};
 ghost use Rattle.model.specs.Kernel.Soundness.{IsSound};
 ghost use Rattle.objects.specs.Frames.{SameObjects};
+ghost use Rattle.objects.specs.Standing.{Standing};
 ghost use Rattle.objects.specs.Tables.{state_of};
 
 use objects::{FULL_SLICE, Objects};
@@ -22,12 +23,14 @@ pub fn choose<S: SlotStore>(store: &S, objects: &Objects) -> Option<u32>
 ///
 /// seL4 Reference Manual, seL4_Yield.
 pub fn yield_now<S: SlotStore>(store: &mut S, objects: &mut Objects, thread: u32)
-    requires { kind_at (state_of objects.old (S.slots store.old) (S.memory store.old)) thread ≡ Some NewThread }
+    requires there { kind_at (state_of objects.old (S.slots store.old) (S.memory store.old)) thread ≡ Some NewThread }
+    requires stands { Standing objects.old (S.slots store.old) (S.memory store.old) }
     ensures state { state_of objects.new (S.slots store.new) (S.memory store.new)
         ≡ yielded (state_of objects.old (S.slots store.old) (S.memory store.old)) thread }
     ensures slots { S.slots store.new ≡ S.slots store.old }
     ensures bytes { SameObjects (state_of objects.old (S.slots store.old) (S.memory store.old)) (state_of objects.new (S.slots store.new) (S.memory store.new)) (S.memory store.old) (S.memory store.new) }
     ensures order { S.order store.new ≡ S.order store.old }
+    ensures stands { Standing objects.new (S.slots store.new) (S.memory store.new) }
 {
     objects.set_slice(store, thread, FULL_SLICE);
     objects.to_tail(store, thread);
@@ -35,12 +38,14 @@ pub fn yield_now<S: SlotStore>(store: &mut S, objects: &mut Objects, thread: u32
 
 /// A tick takes 1 from the slice of the thread that runs. Where none is left, the thread goes to the tail.
 fn ticked<S: SlotStore>(store: &mut S, objects: &mut Objects, thread: u32)
-    requires { kind_at (state_of objects.old (S.slots store.old) (S.memory store.old)) thread ≡ Some NewThread }
+    requires there { kind_at (state_of objects.old (S.slots store.old) (S.memory store.old)) thread ≡ Some NewThread }
+    requires stands { Standing objects.old (S.slots store.old) (S.memory store.old) }
     ensures state { state_of objects.new (S.slots store.new) (S.memory store.new)
         ≡ ticked (state_of objects.old (S.slots store.old) (S.memory store.old)) thread }
     ensures slots { S.slots store.new ≡ S.slots store.old }
     ensures bytes { SameObjects (state_of objects.old (S.slots store.old) (S.memory store.old)) (state_of objects.new (S.slots store.new) (S.memory store.new)) (S.memory store.old) (S.memory store.new) }
     ensures order { S.order store.new ≡ S.order store.old }
+    ensures stands { Standing objects.new (S.slots store.new) (S.memory store.new) }
 {
     let slice = objects.slice(store, thread);
     if slice <= 1 {
@@ -53,11 +58,13 @@ fn ticked<S: SlotStore>(store: &mut S, objects: &mut Objects, thread: u32)
 /// A tick of the timer: where no thread runs, nothing changes.
 pub fn tick<S: SlotStore>(store: &mut S, objects: &mut Objects)
     requires sound { IsSound (state_of objects.old (S.slots store.old) (S.memory store.old)) }
+    requires stands { Standing objects.old (S.slots store.old) (S.memory store.old) }
     ensures state { state_of objects.new (S.slots store.new) (S.memory store.new)
         ≡ tick (state_of objects.old (S.slots store.old) (S.memory store.old)) }
     ensures slots { S.slots store.new ≡ S.slots store.old }
     ensures bytes { SameObjects (state_of objects.old (S.slots store.old) (S.memory store.old)) (state_of objects.new (S.slots store.new) (S.memory store.new)) (S.memory store.old) (S.memory store.new) }
     ensures order { S.order store.new ≡ S.order store.old }
+    ensures stands { Standing objects.new (S.slots store.new) (S.memory store.new) }
 {
     if let Some(thread) = objects.current(store) {
         ticked(store, objects, thread);

@@ -30,13 +30,13 @@ fn kind_of(fault: Fault) -> FaultKind
 
 /// The thread that runs faults.
 fn fail<S: SlotStore>(store: &mut S, objects: &mut Objects, thread: u32, fault: Fault) -> Outcome
-    requires whole { IsWhole (state_of objects.old (S.slots store.old) (S.memory store.old)) (S.memory store.old) }
+    requires whole { IsWhole objects.old (S.slots store.old) (S.memory store.old) }
     requires runs { IsRunning (state_of objects.old (S.slots store.old) (S.memory store.old)) thread }
     requires told { SentIsSound (ByFault (message_of fault)) }
     ensures state { state_of objects.new (S.slots store.new) (S.memory store.new)
         ≡ (faults (state_of objects.old (S.slots store.old) (S.memory store.old)) thread (message_of fault)).0 }
     ensures outcome { result ≡ (faults (state_of objects.old (S.slots store.old) (S.memory store.old)) thread (message_of fault)).1 }
-    ensures whole { IsWhole (state_of objects.new (S.slots store.new) (S.memory store.new)) (S.memory store.new) }
+    ensures whole { IsWhole objects.new (S.slots store.new) (S.memory store.new) }
 {
     raise_fault(store, objects, thread, fault);
     Outcome::Faulted(kind_of(fault))
@@ -49,12 +49,12 @@ pub(crate) fn trap<S: SlotStore>(
     thread: u32,
     cause: Cause,
 ) -> Outcome
-    requires whole { IsWhole (state_of objects.old (S.slots store.old) (S.memory store.old)) (S.memory store.old) }
+    requires whole { IsWhole objects.old (S.slots store.old) (S.memory store.old) }
     requires runs { IsRunning (state_of objects.old (S.slots store.old) (S.memory store.old)) thread }
     ensures state { state_of objects.new (S.slots store.new) (S.memory store.new)
         ≡ (faults (state_of objects.old (S.slots store.old) (S.memory store.old)) thread (instruction_fault (registers_of (state_of objects.old (S.slots store.old) (S.memory store.old)) thread).pc cause)).0 }
     ensures outcome { result ≡ (faults (state_of objects.old (S.slots store.old) (S.memory store.old)) thread (instruction_fault (registers_of (state_of objects.old (S.slots store.old) (S.memory store.old)) thread).pc cause)).1 }
-    ensures whole { IsWhole (state_of objects.new (S.slots store.new) (S.memory store.new)) (S.memory store.new) }
+    ensures whole { IsWhole objects.new (S.slots store.new) (S.memory store.new) }
 {
     let pc = objects.pc(store, thread);
     fail(store, objects, thread, Fault::Instruction { pc, cause })
@@ -67,12 +67,12 @@ pub(crate) fn miss<S: SlotStore>(
     thread: u32,
     fault: MemoryFault,
 ) -> Outcome
-    requires whole { IsWhole (state_of objects.old (S.slots store.old) (S.memory store.old)) (S.memory store.old) }
+    requires whole { IsWhole objects.old (S.slots store.old) (S.memory store.old) }
     requires runs { IsRunning (state_of objects.old (S.slots store.old) (S.memory store.old)) thread }
     ensures state { state_of objects.new (S.slots store.new) (S.memory store.new)
         ≡ (faults (state_of objects.old (S.slots store.old) (S.memory store.old)) thread (memory_fault (registers_of (state_of objects.old (S.slots store.old) (S.memory store.old)) thread).pc fault)).0 }
     ensures outcome { result ≡ (faults (state_of objects.old (S.slots store.old) (S.memory store.old)) thread (memory_fault (registers_of (state_of objects.old (S.slots store.old) (S.memory store.old)) thread).pc fault)).1 }
-    ensures whole { IsWhole (state_of objects.new (S.slots store.new) (S.memory store.new)) (S.memory store.new) }
+    ensures whole { IsWhole objects.new (S.slots store.new) (S.memory store.new) }
 {
     let pc = objects.pc(store, thread);
     fail(store, objects, thread, Fault::Memory { pc, fault })

@@ -31,7 +31,7 @@ fn perform<S: SlotStore>(
     thread: u32,
     instruction: Instr,
 ) -> Exec
-    requires whole { IsWhole (state_of objects.old (S.slots store.old) (S.memory store.old)) (S.memory store.old) }
+    requires whole { IsWhole objects.old (S.slots store.old) (S.memory store.old) }
     requires runs { IsRunning (state_of objects.old (S.slots store.old) (S.memory store.old)) thread }
     requires instruction { IsInstr instruction }
     ensures outcome { result ≡ (effect (registers_of (state_of objects.old (S.slots store.old) (S.memory store.old)) thread)
@@ -40,7 +40,7 @@ fn perform<S: SlotStore>(
         let after = effect (registers_of s thread) (content_of s thread) instruction in
         state_of objects.new (S.slots store.new) (S.memory store.new) ≡ with_content (with_registers s thread after.registers) after.content }
     ensures unchanged { result ≢ Exec.Next → state_of objects.new (S.slots store.new) (S.memory store.new) ≡ state_of objects.old (S.slots store.old) (S.memory store.old) }
-    ensures whole { IsWhole (state_of objects.new (S.slots store.new) (S.memory store.new)) (S.memory store.new) }
+    ensures whole { IsWhole objects.new (S.slots store.new) (S.memory store.new) }
 {
     user_memory::execute(store, objects, thread, instruction)
 }
@@ -52,13 +52,13 @@ fn execute<S: SlotStore>(
     thread: u32,
     instruction: Instr,
 ) -> Outcome
-    requires whole { IsWhole (state_of kernel.old (S.slots store.old) (S.memory store.old)) (S.memory store.old) }
+    requires whole { IsWhole kernel.old (S.slots store.old) (S.memory store.old) }
     requires runs { IsRunning (state_of kernel.old (S.slots store.old) (S.memory store.old)) thread }
     requires instruction { IsInstr instruction }
     ensures state { state_of kernel.new (S.slots store.new) (S.memory store.new)
         ≡ (executes (state_of kernel.old (S.slots store.old) (S.memory store.old)) thread instruction).0 }
     ensures outcome { result ≡ (executes (state_of kernel.old (S.slots store.old) (S.memory store.old)) thread instruction).1 }
-    ensures whole { IsWhole (state_of kernel.new (S.slots store.new) (S.memory store.new)) (S.memory store.new) }
+    ensures whole { IsWhole kernel.new (S.slots store.new) (S.memory store.new) }
 {
     match perform(store, &mut kernel.objects, thread, instruction) {
         Exec::Next => Outcome::Plain,
@@ -78,12 +78,12 @@ fn execute_word<S: SlotStore>(
     thread: u32,
     word: u32,
 ) -> Outcome
-    requires whole { IsWhole (state_of kernel.old (S.slots store.old) (S.memory store.old)) (S.memory store.old) }
+    requires whole { IsWhole kernel.old (S.slots store.old) (S.memory store.old) }
     requires runs { IsRunning (state_of kernel.old (S.slots store.old) (S.memory store.old)) thread }
     ensures state { state_of kernel.new (S.slots store.new) (S.memory store.new)
         ≡ (runs_decoded (state_of kernel.old (S.slots store.old) (S.memory store.old)) thread (decoded word)).0 }
     ensures outcome { result ≡ (runs_decoded (state_of kernel.old (S.slots store.old) (S.memory store.old)) thread (decoded word)).1 }
-    ensures whole { IsWhole (state_of kernel.new (S.slots store.new) (S.memory store.new)) (S.memory store.new) }
+    ensures whole { IsWhole kernel.new (S.slots store.new) (S.memory store.new) }
 {
     match decode(word) {
         Some(instruction) => execute(store, kernel, thread, instruction),
@@ -97,7 +97,7 @@ fn next_word<S: SlotStore>(
     kernel: &KernelObjects,
     thread: u32,
 ) -> Result<u32, MemoryFault>
-    requires { IsWhole (state_of kernel.now (S.slots store.now) (S.memory store.now)) (S.memory store.now) }
+    requires { IsWhole kernel.now (S.slots store.now) (S.memory store.now) }
     ensures { result ≡ loaded (content_of (state_of kernel.now (S.slots store.now) (S.memory store.now)) thread) Fetch Word
         (registers_of (state_of kernel.now (S.slots store.now) (S.memory store.now)) thread).pc }
 {
@@ -107,12 +107,12 @@ fn next_word<S: SlotStore>(
 /// The thread that runs executes the instruction at its pc.
 #[tactic(auto, unfolding(model::specs::Kernel::Steps::runs))]
 pub(crate) fn run<S: SlotStore>(store: &mut S, kernel: &mut KernelObjects, thread: u32) -> Outcome
-    requires whole { IsWhole (state_of kernel.old (S.slots store.old) (S.memory store.old)) (S.memory store.old) }
+    requires whole { IsWhole kernel.old (S.slots store.old) (S.memory store.old) }
     requires runs { IsRunning (state_of kernel.old (S.slots store.old) (S.memory store.old)) thread }
     ensures state { state_of kernel.new (S.slots store.new) (S.memory store.new)
         ≡ (runs (state_of kernel.old (S.slots store.old) (S.memory store.old)) thread).0 }
     ensures outcome { result ≡ (runs (state_of kernel.old (S.slots store.old) (S.memory store.old)) thread).1 }
-    ensures whole { IsWhole (state_of kernel.new (S.slots store.new) (S.memory store.new)) (S.memory store.new) }
+    ensures whole { IsWhole kernel.new (S.slots store.new) (S.memory store.new) }
 {
     match next_word(store, kernel, thread) {
         Ok(word) => execute_word(store, kernel, thread, word),

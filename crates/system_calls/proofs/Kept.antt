@@ -3,17 +3,22 @@ use Rattle.std.proofs.Common.{ℕ, ◌≡◌, ◌∙◌, ◌^◌, ◌<◌, ◌�
 use Rattle.std.proofs.Math.Pow.{pow_mono}
 use Rattle.agreement.proofs.Whole.{whole-kept}
 use Rattle.agreement.specs.Wholeness.{IsWhole}
+use Rattle.model.specs.Capabilities.Slots.{Slots}
 use Rattle.model.specs.Kernel.Kinds.{kind_at}
 use Rattle.model.specs.Kernel.Retype.{NewThread}
 use Rattle.model.specs.Kernel.Soundness.{IsSound}
 use Rattle.model.specs.Kernel.State.{State}
 use Rattle.objects.specs.Frames.{SameObjects}
+use Rattle.objects.specs.Standing.{Standing}
+use Rattle.objects.specs.Tables.{Tables, state_of}
 use Rattle.soundness.proofs.Places.{object-inside}
 use Rattle.soundness.specs.Machines.{SameBase}
 
-pub kept : (s t u : State) (old new : List ℕ) → IsWhole s old → t ≡ u → IsSound u → SameBase s u → SameObjects s t old new → IsWhole t new
-kept s t u old new whole is sound base same =
-    whole-kept s t old new whole (subst IsSound (sym is) sound) (ap (λ (x : State). x.slots) is ∙ base.slots) (ap (λ (x : State). x.memory_bits) is ∙ base.memory_bits) same
+pub kept : (o n : Tables) (slots now : Slots) (old new : List ℕ) (u : State) → IsWhole o slots old → state_of n now new ≡ u → IsSound u → SameBase (state_of o slots old) u
+    → SameObjects (state_of o slots old) (state_of n now new) old new → Standing n now new → IsWhole n now new
+unfolding state_of
+kept o n slots now old new u whole is sound base same stands =
+    whole-kept o n slots now old new whole (subst IsSound (sym is) sound) (ap (λ (x : State). x.slots) is ∙ base.slots) (ap (λ (x : State). x.memory_bits) is ∙ base.memory_bits) same stands
 
 -- a thread stands in the 2^24 bytes that memory has at most
 pub thread-near : (s : State) (thread : ℕ) → IsSound s → kind_at s thread ≡ Some NewThread → thread < 2 ^ 24

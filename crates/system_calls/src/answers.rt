@@ -20,11 +20,11 @@ use slots::SlotStore;
 
 /// A thread goes on behind its call.
 pub(crate) fn pass<S: SlotStore>(store: &mut S, objects: &mut Objects, thread: u32)
-    requires whole { IsWhole (state_of objects.old (S.slots store.old) (S.memory store.old)) (S.memory store.old) }
+    requires whole { IsWhole objects.old (S.slots store.old) (S.memory store.old) }
     requires there { kind_at (state_of objects.old (S.slots store.old) (S.memory store.old)) thread ≡ Some NewThread }
     ensures state { state_of objects.new (S.slots store.new) (S.memory store.new)
         ≡ passes (state_of objects.old (S.slots store.old) (S.memory store.old)) thread }
-    ensures whole { IsWhole (state_of objects.new (S.slots store.new) (S.memory store.new)) (S.memory store.new) }
+    ensures whole { IsWhole objects.new (S.slots store.new) (S.memory store.new) }
 {
     ipc::pass(store, objects, thread);
 }
@@ -37,13 +37,13 @@ pub(crate) fn lacks_capability<S: SlotStore>(
     in_receive: bool,
     failure: LookupFailure,
 ) -> Outcome
-    requires whole { IsWhole (state_of objects.old (S.slots store.old) (S.memory store.old)) (S.memory store.old) }
+    requires whole { IsWhole objects.old (S.slots store.old) (S.memory store.old) }
     requires runs { IsRunning (state_of objects.old (S.slots store.old) (S.memory store.old)) thread }
     requires few { bits_left_of failure ≤ 32 }
     ensures state { state_of objects.new (S.slots store.new) (S.memory store.new)
         ≡ (lacks_capability (state_of objects.old (S.slots store.old) (S.memory store.old)) thread (if in_receive then 1 else 0) failure).0 }
     ensures outcome { result ≡ (lacks_capability (state_of objects.old (S.slots store.old) (S.memory store.old)) thread (if in_receive then 1 else 0) failure).1 }
-    ensures whole { IsWhole (state_of objects.new (S.slots store.new) (S.memory store.new)) (S.memory store.new) }
+    ensures whole { IsWhole objects.new (S.slots store.new) (S.memory store.new) }
 {
     let registers = objects.registers(store, thread);
     let fault = Fault::Capability {
@@ -63,12 +63,12 @@ pub(crate) fn unknown_call<S: SlotStore>(
     thread: u32,
     number: u32,
 ) -> Outcome
-    requires whole { IsWhole (state_of objects.old (S.slots store.old) (S.memory store.old)) (S.memory store.old) }
+    requires whole { IsWhole objects.old (S.slots store.old) (S.memory store.old) }
     requires runs { IsRunning (state_of objects.old (S.slots store.old) (S.memory store.old)) thread }
     ensures state { state_of objects.new (S.slots store.new) (S.memory store.new)
         ≡ (calls_known (state_of objects.old (S.slots store.old) (S.memory store.old)) thread number None).0 }
     ensures outcome { result ≡ (calls_known (state_of objects.old (S.slots store.old) (S.memory store.old)) thread number None).1 }
-    ensures whole { IsWhole (state_of objects.new (S.slots store.new) (S.memory store.new)) (S.memory store.new) }
+    ensures whole { IsWhole objects.new (S.slots store.new) (S.memory store.new) }
 {
     let pc = objects.pc(store, thread);
     raise_fault(store, objects, thread, Fault::UnknownCall { pc, number });
@@ -83,12 +83,12 @@ pub(crate) fn answer<S: SlotStore>(
     kind: SendKind,
     number: u32,
 )
-    requires whole { IsWhole (state_of objects.old (S.slots store.old) (S.memory store.old)) (S.memory store.old) }
+    requires whole { IsWhole objects.old (S.slots store.old) (S.memory store.old) }
     requires there { kind_at (state_of objects.old (S.slots store.old) (S.memory store.old)) thread ≡ Some NewThread }
     requires small { number < 2 ^ 16 }
     ensures state { state_of objects.new (S.slots store.new) (S.memory store.new)
         ≡ answered (state_of objects.old (S.slots store.old) (S.memory store.old)) thread (send_call_of kind) number }
-    ensures whole { IsWhole (state_of objects.new (S.slots store.new) (S.memory store.new)) (S.memory store.new) }
+    ensures whole { IsWhole objects.new (S.slots store.new) (S.memory store.new) }
 {
     match kind {
         SendKind::Call => {
@@ -109,12 +109,12 @@ pub(crate) fn refuse<S: SlotStore>(
     kind: SendKind,
     error: KError,
 ) -> Outcome
-    requires whole { IsWhole (state_of objects.old (S.slots store.old) (S.memory store.old)) (S.memory store.old) }
+    requires whole { IsWhole objects.old (S.slots store.old) (S.memory store.old) }
     requires runs { IsRunning (state_of objects.old (S.slots store.old) (S.memory store.old)) thread }
     ensures state { state_of objects.new (S.slots store.new) (S.memory store.new)
         ≡ (refused (state_of objects.old (S.slots store.old) (S.memory store.old)) thread (send_call_of kind) error).0 }
     ensures outcome { result ≡ (refused (state_of objects.old (S.slots store.old) (S.memory store.old)) thread (send_call_of kind) error).1 }
-    ensures whole { IsWhole (state_of objects.new (S.slots store.new) (S.memory store.new)) (S.memory store.new) }
+    ensures whole { IsWhole objects.new (S.slots store.new) (S.memory store.new) }
 {
     answer(store, objects, thread, kind, u32::from(error.number()));
     Outcome::Refused(error)
@@ -128,10 +128,10 @@ pub(crate) fn complete<S: SlotStore>(
     thread: u32,
     kind: SendKind,
 )
-    requires whole { IsWhole (state_of objects.old (S.slots store.old) (S.memory store.old)) (S.memory store.old) }
+    requires whole { IsWhole objects.old (S.slots store.old) (S.memory store.old) }
     ensures state { state_of objects.new (S.slots store.new) (S.memory store.new)
         ≡ completed (state_of objects.old (S.slots store.old) (S.memory store.old)) thread (send_call_of kind) }
-    ensures whole { IsWhole (state_of objects.new (S.slots store.new) (S.memory store.new)) (S.memory store.new) }
+    ensures whole { IsWhole objects.new (S.slots store.new) (S.memory store.new) }
 {
     if !objects.is_thread(store, thread) {
         return;

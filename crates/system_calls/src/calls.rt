@@ -27,12 +27,12 @@ fn call<S: SlotStore>(
     thread: u32,
     call: SystemCall,
 ) -> Outcome
-    requires whole { IsWhole (state_of kernel.old (S.slots store.old) (S.memory store.old)) (S.memory store.old) }
+    requires whole { IsWhole kernel.old (S.slots store.old) (S.memory store.old) }
     requires runs { IsRunning (state_of kernel.old (S.slots store.old) (S.memory store.old)) thread }
     ensures state { state_of kernel.new (S.slots store.new) (S.memory store.new)
         ≡ (calls (state_of kernel.old (S.slots store.old) (S.memory store.old)) thread (system_call_of call)).0 }
     ensures outcome { result ≡ (calls (state_of kernel.old (S.slots store.old) (S.memory store.old)) thread (system_call_of call)).1 }
-    ensures whole { IsWhole (state_of kernel.new (S.slots store.new) (S.memory store.new)) (S.memory store.new) }
+    ensures whole { IsWhole kernel.new (S.slots store.new) (S.memory store.new) }
 {
     match call {
         SystemCall::Send(kind) => send_call(store, kernel, thread, kind),
@@ -64,12 +64,12 @@ fn call<S: SlotStore>(
 /// seL4 Reference Manual, "System Calls".
 #[tactic(auto, unfolding(model::specs::Kernel::Steps::system_call))]
 pub fn system_call<S: SlotStore>(store: &mut S, kernel: &mut KernelObjects, thread: u32) -> Outcome
-    requires whole { IsWhole (state_of kernel.old (S.slots store.old) (S.memory store.old)) (S.memory store.old) }
+    requires whole { IsWhole kernel.old (S.slots store.old) (S.memory store.old) }
     requires runs { IsRunning (state_of kernel.old (S.slots store.old) (S.memory store.old)) thread }
     ensures state { state_of kernel.new (S.slots store.new) (S.memory store.new)
         ≡ (system_call (state_of kernel.old (S.slots store.old) (S.memory store.old)) thread).0 }
     ensures outcome { result ≡ (system_call (state_of kernel.old (S.slots store.old) (S.memory store.old)) thread).1 }
-    ensures whole { IsWhole (state_of kernel.new (S.slots store.new) (S.memory store.new)) (S.memory store.new) }
+    ensures whole { IsWhole kernel.new (S.slots store.new) (S.memory store.new) }
 {
     let number = kernel.objects.registers(store, thread).read(A7);
     match SystemCall::of_number(number) {

@@ -26,14 +26,14 @@ pub(crate) fn invoke_on<S: SlotStore>(
     slot: Slot,
     capability: Cap,
 ) -> Outcome
-    requires whole { IsWhole (state_of kernel.old (S.slots store.old) (S.memory store.old)) (S.memory store.old) }
+    requires whole { IsWhole kernel.old (S.slots store.old) (S.memory store.old) }
     requires runs { IsRunning (state_of kernel.old (S.slots store.old) (S.memory store.old)) thread }
     requires full { IsFull (S.slots store.old) slot }
     requires held { capability_at (S.slots store.old) slot ≡ capability }
     ensures state { state_of kernel.new (S.slots store.new) (S.memory store.new)
         ≡ (invokes (state_of kernel.old (S.slots store.old) (S.memory store.old)) thread (send_call_of kind) slot capability).0 }
     ensures outcome { result ≡ (invokes (state_of kernel.old (S.slots store.old) (S.memory store.old)) thread (send_call_of kind) slot capability).1 }
-    ensures whole { IsWhole (state_of kernel.new (S.slots store.new) (S.memory store.new)) (S.memory store.new) }
+    ensures whole { IsWhole kernel.new (S.slots store.new) (S.memory store.new) }
 {
     let registers = kernel.objects.registers(store, thread);
     let message = Message::of(&registers);

@@ -27,13 +27,13 @@ fn receive_message<S: SlotStore>(
     kind: ReceiveKind,
     endpoint: u32,
 ) -> Outcome
-    requires whole { IsWhole (state_of objects.old (S.slots store.old) (S.memory store.old)) (S.memory store.old) }
+    requires whole { IsWhole objects.old (S.slots store.old) (S.memory store.old) }
     requires runs { IsRunning (state_of objects.old (S.slots store.old) (S.memory store.old)) thread }
     requires endpoint { kind_at (state_of objects.old (S.slots store.old) (S.memory store.old)) endpoint ≡ Some NewEndpoint }
     ensures state { state_of objects.new (S.slots store.new) (S.memory store.new)
         ≡ (receive_on_endpoint (state_of objects.old (S.slots store.old) (S.memory store.old)) thread (receive_call_of kind) endpoint).0 }
     ensures outcome { result ≡ (receive_on_endpoint (state_of objects.old (S.slots store.old) (S.memory store.old)) thread (receive_call_of kind) endpoint).1 }
-    ensures whole { IsWhole (state_of objects.new (S.slots store.new) (S.memory store.new)) (S.memory store.new) }
+    ensures whole { IsWhole objects.new (S.slots store.new) (S.memory store.new) }
 {
     match kind {
         ReceiveKind::Wait => {
@@ -55,13 +55,13 @@ fn receive_signal<S: SlotStore>(
     kind: ReceiveKind,
     notification: u32,
 ) -> Outcome
-    requires whole { IsWhole (state_of objects.old (S.slots store.old) (S.memory store.old)) (S.memory store.old) }
+    requires whole { IsWhole objects.old (S.slots store.old) (S.memory store.old) }
     requires runs { IsRunning (state_of objects.old (S.slots store.old) (S.memory store.old)) thread }
     requires notification { kind_at (state_of objects.old (S.slots store.old) (S.memory store.old)) notification ≡ Some NewNotification }
     ensures state { state_of objects.new (S.slots store.new) (S.memory store.new)
         ≡ (receive_on_notification (state_of objects.old (S.slots store.old) (S.memory store.old)) thread (receive_call_of kind) notification).0 }
     ensures outcome { result ≡ (receive_on_notification (state_of objects.old (S.slots store.old) (S.memory store.old)) thread (receive_call_of kind) notification).1 }
-    ensures whole { IsWhole (state_of objects.new (S.slots store.new) (S.memory store.new)) (S.memory store.new) }
+    ensures whole { IsWhole objects.new (S.slots store.new) (S.memory store.new) }
 {
     match kind {
         ReceiveKind::Wait => {
@@ -84,13 +84,13 @@ fn receive_by<S: SlotStore>(
     slot: Slot,
     capability: Cap,
 ) -> Outcome
-    requires whole { IsWhole (state_of objects.old (S.slots store.old) (S.memory store.old)) (S.memory store.old) }
+    requires whole { IsWhole objects.old (S.slots store.old) (S.memory store.old) }
     requires runs { IsRunning (state_of objects.old (S.slots store.old) (S.memory store.old)) thread }
     requires held { capability_at (S.slots store.old) slot ≡ capability }
     ensures state { state_of objects.new (S.slots store.new) (S.memory store.new)
         ≡ (receive_by (state_of objects.old (S.slots store.old) (S.memory store.old)) thread (receive_call_of kind) capability).0 }
     ensures outcome { result ≡ (receive_by (state_of objects.old (S.slots store.old) (S.memory store.old)) thread (receive_call_of kind) capability).1 }
-    ensures whole { IsWhole (state_of objects.new (S.slots store.new) (S.memory store.new)) (S.memory store.new) }
+    ensures whole { IsWhole objects.new (S.slots store.new) (S.memory store.new) }
 {
     match capability {
         Cap::Endpoint { offset, rights, .. } if rights.may_read() => {
@@ -117,12 +117,12 @@ pub(crate) fn receive_call<S: SlotStore>(
     thread: u32,
     kind: ReceiveKind,
 ) -> Outcome
-    requires whole { IsWhole (state_of objects.old (S.slots store.old) (S.memory store.old)) (S.memory store.old) }
+    requires whole { IsWhole objects.old (S.slots store.old) (S.memory store.old) }
     requires runs { IsRunning (state_of objects.old (S.slots store.old) (S.memory store.old)) thread }
     ensures state { state_of objects.new (S.slots store.new) (S.memory store.new)
         ≡ (receive_call (state_of objects.old (S.slots store.old) (S.memory store.old)) thread (receive_call_of kind)).0 }
     ensures outcome { result ≡ (receive_call (state_of objects.old (S.slots store.old) (S.memory store.old)) thread (receive_call_of kind)).1 }
-    ensures whole { IsWhole (state_of objects.new (S.slots store.new) (S.memory store.new)) (S.memory store.new) }
+    ensures whole { IsWhole objects.new (S.slots store.new) (S.memory store.new) }
 {
     match named_slot(store, objects, thread) {
         Ok(slot) => {

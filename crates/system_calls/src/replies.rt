@@ -13,11 +13,11 @@ use slots::SlotStore;
 
 /// A thread answers its caller, if it has one, and runs on.
 pub(crate) fn reply<S: SlotStore>(store: &mut S, objects: &mut Objects, thread: u32)
-    requires whole { IsWhole (state_of objects.old (S.slots store.old) (S.memory store.old)) (S.memory store.old) }
+    requires whole { IsWhole objects.old (S.slots store.old) (S.memory store.old) }
     requires runs { IsRunning (state_of objects.old (S.slots store.old) (S.memory store.old)) thread }
     ensures state { state_of objects.new (S.slots store.new) (S.memory store.new)
         ≡ reply (state_of objects.old (S.slots store.old) (S.memory store.old)) thread }
-    ensures whole { IsWhole (state_of objects.new (S.slots store.new) (S.memory store.new)) (S.memory store.new) }
+    ensures whole { IsWhole objects.new (S.slots store.new) (S.memory store.new) }
     ensures runs { IsRunning (state_of objects.new (S.slots store.new) (S.memory store.new)) thread }
 {
     ipc::reply(store, objects, thread);
@@ -25,11 +25,11 @@ pub(crate) fn reply<S: SlotStore>(store: &mut S, objects: &mut Objects, thread: 
 
 /// A thread goes on behind its call, at the tail of its priority.
 pub(crate) fn give_way<S: SlotStore>(store: &mut S, objects: &mut Objects, thread: u32)
-    requires whole { IsWhole (state_of objects.old (S.slots store.old) (S.memory store.old)) (S.memory store.old) }
+    requires whole { IsWhole objects.old (S.slots store.old) (S.memory store.old) }
     requires runs { IsRunning (state_of objects.old (S.slots store.old) (S.memory store.old)) thread }
     ensures state { state_of objects.new (S.slots store.new) (S.memory store.new)
         ≡ yielded (passes (state_of objects.old (S.slots store.old) (S.memory store.old)) thread) thread }
-    ensures whole { IsWhole (state_of objects.new (S.slots store.new) (S.memory store.new)) (S.memory store.new) }
+    ensures whole { IsWhole objects.new (S.slots store.new) (S.memory store.new) }
 {
     ipc::pass(store, objects, thread);
     yield_now(store, objects, thread);

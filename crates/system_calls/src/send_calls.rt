@@ -26,14 +26,14 @@ fn send_by<S: SlotStore>(
     slot: Slot,
     capability: Cap,
 ) -> Outcome
-    requires whole { IsWhole (state_of kernel.old (S.slots store.old) (S.memory store.old)) (S.memory store.old) }
+    requires whole { IsWhole kernel.old (S.slots store.old) (S.memory store.old) }
     requires runs { IsRunning (state_of kernel.old (S.slots store.old) (S.memory store.old)) thread }
     requires full { IsFull (S.slots store.old) slot }
     requires held { capability_at (S.slots store.old) slot ≡ capability }
     ensures state { state_of kernel.new (S.slots store.new) (S.memory store.new)
         ≡ (send_by (state_of kernel.old (S.slots store.old) (S.memory store.old)) thread (send_call_of kind) slot capability).0 }
     ensures outcome { result ≡ (send_by (state_of kernel.old (S.slots store.old) (S.memory store.old)) thread (send_call_of kind) slot capability).1 }
-    ensures whole { IsWhole (state_of kernel.new (S.slots store.new) (S.memory store.new)) (S.memory store.new) }
+    ensures whole { IsWhole kernel.new (S.slots store.new) (S.memory store.new) }
 {
     match capability {
         Cap::Endpoint {
@@ -82,12 +82,12 @@ pub(crate) fn send_call<S: SlotStore>(
     thread: u32,
     kind: SendKind,
 ) -> Outcome
-    requires whole { IsWhole (state_of kernel.old (S.slots store.old) (S.memory store.old)) (S.memory store.old) }
+    requires whole { IsWhole kernel.old (S.slots store.old) (S.memory store.old) }
     requires runs { IsRunning (state_of kernel.old (S.slots store.old) (S.memory store.old)) thread }
     ensures state { state_of kernel.new (S.slots store.new) (S.memory store.new)
         ≡ (send_call (state_of kernel.old (S.slots store.old) (S.memory store.old)) thread (send_call_of kind)).0 }
     ensures outcome { result ≡ (send_call (state_of kernel.old (S.slots store.old) (S.memory store.old)) thread (send_call_of kind)).1 }
-    ensures whole { IsWhole (state_of kernel.new (S.slots store.new) (S.memory store.new)) (S.memory store.new) }
+    ensures whole { IsWhole kernel.new (S.slots store.new) (S.memory store.new) }
 {
     match named_slot(store, &kernel.objects, thread) {
         Ok(slot) => {

@@ -40,14 +40,14 @@ pub(crate) fn send_on<S: SlotStore>(
     badge: u32,
     grant_reply: bool,
 ) -> Outcome
-    requires whole { IsWhole (state_of objects.old (S.slots store.old) (S.memory store.old)) (S.memory store.old) }
+    requires whole { IsWhole objects.old (S.slots store.old) (S.memory store.old) }
     requires runs { IsRunning (state_of objects.old (S.slots store.old) (S.memory store.old)) thread }
     requires endpoint { kind_at (state_of objects.old (S.slots store.old) (S.memory store.old)) endpoint ≡ Some NewEndpoint }
     requires small { badge < 2 ^ 28 }
     ensures state { state_of objects.new (S.slots store.new) (S.memory store.new)
         ≡ (send_on (state_of objects.old (S.slots store.old) (S.memory store.old)) thread (send_call_of kind) endpoint badge grant_reply).0 }
     ensures outcome { result ≡ (send_on (state_of objects.old (S.slots store.old) (S.memory store.old)) thread (send_call_of kind) endpoint badge grant_reply).1 }
-    ensures whole { IsWhole (state_of objects.new (S.slots store.new) (S.memory store.new)) (S.memory store.new) }
+    ensures whole { IsWhole objects.new (S.slots store.new) (S.memory store.new) }
 {
     match kind {
         SendKind::Call => {
@@ -91,13 +91,13 @@ fn give_signal<S: SlotStore>(
     notification: u32,
     badge: u32,
 )
-    requires whole { IsWhole (state_of objects.old (S.slots store.old) (S.memory store.old)) (S.memory store.old) }
+    requires whole { IsWhole objects.old (S.slots store.old) (S.memory store.old) }
     requires runs { IsRunning (state_of objects.old (S.slots store.old) (S.memory store.old)) thread }
     requires notification { kind_at (state_of objects.old (S.slots store.old) (S.memory store.old)) notification ≡ Some NewNotification }
     requires small { badge < 2 ^ 28 }
     ensures state { state_of objects.new (S.slots store.new) (S.memory store.new)
         ≡ signal (state_of objects.old (S.slots store.old) (S.memory store.old)) notification badge }
-    ensures whole { IsWhole (state_of objects.new (S.slots store.new) (S.memory store.new)) (S.memory store.new) }
+    ensures whole { IsWhole objects.new (S.slots store.new) (S.memory store.new) }
     ensures runs { IsRunning (state_of objects.new (S.slots store.new) (S.memory store.new)) thread }
 {
     signal(store, objects, notification, badge);
@@ -112,14 +112,14 @@ pub(crate) fn signal_on<S: SlotStore>(
     notification: u32,
     badge: u32,
 ) -> Outcome
-    requires whole { IsWhole (state_of objects.old (S.slots store.old) (S.memory store.old)) (S.memory store.old) }
+    requires whole { IsWhole objects.old (S.slots store.old) (S.memory store.old) }
     requires runs { IsRunning (state_of objects.old (S.slots store.old) (S.memory store.old)) thread }
     requires notification { kind_at (state_of objects.old (S.slots store.old) (S.memory store.old)) notification ≡ Some NewNotification }
     requires small { badge < 2 ^ 28 }
     ensures state { state_of objects.new (S.slots store.new) (S.memory store.new)
         ≡ (signal_on (state_of objects.old (S.slots store.old) (S.memory store.old)) thread (send_call_of kind) notification badge).0 }
     ensures outcome { result ≡ (signal_on (state_of objects.old (S.slots store.old) (S.memory store.old)) thread (send_call_of kind) notification badge).1 }
-    ensures whole { IsWhole (state_of objects.new (S.slots store.new) (S.memory store.new)) (S.memory store.new) }
+    ensures whole { IsWhole objects.new (S.slots store.new) (S.memory store.new) }
 {
     give_signal(store, objects, thread, notification, badge);
     answer(store, objects, thread, kind, 0);
@@ -134,13 +134,13 @@ pub(crate) fn send_nothing<S: SlotStore>(
     kind: SendKind,
     failure: LookupFailure,
 ) -> Outcome
-    requires whole { IsWhole (state_of objects.old (S.slots store.old) (S.memory store.old)) (S.memory store.old) }
+    requires whole { IsWhole objects.old (S.slots store.old) (S.memory store.old) }
     requires runs { IsRunning (state_of objects.old (S.slots store.old) (S.memory store.old)) thread }
     requires few { bits_left_of failure ≤ 32 }
     ensures state { state_of objects.new (S.slots store.new) (S.memory store.new)
         ≡ (sends_nothing (state_of objects.old (S.slots store.old) (S.memory store.old)) thread (send_call_of kind) failure).0 }
     ensures outcome { result ≡ (sends_nothing (state_of objects.old (S.slots store.old) (S.memory store.old)) thread (send_call_of kind) failure).1 }
-    ensures whole { IsWhole (state_of objects.new (S.slots store.new) (S.memory store.new)) (S.memory store.new) }
+    ensures whole { IsWhole objects.new (S.slots store.new) (S.memory store.new) }
 {
     match kind {
         SendKind::Call | SendKind::Send => {

@@ -5,10 +5,12 @@ use Rattle.agreement.proofs.Laws.{follows-law}
 use Rattle.agreement.proofs.Lessened.{less-same}
 use Rattle.agreement.proofs.Puts.{copy-agrees, is-open, put-closes}
 use Rattle.agreement.specs.Agreement.{Agrees}
+use Rattle.agreement.specs.Wholeness.{Agreed}
 use Rattle.model.proofs.SlotChanges.{capability_of, full-not-empty}
 use Rattle.model.specs.Capabilities.CapabilityKinds.{frame_mapping, root_of}
 use Rattle.model.specs.Capabilities.Slots.{SameOutside, Slots, capability_at, empty_entry}
 use Rattle.model.specs.Kernel.Kinds.{kind_at, object_named}
+use Rattle.model.specs.Kernel.Retype.{NewThread}
 use Rattle.model.specs.Kernel.State.{State, ThreadState, cspace_slot, thread_at, vspace_slot, with_slots, with_thread}
 use Rattle.model.specs.Kernel.ThreadCalls.{with_guard}
 use Rattle.model.specs.declared.capabilities.Cap.{Cap}
@@ -37,7 +39,7 @@ root-plain c some = elim (root_of c) as (λ o. root_of c ≡ o → IsSome o → 
   | None ↦ λ is there. absurd cc
 ] refl some
 
-module _ (o : Tables) (slots : Slots) (old new : List ℕ) (thread : ℕ) (guard : Option ℕ) (from : Sources) (agrees : Agrees (state_of o slots old) old)
+module _ (o : Tables) (slots : Slots) (old new : List ℕ) (thread : ℕ) (guard : Option ℕ) (from : Sources) (agreed : Agreed o slots old)
     (same : SameOutside slots old new) (may : MayConfigure slots thread guard from.cspace from.vspace) where
   table : Cap
   table = capability_at slots from.vspace
@@ -62,24 +64,24 @@ module _ (o : Tables) (slots : Slots) (old new : List ℕ) (thread : ℕ) (guard
       ap capability_of (still slots (cspace_slot thread) (with_guard (capability_at slots from.cspace) guard) (Some from.cspace) from.vspace
       (full-not-empty slots from.vspace (cspace_slot thread) may.vspace_full may.first))
 
-  first-agrees : Agrees (state_of o one new) new
+  first-agrees : Agreed o one new
   unfolding one
   first-agrees =
       let held = capability_at slots from.cspace in
       let plain = quiet held may.is_cnode in
       let alike = guarded-alike held guard in
-      copy-agrees o slots old new (cspace_slot thread) from.cspace (with_guard held guard) agrees same may.first
+      copy-agrees o slots old new (cspace_slot thread) from.cspace (with_guard held guard) agreed same may.first
       (guarded-valid held guard (may.derivation.valid from.cspace) may.is_cnode may.fits) (alike.single ∙ plain.single) (guarded-plain held guard plain) alike.object
 
-  second-agrees : Agrees (state_of o (spaces_put slots thread guard from.cspace from.vspace) new) new
+  second-agrees : Agreed o (spaces_put slots thread guard from.cspace from.vspace) new
   unfolding one table
   second-agrees =
       let plain = root-plain (capability_at slots from.vspace) may.is_root in
       copy-agrees o one new new (vspace_slot thread) from.vspace (capability_at slots from.vspace) first-agrees (record { size = refl; bytes = λ place none. refl }) second-empty
       (may.derivation.valid from.vspace) plain.single plain.unmapped (ap object_named (sym table-still))
 
-  pub put-agrees : (now : Slots) → now ≡ spaces_put slots thread guard from.cspace from.vspace → Agrees (state_of o now new) new
-  put-agrees now is = subst (λ (n : Slots). Agrees (state_of o n new) new) (sym is) second-agrees
+  pub put-agrees : (now : Slots) → now ≡ spaces_put slots thread guard from.cspace from.vspace → Agreed o now new
+  put-agrees now is = subst (λ (n : Slots). Agreed o n new) (sym is) second-agrees
 
   both-closed : (slot : ℕ) → slots slot ≡ None → spaces_put slots thread guard from.cspace from.vspace slot ≡ None
   unfolding one
@@ -88,7 +90,11 @@ module _ (o : Tables) (slots : Slots) (old new : List ℕ) (thread : ℕ) (guard
 
   pub put-state : (now : Slots) → now ≡ spaces_put slots thread guard from.cspace from.vspace
       → state_of o now new ≡ with_slots (state_of o slots old) (spaces_put slots thread guard from.cspace from.vspace)
-  put-state now is = ap (λ (n : Slots). state_of o n new) is ∙ follows-law o slots (spaces_put slots thread guard from.cspace from.vspace) old new agrees same both-closed
+  put-state now is = ap (λ (n : Slots). state_of o n new) is ∙ follows-law o slots (spaces_put slots thread guard from.cspace from.vspace) old new agreed same both-closed
+
+  pub thread-still : (now : Slots) → now ≡ spaces_put slots thread guard from.cspace from.vspace → kind_at (state_of o slots old) thread ≡ Some NewThread
+      → kind_at (state_of o now new) thread ≡ Some NewThread
+  thread-still now is there = ap (λ (s : State). kind_at s thread) (put-state now is) ∙ there
 
   -- the state, once the thread has its fault address
   pub configured-state : (now : Slots) (t : State) (fault_address : ℕ) → now ≡ spaces_put slots thread guard from.cspace from.vspace
@@ -106,6 +112,7 @@ thread-agrees s t thread after old new agrees same is =
     (agrees-less s (with_thread s thread after) old new agrees
     (agree-beside s.slots old new agrees.tables (record {
       size = same.bytes.size;
-      bytes = λ table place named low high. same.bytes.bytes place (λ offset kind there kept. agrees.records table place offset kind named low high there kept);
+      bytes = λ table place named low high.
+          same.bytes.bytes place (agrees.frames table place named low high) (λ offset kind there kept. agrees.records table place offset kind named low high there kept);
     }))
     refl same.bytes.size (less-same s.slots) (λ place none. none) (λ offset kind at. sym (same.kinds offset) ∙ ap (λ (u : State). kind_at u offset) is ∙ at))

@@ -9,6 +9,7 @@ ghost use Rattle.model.specs.Kernel.Kinds.{kind_at};
 ghost use Rattle.model.specs.Kernel.Retype.{NewThread};
 ghost use Rattle.model.specs.Kernel.Soundness.{IsSound};
 ghost use Rattle.model.specs.Kernel.ThreadCalls.{configure};
+ghost use Rattle.objects.specs.Standing.{Standing};
 ghost use Rattle.objects.specs.Tables.{state_of};
 ghost use Rattle.tcb_ops.specs.Configuring.{MayConfigure, spaces_put};
 
@@ -53,12 +54,14 @@ pub fn configure<S: SlotStore>(
     requires there { kind_at (state_of objects.old (S.slots store.old) (S.memory store.old)) thread ≡ Some NewThread }
     requires agree { Agrees (state_of objects.old (S.slots store.old) (S.memory store.old)) (S.memory store.old) }
     requires sound { IsSound (state_of objects.old (S.slots store.old) (S.memory store.old)) }
+    requires stands { Standing objects.old (S.slots store.old) (S.memory store.old) }
     ensures outcome { GivesState
         (configure (state_of objects.old (S.slots store.old) (S.memory store.old)) root thread spaces.guard spaces.fault_address spaces.cspace spaces.vspace)
         result (state_of objects.new (S.slots store.new) (S.memory store.new)) }
     ensures unchanged { OnErr result (store.new ≡ store.old) }
     ensures same { OnErr result (objects.new ≡ objects.old) }
     ensures agree { Agrees (state_of objects.new (S.slots store.new) (S.memory store.new)) (S.memory store.new) }
+    ensures stands { Standing objects.new (S.slots store.new) (S.memory store.new) }
 {
     let from = named_sources(store, root, thread, spaces)?;
     put_spaces(store, thread, spaces.guard, from);

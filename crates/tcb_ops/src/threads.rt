@@ -8,6 +8,7 @@ ghost use Rattle.model.specs.Kernel.Retype.{NewThread};
 ghost use Rattle.model.specs.Kernel.ThreadCalls.{resume, set_priority, set_register, suspend};
 ghost use Rattle.model.specs.Machine.ProgramMemory.{write};
 ghost use Rattle.objects.specs.Frames.{SameObjects};
+ghost use Rattle.objects.specs.Standing.{Standing};
 ghost use Rattle.objects.specs.Tables.{state_of};
 
 use model::{KError, Register};
@@ -25,13 +26,15 @@ pub fn set_priority<S: SlotStore>(
     thread: u32,
     priority: u32,
 ) -> Result<(), KError>
-    requires { kind_at (state_of objects.old (S.slots store.old) (S.memory store.old)) thread ≡ Some NewThread }
+    requires there { kind_at (state_of objects.old (S.slots store.old) (S.memory store.old)) thread ≡ Some NewThread }
+    requires stands { Standing objects.old (S.slots store.old) (S.memory store.old) }
     ensures outcome { GivesState (set_priority (state_of objects.old (S.slots store.old) (S.memory store.old)) thread priority) result (state_of objects.new (S.slots store.new) (S.memory store.new)) }
     ensures unchanged { OnErr result (store.new ≡ store.old) }
     ensures same { OnErr result (objects.new ≡ objects.old) }
     ensures slots { S.slots store.new ≡ S.slots store.old }
     ensures bytes { SameObjects (state_of objects.old (S.slots store.old) (S.memory store.old)) (state_of objects.new (S.slots store.new) (S.memory store.new)) (S.memory store.old) (S.memory store.new) }
     ensures order { S.order store.new ≡ S.order store.old }
+    ensures stands { Standing objects.new (S.slots store.new) (S.memory store.new) }
 {
     if priority > 255 {
         return Err(KError::RangeError);
@@ -67,13 +70,15 @@ pub fn set_register<S: SlotStore>(
     index: u32,
     value: u32,
 ) -> Result<(), KError>
-    requires { kind_at (state_of objects.old (S.slots store.old) (S.memory store.old)) thread ≡ Some NewThread }
+    requires there { kind_at (state_of objects.old (S.slots store.old) (S.memory store.old)) thread ≡ Some NewThread }
+    requires stands { Standing objects.old (S.slots store.old) (S.memory store.old) }
     ensures outcome { GivesState (set_register (state_of objects.old (S.slots store.old) (S.memory store.old)) caller thread index value) result (state_of objects.new (S.slots store.new) (S.memory store.new)) }
     ensures unchanged { OnErr result (store.new ≡ store.old) }
     ensures same { OnErr result (objects.new ≡ objects.old) }
     ensures slots { S.slots store.new ≡ S.slots store.old }
     ensures bytes { SameObjects (state_of objects.old (S.slots store.old) (S.memory store.old)) (state_of objects.new (S.slots store.new) (S.memory store.new)) (S.memory store.old) (S.memory store.new) }
     ensures order { S.order store.new ≡ S.order store.old }
+    ensures stands { Standing objects.new (S.slots store.new) (S.memory store.new) }
 {
     if caller == Some(thread) {
         return Err(KError::IllegalOperation);
@@ -93,12 +98,14 @@ pub fn set_register<S: SlotStore>(
 ///
 /// seL4 Reference Manual, seL4_TCB_Resume.
 pub fn resume<S: SlotStore>(store: &mut S, objects: &mut Objects, thread: u32)
-    requires { kind_at (state_of objects.old (S.slots store.old) (S.memory store.old)) thread ≡ Some NewThread }
+    requires there { kind_at (state_of objects.old (S.slots store.old) (S.memory store.old)) thread ≡ Some NewThread }
+    requires stands { Standing objects.old (S.slots store.old) (S.memory store.old) }
     ensures state { state_of objects.new (S.slots store.new) (S.memory store.new)
         ≡ resume (state_of objects.old (S.slots store.old) (S.memory store.old)) thread }
     ensures slots { S.slots store.new ≡ S.slots store.old }
     ensures bytes { SameObjects (state_of objects.old (S.slots store.old) (S.memory store.old)) (state_of objects.new (S.slots store.new) (S.memory store.new)) (S.memory store.old) (S.memory store.new) }
     ensures order { S.order store.new ≡ S.order store.old }
+    ensures stands { Standing objects.new (S.slots store.new) (S.memory store.new) }
 {
     match objects.status(store, thread) {
         Status::Runnable => {}
@@ -113,12 +120,14 @@ pub fn resume<S: SlotStore>(store: &mut S, objects: &mut Objects, thread: u32)
 ///
 /// seL4 Reference Manual, seL4_TCB_Suspend.
 pub fn suspend<S: SlotStore>(store: &mut S, objects: &mut Objects, thread: u32)
-    requires { kind_at (state_of objects.old (S.slots store.old) (S.memory store.old)) thread ≡ Some NewThread }
+    requires there { kind_at (state_of objects.old (S.slots store.old) (S.memory store.old)) thread ≡ Some NewThread }
+    requires stands { Standing objects.old (S.slots store.old) (S.memory store.old) }
     ensures state { state_of objects.new (S.slots store.new) (S.memory store.new)
         ≡ suspend (state_of objects.old (S.slots store.old) (S.memory store.old)) thread }
     ensures slots { S.slots store.new ≡ S.slots store.old }
     ensures bytes { SameObjects (state_of objects.old (S.slots store.old) (S.memory store.old)) (state_of objects.new (S.slots store.new) (S.memory store.new)) (S.memory store.old) (S.memory store.new) }
     ensures order { S.order store.new ≡ S.order store.old }
+    ensures stands { Standing objects.new (S.slots store.new) (S.memory store.new) }
 {
     objects.leave(store, thread);
     objects.block(store, thread, Status::Inactive);

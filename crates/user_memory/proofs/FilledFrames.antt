@@ -1,7 +1,6 @@
 -- Bytes that are written into a frame are those that filling it gives.
 use Rattle.std.proofs.Common.{ℕ, ◌≡◌, ◌∙◌, ◌+◌, ◌-◌, ◌%◌, ◌^◌, ◌<◌, ◌≤◌, ◌&&◌, Bool, true, false, if◌then◌else◌, Option, Some, None, IsSome, option_map, List, length, refl, sym, ap, subst, arith}
 use Rattle.std.specs.Prelude.{nat_le, slice_index}
-use Rattle.std.specs.Option.{option_map_or}
 use Rattle.std.proofs.lemmas.Bool.{and_parts, leb-true}
 use Rattle.std.proofs.Math.Pow.{pow_mono}
 use Rattle.agreement.specs.Agreement.{Agrees}
@@ -16,10 +15,12 @@ use Rattle.model.specs.Kernel.Soundness.{IsSound}
 use Rattle.model.specs.Kernel.State.{Object, State, ThreadObject, EndpointObject, NotificationObject, CNodeObject, FrameObject, PageTableObject, RootTableObject}
 use Rattle.model.specs.declared.capabilities.Cap.{Cap}
 use Rattle.model.specs.declared.capabilities.Cap.TheVariants.{Empty, Untyped, Endpoint, Notification, CNode, Frame, PageTable, Tcb, RootTable, InterruptControl, InterruptHandler}
-use Rattle.objects.specs.Tables.{Tables, is_frame, record_in, state_of}
+use Rattle.objects.specs.Frames.{SameBesideFrames}
+use Rattle.objects.specs.Standing.{Standing}
+use Rattle.objects.specs.Tables.{Tables, state_of}
 use Rattle.soundness.proofs.Places.{object-inside}
 use Rattle.user_memory.proofs.Named.{place-outside}
-use Rattle.user_memory.proofs.Running.{content-agrees}
+use Rattle.user_memory.proofs.Stored.{own-bytes, stored-agrees, stored-stands, stored-state}
 use Rattle.user_memory.specs.Fills.{AreWritten}
 
 -- ---- the frame
@@ -94,51 +95,45 @@ pub not-filled : (s : State) (offset : ℕ) (bytes : List ℕ) → may_fill s of
 unfolding fill
 not-filled s offset bytes may_not = ap (λ b. if b then Some (with_first_bytes s offset bytes) else None) may_not
 
-filled-byte : (framed within : Bool) (byte old : ℕ) → (if framed then Some (if within then byte else old) else None)
-    ≡ (if within then option_map (λ _. byte) (if framed then Some old else None) else (if framed then Some old else None))
-filled-byte true true byte old = refl
-filled-byte true false byte old = refl
-filled-byte false true byte old = refl
-filled-byte false false byte old = refl
+filled-byte : (within : Bool) (b : Option ℕ) (byte old : ℕ) → option_map (λ _. old) b ≡ b
+    → option_map (λ _. if within then byte else old) b ≡ (if within then option_map (λ _. byte) b else b)
+filled-byte true b byte old own = refl
+filled-byte false b byte old own = own
 
-some-framed : (framed : Bool) (byte : ℕ) → IsSome (if framed then Some byte else None) → framed ≡ true
-some-framed true byte some = refl
-some-framed false byte some = absurd (let clash : false ≡ true = some in cc)
+module _ (o : Tables) (slots : Slots) (old new : List ℕ) (offset : ℕ) (bytes : List ℕ) (written : AreWritten old new offset (length bytes) bytes)
+    (agrees : Agrees (state_of o slots old) old) (sound : IsSound (state_of o slots old)) (stood : Standing o slots old)
+    (may : may_fill (state_of o slots old) offset (length bytes) ≡ true) where
+  abbrev before : State
+  before = state_of o slots old
 
-beside-filled : (framed within : Bool) (now byte old : ℕ) → now ≡ (if within then byte else old) → (within ≡ true → framed ≡ true)
-    → option_map_or (λ _. 0) (if framed then Some now else None) now ≡ option_map_or (λ _. 0) (if framed then Some old else None) old
-beside-filled true within now byte old is some = refl
-beside-filled false true now byte old is some = absurd (let clash : false ≡ true = some refl in cc)
-beside-filled false false now byte old is some = is
+  -- where no frame is, nothing is written
+  none-same : (place : ℕ) → before.bytes place ≡ None → slice_index new place ≡ slice_index old place
+  none-same place none =
+      written.bytes place ∙ elim (is_within offset (length bytes) place) as (λ b. is_within offset (length bytes) place ≡ b
+      → (if b then slice_index bytes (place - offset) else slice_index old place) ≡ slice_index old place) [
+        | true ↦ λ is.
+            let bounds = within-bounds offset (length bytes) place is in
+            let some = fill-some before old offset (length bytes) agrees sound may place bounds.0 bounds.1 in
+            let clash : IsSome {T = ℕ} None = subst (λ (b : Option ℕ). IsSome b) none some in
+            absurd cc
+        | false ↦ λ is. refl
+      ] refl
 
-module _ (o : Tables) (slots : Slots) (old new : List ℕ) (offset : ℕ) (bytes : List ℕ) (written : AreWritten old new offset (length bytes) bytes) where
-  abbrev in_frame : ℕ → Bool
-  in_frame place = option_map_or is_frame (record_in o.records (frame_around place)) false
+  same-frames : SameBesideFrames before old new
+  same-frames = record { size = written.size; bytes = none-same }
 
-  pub filled-state : state_of o slots new ≡ with_first_bytes (state_of o slots old) offset bytes
-  unfolding state_of
-  filled-state = λ i. record (state_of o slots old) {
-    bytes = λ place. (ap (λ byte. if in_frame place then Some byte else None) (written.bytes place)
-        ∙ filled-byte (in_frame place) (is_within offset (length bytes) place) (slice_index bytes (place - offset)) (slice_index old place)) i;
-  }
+  pub filled-state : state_of o slots new ≡ with_first_bytes before offset bytes
+  filled-state = stored-state o slots old new stood same-frames ∙ (λ i. record before {
+    bytes = λ place. (ap (λ (byte : ℕ). option_map (λ _. byte) (before.bytes place)) (written.bytes place)
+        ∙ filled-byte (is_within offset (length bytes) place) (before.bytes place) (slice_index bytes (place - offset)) (slice_index old place) (own-bytes o slots old place)) i;
+  })
 
-  pub fill-done : may_fill (state_of o slots old) offset (length bytes) ≡ true → fill (state_of o slots old) offset bytes ≡ Some (state_of o slots new)
+  pub fill-done : fill before offset bytes ≡ Some (state_of o slots new)
   unfolding fill
-  fill-done may = ap (λ b. if b then Some (with_first_bytes (state_of o slots old) offset bytes) else None) may ∙ ap Some (sym filled-state)
+  fill-done = ap (λ b. if b then Some (with_first_bytes before offset bytes) else None) may ∙ ap Some (sym filled-state)
 
-  module _ (agrees : Agrees (state_of o slots old) old) (sound : IsSound (state_of o slots old)) (may : may_fill (state_of o slots old) offset (length bytes) ≡ true) where
-    framed-within : (place : ℕ) → is_within offset (length bytes) place ≡ true → in_frame place ≡ true
-    unfolding state_of
-    framed-within place within =
-        let bounds = within-bounds offset (length bytes) place within in
-        some-framed (in_frame place) (slice_index old place) (fill-some (state_of o slots old) old offset (length bytes) agrees sound may place bounds.0 bounds.1)
+  pub fill-agrees : Agrees (state_of o slots new) new
+  fill-agrees = stored-agrees o slots old new stood same-frames agrees
 
-    beside-same : (place : ℕ) → option_map_or (λ _. 0) ((state_of o slots new).bytes place) (slice_index new place)
-        ≡ option_map_or (λ _. 0) ((state_of o slots old).bytes place) (slice_index old place)
-    unfolding state_of
-    beside-same place =
-        beside-filled (in_frame place) (is_within offset (length bytes) place) (slice_index new place) (slice_index bytes (place - offset)) (slice_index old place)
-        (written.bytes place) (framed-within place)
-
-    pub fill-agrees : Agrees (state_of o slots new) new
-    fill-agrees = content-agrees o slots old new agrees written.size beside-same
+  pub fill-stands : Standing o slots new
+  fill-stands = stored-stands o slots old new stood same-frames

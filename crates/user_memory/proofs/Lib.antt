@@ -2,6 +2,7 @@ pub mod FilledFrames
 pub mod Named
 pub mod Reading
 pub mod Running
+pub mod Stored
 pub mod Unchanged
 pub mod Words
 pub mod Writing

@@ -14,7 +14,7 @@ use Rattle.model.specs.declared.instructions.Access.{Access}
 use Rattle.model.specs.declared.instructions.PageFault.{PageFault}
 use Rattle.objects.specs.Tables.{Tables, state_of}
 use Rattle.user_memory.proofs.Named.{named-mapped, place-inside, place-outside, place-some}
-use Rattle.user_memory.proofs.Written.{byte-there}
+use Rattle.user_memory.proofs.Stored.{own-byte}
 use Rattle.user_memory.specs.Views.{IsUsable, content_under}
 use Rattle.vspace.proofs.Joins.{walk-place}
 
@@ -72,4 +72,4 @@ pub byte-seen : (o : Tables) (slots : Slots) (memory : List ℕ) (root : Option 
     → IsNamed (content_under (state_of o slots memory) root) place
     → slice_index memory place ≡ option_map_or (λ byte. byte) ((state_of o slots memory).bytes place) 0
 byte-seen o slots memory root place usable is =
-    sym (ap (λ b. option_map_or (λ byte. byte) b 0) (byte-there o slots memory place (named-some (state_of o slots memory) memory root usable place is)))
+    sym (ap (λ b. option_map_or (λ byte. byte) b 0) (own-byte o slots memory place (named-some (state_of o slots memory) memory root usable place is)))

@@ -1,5 +1,5 @@
 -- Memory under a thread's root table, in a sound state; and what is left once an instruction has run.
-use Rattle.std.proofs.Common.{ℕ, ◌≡◌, ◌∙◌, Bool, true, false, if◌then◌else◌, Option, Some, None, List, length, refl, sym, ap, subst}
+use Rattle.std.proofs.Common.{ℕ, ◌≡◌, ◌∙◌, Option, Some, None, List, refl, sym, ap, subst}
 use Rattle.std.specs.Prelude.{slice_index}
 use Rattle.std.specs.Option.{option_map_or}
 use Rattle.agreement.proofs.Agreeing.{agrees-less}
@@ -9,7 +9,7 @@ use Rattle.agreement.specs.Agreement.{Agrees}
 use Rattle.model.specs.Capabilities.CapabilityKinds.{root_of}
 use Rattle.model.specs.Capabilities.Slots.{Slots, capability_at}
 use Rattle.model.specs.Kernel.AddressSpaces.{vspace_of, with_content}
-use Rattle.model.specs.Kernel.Kinds.{frame_around, kind_at, object_named}
+use Rattle.model.specs.Kernel.Kinds.{kind_at, object_named}
 use Rattle.model.specs.Kernel.Messages.{with_registers}
 use Rattle.model.specs.Kernel.Retype.{NewFrame}
 use Rattle.model.specs.Kernel.Soundness.{IsSound}
@@ -17,12 +17,12 @@ use Rattle.model.specs.Kernel.State.{State, vspace_slot}
 use Rattle.model.specs.Machine.ProgramMemory.{Content, RegisterFile}
 use Rattle.model.specs.declared.capabilities.Cap.{Cap}
 use Rattle.model.specs.declared.capabilities.Cap.TheVariants.{Empty, Untyped, Endpoint, Notification, CNode, Frame, PageTable, Tcb, RootTable, InterruptControl, InterruptHandler}
-use Rattle.objects.specs.Frames.{SameObjects}
-use Rattle.objects.specs.Tables.{Tables, is_frame, record_in, state_of}
+use Rattle.objects.specs.Frames.{SameBesideFrames, SameObjects}
+use Rattle.objects.specs.Standing.{Standing}
+use Rattle.objects.specs.Tables.{Tables, state_of}
 use Rattle.soundness.proofs.Carried.{full-near}
+use Rattle.user_memory.proofs.Stored.{content-left, hidden-same, stored-agrees, stored-stands}
 use Rattle.user_memory.specs.Views.{Beside, IsUsable, beside_of, content_under}
-use Rattle.vspace.proofs.AgreementSlots.{agree-beside}
-use Rattle.vspace.specs.Tables.{TablesAgree}
 
 -- ---- before
 
@@ -50,51 +50,6 @@ usable-first s memory thread root agrees sound of_thread = record {
 
 -- ---- afterwards
 
--- a byte that is there is what the program sees
-seen-byte : (b : Bool) (now old byte : ℕ) → byte ≡ option_map_or (λ byte. byte) (if b then Some now else None) 0
-    → (if b then Some now else None) ≡ option_map_or (λ _. Some byte) (if b then Some old else None) None
-seen-byte true now old byte seen = ap Some (sym seen)
-seen-byte false now old byte seen = refl
-
-none-same : (b : Bool) (now old : ℕ) → (if b then Some old else None) ≡ None
-    → option_map_or (λ _. 0) (if b then Some now else None) now ≡ option_map_or (λ _. 0) (if b then Some old else None) old → now ≡ old
-none-same true now old none same = absurd (let clash : Some old ≡ None = none in cc)
-none-same false now old none same = same
-
-module _ (o : Tables) (slots : Slots) (old new : List ℕ) where
-  abbrev in_frame : ℕ → Bool
-  in_frame place = option_map_or is_frame (record_in o.records (frame_around place)) false
-
-  content-left : (content : Content) → ((place : ℕ) → content.byte place ≡ option_map_or (λ byte. byte) ((state_of o slots new).bytes place) 0)
-      → state_of o slots new ≡ with_content (state_of o slots old) content
-  unfolding state_of
-  content-left content sees = λ i. record (state_of o slots old) {
-    bytes = λ place. seen-byte (in_frame place) (slice_index new place) (slice_index old place) (content.byte place) (sees place) i;
-  }
-
-  module _ (agrees : Agrees (state_of o slots old) old) (size : length new ≡ length old)
-      (same : (place : ℕ) → option_map_or (λ _. 0) ((state_of o slots new).bytes place) (slice_index new place)
-      ≡ option_map_or (λ _. 0) ((state_of o slots old).bytes place) (slice_index old place)) where
-    outside-same : (place : ℕ) → (state_of o slots old).bytes place ≡ None → slice_index new place ≡ slice_index old place
-    unfolding state_of
-    outside-same place none = none-same (in_frame place) (slice_index new place) (slice_index old place) none (same place)
-
-    tables-left : TablesAgree slots new
-    unfolding state_of
-    tables-left = agree-beside slots old new agrees.tables (record {
-      size = size;
-      bytes = λ table place named low high. outside-same place (agrees.frames table place named low high);
-    })
-
-    none-left : (b : Bool) (now before : ℕ) → (if b then Some before else None) ≡ None → (if b then Some now else None) ≡ None
-    none-left true now before none = absurd (let clash : Some before ≡ None = none in cc)
-    none-left false now before none = refl
-
-    pub content-agrees : Agrees (state_of o slots new) new
-    unfolding state_of
-    content-agrees = agrees-less (state_of o slots old) (state_of o slots new) old new agrees tables-left refl size (less-same slots)
-        (λ place none. none-left (in_frame place) (slice_index new place) (slice_index old place) none) (λ offset kind is. is)
-
 -- in the words of a view that was lent the store
 module _ (o now : Tables) (slots after : Slots) (old new : List ℕ) (root left : Option ℕ) (store gone : ℕ)
     (kept : beside_of now after new left gone ≡ beside_of o slots old root store) where
@@ -110,15 +65,23 @@ module _ (o now : Tables) (slots after : Slots) (old new : List ℕ) (root left 
   own-state : state_of o after new ≡ state_of o slots new
   own-state = ap (λ (n : Slots). state_of o n new) slots-kept
 
-  pub state-left : (content : Content) → content_under (state_of now after new) left ≡ content → state_of o after new ≡ with_content (state_of o slots old) content
-  state-left content sees = own-state ∙ content-left o slots old new content
-      (λ place. sym (ap (λ (c : Content). c.byte place) sees) ∙ ap (λ (x : State). option_map_or (λ byte. byte) (x.bytes place) 0) same-state)
+  module _ (stood : Standing o slots old) where
+    same-frames : SameBesideFrames (state_of o slots old) old new
+    same-frames = record {
+      size = ap (λ (b : Beside). b.size) kept;
+      bytes = hidden-same o slots old new
+          (λ place. sym (ap (λ (x : State). option_map_or (λ _. None) (x.bytes place) (Some (slice_index new place))) same-state) ∙ ap (λ (b : Beside). b.bytes place) kept);
+    }
 
-  pub agrees-left : Agrees (state_of o slots old) old → Agrees (state_of o after new) new
-  agrees-left agrees =
-      subst (λ (x : State). Agrees x new) (sym own-state)
-      (content-agrees o slots old new agrees (ap (λ (b : Beside). b.size) kept)
-      (λ place. sym (ap (λ (x : State). option_map_or (λ _. 0) (x.bytes place) (slice_index new place)) same-state) ∙ ap (λ (b : Beside). b.bytes place) kept))
+    pub state-left : (content : Content) → content_under (state_of now after new) left ≡ content → state_of o after new ≡ with_content (state_of o slots old) content
+    state-left content sees = own-state ∙ content-left o slots old new stood same-frames content
+        (λ place. sym (ap (λ (c : Content). c.byte place) sees) ∙ ap (λ (x : State). option_map_or (λ byte. byte) (x.bytes place) 0) same-state)
+
+    pub agrees-left : Agrees (state_of o slots old) old → Agrees (state_of o after new) new
+    agrees-left agrees = subst (λ (x : State). Agrees x new) (sym own-state) (stored-agrees o slots old new stood same-frames agrees)
+
+    pub stands-left : Standing o after new
+    stands-left = subst (λ (n : Slots). Standing o n new) (sym slots-kept) (stored-stands o slots old new stood same-frames)
 
 -- what the store is once the view is gone
 pub in-the-end : {W : Type 0} (claim : W → Type 0) (last seen : W) (store gone : ℕ) → (store ≡ gone → last ≡ seen) → store ≡ gone → claim seen → claim last

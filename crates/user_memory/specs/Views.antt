@@ -1,6 +1,6 @@
 -- Memory under a root table, and what is true of it.
 -- seL4 Reference Manual, "Address Spaces and Virtual Memory".
-use Rattle.std.specs.Prelude.{ℕ, ◌≡◌, IsSome, Option, Some, List, length, option_and_then, slice_index}
+use Rattle.std.specs.Prelude.{ℕ, ◌≡◌, IsSome, Option, Some, None, List, length, option_and_then, slice_index}
 use Rattle.std.specs.Option.{option_map_or}
 use Rattle.agreement.specs.Agreement.{Agrees}
 use Rattle.model.specs.Capabilities.Slots.{Slots, capability_at}
@@ -34,7 +34,7 @@ pub record Beside : Type 0 where
   pub objects : Tables
   pub slots : Slots
   pub root : Option ℕ
-  pub bytes : ℕ → ℕ
+  pub bytes : ℕ → Option ℕ
   pub size : ℕ
   pub store : ℕ
 
@@ -44,7 +44,7 @@ beside_of o slots memory root store = record {
   objects = o;
   slots = slots;
   root = root;
-  bytes = λ place. option_map_or (λ _. 0) ((state_of o slots memory).bytes place) (slice_index memory place);
+  bytes = λ place. option_map_or (λ _. None) ((state_of o slots memory).bytes place) (Some (slice_index memory place));
   size = length memory;
   store = store;
 }

@@ -13,6 +13,7 @@ ghost use Rattle.model.specs.Machine.Instructions.{IsInstr};
 ghost use Rattle.model.specs.Machine.ProgramMemory.{loaded};
 ghost use Rattle.model.specs.declared.instructions.Access.TheVariants.{Fetch};
 ghost use Rattle.model.specs.declared.instructions.AccessSize.TheVariants.{Word};
+ghost use Rattle.objects.specs.Standing.{Standing};
 ghost use Rattle.objects.specs.Tables.{state_of};
 
 use crate::roots::root_of;
@@ -55,6 +56,7 @@ fn run<S: SlotStore>(
 ) -> Exec
     requires instruction { IsInstr instruction }
     requires agree { Agrees (state_of objects.now (S.slots store.old) (S.memory store.old)) (S.memory store.old) }
+    requires stands { Standing objects.now (S.slots store.old) (S.memory store.old) }
     requires sound { IsSound (state_of objects.now (S.slots store.old) (S.memory store.old)) }
     ensures outcome { result ≡ (effect registers.old (content_of (state_of objects.now (S.slots store.old) (S.memory store.old)) thread) instruction).exec }
     ensures registers { registers.new ≡ (effect registers.old (content_of (state_of objects.now (S.slots store.old) (S.memory store.old)) thread) instruction).registers }
@@ -62,6 +64,7 @@ fn run<S: SlotStore>(
         ≡ with_content (state_of objects.now (S.slots store.old) (S.memory store.old))
         (effect registers.old (content_of (state_of objects.now (S.slots store.old) (S.memory store.old)) thread) instruction).content }
     ensures agree { Agrees (state_of objects.now (S.slots store.new) (S.memory store.new)) (S.memory store.new) }
+    ensures stands { Standing objects.now (S.slots store.new) (S.memory store.new) }
 {
     let root = root_of(store, thread);
     let mut memory = UserMemory {
@@ -83,6 +86,7 @@ pub fn execute<S: SlotStore>(
     requires instruction { IsInstr instruction }
     requires there { kind_at (state_of objects.old (S.slots store.old) (S.memory store.old)) thread ≡ Some NewThread }
     requires agree { Agrees (state_of objects.old (S.slots store.old) (S.memory store.old)) (S.memory store.old) }
+    requires stands { Standing objects.old (S.slots store.old) (S.memory store.old) }
     requires sound { IsSound (state_of objects.old (S.slots store.old) (S.memory store.old)) }
     ensures outcome { result ≡ (effect (thread_at (state_of objects.old (S.slots store.old) (S.memory store.old)) thread).registers
         (content_of (state_of objects.old (S.slots store.old) (S.memory store.old)) thread) instruction).exec }
@@ -91,6 +95,7 @@ pub fn execute<S: SlotStore>(
         state_of objects.new (S.slots store.new) (S.memory store.new) ≡ with_content (with_registers s thread after.registers) after.content }
     ensures unchanged { result ≢ Exec.Next → state_of objects.new (S.slots store.new) (S.memory store.new) ≡ state_of objects.old (S.slots store.old) (S.memory store.old) }
     ensures agree { Agrees (state_of objects.new (S.slots store.new) (S.memory store.new)) (S.memory store.new) }
+    ensures stands { Standing objects.new (S.slots store.new) (S.memory store.new) }
 {
     let mut registers = objects.registers(store, thread);
     let outcome = run(store, objects, thread, &mut registers, instruction);

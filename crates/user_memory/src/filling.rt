@@ -6,6 +6,7 @@ ghost use Rattle.model.specs.Capabilities.Slots.{OutsideSlots};
 ghost use Rattle.model.specs.Kernel.AddressSpaces.{page_size};
 ghost use Rattle.model.specs.Kernel.Setup.{fill, is_frame_object};
 ghost use Rattle.model.specs.Kernel.Soundness.{IsSound};
+ghost use Rattle.objects.specs.Standing.{Standing};
 ghost use Rattle.objects.specs.Tables.{state_of};
 ghost use Rattle.user_memory.specs.Fills.{AreWritten};
 
@@ -42,10 +43,12 @@ fn may_fill<S: SlotStore>(store: &S, objects: &Objects, offset: u32, bytes: &[u8
 pub fn fill<S: SlotStore>(store: &mut S, objects: &Objects, offset: u32, bytes: &[u8]) -> bool
     requires agree { Agrees (state_of objects.now (S.slots store.old) (S.memory store.old)) (S.memory store.old) }
     requires sound { IsSound (state_of objects.now (S.slots store.old) (S.memory store.old)) }
+    requires stands { Standing objects.now (S.slots store.old) (S.memory store.old) }
     ensures outcome { fill (state_of objects.now (S.slots store.old) (S.memory store.old)) offset bytes.now
         ≡ (if result then Some (state_of objects.now (S.slots store.new) (S.memory store.new)) else None) }
     ensures unchanged { result ≡ false → store.new ≡ store.old }
     ensures agree { Agrees (state_of objects.now (S.slots store.new) (S.memory store.new)) (S.memory store.new) }
+    ensures stands { Standing objects.now (S.slots store.new) (S.memory store.new) }
 {
     if !may_fill(store, objects, offset, bytes) {
         return false;

@@ -1,6 +1,7 @@
 //! Memory as the instructions of a thread see it.
 
 ghost use Rattle.std.specs.Prelude.{◌≡◌};
+ghost use Rattle.objects.specs.Standing.{Standing};
 ghost use Rattle.objects.specs.Tables.{state_of};
 ghost use Rattle.user_memory.specs.Views.{Beside, IsUsable, beside_of, content_under};
 
@@ -17,6 +18,7 @@ pub(crate) struct UserMemory<'s, 'o, S: SlotStore> {
     pub(crate) objects: &'o Objects,
     pub(crate) root: Option<u32>,
     ghost usable: { ∥ IsUsable (state_of objects.now (S.slots store.now) (S.memory store.now)) (S.memory store.now) root ∥₁ },
+    ghost stands: { Standing objects.now (S.slots store.now) (S.memory store.now) },
 }
 
 impl<S: SlotStore> UserMemory<'_, '_, S> {

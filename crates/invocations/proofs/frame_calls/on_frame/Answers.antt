@@ -19,7 +19,7 @@ map_frame-requires-clause-valid g c =
     (may-call c.args.kernel.now (g.S.SlotMap.slots c.args.store.now) (g.S.SlotStore.memory c.args.store.now) (call_of c.args.call) c.requires.whole c.requires.call).root
 
 pub map_frame-requires-clause-agree : goal.map_frame-requires-clause-agree
-map_frame-requires-clause-agree g c = own-tables c.args.kernel.now (g.S.SlotMap.slots c.args.store.now) (g.S.SlotStore.memory c.args.store.now) c.requires.whole.agrees
+map_frame-requires-clause-agree g c = own-tables c.args.kernel.now (g.S.SlotMap.slots c.args.store.now) (g.S.SlotStore.memory c.args.store.now) (c.requires.whole.agrees, c.requires.whole.stands)
 
 pub map_frame-requires-clause-held : goal.map_frame-requires-clause-held
 map_frame-requires-clause-held g c =
@@ -56,7 +56,7 @@ returns-in-MapFrame-clause-whole g c =
     e.capability c.map_frame.ensures.bytes c.map_frame.ensures.agree c.map_frame.ensures.unchanged c.map_frame.ensures.outcome).1
 
 pub unmap-requires : goal.unmap-requires
-unmap-requires g c = record { agree = c.requires.whole.agrees }
+unmap-requires g c = record { agree = (c.requires.whole.agrees, c.requires.whole.stands) }
 
 pub returns-in-UnmapFrame-clause-outcome : goal.returns-in-UnmapFrame-clause-outcome
 returns-in-UnmapFrame-clause-outcome g c =

@@ -44,7 +44,7 @@ returns-in-Acknowledge-clause-whole g c =
     kept-whole slots memory c.args.kernel.now c.ack.new.objects store now (acknowledge s c.args.line) c.requires.whole
     (subst (λ (o : Tables). t ≡ acknowledge (state_of o (slots store) (memory store)) c.args.line) c.kernel.view_is c.ack.ensures.state)
     (record { sound = acknowledge-whole s c.args.line c.requires.whole.sound; bits = (acknowledge-machine s c.args.line).memory_bits })
-    c.ack.ensures.slots (subst (λ (o : Tables). SameObjects (state_of o (slots store) (memory store)) t (memory store) (memory now)) c.kernel.view_is c.ack.ensures.bytes)
+    c.ack.ensures.slots (subst (λ (o : Tables). SameObjects (state_of o (slots store) (memory store)) t (memory store) (memory now)) c.kernel.view_is c.ack.ensures.bytes) c.ack.ensures.stands
 
 pub returns-in-SetNotification-clause-outcome : goal.returns-in-SetNotification-clause-outcome
 returns-in-SetNotification-clause-outcome g c =

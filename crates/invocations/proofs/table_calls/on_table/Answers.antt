@@ -19,7 +19,7 @@ map_table-requires-clause-valid g c =
     (may-call c.args.kernel.now (g.S.SlotMap.slots c.args.store.now) (g.S.SlotStore.memory c.args.store.now) (call_of c.args.call) c.requires.whole c.requires.call).root
 
 pub map_table-requires-clause-agree : goal.map_table-requires-clause-agree
-map_table-requires-clause-agree g c = own-tables c.args.kernel.now (g.S.SlotMap.slots c.args.store.now) (g.S.SlotStore.memory c.args.store.now) c.requires.whole.agrees
+map_table-requires-clause-agree g c = own-tables c.args.kernel.now (g.S.SlotMap.slots c.args.store.now) (g.S.SlotStore.memory c.args.store.now) (c.requires.whole.agrees, c.requires.whole.stands)
 
 pub map_table-requires-clause-held : goal.map_table-requires-clause-held
 map_table-requires-clause-held g c =
@@ -48,7 +48,7 @@ returns-in-MapTable-clause-whole g c =
     e.capability c.map_table.ensures.bytes c.map_table.ensures.agree c.map_table.ensures.unchanged c.map_table.ensures.outcome).1
 
 pub unmap-requires : goal.unmap-requires
-unmap-requires g c = record { agree = c.requires.whole.agrees }
+unmap-requires g c = record { agree = (c.requires.whole.agrees, c.requires.whole.stands) }
 
 pub returns-in-UnmapTable-clause-outcome : goal.returns-in-UnmapTable-clause-outcome
 returns-in-UnmapTable-clause-outcome g c =

@@ -23,4 +23,4 @@ returns-clause-whole g c =
     still-whole g.S.SlotMap.slots g.S.SlotStore.memory _ c.configure.result c.args.store.now c.configure.new.store c.args.objects.now c.configure.new.objects c.requires.whole
     c.configure.ensures.outcome c.configure.ensures.unchanged c.configure.ensures.same
     (λ t is. configure-whole s t c.args.call.root c.args.thread k.guard k.fault_address k.cspace k.vspace c.requires.whole.sound c.requires.call.root
-    (thread-there s (call_of c.args.call) c.args.thread c.requires.whole.sound c.requires.call c.requires.applies) (omega arith) is) c.configure.ensures.agree
+    (thread-there s (call_of c.args.call) c.args.thread c.requires.whole.sound c.requires.call c.requires.applies) (omega arith) is) (c.configure.ensures.agree, c.configure.ensures.stands)

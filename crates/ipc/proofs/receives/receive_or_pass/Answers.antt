@@ -1,8 +1,7 @@
 -- The first sender is served.
-use Rattle.ipc.proofs.Taken.{received-from}
+use Rattle.ipc.proofs.Taken.{calls-then, received-from}
 use Rattle.ipc.proofs.receives.receive_or_pass.Goals as goal
 use Rattle.model.specs.Kernel.Messages.{deliver_word}
-use Rattle.objects.proofs.Frames.{objects-then}
 use Rattle.objects.specs.Tables.{state_of}
 use Rattle.objects.specs.Threads.{sender_of}
 
@@ -13,4 +12,4 @@ returns-in-Some-clause-state g c =
     c.in-Some.ensures.state c.receive_from.ensures.state
 
 pub returns-in-Some-clause-bytes : goal.returns-in-Some-clause-bytes
-returns-in-Some-clause-bytes g c = objects-then _ _ _ _ _ _ c.take_sender.ensures.bytes c.receive_from.ensures.bytes
+returns-in-Some-clause-bytes g c = calls-then _ _ _ _ _ _ c.take_sender.ensures.bytes c.receive_from.ensures.bytes

@@ -1,8 +1,9 @@
--- The first sender is served.
-use Rattle.ipc.proofs.Taken.{received-from}
+-- The first sender is served, or nobody sends.
+use Rattle.std.proofs.Common.{◌∙◌, ap}
+use Rattle.ipc.proofs.Taken.{calls-then, received-from}
 use Rattle.ipc.proofs.receives.receive_or_wait.Goals as goal
 use Rattle.model.specs.Kernel.Messages.{waits_to_receive}
-use Rattle.objects.proofs.Frames.{objects-then}
+use Rattle.model.specs.Kernel.State.{State, endpoint_at}
 use Rattle.objects.specs.Tables.{state_of}
 use Rattle.objects.specs.Threads.{sender_of}
 
@@ -13,4 +14,8 @@ returns-in-Some-clause-state g c =
     c.in-Some.ensures.state c.receive_from.ensures.state
 
 pub returns-in-Some-clause-bytes : goal.returns-in-Some-clause-bytes
-returns-in-Some-clause-bytes g c = objects-then _ _ _ _ _ _ c.take_sender.ensures.bytes c.receive_from.ensures.bytes
+returns-in-Some-clause-bytes g c = calls-then _ _ _ _ _ _ c.take_sender.ensures.bytes c.receive_from.ensures.bytes
+
+pub wait_to_receive-requires-clause-alone : goal.wait_to_receive-requires-clause-alone
+wait_to_receive-requires-clause-alone g c =
+    ap (λ (s : State). (endpoint_at s c.args.endpoint).senders) c.in-None.ensures.state.state ∙ c.in-None.ensures.state.none

@@ -1,9 +1,9 @@
 -- The first receiver gets the message, or the sender waits.
-use Rattle.std.proofs.Common.{◌∙◌}
+use Rattle.std.proofs.Common.{◌∙◌, ap}
 use Rattle.ipc.proofs.Premises.{nowhere-still, one-sided, runs-nowhere, runs-there}
-use Rattle.ipc.proofs.Taken.{sent-to}
+use Rattle.ipc.proofs.Taken.{calls-then, sent-to}
 use Rattle.ipc.proofs.sends.send.Goals as goal
-use Rattle.objects.proofs.Frames.{objects-then}
+use Rattle.model.specs.Kernel.State.{State, endpoint_at}
 use Rattle.objects.specs.Tables.{state_of}
 use Rattle.objects.specs.Threads.{sender_of}
 
@@ -13,7 +13,7 @@ returns-in-Some-clause-state g c =
     c.in-Some.receiver c.in-Some.ensures.state c.send_to.ensures.state
 
 pub returns-in-Some-clause-bytes : goal.returns-in-Some-clause-bytes
-returns-in-Some-clause-bytes g c = objects-then _ _ _ _ _ _ c.take_receiver.ensures.bytes c.send_to.ensures.bytes
+returns-in-Some-clause-bytes g c = calls-then _ _ _ _ _ _ c.take_receiver.ensures.bytes c.send_to.ensures.bytes
 
 pub take_receiver-requires-clause-one_sided : goal.take_receiver-requires-clause-one_sided
 take_receiver-requires-clause-one_sided g c =
@@ -34,3 +34,7 @@ pub wait_to_send-requires-clause-apart : goal.wait_to_send-requires-clause-apart
 wait_to_send-requires-clause-apart g c =
     let before = state_of c.args.objects.now (g.S.SlotMap.slots c.args.store.now) (g.S.SlotStore.memory c.args.store.now) in
     nowhere-still before _ c.args.thread c.in-None.ensures.state.state (runs-nowhere before c.args.thread c.requires.sound c.requires.runs)
+
+pub wait_to_send-requires-clause-alone : goal.wait_to_send-requires-clause-alone
+wait_to_send-requires-clause-alone g c =
+    ap (λ (s : State). (endpoint_at s c.args.endpoint).receivers) c.in-None.ensures.state.state ∙ c.in-None.ensures.state.none

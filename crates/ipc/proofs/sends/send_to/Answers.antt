@@ -1,10 +1,10 @@
 -- The receiver gets the message and runs, and the sender does what it does.
 use Rattle.std.proofs.Common.{◌∙◌, ap}
+use Rattle.ipc.proofs.Taken.{calls-then}
 use Rattle.ipc.proofs.sends.send_to.Goals as goal
 use Rattle.model.specs.Kernel.Messages.{deliver, received}
 use Rattle.model.specs.Kernel.Scheduling.{wake}
 use Rattle.model.specs.Kernel.State.{State}
-use Rattle.objects.proofs.Frames.{objects-then}
 use Rattle.objects.specs.Tables.{state_of}
 use Rattle.objects.specs.Threads.{sender_of, sent_of}
 
@@ -18,4 +18,4 @@ returns-clause-state g c =
     (c.deliver.ensures.state ∙ ap (deliver before c.args.receiver c.args.sender.sending.badge) c.message_sent-message.ensures))
 
 pub returns-clause-bytes : goal.returns-clause-bytes
-returns-clause-bytes g c = objects-then _ _ _ _ _ _ c.deliver.ensures.bytes (objects-then _ _ _ _ _ _ c.wake.ensures.bytes c.received.ensures.bytes)
+returns-clause-bytes g c = calls-then _ _ _ _ _ _ c.deliver.ensures.bytes (calls-then _ _ _ _ _ _ c.wake.ensures.bytes c.received.ensures.bytes)

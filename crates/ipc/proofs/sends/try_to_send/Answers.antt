@@ -1,9 +1,8 @@
 -- The first receiver gets the message, or it is dropped.
 use Rattle.std.proofs.Common.{◌∙◌}
 use Rattle.ipc.proofs.Premises.{one-sided, runs-there}
-use Rattle.ipc.proofs.Taken.{tried-to}
+use Rattle.ipc.proofs.Taken.{calls-then, tried-to}
 use Rattle.ipc.proofs.sends.try_to_send.Goals as goal
-use Rattle.objects.proofs.Frames.{objects-then}
 use Rattle.objects.specs.Tables.{state_of}
 use Rattle.objects.specs.Threads.{sender_of}
 
@@ -13,7 +12,7 @@ returns-in-Some-clause-state g c =
     c.in-Some.receiver c.in-Some.ensures.state c.send_to.ensures.state
 
 pub returns-in-Some-clause-bytes : goal.returns-in-Some-clause-bytes
-returns-in-Some-clause-bytes g c = objects-then _ _ _ _ _ _ c.take_receiver.ensures.bytes c.send_to.ensures.bytes
+returns-in-Some-clause-bytes g c = calls-then _ _ _ _ _ _ c.take_receiver.ensures.bytes c.send_to.ensures.bytes
 
 pub take_receiver-requires-clause-one_sided : goal.take_receiver-requires-clause-one_sided
 take_receiver-requires-clause-one_sided g c =

@@ -46,4 +46,5 @@ objects-preserved g c =
       place =
           ap (λ (n : ℕ). c.objects.place + n) size ∙ ap (λ (p : ℕ). p + 2 ^ object_bits (new_type c.args.new.kind)) c.objects.invariant.place
           ∙ next-place c.args.new.first (2 ^ object_bits (new_type c.args.new.kind)) c.objects.index;
+      stands = c.make_one.ensures.stands;
     }

@@ -3,4 +3,4 @@ use Rattle.objects.proofs.Following.{follows}
 use Rattle.objects.proofs.laws.a_state_follows_its_slots.Goals as goal
 
 pub returns : goal.returns
-returns c = λ o slots now old new. follows o slots old new now
+returns c = follows

@@ -9,4 +9,5 @@ pub returns-clause-whole : goal.returns-clause-whole
 returns-clause-whole g c = record {
   sound = subst (λ (s : State). IsSound s) (sym c.execute.ensures.state) (goes-sound _ c.args.thread c.args.instruction c.requires.whole.sound c.requires.runs c.requires.instruction);
   agrees = c.execute.ensures.agree;
+  stands = c.execute.ensures.stands;
 }

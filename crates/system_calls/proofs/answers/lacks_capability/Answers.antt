@@ -13,6 +13,6 @@ small false = omega arith
 
 pub returns-clause-whole : goal.returns-clause-whole
 returns-clause-whole g c =
-    kept _ _ (lacks_capability (state_of c.args.objects.now (g.S.SlotMap.slots c.args.store.now) (g.S.SlotStore.memory c.args.store.now)) c.args.thread (if c.args.in_receive then 1 else 0) c.args.failure).0 _ _ c.requires.whole (search rules)
+    kept _ _ _ _ _ _ (lacks_capability (state_of c.args.objects.now (g.S.SlotMap.slots c.args.store.now) (g.S.SlotStore.memory c.args.store.now)) c.args.thread (if c.args.in_receive then 1 else 0) c.args.failure).0 c.requires.whole (search rules)
     (lacks-whole _ c.args.thread c.requires.whole.sound c.requires.runs _ c.args.failure (small c.args.in_receive) c.requires.few)
-    (fault-machine _ c.args.thread _) c.raise_fault.ensures.bytes
+    (fault-machine _ c.args.thread _) c.raise_fault.ensures.bytes c.raise_fault.ensures.stands

@@ -9,6 +9,6 @@ use Rattle.system_calls.proofs.answers.unknown_call.Goals as goal
 
 pub returns-clause-whole : goal.returns-clause-whole
 returns-clause-whole g c =
-    kept _ _ (calls_known (state_of c.args.objects.now (g.S.SlotMap.slots c.args.store.now) (g.S.SlotStore.memory c.args.store.now)) c.args.thread c.args.number None).0 _ _ c.requires.whole (search rules)
+    kept _ _ _ _ _ _ (calls_known (state_of c.args.objects.now (g.S.SlotMap.slots c.args.store.now) (g.S.SlotStore.memory c.args.store.now)) c.args.thread c.args.number None).0 c.requires.whole (search rules)
     (unknown-whole _ c.args.thread c.requires.whole.sound c.requires.runs c.args.number c.ranges.number.fits)
-    (fault-machine _ c.args.thread _) c.raise_fault.ensures.bytes
+    (fault-machine _ c.args.thread _) c.raise_fault.ensures.bytes c.raise_fault.ensures.stands

@@ -10,8 +10,8 @@ use Rattle.system_calls.proofs.replies.reply.Goals as goal
 
 pub returns-clause-whole : goal.returns-clause-whole
 returns-clause-whole g c =
-    kept _ _ _ _ _ c.requires.whole c.reply.ensures.state (reply-whole _ c.args.thread c.requires.whole.sound c.requires.runs.kind)
-    (reply-machine _ c.args.thread) c.reply.ensures.bytes
+    kept _ _ _ _ _ _ _ c.requires.whole c.reply.ensures.state (reply-whole _ c.args.thread c.requires.whole.sound c.requires.runs.kind)
+    (reply-machine _ c.args.thread) c.reply.ensures.bytes c.reply.ensures.stands
 
 pub returns-clause-runs : goal.returns-clause-runs
 returns-clause-runs g c =

@@ -12,8 +12,8 @@ use Rattle.system_calls.proofs.sends.give_signal.Goals as goal
 
 pub returns-clause-whole : goal.returns-clause-whole
 returns-clause-whole g c =
-    kept _ _ _ _ _ c.requires.whole c.signal.ensures.state (signal-whole _ c.args.notification c.requires.whole.sound c.requires.notification c.args.badge c.requires.small)
-    (signal-machine _ c.args.notification c.args.badge) c.signal.ensures.bytes
+    kept _ _ _ _ _ _ _ c.requires.whole c.signal.ensures.state (signal-whole _ c.args.notification c.requires.whole.sound c.requires.notification c.args.badge c.requires.small)
+    (signal-machine _ c.args.notification c.args.badge) c.signal.ensures.bytes c.signal.ensures.stands
 
 pub returns-clause-runs : goal.returns-clause-runs
 returns-clause-runs g c =

@@ -14,10 +14,12 @@ open_range-requires-clause-within c =
 
 pub invariant_of-result : goal.invariant_of-result
 invariant_of-result c =
-    boot-whole c.args.bits c.args.radix _ c.requires.least_bits c.requires.most_bits c.requires.least_radix c.requires.most_radix c.requires.room
-    (sym (c.open_range.ensures.bytes.size ∙ ap (λ (l : List ℕ). length l) c.in_ok-store.ensures.bytes ∙ length-replicate {A = ℕ} (2 ^ c.args.bits) 0))
-    (fresh-state c.args.bits c.args.radix c.in_ok-objects.objects _ _ c.open_range.new.self.0 c.requires.most_radix c.in_ok-objects.ensures c.in_ok-store.ensures.slots c.new-3.result c.new-3.ensures c.open_range.ensures.slots)
+    let size : 2 ^ c.args.bits ≡ length c.open_range.new.self.0 =
+    sym (c.open_range.ensures.bytes.size ∙ ap (λ (l : List ℕ). length l) c.in_ok-store.ensures.bytes ∙ length-replicate {A = ℕ} (2 ^ c.args.bits) 0) in
+    boot-whole c.args.bits c.args.radix _ c.requires.least_bits c.requires.most_bits c.requires.least_radix c.requires.most_radix c.requires.room size
+    (fresh-state c.args.bits c.args.radix c.in_ok-objects.objects _ _ c.open_range.new.self.0 c.requires.most_radix c.in_ok-objects.ensures.state c.in_ok-store.ensures.slots c.new-3.result c.new-3.ensures c.open_range.ensures.slots)
+    (c.in_ok-objects.ensures.stands _ c.open_range.new.self.0 size)
 
 pub returns : goal.returns
 returns c =
-    fresh-state c.args.bits c.args.radix c.in_ok-objects.objects _ _ c.open_range.new.self.0 c.requires.most_radix c.in_ok-objects.ensures c.in_ok-store.ensures.slots c.new-3.result c.new-3.ensures c.open_range.ensures.slots
+    fresh-state c.args.bits c.args.radix c.in_ok-objects.objects _ _ c.open_range.new.self.0 c.requires.most_radix c.in_ok-objects.ensures.state c.in_ok-store.ensures.slots c.new-3.result c.new-3.ensures c.open_range.ensures.slots

@@ -26,11 +26,14 @@ invariant_of-self c =
     let empty = put-empty o slots old c.boot_slots-count.result c.args.index c.args.capability c.is_free-free.result many c.is_free-free.ensures c.self.invariant.sound c.if-free.true in
     let passed = put-passed o slots old c.boot_slots-count.result c.args.index c.args.capability c.is_free-free.result many c.is_free-free.ensures c.if-free.true in
     let is = c.insert.ensures.slots ∙ ap (λ (n : ℕ). inserted slots n c.args.capability None) c.new.ensures in
+    let agreed = root-agrees o slots _ old c.insert.new.self.0 c.args.index c.args.capability (c.self.invariant.agrees, c.self.invariant.stands) c.insert.ensures.bytes empty is
+    c.requires.plain c.requires.valid in
     record {
-      sound = subst IsSound (sym (root-state o slots _ old c.insert.new.self.0 c.args.index c.args.capability c.self.invariant.agrees c.insert.ensures.bytes empty is))
+      sound = subst IsSound (sym (root-state o slots _ old c.insert.new.self.0 c.args.index c.args.capability (c.self.invariant.agrees, c.self.invariant.stands) c.insert.ensures.bytes empty is))
           (c.requires.sound _ (subst (λ (p : Parts). IsSound (state_in p)) c.self.view_is c.self.invariant.sound)
           (ap (λ (p : Parts). put_in_boot_slot (state_in p) c.args.index c.args.capability) (sym c.self.view_is) ∙ passed));
-      agrees = root-agrees o slots _ old c.insert.new.self.0 c.args.index c.args.capability c.self.invariant.agrees c.insert.ensures.bytes empty is c.requires.plain c.requires.valid;
+      agrees = agreed.0;
+      stands = agreed.1;
     }
 
 pub returns-then-free : goal.returns-then-free
@@ -42,7 +45,7 @@ returns-then-free c =
     let empty = put-empty o slots old c.boot_slots-count.result c.args.index c.args.capability c.is_free-free.result many c.is_free-free.ensures c.self.invariant.sound c.if-free.true in
     let passed = put-passed o slots old c.boot_slots-count.result c.args.index c.args.capability c.is_free-free.result many c.is_free-free.ensures c.if-free.true in
     let is = c.insert.ensures.slots ∙ ap (λ (n : ℕ). inserted slots n c.args.capability None) c.new.ensures in
-    let after = root-state o slots _ old c.insert.new.self.0 c.args.index c.args.capability c.self.invariant.agrees c.insert.ensures.bytes empty is in
+    let after = root-state o slots _ old c.insert.new.self.0 c.args.index c.args.capability (c.self.invariant.agrees, c.self.invariant.stands) c.insert.ensures.bytes empty is in
     subst (λ (b : Bool). GivesIf (put_in_boot_slot (state_in c.args.self.now) c.args.index c.args.capability) b c.args.self.now (record { memory = c.insert.new.self.0; records = c.insert.new.self.1; tables = o }))
     (sym c.if-free.true)
     (ap (λ (p : Parts). put_in_boot_slot (state_in p) c.args.index c.args.capability) (sym c.self.view_is) ∙ passed ∙ ap (λ (s : State). Some s) (sym after))

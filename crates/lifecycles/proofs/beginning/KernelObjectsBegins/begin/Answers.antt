@@ -1,11 +1,12 @@
 -- The watermark is set, and then all objects are made.
 use Rattle.std.proofs.Common.{◌∙◌, ap, sym, subst}
 use Rattle.cnode_ops.specs.Placed.{new_objects}
-use Rattle.lifecycles.proofs.Marked.{are-laid, may-use, none-made, placed-state, window-near}
+use Rattle.lifecycles.proofs.Marked.{are-laid, marked-stands, may-use, none-made, placed-state, window-near}
 use Rattle.lifecycles.proofs.beginning.KernelObjectsBegins.begin.Goals as goal
 use Rattle.lifecycles.specs.Beginnings.{AreMade}
 use Rattle.model.specs.Kernel.Retype.{with_new}
 use Rattle.model.specs.Kernel.State.{State}
+use Rattle.objects.specs.Standing.{Standing}
 use Rattle.objects.specs.Tables.{Tables, state_of}
 
 pub use_memory-requires : goal.use_memory-requires
@@ -40,4 +41,12 @@ returns-clause-state g c =
     ∙ ap (λ (o : Tables). with_new (state_of o slots memory) (new_objects c.args.new) c.args.at.window c.args.at.parent) c.self.view_is
     ∙ ap (λ (t : State). with_new t (new_objects c.args.new) c.args.at.window c.args.at.parent)
     (placed-state c.args.self.now (g.S.SlotMap.slots c.args.store.now) slots (g.S.SlotStore.memory c.args.store.now) memory (new_objects c.args.new) c.args.at c.requires.agree c.requires.sound
+    c.requires.placed c.use_memory.ensures.slots c.use_memory.ensures.bytes)
+
+pub make_all-requires-clause-stands : goal.make_all-requires-clause-stands
+make_all-requires-clause-stands g c =
+    let slots = g.S.SlotMap.slots c.use_memory.new.store in
+    let memory = g.S.SlotStore.memory c.use_memory.new.store in
+    subst (λ (o : Tables). Standing o slots memory) (sym c.self.view_is)
+    (marked-stands c.args.self.now (g.S.SlotMap.slots c.args.store.now) slots (g.S.SlotStore.memory c.args.store.now) memory (new_objects c.args.new) c.args.at c.requires.agree c.requires.sound
     c.requires.placed c.use_memory.ensures.slots c.use_memory.ensures.bytes)

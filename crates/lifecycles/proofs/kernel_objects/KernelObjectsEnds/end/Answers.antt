@@ -4,10 +4,12 @@ use Rattle.agreement.proofs.Laws.{own-tables}
 use Rattle.agreement.proofs.Lessened.{Lessened, less-root}
 use Rattle.agreement.proofs.Steps.{ended-agrees, root-ended, unmapped-agrees, unmapped-state}
 use Rattle.agreement.specs.Agreement.{Agrees}
+use Rattle.agreement.specs.Wholeness.{Agreed}
 use Rattle.lifecycles.proofs.kernel_objects.KernelObjectsEnds.end.Goals as goal
 use Rattle.model.specs.Capabilities.CapabilityKinds.{object_of}
 use Rattle.model.specs.Capabilities.Slots.{Slots}
 use Rattle.model.specs.Kernel.State.{State}
+use Rattle.objects.specs.Standing.{Standing}
 use Rattle.objects.specs.Tables.{Tables, state_of}
 use Rattle.removals.specs.Steps.{ended, object_ended}
 
@@ -24,18 +26,34 @@ returns-in-RootTable-clause-state g c =
     ∙ root-ended c.args.self.now slots _ _ c.in-RootTable.offset gone
     ∙ ap (ended (state_of c.args.self.now slots (g.S.SlotStore.memory c.args.store.now))) (sym c.in-RootTable.is)
 
+pub end-requires : goal.end-requires
+end-requires g c =
+    let slots = g.S.SlotMap.slots c.args.store.now in
+    let gone = c.end_tables.ensures.roots (λ slot. c.requires.unnamed slot c.in-RootTable.offset (ap object_of c.in-RootTable.is)) in
+    let unmapped = unmapped-agrees c.args.self.now slots (g.S.SlotMap.slots c.end_tables.new.store) _ (g.S.SlotStore.memory c.end_tables.new.store) c.requires.agree
+    c.end_tables.ensures.bytes c.end_tables.ensures.agree (subst (λ (n : Slots). Lessened slots n) (sym gone) (less-root slots c.in-RootTable.offset)) in
+    record { stands = subst (λ (o : Tables). Standing o (g.S.SlotMap.slots c.end_tables.new.store) (g.S.SlotStore.memory c.end_tables.new.store)) (sym c.self.view_is) unmapped.1 }
+
 pub returns-in-RootTable-clause-agree : goal.returns-in-RootTable-clause-agree
 returns-in-RootTable-clause-agree g c =
     let slots = g.S.SlotMap.slots c.args.store.now in
     let gone = c.end_tables.ensures.roots (λ slot. c.requires.unnamed slot c.in-RootTable.offset (ap object_of c.in-RootTable.is)) in
     let unmapped = unmapped-agrees c.args.self.now slots (g.S.SlotMap.slots c.end_tables.new.store) _ (g.S.SlotStore.memory c.end_tables.new.store) c.requires.agree
     c.end_tables.ensures.bytes c.end_tables.ensures.agree (subst (λ (n : Slots). Lessened slots n) (sym gone) (less-root slots c.in-RootTable.offset)) in
-    let agrees = subst (λ (o : Tables). Agrees (state_of o (g.S.SlotMap.slots c.end_tables.new.store) (g.S.SlotStore.memory c.end_tables.new.store)) (g.S.SlotStore.memory c.end_tables.new.store))
-    (sym c.self.view_is) unmapped in
-    subst (λ (t : State). Agrees t (g.S.SlotStore.memory c.end.new.store)) (sym c.end.ensures.state) (ended-agrees _ c.in-RootTable.offset _ _ agrees c.end.ensures.bytes)
+    let agreed = subst (λ (o : Tables). Agreed o (g.S.SlotMap.slots c.end_tables.new.store) (g.S.SlotStore.memory c.end_tables.new.store)) (sym c.self.view_is) unmapped in (
+      subst (λ (t : State). Agrees t (g.S.SlotStore.memory c.end.new.store)) (sym c.end.ensures.state) (ended-agrees _ c.in-RootTable.offset _ _ agreed.0 c.end.ensures.bytes),
+      c.end.ensures.stands,
+    )
+
+pub end-requires-in-Endpoint : goal.end-requires-in-Endpoint
+end-requires-in-Endpoint g c = record {
+  stands = subst (λ (o : Tables). Standing o (g.S.SlotMap.slots c.args.store.now) (g.S.SlotStore.memory c.args.store.now)) (sym c.self.view_is) c.requires.agree.1;
+}
 
 pub returns-in-Endpoint-clause-agree : goal.returns-in-Endpoint-clause-agree
 returns-in-Endpoint-clause-agree g c =
     let agrees = subst (λ (o : Tables). Agrees (state_of o (g.S.SlotMap.slots c.args.store.now) (g.S.SlotStore.memory c.args.store.now)) (g.S.SlotStore.memory c.args.store.now))
-    (sym c.self.view_is) c.requires.agree in
-    subst (λ (t : State). Agrees t (g.S.SlotStore.memory c.end-in-Endpoint.new.store)) (sym c.end-in-Endpoint.ensures.state) (ended-agrees _ _ _ _ agrees c.end-in-Endpoint.ensures.bytes)
+    (sym c.self.view_is) c.requires.agree.0 in (
+      subst (λ (t : State). Agrees t (g.S.SlotStore.memory c.end-in-Endpoint.new.store)) (sym c.end-in-Endpoint.ensures.state) (ended-agrees _ _ _ _ agrees c.end-in-Endpoint.ensures.bytes),
+      c.end-in-Endpoint.ensures.stands,
+    )

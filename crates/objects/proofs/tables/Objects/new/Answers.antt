@@ -1,7 +1,8 @@
 -- Nothing is there yet.
 use Rattle.std.proofs.Common.{ℕ, ◌≡◌, ◌∙◌, ◌/◌, None, [], replicate, ap, subst, sym}
-use Rattle.objects.proofs.Fresh.{fresh, fresh-state, fresh-tables}
+use Rattle.objects.proofs.Fresh.{fresh, fresh-stands, fresh-state, fresh-tables}
 use Rattle.objects.proofs.tables.Objects.new.Goals as goal
+use Rattle.objects.specs.Standing.{Standing}
 use Rattle.objects.specs.Tables.{AreTables, Tables, state_of}
 
 made : (c : goal.After-quiet-2) → fresh c.args.bits c.args.radix ≡ record {
@@ -28,5 +29,8 @@ made c = λ i. record {
 pub invariant_of-result : goal.invariant_of-result
 invariant_of-result c = subst AreTables (made c) (fresh-tables c.args.bits c.args.radix c.requires.least c.requires.most c.requires.radix)
 
-pub returns : goal.returns
-returns c = λ slots memory. ap (λ (o : Tables). state_of o slots memory) (sym (made c)) ∙ fresh-state c.args.bits c.args.radix slots memory
+pub returns-clause-state : goal.returns-clause-state
+returns-clause-state c = λ slots memory. ap (λ (o : Tables). state_of o slots memory) (sym (made c)) ∙ fresh-state c.args.bits c.args.radix slots memory
+
+pub returns-clause-stands : goal.returns-clause-stands
+returns-clause-stands c = λ slots memory size. subst (λ (o : Tables). Standing o slots memory) (made c) (fresh-stands c.args.bits c.args.radix slots memory size)
