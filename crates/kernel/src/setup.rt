@@ -1,14 +1,15 @@
 //! A system that is set up by calls, before its threads run.
 
-ghost use Rattle.std.specs.Prelude.{◌≡◌, ◌+◌, ◌≤◌, IfOk, OnErr};
+ghost use Rattle.std.specs.Prelude.{◌≡◌, ◌+◌, ◌≤◌, IfOk, IfSome, OnErr, option_and_then, option_map};
 ghost use Rattle.cnode_ops.specs.Outcomes.{GivesState};
-ghost use Rattle.kernel.specs.Setups.{GivesIf, state_in};
+ghost use Rattle.kernel.specs.Setups.{GivesIf, IsPlace, register_in, seen_entry, slot_in, state_in};
 ghost use Rattle.model.specs.Images.Boot.{made};
 ghost use Rattle.model.specs.Images.BootCalls.{loader_call};
 ghost use Rattle.model.specs.Kernel.Setup.{boot_area, fill, put_control, put_untyped};
+ghost use Rattle.model.specs.Kernel.State.{as_thread};
 
 use crate::{Machine, System};
-use model::KError;
+use model::{Cap, KError};
 use std::alloc::{AllocError, Global};
 use std::marker::Model;
 
@@ -75,6 +76,29 @@ impl Setup {
         ensures unchanged { OnErr result (self.new ≡ self.old) }
     {
         self.machine.call(cap, label, words)
+    }
+
+    /// A register of the thread at an offset: its program counter by index 0, and else that of this index, 1 to 31.
+    pub fn reg(&self, thread: u32, index: u8) -> Option<u32>
+        ensures { result ≡ option_and_then (λ t. register_in t index) (as_thread ((state_in self.now).objects thread)) }
+    {
+        self.machine.reg(thread, index)
+    }
+
+    /// What slot `index` of a holder holds, and the slot that it was derived from, as (holder, index). Holders are the boot
+    /// CNode at 0, the interrupt table behind it, CNodes and threads; all are named by their offsets.
+    pub fn slot(&self, holder: u32, index: u32) -> Option<(Cap, Option<(u32, u32)>)>
+        ensures held { option_map seen_entry result ≡ slot_in (state_in self.now) holder index }
+        ensures parent { IfSome result (λ seen. IfSome seen.1 (IsPlace (state_in self.now))) }
+    {
+        self.machine.slot(holder, index)
+    }
+
+    /// The byte at an offset of memory, if it is one of a frame.
+    pub fn byte(&self, offset: u32) -> Option<u8>
+        ensures { result ≡ (state_in self.now).bytes offset }
+    {
+        self.machine.byte(offset)
     }
 
     /// What was set up so far, to look at.

@@ -1,11 +1,12 @@
 //! A system whose threads run.
 
-ghost use Rattle.std.specs.Prelude.{◌≡◌};
-ghost use Rattle.kernel.specs.Setups.{state_in};
+ghost use Rattle.std.specs.Prelude.{◌≡◌, IfSome, option_and_then, option_map};
+ghost use Rattle.kernel.specs.Setups.{IsPlace, register_in, seen_entry, slot_in, state_in};
+ghost use Rattle.model.specs.Kernel.State.{as_thread};
 ghost use Rattle.model.specs.Kernel.Steps.{step};
 
 use crate::Machine;
-use model::{Event, Label};
+use model::{Cap, Event, Label};
 use std::marker::Model;
 
 /// The kernel with its threads, which goes on by events. None of them takes memory.
@@ -37,6 +38,29 @@ impl System {
         ensures label { result ≡ (step (state_in self.old) event).1 }
     {
         self.machine.step(event)
+    }
+
+    /// A register of the thread at an offset: its program counter by index 0, and else that of this index, 1 to 31.
+    pub fn reg(&self, thread: u32, index: u8) -> Option<u32>
+        ensures { result ≡ option_and_then (λ t. register_in t index) (as_thread ((state_in self.now).objects thread)) }
+    {
+        self.machine.reg(thread, index)
+    }
+
+    /// What slot `index` of a holder holds, and the slot that it was derived from, as (holder, index). Holders are the boot
+    /// CNode at 0, the interrupt table behind it, CNodes and threads; all are named by their offsets.
+    pub fn slot(&self, holder: u32, index: u32) -> Option<(Cap, Option<(u32, u32)>)>
+        ensures held { option_map seen_entry result ≡ slot_in (state_in self.now) holder index }
+        ensures parent { IfSome result (λ seen. IfSome seen.1 (IsPlace (state_in self.now))) }
+    {
+        self.machine.slot(holder, index)
+    }
+
+    /// The byte at an offset of memory, if it is one of a frame.
+    pub fn byte(&self, offset: u32) -> Option<u8>
+        ensures { result ≡ (state_in self.now).bytes offset }
+    {
+        self.machine.byte(offset)
     }
 
     /// What the kernel keeps, to look at.
