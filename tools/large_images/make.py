@@ -18,7 +18,7 @@ wait, load, add, store, branch and count, and begin with a record that notes a r
 (four terms are carried over programs of 65536 words), `jumps` (each word leads half the program away, and has a record), `threads`,
 `capabilities` (of one CNode), `objects`, `mappings` (of one root table, with its tables) and `chain` (CNodes, each held by the next); and in which
 a thread's calls change many slots: `fan` (copies of one capability), `descents` (chains of copies), `deletes` (copies, of which every second one is
-deleted), `revokes` (of nothing, beside many capabilities that the image lists), `searches` (of nothing, beside chains of copies), `retypes` (endpoints, one a call) and `maps` (frames
+deleted), `revokes` (of nothing, beside many capabilities that the image lists), `searches` (of nothing, beside chains of copies), `branches` (beside copies), `retypes` (endpoints, one a call) and `maps` (frames
 that are made, mapped and written to). SHARE is 1, 4 or 16.
 """
 
@@ -298,6 +298,12 @@ def searching_program(calls):
     return begun_again(words + [*info(REVOKE), adds(12, 0, 12)] + [ECALL] * calls, BELL)
 
 
+# Copies of slot 1, and then as many branches to the next word: each leads from slots to the same slots.
+def branching_program(calls):
+    words = copying_program(calls, False)[0][:-12]
+    return begun_again(words + [6 << 20 | 5 << 15 | 4 << 12 | 4 << 7 | 0x63] * calls, BELL)
+
+
 # Endpoints of the memory in slot 3, one a call.
 def retyping_program(endpoints):
     words = [adds(17, SEND), adds(10, POOL), *info(RETYPE), adds(12, 3), adds(13, 0), adds(14, 0), adds(15, 0), adds(18, ROOT), adds(19, 1)]
@@ -364,6 +370,7 @@ GROWING = {
     "deletes": lambda share: image_of([deleting_program(6000 // share)], radix=14, pool=12),
     "revokes": lambda share: image_of([revoking_program(16000 // share)], listed=16000 // share, radix=14, pool=12),
     "searches": lambda share: image_of([searching_program(8000 // share)], radix=14, pool=12),
+    "branches": lambda share: image_of([branching_program(8000 // share)], radix=14, pool=12),
     "retypes": lambda share: image_of([retyping_program(16000 // share)], radix=14, pool=18),
     "maps": lambda share: image_of([mapping_program(2048 // share)], radix=14, tables=2, pool=23),
 }

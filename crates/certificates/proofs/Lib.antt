@@ -7,3 +7,5 @@ pub mod EachPoint
 pub mod EdgeRules
 pub mod PointLists
 mod LeftNext
+mod ShownParts
+mod Outcomes

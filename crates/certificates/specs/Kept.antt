@@ -13,8 +13,9 @@ use Rattle.point_rules.specs.declared.following.Left.TheVariants as left
 use Rattle.model.specs.declared.refusals.Refusal.{Refusal}
 use Rattle.typestate.specs.declared.behind.Behind.{Behind}
 use Rattle.typestate.specs.declared.logs.Part.{Part}
+use Rattle.typestate.specs.declared.logs.ShownPart.{ShownPart}
 use Rattle.typestate.specs.Differences.{changed}
-use Rattle.typestate.specs.Logs.{Holds, part_of}
+use Rattle.typestate.specs.Logs.{Holds, Shows, part_of}
 use Rattle.typestate.specs.Strays.{NoneStray}
 
 -- the state, by what is kept beside the image's slots and the log of changes
@@ -44,6 +45,12 @@ abbrev pub HasPart : List NotedSlot → Kept → Type 0
 HasPart log (kept.Known k) = Holds log k.part
 HasPart log kept.Missing = Unit {0}
 HasPart log kept.Unmeasured = Unit {0}
+
+-- they are shown
+abbrev pub ShowsKept : List NotedSlot → ShownPart → Kept → Type 0
+ShowsKept log shown (kept.Known k) = Shows log k.part shown
+ShowsKept log shown kept.Missing = Unit {0}
+ShowsKept log shown kept.Unmeasured = Unit {0}
 
 -- its changes are in the log, and its measure can be lowered by one for each point that is left
 abbrev pub IsSound : List NotedSlot → ℕ → Kept → Type 0

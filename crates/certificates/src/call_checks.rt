@@ -14,53 +14,50 @@ ghost use Rattle.model.specs.Acceptance.Rules.{first_broken};
 ghost use Rattle.model.specs.declared.instructions.Instr.TheVariants.{Ecall};
 ghost use Rattle.typestate.specs.Calls.{behind_with};
 ghost use Rattle.typestate.specs.Differences.{changed};
-ghost use Rattle.typestate.specs.Logs.{Holds, part_of};
+ghost use Rattle.typestate.specs.Logs.{KeepsParts, Shows, part_of};
 
 use crate::kept::Known;
 use crate::{Points, Program, ThreadRules};
 use image::RecordRef;
 use measure::AfterCall;
 use model::Refusal;
-use point_rules::{Way, leads_to, registers_of};
+use point_rules::{Way, registers_of};
 use std::alloc::AllocError;
-use typestate::{Behind, NotedSlot, Part};
+use typestate::{Behind, NotedSlot, Part, ShownPart};
 
 impl<R: ThreadRules> Program<'_, '_, R> {
-    /// What the way on behind a system call breaks that leaves this, and the slots of a part of the log.
+    /// What the way on behind a system call breaks that leaves this, and the slots of a part of the log, which is shown. Memory may
+    /// be refused.
     fn way_behind<'n>(
         &'n self,
-        points: &'n Points,
+        points: &Points,
+        shown: &'n ShownPart,
         point: u32,
         known: &'n Known,
         behind: &'n Behind,
         part: Part,
-    ) -> Option<Refusal>
+    ) -> Result<Option<Refusal>, AllocError>
         requires program { IsProgram (R.image self.now.rules.now) (R.thread self.now.rules.now) self.now.thread.now self.now.number self.now.slots.now }
         requires read { IsRead (R.image self.now.rules.now) (R.thread self.now.rules.now) self.now.slots.now points.now.log points.now.kept.items }
         requires within { point < self.now.thread.now.header.words }
-        requires held { Holds points.now.log part }
-        ensures { result ≡ first_broken (edge_rules (R.thread self.now.rules.now).thread (point_of (R.thread self.now.rules.now) point) (measure_of known.now.measure)
+        requires shown { Shows points.now.log part shown.now }
+        ensures { IfOk result (λ broken. broken ≡ first_broken (edge_rules (R.thread self.now.rules.now).thread (point_of (R.thread self.now.rules.now) point) (measure_of known.now.measure)
             (call_edge (address_of self.now.thread.now point) known.now.bounds (behind_with (changed self.now.slots.now (part_of points.now.log part)) behind.now))
-            (noted_at (R.image self.now.rules.now) (R.thread self.now.rules.now) (address_of self.now.thread.now point + 4))) }
+            (noted_at (R.image self.now.rules.now) (R.thread self.now.rules.now) (address_of self.now.thread.now point + 4)))) }
     {
         let way = Way {
             before: &known.bounds,
             behind: &behind.bounds,
-            slots: points.log.slots(self.slots, part),
+            slots: shown.slots(self.slots),
+            keeps_slots: false,
             is_wait: behind.is_wait,
         };
         let step = AfterCall {
             written: registers_of(behind.written),
         };
-        let target = self.noted_at(points, self.address(point) + 4);
-        leads_to(
-            self.thread.header().budget,
-            self.at(point),
-            &known.measure,
-            &way,
-            &step,
-            &target,
-        )
+        let at = self.at(point);
+        let next = self.address(point) + 4;
+        self.way_to(points, shown, part, at, &known.measure, &way, &step, next)
     }
 
     /// What the way on behind a system call breaks that leaves this, and makes these changes of slots. Memory may be refused.
@@ -80,9 +77,12 @@ impl<R: ThreadRules> Program<'_, '_, R> {
             (call_edge (address_of self.now.thread.now point) known.now.bounds (behind_with (changed (changed self.now.slots.now (part_of points.old.log known.now.part)) made.now) behind.now))
             (noted_at (R.image self.now.rules.now) (R.thread self.now.rules.now) (address_of self.now.thread.now point + 4)))) }
         ensures read { IfOk result (λ _. IsRead (R.image self.now.rules.now) (R.thread self.now.rules.now) self.now.slots.now points.new.log points.new.kept.items) }
+        ensures others { IfOk result (λ _. KeepsParts points.old.log points.new.log) }
     {
         let part = points.log.follow(known.part, made)?;
-        Ok(self.way_behind(points, point, known, behind, part))
+        let mut shown = ShownPart::new(self.alloc);
+        points.log.show(&mut shown, part)?;
+        self.way_behind(points, &shown, point, known, behind, part)
     }
 
     /// What the system call at a point breaks: it is refused, or its way on is. It is not looked at again where the next point has the
@@ -90,6 +90,7 @@ impl<R: ThreadRules> Program<'_, '_, R> {
     pub(crate) fn call_rules(
         &self,
         points: &mut Points,
+        shown: &ShownPart,
         point: u32,
         noted: Option<&RecordRef<'_>>,
         is_next_noted: bool,
@@ -104,15 +105,17 @@ impl<R: ThreadRules> Program<'_, '_, R> {
         requires next { is_next_noted ≡ false → record_of self.now.thread.now (point + 1) ≡ None }
         requires known { states.Known (state_by self.now.slots.now points.old.log known.now) ≡ states.noted (R.image self.now.rules.now) (R.thread self.now.rules.now) point }
         requires sound { IsSound points.old.log point (kept.Known known.now) }
+        requires shown { Shows points.old.log known.now.part shown.now }
         requires clean { IsCleanIn (R.image self.now.rules.now) (R.thread self.now.rules.now).thread self.now.slots.now points.old.log (kept.Known known.now) }
         ensures broken { IfOk result (λ broken. broken ≡ first_broken (later_rules (R.image self.now.rules.now) (R.thread self.now.rules.now) point (state_by self.now.slots.now points.old.log known.now) (Some Ecall))) }
         ensures read { IfOk result (λ _. IsRead (R.image self.now.rules.now) (R.thread self.now.rules.now) self.now.slots.now points.new.log points.new.kept.items) }
+        ensures others { IfOk result (λ _. KeepsParts points.old.log points.new.log) }
     {
         if self.leaves_next(points, point, is_next_noted) {
             return Ok(None);
         }
         let mut made = Vec::new(self.alloc);
-        let slots = points.log.slots(self.slots, known.part);
+        let slots = shown.slots(self.slots);
         match self.called(
             point,
             noted,

@@ -1,17 +1,19 @@
 //! What is kept of a point.
 
-ghost use Rattle.std.specs.Prelude.{◌≡◌, List};
-ghost use Rattle.certificates.specs.Kept.{HasPart, has_state, noted_by, state_by};
+ghost use Rattle.std.specs.Prelude.{◌≡◌, IfOk, List};
+ghost use Rattle.certificates.specs.Kept.{HasPart, ShowsKept, has_state, noted_by, state_by};
 ghost use Rattle.model.specs.Acceptance.NotedStates.{NotedSlot};
 ghost use Rattle.point_rules.specs.Points.{HasImage, noted_of, state_of};
-ghost use Rattle.typestate.specs.Logs.{Holds};
+ghost use Rattle.typestate.specs.Differences.{changed, slots_of};
+ghost use Rattle.typestate.specs.Logs.{Shows, ShowsSome};
 ghost use Rattle.typestate.specs.Orders.{Rise};
 ghost use Rattle.typestate.specs.Unlinked.{AreUnlinked};
 
 use measure::Measure;
 use point_rules::{Noted, PointState};
 use ranges::Bounds;
-use typestate::{NotedSlot, Part, SlotLog};
+use std::alloc::{AllocError, Global};
+use typestate::{NotedSlot, Part, ShownPart, SlotLog};
 
 /// A state: its slots are the image's with a part of a log of changes made.
 #[derive(Clone, Copy, Debug)]
@@ -34,17 +36,18 @@ pub(crate) enum Kept {
 }
 
 impl Known {
-    /// The state that it stands for.
-    pub(crate) fn state<'s>(&self, slots: &'s [NotedSlot], log: &'s SlotLog) -> PointState<'s>
-        requires held { Holds log.now self.now.part }
+    /// The state that it stands for, where its part is shown.
+    pub(crate) fn state<'s>(&self, slots: &'s [NotedSlot], shown: &'s ShownPart) -> PointState<'s>
+        requires shown { Rise shown.now.changes.items }
         requires rising { Rise slots.now }
         requires unlinked { AreUnlinked slots.now }
-        ensures state { state_of result ≡ state_by slots.now log.now self.now }
+        ensures slots { slots_of result.slots ≡ changed slots.now shown.now.changes.items }
+        ensures state { (log : List NotedSlot) → Shows log self.now.part shown.now → state_of result ≡ state_by slots.now log self.now }
         ensures image { result.slots.image.now ≡ slots.now }
     {
         PointState {
             bounds: self.bounds,
-            slots: log.slots(slots, self.part),
+            slots: shown.slots(slots),
             measure: self.measure,
         }
     }
@@ -58,16 +61,40 @@ impl Kept {
         matches!(self, Kept::Known(_))
     }
 
-    /// What is noted of the point.
-    pub(crate) fn noted<'s>(&self, slots: &'s [NotedSlot], log: &'s SlotLog) -> Noted<'s>
+    /// Shows the part of its state, if it has one, in place of another one of this log. Memory may be refused.
+    pub(crate) fn show(&self, log: &SlotLog, shown: &mut ShownPart) -> Result<(), AllocError>
         requires held { HasPart log.now self.now }
+        requires old { ShowsSome log.now shown.old }
+        ensures some { IfOk result (λ _. ShowsSome log.now shown.new) }
+        ensures own { IfOk result (λ _. ShowsKept log.now shown.new self.now) }
+    {
+        match self {
+            Kept::Known(known) => log.show(shown, known.part),
+            Kept::Missing | Kept::Unmeasured => Ok(()),
+        }
+    }
+
+    /// The part of its state, if it has one, by itself. Memory may be refused.
+    pub(crate) fn shown(&self, alloc: Global, log: &SlotLog) -> Result<ShownPart, AllocError>
+        requires { HasPart log.now self.now }
+        ensures some { IfOk result (ShowsSome log.now) }
+        ensures own { IfOk result (λ shown. ShowsKept log.now shown self.now) }
+    {
+        let mut shown = ShownPart::new(alloc);
+        self.show(log, &mut shown)?;
+        Ok(shown)
+    }
+
+    /// What is noted of the point, where the part of its state is shown.
+    pub(crate) fn noted<'s>(&self, slots: &'s [NotedSlot], shown: &'s ShownPart) -> Noted<'s>
+        requires shown { Rise shown.now.changes.items }
         requires rising { Rise slots.now }
         requires unlinked { AreUnlinked slots.now }
-        ensures noted { noted_of result ≡ noted_by slots.now log.now self.now }
+        ensures noted { (log : List NotedSlot) → ShowsKept log shown.now self.now → noted_of result ≡ noted_by slots.now log self.now }
         ensures image { HasImage slots.now result }
     {
         match self {
-            Kept::Known(known) => Noted::Known(known.state(slots, log)),
+            Kept::Known(known) => Noted::Known(known.state(slots, shown)),
             Kept::Missing => Noted::Missing,
             Kept::Unmeasured => Noted::Unmeasured,
         }

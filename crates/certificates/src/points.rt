@@ -15,7 +15,7 @@ use crate::records::{bounds_of, measure_of};
 use crate::{Program, ThreadRules};
 use image::RecordRef;
 use std::alloc::AllocError;
-use typestate::SlotLog;
+use typestate::{ShownPart, SlotLog};
 
 /// What is noted of each point of a program.
 #[derive(Drop)]
@@ -73,11 +73,13 @@ impl Points {
         let mut log = SlotLog::new(program.alloc);
         let mut kept = Vec::new(program.alloc);
         let mut derived = Kept::Missing;
+        let mut shown = ShownPart::new(program.alloc);
         'points: for point in 0..program.thread.word_count() {
             let noted = records.take(point);
             let found = noted_or(&mut log, noted.as_ref(), derived)?;
-            let state = (&*program).looked_at(point, noted.as_ref(), &found, &log);
-            derived = program.following(point, noted.as_ref(), &state, &mut log)?;
+            found.show(&log, &mut shown)?;
+            let state = program.looked_at(point, noted.as_ref(), &found, &log, &shown);
+            derived = program.following(point, noted.as_ref(), &state, &mut log, &shown)?;
             kept.push(state)?;
         }
         Ok(Points { kept, log })

@@ -10,6 +10,7 @@ ghost use Rattle.model.specs.Acceptance.PointRules.{entry_rules, point_rules, ru
 ghost use Rattle.model.specs.Acceptance.PointStates as states;
 ghost use Rattle.model.specs.Acceptance.PointStates.{noted};
 ghost use Rattle.model.specs.Acceptance.Rules.{first_broken};
+ghost use Rattle.typestate.specs.Logs.{KeepsParts, Shows, ShowsSome};
 
 use crate::kept::{Kept, Known};
 use crate::notes::RecordsLeft;
@@ -19,7 +20,7 @@ use model::{Instr, Refusal};
 use point_rules::{Noted, entered};
 use rv32_isa::decode;
 use std::alloc::AllocError;
-use typestate::NotedSlots;
+use typestate::{NotedSlots, ShownPart};
 
 impl<R: ThreadRules> Program<'_, '_, R> {
     /// What a point with this state breaks first. Memory may be refused.
@@ -27,6 +28,7 @@ impl<R: ThreadRules> Program<'_, '_, R> {
     fn state_rules(
         &self,
         points: &mut Points,
+        shown: &ShownPart,
         point: u32,
         noted: Option<&RecordRef<'_>>,
         is_next_noted: bool,
@@ -41,27 +43,33 @@ impl<R: ThreadRules> Program<'_, '_, R> {
         requires next { is_next_noted ≡ false → record_of self.now.thread.now (point + 1) ≡ None }
         requires known { states.Known (state_by self.now.slots.now points.old.log known.now) ≡ states.noted (R.image self.now.rules.now) (R.thread self.now.rules.now) point }
         requires sound { IsSound points.old.log point (kept.Known known.now) }
+        requires part { Shows points.old.log known.now.part shown.now }
         requires clean { IsCleanIn (R.image self.now.rules.now) (R.thread self.now.rules.now).thread self.now.slots.now points.old.log (kept.Known known.now) }
         ensures broken { IfOk result (λ broken. broken ≡ first_broken (state_rules (R.image self.now.rules.now) (R.thread self.now.rules.now) point (state_by self.now.slots.now points.old.log known.now))) }
         ensures read { IfOk result (λ _. IsRead (R.image self.now.rules.now) (R.thread self.now.rules.now) self.now.slots.now points.new.log points.new.kept.items) }
+        ensures others { IfOk result (λ _. KeepsParts points.old.log points.new.log) }
     {
         let instr = decode(self.thread.word(point));
-        let state = known.state(self.slots, &points.log);
+        let state = known.state(self.slots, shown);
         if let Some(refusal) = self.own_rules(point, instr, noted, &state, known.is_clean) {
             return Ok(Some(refusal));
         }
         match instr {
-            Some(Instr::Ecall) => self.call_rules(points, point, noted, is_next_noted, known),
-            Some(instr) => Ok(self.ways_rules(points, point, instr, &state, is_next_noted)),
+            Some(Instr::Ecall) => {
+                self.call_rules(points, shown, point, noted, is_next_noted, known)
+            }
+            Some(instr) => self.ways_rules(points, shown, point, instr, known, is_next_noted),
             None => Ok(None),
         }
     }
 
-    /// What a point breaks first: one without a state breaks nothing. Memory may be refused.
+    /// What a point breaks first: one without a state breaks nothing. Its part is shown for that, in place of another one. Memory
+    /// may be refused.
     #[tactic(auto, unfolding(model::specs::Acceptance::PointRules::point_rules))]
     fn point_rules(
         &self,
         points: &mut Points,
+        shown: &mut ShownPart,
         point: u32,
         noted: Option<&RecordRef<'_>>,
         is_next_noted: bool,
@@ -73,11 +81,16 @@ impl<R: ThreadRules> Program<'_, '_, R> {
         requires within { point < self.now.thread.now.header.words }
         requires noted { option_map (λ r. r.now) noted ≡ record_of self.now.thread.now point }
         requires next { is_next_noted ≡ false → record_of self.now.thread.now (point + 1) ≡ None }
+        requires some { ShowsSome points.old.log shown.old }
         ensures broken { IfOk result (λ broken. broken ≡ first_broken (point_rules (R.image self.now.rules.now) (R.thread self.now.rules.now) point)) }
         ensures read { IfOk result (λ _. IsRead (R.image self.now.rules.now) (R.thread self.now.rules.now) self.now.slots.now points.new.log points.new.kept.items) }
+        ensures shown { IfOk result (λ _. ShowsSome points.new.log shown.new) }
     {
         match points.kept[point as usize] {
-            Kept::Known(known) => self.state_rules(points, point, noted, is_next_noted, &known),
+            Kept::Known(known) => {
+                points.log.show(shown, known.part)?;
+                self.state_rules(points, shown, point, noted, is_next_noted, &known)
+            }
             Kept::Missing | Kept::Unmeasured => Ok(None),
         }
     }
@@ -91,10 +104,17 @@ impl<R: ThreadRules> Program<'_, '_, R> {
         ensures { IfOk result (λ broken. broken ≡ first_broken (flat_map (point_rules (R.image self.now.rules.now) (R.thread self.now.rules.now)) (range_with_len 0 self.now.thread.now.header.words))) }
     {
         let mut records = RecordsLeft::of(self.thread);
+        let mut shown = ShownPart::new(self.alloc);
         'rules: for point in 0..self.thread.word_count() {
             let noted = records.take(point);
             let is_next_noted = records.is_next(point + 1);
-            let broken = self.point_rules(points, point, noted.as_ref(), is_next_noted)?;
+            let broken = self.point_rules(
+                points,
+                &mut shown,
+                point,
+                noted.as_ref(),
+                is_next_noted,
+            )?;
             if broken.is_some() {
                 return Ok(broken);
             }
@@ -102,22 +122,24 @@ impl<R: ThreadRules> Program<'_, '_, R> {
         Ok(None)
     }
 
-    /// What the thread breaks of the state of its entry.
-    fn entry_rules(&self, points: &Points) -> Option<Refusal>
+    /// What the thread breaks of the state of its entry. Memory may be refused.
+    fn entry_rules(&self, points: &Points) -> Result<Option<Refusal>, AllocError>
         requires program { IsProgram (R.image self.now.rules.now) (R.thread self.now.rules.now) self.now.thread.now self.now.number self.now.slots.now }
         requires shown { IsShown (R.image self.now.rules.now) self.now.thread.now self.now.image.now self.now.root }
         requires read { IsRead (R.image self.now.rules.now) (R.thread self.now.rules.now) self.now.slots.now points.now.log points.now.kept.items }
-        ensures { result ≡ first_broken (entry_rules (R.image self.now.rules.now) (R.thread self.now.rules.now)
-            (noted (R.image self.now.rules.now) (R.thread self.now.rules.now) self.now.thread.now.header.entry)) }
+        ensures { IfOk result (λ broken. broken ≡ first_broken (entry_rules (R.image self.now.rules.now) (R.thread self.now.rules.now)
+            (noted (R.image self.now.rules.now) (R.thread self.now.rules.now) self.now.thread.now.header.entry))) }
     {
         let entry = self.thread.header().entry;
         let start = NotedSlots {
             image: self.slots,
             changes: &[],
         };
-        match points.kept[entry as usize].noted(self.slots, &points.log) {
-            Noted::Known(state) => entered(self.thread, self.at(entry), &start, &state),
-            Noted::Missing | Noted::Unmeasured => Some(Refusal::RangeNotKept(self.at(entry))),
+        let kept = points.kept[entry as usize];
+        let shown = kept.shown(self.alloc, &points.log)?;
+        match kept.noted(self.slots, &shown) {
+            Noted::Known(state) => Ok(entered(self.thread, self.at(entry), &start, &state)),
+            Noted::Missing | Noted::Unmeasured => Ok(Some(Refusal::RangeNotKept(self.at(entry)))),
         }
     }
 
@@ -131,7 +153,7 @@ impl<R: ThreadRules> Program<'_, '_, R> {
         ensures { IfOk result (λ broken. broken ≡ first_broken (rules_of_program (R.image self.now.rules.now) (R.thread self.now.rules.now))) }
     {
         let mut points = Points::of(self)?;
-        let broken = self.entry_rules(&points);
+        let broken = self.entry_rules(&points)?;
         if broken.is_some() {
             return Ok(broken);
         }

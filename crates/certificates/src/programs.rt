@@ -2,7 +2,7 @@
 
 ghost use Rattle.std.specs.Prelude.{ℕ, ◌≡◌, ◌+◌, ◌<◌, ◌≤ℤ◌, ◌^◌, ◌-◌, ◌≤◌, [], IfOk, List, negsuc, option_map, true};
 ghost use Rattle.typestate.specs.Calls.{left_with};
-ghost use Rattle.certificates.specs.Kept.{IsCleanBehind, IsCleanIn, IsSound, kept_as, noted_by, state_by};
+ghost use Rattle.certificates.specs.Kept.{IsCleanBehind, IsCleanIn, IsSound, ShowsKept, kept_as, noted_by, state_by};
 ghost use Rattle.certificates.specs.declared.kept.Kept.TheVariants as kept;
 ghost use Rattle.certificates.specs.Programs.{IsProgram};
 ghost use Rattle.measure.specs.Measures.{measure_of};
@@ -14,7 +14,7 @@ ghost use Rattle.model.specs.Acceptance.PointStates.{address_of, behind_call, ca
 ghost use Rattle.model.specs.Machine.Instructions.{IsInstr};
 ghost use Rattle.typestate.specs.Calls.{behind_with, known_with};
 ghost use Rattle.typestate.specs.Differences.{changed, slots_of};
-ghost use Rattle.typestate.specs.Logs.{Holds, KeepsParts, part_of};
+ghost use Rattle.typestate.specs.Logs.{Holds, KeepsParts, Shows, part_of};
 ghost use Rattle.typestate.specs.Strays.{NoneStray};
 
 use crate::ThreadRules;
@@ -27,7 +27,7 @@ use ranges::Bounds;
 use rv32_isa::decode;
 use std::alloc::{AllocError, Global};
 use typestate::{
-    Behind, NotedSlot, NotedSlots, Part, SlotLog, points_without_stray_slots_have_none,
+    Behind, NotedSlot, NotedSlots, Part, ShownPart, SlotLog, points_without_stray_slots_have_none,
 };
 
 /// A thread's program with the rules on its slots and calls, and the slots that the image lists in its CNodes.
@@ -132,17 +132,18 @@ impl<R: ThreadRules> Program<'_, '_, R> {
     }
 
     /// Whether no slot of a state is one that the thread may not have, by what is known of it, or by a look at all of them.
-    fn has_no_stray_slot<'n>(
-        &'n self,
+    fn has_no_stray_slot(
+        &self,
         point: u32,
         noted: Option<&RecordRef<'_>>,
-        known: &'n Known,
-        log: &'n SlotLog,
+        known: &Known,
+        log: &SlotLog,
+        shown: &ShownPart,
     ) -> bool
         requires program { IsProgram (R.image self.now.rules.now) (R.thread self.now.rules.now) self.now.thread.now self.now.number self.now.slots.now }
         requires rules { R.holds self.now.rules.now }
         requires noted { option_map (λ r. r.now) noted ≡ record_of self.now.thread.now point }
-        requires held { Holds log.now known.now.part }
+        requires shown { Shows log.now known.now.part shown.now }
         requires clean { IsCleanIn (R.image self.now.rules.now) (R.thread self.now.rules.now).thread self.now.slots.now log.now (kept.Known known.now) }
         ensures { result ≡ true → NoneStray (R.image self.now.rules.now) (R.thread self.now.rules.now).thread (changed self.now.slots.now (part_of log.now known.now.part)) }
     {
@@ -150,25 +151,28 @@ impl<R: ThreadRules> Program<'_, '_, R> {
         if known.is_clean {
             return true;
         }
-        let slots = log.slots(self.slots, known.part);
+        let slots = shown.slots(self.slots);
         !self.rules.has_stray_slots(point, noted, &slots, false)
     }
 
     /// What is kept of a point, with what a look at its slots tells, where nothing is known of them.
-    pub(crate) fn looked_at<'n>(
-        &'n self,
+    pub(crate) fn looked_at(
+        &self,
         point: u32,
         noted: Option<&RecordRef<'_>>,
-        kept: &'n Kept,
-        log: &'n SlotLog,
+        kept: &Kept,
+        log: &SlotLog,
+        shown: &ShownPart,
     ) -> Kept
         requires program { IsProgram (R.image self.now.rules.now) (R.thread self.now.rules.now) self.now.thread.now self.now.number self.now.slots.now }
         requires rules { R.holds self.now.rules.now }
         requires noted { option_map (λ r. r.now) noted ≡ record_of self.now.thread.now point }
         requires sound { IsSound log.now point kept.now }
+        requires shown { ShowsKept log.now shown.now kept.now }
         requires clean { IsCleanIn (R.image self.now.rules.now) (R.thread self.now.rules.now).thread self.now.slots.now log.now kept.now }
         ensures same { noted_by self.now.slots.now log.now result ≡ noted_by self.now.slots.now log.now kept.now }
         ensures sound { IsSound log.now point result }
+        ensures shown { ShowsKept log.now shown.now result }
         ensures clean { IsCleanIn (R.image self.now.rules.now) (R.thread self.now.rules.now).thread self.now.slots.now log.now result }
     {
         match kept {
@@ -176,7 +180,7 @@ impl<R: ThreadRules> Program<'_, '_, R> {
                 bounds: known.bounds,
                 measure: known.measure,
                 part: known.part,
-                is_clean: self.has_no_stray_slot(point, noted, known, log),
+                is_clean: self.has_no_stray_slot(point, noted, known, log, shown),
             }),
             Kept::Missing => Kept::Missing,
             Kept::Unmeasured => Kept::Unmeasured,
@@ -190,12 +194,14 @@ impl<R: ThreadRules> Program<'_, '_, R> {
         noted: Option<&RecordRef<'_>>,
         known: &Known,
         log: &mut SlotLog,
+        shown: &ShownPart,
     ) -> Result<Kept, AllocError>
         requires program { IsProgram (R.image self.now.rules.now) (R.thread self.now.rules.now) self.now.thread.now self.now.number self.now.slots.now }
         requires rules { R.holds self.now.rules.now }
         requires noted { option_map (λ r. r.now) noted ≡ record_of self.now.thread.now point }
         requires few { point ≤ 65536 }
         requires sound { IsSound log.old point (kept.Known known.now) }
+        requires shown { Shows log.old known.now.part shown.now }
         requires clean { IsCleanIn (R.image self.now.rules.now) (R.thread self.now.rules.now).thread self.now.slots.now log.old (kept.Known known.now) }
         ensures same { IfOk result (λ k. noted_by self.now.slots.now log.new k
             ≡ follows_call self.now.thread.now (measure_of known.now.measure) (call_at (R.image self.now.rules.now) (R.thread self.now.rules.now) point (state_by self.now.slots.now log.old known.now))) }
@@ -204,7 +210,7 @@ impl<R: ThreadRules> Program<'_, '_, R> {
         ensures others { IfOk result (λ _. KeepsParts log.old log.new) }
     {
         let mut made = Vec::new(self.alloc);
-        let slots = log.slots(self.slots, known.part);
+        let slots = shown.slots(self.slots);
         let called = self.called(
             point,
             noted,
@@ -227,12 +233,14 @@ impl<R: ThreadRules> Program<'_, '_, R> {
         noted: Option<&RecordRef<'_>>,
         kept: &Kept,
         log: &mut SlotLog,
+        shown: &ShownPart,
     ) -> Result<Kept, AllocError>
         requires program { IsProgram (R.image self.now.rules.now) (R.thread self.now.rules.now) self.now.thread.now self.now.number self.now.slots.now }
         requires rules { R.holds self.now.rules.now }
         requires within { point < self.now.thread.now.header.words }
         requires noted { option_map (λ r. r.now) noted ≡ record_of self.now.thread.now point }
         requires sound { IsSound log.old point kept.now }
+        requires shown { ShowsKept log.old shown.now kept.now }
         requires clean { IsCleanIn (R.image self.now.rules.now) (R.thread self.now.rules.now).thread self.now.slots.now log.old kept.now }
         ensures same { IfOk result (λ k. noted_by self.now.slots.now log.new k ≡ follows (R.image self.now.rules.now) (R.thread self.now.rules.now) point (noted_by self.now.slots.now log.old kept.now)) }
         ensures sound { IfOk result (IsSound log.new (point + 1)) }
@@ -244,7 +252,7 @@ impl<R: ThreadRules> Program<'_, '_, R> {
         };
         match decode(self.thread.word(point)) {
             None => Ok(Kept::Missing),
-            Some(Instr::Ecall) => self.behind_called(point, noted, known, log),
+            Some(Instr::Ecall) => self.behind_called(point, noted, known, log, shown),
             Some(instr) => Ok(behind_instruction(self.address(point), instr, known)),
         }
     }

@@ -1,25 +1,34 @@
 //! The ways on from a point with a state.
 
-ghost use Rattle.std.specs.Prelude.{ℕ, ◌≡◌, ◌+◌, ◌<◌, ◌≢◌, IfSome, List, None, Option, Some, false, option_map, true, if◌then◌else◌};
-ghost use Rattle.certificates.specs.Kept.{IsRead};
+ghost use Rattle.std.specs.Prelude.{ℕ, ◌≡◌, ◌+◌, ◌<◌, ◌≢◌, IfOk, IfSome, List, None, Option, Some, false, option_map, true, if◌then◌else◌};
+ghost use Rattle.certificates.specs.Kept.{HasPart, IsRead, noted_by, state_by};
 ghost use Rattle.certificates.specs.PointChecks.{IsBefore, is_branch, later_rules, way_rules};
 ghost use Rattle.certificates.specs.Programs.{IsProgram};
+ghost use Rattle.measure.specs.Measures.{measure_of};
 ghost use Rattle.model.specs.Acceptance.Edges.{Edge as RuleEdge, after};
-ghost use Rattle.model.specs.Acceptance.PointRules.{noted_at, point_at, rules_on_edges};
-ghost use Rattle.model.specs.Acceptance.PointStates.{Known, address_of, instruction_at, noted};
-ghost use Rattle.model.specs.Acceptance.NotedStates.{PointState as State, record_of};
+ghost use Rattle.model.specs.Acceptance.PointRules.{edge_rules, noted_at, point_at, rules_on_edges};
+ghost use Rattle.model.specs.Acceptance.PointStates as states;
+ghost use Rattle.model.specs.Acceptance.PointStates.{address_of, instruction_at, noted};
+ghost use Rattle.model.specs.Acceptance.NotedStates.{NotedSlot, PointState as State, record_of};
 ghost use Rattle.model.specs.declared.ranges.Range.{Range};
 ghost use Rattle.model.specs.Acceptance.Rules.{first_broken};
+ghost use Rattle.model.specs.Images.Image.{Thread};
 ghost use Rattle.model.specs.Machine.Instructions.{IsInstr};
 ghost use Rattle.model.specs.declared.instructions.Instr.TheVariants.{Ecall};
-ghost use Rattle.point_rules.specs.Points.{HasImage, noted_of, state_of};
+ghost use Rattle.point_rules.specs.Points.{edge_of};
 ghost use Rattle.ranges.specs.Edges.{way_of};
+ghost use Rattle.typestate.specs.Differences.{changed, slots_of};
+ghost use Rattle.typestate.specs.Logs.{Shows};
+ghost use Rattle.typestate.specs.Orders.{Rise};
 
+use crate::kept::{Kept, Known};
 use crate::{Points, Program, ThreadRules};
-use measure::AfterInstruction;
-use model::{Instr, Refusal};
-use point_rules::{Noted, PointState, Way, leads_to, left_calls_are_kept, left_states_are_kept};
+use measure::{AfterInstruction, Measure, Step};
+use model::{Instr, Point, Refusal};
+use point_rules::{Way, kept_at, leads_to, left_calls_are_kept, left_states_are_kept};
 use ranges::{Bounds, Edge, after};
+use std::alloc::AllocError;
+use typestate::{Part, ShownPart};
 
 /// The ranges before an instruction, for the values that come this way: a branch leaves only some of them.
 fn before<'b>(instr: Instr, bounds: &'b Bounds, edge: &'b Edge) -> &'b Bounds
@@ -58,50 +67,116 @@ impl<R: ThreadRules> Program<'_, '_, R> {
         }
     }
 
-    /// What is noted of the point at an address.
-    pub(crate) fn noted_at<'n>(&'n self, points: &'n Points, address: u32) -> Noted<'n>
+    /// What is kept of the point at an address: nothing, where the program has none there.
+    fn kept_at(&self, points: &Points, address: u32) -> Kept
         requires program { IsProgram (R.image self.now.rules.now) (R.thread self.now.rules.now) self.now.thread.now self.now.number self.now.slots.now }
         requires read { IsRead (R.image self.now.rules.now) (R.thread self.now.rules.now) self.now.slots.now points.now.log points.now.kept.items }
-        ensures noted { noted_of result ≡ noted_at (R.image self.now.rules.now) (R.thread self.now.rules.now) address }
-        ensures image { HasImage self.now.slots.now result }
+        ensures noted { noted_by self.now.slots.now points.now.log result ≡ noted_at (R.image self.now.rules.now) (R.thread self.now.rules.now) address }
+        ensures held { HasPart points.now.log result }
     {
         match self.point_at(address) {
-            Some(point) => points.kept[point as usize].noted(self.slots, &points.log),
-            None => Noted::Missing,
+            Some(point) => points.kept[point as usize],
+            None => Kept::Missing,
         }
     }
 
-    /// What a way on from an instruction at a point breaks.
+    /// What a way on breaks that leads from this part's slots to a point with the same part: they are not looked at.
+    fn way_within<S: Step>(
+        &self,
+        shown: &ShownPart,
+        at: Point,
+        measure: &Measure,
+        way: &Way<'_>,
+        step: &S,
+        known: &Known,
+    ) -> Option<Refusal>
+        requires program { IsProgram (R.image self.now.rules.now) (R.thread self.now.rules.now) self.now.thread.now self.now.number self.now.slots.now }
+        requires image { way.now.slots.image.now ≡ self.now.slots.now }
+        requires shown { Rise shown.now.changes.items }
+        requires slots { slots_of way.now.slots ≡ changed self.now.slots.now shown.now.changes.items }
+        ensures { (log : List NotedSlot) (t : Thread) (a : ℕ) → Shows log known.now.part shown.now → t.header.budget ≡ self.now.thread.now.header.budget
+            → result ≡ first_broken (edge_rules t at (measure_of measure.now) (edge_of a (S.value_of step.now) way.now) (states.Known (state_by self.now.slots.now log known.now))) }
+    {
+        let state = known.state(self.slots, shown);
+        let way = Way {
+            before: way.before,
+            behind: way.behind,
+            slots: way.slots,
+            keeps_slots: true,
+            is_wait: way.is_wait,
+        };
+        kept_at(self.thread.header().budget, at, measure, &way, step, &state)
+    }
+
+    /// What a way on breaks that leads from the slots of this part to an address. Memory may be refused.
+    pub(crate) fn way_to<S: Step>(
+        &self,
+        points: &Points,
+        shown: &ShownPart,
+        part: Part,
+        at: Point,
+        measure: &Measure,
+        way: &Way<'_>,
+        step: &S,
+        address: u32,
+    ) -> Result<Option<Refusal>, AllocError>
+        requires program { IsProgram (R.image self.now.rules.now) (R.thread self.now.rules.now) self.now.thread.now self.now.number self.now.slots.now }
+        requires read { IsRead (R.image self.now.rules.now) (R.thread self.now.rules.now) self.now.slots.now points.now.log points.now.kept.items }
+        requires image { way.now.slots.image.now ≡ self.now.slots.now }
+        requires plain { way.now.keeps_slots ≡ false }
+        requires shown { Shows points.now.log part shown.now }
+        requires slots { slots_of way.now.slots ≡ changed self.now.slots.now shown.now.changes.items }
+        ensures { (t : Thread) (a : ℕ) → t.header.budget ≡ self.now.thread.now.header.budget
+            → IfOk result (λ broken. broken ≡ first_broken (edge_rules t at (measure_of measure.now) (edge_of a (S.value_of step.now) way.now) (noted_at (R.image self.now.rules.now) (R.thread self.now.rules.now) address))) }
+    {
+        let kept = self.kept_at(points, address);
+        match kept {
+            Kept::Known(known) if known.part.is_same(part) => {
+                Ok(self.way_within(shown, at, measure, way, step, &known))
+            }
+            _ => {
+                let there = kept.shown(self.alloc, &points.log)?;
+                let target = kept.noted(self.slots, &there);
+                Ok(leads_to(self.thread.header().budget, at, measure, way, step, &target))
+            }
+        }
+    }
+
+    /// What a way on from an instruction at a point breaks, whose part is shown. Memory may be refused.
     fn way_rules(
         &self,
         points: &Points,
+        shown: &ShownPart,
         point: u32,
         instr: Instr,
-        state: &PointState<'_>,
+        known: &Known,
         way: &Edge,
-    ) -> Option<Refusal>
+    ) -> Result<Option<Refusal>, AllocError>
         requires program { IsProgram (R.image self.now.rules.now) (R.thread self.now.rules.now) self.now.thread.now self.now.number self.now.slots.now }
         requires read { IsRead (R.image self.now.rules.now) (R.thread self.now.rules.now) self.now.slots.now points.now.log points.now.kept.items }
         requires instr { IsInstr instr }
-        requires image { state.now.slots.image.now ≡ self.now.slots.now }
-        ensures { (edge : RuleEdge) → way_of edge ≡ way.now → edge.before ≡ (if is_branch instr then edge.ranges else state.now.bounds)
-            → result ≡ first_broken (way_rules (R.image self.now.rules.now) (R.thread self.now.rules.now) point (state_of state.now) instr (Some edge)) }
+        requires shown { Shows points.now.log known.now.part shown.now }
+        ensures { (edge : RuleEdge) → way_of edge ≡ way.now → edge.before ≡ (if is_branch instr then edge.ranges else known.now.bounds)
+            → IfOk result (λ broken. broken ≡ first_broken (way_rules (R.image self.now.rules.now) (R.thread self.now.rules.now) point (state_by self.now.slots.now points.now.log known.now) instr (Some edge))) }
     {
         let found = Way {
-            before: before(instr, &state.bounds, way),
+            before: before(instr, &known.bounds, way),
             behind: &way.bounds,
-            slots: state.slots,
+            slots: shown.slots(self.slots),
+            keeps_slots: false,
             is_wait: false,
         };
         let step = AfterInstruction::new(instr, found.before, found.behind);
-        let target = self.noted_at(points, way.target);
-        leads_to(
-            self.thread.header().budget,
-            self.at(point),
-            &state.measure,
+        let at = self.at(point);
+        self.way_to(
+            points,
+            shown,
+            known.part,
+            at,
+            &known.measure,
             &found,
             &step,
-            &target,
+            way.target,
         )
     }
 
@@ -109,21 +184,22 @@ impl<R: ThreadRules> Program<'_, '_, R> {
     fn option_rules(
         &self,
         points: &Points,
+        shown: &ShownPart,
         point: u32,
         instr: Instr,
-        state: &PointState<'_>,
+        known: &Known,
         way: &Option<Edge>,
-    ) -> Option<Refusal>
+    ) -> Result<Option<Refusal>, AllocError>
         requires program { IsProgram (R.image self.now.rules.now) (R.thread self.now.rules.now) self.now.thread.now self.now.number self.now.slots.now }
         requires read { IsRead (R.image self.now.rules.now) (R.thread self.now.rules.now) self.now.slots.now points.now.log points.now.kept.items }
         requires instr { IsInstr instr }
-        requires image { state.now.slots.image.now ≡ self.now.slots.now }
-        ensures { (edge : Option RuleEdge) → option_map way_of edge ≡ way.now → IsBefore instr state.now.bounds edge
-            → result ≡ first_broken (way_rules (R.image self.now.rules.now) (R.thread self.now.rules.now) point (state_of state.now) instr edge) }
+        requires shown { Shows points.now.log known.now.part shown.now }
+        ensures { (edge : Option RuleEdge) → option_map way_of edge ≡ way.now → IsBefore instr known.now.bounds edge
+            → IfOk result (λ broken. broken ≡ first_broken (way_rules (R.image self.now.rules.now) (R.thread self.now.rules.now) point (state_by self.now.slots.now points.now.log known.now) instr edge)) }
     {
         match way {
-            Some(way) => self.way_rules(points, point, instr, state, way),
-            None => None,
+            Some(way) => self.way_rules(points, shown, point, instr, known, way),
+            None => Ok(None),
         }
     }
 
@@ -134,10 +210,10 @@ impl<R: ThreadRules> Program<'_, '_, R> {
         requires read { IsRead (R.image self.now.rules.now) (R.thread self.now.rules.now) self.now.slots.now points.now.log points.now.kept.items }
         requires within { point < self.now.thread.now.header.words }
         requires next { is_next_noted ≡ false → record_of self.now.thread.now (point + 1) ≡ None }
-        ensures plain { (s : State) (instr : Instr) → result ≡ true → Known s ≡ noted (R.image self.now.rules.now) (R.thread self.now.rules.now) point
+        ensures plain { (s : State) (instr : Instr) → result ≡ true → states.Known s ≡ noted (R.image self.now.rules.now) (R.thread self.now.rules.now) point
             → instruction_at self.now.thread.now point ≡ Some instr → instr ≢ Ecall
             → first_broken (way_rules (R.image self.now.rules.now) (R.thread self.now.rules.now) point s instr (after (address_of self.now.thread.now point) instr s.ranges).fall_through) ≡ None }
-        ensures call { (s : State) → result ≡ true → Known s ≡ noted (R.image self.now.rules.now) (R.thread self.now.rules.now) point
+        ensures call { (s : State) → result ≡ true → states.Known s ≡ noted (R.image self.now.rules.now) (R.thread self.now.rules.now) point
             → instruction_at self.now.thread.now point ≡ Some Ecall
             → first_broken (later_rules (R.image self.now.rules.now) (R.thread self.now.rules.now) point s (Some Ecall)) ≡ None }
     {
@@ -152,55 +228,57 @@ impl<R: ThreadRules> Program<'_, '_, R> {
         }
     }
 
-    /// What the taken way on from an instruction breaks.
+    /// What the taken way on from an instruction breaks. Memory may be refused.
     fn taken_rules(
         &self,
         points: &Points,
+        shown: &ShownPart,
         point: u32,
         instr: Instr,
-        state: &PointState<'_>,
-    ) -> Option<Refusal>
+        known: &Known,
+    ) -> Result<Option<Refusal>, AllocError>
         requires program { IsProgram (R.image self.now.rules.now) (R.thread self.now.rules.now) self.now.thread.now self.now.number self.now.slots.now }
         requires read { IsRead (R.image self.now.rules.now) (R.thread self.now.rules.now) self.now.slots.now points.now.log points.now.kept.items }
         requires within { point < self.now.thread.now.header.words }
         requires instr { IsInstr instr }
-        requires image { state.now.slots.image.now ≡ self.now.slots.now }
-        ensures { result ≡ first_broken (way_rules (R.image self.now.rules.now) (R.thread self.now.rules.now) point (state_of state.now) instr (after (address_of self.now.thread.now point) instr state.now.bounds).taken) }
+        requires shown { Shows points.now.log known.now.part shown.now }
+        ensures { IfOk result (λ broken. broken ≡ first_broken (way_rules (R.image self.now.rules.now) (R.thread self.now.rules.now) point (state_by self.now.slots.now points.now.log known.now) instr (after (address_of self.now.thread.now point) instr known.now.bounds).taken)) }
     {
         if takes_no_way(instr) {
-            return None;
+            return Ok(None);
         }
-        let ways = after(self.address(point), instr, &state.bounds);
-        self.option_rules(points, point, instr, state, &ways.taken)
+        let ways = after(self.address(point), instr, &known.bounds);
+        self.option_rules(points, shown, point, instr, known, &ways.taken)
     }
 
-    /// What the ways on from an instruction break that is no system call, the taken one first.
+    /// What the ways on from an instruction break that is no system call, the taken one first. Memory may be refused.
     pub(crate) fn ways_rules(
         &self,
         points: &Points,
+        shown: &ShownPart,
         point: u32,
         instr: Instr,
-        state: &PointState<'_>,
+        known: &Known,
         is_next_noted: bool,
-    ) -> Option<Refusal>
+    ) -> Result<Option<Refusal>, AllocError>
         requires program { IsProgram (R.image self.now.rules.now) (R.thread self.now.rules.now) self.now.thread.now self.now.number self.now.slots.now }
         requires read { IsRead (R.image self.now.rules.now) (R.thread self.now.rules.now) self.now.slots.now points.now.log points.now.kept.items }
         requires within { point < self.now.thread.now.header.words }
         requires next { is_next_noted ≡ false → record_of self.now.thread.now (point + 1) ≡ None }
-        requires known { Known (state_of state.now) ≡ noted (R.image self.now.rules.now) (R.thread self.now.rules.now) point }
+        requires known { states.Known (state_by self.now.slots.now points.now.log known.now) ≡ noted (R.image self.now.rules.now) (R.thread self.now.rules.now) point }
         requires instr { IsInstr instr }
         requires is { instruction_at self.now.thread.now point ≡ Some instr }
         requires plain { instr ≢ Ecall }
-        requires image { state.now.slots.image.now ≡ self.now.slots.now }
-        ensures { result ≡ first_broken (rules_on_edges (R.image self.now.rules.now) (R.thread self.now.rules.now) point (state_of state.now)) }
+        requires shown { Shows points.now.log known.now.part shown.now }
+        ensures { IfOk result (λ broken. broken ≡ first_broken (rules_on_edges (R.image self.now.rules.now) (R.thread self.now.rules.now) point (state_by self.now.slots.now points.now.log known.now))) }
     {
         if self.leaves_next(points, point, is_next_noted) {
-            return self.taken_rules(points, point, instr, state);
+            return self.taken_rules(points, shown, point, instr, known);
         }
-        let ways = after(self.address(point), instr, &state.bounds);
-        match self.option_rules(points, point, instr, state, &ways.taken) {
-            Some(refusal) => Some(refusal),
-            None => self.option_rules(points, point, instr, state, &ways.fall_through),
+        let ways = after(self.address(point), instr, &known.bounds);
+        match self.option_rules(points, shown, point, instr, known, &ways.taken)? {
+            Some(refusal) => Ok(Some(refusal)),
+            None => self.option_rules(points, shown, point, instr, known, &ways.fall_through),
         }
     }
 }

@@ -48,7 +48,7 @@ own-slot s =
     all-three (is_same_key s.key s.key) (same_words (words_of s.capability) (words_of s.capability)) (is_same_parent s.parent s.parent)
     (own-number _) (own-words (words_of s.capability)) (own-parent s.parent)
 
-own-slots : (slots : List NotedSlot) → are_same_slots slots slots ≡ true
+pub own-slots : (slots : List NotedSlot) → are_same_slots slots slots ≡ true
 own-slots [] = refl
 own-slots (s ∷ slots) = ap (λ (b : Bool). b && are_same_slots slots slots) (own-slot s) ∙ own-slots slots
 

@@ -43,3 +43,9 @@ abbrev pub HasImage : List NotedSlot → Found → Type 0
 HasImage slots (found.Known s) = s.slots.image.now ≡ slots
 HasImage slots found.Missing = Unit {0}
 HasImage slots found.Unmeasured = Unit {0}
+
+-- a state has these slots
+abbrev pub HasSlots : List NotedSlot → Found → Type 0
+HasSlots slots (found.Known s) = slots_of s.slots ≡ slots
+HasSlots slots found.Missing = Unit {0}
+HasSlots slots found.Unmeasured = Unit {0}

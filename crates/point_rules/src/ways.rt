@@ -1,11 +1,13 @@
 //! The ways on from a point.
 
-ghost use Rattle.std.specs.Prelude.{ℕ, ◌≡◌, ◌↔◌, IsTrue};
+ghost use Rattle.std.specs.Prelude.{ℕ, ◌≡◌, ◌↔◌, IsTrue, true};
 ghost use Rattle.measure.specs.Measures.{measure_of};
+ghost use Rattle.model.specs.Acceptance.NotedStates.{are_same_slots};
 ghost use Rattle.model.specs.Acceptance.PointRules.{are_ranges_within, edge_rules, kept_at};
 ghost use Rattle.model.specs.Acceptance.Rules.{first_broken};
 ghost use Rattle.model.specs.Images.Image.{Thread};
-ghost use Rattle.point_rules.specs.Points.{HasImage, edge_of, noted_of, state_of};
+ghost use Rattle.point_rules.specs.Points.{HasImage, HasSlots, edge_of, noted_of, state_of};
+ghost use Rattle.typestate.specs.Differences.{slots_of};
 
 use crate::{Noted, PointState};
 use measure::{Measure, Step, falls, stays_below};
@@ -13,14 +15,26 @@ use model::{Point, Refusal};
 use ranges::Bounds;
 use typestate::NotedSlots;
 
-/// A way on from a point: what is known of the registers before it and behind it, the slots behind it, and whether the
-/// budget is there anew.
+/// A way on from a point: what is known of the registers before it and behind it, the slots behind it, whether it is known that
+/// the point that it leads to has those, and whether the budget is there anew.
 #[derive(Clone, Copy, Debug)]
 pub struct Way<'s> {
     pub before: &'s Bounds,
     pub behind: &'s Bounds,
     pub slots: NotedSlots<'s>,
+    pub keeps_slots: bool,
     pub is_wait: bool,
+}
+
+impl Way<'_> {
+    /// Whether the slots behind it are these: where that is known, they are not looked at.
+    fn leaves(&self, slots: &NotedSlots<'_>) -> bool
+        requires image { slots.now.image.now ≡ self.now.slots.image.now }
+        requires kept { self.now.keeps_slots ≡ true → slots_of slots.now ≡ slots_of self.now.slots }
+        ensures { result ≡ are_same_slots (slots_of self.now.slots) (slots_of slots.now) }
+    {
+        self.keeps_slots || self.slots.is_same(slots)
+    }
 }
 
 /// Whether each register's range lies within that of others.
@@ -41,13 +55,14 @@ pub fn kept_at<S: Step>(
     step: &S,
     target: &PointState<'_>,
 ) -> Option<Refusal>
-    requires { target.now.slots.image.now ≡ way.now.slots.image.now }
+    requires image { target.now.slots.image.now ≡ way.now.slots.image.now }
+    requires kept { way.now.keeps_slots ≡ true → slots_of target.now.slots ≡ slots_of way.now.slots }
     ensures { (t : Thread) (address : ℕ) → t.header.budget ≡ budget → result ≡ first_broken (kept_at t at (measure_of measure.now) (edge_of address (S.value_of step.now) way.now) (state_of target.now)) }
 {
     if !are_within(way.behind, &target.bounds) {
         return Some(Refusal::RangeNotKept(at));
     }
-    if !way.slots.is_same(&target.slots) {
+    if !way.leaves(&target.slots) {
         return Some(Refusal::CapNotThere(at));
     }
     if way.is_wait {
@@ -70,7 +85,8 @@ pub fn leads_to<S: Step>(
     step: &S,
     target: &Noted<'_>,
 ) -> Option<Refusal>
-    requires { HasImage way.now.slots.image.now target.now }
+    requires image { HasImage way.now.slots.image.now target.now }
+    requires kept { way.now.keeps_slots ≡ true → HasSlots (slots_of way.now.slots) target.now }
     ensures { (t : Thread) (address : ℕ) → t.header.budget ≡ budget → result ≡ first_broken (edge_rules t at (measure_of measure.now) (edge_of address (S.value_of step.now) way.now) (noted_of target.now)) }
 {
     match target {

@@ -38,7 +38,7 @@ pub use laws::{
     no_stray_slot_leads_outside, points_without_stray_slots_have_none, records_note_changes,
     tidy_changes_leave_no_stray_slot, tidy_puts_leave_no_stray_slot,
 };
-pub use logs::{Part, SlotLog};
+pub use logs::{Part, ShownPart, SlotLog};
 pub use messages::message_call;
 pub use points::NotedSlots;
 pub use records::note_record;

@@ -1,9 +1,9 @@
 //! A log of changes to slots. The slots at each point of a program are the image's with a part of it made.
 
-ghost use Rattle.std.specs.Prelude.{◌≡◌, [], ◌∷◌, ◌++◌, IfOk, Some, List, length, map, true, if◌then◌else◌};
+ghost use Rattle.std.specs.Prelude.{◌≡◌, [], ◌++◌, IfOk, Some, List, length, map, true, if◌then◌else◌};
 ghost use Rattle.model.specs.Acceptance.NotedStates.{NotedSlot, SlotKey, entry_slot, is_same_key, slot_at};
 ghost use Rattle.typestate.specs.Differences.{changed, slots_of};
-ghost use Rattle.typestate.specs.Logs.{Holds, KeepsParts, part_of};
+ghost use Rattle.typestate.specs.Logs.{Holds, IsNext, KeepsParts, Shows, ShowsSome, part_of};
 ghost use Rattle.typestate.specs.Orders.{Rise};
 ghost use Rattle.typestate.specs.Unlinked.{AreUnlinked};
 
@@ -20,10 +20,17 @@ pub struct Part {
     pub end: usize,
 }
 
-/// Changes to slots, part after part. In a part the keys rise. A clause sees their list.
+/// Changes to slots in the order in which they were made, part after part. A clause sees their list.
 #[derive(Drop)]
 pub struct SlotLog {
     alloc: Global,
+    changes: Vec<NotedSlot>,
+}
+
+/// What a part of a log changes, by the slots: their keys rise, and of the changes to one slot only the last is there.
+#[derive(Drop)]
+pub struct ShownPart {
+    part: Part,
     changes: Vec<NotedSlot>,
 }
 
@@ -40,47 +47,57 @@ fn put(changes: &mut Vec<NotedSlot>, change: NotedSlot) -> Result<(), AllocError
     Ok(())
 }
 
-/// Changes whose keys rise, with others made behind them. Memory may be refused.
-fn joined(
-    alloc: Global,
-    changes: &[NotedSlot],
-    made: &[NotedSlot],
-) -> Result<Vec<NotedSlot>, AllocError>
-    requires { Rise changes.now }
-    ensures rising { IfOk result (λ both. Rise both.items) }
-    ensures same { IfOk result (λ both. (slots : List NotedSlot) → Rise slots → changed slots both.items ≡ changed (changed slots changes.now) made.now) }
+/// Puts changes one after another among changes whose keys rise. Memory may be refused.
+fn put_all(changes: &mut Vec<NotedSlot>, made: &[NotedSlot]) -> Result<(), AllocError>
+    requires { Rise changes.old.items }
+    ensures rising { IfOk result (λ _. Rise changes.new.items) }
+    ensures same { IfOk result (λ _. (slots : List NotedSlot) → Rise slots → changed slots changes.new.items ≡ changed (changed slots changes.old.items) made.now) }
 {
-    let mut both = Vec::new(alloc);
-    both.extend_from_slice(changes)?;
     for change in made {
-        put(&mut both, *change)?;
+        put(changes, *change)?;
     }
-    Ok(both)
+    Ok(())
 }
 
-/// Whether keys rise from a change on over those behind it.
-fn rise_from(first: NotedSlot, changes: &[NotedSlot]) -> bool
-    ensures { result ≡ true → Rise (first ∷ changes.now) }
-{
-    let mut last = first.key.number();
-    for change in changes {
-        let number = change.key.number();
-        if number <= last {
-            return false;
+impl Part {
+    /// Whether both are the same part of a log.
+    pub fn is_same(&self, other: Part) -> bool
+        ensures { result ≡ true → self.now ≡ other }
+    {
+        self.first == other.first && self.end == other.end
+    }
+}
+
+impl ShownPart {
+    /// Of a log without parts: no changes.
+    pub fn new(alloc: Global) -> Self
+        ensures { (log : List NotedSlot) → ShowsSome log result }
+    {
+        ShownPart {
+            part: Part { first: 0, end: 0 },
+            changes: Vec::new(alloc),
         }
-        last = number;
     }
-    true
-}
 
-/// Whether keys that rise go on to rise over changes made behind them. Behind no changes it is not asked.
-fn rise_on(changes: &[NotedSlot], made: &[NotedSlot]) -> bool
-    requires { Rise changes.now }
-    ensures { result ≡ true → Rise (changes.now ++ made.now) }
-{
-    match changes.last() {
-        Some(last) => rise_from(*last, made),
-        None => false,
+    /// Whether another part begins with this one.
+    fn begins(&self, part: Part) -> bool
+        ensures { result ≡ true → IsNext self.now.part part }
+    {
+        self.part.first == part.first && self.part.end <= part.end
+    }
+
+    /// The slots with the changes made to those of the image.
+    pub fn slots<'s>(&'s self, image: &'s [NotedSlot]) -> NotedSlots<'s>
+        requires shown { Rise self.now.changes.items }
+        requires rising { Rise image.now }
+        requires unlinked { AreUnlinked image.now }
+        ensures slots { slots_of result ≡ changed image.now self.now.changes.items }
+        ensures image { result.image.now ≡ image.now }
+    {
+        NotedSlots {
+            image,
+            changes: &self.changes,
+        }
     }
 }
 
@@ -106,7 +123,6 @@ impl SlotLog {
 
     /// Appends changes as a part of their own. Memory may be refused.
     fn append(&mut self, changes: &[NotedSlot]) -> Result<Part, AllocError>
-        requires { Rise changes.now }
         ensures held { IfOk result (Holds self.new) }
         ensures part { IfOk result (λ part. part_of self.new part ≡ changes.now) }
         ensures others { IfOk result (λ _. KeepsParts self.old self.new) }
@@ -117,20 +133,10 @@ impl SlotLog {
         Ok(Part { first, end })
     }
 
-    /// Whether a part can take changes in where it stands: it is the last one, and its keys go on to rise over theirs.
-    fn takes_in(&self, part: Part, made: &[NotedSlot]) -> bool
-        requires { Holds self.now part }
-        ensures last { result ≡ true → part.end ≡ length self.now }
-        ensures rising { result ≡ true → Rise (part_of self.now part ++ made.now) }
-    {
-        part.end == self.changes.len() && rise_on(&self.changes[part.first..part.end], made)
-    }
-
     /// Appends changes to the last part, which holds them then. Memory may be refused.
     fn grow(&mut self, part: Part, made: &[NotedSlot]) -> Result<Part, AllocError>
         requires held { Holds self.old part }
         requires last { part.end ≡ length self.old }
-        requires rising { Rise (part_of self.old part ++ made.now) }
         ensures held { IfOk result (Holds self.new) }
         ensures part { IfOk result (λ longer. part_of self.new longer ≡ part_of self.old part ++ made.now) }
         ensures others { IfOk result (λ _. KeepsParts self.old self.new) }
@@ -143,6 +149,19 @@ impl SlotLog {
         })
     }
 
+    /// Appends the changes of a part with others behind them, as a part of their own. Memory may be refused.
+    fn repeat(&mut self, part: Part, made: &[NotedSlot]) -> Result<Part, AllocError>
+        requires { Holds self.old part }
+        ensures held { IfOk result (Holds self.new) }
+        ensures part { IfOk result (λ longer. part_of self.new longer ≡ part_of self.old part ++ made.now) }
+        ensures others { IfOk result (λ _. KeepsParts self.old self.new) }
+    {
+        let mut both = Vec::new(self.alloc);
+        both.extend_from_slice(&self.changes[part.first..part.end])?;
+        both.extend_from_slice(made)?;
+        self.append(&both)
+    }
+
     /// Notes the slots of a record: its part leaves what they leave. Memory may be refused.
     pub fn note(&mut self, noted: &RecordRef<'_>) -> Result<Part, AllocError>
         ensures held { IfOk result (Holds self.new) }
@@ -151,12 +170,11 @@ impl SlotLog {
     {
         let mut made = Vec::new(self.alloc);
         note_record(&mut made, noted)?;
-        let both = joined(self.alloc, &[], &made)?;
-        self.append(&both)
+        self.append(&made)
     }
 
     /// Notes changes that follow those of a part: the new part leaves what both leave. Where nothing follows it is that part
-    /// itself, and the last part grows in place where it can. Memory may be refused.
+    /// itself, and the last part grows in place. Memory may be refused.
     pub fn follow(&mut self, part: Part, made: &[NotedSlot]) -> Result<Part, AllocError>
         requires { Holds self.old part }
         ensures held { IfOk result (Holds self.new) }
@@ -166,24 +184,40 @@ impl SlotLog {
         if made.is_empty() {
             return Ok(part);
         }
-        if self.takes_in(part, made) {
-            return self.grow(part, made);
+        if part.end == self.changes.len() {
+            self.grow(part, made)
+        } else {
+            self.repeat(part, made)
         }
-        let both = joined(self.alloc, &self.changes[part.first..part.end], made)?;
-        self.append(&both)
     }
 
-    /// The slots with the changes of a part made to those of the image.
-    pub fn slots<'s>(&'s self, image: &'s [NotedSlot], part: Part) -> NotedSlots<'s>
+    /// Goes on from a part that is shown to one that begins with it. Memory may be refused.
+    fn show_more(&self, shown: &mut ShownPart, part: Part) -> Result<(), AllocError>
+        requires old { ShowsSome self.now shown.old }
         requires held { Holds self.now part }
-        requires rising { Rise image.now }
-        requires unlinked { AreUnlinked image.now }
-        ensures slots { slots_of result ≡ changed image.now (part_of self.now part) }
-        ensures image { result.image.now ≡ image.now }
+        requires next { IsNext shown.old.part part }
+        ensures { IfOk result (λ _. Shows self.now part shown.new) }
     {
-        NotedSlots {
-            image,
-            changes: &self.changes[part.first..part.end],
+        put_all(&mut shown.changes, &self.changes[shown.part.end..part.end])?;
+        shown.part = part;
+        Ok(())
+    }
+
+    /// Shows a part in place of another one. What it begins with is not gone through again. Memory may be refused.
+    pub fn show(&self, shown: &mut ShownPart, part: Part) -> Result<(), AllocError>
+        requires old { ShowsSome self.now shown.old }
+        requires held { Holds self.now part }
+        ensures { IfOk result (λ _. Shows self.now part shown.new) }
+    {
+        if !shown.begins(part) {
+            *shown = ShownPart {
+                part: Part {
+                    first: part.first,
+                    end: part.first,
+                },
+                changes: Vec::new(self.alloc),
+            };
         }
+        self.show_more(shown, part)
     }
 }

@@ -2,8 +2,9 @@
 use Rattle.std.proofs.Common.{ℕ, ◌≡◌, ◌∙◌, ◌+◌, ◌++◌, ◌≤◌, ◌^◌, negsuc, Option, Some, None, option_map, IfSome, List, [], ◌∷◌, length, refl, sym, ap, subst, arith}
 use Rattle.std.specs.Prelude.{◌≤ℤ◌}
 use Rattle.std.proofs.lemmas.List.{length-append}
-use Rattle.certificates.proofs.EachPoint.{before, grown, next-before, none-yet, noted-is, one-more}
+use Rattle.certificates.proofs.EachPoint.{before, grown, has-part, next-before, none-yet, noted-is, one-more}
 use Rattle.certificates.proofs.NextRecords.{AreLeft, all-left, next-record, taken-fits}
+use Rattle.certificates.proofs.ShownParts.{some-grown}
 use Rattle.certificates.proofs.points.Points.of.Goals as goal
 use Rattle.certificates.specs.Kept.{AreKept, IsKeptAt, noted_by}
 use Rattle.certificates.specs.declared.kept.Kept.{Kept}
@@ -24,6 +25,7 @@ points-init g c =
       refl,
       tt,
       tt,
+      c.new-shown.ensures c.new-log.result,
     )
 
 pub noted_or-requires : goal.noted_or-requires
@@ -51,6 +53,12 @@ pub following-requires-clause-noted : goal.following-requires-clause-noted
 following-requires-clause-noted g c =
     c.as_ref-in-points-2.ensures.value ∙ c.take-noted.ensures.record
     ∙ sym (next-record c.args.program.now.thread.now c.points.point c.points.records c.points.invariant.2).0
+
+pub show-requires-clause-held : goal.show-requires-clause-held
+show-requires-clause-held g c = has-part c.noted_or.new.log c.points.point c.in_ok-found.found (c.in_ok-found.ensures.sound c.points.point c.points.invariant.4)
+
+pub show-requires-clause-old : goal.show-requires-clause-old
+show-requires-clause-old g c = some-grown c.points.log c.noted_or.new.log c.points.shown c.in_ok-found.ensures.others c.points.invariant.6
 
 pub points-preserved : goal.points-preserved
 points-preserved g c =
@@ -86,4 +94,5 @@ points-preserved g c =
       c.in_ok-derived.ensures.same ∙ ap (follows image t point) same ∙ next-before image t point,
       c.in_ok-derived.ensures.sound,
       c.in_ok-derived.ensures.clean,
+      some-grown log c.following.new.log c.show.new.shown c.in_ok-derived.ensures.others c.in_ok-show.ensures.some,
     )

@@ -4,6 +4,7 @@ use Rattle.certificates.proofs.EachPoint.{before}
 use Rattle.certificates.proofs.NextRecords.{AreLeft}
 use Rattle.certificates.proofs.points.Points.of.Given as goal
 use Rattle.certificates.specs.Kept.{AreKept, IsCleanIn, IsSound, noted_by}
+use Rattle.typestate.specs.Logs.{ShowsSome}
 
 abbrev pub invariant-points : goal.invariant-points
 invariant-points g l =
@@ -11,3 +12,4 @@ invariant-points g l =
     let t = g.R.ThreadRules.thread l.fn.program.rules.now in
     (length l.kept.items ≡ l.point) × AreKept image t l.fn.program.slots.now l.log l.kept.items × AreLeft l.fn.program.thread.now l.point l.records
     × (noted_by l.fn.program.slots.now l.log l.derived ≡ before image t l.point) × IsSound l.log l.point l.derived × IsCleanIn image t.thread l.fn.program.slots.now l.log l.derived
+    × ShowsSome l.log l.shown

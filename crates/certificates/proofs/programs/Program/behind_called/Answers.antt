@@ -20,7 +20,7 @@ returns-clause-same g c =
     ∙ ap (λ (all : List NotedSlot). behind_call own m (behind_with all b))
     (c.in_ok-part.ensures.same slots c.requires.program.rising ∙ ap (changed (changed slots part)) c.deref.ensures.value)
     ∙ ap (follows_call own m) (sym (call-made (g.R.ThreadRules.image c.args.self.now.rules.now) (g.R.ThreadRules.thread c.args.self.now.rules.now) c.args.point c.args.known.now.bounds m
-    (slots_of c.slots-slots.result) (changed slots part) c.called.new.made.items c.in_ok-called.called b c.slots-slots.ensures.slots
+    (slots_of c.slots-slots.result) (changed slots part) c.called.new.made.items c.in_ok-called.called b (c.slots-slots.ensures.slots ∙ c.requires.shown.same slots c.requires.program.rising)
     (c.in-Some-Ok.is ∙ ap Some c.in-Some-Ok.field-0-is) (c.in_ok-called.ensures.left m)))
 
 pub returns-clause-sound : goal.returns-clause-sound
@@ -36,5 +36,5 @@ returns-clause-clean g c =
     let part = part_of old c.args.known.now.part in
     c.behind_call.ensures.clean image t.thread slots c.follow.new.self
     (clean-made image t.thread (slots_of c.slots-slots.result) (changed slots part) c.called.new.made.items (changed slots (part_of c.follow.new.self c.in_ok-part.part)) c.in_ok-called.called c.in-Some-Ok.behind
-    c.slots-slots.ensures.slots (c.in-Some-Ok.is ∙ ap Some c.in-Some-Ok.field-0-is) c.in_ok-called.ensures.clean
+    (c.slots-slots.ensures.slots ∙ c.requires.shown.same slots c.requires.program.rising) (c.in-Some-Ok.is ∙ ap Some c.in-Some-Ok.field-0-is) c.in_ok-called.ensures.clean
     (c.in_ok-part.ensures.same slots c.requires.program.rising ∙ ap (changed (changed slots part)) c.deref.ensures.value))

@@ -1,13 +1,17 @@
 -- A log that grows keeps what is noted.
-use Rattle.std.proofs.Common.{◌∙◌, ◌+◌, List, ap}
+use Rattle.std.proofs.Common.{◌≡◌, ◌+◌, Option, IfOk, List, ap, subst}
 use Rattle.certificates.proofs.EachPoint.{grown-read}
+use Rattle.certificates.proofs.Outcomes.{always}
 use Rattle.certificates.proofs.programs.Program.behind_rules.Goals as goal
+use Rattle.certificates.specs.Kept.{IsRead}
 use Rattle.measure.specs.Measures.{measure_of}
 use Rattle.model.specs.Acceptance.NotedStates.{NotedSlot}
 use Rattle.model.specs.Acceptance.PointRules.{call_edge, edge_rules, noted_at}
 use Rattle.model.specs.Acceptance.PointStates.{address_of, point_of}
 use Rattle.model.specs.Acceptance.Rules.{first_broken}
+use Rattle.model.specs.declared.refusals.Refusal.{Refusal}
 use Rattle.typestate.specs.Calls.{behind_with}
+use Rattle.typestate.specs.Logs.{KeepsParts}
 
 pub way_behind-requires-clause-read : goal.way_behind-requires-clause-read
 way_behind-requires-clause-read g c =
@@ -16,8 +20,14 @@ way_behind-requires-clause-read g c =
 
 pub returns-clause-read : goal.returns-clause-read
 returns-clause-read g c =
-    grown-read (g.R.ThreadRules.image c.args.self.now.rules.now) (g.R.ThreadRules.thread c.args.self.now.rules.now) c.args.self.now.slots.now c.args.points.now.log c.follow.new.self
-    c.args.points.now.kept.items c.in_ok-part.ensures.others c.requires.read
+    let image = g.R.ThreadRules.image c.args.self.now.rules.now in
+    let t = g.R.ThreadRules.thread c.args.self.now.rules.now in
+    let slots = c.args.self.now.slots.now in
+    let kept = c.args.points.now.kept.items in
+    always (IsRead image t slots c.follow.new.self kept) c.way_behind.result (grown-read image t slots c.args.points.now.log c.follow.new.self kept c.in_ok-part.ensures.others c.requires.read)
+
+pub returns-clause-others : goal.returns-clause-others
+returns-clause-others g c = always (KeepsParts c.args.points.now.log c.follow.new.self) c.way_behind.result c.in_ok-part.ensures.others
 
 pub returns-clause-broken : goal.returns-clause-broken
 returns-clause-broken g c =
@@ -25,7 +35,8 @@ returns-clause-broken g c =
     let t = g.R.ThreadRules.thread c.args.self.now.rules.now in
     let address = address_of c.args.self.now.thread.now c.args.point in
     let slots = c.args.self.now.slots.now in
-    c.way_behind.ensures
-    ∙ ap (λ (all : List NotedSlot). first_broken (edge_rules t.thread (point_of t c.args.point) (measure_of c.args.known.now.measure)
+    subst (λ (x : Option Refusal). IfOk c.way_behind.result (λ b. b ≡ x))
+    (ap (λ (all : List NotedSlot). first_broken (edge_rules t.thread (point_of t c.args.point) (measure_of c.args.known.now.measure)
     (call_edge address c.args.known.now.bounds (behind_with all c.args.behind.now)) (noted_at image t (address + 4))))
-    (c.in_ok-part.ensures.same slots c.requires.program.rising)
+    (c.in_ok-part.ensures.same slots c.requires.program.rising))
+    c.way_behind.ensures

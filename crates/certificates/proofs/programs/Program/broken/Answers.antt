@@ -15,8 +15,8 @@ returns-then-is_some g c =
     let t = g.R.ThreadRules.thread c.args.self.now.rules.now in
     let own = c.args.self.now.thread.now in
     let points = first_broken (flat_map (point_rules image t) (range_with_len 0 own.header.words)) in
-    sym (program-first image t own c.requires.program.thread ∙ ap (λ (o : Option Refusal). option_or o points) (sym c.entry_rules-broken.ensures)
-    ∙ or-some c.entry_rules-broken.result points (sym c.is_some.ensures ∙ c.if-is_some.true))
+    sym (program-first image t own c.requires.program.thread ∙ ap (λ (o : Option Refusal). option_or o points) (sym c.in_ok-broken.ensures)
+    ∙ or-some c.in_ok-broken.broken points (sym c.is_some.ensures ∙ c.if-is_some.true))
 
 pub returns : goal.returns
 returns g c =
@@ -26,5 +26,5 @@ returns g c =
     let points = first_broken (flat_map (point_rules image t) (range_with_len 0 own.header.words)) in
     subst (λ (x : Option Refusal). IfOk c.points_rules.result (λ broken. broken ≡ x))
     (sym (program-first image t own c.requires.program.thread ∙ ap (λ (o : Option Refusal). option_or o points)
-    (sym c.entry_rules-broken.ensures ∙ none-of c.entry_rules-broken.result (sym c.is_some.ensures ∙ c.if-is_some.false))))
+    (sym c.in_ok-broken.ensures ∙ none-of c.in_ok-broken.broken (sym c.is_some.ensures ∙ c.if-is_some.false))))
     c.points_rules.ensures

@@ -28,7 +28,7 @@ returns-in-None-clause-broken g c =
     let all = changed c.args.self.now.slots.now (part_of c.args.points.now.log c.args.known.now.part) in
     sym (call-told image t c.args.point (state_by c.args.self.now.slots.now c.args.points.now.log c.args.known.now) None
     (ap (λ (u : Thread). instruction_at u c.args.point) c.requires.program.thread ∙ c.requires.is)
-    (call-any image t c.args.point c.args.known.now.bounds m (slots_of c.slots-slots.result) all c.called.new.made.items c.in_ok-called.field-0 c.slots-slots.ensures.slots (c.in_ok-called.ensures.left m)
+    (call-any image t c.args.point c.args.known.now.bounds m (slots_of c.slots-slots.result) all c.called.new.made.items c.in_ok-called.field-0 (c.slots-slots.ensures.slots ∙ c.requires.shown.same c.args.self.now.slots.now c.requires.program.rising) (c.in_ok-called.ensures.left m)
     ∙ ap (option_map (left_with all c.called.new.made.items)) c.in-None.is))
 
 pub returns-clause-broken : goal.returns-clause-broken
@@ -47,6 +47,6 @@ returns-clause-broken g c =
     (ap (by c.args.self.now.thread.now) c.deref.ensures.value ∙ ap (λ (u : Thread). by u made) (sym c.requires.program.thread)
     ∙ sym (call-told image t c.args.point (state_by c.args.self.now.slots.now c.args.points.now.log c.args.known.now) (Some (Ok (behind_with (changed all made) b)))
     (ap (λ (u : Thread). instruction_at u c.args.point) c.requires.program.thread ∙ c.requires.is)
-    (call-any image t c.args.point bounds m (slots_of c.slots-slots.result) all made c.in_ok-called.field-0 c.slots-slots.ensures.slots (c.in_ok-called.ensures.left m)
+    (call-any image t c.args.point bounds m (slots_of c.slots-slots.result) all made c.in_ok-called.field-0 (c.slots-slots.ensures.slots ∙ c.requires.shown.same c.args.self.now.slots.now c.requires.program.rising) (c.in_ok-called.ensures.left m)
     ∙ ap (option_map (left_with all made)) (c.in-Some-Ok.is ∙ ap Some c.in-Some-Ok.field-0-is))))
     c.behind_rules.ensures.broken

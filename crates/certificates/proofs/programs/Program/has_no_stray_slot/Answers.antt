@@ -16,6 +16,6 @@ returns g c = λ is.
     let t = g.R.ThreadRules.thread c.args.self.now.rules.now in
     let bounds = c.args.known.now.bounds in
     let nothing : Measure = record { constant = pos 0; terms = [] } in
-    subst (NoneStray image t.thread) c.slots-slots.ensures.slots
+    subst (NoneStray image t.thread) (c.slots-slots.ensures.slots ∙ c.requires.shown.same c.args.self.now.slots.now c.requires.program.rising)
     (c.points_without_stray_slots_have_none.ensures image t.thread c.args.point (known_with bounds (slots_of c.slots-slots.result) nothing)
     (sym (c.has_stray_slots.ensures bounds nothing) ∙ is-false c.has_stray_slots.result is))

@@ -1,13 +1,16 @@
 -- By what is kept of the point.
 use Rattle.std.proofs.Common.{◌≡◌, ◌∙◌, ◌<◌, inl, inr, Option, IfOk, length, sym, ap, subst, arith}
 use Rattle.certificates.proofs.EachPoint.{kept-at}
+use Rattle.certificates.proofs.Outcomes.{follows-from}
 use Rattle.certificates.proofs.PointLists.{noted-rules}
+use Rattle.certificates.proofs.ShownParts.{some-grown, some-shown}
 use Rattle.certificates.proofs.programs.Program.point_rules.Goals as goal
 use Rattle.certificates.specs.Kept.{IsCleanIn, IsSound, noted_by, state_by}
 use Rattle.certificates.specs.declared.kept.Kept.{Kept}
 use Rattle.model.specs.Acceptance.PointStates.{Known, Missing, Unmeasured, noted}
 use Rattle.model.specs.Images.Image.{Thread}
 use Rattle.model.specs.declared.refusals.Refusal.{Refusal}
+use Rattle.typestate.specs.Logs.{KeepsParts, ShowsSome}
 
 pub state_rules-requires-clause-sound : goal.state_rules-requires-clause-sound
 state_rules-requires-clause-sound g c =
@@ -28,8 +31,8 @@ state_rules-requires-clause-clean g c =
     let is = kept-at image t c.args.self.now.slots.now c.args.points.now.log c.args.points.now.kept.items c.args.point c.index.result.now c.requires.read.noted within c.index.ensures in
     subst (λ (k : Kept). IsCleanIn image t.thread c.args.self.now.slots.now c.args.points.now.log k) c.in-Known.is is.clean
 
-pub returns-in-Known-clause-broken : goal.returns-in-Known-clause-broken
-returns-in-Known-clause-broken g c =
+pub returns-in_ok-show-in-Known-clause-broken : goal.returns-in_ok-show-in-Known-clause-broken
+returns-in_ok-show-in-Known-clause-broken g c =
     let image = g.R.ThreadRules.image c.args.self.now.rules.now in
     let t = g.R.ThreadRules.thread c.args.self.now.rules.now in
     let count = c.requires.read.count in
@@ -55,6 +58,7 @@ returns-in-Missing g c =
         | inr unmeasured ↦ noted-rules image t c.args.point Unmeasured (ap (noted_by c.args.self.now.slots.now c.args.points.now.log) (sym unmeasured) ∙ is.same)
       ];
       read = c.requires.read;
+      shown = c.requires.some;
     }
 
 pub state_rules-requires-clause-known : goal.state_rules-requires-clause-known
@@ -65,3 +69,19 @@ state_rules-requires-clause-known g c =
     let is = kept-at (g.R.ThreadRules.image c.args.self.now.rules.now) (g.R.ThreadRules.thread c.args.self.now.rules.now) c.args.self.now.slots.now c.args.points.now.log c.args.points.now.kept.items
     c.args.point c.index.result.now c.requires.read.noted within c.index.ensures in
     ap (noted_by c.args.self.now.slots.now c.args.points.now.log) (sym c.in-Known.is) ∙ is.same
+
+pub show-requires-clause-held : goal.show-requires-clause-held
+show-requires-clause-held g c =
+    let count = c.requires.read.count in
+    let words = ap (λ (u : Thread). u.header.words) c.requires.program.thread in
+    let within : c.args.point < length c.args.points.now.kept.items = omega (arith, count, words, c.requires.within) in
+    let is = kept-at (g.R.ThreadRules.image c.args.self.now.rules.now) (g.R.ThreadRules.thread c.args.self.now.rules.now) c.args.self.now.slots.now c.args.points.now.log c.args.points.now.kept.items
+    c.args.point c.index.result.now c.requires.read.noted within c.index.ensures in
+    (subst (λ (k : Kept). IsSound c.args.points.now.log c.args.point k) c.in-Known.is is.sound).0
+
+pub returns-in_ok-show-in-Known-clause-shown : goal.returns-in_ok-show-in-Known-clause-shown
+returns-in_ok-show-in-Known-clause-shown g c =
+    let log = c.state_rules.new.points.log in
+    follows-from (λ _. KeepsParts c.args.points.now.log log) (λ _. ShowsSome log c.show.new.shown) c.state_rules.result
+    (λ _ keeps. some-grown c.args.points.now.log log c.show.new.shown keeps (some-shown c.args.points.now.log c.in-Known.known.part c.show.new.shown c.in_ok-show-in-Known.ensures))
+    c.state_rules.ensures.others

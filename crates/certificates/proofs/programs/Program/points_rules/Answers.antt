@@ -10,7 +10,7 @@ use Rattle.model.specs.Images.Image.{StateRecord}
 pub rules-init : goal.rules-init
 rules-init g c =
     let own = c.args.self.now.thread.now in
-    (c.requires.read, subst (λ (rs : List StateRecord). AreLeft own 0 rs) (sym c.of-records.ensures) (all-left own c.requires.program.fits), refl)
+    (c.requires.read, subst (λ (rs : List StateRecord). AreLeft own 0 rs) (sym c.of-records.ensures) (all-left own c.requires.program.fits), refl, c.new-shown.ensures c.args.points.now.log)
 
 pub point_rules-requires-clause-noted : goal.point_rules-requires-clause-noted
 point_rules-requires-clause-noted g c =
@@ -29,6 +29,7 @@ rules-preserved g c =
       c.in_ok-broken.ensures.read,
       subst (λ (rs : List StateRecord). AreLeft own (c.rules.point + 1) rs) (sym c.take-noted.ensures.left) (next-record own c.rules.point c.rules.records c.rules.invariant.1).1,
       one-more-kept (point_rules image t) c.rules.point c.rules.invariant.2 (sym c.in_ok-broken.ensures.broken ∙ none-of c.in_ok-broken.broken (sym c.is_some.ensures ∙ c.if-is_some.false)),
+      c.in_ok-broken.ensures.shown,
     )
 
 pub point_rules-requires-clause-next : goal.point_rules-requires-clause-next

@@ -1,25 +1,25 @@
 -- There is none, or it is the one of the rules.
-use Rattle.std.proofs.Common.{ℕ, ◌∙◌, Option, sym, ap}
+use Rattle.std.proofs.Common.{ℕ, ◌≡◌, Option, IfOk, sym, ap, subst}
 use Rattle.certificates.proofs.EdgeRules.{before-taken}
 use Rattle.certificates.proofs.programs.Program.taken_rules.Goals as goal
+use Rattle.certificates.specs.Kept.{state_by}
 use Rattle.certificates.specs.PointChecks.{way_rules}
 use Rattle.model.specs.Acceptance.Edges.{Edge, after}
 use Rattle.model.specs.Acceptance.PointStates.{address_of}
 use Rattle.model.specs.Acceptance.Rules.{first_broken}
 use Rattle.model.specs.declared.refusals.Refusal.{Refusal}
-use Rattle.point_rules.specs.Points.{state_of}
 
 pub returns-then-takes_no_way : goal.returns-then-takes_no_way
 returns-then-takes_no_way g c =
     let broken : Option Edge → Option Refusal =
-    λ e. first_broken (way_rules (g.R.ThreadRules.image c.args.self.now.rules.now) (g.R.ThreadRules.thread c.args.self.now.rules.now) c.args.point (state_of c.args.state.now) c.args.instr e) in
-    ap broken (sym (c.takes_no_way.ensures (address_of c.args.self.now.thread.now c.args.point) c.args.state.now.bounds c.if-takes_no_way.true))
+    λ e. first_broken (way_rules (g.R.ThreadRules.image c.args.self.now.rules.now) (g.R.ThreadRules.thread c.args.self.now.rules.now) c.args.point (state_by c.args.self.now.slots.now c.args.points.now.log c.args.known.now) c.args.instr e) in
+    ap broken (sym (c.takes_no_way.ensures (address_of c.args.self.now.thread.now c.args.point) c.args.known.now.bounds c.if-takes_no_way.true))
 
 pub returns : goal.returns
 returns g c =
     let broken : Option Edge → Option Refusal =
-    λ e. first_broken (way_rules (g.R.ThreadRules.image c.args.self.now.rules.now) (g.R.ThreadRules.thread c.args.self.now.rules.now) c.args.point (state_of c.args.state.now) c.args.instr e) in
-    let bounds = c.args.state.now.bounds in
+    λ e. first_broken (way_rules (g.R.ThreadRules.image c.args.self.now.rules.now) (g.R.ThreadRules.thread c.args.self.now.rules.now) c.args.point (state_by c.args.self.now.slots.now c.args.points.now.log c.args.known.now) c.args.instr e) in
+    let bounds = c.args.known.now.bounds in
     let here = after c.address.result c.args.instr bounds in
-    c.option_rules.ensures here.taken (ap (λ w. w.taken) (sym c.after-ways.ensures.ways)) (before-taken c.address.result c.args.instr bounds)
-    ∙ ap (λ (n : ℕ). broken (after n c.args.instr bounds).taken) c.address.ensures
+    subst (λ (x : Option Refusal). IfOk c.option_rules.result (λ b. b ≡ x)) (ap (λ (n : ℕ). broken (after n c.args.instr bounds).taken) c.address.ensures)
+    (c.option_rules.ensures here.taken (ap (λ w. w.taken) (sym c.after-ways.ensures.ways)) (before-taken c.address.result c.args.instr bounds))

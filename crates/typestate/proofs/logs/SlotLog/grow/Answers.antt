@@ -10,4 +10,4 @@ returns-clause-held c =
     c.in_ok-extend_from_slice.ensures.items ∙ ap (λ (l : List NotedSlot). l ++ c.args.made.now) c.self.view_is in
     let end : c.len-end.result ≡ length c.extend_from_slice.new.self.items = search rules in
     (grown-part c.args.self.now c.args.made.now c.extend_from_slice.new.self.items c.args.part (record { first = c.args.part.first; end = c.len-end.result }) grown c.requires.held c.requires.last
-    c.requires.rising refl end).0
+    refl end).0

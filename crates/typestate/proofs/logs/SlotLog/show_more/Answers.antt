@@ -1,0 +1,19 @@
+-- The changes behind what was shown are put among those.
+use Rattle.std.proofs.Common.{◌≡◌, ◌∙◌, ◌-◌, List, drop, take, refl, ap}
+use Rattle.model.specs.Acceptance.NotedStates.{NotedSlot}
+use Rattle.typestate.specs.Differences.{changed}
+use Rattle.typestate.proofs.LogParts.{next-changes}
+use Rattle.typestate.proofs.logs.SlotLog.show_more.Goals as goal
+
+pub returns : goal.returns
+returns c =
+    let old = c.args.shown.now in
+    let same : c.deref.result.now ≡ c.args.self.now = c.deref.ensures.value ∙ c.self.view_is in
+    record {
+      part_is = refl;
+      held = c.requires.held;
+      rising = c.in_ok-put_all.ensures.rising;
+      same = next-changes c.args.self.now old.changes.items c.put_all.new.changes.items old.part c.args.part c.requires.old.held c.requires.held c.requires.next
+          c.requires.old.same (λ slots rises. c.in_ok-put_all.ensures.same slots rises
+          ∙ ap (λ (log : List NotedSlot). changed (changed slots old.changes.items) (take (c.args.part.end - old.part.end) (drop old.part.end log))) same);
+    }
