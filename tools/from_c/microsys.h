@@ -25,10 +25,14 @@
 #define bytes_at(address) ((volatile uint8_t *)(address))
 
 /* The value where it is below the limit, and else 0. It shows the verifier a limit that it cannot know by itself, as of
- * what is loaded or of a remainder. The compiler drops a test that it knows to be true, but not this one. */
+ * what is loaded or of a remainder. The compiler drops a test that it knows to be true, or joins it with another; it
+ * does not see through this one. */
 MICROSYS_INLINE uint32_t below(uint32_t limit, uint32_t value) {
     __asm__("" : "+r"(value));
-    return value < limit ? value : 0;
+    if (value >= limit)
+        value = 0;
+    __asm__("" : "+r"(value));
+    return value;
 }
 
 /* --- Products and quotients --------------------------------------------------------------------------------------- */

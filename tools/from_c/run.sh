@@ -64,6 +64,45 @@ for folder in "$here"/systems/* "$root/samples/gallery/controller_from_c"; do
     check "$name" "$folder/$name.txt" "$folder/$name.events" "$folder/$name.expected"
 done
 
+# The first thread of docs/FROM_C.md rings three times, and puts one, two and three stars.
+page="$root/docs/FROM_C.md"
+mkdir "$room/page"
+sed -n '/^    memory 16 5$/,/^    end$/p' "$page" | sed 's/^    //' >"$room/page/ring.txt"
+sed -n '/^    #include "microsys.h"$/,/^    }$/p' "$page" | sed 's/^    //' >"$room/page/ring.c"
+printf 'step 100\nirq 3\nstep 100\nirq 3\nstep 100\nirq 3\nstep 100\n' >"$room/page/ring.events"
+echo "2a 2a 2a 2a 2a 2a" >"$room/page/ring.expected"
+check "the page's thread" "$room/page/ring.txt" "$room/page/ring.events" "$room/page/ring.expected"
+
+# The text of a thread with these declarations and this body, or nothing and a message.
+text_of() {
+    mkdir -p "$room/body"
+    printf '#include "microsys.h"\n%s\nTHREAD main(void) {\nfor (;;) {\nuint32_t rung = sys_wait(CAP_BELL);\n' "$1" \
+        >"$room/body/body.c"
+    printf '%s\nhandler_ack(CAP_LINE);\n(void)rung;\n}\n}\n' "$2" >>"$room/body/body.c"
+    sed "s/NAME/body/" "$here/programs/thread.txt" >"$room/body/body.txt"
+    rm -f "$room/body/body.certified"
+    step "$2" "not converted" "$here/from_c.py" "$room/body/body.txt" "$room/body/body.text"
+}
+
+# What is not certified, and what is in its place.
+with='' pairs=0
+while read -r word rest; do
+    case "$word" in
+    with) with="$with $rest" ;;
+    not)
+        text_of "$with" "$rest" || continue
+        "$certifier" certify "$room/body/body.text" "$room/body/body.certified" >"$room/said" 2>&1 &&
+            wrong "$rest" "certified"
+        ;;
+    but)
+        text_of "$with" "$rest" &&
+            step "$rest" "not certified" "$certifier" certify "$room/body/body.text" "$room/body/body.certified"
+        with='' pairs=$((pairs + 1))
+        ;;
+    esac
+done <"$here/instead.txt"
+echo "$pairs pairs of what is not certified, and what is"
+
 # What is no program: its first line says what is said of it, and no text is made.
 for source in "$here"/refused/*.c; do
     name="$(basename "$source" .c)"
