@@ -16,7 +16,7 @@ use Rattle.model.specs.declared.refusals.Refusal.TheVariants.{Magic, Version, Tr
 use Rattle.model.specs.Shared.Bytes.{AreBytes}
 use Rattle.model.specs.Capabilities.CapabilityFields.{unpacked}
 use Rattle.model.specs.Images.Format.{IsSpelling, reading}
-use Rattle.model.specs.Images.Image.{Image, Sections, anything, below, between, capability_format, content_format, frame_format, header_format, image_with, interrupt_format, magic, names_parent, no_parent, object_format, pair_key, sections_format, size_fits, slot_format, slots_format, table_format, untyped_format, whole_image, words_format}
+use Rattle.model.specs.Images.Image.{Image, Sections, anything, below, between, capability_format, content_format, frame_format, header_fields, header_format, image_with, interrupt_format, magic, names_parent, no_parent, object_format, pair_key, sections_format, size_fits, slot_format, slots_format, table_format, untyped_format, whole_image, words_format}
 use Rattle.image.proofs.Laws.{IsBytes, IsLawful, bind_ok, guard_ok, ok_is, number_law, both_law, named_law, ordered_law, wide32}
 use Rattle.image.proofs.ThreadLaws.{AreLawful, field_law, thread_law, words_law}
 
@@ -25,7 +25,7 @@ magic_first n h = sym (eqb-true n magic (and_parts (ltb n (2 ^ 32)) (eqb n magic
 
 header_law : IsLawful header_format
 unfolding header_format
-header_law = named_law _ (λ h. (magic, (h.version, (h.memory_bits, (h.boot_radix, (h.untypeds, (h.objects, (h.capabilities, (h.interrupts, (h.tables, (h.frames, (h.contents, h.threads)))))))))))) _ (λ x h. ap (λ (m : ℕ). (m, x.1)) (magic_first x.0 (and_parts _ _ h).0)) (λ y. refl)
+header_law = named_law _ header_fields _ (λ x h. ap (λ (m : ℕ). (m, x.1)) (magic_first x.0 (and_parts _ _ h).0)) (λ y. refl)
     (both_law _ _ (number_law (λ _. Magic) w32 (λ n. eqb n magic) wide32) (λ (a : ℕ).
     both_law _ _ (number_law (λ _. Version) w32 (λ n. eqb n 1) wide32) (λ (b : ℕ).
     both_law _ _ (field_law (between 16 24)) (λ (memory_bits : ℕ).

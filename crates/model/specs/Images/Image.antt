@@ -71,10 +71,31 @@ pair_key first second = first * 2 ^ 32 + second
 abbrev pub magic : ℕ
 magic = 0x5359534d
 
+-- the magic number, and then the header's fields in their order: its version, the machine's shape, and how many entries each section has
+abbrev pub HeaderFields : Type 0
+HeaderFields = ℕ × (ℕ × (ℕ × (ℕ × (ℕ × (ℕ × (ℕ × (ℕ × (ℕ × (ℕ × (ℕ × ℕ))))))))))
+
+abbrev pub header_fields : ImageHeader → HeaderFields
+header_fields h = (magic, (h.version, (h.memory_bits, (h.boot_radix, (h.untypeds, (h.objects, (h.capabilities, (h.interrupts, (h.tables, (h.frames, (h.contents, h.threads)))))))))))
+
+abbrev pub header_of : HeaderFields → ImageHeader
+header_of (_, (version, (memory_bits, (boot_radix, (untypeds, (objects, (capabilities, (interrupts, (tables, (frames, (contents, threads))))))))))) = record {
+  version = version;
+  memory_bits = memory_bits;
+  boot_radix = boot_radix;
+  untypeds = untypeds;
+  objects = objects;
+  capabilities = capabilities;
+  interrupts = interrupts;
+  tables = tables;
+  frames = frames;
+  contents = contents;
+  threads = threads;
+}
+
 unfoldable pub header_format : Format ImageHeader
 header_format =
-    named (λ x. record { version = x.1.0; memory_bits = x.1.1.0; boot_radix = x.1.1.1.0; untypeds = x.1.1.1.1.0; objects = x.1.1.1.1.1.0; capabilities = x.1.1.1.1.1.1.0; interrupts = x.1.1.1.1.1.1.1.0; tables = x.1.1.1.1.1.1.1.1.0; frames = x.1.1.1.1.1.1.1.1.1.0; contents = x.1.1.1.1.1.1.1.1.1.1.0; threads = x.1.1.1.1.1.1.1.1.1.1.1 })
-    (λ h. (magic, (h.version, (h.memory_bits, (h.boot_radix, (h.untypeds, (h.objects, (h.capabilities, (h.interrupts, (h.tables, (h.frames, (h.contents, h.threads))))))))))))
+    named header_of header_fields
     (both (number_or (λ _. Magic) w32 (λ n. n == magic)) (λ _.
     both (number_or (λ _. Version) w32 (λ n. n == 1)) (λ _.
     both (field (between 16 24)) (λ memory_bits.
@@ -92,7 +113,7 @@ header_format =
 
 unfoldable pub untyped_format : Format UntypedEntry
 untyped_format =
-    named (λ x. record { offset = x.0; bits = x.1 }) (λ e. (e.offset, e.bits))
+    named (λ (offset, bits). record { offset = offset; bits = bits }) (λ e. (e.offset, e.bits))
     (both (field anything) (λ _. field (between 4 24)))
 
 -- the size of an object of this type
@@ -103,7 +124,7 @@ size_fits kind size =
 -- the untyped's number never falls
 unfoldable pub object_format : ℕ → ℕ → Format ObjectEntry
 object_format untypeds least =
-    named (λ x. record { untyped = x.0; kind = x.1.0; size = x.1.1 }) (λ e. (e.untyped, (e.kind, e.size)))
+    named (λ (untyped, (kind, size)). record { untyped = untyped; kind = kind; size = size }) (λ e. (e.untyped, (e.kind, e.size)))
     (both (field (λ n. nat_le least n && nat_lt n untypeds)) (λ _.
     both (field (between 1 8)) (λ kind.
     field (size_fits kind))))
@@ -111,7 +132,7 @@ object_format untypeds least =
 -- the CNode and the index rise together
 unfoldable pub capability_format : ℕ → ℕ → ℕ → Format CapabilityEntry
 capability_format objects interrupts least =
-    named (λ x. record { cnode = x.0; index = x.1.0; source = x.1.1.0; rights = x.1.1.1.0; payload = x.1.1.1.1 })
+    named (λ (cnode, (index, (source, (rights, payload)))). record { cnode = cnode; index = index; source = source; rights = rights; payload = payload })
     (λ e. (e.cnode, (e.index, (e.source, (e.rights, e.payload)))))
     (both (field (below objects)) (λ cnode.
     both (field (λ index. nat_le least (pair_key cnode index))) (λ _.
@@ -121,21 +142,21 @@ capability_format objects interrupts least =
 
 unfoldable pub interrupt_format : ℕ → ℕ → Format InterruptEntry
 interrupt_format objects least =
-    named (λ x. record { line = x.0; notification = x.1.0; badge = x.1.1 }) (λ e. (e.line, (e.notification, e.badge)))
+    named (λ (line, (notification, badge)). record { line = line; notification = notification; badge = badge }) (λ e. (e.line, (e.notification, e.badge)))
     (both (field (between least 63)) (λ _.
     both (field (below objects)) (λ _.
     field (below (2 ^ 28)))))
 
 unfoldable pub table_format : ℕ → ℕ → Format TableEntry
 table_format objects least =
-    named (λ x. record { root = x.0; address = x.1.0; table = x.1.1 }) (λ e. (e.root, (e.address, e.table)))
+    named (λ (root, (address, table)). record { root = root; address = address; table = table }) (λ e. (e.root, (e.address, e.table)))
     (both (field (below objects)) (λ root.
     both (field (λ address. nat_le least (pair_key root address))) (λ _.
     field (below objects))))
 
 unfoldable pub frame_format : ℕ → ℕ → Format FrameEntry
 frame_format objects least =
-    named (λ x. record { root = x.0; address = x.1.0; frame = x.1.1.0; rights = x.1.1.1 }) (λ e. (e.root, (e.address, (e.frame, e.rights))))
+    named (λ (root, (address, (frame, rights))). record { root = root; address = address; frame = frame; rights = rights }) (λ e. (e.root, (e.address, (e.frame, e.rights))))
     (both (field (below objects)) (λ root.
     both (field (λ address. nat_le least (pair_key root address))) (λ _.
     both (field (below objects)) (λ _.
@@ -143,17 +164,39 @@ frame_format objects least =
 
 unfoldable pub content_format : ℕ → ℕ → Format ImageContent
 content_format objects least =
-    named (λ x. record { header = record { frame = x.0; words = x.1.0 }; words = x.1.1 }) (λ c. (c.header.frame, (c.header.words, c.words)))
+    named (λ (frame, (count, words)). record { header = record { frame = frame; words = count }; words = words }) (λ c. (c.header.frame, (c.header.words, c.words)))
     (both (field (λ frame. nat_le least frame && nat_lt frame objects)) (λ _.
     both (field (between 1 1024)) (λ count.
     many count (field anything))))
 
 -- ---- threads
 
+-- the fields of a thread's header in their order
+abbrev pub ThreadFields : Type 0
+ThreadFields = ℕ × (ℕ × (ℕ × (ℕ × (ℕ × (ℕ × (ℕ × (ℕ × (ℕ × (ℕ × (ℕ × ℕ))))))))))
+
+abbrev pub thread_fields : ThreadHeader → ThreadFields
+thread_fields h = (h.tcb, (h.cnode, (h.guard, (h.root, (h.priority, (h.budget, (h.fault, (h.entry, (h.base, (h.registers, (h.words, h.records)))))))))))
+
+abbrev pub thread_header_of : ThreadFields → ThreadHeader
+thread_header_of (tcb, (cnode, (guard, (root, (priority, (budget, (fault, (entry, (base, (registers, (words, records))))))))))) = record {
+  tcb = tcb;
+  cnode = cnode;
+  guard = guard;
+  root = root;
+  priority = priority;
+  budget = budget;
+  fault = fault;
+  entry = entry;
+  base = base;
+  registers = registers;
+  words = words;
+  records = records;
+}
+
 unfoldable pub thread_header_format : ℕ → Format ThreadHeader
 thread_header_format objects =
-    named (λ x. record { tcb = x.0; cnode = x.1.0; guard = x.1.1.0; root = x.1.1.1.0; priority = x.1.1.1.1.0; budget = x.1.1.1.1.1.0; fault = x.1.1.1.1.1.1.0; entry = x.1.1.1.1.1.1.1.0; base = x.1.1.1.1.1.1.1.1.0; registers = x.1.1.1.1.1.1.1.1.1.0; words = x.1.1.1.1.1.1.1.1.1.1.0; records = x.1.1.1.1.1.1.1.1.1.1.1 })
-    (λ h. (h.tcb, (h.cnode, (h.guard, (h.root, (h.priority, (h.budget, (h.fault, (h.entry, (h.base, (h.registers, (h.words, h.records))))))))))))
+    named thread_header_of thread_fields
     (both (field (below objects)) (λ _.
     both (field (below objects)) (λ _.
     both (field anything) (λ _.
@@ -170,13 +213,13 @@ thread_header_format objects =
 -- a register, 1 to 31, not below the least, and its value, not 0
 unfoldable pub register_format : ℕ → Format RegisterEntry
 register_format least =
-    named (λ x. record { register = x.0; value = x.1 }) (λ e. (e.register, e.value))
+    named (λ (register, value). record { register = register; value = value }) (λ e. (e.register, e.value))
     (both (field (between least 31)) (λ _. field (nat_lt 0)))
 
 -- a register and its range, which is not the full one
 unfoldable pub range_format : ℕ → Format RangeEntry
 range_format least =
-    named (λ x. record { register = x.0; low = x.1.0; high = x.1.1 }) (λ e. (e.register, (e.low, e.high)))
+    named (λ (register, (low, high)). record { register = register; low = low; high = high }) (λ e. (e.register, (e.low, e.high)))
     (both (field (between least 31)) (λ _.
     both (field anything) (λ low.
     field (λ high. nat_le low high && (nat_lt 0 low || nat_lt high (2 ^ 32 - 1))))))
@@ -188,7 +231,7 @@ not_zero (negsuc n) = true
 -- a register and its coefficient, not 0
 unfoldable pub term_format : ℕ → Format TermEntry
 term_format least =
-    named (λ x. record { register = x.0; coefficient = x.1 }) (λ e. (e.register, e.coefficient))
+    named (λ (register, coefficient). record { register = register; coefficient = coefficient }) (λ e. (e.register, e.coefficient))
     (both (field (between least 31)) (λ _. signed w32 not_zero))
 
 -- a constant of a measure, from -2^62 to 2^62
@@ -213,7 +256,7 @@ names_parent is_empty parent index =
 -- A slot of a CNode: its key, the two words of what it holds, and the key of its parent.
 unfoldable pub slot_format : ℕ → ℕ → Format SlotEntry
 slot_format objects least =
-    named (λ x. record { cnode = x.0; index = x.1.0; word0 = x.1.1.0; word1 = x.1.1.1.0; parent_cnode = x.1.1.1.1.0; parent_index = x.1.1.1.1.1 })
+    named (λ (cnode, (index, (word0, (word1, (parent_cnode, parent_index))))). record { cnode = cnode; index = index; word0 = word0; word1 = word1; parent_cnode = parent_cnode; parent_index = parent_index })
     (λ e. (e.cnode, (e.index, (e.word0, (e.word1, (e.parent_cnode, e.parent_index))))))
     (both (field (below objects)) (λ cnode.
     both (field (λ index. nat_le least (pair_key cnode index) && nat_lt index (2 ^ 14))) (λ _.
@@ -232,7 +275,7 @@ slots_format objects = record {
 -- points rise strictly and lie below the number of words
 unfoldable pub record_header_format : SlotFormat → ℕ → ℕ → Format RecordHeader
 record_header_format slots words least =
-    named (λ x. record { point = x.0; ranges = x.1.0; slots = x.1.1.0; terms = x.1.1.1.0; constant = x.1.1.1.1 })
+    named (λ (point, (ranges, (slots, (terms, constant)))). record { point = point; ranges = ranges; slots = slots; terms = terms; constant = constant })
     (λ h. (h.point, (h.ranges, (h.slots, (h.terms, h.constant)))))
     (both (field (λ point. nat_le least point && nat_lt point words)) (λ _.
     both (field (between 0 31)) (λ _.
@@ -248,7 +291,7 @@ terms_format count = ordered 1 term_format (λ e. e.register + 1) count
 
 unfoldable pub record_format : SlotFormat → ℕ → ℕ → Format StateRecord
 record_format slots words least =
-    named (λ x. record { header = x.0; ranges = x.1.0; slots = x.1.1.0; terms = x.1.1.1 }) (λ r. (r.header, (r.ranges, (r.slots, r.terms))))
+    named (λ (header, (ranges, (slots, terms))). record { header = header; ranges = ranges; slots = slots; terms = terms }) (λ r. (r.header, (r.ranges, (r.slots, r.terms))))
     (both (record_header_format slots words least) (λ header.
     both (ranges_format header.ranges) (λ _.
     both (slots.entries header.slots) (λ _.
@@ -265,7 +308,7 @@ records_format slots words count = ordered 0 (record_format slots words) (λ r. 
 
 unfoldable pub thread_format : SlotFormat → ℕ → Format Thread
 thread_format slots objects =
-    named (λ x. record { header = x.0; registers = x.1.0; words = x.1.1.0; records = x.1.1.1 }) (λ t. (t.header, (t.registers, (t.words, t.records))))
+    named (λ (header, (registers, (words, records))). record { header = header; registers = registers; words = words; records = records }) (λ t. (t.header, (t.registers, (t.words, t.records))))
     (both (thread_header_format objects) (λ header.
     both (registers_format header.registers) (λ _.
     both (words_format header.words) (λ _.
@@ -291,12 +334,25 @@ sections_format =
     both (ordered 0 (frame_format header.objects) (λ e. pair_key e.root e.address + 1) header.frames) (λ _.
     ordered 0 (content_format header.objects) (λ c. c.header.frame + 1) header.contents)))))))
 
+-- the image of these sections and threads
+abbrev pub image_of : Sections × List Thread → Image
+image_of ((header, (untypeds, (objects, (capabilities, (interrupts, (tables, (frames, contents))))))), threads) = record {
+  header = header;
+  untypeds = untypeds;
+  objects = objects;
+  capabilities = capabilities;
+  interrupts = interrupts;
+  tables = tables;
+  frames = frames;
+  contents = contents;
+  threads = threads;
+}
+
 -- the format where the slots that a record notes depend on the number of objects
 unfoldable pub image_with : (ℕ → SlotFormat) → Format Image
 image_with slots =
-    named (λ x. record { header = x.0.0; untypeds = x.0.1.0; objects = x.0.1.1.0; capabilities = x.0.1.1.1.0; interrupts = x.0.1.1.1.1.0; tables = x.0.1.1.1.1.1.0; frames = x.0.1.1.1.1.1.1.0; contents = x.0.1.1.1.1.1.1.1; threads = x.1 })
-    (λ i. (sections_of i, i.threads))
-    (both sections_format (λ sections. many sections.0.threads (thread_format (slots sections.0.objects) sections.0.objects)))
+    named image_of (λ i. (sections_of i, i.threads))
+    (both sections_format (λ (header, _). many header.threads (thread_format (slots header.objects) header.objects)))
 
 abbrev pub image_format : SlotFormat → Format Image
 image_format slots = image_with (λ _. slots)
