@@ -1,0 +1,7 @@
+//! The words of the command line of the program for makers.
+#![tactic(auto)]
+
+mod requests;
+
+pub use command_line::WordsFault;
+pub use requests::{ToolRequest, parse_words};
