@@ -6,10 +6,12 @@ ghost use Rattle.thread_spaces.specs.Given.{AreOffsets};
 ghost use Rattle.certifying.specs.Given.{IsGiven};
 
 use crate::calls::Given;
-use crate::costs::{Costs, cost_at};
+use crate::costs::{Costs, Counting, cost_at};
 use crate::flow::Flow;
 use crate::forms::Form;
-use crate::loops::{Graph, changes, is_marked, no_marks};
+use crate::graph::{Graph, changes};
+use crate::loops::Loops;
+use crate::needs::{Registers, only};
 use crate::tables::{Table, start_bounds};
 use crate::ways::Way;
 use crate::{Fault, Reason};
@@ -71,6 +73,29 @@ impl Unfit {
     }
 }
 
+/// How many terms a measure has at most.
+const MOST_TERMS: usize = 4;
+
+/// The greatest constant and budget.
+const GREATEST: u64 = 1 << 62;
+
+/// So many marks, none of which is set.
+fn no_marks(alloc: Global, count: u32) -> Result<Vec<bool>, Fault> {
+    let mut marks = Vec::new(alloc);
+    'points: for _ in 0..count {
+        marks.push(false)?;
+    }
+    Ok(marks)
+}
+
+/// Whether a point is marked.
+fn is_marked(marks: &[bool], point: u32) -> bool {
+    match marks.get(point as usize) {
+        Some(mark) => *mark,
+        None => false,
+    }
+}
+
 /// The terms of a measure.
 fn terms_of(alloc: Global, cost: &Form, point: u32) -> Result<Vec<TermEntry>, Fault> {
     let mut terms = Vec::new(alloc);
@@ -88,6 +113,12 @@ fn terms_of(alloc: Global, cost: &Form, point: u32) -> Result<Vec<TermEntry>, Fa
                 coefficient,
             })?;
         }
+    }
+    if MOST_TERMS < terms.len() || GREATEST < cost.constant.unsigned_abs() {
+        return Err(Fault::At {
+            point,
+            reason: Reason::NoMeasure,
+        });
     }
     Ok(terms)
 }
@@ -187,10 +218,19 @@ fn changes_at(alloc: Global, flow: &Table, point: u32) -> Result<Vec<NotedSlot>,
     Ok(changes)
 }
 
+/// The ranges that are needed at a point, if it is reached.
+fn bounds_needed(graph: &Graph, needs: &[Registers], point: u32) -> Option<Bounds> {
+    match (graph.bounds_at(point), needs.get(point as usize)) {
+        (Some(bounds), Some(needed)) => Some(only(bounds, needed)),
+        _ => None,
+    }
+}
+
 /// The records at all marked points.
 fn records_of(
     graph: &Graph,
     costs: &Costs,
+    needs: &[Registers],
     table: &Table,
     marks: &[bool],
 ) -> Result<Vec<Record>, Fault> {
@@ -199,7 +239,7 @@ fn records_of(
         if let (true, Some(cost), Some(bounds)) = (
             is_marked(marks, point),
             cost_at(costs, point),
-            table.bounds(point),
+            bounds_needed(graph, needs, point),
         ) {
             records.push(Record {
                 point,
@@ -230,13 +270,21 @@ impl Given<'_, '_> {
         let Flow { table, ways } = self.flow()?;
         let bounds = all_bounds(self.alloc, self.count(), &table)?;
         let entry = self.space.thread.header().entry;
-        let mut graph = Graph::new(self.alloc, self.count(), entry, ways, bounds)?;
-        graph.find_loops()?;
-        let costs = graph.all_costs()?;
+        let graph = Graph::new(self.alloc, self.count(), entry, ways, bounds)?;
+        let loops = Loops::of(&graph)?;
+        let (graph, costs) = Counting::new(graph, loops)?.finish()?;
         let marks = marked_points(&graph, &costs)?;
+        let needs = self.needs(&graph, &costs)?;
+        let budget = budget_of(&graph, &costs, &start_bounds(self.space.thread));
+        if GREATEST < budget {
+            return Err(Fault::At {
+                point: entry,
+                reason: Reason::NoMeasure,
+            });
+        }
         Ok(Certificate {
-            budget: budget_of(&graph, &costs, &start_bounds(self.space.thread)),
-            records: records_of(&graph, &costs, &table, &marks)?,
+            budget,
+            records: records_of(&graph, &costs, &needs, &table, &marks)?,
         })
     }
 }

@@ -2,7 +2,8 @@
 //! register that counts, and the program around them last.
 
 use crate::forms::Form;
-use crate::loops::{Graph, Loop, is_marked};
+use crate::graph::Graph;
+use crate::loops::{Loop, Loops};
 use crate::ways::Way;
 use crate::{Fault, Reason};
 use measure::Value;
@@ -11,10 +12,13 @@ use model::{Range, Register};
 /// How often a coefficient is raised at most.
 const MOST_TRIES: u32 = 64;
 
+/// How often the points of a region are gone through at most.
+const MOST_ROUNDS: u32 = 1000;
+
 /// The greatest coefficient of a measure.
 const MOST_TIMES: i64 = 1 << 30;
 
-/// What the points of a region have to have at least. Those outside of it have nothing.
+/// What each point has to have at least, as far as it is known.
 pub(crate) type Costs = Vec<Option<Form>>;
 
 /// A part of a program whose costs are found together: a loop up to its header, or all of it.
@@ -34,23 +38,28 @@ struct Solved {
     span: i64,
 }
 
+/// What a round over the points of a region found.
+#[derive(Clone, Copy)]
+struct Round {
+    /// Whether a cost was not known where a way leads.
+    misses: bool,
+    /// Whether a cost changed.
+    changes: bool,
+}
+
+/// The graph of a program, its loops, and the costs of their points that are found.
+#[derive(Drop)]
+pub(crate) struct Counting {
+    graph: Graph,
+    loops: Loops,
+    costs: Costs,
+}
+
 /// The cost noted for a point.
 pub(crate) fn cost_at(costs: &[Option<Form>], point: u32) -> Option<Form> {
     match costs.get(point as usize) {
         Some(cost) => *cost,
         None => None,
-    }
-}
-
-/// Notes the cost of a point, and answers whether it is another than before.
-fn note(costs: &mut Costs, point: u32, cost: Option<Form>) -> bool {
-    match costs.get_mut(point as usize) {
-        Some(place) => {
-            let is_new = *place != cost;
-            *place = cost;
-            is_new
-        }
-        None => false,
     }
 }
 
@@ -62,53 +71,88 @@ fn rounded_up(number: i64, by: i64) -> i64 {
     number.saturating_add(by - 1) / by
 }
 
-impl Graph {
-    /// The loop of a region.
-    fn loop_of(&self, region: Region) -> Option<&Loop> {
-        match region.number {
-            Some(number) => self.loops.get(number),
+/// Whether a register becomes a sum or a difference.
+fn is_sum(value: Value) -> bool {
+    matches!(
+        value,
+        Value::Sum(..) | Value::Difference(..) | Value::Moved(..)
+    )
+}
+
+/// The better of two ways to count a loop.
+fn better(first: Option<Solved>, second: Option<Solved>) -> Option<Solved> {
+    match (first, second) {
+        (Some(first), Some(second)) => {
+            if second.span < first.span {
+                Some(second)
+            } else {
+                Some(first)
+            }
+        }
+        (Some(only), None) | (None, Some(only)) => Some(only),
+        (None, None) => None,
+    }
+}
+
+impl Counting {
+    /// No costs are known.
+    pub(crate) fn new(graph: Graph, loops: Loops) -> Result<Self, Fault> {
+        let mut costs = Vec::new(graph.alloc);
+        'points: for _ in 0..graph.count {
+            costs.push(None)?;
+        }
+        Ok(Counting {
+            graph,
+            loops,
+            costs,
+        })
+    }
+
+    /// Notes the cost of a point, and answers whether it is another than before.
+    fn note(&mut self, point: u32, cost: Option<Form>) -> bool {
+        match self.costs.get_mut(point as usize) {
+            Some(place) => {
+                let is_new = *place != cost;
+                *place = cost;
+                is_new
+            }
+            None => false,
+        }
+    }
+
+    /// The loop of a number.
+    fn loop_at(&self, number: Option<usize>) -> Option<&Loop> {
+        match number {
+            Some(number) => self.loops.all.get(number),
             None => None,
         }
     }
 
-    /// Whether a point stands in a region.
-    fn has(&self, region: Region, point: u32) -> bool {
-        match self.loop_of(region) {
-            Some(one) => is_marked(&one.inside, point),
-            None => true,
+    /// The points of a region in their order.
+    fn points_of(&self, region: Option<usize>) -> &[u32] {
+        match self.loop_at(region) {
+            Some(one) => &one.points,
+            None => &self.loops.order,
         }
     }
 
     /// Whether a point is the header of a region.
-    fn is_header(&self, region: Region, point: u32) -> bool {
-        match self.loop_of(region) {
+    fn is_header(&self, region: &Region, point: u32) -> bool {
+        match self.loop_at(region.number) {
             Some(one) => one.header == point,
             None => false,
         }
     }
 
-    /// Whether a point stands in a loop inside of a region.
-    fn is_deeper(&self, region: Region, point: u32) -> bool {
-        'loops: for one in &self.loops {
-            if one.around == region.number && is_marked(&one.inside, point) {
-                return true;
-            }
-        }
-        false
-    }
-
-    /// What a way has to have before it at least, as far as it is known. A wait ends the count.
-    fn cost_of_way(&self, region: Region, costs: &[Option<Form>], way: &Way) -> Option<Form> {
+    /// What a way that leads into a region has to have before it at least, as far as it is known. A wait ends the count.
+    fn cost_of_way(&self, region: &Region, way: &Way) -> Option<Form> {
         if way.is_wait {
             return Some(Form::constant(1));
-        }
-        if !self.has(region, way.target) {
-            return None;
         }
         let target = if self.is_header(region, way.target) {
             Some(region.seed)
         } else {
-            cost_at(costs, way.target)
+            cost_at(&self.costs, way.target)
         };
         match target {
             Some(cost) => Some(cost.before(way).raised(1)),
@@ -119,174 +163,238 @@ impl Graph {
     /// At least both costs at a point.
     fn either(&self, point: u32, first: Option<Form>, second: Option<Form>) -> Option<Form> {
         match (first, second) {
-            (Some(first), Some(second)) => match self.bounds.get(point as usize) {
-                Some(Some(bounds)) => Some(first.above_both(&second, bounds)),
-                _ => Some(first),
+            (Some(first), Some(second)) => match self.graph.bounds_at(point) {
+                Some(bounds) => Some(first.above_both(&second, bounds)),
+                None => Some(first),
             },
             (Some(only), None) | (None, Some(only)) => Some(only),
             (None, None) => None,
         }
     }
 
+    /// What a point directly inside of a region has to have at least, and whether the cost of a way from it is not known.
+    fn cost_of_point(&self, region: &Region, point: u32) -> (Option<Form>, bool) {
+        let mut cost = None;
+        let mut misses = false;
+        'ways: for way in self.graph.ways_from(point) {
+            if way.is_wait || self.loops.has(region.number, way.target) {
+                let other = self.cost_of_way(region, way);
+                misses |= other.is_none();
+                cost = self.either(point, cost, other);
+            }
+        }
+        (cost, misses)
+    }
+
     /// How much the costs of a loop have to be raised so that one of its ways out is paid, without the registers that it writes.
-    fn raise_for(
-        &self,
-        region: Region,
-        one: &Loop,
-        costs: &[Option<Form>],
-        way: &Way,
-    ) -> Option<Form> {
-        if !is_marked(&one.inside, way.from) || is_marked(&one.inside, way.target) || way.is_wait {
+    fn raise_for(&self, region: &Region, one: &Loop, own: &Form, way: &Way) -> Option<Form> {
+        if way.is_wait || !self.loops.has(region.number, way.target) {
             return None;
         }
-        let own = cost_at(&one.costs, way.from)?;
-        let cost = self.cost_of_way(region, costs, way)?;
-        Some(cost.minus(&own).bounded(&one.written, &way.before))
+        let cost = self.cost_of_way(region, way)?;
+        Some(cost.minus(own).bounded(&one.written, &way.before))
     }
 
-    /// How much the cost of a point of a loop has to be raised to be 1 at least.
-    fn raise_to_one(&self, one: &Loop, point: u32) -> Option<Form> {
-        let own = cost_at(&one.costs, point)?;
-        match self.bounds.get(point as usize) {
-            Some(Some(bounds)) => Some(Form::constant(own.least(bounds).saturating_neg()).raised(
-                1,
-            )),
-            _ => None,
+    /// How much the cost of a point of a loop has to be raised to be 1 at least. Inside of another loop this is left to that.
+    fn raise_to_one(&self, region: &Region, point: u32, own: &Form) -> Option<Form> {
+        if region.number.is_some() {
+            return None;
         }
+        let bounds = self.graph.bounds_at(point)?;
+        let least = own.least(bounds);
+        Some(Form::constant(least.saturating_neg()).raised(1))
     }
 
-    /// How much the costs of a loop have to be raised, as far as what stands behind it is known.
-    fn raise(&self, region: Region, one: &Loop, costs: &[Option<Form>]) -> Option<Form> {
-        let mut raise = None;
-        'ways: for way in &self.ways {
-            let other = self.raise_for(region, one, costs, way);
-            raise = self.either(one.header, raise, other);
-        }
-        let way_out = raise?;
-        let mut raise = Some(way_out);
-        'points: for point in 0..self.count {
-            if is_marked(&one.inside, point) {
-                let other = self.raise_to_one(one, point);
+    /// How much the costs of a loop have to be raised for the ways from one of its points.
+    fn raise_at(
+        &self,
+        region: &Region,
+        number: usize,
+        one: &Loop,
+        point: u32,
+        own: &Form,
+    ) -> Option<Form> {
+        let mut raise = self.raise_to_one(region, point, own);
+        'ways: for way in self.graph.ways_from(point) {
+            if !self.loops.has(Some(number), way.target) {
+                let other = self.raise_for(region, one, own, way);
                 raise = self.either(one.header, raise, other);
             }
         }
         raise
     }
 
-    /// Notes the costs of the points of a loop inside of a region.
-    fn place(&self, region: Region, one: &Loop, costs: &mut Costs) {
-        let Some(raise) = self.raise(region, one, costs) else {
-            return;
+    /// How much the costs of a loop have to be raised inside of a region.
+    fn raise(&self, region: &Region, number: usize, one: &Loop) -> Option<Form> {
+        let mut raise = None;
+        'points: for (point, cost) in one.points.iter().zip(&one.costs) {
+            if let Some(own) = cost {
+                let other = self.raise_at(region, number, one, *point, own);
+                raise = self.either(one.header, raise, other);
+            }
+        }
+        raise
+    }
+
+    /// The costs of the points of a loop inside of a region.
+    fn raised(&self, region: &Region, number: usize) -> Result<Vec<(u32, Form)>, Fault> {
+        let mut all = Vec::new(self.graph.alloc);
+        let Some(one) = self.loops.all.get(number) else {
+            return Ok(all);
         };
-        'points: for point in 0..self.count {
-            if is_marked(&one.inside, point) {
-                if let Some(own) = cost_at(&one.costs, point) {
-                    note(costs, point, Some(own.plus(&raise)));
+        let Some(raise) = self.raise(region, number, one) else {
+            return Ok(all);
+        };
+        'points: for (point, cost) in one.points.iter().zip(&one.costs) {
+            if let Some(own) = cost {
+                all.push((*point, own.plus(&raise)))?;
+            }
+        }
+        Ok(all)
+    }
+
+    /// Notes the costs of the points of a loop inside of a region.
+    fn place(&mut self, region: &Region, number: usize) -> Result<bool, Fault> {
+        let mut changes = false;
+        'points: for (point, cost) in self.raised(region, number)? {
+            changes |= self.note(point, Some(cost));
+        }
+        Ok(changes)
+    }
+
+    /// Whether the cost of a way out of a loop inside of a region is not known.
+    fn misses_out(&self, region: &Region, number: usize) -> bool {
+        let Some(one) = self.loops.all.get(number) else {
+            return false;
+        };
+        'points: for point in &one.points {
+            'ways: for way in self.graph.ways_from(*point) {
+                if !self.loops.has(Some(number), way.target)
+                    && self.loops.has(region.number, way.target)
+                    && self.cost_of_way(region, way).is_none()
+                {
+                    return true;
                 }
             }
         }
+        false
     }
 
-    /// Notes the costs of the points of all loops that stand directly inside of a region.
-    fn place_all(&self, region: Region, costs: &mut Costs) {
-        'loops: for one in &self.loops {
-            if one.around == region.number {
-                self.place(region, one, costs);
-            }
+    /// Finds the costs of a point of a region: its own, or those of all points of the loop of which it is the header.
+    fn count_point(&mut self, region: &Region, point: u32) -> Result<Round, Fault> {
+        if self.loops.innermost(point) == region.number {
+            let (cost, misses) = self.cost_of_point(region, point);
+            return Ok(Round {
+                misses,
+                changes: self.note(point, cost),
+            });
+        }
+        match self.loops.headed(point) {
+            Some(number) if self.loops.around(number) == region.number => Ok(Round {
+                misses: self.misses_out(region, number),
+                changes: self.place(region, number)?,
+            }),
+            _ => Ok(Round {
+                misses: false,
+                changes: false,
+            }),
         }
     }
 
-    /// Finds the costs of the points of a region once, from the last to the first, and answers whether some changed.
-    fn round(&self, region: Region, costs: &mut Costs) -> Result<bool, Fault> {
-        let mut before = Vec::new(self.alloc);
-        before.extend_from_slice(costs)?;
-        let mut found = self.no_costs()?;
-        'ways: for way in self.ways.iter().rev() {
-            if self.has(region, way.from) && !self.is_deeper(region, way.from) {
-                let cost = self.cost_of_way(region, costs, way);
-                let both = self.either(way.from, cost_at(&found, way.from), cost);
-                note(&mut found, way.from, both);
-                note(costs, way.from, both);
-            }
+    /// Finds the costs of the points of a region once.
+    fn round(&mut self, region: &Region, points: &[u32]) -> Result<Round, Fault> {
+        let mut all = Round {
+            misses: false,
+            changes: false,
+        };
+        'points: for point in points {
+            let one = self.count_point(region, *point)?;
+            all.misses |= one.misses;
+            all.changes |= one.changes;
         }
-        self.place_all(region, costs);
-        Ok(!are_same(&before, costs))
+        Ok(all)
     }
 
-    /// The costs of the points of a region, whose inner loops have theirs.
-    fn costs(&self, region: Region) -> Result<Costs, Fault> {
-        let mut costs = self.no_costs()?;
-        'rounds: for _ in 0..self.count.saturating_add(2) {
-            if !self.round(region, &mut costs)? {
+    /// Finds the costs of the points of a region, whose inner loops have theirs.
+    fn count(&mut self, region: &Region, points: &[u32]) -> Result<(), Fault> {
+        'points: for point in points {
+            self.note(*point, None);
+        }
+        'rounds: for _ in 0..MOST_ROUNDS {
+            let Round { misses, changes } = self.round(region, points)?;
+            if !misses || !changes {
                 break;
             }
         }
-        Ok(costs)
-    }
-
-    /// No costs.
-    pub(crate) fn no_costs(&self) -> Result<Costs, Fault> {
-        let mut costs = Vec::new(self.alloc);
-        'points: for _ in 0..self.count {
-            costs.push(None)?;
-        }
-        Ok(costs)
+        Ok(())
     }
 
     /// The range of a register at a point.
     fn range_at(&self, point: u32, register: u32) -> Range {
-        match self.bounds.get(point as usize) {
-            Some(Some(bounds)) if register < 32 => bounds.get(Register(register as u8)),
+        match self.graph.bounds_at(point) {
+            Some(bounds) if register < 32 => bounds.get(Register(register as u8)),
             _ => Range::FULL,
         }
     }
 
-    /// The costs of a loop whose header has a register so many times, and how much that misses on the way back to it.
+    /// Finds the costs of a loop whose header has a register so many times, and answers how much that misses on the way back to it.
     fn tried(
-        &self,
+        &mut self,
         number: usize,
-        header: u32,
-        register: u32,
+        counter: Counter<'_>,
         times: i64,
-    ) -> Result<(Costs, Option<i64>), Fault> {
+    ) -> Result<Option<i64>, Fault> {
         let mut seed = Form::constant(0);
-        seed.add(register, times);
-        let costs = self.costs(Region {
+        seed.add(counter.register, times);
+        let region = Region {
             number: Some(number),
             seed,
-        })?;
-        let missed = match (cost_at(&costs, header), self.bounds.get(header as usize)) {
-            (Some(cost), Some(Some(bounds))) => Some(cost.minus(&seed).greatest(bounds)),
-            _ => None,
         };
-        Ok((costs, missed))
+        self.count(&region, counter.points)?;
+        let cost = cost_at(&self.costs, counter.header);
+        Ok(match (cost, self.graph.bounds_at(counter.header)) {
+            (Some(cost), Some(bounds)) => Some(cost.minus(&seed).greatest(bounds)),
+            _ => None,
+        })
+    }
+
+    /// The costs that are noted for points.
+    fn kept(&self, points: &[u32]) -> Result<Costs, Fault> {
+        let mut kept = Vec::new(self.graph.alloc);
+        'points: for point in points {
+            kept.push(cost_at(&self.costs, *point))?;
+        }
+        Ok(kept)
+    }
+
+    /// The costs that are noted for a loop, with so many times its counter.
+    fn solution(&self, counter: Counter<'_>, times: i64) -> Result<Solved, Fault> {
+        let range = self.range_at(counter.header, counter.register);
+        let width = i64::from(range.high).saturating_sub(i64::from(range.low));
+        Ok(Solved {
+            costs: self.kept(counter.points)?,
+            span: times.saturating_mul(width),
+        })
     }
 
     /// The costs of a loop that a register counts, down or up, with the least coefficient.
     fn counted(
-        &self,
+        &mut self,
         number: usize,
-        header: u32,
-        register: u32,
+        counter: Counter<'_>,
         sign: i64,
     ) -> Result<Option<Solved>, Fault> {
         let mut times = 0i64;
         'tries: for _ in 0..MOST_TRIES {
-            let (costs, missed) = self.tried(number, header, register, times.saturating_mul(sign))?;
+            let missed = self.tried(number, counter, times.saturating_mul(sign))?;
             let Some(missed) = missed else {
                 return Ok(None);
             };
             if missed <= 0 {
-                let range = self.range_at(header, register);
-                let width = i64::from(range.high).saturating_sub(i64::from(range.low));
-                return Ok(Some(Solved {
-                    costs,
-                    span: times.saturating_mul(width),
-                }));
+                return Ok(Some(self.solution(counter, times)?));
             }
             let more = times.saturating_add(1).saturating_mul(sign);
-            let (_, next) = self.tried(number, header, register, more)?;
-            let Some(next) = next else {
+            let Some(next) = self.tried(number, counter, more)? else {
                 return Ok(None);
             };
             let gained = missed.saturating_sub(next);
@@ -298,16 +406,12 @@ impl Graph {
         Ok(None)
     }
 
-    /// Whether a register counts in a loop: it is written as a sum or a difference, and its range is known where the loop begins.
-    fn counts(&self, one: &Loop, register: u32) -> bool {
-        if self.range_at(one.header, register) == Range::FULL {
-            return false;
-        }
-        'ways: for way in &self.ways {
+    /// Whether a register is written as a sum or a difference on a way inside a loop from a point.
+    fn counts_at(&self, number: usize, point: u32, register: u32) -> bool {
+        'ways: for way in self.graph.ways_from(point) {
             if !way.is_wait
-                && is_marked(&one.inside, way.from)
-                && is_marked(&one.inside, way.target)
                 && is_sum(way.effect.value(register))
+                && self.loops.has(Some(number), way.target)
             {
                 return true;
             }
@@ -315,79 +419,84 @@ impl Graph {
         false
     }
 
-    /// The better of two ways to count a loop.
-    fn better(&self, first: Option<Solved>, second: Option<Solved>) -> Option<Solved> {
-        match (first, second) {
-            (Some(first), Some(second)) => {
-                if second.span < first.span {
-                    Some(second)
-                } else {
-                    Some(first)
-                }
-            }
-            (Some(only), None) | (None, Some(only)) => Some(only),
-            (None, None) => None,
+    /// Whether a register counts in a loop: it is written as a sum or a difference, and its range is known where the loop begins.
+    fn counts(&self, number: usize, counter: Counter<'_>) -> bool {
+        if self.range_at(counter.header, counter.register) == Range::FULL {
+            return false;
         }
+        'points: for point in counter.points {
+            if self.counts_at(number, *point, counter.register) {
+                return true;
+            }
+        }
+        false
     }
 
     /// The costs of a loop whose inner loops have theirs.
-    fn solved(&self, number: usize, one: &Loop) -> Result<Costs, Fault> {
+    fn solved(&mut self, number: usize, header: u32, points: &[u32]) -> Result<Costs, Fault> {
         let mut best = None;
         'registers: for register in 1..32u32 {
-            if self.counts(one, register) {
-                let down = self.counted(number, one.header, register, 1)?;
-                best = self.better(best, down);
-                let up = self.counted(number, one.header, register, -1)?;
-                best = self.better(best, up);
+            let counter = Counter {
+                header,
+                points,
+                register,
+            };
+            if self.counts(number, counter) {
+                let down = self.counted(number, counter, 1)?;
+                best = better(best, down);
+                let up = self.counted(number, counter, -1)?;
+                best = better(best, up);
             }
         }
         match best {
             Some(solved) => Ok(solved.costs),
             None => Err(Fault::At {
-                point: one.header,
+                point: header,
                 reason: Reason::NoMeasure,
             }),
         }
     }
 
+    /// The points of a region, as a list of their own.
+    fn copied_points(&self, region: Option<usize>) -> Result<Vec<u32>, Fault> {
+        let mut points = Vec::new(self.graph.alloc);
+        points.extend_from_slice(self.points_of(region))?;
+        Ok(points)
+    }
+
     /// Finds the costs of a loop, and keeps them.
     fn solve(&mut self, number: usize) -> Result<(), Fault> {
-        let costs = match self.loops.get(number) {
-            Some(one) => self.solved(number, one)?,
+        let header = match self.loops.all.get(number) {
+            Some(one) => one.header,
             None => return Ok(()),
         };
-        if let Some(one) = self.loops.get_mut(number) {
+        let points = self.copied_points(Some(number))?;
+        let costs = self.solved(number, header, &points)?;
+        if let Some(one) = self.loops.all.get_mut(number) {
             one.costs = costs;
         }
         Ok(())
     }
 
-    /// The costs of all points of the program.
-    pub(crate) fn all_costs(&mut self) -> Result<Costs, Fault> {
-        'loops: for number in (0..self.loops.len()).rev() {
+    /// The graph, and the costs of all points of the program.
+    pub(crate) fn finish(mut self) -> Result<(Graph, Costs), Fault> {
+        'loops: for number in (0..self.loops.all.len()).rev() {
             self.solve(number)?;
         }
-        self.costs(Region {
+        let points = self.copied_points(None)?;
+        let all = Region {
             number: None,
             seed: Form::constant(0),
-        })
+        };
+        self.count(&all, &points)?;
+        Ok((self.graph, self.costs))
     }
 }
 
-/// Whether a register becomes a sum or a difference.
-fn is_sum(value: Value) -> bool {
-    matches!(
-        value,
-        Value::Sum(..) | Value::Difference(..) | Value::Moved(..)
-    )
-}
-
-/// Whether costs are the same.
-fn are_same(first: &[Option<Form>], second: &[Option<Form>]) -> bool {
-    'costs: for (one, other) in first.iter().zip(second) {
-        if one != other {
-            return false;
-        }
-    }
-    true
+/// A register that may count a loop, whose header and points these are.
+#[derive(Clone, Copy)]
+struct Counter<'p> {
+    header: u32,
+    points: &'p [u32],
+    register: u32,
 }

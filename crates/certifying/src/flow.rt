@@ -85,13 +85,14 @@ fn constant_of(instr: Option<Instr>) -> Option<u32> {
 impl Given<'_, '_> {
     /// Notes the constants of the program as thresholds.
     fn add_constants(&self, table: &mut Table) -> Result<(), Fault> {
-        table.add_threshold(1 << 31)?;
+        let mut values = Vec::new(self.alloc);
+        values.push(1u32 << 31)?;
         'points: for point in 0..self.space.thread.word_count() {
             if let Some(value) = constant_of(decode(self.space.thread.word(point))) {
-                table.add_threshold(value)?;
+                values.push(value)?;
             }
         }
-        Ok(())
+        table.add_thresholds(&values)
     }
 
     /// The ways on from a point, if it is reached and nothing is wrong there with what is known so far.

@@ -174,6 +174,17 @@ impl Form {
         which
     }
 
+    /// This form, or another that is less at its greatest, or as much there and less at its least.
+    fn or_less(self, other: Form, bounds: &Bounds) -> Form {
+        let mine = self.greatest(bounds);
+        let theirs = other.greatest(bounds);
+        if theirs < mine || (theirs == mine && other.least(bounds) < self.least(bounds)) {
+            other
+        } else {
+            self
+        }
+    }
+
     /// A form that is at least both: one of them, raised, or what they have in common and a constant, whichever is
     /// least at its greatest.
     pub(crate) fn above_both(&self, other: &Form, bounds: &Bounds) -> Form {
@@ -183,13 +194,6 @@ impl Form {
         let common = mine.raised_above(&theirs, bounds);
         let first = self.raised_above(other, bounds);
         let second = other.raised_above(self, bounds);
-        let mut best = first;
-        if second.greatest(bounds) < best.greatest(bounds) {
-            best = second;
-        }
-        if common.greatest(bounds) < best.greatest(bounds) {
-            best = common;
-        }
-        best
+        first.or_less(second, bounds).or_less(common, bounds)
     }
 }

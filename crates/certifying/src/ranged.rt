@@ -27,26 +27,26 @@ pub(crate) fn joined(first: &Bounds, second: &Bounds) -> Bounds {
     both
 }
 
-/// The greatest threshold that is not above a value.
+/// The greatest threshold that is not above a value. They rise.
 fn threshold_below(thresholds: &[u32], value: u32) -> u32 {
-    let mut found = 0;
-    'thresholds: for threshold in thresholds {
-        if *threshold <= value {
-            found = found.max(*threshold);
-        }
+    match thresholds.binary_search(&value) {
+        Ok(_) => value,
+        Err(place) => match thresholds.get(place.saturating_sub(1)) {
+            Some(threshold) if place > 0 => *threshold,
+            _ => 0,
+        },
     }
-    found
 }
 
-/// The least threshold that is not below a value.
+/// The least threshold that is not below a value. They rise.
 fn threshold_above(thresholds: &[u32], value: u32) -> u32 {
-    let mut found = u32::MAX;
-    'thresholds: for threshold in thresholds {
-        if *threshold >= value {
-            found = found.min(*threshold);
-        }
+    match thresholds.binary_search(&value) {
+        Ok(_) => value,
+        Err(place) => match thresholds.get(place) {
+            Some(threshold) => *threshold,
+            None => u32::MAX,
+        },
     }
-    found
 }
 
 /// A range that has grown, with each end that moved moved on to a threshold.

@@ -28,7 +28,7 @@ pub(crate) struct Place {
 pub(crate) struct Table {
     alloc: Global,
     pub(crate) places: Vec<Place>,
-    /// Where ranges stop that are widened.
+    /// Where ranges stop that are widened. They rise.
     thresholds: Vec<u32>,
 }
 
@@ -79,8 +79,19 @@ impl Table {
         })
     }
 
+    /// Notes that ranges may stop at these values, or beside them.
+    pub(crate) fn add_thresholds(&mut self, values: &[u32]) -> Result<(), Fault> {
+        'values: for value in values {
+            self.thresholds.push(value.saturating_sub(1))?;
+            self.thresholds.push(*value)?;
+            self.thresholds.push(value.saturating_add(1))?;
+        }
+        self.thresholds.sort_unstable();
+        Ok(())
+    }
+
     /// Notes that ranges may stop at a value, or beside it.
-    pub(crate) fn add_threshold(&mut self, value: u32) -> Result<(), Fault> {
+    fn add_threshold(&mut self, value: u32) -> Result<(), Fault> {
         'beside: for near in [value.saturating_sub(1), value, value.saturating_add(1)] {
             if let Err(place) = self.thresholds.binary_search(&near) {
                 self.thresholds.insert(place, near)?;
