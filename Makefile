@@ -10,7 +10,9 @@ demo:
 test:
 	rt ci
 
-# Proves every function of the crates below the program and of the program, side by side, and leaves it at crates/microsys/out/microsys.
+# Proves every function of the crates below the programs and of the programs, side by side, and leaves them at
+# crates/microsys/out/microsys and crates/microsys_tool/out/microsys_tool.
 build:
-	tools/checks/libraries.py microsys
+	tools/checks/libraries.py microsys microsys_tool
 	cd crates/microsys && ../../tools/checks/libraries.py rt run -- verify ../../samples/bell.img
+	cd crates/microsys_tool && ../../tools/checks/libraries.py rt run -- certify ../../samples/bell.txt /dev/null

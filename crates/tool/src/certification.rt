@@ -1,0 +1,169 @@
+//! Texts and their certificates: what is found is put into the text, and the verifier judges the image of that.
+
+use crate::trials::{drop_records, judged};
+use asm::{SourceFault, assemble};
+use certified_texts::{Draft, Layout, bare_text, layout_of};
+use certifying::{Certificate, Reason, Unfit, certificates};
+use image::write;
+use model::{Point, Refusal};
+use std::alloc::{AllocError, AllocFailed, Global};
+
+/// A text with certificates that the verifier accepts.
+#[derive(Drop)]
+pub struct CertifiedText {
+    pub text: Vec<u8>,
+    /// The line `THREAD budget N` of each thread.
+    pub budgets: String,
+}
+
+/// What is wrong on a line.
+#[derive(Clone, Copy, Debug, PartialEq, Eq)]
+pub enum Why {
+    /// No certificate is found.
+    Unfit(Reason),
+    /// The budget that is given is below the least that is found.
+    BudgetTooSmall { given: u64, least: u64 },
+    /// What was found is not accepted.
+    Refused(Refusal),
+}
+
+/// Why a text gets no certificates.
+#[derive(Clone, Copy, Debug, PartialEq, Eq)]
+pub enum NotCertified {
+    /// It is no text of an image.
+    Source(SourceFault),
+    /// For what is wrong on a line.
+    Line { line: u64, why: Why },
+    /// Its image is refused for something that stands on no line of a program.
+    Image(Refusal),
+    /// Memory was refused.
+    OutOfMemory,
+}
+
+impl From<AllocError> for NotCertified {
+    fn from(_refused: AllocError) -> NotCertified {
+        NotCertified::OutOfMemory
+    }
+}
+
+impl<T: Drop> From<AllocFailed<T>> for NotCertified {
+    fn from(_refused: AllocFailed<T>) -> NotCertified {
+        NotCertified::OutOfMemory
+    }
+}
+
+impl From<SourceFault> for NotCertified {
+    fn from(fault: SourceFault) -> NotCertified {
+        NotCertified::Source(fault)
+    }
+}
+
+/// Where in a program a refusal is told.
+fn point_of(refusal: Refusal) -> Option<Point> {
+    match refusal {
+        Refusal::IllegalInstruction(at)
+        | Refusal::ComputedJump(at)
+        | Refusal::BadTarget(at)
+        | Refusal::RangeNotKept(at)
+        | Refusal::NotMapped(at)
+        | Refusal::MeasureNotFalling(at)
+        | Refusal::OverBudget(at)
+        | Refusal::CallNotConstant(at)
+        | Refusal::CapNotThere(at)
+        | Refusal::CallRefused(at, _)
+        | Refusal::PoolLost(at) => Some(at),
+        _ => None,
+    }
+}
+
+/// A refusal by the line of the text that it is told on.
+pub(crate) fn refused(layout: &Layout<'_>, refusal: Refusal) -> NotCertified {
+    match (refusal, point_of(refusal)) {
+        (Refusal::OutOfMemory, _) => NotCertified::OutOfMemory,
+        (_, Some(at)) => NotCertified::Line {
+            line: layout.line_of(at.thread, at.point),
+            why: Why::Refused(refusal),
+        },
+        (_, None) => NotCertified::Image(refusal),
+    }
+}
+
+/// Why no certificates are found, by the line of the text.
+fn unfit(layout: &Layout<'_>, fault: Unfit) -> NotCertified {
+    match fault {
+        Unfit::Refused(refusal) => refused(layout, refusal),
+        Unfit::Thread {
+            thread,
+            point,
+            reason,
+        } => NotCertified::Line {
+            line: layout.line_of(thread, point),
+            why: Why::Unfit(reason),
+        },
+        Unfit::OutOfMemory => NotCertified::OutOfMemory,
+    }
+}
+
+/// A certificate with all of its records, and with the budget that is given.
+fn draft_of(
+    alloc: Global,
+    layout: &Layout<'_>,
+    number: usize,
+    certificate: Certificate,
+) -> Result<Draft, NotCertified> {
+    if let Some(thread) = layout.threads.get(number) {
+        if thread.budget < certificate.budget {
+            return Err(NotCertified::Line {
+                line: thread.line,
+                why: Why::BudgetTooSmall {
+                    given: thread.budget,
+                    least: certificate.budget,
+                },
+            });
+        }
+    }
+    Ok(Draft::new(alloc, certificate)?)
+}
+
+/// What is found for a text without certificates.
+fn drafts_of(alloc: Global, bare: &str, layout: &Layout<'_>) -> Result<Vec<Draft>, NotCertified> {
+    let image = assemble(alloc, bare)?;
+    let bytes = write(alloc, &image)?;
+    let found = match certificates(alloc, bytes.as_slice()) {
+        Ok(found) => found,
+        Err(fault) => return Err(unfit(layout, fault)),
+    };
+    let mut drafts = Vec::new(alloc);
+    'threads: for (number, certificate) in found.into_iter().enumerate() {
+        drafts.push(draft_of(alloc, layout, number, certificate)?)?;
+    }
+    Ok(drafts)
+}
+
+/// The line `THREAD budget N` of each thread: the budget that is given, or the least that is found.
+fn budgets_of(alloc: Global, layout: &Layout<'_>, drafts: &[Draft]) -> Result<String, AllocError> {
+    let mut told = String::new(alloc);
+    'threads: for (thread, draft) in layout.threads.iter().zip(drafts) {
+        let name = thread.name;
+        let budget = draft.certificate.budget;
+        let line = format!(in alloc; "{name} budget {budget}\n")?;
+        told.push_str(line.as_str())?;
+    }
+    Ok(told)
+}
+
+/// The text with certificates in place of its own, which the verifier accepts.
+pub fn certified(alloc: Global, text: &str) -> Result<CertifiedText, NotCertified> {
+    let bytes = bare_text(alloc, text)?;
+    let Ok(bare) = std::str::from_utf8(bytes.as_slice()) else {
+        return Err(NotCertified::Source(SourceFault { line: 1, kind: 1 }));
+    };
+    let layout = layout_of(alloc, bare)?;
+    let mut drafts = drafts_of(alloc, bare, &layout)?;
+    judged(alloc, text, &layout, drafts.as_slice())?;
+    drop_records(alloc, text, &layout, &mut drafts)?;
+    Ok(CertifiedText {
+        text: judged(alloc, text, &layout, drafts.as_slice())?,
+        budgets: budgets_of(alloc, &layout, drafts.as_slice())?,
+    })
+}

@@ -1,0 +1,181 @@
+//! What the program answers to the words of its command line.
+
+use crate::certification::{NotCertified, certified};
+use crate::messages::line_of;
+use files::{FileFault, read_text, write_bytes};
+use sinks::{Sink, SinkFault, put_all};
+use std::alloc::{AllocError, Global};
+use std::convert::AsStr;
+use std::rt::{Env, Files};
+use std::{env, io};
+use tool_line::{ToolRequest, WordsFault, parse_words};
+
+/// The exit status of a request that was carried out.
+const DONE: u8 = 0;
+/// .. that was refused, with the reason on standard output.
+const REFUSED: u8 = 1;
+/// .. that the words do not make.
+const USAGE: u8 = 2;
+/// .. that failed for a file, the output or memory, with the reason on standard error.
+const FAILED: u8 = 3;
+
+/// Why a request was not carried out.
+enum ToolFault<'a> {
+    /// The words are no request.
+    Usage,
+    /// This file cannot be read, or not be written.
+    File(&'a str),
+    /// Standard output takes no more.
+    Output,
+    /// Memory was refused.
+    Memory,
+    /// The text gets no certificates.
+    NotCertified(NotCertified),
+}
+
+impl From<SinkFault> for ToolFault<'_> {
+    fn from(_fault: SinkFault) -> Self {
+        ToolFault::Output
+    }
+}
+
+impl From<AllocError> for ToolFault<'_> {
+    fn from(_fault: AllocError) -> Self {
+        ToolFault::Memory
+    }
+}
+
+impl From<WordsFault> for ToolFault<'_> {
+    fn from(fault: WordsFault) -> Self {
+        match fault {
+            WordsFault::Usage => ToolFault::Usage,
+            WordsFault::OutOfMemory => ToolFault::Memory,
+        }
+    }
+}
+
+impl<'a> From<FileFault<'a>> for ToolFault<'a> {
+    fn from(fault: FileFault<'a>) -> Self {
+        match fault {
+            FileFault::File(name) => ToolFault::File(name),
+            FileFault::OutOfMemory => ToolFault::Memory,
+        }
+    }
+}
+
+impl From<NotCertified> for ToolFault<'_> {
+    fn from(fault: NotCertified) -> Self {
+        match fault {
+            NotCertified::OutOfMemory => ToolFault::Memory,
+            fault => ToolFault::NotCertified(fault),
+        }
+    }
+}
+
+/// Carries out what the words behind the program's name ask for, and answers the exit status.
+pub fn command<R: Files + AllocGlobal, S: AsStr, W: Sink, E: Sink>(
+    rt: &R,
+    words: &[S],
+    output: &mut W,
+    errors: &mut E,
+) -> u8 {
+    match answer(rt, words, output) {
+        Ok(()) => DONE,
+        Err(fault) => report(rt.alloc(), fault, output, errors),
+    }
+}
+
+/// Gathers the words of the process's command line, and carries them out.
+pub fn command_line<R: Files + Env + AllocGlobal, W: Sink, E: Sink>(
+    rt: &R,
+    output: &mut W,
+    errors: &mut E,
+) -> u8 {
+    match words(rt) {
+        Ok(words) => command(rt, words.as_slice(), output, errors),
+        Err(fault) => report(rt.alloc(), fault, output, errors),
+    }
+}
+
+/// The words behind the program's name. Words that are no text are no request.
+fn words<R: Env + AllocGlobal>(rt: &R) -> Result<Vec<String>, ToolFault<'static>> {
+    let all = match env::args(rt) {
+        Ok(all) => all,
+        Err(error) if error.kind() == io::ErrorKind::OutOfMemory => return Err(ToolFault::Memory),
+        Err(_) => return Err(ToolFault::Usage),
+    };
+    Ok(all.skip(1).collect(rt.alloc())?)
+}
+
+/// Carries out a request up to its failure.
+fn answer<'a, R: Files + AllocGlobal, S: AsStr, W: Sink>(
+    rt: &R,
+    words: &'a [S],
+    output: &mut W,
+) -> Result<(), ToolFault<'a>> {
+    match parse_words(rt.alloc(), words)? {
+        ToolRequest::Certify { source, certified } => certify(rt, source, certified, output),
+        ToolRequest::Explain { .. } | ToolRequest::Draw { .. } | ToolRequest::Chart { .. } => {
+            Err(ToolFault::Usage)
+        }
+    }
+}
+
+/// Writes a text with its certificates to a file, which is not touched before the verifier accepts the whole of it, and puts a
+/// line for each thread.
+fn certify<'a, R: Files + AllocGlobal, W: Sink>(
+    rt: &R,
+    source: &'a str,
+    target: &'a str,
+    output: &mut W,
+) -> Result<(), ToolFault<'a>> {
+    let text = read_text(rt, source)?;
+    let made = certified(rt.alloc(), text.as_str())?;
+    write_bytes(rt, target, made.text.as_slice())?;
+    put_all(output, made.budgets.as_bytes())?;
+    Ok(())
+}
+
+/// Says why a request was not carried out, and answers the exit status.
+fn report<W: Sink, E: Sink>(
+    alloc: Global,
+    fault: ToolFault<'_>,
+    output: &mut W,
+    errors: &mut E,
+) -> u8 {
+    match fault {
+        ToolFault::Usage => {
+            let _ = put_all(errors, b"usage\n");
+            USAGE
+        }
+        ToolFault::File(name) => failed(errors, b"file ", name.as_bytes()),
+        ToolFault::Output => failed(errors, b"output", b""),
+        ToolFault::Memory => failed(errors, b"memory", b""),
+        ToolFault::NotCertified(fault) => refused(line_of(alloc, fault), output, errors),
+    }
+}
+
+/// Puts a line on standard error.
+fn failed<E: Sink>(errors: &mut E, text: &[u8], name: &[u8]) -> u8 {
+    for piece in [text, name, b"\n"] {
+        if put_all(errors, piece).is_err() {
+            return FAILED;
+        }
+    }
+    FAILED
+}
+
+/// Puts the line of a refusal on standard output.
+fn refused<W: Sink, E: Sink>(
+    line: Result<String, AllocError>,
+    output: &mut W,
+    errors: &mut E,
+) -> u8 {
+    match line {
+        Ok(line) => match put_all(output, line.as_bytes()) {
+            Ok(()) => REFUSED,
+            Err(_) => failed(errors, b"output", b""),
+        },
+        Err(_) => failed(errors, b"memory", b""),
+    }
+}

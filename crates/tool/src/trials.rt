@@ -1,0 +1,84 @@
+//! Trials: the verifier judges a text with some of its records.
+
+use crate::certification::{NotCertified, refused};
+use asm::{SourceFault, assemble};
+use certified_texts::{Draft, Layout, certified_text};
+use image::write;
+use std::alloc::Global;
+use verify::verify;
+
+/// How many lines all trials may have together.
+const MOST_LINES: usize = 1 << 19;
+
+/// The text with certificates, if the verifier accepts it.
+pub(crate) fn judged(
+    alloc: Global,
+    text: &str,
+    layout: &Layout<'_>,
+    drafts: &[Draft],
+) -> Result<Vec<u8>, NotCertified> {
+    let written = certified_text(alloc, text, layout, drafts)?;
+    let Ok(certified) = std::str::from_utf8(written.as_slice()) else {
+        return Err(NotCertified::Source(SourceFault { line: 1, kind: 1 }));
+    };
+    let image = assemble(alloc, certified)?;
+    let bytes = write(alloc, &image)?;
+    match verify(alloc, bytes.as_slice()) {
+        Ok(_) => {}
+        Err(refusal) => return Err(refused(layout, refusal)),
+    }
+    Ok(written)
+}
+
+/// Whether the verifier accepts a text with these certificates. Memory that is refused ends the trials.
+fn is_accepted(
+    alloc: Global,
+    text: &str,
+    layout: &Layout<'_>,
+    drafts: &[Draft],
+) -> Result<bool, NotCertified> {
+    match judged(alloc, text, layout, drafts) {
+        Ok(_) => Ok(true),
+        Err(NotCertified::OutOfMemory) => Err(NotCertified::OutOfMemory),
+        Err(_) => Ok(false),
+    }
+}
+
+/// Sets whether a record of a thread stands in the text.
+fn keep(drafts: &mut Vec<Draft>, thread: usize, record: usize, stands: bool) {
+    if let Some(draft) = drafts.get_mut(thread) {
+        draft.keep(record, stands);
+    }
+}
+
+/// How many records a thread has.
+fn record_count(drafts: &[Draft], thread: usize) -> usize {
+    match drafts.get(thread) {
+        Some(draft) => draft.certificate.records.len(),
+        None => 0,
+    }
+}
+
+/// Leaves out each record without which the text is accepted as well, as far as there is time for trials.
+pub(crate) fn drop_records(
+    alloc: Global,
+    text: &str,
+    layout: &Layout<'_>,
+    drafts: &mut Vec<Draft>,
+) -> Result<(), NotCertified> {
+    let lines = text.lines().count().max(1);
+    let mut left = MOST_LINES / lines;
+    'threads: for thread in 0..drafts.len() {
+        'records: for record in 0..record_count(drafts, thread) {
+            if left == 0 {
+                return Ok(());
+            }
+            left -= 1;
+            keep(drafts, thread, record, false);
+            if !is_accepted(alloc, text, layout, drafts.as_slice())? {
+                keep(drafts, thread, record, true);
+            }
+        }
+    }
+    Ok(())
+}
