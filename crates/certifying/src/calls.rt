@@ -1,14 +1,17 @@
 //! What system calls leave, by the rules of acceptance.
 
-ghost use Rattle.std.specs.Prelude.{◌≡◌, []};
+ghost use Rattle.std.specs.Prelude.{◌≡◌, [], IfOk};
 ghost use Rattle.certifying.specs.Given.{IsGiven};
+ghost use Rattle.typestate.specs.Logs.{Holds, Shows};
 
 use crate::Fault;
 use model::{Point, Refusal};
 use ranges::Bounds;
-use std::alloc::Global;
+use std::alloc::{AllocError, Global};
 use thread_spaces::{mappings_are_listed, slots_are_own, threads_stand_apart};
-use typestate::{Behind, NotedSlot, NotedSlots, Part, SlotLog, Space, no_stray_slot_leads_outside};
+use typestate::{
+    Behind, NotedSlot, NotedSlots, Part, ShownPart, SlotLog, Space, no_stray_slot_leads_outside,
+};
 
 /// A thread of an image without certificates: the CNodes that the image gives it, and what it puts into them.
 #[derive(Clone, Copy)]
@@ -27,6 +30,16 @@ pub(crate) struct Given<'a, 's> {
 pub(crate) struct Called {
     pub(crate) behind: Behind,
     pub(crate) changes: Vec<NotedSlot>,
+}
+
+/// A part of a log by its slots.
+fn shown(alloc: Global, log: &SlotLog, part: Part) -> Result<ShownPart, AllocError>
+    requires { Holds log.now part }
+    ensures { IfOk result (Shows log.now part) }
+{
+    let mut shown = ShownPart::new(alloc);
+    log.show(&mut shown, part)?;
+    Ok(shown)
 }
 
 /// The changes that make a difference to the image's slots.
@@ -67,9 +80,11 @@ impl Given<'_, '_> {
         let mut log = SlotLog::new(self.alloc);
         let part = log.follow(Part { first: 0, end: 0 }, changes)?;
         let mut made = Vec::new(self.alloc);
-        let behind = self.answered(at, bounds, &log.slots(self.slots, part), &mut made)?;
+        let before = shown(self.alloc, &log, part)?;
+        let behind = self.answered(at, bounds, &before.slots(self.slots), &mut made)?;
         let part = log.follow(part, &made)?;
-        let changes = told(self.alloc, &log.slots(self.slots, part))?;
+        let left = shown(self.alloc, &log, part)?;
+        let changes = told(self.alloc, &left.slots(self.slots))?;
         Ok(Called { behind, changes })
     }
 
