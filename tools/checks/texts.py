@@ -16,7 +16,7 @@ ALLOWED = os.path.join(os.path.dirname(os.path.realpath(__file__)), "proof_impor
 IMPORT = re.compile(r"^(?:ghost )?(?:pub )?use Rattle\.(\w+)\.proofs\.(?!Laws\b)", re.M)
 
 
-FORM = re.compile(r"\btold_by\b|use Rattle\.objects\.specs\.(?:Rights\.|Tables\.(?!\{(?:Tables|state_of)(?:, (?:Tables|state_of))*\}))")
+FORM = re.compile(r"\bTables::told_by\b|use Rattle\.objects\.specs\.(?:Rights\.|Tables\.(?!\{(?:Tables|state_of)(?:, (?:Tables|state_of))*\}))")
 
 
 def allowed_imports():
