@@ -1,8 +1,10 @@
--- What the capabilities that are left find, behind what is found.
-use Rattle.std.proofs.Common.{◌≡◌, drop}
+-- What the capabilities so far find, and which of them may lead on.
+use Rattle.std.proofs.Common.{◌≡◌, take}
 use Rattle.std.specs.Prelude.{fold}
 use Rattle.model.specs.Acceptance.ThreadRules.{with_named}
+use Rattle.thread_spaces.specs.Reaching.{LeadOn}
 use Rattle.thread_spaces.proofs.reach.follow_all.Given as goal
 
-abbrev pub invariant-loop-number : goal.invariant-loop-number
-invariant-loop-number l = fold (with_named l.image) l.found (drop l.number l.image.capabilities) ≡ fold (with_named l.image) l.fn.found l.image.capabilities
+abbrev pub invariant-loop-entry : goal.invariant-loop-entry
+invariant-loop-entry l =
+    (l.found ≡ fold (with_named l.image) l.fn.found (take l.entry-index l.entries)) × LeadOn l.image l.found (take l.entry-index l.entries) l.rest.items
