@@ -17,15 +17,14 @@ static uint8_t crc_with(uint8_t crc, uint8_t byte) {
     return crc;
 }
 
+/* Insertion sort. */
 static void sort(uint8_t values[KEPT]) {
-    for (uint32_t i = 0; i + 1 < KEPT; i++) {
-        for (uint32_t j = 0; j + 1 < KEPT; j++) {
-            uint8_t low = values[j], high = values[j + 1];
-            if (low > high) {
-                values[j] = high;
-                values[j + 1] = low;
-            }
-        }
+    for (uint32_t i = 1; i < KEPT; i++) {
+        uint8_t moved = values[i];
+        uint32_t at = i;
+        for (; at > 0 && values[at - 1] > moved; at--)
+            values[at] = values[at - 1];
+        values[at] = moved;
     }
 }
 
