@@ -64,6 +64,10 @@ for folder in "$here"/systems/* "$root/samples/gallery/controller_from_c"; do
     check "$name" "$folder/$name.txt" "$folder/$name.events" "$folder/$name.expected"
 done
 
+# The gallery's certified text, as it stands there.
+step certified.txt "not built" "$microsys" build "$root/samples/gallery/controller_from_c/certified.txt" "$room/it.img" &&
+    step certified.txt "not accepted" "$microsys" verify "$room/it.img"
+
 # The first thread of docs/FROM_C.md rings three times, and puts one, two and three stars.
 page="$root/docs/FROM_C.md"
 mkdir "$room/page"
