@@ -2,7 +2,8 @@
 
 use crate::certification::{NotCertified, certified};
 use crate::messages::line_of;
-use files::{FileFault, read_text, write_bytes};
+use drawing::{DrawingFault, chart, draw};
+use files::{FileFault, read_bytes, read_text, write_bytes};
 use sinks::{Sink, SinkFault, put_all};
 use std::alloc::{AllocError, Global};
 use std::convert::AsStr;
@@ -31,6 +32,8 @@ enum ToolFault<'a> {
     Memory,
     /// The text gets no certificates.
     NotCertified(NotCertified),
+    /// This line is none of what is to be drawn.
+    Malformed(u64),
 }
 
 impl From<SinkFault> for ToolFault<'_> {
@@ -68,6 +71,16 @@ impl From<NotCertified> for ToolFault<'_> {
         match fault {
             NotCertified::OutOfMemory => ToolFault::Memory,
             fault => ToolFault::NotCertified(fault),
+        }
+    }
+}
+
+impl From<DrawingFault> for ToolFault<'_> {
+    fn from(fault: DrawingFault) -> Self {
+        match fault {
+            DrawingFault::Malformed { line } => ToolFault::Malformed(line),
+            DrawingFault::Output => ToolFault::Output,
+            DrawingFault::OutOfMemory => ToolFault::Memory,
         }
     }
 }
@@ -115,8 +128,16 @@ fn answer<'a, R: Files + AllocGlobal, S: AsStr, W: Sink>(
 ) -> Result<(), ToolFault<'a>> {
     match parse_words(rt.alloc(), words)? {
         ToolRequest::Certify { source, certified } => certify(rt, source, certified, output),
-        ToolRequest::Explain { .. } | ToolRequest::Draw { .. } | ToolRequest::Chart { .. } => {
-            Err(ToolFault::Usage)
+        ToolRequest::Explain { .. } => Err(ToolFault::Usage),
+        ToolRequest::Draw { source } => {
+            let text = read_text(rt, source)?;
+            draw(rt.alloc(), text.as_str(), output)?;
+            Ok(())
+        }
+        ToolRequest::Chart { trace } => {
+            let trace = read_bytes(rt, trace)?;
+            chart(rt.alloc(), trace.as_slice(), output)?;
+            Ok(())
         }
     }
 }
@@ -152,6 +173,11 @@ fn report<W: Sink, E: Sink>(
         ToolFault::Output => failed(errors, b"output", b""),
         ToolFault::Memory => failed(errors, b"memory", b""),
         ToolFault::NotCertified(fault) => refused(line_of(alloc, fault), output, errors),
+        ToolFault::Malformed(line) => refused(
+            format!(in alloc; "line {line} Malformed: not read\n"),
+            output,
+            errors,
+        ),
     }
 }
 
