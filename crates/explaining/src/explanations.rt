@@ -1,0 +1,93 @@
+//! Texts and why they are refused.
+
+use crate::faults::{ExplainFault, Explained};
+use crate::item_gaps::tell_item;
+use crate::programs::{point_of, tell_program};
+use crate::syntax::tell_fault;
+use asm::assemble;
+use image::{ImageRef, read, write};
+use model::Refusal;
+use sinks::{Sink, put_all};
+use source_texts::SourceText;
+use std::alloc::{AllocError, Global};
+use verify::verify;
+use wellformed::well_formed;
+
+/// The kind of a text's fault that is want of memory.
+const MEMORY: u8 = 5;
+
+/// Tells why an image is refused, with what its text declares.
+fn tell_image(
+    alloc: Global,
+    to: &mut String,
+    text: &str,
+    source: &SourceText<'_>,
+    image: &ImageRef<'_>,
+    refusal: Refusal,
+) -> Result<(), AllocError> {
+    match point_of(refusal) {
+        Some(at) => {
+            if well_formed(alloc, image).is_err() || at.thread >= image.header().threads {
+                return Err(AllocError);
+            }
+            tell_program(alloc, to, text, source, image, at, refusal)
+        }
+        None => tell_item(alloc, to, text, source, image, refusal),
+    }
+}
+
+/// Tells why the image of a text is refused.
+fn tell_refusal(
+    alloc: Global,
+    to: &mut String,
+    text: &str,
+    bytes: &[u8],
+    refusal: Refusal,
+) -> Result<(), AllocError> {
+    match (source_texts::read(alloc, text), read(bytes)) {
+        (Ok(source), Ok(image)) => tell_image(alloc, to, text, &source, &image, refusal),
+        _ => Err(AllocError),
+    }
+}
+
+/// Tells of a text whether it is accepted, or why not.
+fn tell(alloc: Global, to: &mut String, text: &str) -> Result<Explained, AllocError> {
+    let image = match assemble(alloc, text) {
+        Ok(image) => image,
+        Err(fault) => {
+            if fault.kind == MEMORY {
+                return Err(AllocError);
+            }
+            tell_fault(to, text, fault)?;
+            return Ok(Explained::Refused);
+        }
+    };
+    let bytes = write(alloc, &image)?;
+    let refusal = match verify(alloc, &bytes) {
+        Ok(_) => {
+            to.push_str("accepted\n")?;
+            return Ok(Explained::Accepted);
+        }
+        Err(Refusal::OutOfMemory) => return Err(AllocError),
+        Err(refusal) => refusal,
+    };
+    tell_refusal(alloc, to, text, &bytes, refusal)?;
+    Ok(Explained::Refused)
+}
+
+/// Builds and verifies the image of a text, and puts why that is refused: the line, the names, what is known there, and by how much
+/// it misses. Of an accepted one it puts the line `accepted`.
+///
+/// # Errors
+///
+/// An output that takes no more, or want of memory, which puts nothing.
+pub fn explain<S: Sink>(
+    alloc: Global,
+    text: &str,
+    output: &mut S,
+) -> Result<Explained, ExplainFault> {
+    let mut told = String::new(alloc);
+    let explained = tell(alloc, &mut told, text)?;
+    put_all(output, told.as_bytes())?;
+    Ok(explained)
+}

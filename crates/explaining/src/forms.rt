@@ -1,0 +1,218 @@
+//! The forms of lines.
+
+/// What stands behind the first word of a line, and how large its numbers may be.
+#[derive(Clone, Copy, Drop)]
+pub(crate) struct Form {
+    pub(crate) operands: &'static str,
+    pub(crate) ranges: &'static str,
+}
+
+/// The words with which lines begin.
+pub(crate) const WORDS: [&str; 55] = [
+    "memory", "untyped", "object", "irq", "cap", "table", "map", "data", "thread", "reg",
+    "measure", "range", "slot", "word", "end", "lui", "auipc", "jal", "jalr", "beq", "bne", "blt",
+    "bge", "bltu", "bgeu", "lb", "lh", "lw", "lbu", "lhu", "sb", "sh", "sw", "addi", "slti",
+    "sltiu", "xori", "ori", "andi", "slli", "srli", "srai", "add", "sub", "sll", "slt", "sltu",
+    "xor", "srl", "sra", "or", "and", "fence", "ecall", "ebreak",
+];
+
+const IMMEDIATE: Form = Form {
+    operands: "xD xS NUMBER",
+    ranges: "NUMBER is -2048 to 2047",
+};
+
+const SHIFT: Form = Form {
+    operands: "xD xS NUMBER",
+    ranges: "NUMBER is 0 to 31",
+};
+
+const REGISTERS: Form = Form {
+    operands: "xD xS xT",
+    ranges: "registers are x0 to x31",
+};
+
+const LOAD: Form = Form {
+    operands: "xD OFFSET(xS)",
+    ranges: "OFFSET is -2048 to 2047, and always written",
+};
+
+const STORE: Form = Form {
+    operands: "xT OFFSET(xS)",
+    ranges: "xT is stored; OFFSET is -2048 to 2047, and always written",
+};
+
+const BRANCH: Form = Form {
+    operands: "xS xT LABEL",
+    ranges: "the label's line is at most 4096 bytes away",
+};
+
+const UPPER: Form = Form {
+    operands: "xD NUMBER",
+    ranges: "NUMBER is 0 to 0xfffff",
+};
+
+const BARE: Form = Form {
+    operands: "",
+    ranges: "nothing stands behind it",
+};
+
+/// The form of an instruction.
+fn instruction_form(word: &str) -> Option<Form> {
+    Some(match word {
+        "addi" | "slti" | "sltiu" | "xori" | "ori" | "andi" => IMMEDIATE,
+        "slli" | "srli" | "srai" => SHIFT,
+        "add" | "sub" | "sll" | "slt" | "sltu" | "xor" | "srl" | "sra" | "or" | "and" => REGISTERS,
+        "lb" | "lh" | "lw" | "lbu" | "lhu" => LOAD,
+        "sb" | "sh" | "sw" => STORE,
+        "beq" | "bne" | "blt" | "bge" | "bltu" | "bgeu" => BRANCH,
+        "lui" | "auipc" => UPPER,
+        "jalr" => LOAD,
+        "jal" => Form {
+            operands: "xD LABEL",
+            ranges: "the label's line is less than 0x100000 bytes away",
+        },
+        "ecall" | "ebreak" | "fence" => BARE,
+        _ => return None,
+    })
+}
+
+/// The form of a declaration.
+fn declaration_form(word: &str) -> Option<Form> {
+    let (operands, ranges) = match word {
+        "memory" => (
+            "BITS RADIX",
+            "BITS is 16 to 24, RADIX 1 to 14 and at most BITS - 5",
+        ),
+        "untyped" => ("NAME OFFSET BITS", "BITS is 4 to 24; at most 64 such lines"),
+        "object" => (
+            "NAME UNTYPED KIND [SIZE]",
+            "KIND is untyped (SIZE 4 to 24), cnode (SIZE 1 to 14), tcb, endpoint, notification, frame, table or root; the untyped memories stand in their order",
+        ),
+        "irq" => (
+            "NAME LINE NOTIFICATION BADGE",
+            "LINE is 0 to 63, each once; BADGE is below 0x10000000",
+        ),
+        "cap" => (
+            "CNODE INDEX SOURCE RIGHTS DATA",
+            "each slot of a CNode is listed once; RIGHTS: write 1, read 2, grant-reply 8; DATA: a badge or a guard word",
+        ),
+        "table" => ("ROOT ADDRESS TABLE", "each address of a root table once"),
+        "map" => (
+            "ROOT ADDRESS FRAME RIGHTS",
+            "each address of a root table once; RIGHTS: write 1, read 2, execute 4, together at most 7",
+        ),
+        "data" => (
+            "FRAME WORD ..",
+            "1 to 1024 words of 32 bits; each frame once",
+        ),
+        "thread" => (
+            "TCB CNODE GUARD ROOT PRIORITY BUDGET FAULT LABEL BASE",
+            "PRIORITY is 0 to 255, BUDGET 1 to 2^62; at most 64 threads",
+        ),
+        _ => return None,
+    };
+    Some(Form { operands, ranges })
+}
+
+/// The form of a line inside a thread that is no instruction.
+fn thread_line_form(word: &str) -> Option<Form> {
+    let (operands, ranges) = match word {
+        "reg" => (
+            "xN VALUE",
+            "N is 1 to 31, each once; VALUE is 1 to 0xffffffff",
+        ),
+        "measure" => (
+            "CONSTANT [xN COEFFICIENT] ..",
+            "at most 4 terms, each register once, no coefficient 0; one for each instruction",
+        ),
+        "range" => (
+            "xN LOW HIGH",
+            "LOW is at most HIGH, and not all values together; each register once",
+        ),
+        "slot" => (
+            "CNODE INDEX WORD0 WORD1 PARENT PARENT_INDEX",
+            "the two words of a capability, or 0 0 with the parent `boot 0`; each slot once",
+        ),
+        "word" => ("N", "N has 32 bits"),
+        "end" => (
+            "",
+            "nothing stands behind it; a thread has 1 to 65536 instructions",
+        ),
+        _ => return None,
+    };
+    Some(Form { operands, ranges })
+}
+
+/// The form of the lines that begin with a word.
+pub(crate) fn form_of(word: &str) -> Option<Form> {
+    match declaration_form(word) {
+        Some(form) => Some(form),
+        None => match thread_line_form(word) {
+            Some(form) => Some(form),
+            None => instruction_form(word),
+        },
+    }
+}
+
+/// What is written in place of a usual short form.
+pub(crate) fn long_form(word: &str) -> Option<&'static str> {
+    Some(match word {
+        "li" => "`addi xD x0 NUMBER`, or for large numbers `lui xD NUMBER` and `addi xD xD NUMBER`",
+        "la" => "`lui xD NUMBER` and `addi xD xD NUMBER` with the address",
+        "mv" => "`addi xD xS 0`",
+        "j" => "`jal x0 LABEL`",
+        "nop" => "`addi x0 x0 0`",
+        "not" => "`xori xD xS -1`",
+        "neg" => "`sub xD x0 xS`",
+        "subi" => "`addi xD xS -NUMBER`",
+        "beqz" => "`beq xS x0 LABEL`",
+        "bnez" => "`bne xS x0 LABEL`",
+        "bgt" => "`blt xT xS LABEL`, the registers in the other order",
+        "ble" => "`bge xT xS LABEL`, the registers in the other order",
+        "bgtu" => "`bltu xT xS LABEL`, the registers in the other order",
+        "bleu" => "`bgeu xT xS LABEL`, the registers in the other order",
+        "seqz" => "`sltiu xD xS 1`",
+        "snez" => "`sltu xD x0 xS`",
+        "call" | "ret" | "jr" => "code in its place: there are no jumps to addresses in registers",
+        _ => return None,
+    })
+}
+
+/// The number of a register by its usual name.
+pub(crate) fn register_name(word: &str) -> Option<u32> {
+    Some(match word {
+        "zero" => 0,
+        "ra" => 1,
+        "sp" => 2,
+        "gp" => 3,
+        "tp" => 4,
+        "t0" => 5,
+        "t1" => 6,
+        "t2" => 7,
+        "s0" | "fp" => 8,
+        "s1" => 9,
+        "a0" => 10,
+        "a1" => 11,
+        "a2" => 12,
+        "a3" => 13,
+        "a4" => 14,
+        "a5" => 15,
+        "a6" => 16,
+        "a7" => 17,
+        "s2" => 18,
+        "s3" => 19,
+        "s4" => 20,
+        "s5" => 21,
+        "s6" => 22,
+        "s7" => 23,
+        "s8" => 24,
+        "s9" => 25,
+        "s10" => 26,
+        "s11" => 27,
+        "t3" => 28,
+        "t4" => 29,
+        "t5" => 30,
+        "t6" => 31,
+        _ => return None,
+    })
+}

@@ -1,0 +1,26 @@
+//! Why a text is refused: by its lines and names, what is known there, and by how much it misses.
+#![tactic(auto)]
+
+mod call_words;
+mod caps;
+mod entry_gaps;
+mod explanations;
+mod faults;
+mod forms;
+mod gaps;
+mod item_gaps;
+mod lines;
+mod nearest;
+mod page_gaps;
+mod point_words;
+mod programs;
+mod scenes;
+mod slot_gaps;
+mod states;
+mod syntax;
+mod system_calls;
+mod thread_gaps;
+mod ways;
+
+pub use explanations::explain;
+pub use faults::{ExplainFault, Explained};

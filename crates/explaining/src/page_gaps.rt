@@ -1,0 +1,233 @@
+//! Loads and stores that reach what is not mapped.
+
+use crate::caps::mapping_words;
+use crate::point_words::push_range;
+use crate::scenes::Scene;
+use crate::states::State;
+use model::{Cap, Instr, LoadOp, Register, StoreOp};
+use rv32_isa::decode;
+use std::alloc::AllocError;
+use typestate::NotedSlot;
+
+/// How many mapped pages are named at most.
+const MOST_NAMED: u32 = 12;
+
+/// A load or a store.
+#[derive(Clone, Copy, Drop)]
+struct Access {
+    name: &'static str,
+    /// How it is to be mapped.
+    wanted: &'static str,
+    right: u32,
+    base: Register,
+    offset: i64,
+    width: i64,
+}
+
+/// How many bytes a load reads.
+fn load_width(op: LoadOp) -> i64 {
+    match op {
+        LoadOp::Lb | LoadOp::Lbu => 1,
+        LoadOp::Lh | LoadOp::Lhu => 2,
+        LoadOp::Lw => 4,
+    }
+}
+
+/// How many bytes a store writes.
+fn store_width(op: StoreOp) -> i64 {
+    match op {
+        StoreOp::Sb => 1,
+        StoreOp::Sh => 2,
+        StoreOp::Sw => 4,
+    }
+}
+
+/// The access that an instruction makes, if it loads or stores.
+fn access_of(instr: Instr) -> Option<Access> {
+    match instr {
+        Instr::Load {
+            op,
+            rs1,
+            offset,
+            ..
+        } => Some(Access {
+            name: "load of bytes",
+            wanted: "read",
+            right: 2,
+            base: rs1,
+            offset: i64::from(offset),
+            width: load_width(op),
+        }),
+        Instr::Store {
+            op,
+            rs1,
+            offset,
+            ..
+        } => Some(Access {
+            name: "store to bytes",
+            wanted: "write",
+            right: 1,
+            base: rs1,
+            offset: i64::from(offset),
+            width: store_width(op),
+        }),
+        _ => None,
+    }
+}
+
+/// Puts a whole number in hexadecimal digits.
+fn push_whole(to: &mut String, number: i64) -> Result<(), AllocError> {
+    let sign = if number < 0 { "-" } else { "" };
+    let size = number.unsigned_abs();
+    write!(to, "{sign}{size:#x}")
+}
+
+impl Scene<'_, '_, '_, '_, '_> {
+    /// The rights with which the image maps a page.
+    fn listed_rights(&self, page: u32) -> u32 {
+        let root = self.space.thread.header().root;
+        for entry in self.space.image.frames() {
+            if entry.root == root && entry.address / 4096 == page {
+                return entry.rights;
+            }
+        }
+        0
+    }
+
+    /// The rights with which a noted slot maps a page.
+    fn mapped_rights(&self, slot: &NotedSlot, page: u32) -> u32 {
+        match slot.capability {
+            Cap::Frame {
+                mapping: Some(mapping),
+                ..
+            } if mapping.page == page && mapping.root == self.space.table => u32::from(
+                mapping.rights.0,
+            ),
+            _ => 0,
+        }
+    }
+
+    /// Whether a page is mapped with a right.
+    fn is_mapped(&self, state: &State, page: u32, right: u32) -> bool {
+        if self.listed_rights(page) & right != 0 {
+            return true;
+        }
+        let changes = &state.changes;
+        for change in changes {
+            if self.mapped_rights(change, page) & right != 0 {
+                return true;
+            }
+        }
+        false
+    }
+
+    /// The first page from one to another that is not mapped with a right.
+    fn unmapped_page(&self, state: &State, first: u32, last: u32, right: u32) -> Option<u32> {
+        for page in first..last.saturating_add(1) {
+            if !self.is_mapped(state, page, right) {
+                return Some(page);
+            }
+        }
+        None
+    }
+
+    /// Puts what is mapped.
+    fn push_mapped(&self, to: &mut String, state: &State) -> Result<(), AllocError> {
+        to.push_str("; mapped:")?;
+        let root = self.space.thread.header().root;
+        let mut count = 0u32;
+        for entry in self.space.image.frames() {
+            if entry.root == root {
+                if count < MOST_NAMED {
+                    let address = entry.address;
+                    let name = self.source.object_name(entry.frame as usize);
+                    let words = mapping_words(entry.rights);
+                    to.push_str(if count == 0 { " " } else { ", " })?;
+                    write!(to, "{address:#x} {name} ({words})")?;
+                }
+                count = count.saturating_add(1);
+            }
+        }
+        let changes = &state.changes;
+        for change in changes {
+            if let Cap::Frame {
+                mapping: Some(mapping),
+                ..
+            } = change.capability
+            {
+                let address = mapping.page.wrapping_mul(4096);
+                let words = mapping_words(u32::from(mapping.rights.0));
+                to.push_str(if count == 0 { " " } else { ", " })?;
+                write!(to, "{address:#x} by slot ")?;
+                self.push_key(to, change.key)?;
+                write!(to, " ({words})")?;
+                count = count.saturating_add(1);
+            }
+        }
+        if count > MOST_NAMED {
+            write!(to, ", {count} pages in all")?;
+        }
+        to.push_str(if count == 0 { " nothing\n" } else { "\n" })
+    }
+
+    /// Tells which bytes a load or a store can reach, and which of them is not mapped.
+    pub(crate) fn tell_page(
+        &self,
+        to: &mut String,
+        point: u32,
+        state: &State,
+    ) -> Result<(), AllocError> {
+        if point >= self.space.thread.word_count() {
+            return Ok(());
+        }
+        let Some(access) = self.access_at(point) else {
+            return Ok(());
+        };
+        let Access {
+            name,
+            wanted,
+            right,
+            base,
+            offset,
+            width,
+        } = access;
+        if base.0 >= 32 {
+            return Ok(());
+        }
+        let range = state.bounds.get(base);
+        let least = i64::from(range.low).saturating_add(offset);
+        let greatest = i64::from(range.high)
+            .saturating_add(offset)
+            .saturating_add(width.saturating_sub(1));
+        self.push_head(to, point)?;
+        write!(to, "{name} ")?;
+        push_whole(to, least)?;
+        to.push_str(" to ")?;
+        push_whole(to, greatest)?;
+        let number = base.0;
+        write!(to, ", where x{number} is ")?;
+        push_range(to, range)?;
+        if least < 0 || greatest > 0xffff_ffff {
+            return to.push_str(
+                "\n  no such bytes are there: narrow the register by a branch or a record before it\n",
+            );
+        }
+        to.push_str("\n")?;
+        let first = u32::try_from(least / 4096).unwrap_or(0);
+        let last = u32::try_from(greatest / 4096).unwrap_or(0);
+        if let Some(page) = self.unmapped_page(state, first, last, right) {
+            let address = page.wrapping_mul(4096);
+            write!(to, "  page {address:#x} is not mapped to {wanted}")?;
+            self.push_mapped(to, state)?;
+        }
+        Ok(())
+    }
+
+    /// The load or store at a point.
+    fn access_at(&self, point: u32) -> Option<Access> {
+        if point >= self.space.thread.word_count() {
+            return None;
+        }
+        access_of(decode(self.space.thread.word(point))?)
+    }
+}

@@ -1,0 +1,101 @@
+//! Ranges, measures and states in words.
+
+use crate::lines::code_on;
+use crate::scenes::Scene;
+use crate::states::State;
+use measure::Measure;
+use model::{Range, Register};
+use std::alloc::AllocError;
+
+/// From here on numbers are told in hexadecimal digits.
+const LARGE: u32 = 1024;
+
+/// Puts a word: small ones as decimal digits, others behind `0x`.
+pub(crate) fn push_number(to: &mut String, number: u32) -> Result<(), AllocError> {
+    if number < LARGE {
+        write!(to, "{number}")
+    } else {
+        write!(to, "{number:#x}")
+    }
+}
+
+/// Whether a range has all values.
+pub(crate) fn is_full(range: Range) -> bool {
+    range.low == 0 && range.high == u32::MAX
+}
+
+/// Puts a range.
+pub(crate) fn push_range(to: &mut String, range: Range) -> Result<(), AllocError> {
+    let (low, high) = (range.low, range.high);
+    if is_full(range) {
+        to.push_str("anything")
+    } else if low == high {
+        push_number(to, low)
+    } else if high < LARGE {
+        write!(to, "{low}..{high}")
+    } else {
+        write!(to, "{low:#x}..{high:#x}")
+    }
+}
+
+/// Puts a measure.
+pub(crate) fn push_measure(to: &mut String, measure: &Measure) -> Result<(), AllocError> {
+    let constant = measure.constant();
+    write!(to, "{constant}")?;
+    for term in measure.terms() {
+        let sign = if term.coefficient < 0 { '-' } else { '+' };
+        let times = term.coefficient.unsigned_abs();
+        let register = term.register;
+        if times == 1 {
+            write!(to, " {sign} x{register}")?;
+        } else {
+            write!(to, " {sign} {times}*x{register}")?;
+        }
+    }
+    Ok(())
+}
+
+/// Puts what is known of the registers that have not all values.
+fn push_bounds(to: &mut String, state: &State) -> Result<(), AllocError> {
+    let mut is_first = true;
+    for number in 1..32u8 {
+        let range = state.bounds.get(Register(number));
+        if !is_full(range) {
+            to.push_str(if is_first { "" } else { ", " })?;
+            write!(to, "x{number} ")?;
+            push_range(to, range)?;
+            is_first = false;
+        }
+    }
+    if is_first {
+        to.push_str("nothing of the registers")?;
+    }
+    Ok(())
+}
+
+impl Scene<'_, '_, '_, '_, '_> {
+    /// Puts a point as its line and its instruction.
+    pub(crate) fn push_point(&self, to: &mut String, point: u32) -> Result<(), AllocError> {
+        let line = self.line(point);
+        let code = code_on(self.text, line);
+        write!(to, "line {line}, `{code}`")
+    }
+
+    /// Puts the head of what is told of a point.
+    pub(crate) fn push_head(&self, to: &mut String, point: u32) -> Result<(), AllocError> {
+        let line = self.line(point);
+        let name = self.source.object_name(self.thread.tcb);
+        let code = code_on(self.text, line);
+        write!(to, "line {line}, thread {name}, `{code}`: ")
+    }
+
+    /// Puts the line of what is known at a point.
+    pub(crate) fn push_state(&self, to: &mut String, state: &State) -> Result<(), AllocError> {
+        to.push_str("  known here: ")?;
+        push_bounds(to, state)?;
+        to.push_str("; measure ")?;
+        push_measure(to, &state.measure)?;
+        let budget = self.space.thread.header().budget;
+        write!(to, "; budget {budget}\n")
+    }
+}

@@ -1,0 +1,171 @@
+//! Refusals at points of programs.
+
+ghost use Rattle.std.specs.Prelude.{◌<◌};
+ghost use Rattle.model.specs.Acceptance.Accepted.{IsWellFormed};
+ghost use Rattle.explaining.specs.Given.{IsGiven};
+
+use crate::scenes::Scene;
+use crate::states::{Found, State};
+use image::ImageRef;
+use model::{Instr, Point, Refusal};
+use rv32_isa::decode;
+use source_texts::SourceText;
+use std::alloc::{AllocError, Global};
+use thread_spaces::{given_space, offsets_of, reached_of, slots_of, windows_of};
+
+/// The point that a refusal names, if it is one of programs.
+pub(crate) fn point_of(refusal: Refusal) -> Option<Point> {
+    match refusal {
+        Refusal::IllegalInstruction(at)
+        | Refusal::ComputedJump(at)
+        | Refusal::BadTarget(at)
+        | Refusal::RangeNotKept(at)
+        | Refusal::NotMapped(at)
+        | Refusal::MeasureNotFalling(at)
+        | Refusal::OverBudget(at)
+        | Refusal::CallNotConstant(at)
+        | Refusal::CapNotThere(at)
+        | Refusal::CallRefused(at, _)
+        | Refusal::PoolLost(at) => Some(at),
+        _ => None,
+    }
+}
+
+impl Scene<'_, '_, '_, '_, '_> {
+    /// Whether the instruction at a point is a system call.
+    fn is_call(&self, point: u32) -> bool {
+        point < self.space.thread.word_count()
+            && matches!(decode(self.space.thread.word(point)), Some(Instr::Ecall))
+    }
+
+    /// Tells what is refused at a point in a state.
+    fn tell_state(
+        &self,
+        to: &mut String,
+        point: u32,
+        refusal: Refusal,
+        state: &State,
+    ) -> Result<(), AllocError>
+        requires { IsGiven self.now.space self.now.slots.now self.now.lists_stray }
+    {
+        match refusal {
+            Refusal::NotMapped(_) => {
+                self.tell_page(to, point, state)?;
+                return self.push_state(to, state);
+            }
+            Refusal::CallNotConstant(_) => return self.tell_not_constant(to, point, state),
+            Refusal::CallRefused(_, error) => {
+                return self.tell_refused(to, point, state, error);
+            }
+            Refusal::CapNotThere(_) if self.has_stray_slots(point, state)? => {
+                return self.tell_stray(to, point, state);
+            }
+            Refusal::CapNotThere(_) if self.is_call(point) => {
+                if self.refusal_of_call(point, state)?.is_some() {
+                    return self.tell_not_there(to, point, state);
+                }
+            }
+            _ => {}
+        }
+        self.push_head(to, point)?;
+        to.push_str(match refusal {
+            Refusal::RangeNotKept(_) => "a register can leave its range on a way on\n",
+            Refusal::MeasureNotFalling(_) => "the measure does not fall\n",
+            Refusal::OverBudget(_) => "the measure behind the wait can be above the budget\n",
+            Refusal::CapNotThere(_) => "the slots behind it are not those that are noted there\n",
+            _ => "a way on leads to where nothing is known\n",
+        })?;
+        if let Refusal::MeasureNotFalling(_) = refusal {
+            self.tell_least(to, state)?;
+        }
+        self.tell_ways(to, point, state)
+    }
+
+    /// Tells what is refused at a point, whatever is known there.
+    fn tell_plain(&self, to: &mut String, point: u32, reason: &str) -> Result<(), AllocError> {
+        self.push_head(to, point)?;
+        to.push_str(reason)
+    }
+
+    /// Tells what is refused at a point.
+    pub(crate) fn tell_point(
+        &self,
+        to: &mut String,
+        point: u32,
+        refusal: Refusal,
+    ) -> Result<(), AllocError>
+        requires { IsGiven self.now.space self.now.slots.now self.now.lists_stray }
+    {
+        let is_entry = matches!(
+            refusal,
+            Refusal::RangeNotKept(_) | Refusal::CapNotThere(_) | Refusal::OverBudget(_)
+        );
+        if is_entry && self.tell_entry(to, point)? {
+            return Ok(());
+        }
+        match refusal {
+            Refusal::IllegalInstruction(_) => self.tell_plain(
+                to,
+                point,
+                "no instruction that a program may have: take it out of the thread's way\n",
+            ),
+            Refusal::ComputedJump(_) => self.tell_plain(
+                to,
+                point,
+                "a jump to an address in a register: only `jal` and branches may jump\n",
+            ),
+            Refusal::PoolLost(_) => self.tell_plain(
+                to,
+                point,
+                "it would lose the thread's untyped memory for ever: Revoke gives that back whole\n",
+            ),
+            refusal => match self.state_at(point)? {
+                Found::Known(state) => self.tell_state(to, point, refusal, &state),
+                Found::Unmeasured | Found::Missing => self.tell_plain(
+                    to,
+                    point,
+                    "nothing is known here: put a record before it\n",
+                ),
+            },
+        }
+    }
+}
+
+/// Tells what is refused at a point of the program of a thread of a well-formed image.
+pub(crate) fn tell_program(
+    alloc: Global,
+    to: &mut String,
+    text: &str,
+    source: &SourceText<'_>,
+    image: &ImageRef<'_>,
+    at: Point,
+    refusal: Refusal,
+) -> Result<(), AllocError>
+    requires formed { IsWellFormed image.now }
+    requires number { at.thread < image.now.header.threads }
+{
+    let Some(thread_text) = source.threads.get(at.thread as usize) else {
+        return Ok(());
+    };
+    let offsets = offsets_of(alloc, image)?;
+    let thread = image.thread(at.thread);
+    let Ok(cnodes) = reached_of(alloc, image, &thread) else {
+        return Err(AllocError);
+    };
+    let windows = windows_of(alloc, image, &thread, &offsets, &cnodes)?;
+    let slots = slots_of(alloc, image, &thread, &offsets, &cnodes)?;
+    let space = given_space(image, &thread, &offsets, &windows);
+    let lists_stray = space.lists_stray(&slots);
+    let scene = Scene {
+        space,
+        number: at.thread,
+        slots: &slots,
+        lists_stray,
+        offsets: &offsets,
+        alloc,
+        text,
+        source,
+        thread: thread_text,
+    };
+    scene.tell_point(to, at.point, refusal)
+}

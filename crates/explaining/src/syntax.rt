@@ -1,0 +1,368 @@
+//! What is wrong with a text that makes no image.
+
+use crate::forms::{WORDS, form_of, long_form, register_name};
+use crate::lines::{line_of, push_line};
+use crate::nearest::Nearest;
+use asm::SourceFault;
+use asm_line::parse_line;
+use source_texts::{has_automatic_budget, word_at};
+use std::alloc::AllocError;
+
+/// A text, and the line of it that is at fault.
+#[derive(Clone, Copy, Drop)]
+struct Fault<'t> {
+    text: &'t str,
+    number: u64,
+    line: &'t str,
+    /// How many words stand before the one that says what the line is: a label or none.
+    before: usize,
+}
+
+/// Whether a word is a label.
+fn is_label(word: &str) -> bool {
+    word.len() > 1 && word.ends_with(':')
+}
+
+/// The label that a word declares.
+fn label_in(word: &str) -> Option<&str> {
+    match word.split_once(':') {
+        Some((name, "")) if !name.is_empty() => Some(name),
+        _ => None,
+    }
+}
+
+/// Which words of a line name what was declared before.
+fn names_at(keyword: &str) -> &'static [usize] {
+    match keyword {
+        "object" => &[2],
+        "irq" => &[3],
+        "cap" | "table" | "map" => &[1, 3],
+        "data" => &[1],
+        "thread" => &[1, 2, 4],
+        "slot" => &[1, 5],
+        _ => &[],
+    }
+}
+
+/// Which word of a line names a label.
+fn label_at(keyword: &str) -> Option<usize> {
+    match keyword {
+        "thread" => Some(8),
+        "jal" => Some(2),
+        "beq" | "bne" | "blt" | "bge" | "bltu" | "bgeu" => Some(3),
+        _ => None,
+    }
+}
+
+/// The name that a line declares, if it is one of untyped memory, of an object or of an interrupt.
+fn declared_on(line: &str) -> Option<&str> {
+    match word_at(line, 0)? {
+        "untyped" | "object" | "irq" => word_at(line, 1),
+        _ => None,
+    }
+}
+
+impl<'t> Fault<'t> {
+    /// A word of the line, counted from the one that says what the line is.
+    fn word(&self, place: usize) -> Option<&'t str> {
+        word_at(self.line, self.before.saturating_add(place))
+    }
+
+    /// The word that says what the line is.
+    fn keyword(&self) -> &'t str {
+        self.word(0).unwrap_or("")
+    }
+
+    /// The line before this one on which a name is declared.
+    fn declared_at(&self, name: &str) -> Option<u64> {
+        let mut number = 0u64;
+        for line in self.text.lines() {
+            number = number.saturating_add(1);
+            if number >= self.number {
+                return None;
+            }
+            if declared_on(line) == Some(name) {
+                return Some(number);
+            }
+        }
+        None
+    }
+
+    /// The first line on which a label stands, of this thread or of any.
+    fn label_line(&self, name: &str) -> Option<u64> {
+        let mut number = 0u64;
+        let mut found = None;
+        for line in self.text.lines() {
+            number = number.saturating_add(1);
+            match word_at(line, 0) {
+                Some("thread") if number <= self.number => found = None,
+                Some("end") if number > self.number => return found,
+                Some(word) if found.is_none() && label_in(word) == Some(name) => found = Some(
+                    number,
+                ),
+                _ => {}
+            }
+        }
+        found
+    }
+
+    /// The declared name that is most like another.
+    fn nearest_name(&self, name: &str) -> Option<&'t str> {
+        let mut nearest = Nearest::to(name);
+        let mut number = 0u64;
+        for line in self.text.lines() {
+            number = number.saturating_add(1);
+            if number < self.number {
+                if let Some(candidate) = declared_on(line) {
+                    nearest.consider(name, candidate);
+                }
+            }
+        }
+        nearest.name
+    }
+
+    /// The label of the thread at hand that is most like another.
+    fn nearest_label(&self, name: &str) -> Option<&'t str> {
+        let mut nearest = Nearest::to(name);
+        let mut number = 0u64;
+        for line in self.text.lines() {
+            number = number.saturating_add(1);
+            match word_at(line, 0) {
+                Some("thread") if number <= self.number => nearest = Nearest::to(name),
+                Some("end") if number > self.number => return nearest.name,
+                Some(word) => {
+                    if let Some(candidate) = label_in(word) {
+                        nearest.consider(name, candidate);
+                    }
+                }
+                None => {}
+            }
+        }
+        nearest.name
+    }
+
+    /// Puts a name that is like the wanted one, and ends the line.
+    fn push_nearest(&self, to: &mut String, nearest: Option<&str>) -> Result<(), AllocError> {
+        match nearest {
+            Some(name) => write!(to, "; did you mean `{name}`?\n"),
+            None => to.push_str("\n"),
+        }
+    }
+
+    /// The form of the line.
+    fn push_form(&self, to: &mut String) -> Result<(), AllocError> {
+        let keyword = self.keyword();
+        let Some(form) = form_of(keyword) else {
+            return Ok(());
+        };
+        let (operands, ranges) = (form.operands, form.ranges);
+        let between = if operands.is_empty() { "" } else { " " };
+        write!(to, "  form: `{keyword}{between}{operands}`; {ranges}\n")
+    }
+
+    /// Registers by their usual names.
+    fn push_registers(&self, to: &mut String) -> Result<(), AllocError> {
+        for place in 1..5 {
+            let word = self.word(place).unwrap_or("");
+            let inside = match word.split_once('(') {
+                Some((_, inside)) => inside,
+                None => word,
+            };
+            let name = match inside.split_once(')') {
+                Some((name, _)) => name,
+                None => inside,
+            };
+            if let Some(number) = register_name(name) {
+                write!(
+                    to,
+                    "  registers are written x0 to x31: `{name}` is `x{number}`\n"
+                )?;
+            }
+        }
+        Ok(())
+    }
+
+    /// Why a line stands out of its place.
+    fn push_place(&self, to: &mut String) -> Result<(), AllocError> {
+        match self.keyword() {
+            "range" | "slot" => to.push_str(
+                "out of its place: it belongs behind a line `measure`, before the instruction\n",
+            ),
+            "memory" => to.push_str("out of its place: it stands first, once\n"),
+            "measure" => to.push_str(
+                "out of its place: it stands inside a thread, before an instruction\n",
+            ),
+            "untyped" | "object" | "irq" | "cap" | "table" | "map" | "data" => to.push_str(
+                "out of its place: a text begins with `memory`, and a declaration stands in no thread: `end` ends one\n",
+            ),
+            "thread" => to.push_str(
+                "out of its place: a text begins with `memory`, and the thread before ends with `end`, as this one does\n",
+            ),
+            "end" => to.push_str(
+                "out of its place: it ends a thread, and no `measure` may wait for its instruction\n",
+            ),
+            "" => to.push_str(
+                "the text ends here: it begins with `memory`, and each thread ends with `end`\n",
+            ),
+            _ => to.push_str("out of its place: it stands between a line `thread` and its `end`\n"),
+        }
+    }
+
+    /// A line that is none of the text form, or stands out of its place.
+    fn push_syntax(&self, to: &mut String) -> Result<(), AllocError> {
+        if parse_line(self.line).is_ok() {
+            return self.push_place(to);
+        }
+        if has_automatic_budget(self.line) {
+            return to.push_str(
+                "the budget is still to be found: certify the text first, or write a number\n",
+            );
+        }
+        let keyword = self.keyword();
+        if form_of(keyword).is_some() {
+            to.push_str("not of the form that such a line has\n")?;
+            self.push_form(to)?;
+            return self.push_registers(to);
+        }
+        if let Some(long) = long_form(keyword) {
+            return write!(to, "there is no `{keyword}`: write {long}\n");
+        }
+        let mut nearest = Nearest::to(keyword);
+        for word in WORDS {
+            nearest.consider(keyword, word);
+        }
+        write!(to, "no line begins with `{keyword}`")?;
+        self.push_nearest(to, nearest.name)
+    }
+
+    /// A name that nothing has.
+    fn push_unknown(&self, to: &mut String) -> Result<(), AllocError> {
+        let keyword = self.keyword();
+        for place in names_at(keyword) {
+            let name = self.word(*place).unwrap_or("");
+            if name != "boot" && self.declared_at(name).is_none() {
+                write!(to, "nothing is named `{name}` before this line")?;
+                return self.push_nearest(to, self.nearest_name(name));
+            }
+        }
+        if let Some(place) = label_at(keyword) {
+            let name = self.word(place).unwrap_or("");
+            if self.label_line(name).is_none() {
+                write!(to, "no line of the thread has the label `{name}`")?;
+                return self.push_nearest(to, self.nearest_label(name));
+            }
+        }
+        to.push_str(
+            "a name is of another sort than is wanted: untyped memory, objects and interrupt lines are three sorts\n",
+        )?;
+        self.push_form(to)
+    }
+
+    /// A name or a label that is there already.
+    fn push_duplicate(&self, to: &mut String) -> Result<(), AllocError> {
+        let first = word_at(self.line, 0).unwrap_or("");
+        let (name, line) = match label_in(first) {
+            Some(label) => (label, self.label_line(label)),
+            None => {
+                let name = word_at(self.line, 1).unwrap_or("");
+                (name, self.declared_at(name))
+            }
+        };
+        match line {
+            Some(line) => write!(
+                to,
+                "`{name}` is declared on line {line}: choose another name\n"
+            ),
+            None => write!(to, "`{name}` is there already: choose another name\n"),
+        }
+    }
+
+    /// Whether a line begins with the same word and key as this one.
+    fn is_same_key(&self, line: &str) -> bool {
+        let shift = match word_at(line, 0) {
+            Some(word) if is_label(word) => 1,
+            _ => 0,
+        };
+        if word_at(line, shift) != self.word(0) {
+            return false;
+        }
+        match self.keyword() {
+            "cap" | "table" | "map" | "slot" => word_at(line, 1) == self.word(1)
+                && word_at(line, 2) == self.word(2),
+            "data" | "reg" | "range" | "thread" => word_at(line, 1) == self.word(1),
+            "irq" => word_at(line, 2) == self.word(2),
+            _ => false,
+        }
+    }
+
+    /// The last line before this one with the same key, up to the last line that begins an order of its own.
+    fn same_key_line(&self) -> Option<u64> {
+        let mut number = 0u64;
+        let mut found = None;
+        for line in self.text.lines() {
+            number = number.saturating_add(1);
+            if number >= self.number {
+                return found;
+            }
+            let keyword = word_at(line, 0).unwrap_or("");
+            let begins = match self.keyword() {
+                "reg" => keyword == "thread",
+                "range" | "slot" => keyword == "measure",
+                _ => false,
+            };
+            if begins {
+                found = None;
+            } else if self.is_same_key(line) {
+                found = Some(number);
+            }
+        }
+        found
+    }
+
+    /// A number out of its range, or what is there already.
+    fn push_range(&self, to: &mut String) -> Result<(), AllocError> {
+        if parse_line(self.line).is_err() {
+            to.push_str("a number is out of its range\n")?;
+            return self.push_form(to);
+        }
+        if let Some(line) = self.same_key_line() {
+            return write!(to, "line {line} says this already\n");
+        }
+        to.push_str(match self.keyword() {
+            "object" =>
+                "objects stand in the order of their untyped memories, and there are at most 4096\n",
+            "end" =>
+                "a thread has at least one instruction; a text has at least one thread, and untyped memory\n",
+            "measure" =>
+                "an instruction has one `measure`, with each register once and at most 4 terms\n",
+            "data" => "a frame begins with at most 1024 words\n",
+            "memory" | "" => "a text has untyped memory and at least one thread\n",
+            _ =>
+                "a number is out of its range, the target is too far away, or there are too many such lines\n",
+        })?;
+        self.push_form(to)
+    }
+}
+
+/// Tells what is wrong with a text that makes no image.
+pub(crate) fn tell_fault(
+    to: &mut String,
+    text: &str,
+    found: SourceFault,
+) -> Result<(), AllocError> {
+    let line = line_of(text, found.line);
+    let first = word_at(line, 0).unwrap_or("");
+    let fault = Fault {
+        text,
+        number: found.line,
+        line,
+        before: if is_label(first) { 1 } else { 0 },
+    };
+    push_line(to, text, found.line)?;
+    match found.kind {
+        1 => fault.push_syntax(to),
+        2 => fault.push_unknown(to),
+        3 => fault.push_duplicate(to),
+        _ => fault.push_range(to),
+    }
+}

@@ -1,0 +1,271 @@
+//! System calls that the rules refuse.
+
+ghost use Rattle.explaining.specs.Given.{IsGiven};
+
+use crate::call_words::{call_name, check_words, error_name, has_label, label_name, words_wanted};
+use crate::point_words::{push_number, push_range};
+use crate::scenes::Scene;
+use crate::states::State;
+use cspace::called_slot;
+use model::{Cap, KError, Register, Rights};
+use slots::SlotMap;
+use std::alloc::AllocError;
+use typestate::{OwnSlots, Part, SlotKey, SlotLog};
+
+/// The registers of the words of a message.
+const WORDS: [u8; 8] = [12, 13, 14, 15, 18, 19, 20, 21];
+
+/// What a call on an endpoint or a notification wants.
+fn wanted_rights(number: u32, is_endpoint: bool) -> Rights {
+    match number {
+        1 if is_endpoint => Rights(9),
+        1 | 3 | 4 => Rights(1),
+        _ => Rights(2),
+    }
+}
+
+/// The rights that are wanted and not there, in words.
+fn lacking(wanted: Rights, there: Rights) -> &'static str {
+    match wanted.0 & (11 - (there.0 & 11)) {
+        1 => "write (1)",
+        2 => "read (2)",
+        8 => "grant-reply (8)",
+        9 => "write (1) and grant-reply (8)",
+        _ => "a right",
+    }
+}
+
+impl Scene<'_, '_, '_, '_, '_> {
+    /// The value of a register, if it has one alone.
+    fn single(&self, state: &State, number: u8) -> Option<u32> {
+        if number >= 32 {
+            return None;
+        }
+        state.bounds.get(Register(number)).value()
+    }
+
+    /// The slot that a call names, and what it holds.
+    fn called_key(&self, state: &State, address: u32) -> Result<Option<(SlotKey, Cap)>, AllocError>
+        requires { IsGiven self.now.space self.now.slots.now self.now.lists_stray }
+    {
+        let mut log = SlotLog::new(self.alloc);
+        let part = log.follow(Part { first: 0, end: 0 }, &state.changes)?;
+        let own = OwnSlots {
+            windows: self.space.windows,
+            slots: log.slots(self.slots, part),
+        };
+        let Ok(slot) = called_slot(&own, self.space.root, address) else {
+            return Ok(None);
+        };
+        let number = slot.number();
+        for window in self.space.windows {
+            let first = window.offset / 16;
+            let count = 1u32 << (window.radix & 31);
+            if first <= number && number.wrapping_sub(first) < count {
+                let key = SlotKey {
+                    cnode: window.cnode,
+                    index: number.wrapping_sub(first),
+                };
+                return Ok(Some((key, own.capability(slot))));
+            }
+        }
+        Ok(None)
+    }
+
+    /// Puts the name of a register of a call.
+    fn push_argument(
+        &self,
+        to: &mut String,
+        state: &State,
+        number: u8,
+        what: &str,
+    ) -> Result<(), AllocError> {
+        if number >= 32 {
+            return Ok(());
+        }
+        write!(to, "x{number} ({what}) is ")?;
+        push_range(to, state.bounds.get(Register(number)))
+    }
+
+    /// Tells which register of a call has more than one value.
+    pub(crate) fn tell_not_constant(
+        &self,
+        to: &mut String,
+        point: u32,
+        state: &State,
+    ) -> Result<(), AllocError> {
+        self.push_head(to, point)?;
+        if self.single(state, 17).is_none() {
+            self.push_argument(to, state, 17, "a7, the number of the call")?;
+        } else if self.single(state, 10).is_none() {
+            self.push_argument(to, state, 10, "a0, the address of the capability")?;
+        } else if self.single(state, 11).is_none() {
+            self.push_argument(to, state, 11, "a1, the info word")?;
+        } else {
+            for register in WORDS {
+                if self.single(state, register).is_none() {
+                    self.push_argument(to, state, register, "a word of the call")?;
+                    break;
+                }
+            }
+        }
+        to.push_str("; it has to have one value: set it just before\n")?;
+        self.push_state(to, state)
+    }
+
+    /// Puts the name of a call and of the capability that it is on.
+    fn push_call(
+        &self,
+        to: &mut String,
+        number: u32,
+        address: u32,
+        found: &Option<(SlotKey, Cap)>,
+    ) -> Result<(), AllocError> {
+        match call_name(number) {
+            Some(name) => to.push_str(name)?,
+            None => write!(to, "system call {number}")?,
+        }
+        to.push_str(" on a0 = ")?;
+        push_number(to, address)?;
+        if let Some((key, capability)) = found {
+            to.push_str(", slot ")?;
+            self.push_key(to, *key)?;
+            to.push_str(", ")?;
+            self.push_cap(to, *capability)?;
+        }
+        Ok(())
+    }
+
+    /// Tells that the slot that a call names is empty, or lacks a right.
+    pub(crate) fn tell_not_there(
+        &self,
+        to: &mut String,
+        point: u32,
+        state: &State,
+    ) -> Result<(), AllocError>
+        requires { IsGiven self.now.space self.now.slots.now self.now.lists_stray }
+    {
+        let (Some(number), Some(address)) = (self.single(state, 17), self.single(state, 10)) else {
+            return self.tell_not_constant(to, point, state);
+        };
+        let found = self.called_key(state, address)?;
+        self.push_head(to, point)?;
+        self.push_call(to, number, address, &found)?;
+        match found {
+            None => {
+                to.push_str(": no full slot has this address\n")?;
+                self.push_guard(to)?;
+            }
+            Some((_, Cap::Endpoint { rights, .. })) => {
+                let words = lacking(wanted_rights(number, true), rights);
+                write!(to, ": the capability lacks {words}\n")?;
+            }
+            Some((_, Cap::Notification { rights, .. })) => {
+                let words = lacking(wanted_rights(number, false), rights);
+                write!(to, ": the capability lacks {words}\n")?;
+            }
+            Some(_) => to.push_str(": it is neither an endpoint nor a notification\n")?,
+        }
+        self.push_slots(to, state)?;
+        self.push_state(to, state)
+    }
+
+    /// Puts how the thread's guard word makes addresses, where they are no numbers of slots.
+    fn push_guard(&self, to: &mut String) -> Result<(), AllocError> {
+        let radix = self.source.size(self.thread.cnode);
+        let guard = self.thread.guard & 31;
+        if guard.saturating_add(radix) == 32 {
+            return Ok(());
+        }
+        let whole = 32u32.saturating_sub(radix);
+        write!(
+            to,
+            "  the thread's guard has {guard} bits and its CNode 2^{radix} slots; with the guard word {whole} an address is the number of a slot\n"
+        )
+    }
+
+    /// Puts what stands in the slots of the thread's own CNode.
+    fn push_slots(&self, to: &mut String, state: &State) -> Result<(), AllocError> {
+        let root = self.space.thread.header().cnode;
+        let mut is_first = true;
+        for index in 0..64u32 {
+            let key = SlotKey { cnode: root, index };
+            let slot = self.slot_with(&state.changes, key);
+            if slot.capability != Cap::Empty {
+                to.push_str(if is_first { "  full slots: " } else { "; " })?;
+                self.push_key(to, key)?;
+                to.push_str(" ")?;
+                self.push_cap(to, slot.capability)?;
+                is_first = false;
+            }
+        }
+        to.push_str(if is_first { "" } else { "\n" })
+    }
+
+    /// Tells which error a call would give, and which check fails.
+    pub(crate) fn tell_refused(
+        &self,
+        to: &mut String,
+        point: u32,
+        state: &State,
+        error: KError,
+    ) -> Result<(), AllocError>
+        requires { IsGiven self.now.space self.now.slots.now self.now.lists_stray }
+    {
+        let Some(number) = self.single(state, 17) else {
+            return self.tell_not_constant(to, point, state);
+        };
+        if call_name(number).is_none() {
+            self.push_head(to, point)?;
+            write!(
+                to,
+                "x17 (a7) is {number}: system calls have the numbers 1 to 9\n"
+            )?;
+            return self.push_state(to, state);
+        }
+        let (Some(address), Some(info)) = (self.single(state, 10), self.single(state, 11)) else {
+            return self.tell_not_constant(to, point, state);
+        };
+        let found = self.called_key(state, address)?;
+        let capability = match &found {
+            Some((_, capability)) => *capability,
+            None => Cap::Empty,
+        };
+        let label = info / 4096;
+        let (name, code) = (error_name(error), error.number());
+        self.push_head(to, point)?;
+        match label_name(label) {
+            Some(asked) => write!(to, "{asked} (label {label})")?,
+            None => write!(to, "label {label}")?,
+        }
+        to.push_str(", by ")?;
+        self.push_call(to, number, address, &found)?;
+        let check = check_words(capability, label, error);
+        write!(to, ": error {code}, {name}\n  {check}\n")?;
+        if has_label(capability, label) {
+            self.push_words(to, state, words_wanted(label), info & 127)?;
+        }
+        self.push_slots(to, state)?;
+        self.push_state(to, state)
+    }
+
+    /// Puts the words of a call.
+    fn push_words(
+        &self,
+        to: &mut String,
+        state: &State,
+        wanted: u32,
+        given: u32,
+    ) -> Result<(), AllocError> {
+        write!(to, "  words: {given} of {wanted} given")?;
+        let mut place = 0u32;
+        for register in WORDS {
+            if place < wanted && register < 32 {
+                write!(to, ", {place} (x{register}) ")?;
+                push_range(to, state.bounds.get(Register(register)))?;
+            }
+            place = place.saturating_add(1);
+        }
+        to.push_str("\n")
+    }
+}
