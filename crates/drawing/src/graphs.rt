@@ -1,7 +1,7 @@
 //! A system as a graph.
 
 use crate::faults::DrawingFault;
-use crate::scenes::Scene;
+use crate::scenes::{Scene, uses_of};
 use sinks::{Sink, put_all};
 use source_texts::{SourceText, read, with_budgets};
 use std::alloc::{AllocError, Global};
@@ -20,6 +20,7 @@ fn graph_of(alloc: Global, text: &SourceText<'_>, automatic: &[u64]) -> Result<S
     let mut scene = Scene {
         text,
         automatic,
+        uses: uses_of(alloc, text)?,
         graph: String::new(alloc),
     };
     scene.graph.push_str(HEAD)?;
@@ -28,8 +29,7 @@ fn graph_of(alloc: Global, text: &SourceText<'_>, automatic: &[u64]) -> Result<S
     }
     for number in 0..text.objects.len() {
         let kind = text.kind(number);
-        let is_used = scene.is_held(number) || scene.is_signalled(number);
-        if (is_drawn(kind) && is_used) || (kind == 6 && scene.is_shared(number)) {
+        if (is_drawn(kind) && scene.is_named(number)) || (kind == 6 && scene.is_shared(number)) {
             scene.push_object(number)?;
         }
     }

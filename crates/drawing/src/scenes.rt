@@ -1,6 +1,18 @@
 //! A text that is being drawn.
 
 use source_texts::{Source, SourceText};
+use std::alloc::{AllocError, Global};
+
+/// What names an object.
+#[derive(Clone, Copy, Debug)]
+pub(crate) struct Uses {
+    /// How often it is mapped.
+    mapped: u32,
+    /// Whether a capability names it.
+    is_held: bool,
+    /// Whether an interrupt signals it.
+    is_signalled: bool,
+}
 
 /// A text that is being drawn, and the graph so far.
 #[derive(Drop)]
@@ -8,7 +20,39 @@ pub(crate) struct Scene<'a, 't, 'm> {
     pub(crate) text: &'t SourceText<'a>,
     /// The lines of the threads whose budgets are to be found.
     pub(crate) automatic: &'m [u64],
+    /// What names each object.
+    pub(crate) uses: Vec<Uses>,
     pub(crate) graph: String,
+}
+
+/// What names each object of a text.
+pub(crate) fn uses_of(alloc: Global, text: &SourceText<'_>) -> Result<Vec<Uses>, AllocError> {
+    let mut uses = Vec::new(alloc);
+    for _ in 0..text.objects.len() {
+        uses.push(Uses {
+            mapped: 0,
+            is_held: false,
+            is_signalled: false,
+        })?;
+    }
+    for page in &text.frames {
+        if let Some(object) = uses.get_mut(page.frame) {
+            object.mapped = object.mapped.saturating_add(1);
+        }
+    }
+    for capability in &text.capabilities {
+        if let Source::Object(number) = capability.source {
+            if let Some(object) = uses.get_mut(number) {
+                object.is_held = true;
+            }
+        }
+    }
+    for interrupt in &text.interrupts {
+        if let Some(object) = uses.get_mut(interrupt.notification) {
+            object.is_signalled = true;
+        }
+    }
+    Ok(uses)
 }
 
 impl Scene<'_, '_, '_> {
@@ -17,34 +61,27 @@ impl Scene<'_, '_, '_> {
         self.automatic.contains(&line)
     }
 
+    /// What names an object.
+    fn uses_at(&self, number: usize) -> Uses {
+        match self.uses.get(number) {
+            Some(uses) => *uses,
+            None => Uses {
+                mapped: 0,
+                is_held: false,
+                is_signalled: false,
+            },
+        }
+    }
+
     /// Whether a frame is mapped more than once, or held by a capability.
     pub(crate) fn is_shared(&self, frame: usize) -> bool {
-        let mut count = 0usize;
-        for page in &self.text.frames {
-            if page.frame == frame {
-                count = count.saturating_add(1);
-            }
-        }
-        count > 1 || self.is_held(frame)
+        let uses = self.uses_at(frame);
+        uses.mapped > 1 || uses.is_held
     }
 
-    /// Whether a capability names an object.
-    pub(crate) fn is_held(&self, object: usize) -> bool {
-        for capability in &self.text.capabilities {
-            if capability.source == Source::Object(object) {
-                return true;
-            }
-        }
-        false
-    }
-
-    /// Whether an interrupt signals an object.
-    pub(crate) fn is_signalled(&self, object: usize) -> bool {
-        for interrupt in &self.text.interrupts {
-            if interrupt.notification == object {
-                return true;
-            }
-        }
-        false
+    /// Whether a capability or an interrupt names an object.
+    pub(crate) fn is_named(&self, object: usize) -> bool {
+        let uses = self.uses_at(object);
+        uses.is_held || uses.is_signalled
     }
 }
