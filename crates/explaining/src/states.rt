@@ -3,7 +3,7 @@
 ghost use Rattle.explaining.specs.Given.{IsGiven};
 ghost use Rattle.std.specs.Prelude.{◌≡◌, []};
 
-use crate::scenes::{Scene, record_at, told};
+use crate::scenes::{Scene, record_at, shown, told};
 use image::RecordRef;
 use measure::Measure;
 use model::{Instr, Point, Range, Refusal, Register};
@@ -98,10 +98,11 @@ impl<'a> Scene<'a, '_, '_, '_, '_> {
     {
         let mut log = SlotLog::new(self.alloc);
         let part = log.note(record)?;
+        let noted = shown(self.alloc, &log, part)?;
         Ok(State {
             bounds: bounds_of(record),
             measure: measure_of(record),
-            changes: told(self.alloc, &log.slots(self.slots, part))?,
+            changes: told(self.alloc, &noted.slots(self.slots))?,
         })
     }
 
@@ -161,14 +162,16 @@ impl<'a> Scene<'a, '_, '_, '_, '_> {
         };
         let mut log = SlotLog::new(self.alloc);
         let part = log.follow(Part { first: 0, end: 0 }, &state.changes)?;
+        let before = shown(self.alloc, &log, part)?;
         let mut made = Vec::new(self.alloc);
-        let answer = self.answered(at, &state.bounds, &log.slots(self.slots, part), &mut made)?;
+        let answer = self.answered(at, &state.bounds, &before.slots(self.slots), &mut made)?;
         let behind = match answer {
             Ok(behind) => behind,
             Err(refusal) => return Ok(Err(refusal)),
         };
         let part = log.follow(part, &made)?;
-        let changes = told(self.alloc, &log.slots(self.slots, part))?;
+        let left = shown(self.alloc, &log, part)?;
+        let changes = told(self.alloc, &left.slots(self.slots))?;
         Ok(Ok(Called { behind, changes }))
     }
 
@@ -178,10 +181,11 @@ impl<'a> Scene<'a, '_, '_, '_, '_> {
     {
         let mut log = SlotLog::new(self.alloc);
         let part = log.follow(Part { first: 0, end: 0 }, &state.changes)?;
+        let here = shown(self.alloc, &log, part)?;
         let noted = record_at(self.space.thread, point);
         Ok(
             self.space.has_stray_slots(
-                &log.slots(self.slots, part),
+                &here.slots(self.slots),
                 noted.as_ref(),
                 self.lists_stray,
                 false,
