@@ -12,8 +12,8 @@ use ranges::Bounds;
 use rv32_isa::decode;
 use std::alloc::Global;
 
-/// How often all points are gone through at most: each range grows only so often.
-const MOST_ROUNDS: u32 = 10_000_000;
+/// How many points are looked at at most, one after another: each range grows only so often.
+const MOST_VISITS: u32 = 1_000_000_000;
 
 /// How often ranges are narrowed at most.
 const MOST_NARROWINGS: u32 = 20;
@@ -109,33 +109,44 @@ impl Given<'_, '_> {
         }
     }
 
-    /// Follows the ways on from a point.
-    fn follow(&self, table: &mut Table, point: u32) -> Result<(), Fault>
+    /// Follows the ways on from a point, and answers which point is looked at next: the first of those that they change, or the
+    /// next one.
+    fn follow(&self, table: &mut Table, point: u32) -> Result<u32, Fault>
         requires { IsGiven self.now.space self.now.slots.now self.now.lists_stray }
     {
+        let mut next = point.saturating_add(1);
         if let Some(ways) = self.ways_so_far(table, point)? {
             if let Some(way) = &ways.next {
-                table.reach(way, &ways.changes)?;
+                if table.reach(way, &ways.changes)? {
+                    next = next.min(way.target);
+                }
             }
             if let Some(way) = &ways.taken {
-                table.reach(way, &ways.changes)?;
+                if table.reach(way, &ways.changes)? {
+                    next = next.min(way.target);
+                }
             }
         }
-        Ok(())
+        Ok(next)
     }
 
-    /// Follows the ways on from all points that have changed, and answers whether there were some.
-    fn follow_all(&self, table: &mut Table) -> Result<bool, Fault>
+    /// Follows the ways on from all points that change, always from the first of them: so a loop is gone round until nothing changes
+    /// in it before what stands behind it is looked at.
+    fn follow_all(&self, table: &mut Table) -> Result<(), Fault>
         requires { IsGiven self.now.space self.now.slots.now self.now.lists_stray }
     {
-        let mut some = false;
-        'points: for point in 0..self.count() {
-            if table.take(point) {
-                some = true;
-                self.follow(table, point)?;
+        let mut point = 0u32;
+        'visits: for _ in 0..MOST_VISITS {
+            if self.count() <= point {
+                break;
             }
+            point = if table.take(point) {
+                self.follow(table, point)?
+            } else {
+                point.saturating_add(1)
+            };
         }
-        Ok(some)
+        Ok(())
     }
 
     /// Narrows the ranges at a point to those of the ways to it.
@@ -206,11 +217,7 @@ impl Given<'_, '_> {
         self.add_constants(&mut table)?;
         let entry = self.space.thread.header().entry;
         table.begin(entry, start_bounds(self.space.thread))?;
-        'rounds: for _ in 0..MOST_ROUNDS {
-            if !self.follow_all(&mut table)? {
-                break;
-            }
-        }
+        self.follow_all(&mut table)?;
         let mut back = Arrivals::new(self.alloc, self.count())?;
         self.narrow(&mut table, &mut back, false)?;
         'narrowings: for _ in 0..MOST_NARROWINGS {

@@ -166,13 +166,12 @@ impl Table {
         }
     }
 
-    /// Counts that the ranges at a point have grown, and answers how often they had.
+    /// Counts that the ranges at a point have grown by a way back, and answers how often they had.
     fn count_growth(&mut self, point: u32) -> u32 {
         match self.places.get_mut(point as usize) {
             Some(place) => {
                 let grown = place.grown;
                 place.grown = grown.saturating_add(1);
-                place.waits = true;
                 grown
             }
             None => 0,
@@ -180,20 +179,25 @@ impl Table {
     }
 
     /// Ranges that have grown by a way: widened where it leads back, more and more as they go on growing.
-    fn wide(&mut self, way: &Way, before: &Bounds, both: &Bounds) -> Bounds {
-        let grown = self.count_growth(way.target);
-        if way.from < way.target || grown < PATIENCE {
-            return *both;
+    fn wide(&mut self, way: &Way, before: &Bounds, both: &Bounds) -> Result<Bounds, Fault> {
+        if way.from < way.target {
+            return Ok(*both);
         }
-        if grown < MOST_STEPS {
-            widened(before, both, &self.thresholds)
+        let grown = self.count_growth(way.target);
+        if MOST_STEPS <= grown {
+            return Ok(widened(before, both, &[]));
+        }
+        self.add_values(before)?;
+        self.add_values(&way.behind)?;
+        if grown < PATIENCE {
+            Ok(*both)
         } else {
-            widened(before, both, &[])
+            Ok(widened(before, both, &self.thresholds))
         }
     }
 
-    /// Notes that a way leads to its target with these slots.
-    pub(crate) fn reach(&mut self, way: &Way, changes: &[NotedSlot]) -> Result<(), Fault> {
+    /// Notes that a way leads to its target with these slots, and answers whether more is known there now.
+    pub(crate) fn reach(&mut self, way: &Way, changes: &[NotedSlot]) -> Result<bool, Fault> {
         let Some(state) = self.state(way.target) else {
             let mut kept = Vec::new(self.alloc);
             kept.extend_from_slice(changes)?;
@@ -204,7 +208,7 @@ impl Table {
                     changes: kept,
                 },
             );
-            return Ok(());
+            return Ok(true);
         };
         if !are_same_changes(&state.changes, changes) {
             return Err(Fault::At {
@@ -216,17 +220,23 @@ impl Table {
         self.grow(way, &before)
     }
 
-    /// Notes that a way leads to its target, where these ranges are known.
-    fn grow(&mut self, way: &Way, before: &Bounds) -> Result<(), Fault> {
+    /// Notes that a way leads to its target, where these ranges are known, and answers whether they grow.
+    fn grow(&mut self, way: &Way, before: &Bounds) -> Result<bool, Fault> {
         if way.behind.is_within(before) {
-            return Ok(());
+            return Ok(false);
         }
-        self.add_values(before)?;
-        self.add_values(&way.behind)?;
         let both = joined(before, &way.behind);
-        let wide = self.wide(way, before, &both);
-        self.set_bounds(way.target, wide);
-        Ok(())
+        let wide = self.wide(way, before, &both)?;
+        self.set_grown(way.target, wide);
+        Ok(true)
+    }
+
+    /// Sets the ranges at a point, from which the ways on have to be followed again.
+    fn set_grown(&mut self, point: u32, bounds: Bounds) {
+        self.set_bounds(point, bounds);
+        if let Some(place) = self.places.get_mut(point as usize) {
+            place.waits = true;
+        }
     }
 }
 
