@@ -12,7 +12,7 @@ use std::alloc::{AllocError, AllocFailed, Global};
 #[derive(Drop)]
 pub struct CertifiedText {
     pub text: Vec<u8>,
-    /// The line `THREAD budget N` of each thread.
+    /// The line `THREAD budget N` of each thread, with the least budget that is found.
     pub budgets: String,
 }
 
@@ -140,7 +140,7 @@ fn drafts_of(alloc: Global, bare: &str, layout: &Layout<'_>) -> Result<Vec<Draft
     Ok(drafts)
 }
 
-/// The line `THREAD budget N` of each thread: the budget that is given, or the least that is found.
+/// The line `THREAD budget N` of each thread, with the least budget that is found.
 fn budgets_of(alloc: Global, layout: &Layout<'_>, drafts: &[Draft]) -> Result<String, AllocError> {
     let mut told = String::new(alloc);
     'threads: for (thread, draft) in layout.threads.iter().zip(drafts) {
