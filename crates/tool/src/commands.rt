@@ -3,6 +3,7 @@
 use crate::certification::{NotCertified, certified};
 use crate::messages::line_of;
 use drawing::{DrawingFault, chart, draw};
+use explaining::{ExplainFault, Explained, explain};
 use files::{FileFault, read_bytes, read_text, write_bytes};
 use sinks::{Sink, SinkFault, put_all};
 use std::alloc::{AllocError, Global};
@@ -32,6 +33,8 @@ enum ToolFault<'a> {
     Memory,
     /// The text gets no certificates.
     NotCertified(NotCertified),
+    /// The text is refused, and standard output says why.
+    Explained,
     /// This line is none of what is to be drawn.
     Malformed(u64),
 }
@@ -71,6 +74,15 @@ impl From<NotCertified> for ToolFault<'_> {
         match fault {
             NotCertified::OutOfMemory => ToolFault::Memory,
             fault => ToolFault::NotCertified(fault),
+        }
+    }
+}
+
+impl From<ExplainFault> for ToolFault<'_> {
+    fn from(fault: ExplainFault) -> Self {
+        match fault {
+            ExplainFault::Output => ToolFault::Output,
+            ExplainFault::OutOfMemory => ToolFault::Memory,
         }
     }
 }
@@ -128,7 +140,13 @@ fn answer<'a, R: Files + AllocGlobal, S: AsStr, W: Sink>(
 ) -> Result<(), ToolFault<'a>> {
     match parse_words(rt.alloc(), words)? {
         ToolRequest::Certify { source, certified } => certify(rt, source, certified, output),
-        ToolRequest::Explain { .. } => Err(ToolFault::Usage),
+        ToolRequest::Explain { source } => {
+            let text = read_text(rt, source)?;
+            match explain(rt.alloc(), text.as_str(), output)? {
+                Explained::Accepted => Ok(()),
+                Explained::Refused => Err(ToolFault::Explained),
+            }
+        }
         ToolRequest::Draw { source } => {
             let text = read_text(rt, source)?;
             draw(rt.alloc(), text.as_str(), output)?;
@@ -173,6 +191,7 @@ fn report<W: Sink, E: Sink>(
         ToolFault::Output => failed(errors, b"output", b""),
         ToolFault::Memory => failed(errors, b"memory", b""),
         ToolFault::NotCertified(fault) => refused(line_of(alloc, fault), output, errors),
+        ToolFault::Explained => REFUSED,
         ToolFault::Malformed(line) => refused(
             format!(in alloc; "line {line} Malformed: not read\n"),
             output,
