@@ -1,0 +1,11 @@
+pub mod Beside
+pub mod Changing
+pub mod Inserting
+pub mod Keeping
+pub mod Moving
+pub mod PackedFacts
+pub mod Reading
+pub mod Splicing
+pub mod Steps
+pub mod WordWrites
+pub mod WordsBehind

@@ -1,0 +1,135 @@
+//! What slots that are packed hold, and how they are linked.
+
+ghost use Rattle.std.specs.Prelude.{ℕ, ◌≡◌, ◌%◌, ◌∷◌, [], Some, length};
+ghost use Rattle.std.specs.Option.{ForSome};
+ghost use Rattle.model.specs.Capabilities.CapabilityWords.{IsCapability, words_of};
+ghost use Rattle.model.specs.Capabilities.Orders.{next_in};
+ghost use Rattle.model.specs.Capabilities.Slots.{IsFull, IsOpen, capability_at, depth_of, is_descendant};
+ghost use Rattle.packed_slots.specs.Packing.{IsPacked, packed_order, packed_slots, packing};
+ghost use Rattle.packed_slots.specs.Words.{capability_in, is_one, words_in};
+ghost use Rattle.preorder.specs.Chains.{back_above};
+
+use crate::links::back_above;
+use crate::open_slots::OpenSlots;
+use crate::words::{depth, next, previous, word};
+use capwords::unpack;
+use model::{Cap, Slot};
+use pmem::Mem;
+
+/// The capability whose words a slot has.
+fn held(memory: &Mem, slot: Slot) -> Cap
+    requires whole { length memory.now % 16 ≡ 0 }
+    requires valid { IsCapability (capability_in (words_in memory.now) slot) }
+    requires words { (words_in memory.now).head slot ∷ (words_in memory.now).tail slot ∷ [] ≡ words_of (capability_in (words_in memory.now) slot) }
+    ensures { result ≡ capability_in (words_in memory.now) slot }
+{
+    match unpack([word(memory, slot, 0), word(memory, slot, 1)]) {
+        Some(capability) => capability,
+        None => unreachable!(),
+    }
+}
+
+/// The capability in a slot: an empty one where the slot is not open.
+pub fn capability(memory: &Mem, open_slots: &OpenSlots, first: &Option<Slot>, slot: Slot) -> Cap
+    requires { IsPacked (packing memory.now open_slots.now first.now) }
+    ensures value { result ≡ capability_at (packed_slots (packing memory.now open_slots.now first.now)) slot }
+    ensures valid { IsCapability result }
+{
+    if open_slots.contains(slot) {
+        held(memory, slot)
+    } else {
+        Cap::Empty
+    }
+}
+
+/// The slot that an open one was derived from: the first one back that is less deep.
+fn parent(memory: &Mem, count: u32, slot: Slot) -> Option<Slot>
+    requires { length memory.now % 16 ≡ 0 }
+    ensures { result ≡ back_above (words_in memory.now).previous (words_in memory.now).depth count ((words_in memory.now).depth slot) ((words_in memory.now).previous slot) }
+{
+    let own_depth = depth(memory, slot);
+    if own_depth == 0 {
+        return None;
+    }
+    back_above(memory, count, own_depth, previous(memory, slot))
+}
+
+/// The capability in an open slot, and the slot that it was derived from.
+pub fn get(
+    memory: &Mem,
+    open_slots: &OpenSlots,
+    first: &Option<Slot>,
+    slot: Slot,
+) -> (Cap, Option<Slot>)
+    requires packed { IsPacked (packing memory.now open_slots.now first.now) }
+    requires opened { IsOpen (packed_slots (packing memory.now open_slots.now first.now)) slot }
+    ensures held { packed_slots (packing memory.now open_slots.now first.now) slot ≡ Some (record { capability = result.0; parent = result.1 }) }
+    ensures valid { IsCapability result.0 }
+{
+    let capability = held(memory, slot);
+    let parent = parent(memory, open_slots.len(), slot);
+    (capability, parent)
+}
+
+/// How many slots lead up from an open slot.
+pub fn depth_above(memory: &Mem, open_slots: &OpenSlots, first: &Option<Slot>, slot: Slot) -> u32
+    requires packed { IsPacked (packing memory.now open_slots.now first.now) }
+    requires opened { IsOpen (packed_slots (packing memory.now open_slots.now first.now)) slot }
+    ensures { result ≡ depth_of (packed_slots (packing memory.now open_slots.now first.now)) slot }
+{
+    depth(memory, slot)
+}
+
+/// The full slot behind another, or the first one.
+pub fn next_full(
+    memory: &Mem,
+    open_slots: &OpenSlots,
+    first: &Option<Slot>,
+    last: Option<Slot>,
+) -> Option<Slot>
+    requires packed { IsPacked (packing memory.now open_slots.now first.now) }
+    requires full { ForSome last (IsFull (packed_slots (packing memory.now open_slots.now first.now))) }
+    ensures { result ≡ next_in (packed_order (packing memory.now open_slots.now first.now)) last }
+{
+    match last {
+        None => *first,
+        Some(slot) => next(memory, slot),
+    }
+}
+
+/// Whether a slot is another.
+fn is_slot(found: Option<Slot>, slot: Slot) -> bool
+    ensures { result ≡ is_one slot found }
+{
+    match found {
+        Some(other) => other.number() == slot.number(),
+        None => false,
+    }
+}
+
+/// Whether an open slot descends from a root: whether the first slot back that is as deep as the root, or less deep, is the root.
+pub fn descends(
+    memory: &Mem,
+    open_slots: &OpenSlots,
+    first: &Option<Slot>,
+    root: Slot,
+    slot: Slot,
+) -> bool
+    requires packed { IsPacked (packing memory.now open_slots.now first.now) }
+    requires opened { IsOpen (packed_slots (packing memory.now open_slots.now first.now)) slot }
+    ensures { result ≡ is_descendant (packed_slots (packing memory.now open_slots.now first.now)) root slot }
+{
+    let root_depth = depth(memory, root);
+    if depth(memory, slot) <= root_depth {
+        return false;
+    }
+    is_slot(
+        back_above(
+            memory,
+            open_slots.len(),
+            root_depth + 1,
+            previous(memory, slot),
+        ),
+        root,
+    )
+}
