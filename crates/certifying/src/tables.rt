@@ -11,7 +11,7 @@ use typestate::{NotedSlot, SlotKey};
 const PATIENCE: u32 = 6;
 
 /// How often they are widened to a threshold, before they are widened to the ends.
-const MOST_STEPS: u32 = 60;
+const MOST_STEPS: u32 = 250;
 
 /// What is known of a point so far.
 #[derive(Drop)]
