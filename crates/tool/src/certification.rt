@@ -1,5 +1,8 @@
 //! Texts and their certificates: what is found is put into the text, and the verifier judges the image of that.
 
+ghost use Rattle.std.specs.Prelude.{IfOk};
+ghost use Rattle.tool.specs.AcceptedTexts.{IsAcceptedText};
+
 use crate::trials::{drop_records, judged};
 use asm::{SourceFault, assemble};
 use certified_texts::{Draft, Layout, bare_text, layout_of};
@@ -153,7 +156,10 @@ fn budgets_of(alloc: Global, layout: &Layout<'_>, drafts: &[Draft]) -> Result<St
 }
 
 /// The text with certificates in place of its own, which the verifier accepts.
-pub fn certified(alloc: Global, text: &str) -> Result<CertifiedText, NotCertified> {
+pub fn certified(alloc: Global, text: &str) -> Result<CertifiedText, NotCertified>
+    // What is answered assembles to an image, and the verifier accepts its bytes.
+    ensures accepted { IfOk result (λ made. IsAcceptedText made.text.items) }
+{
     let bytes = bare_text(alloc, text)?;
     let Ok(bare) = std::str::from_utf8(bytes.as_slice()) else {
         return Err(NotCertified::Source(SourceFault { line: 1, kind: 1 }));

@@ -1,5 +1,8 @@
 //! Trials: the verifier judges a text with some of its records.
 
+ghost use Rattle.std.specs.Prelude.{IfOk};
+ghost use Rattle.tool.specs.AcceptedTexts.{IsAcceptedText};
+
 use crate::certification::{NotCertified, refused};
 use asm::{SourceFault, assemble};
 use certified_texts::{Draft, Layout, certified_text};
@@ -16,7 +19,9 @@ pub(crate) fn judged(
     text: &str,
     layout: &Layout<'_>,
     drafts: &[Draft],
-) -> Result<Vec<u8>, NotCertified> {
+) -> Result<Vec<u8>, NotCertified>
+    ensures accepted { IfOk result (λ written. IsAcceptedText written.items) }
+{
     let written = certified_text(alloc, text, layout, drafts)?;
     let Ok(certified) = std::str::from_utf8(written.as_slice()) else {
         return Err(NotCertified::Source(SourceFault { line: 1, kind: 1 }));
