@@ -1,6 +1,7 @@
 //! Texts with a line put another way.
 
 use explaining::explain;
+use progress::Quiet;
 use sinks::{MemorySink, Sink};
 use std::alloc::Global;
 use std::process::Abort;
@@ -35,7 +36,7 @@ pub(crate) fn check(
     for row in rows {
         let text = text_with(rt.alloc(), lines, row)?;
         let mut sink = MemorySink::new(rt.alloc(), 4096);
-        let explained = explain(rt.alloc(), &text, &mut sink).is_ok();
+        let explained = explain(rt.alloc(), &text, &mut sink, &mut Quiet).is_ok();
         assert!(rt; explained);
         let said = std::str::from_utf8(sink.bytes()).unwrap_or("?");
         assert_eq!(rt; said, row.said);

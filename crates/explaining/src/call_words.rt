@@ -75,7 +75,7 @@ pub(crate) fn has_label(capability: Cap, label: u32) -> bool {
 }
 
 /// The name of an error.
-pub(crate) fn error_name(error: KError) -> &'static str {
+pub fn error_name(error: KError) -> &'static str {
     match error {
         KError::InvalidArgument => "InvalidArgument",
         KError::InvalidCapability => "InvalidCapability",

@@ -7,6 +7,7 @@ use crate::syntax::tell_fault;
 use asm::assemble;
 use image::{ImageRef, read, write};
 use model::Refusal;
+use progress::{Progress, Stage};
 use sinks::{Sink, put_all};
 use source_texts::SourceText;
 use std::alloc::{AllocError, Global};
@@ -51,7 +52,12 @@ fn tell_refusal(
 }
 
 /// Tells of a text whether it is accepted, or why not.
-fn tell(alloc: Global, to: &mut String, text: &str) -> Result<Explained, AllocError> {
+fn tell<P: Progress>(
+    alloc: Global,
+    to: &mut String,
+    text: &str,
+    progress: &mut P,
+) -> Result<Explained, AllocError> {
     let image = match assemble(alloc, text) {
         Ok(image) => image,
         Err(fault) => {
@@ -63,7 +69,10 @@ fn tell(alloc: Global, to: &mut String, text: &str) -> Result<Explained, AllocEr
         }
     };
     let bytes = write(alloc, &image)?;
-    let refusal = match verify(alloc, &bytes) {
+    progress.reach(Stage::Built);
+    let verdict = verify(alloc, &bytes);
+    progress.reach(Stage::Judged);
+    let refusal = match verdict {
         Ok(_) => {
             to.push_str("accepted\n")?;
             return Ok(Explained::Accepted);
@@ -76,18 +85,19 @@ fn tell(alloc: Global, to: &mut String, text: &str) -> Result<Explained, AllocEr
 }
 
 /// Builds and verifies the image of a text, and puts why that is refused: the line, the names, what is known there, and by how much
-/// it misses. Of an accepted one it puts the line `accepted`.
+/// it misses. Of an accepted one it puts the line `accepted`. Whoever watches is told when the image is built, and when it is judged.
 ///
 /// # Errors
 ///
 /// An output that takes no more, or want of memory, which puts nothing.
-pub fn explain<S: Sink>(
+pub fn explain<S: Sink, P: Progress>(
     alloc: Global,
     text: &str,
     output: &mut S,
+    progress: &mut P,
 ) -> Result<Explained, ExplainFault> {
     let mut told = String::new(alloc);
-    let explained = tell(alloc, &mut told, text)?;
+    let explained = tell(alloc, &mut told, text, progress)?;
     put_all(output, told.as_bytes())?;
     Ok(explained)
 }

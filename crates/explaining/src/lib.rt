@@ -22,5 +22,6 @@ mod system_calls;
 mod thread_gaps;
 mod ways;
 
+pub use call_words::error_name;
 pub use explanations::explain;
 pub use faults::{ExplainFault, Explained};

@@ -1,6 +1,6 @@
 //! Images built from their text, by the program over real files.
 
-use crate::files::{file_of, name_of, program};
+use crate::sample_files::{file_of, name_of, program};
 use crate::unverified::solo_with;
 use std::fs;
 use std::process::Abort;

@@ -1,6 +1,6 @@
 //! Refusals at the edges of the file, and of its fields.
 
-use crate::files::bell;
+use crate::sample_files::bell;
 use model::{Point, Refusal};
 use std::test::Fail;
 use verify::verify;

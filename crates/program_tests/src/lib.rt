@@ -9,8 +9,6 @@ mod edges;
 #[cfg(test)]
 mod event_lines;
 #[cfg(test)]
-mod files;
-#[cfg(test)]
 mod instructions;
 #[cfg(test)]
 mod outputs;
@@ -18,6 +16,8 @@ mod outputs;
 mod pairs;
 #[cfg(test)]
 mod rows;
+#[cfg(test)]
+mod sample_files;
 #[cfg(test)]
 mod unverified;
 #[cfg(test)]

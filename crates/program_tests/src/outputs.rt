@@ -2,7 +2,7 @@
 
 ghost use Rattle.std.specs.Prelude.{Some, []};
 
-use crate::files::bell;
+use crate::sample_files::bell;
 use model::Event;
 use runner::{MemorySink, RunFault, Sink, SinkFault, events, put_all, run, run_unverified};
 use std::process::Abort;

@@ -1,6 +1,6 @@
 //! The printed rows over real files.
 
-use crate::files::{bell, bell_with, file_of, program, run_list, verify_file};
+use crate::sample_files::{bell, bell_with, file_of, program, run_list, verify_file};
 use runner::{MemorySink, Sink, WriterSink, command};
 use std::fs;
 use std::test::Fail;

@@ -1,6 +1,6 @@
 //! Runs of images that are not verified, by the program over real files.
 
-use crate::files::{Answer, file_of, image_of, program};
+use crate::sample_files::{Answer, file_of, image_of, program};
 use crate::workers::{late_worker, worker};
 use image::{Image, Parts, write};
 use std::alloc::Global;

@@ -1,6 +1,6 @@
 //! Runs of accepted images, by the program over real files: what is promised of them, seen.
 
-use crate::files::{Answer, file_of, name_of, program};
+use crate::sample_files::{Answer, file_of, name_of, program};
 use crate::unverified::{lines_of_solo, solo_with};
 use loader::boot;
 use model::Event;

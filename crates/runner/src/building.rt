@@ -2,8 +2,8 @@
 
 use crate::commands::Failure;
 use asm::assemble;
+use files::{read_text, write_bytes};
 use image::write;
-use std::fs;
 use std::rt::Files;
 
 /// Builds the image of a text, and writes it to a file. The file is not touched before the whole image is there.
@@ -17,14 +17,9 @@ pub(crate) fn build<'a, R: Files + AllocGlobal>(
     source: &'a str,
     image: &'a str,
 ) -> Result<(), Failure<'a>> {
-    let text = match fs::read_to_string(rt, source) {
-        Ok(text) => text,
-        Err(error) => return Err(Failure::of_file(error, source)),
-    };
+    let text = read_text(rt, source)?;
     let built = assemble(rt.alloc(), text.as_str())?;
     let bytes = write(rt.alloc(), &built)?;
-    match fs::write(rt, image, bytes.as_slice()) {
-        Ok(()) => Ok(()),
-        Err(error) => Err(Failure::of_file(error, image)),
-    }
+    write_bytes(rt, image, bytes.as_slice())?;
+    Ok(())
 }

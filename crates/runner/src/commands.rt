@@ -13,23 +13,15 @@ use crate::building::build;
 use crate::running::{RunFault, run};
 use crate::unverified::run_unverified;
 use asm::SourceFault;
-use command_line::{Request, WordsFault, parse};
+use command_line::{Request, parse};
+use console::{DONE, WordsFault, failed, refused, words, wrong_words};
+use files::{FileFault, read_bytes};
 use model::{BootFault, Refusal};
 use sinks::{EventsFault, Sink, SinkFault, events, put_all};
 use std::alloc::{AllocError, Global};
 use std::convert::AsStr;
 use std::rt::{Env, Files};
-use std::{env, fs, io};
 use verify::verify;
-
-/// The exit status of a request that was carried out.
-const DONE: u8 = 0;
-/// .. that was refused, with the reason on standard output.
-const REFUSED: u8 = 1;
-/// .. that the words do not make.
-const USAGE: u8 = 2;
-/// .. that failed for a file, the output or memory, with the reason on standard error.
-const FAILED: u8 = 3;
 
 /// Why a request was not carried out.
 pub enum Failure<'a> {
@@ -51,12 +43,11 @@ pub enum Failure<'a> {
     Source(SourceFault),
 }
 
-impl<'a> Failure<'a> {
-    /// The failure to read or to write a file.
-    pub(crate) fn of_file(error: io::Error, name: &'a str) -> Self {
-        match error.kind() {
-            io::ErrorKind::OutOfMemory => Failure::Memory,
-            _ => Failure::File(name),
+impl<'a> From<FileFault<'a>> for Failure<'a> {
+    fn from(fault: FileFault<'a>) -> Self {
+        match fault {
+            FileFault::File(name) => Failure::File(name),
+            FileFault::OutOfMemory => Failure::Memory,
         }
     }
 }
@@ -152,18 +143,8 @@ pub fn command_line<R: Files + Env + AllocGlobal, W: Sink, E: Sink>(
 ) -> u8 {
     match words(rt) {
         Ok(words) => command(rt, words.as_slice(), output, errors),
-        Err(failure) => report(rt.alloc(), failure, output, errors),
+        Err(fault) => report(rt.alloc(), Failure::from(fault), output, errors),
     }
-}
-
-/// The words behind the program's name. Words that are no text are no request.
-fn words<R: Env + AllocGlobal>(rt: &R) -> Result<Vec<String>, Failure<'static>> {
-    let all = match env::args(rt) {
-        Ok(all) => all,
-        Err(error) if error.kind() == io::ErrorKind::OutOfMemory => return Err(Failure::Memory),
-        Err(_) => return Err(Failure::Usage),
-    };
-    Ok(all.skip(1).collect(rt.alloc())?)
 }
 
 /// Carries out a request up to its failure.
@@ -174,7 +155,7 @@ fn answer<'a, R: Files + AllocGlobal, S: AsStr, W: Sink>(
 ) -> Result<(), Failure<'a>> {
     match parse(rt.alloc(), words)? {
         Request::Verify { image } => {
-            let bytes = read_file(rt, image)?;
+            let bytes = read_bytes(rt, image)?;
             let _accepted = verify(rt.alloc(), bytes.as_slice())?;
             put_all(output, b"accepted\n")?;
         }
@@ -183,8 +164,8 @@ fn answer<'a, R: Files + AllocGlobal, S: AsStr, W: Sink>(
             events: list,
             unverified,
         } => {
-            let bytes = read_file(rt, image)?;
-            let text = read_file(rt, list)?;
+            let bytes = read_bytes(rt, image)?;
+            let text = read_bytes(rt, list)?;
             let events = events(rt.alloc(), text.as_slice())?;
             if unverified {
                 run_unverified(rt.alloc(), bytes.as_slice(), events.as_slice(), output)?;
@@ -197,21 +178,10 @@ fn answer<'a, R: Files + AllocGlobal, S: AsStr, W: Sink>(
     Ok(())
 }
 
-/// All bytes of a file.
-fn read_file<'a, R: Files + AllocGlobal>(rt: &R, name: &'a str) -> Result<Vec<u8>, Failure<'a>> {
-    match fs::read(rt, name) {
-        Ok(bytes) => Ok(bytes),
-        Err(error) => Err(Failure::of_file(error, name)),
-    }
-}
-
 /// Says why a request was not carried out, and answers the exit status.
 fn report<W: Sink, E: Sink>(alloc: Global, failure: Failure, output: &mut W, errors: &mut E) -> u8 {
     match failure {
-        Failure::Usage => {
-            let _ = put_all(errors, b"usage\n");
-            USAGE
-        }
+        Failure::Usage => wrong_words(errors),
         Failure::File(name) => failed(errors, b"file ", name.as_bytes()),
         Failure::Output => failed(errors, b"output", b""),
         Failure::Memory => failed(errors, b"memory", b""),
@@ -221,31 +191,6 @@ fn report<W: Sink, E: Sink>(alloc: Global, failure: Failure, output: &mut W, err
         Failure::Source(SourceFault { line, kind }) => {
             refused(format!(in alloc; "source {line} {kind}\n"), output, errors)
         }
-    }
-}
-
-/// Puts a line on standard error.
-fn failed<E: Sink>(errors: &mut E, text: &[u8], name: &[u8]) -> u8 {
-    for piece in [text, name, b"\n"] {
-        if put_all(errors, piece).is_err() {
-            return FAILED;
-        }
-    }
-    FAILED
-}
-
-/// Puts the line of a refusal on standard output.
-fn refused<W: Sink, E: Sink>(
-    line: Result<String, AllocError>,
-    output: &mut W,
-    errors: &mut E,
-) -> u8 {
-    match line {
-        Ok(line) => match put_all(output, line.as_bytes()) {
-            Ok(()) => REFUSED,
-            Err(_) => failed(errors, b"output", b""),
-        },
-        Err(_) => failed(errors, b"memory", b""),
     }
 }
 

@@ -9,6 +9,7 @@ use certified_texts::{Draft, Layout, bare_text, layout_of};
 use certifying::{Certificate, Reason, Unfit, certificates};
 use image::write;
 use model::{Point, Refusal};
+use progress::{Progress, Stage};
 use std::alloc::{AllocError, AllocFailed, Global};
 
 /// A text with certificates that the verifier accepts.
@@ -155,8 +156,13 @@ fn budgets_of(alloc: Global, layout: &Layout<'_>, drafts: &[Draft]) -> Result<St
     Ok(told)
 }
 
-/// The text with certificates in place of its own, which the verifier accepts.
-pub fn certified(alloc: Global, text: &str) -> Result<CertifiedText, NotCertified>
+/// The text with certificates in place of its own, which the verifier accepts. Whoever watches is told when certificates are found,
+/// when the verifier has judged them, and after each record that is tried.
+pub fn certified<P: Progress>(
+    alloc: Global,
+    text: &str,
+    progress: &mut P,
+) -> Result<CertifiedText, NotCertified>
     // What is answered assembles to an image, and the verifier accepts its bytes.
     ensures accepted { IfOk result (λ made. IsAcceptedText made.text.items) }
 {
@@ -166,8 +172,10 @@ pub fn certified(alloc: Global, text: &str) -> Result<CertifiedText, NotCertifie
     };
     let layout = layout_of(alloc, bare)?;
     let mut drafts = drafts_of(alloc, bare, &layout)?;
+    progress.reach(Stage::Found);
     judged(alloc, text, &layout, drafts.as_slice())?;
-    drop_records(alloc, text, &layout, &mut drafts)?;
+    progress.reach(Stage::Judged);
+    drop_records(alloc, text, &layout, &mut drafts, progress)?;
     Ok(CertifiedText {
         text: judged(alloc, text, &layout, drafts.as_slice())?,
         budgets: budgets_of(alloc, &layout, drafts.as_slice())?,

@@ -2,24 +2,17 @@
 
 use crate::certification::{NotCertified, certified};
 use crate::messages::line_of;
+use console::{DONE, REFUSED, WordsFault, failed, refused, words, wrong_words};
 use drawing::{DrawingFault, chart, draw};
 use explaining::{ExplainFault, Explained, explain};
 use files::{FileFault, read_bytes, read_text, write_bytes};
+use progress::{Progress, Told};
 use sinks::{Sink, SinkFault, put_all};
 use std::alloc::{AllocError, Global};
 use std::convert::AsStr;
 use std::rt::{Env, Files};
-use std::{env, io};
-use tool_line::{ToolRequest, WordsFault, parse_words};
-
-/// The exit status of a request that was carried out.
-const DONE: u8 = 0;
-/// .. that was refused, with the reason on standard output.
-const REFUSED: u8 = 1;
-/// .. that the words do not make.
-const USAGE: u8 = 2;
-/// .. that failed for a file, the output or memory, with the reason on standard error.
-const FAILED: u8 = 3;
+use std::time::Clock;
+use tool_line::{ToolRequest, parse_words};
 
 /// Why a request was not carried out.
 enum ToolFault<'a> {
@@ -97,52 +90,47 @@ impl From<DrawingFault> for ToolFault<'_> {
     }
 }
 
-/// Carries out what the words behind the program's name ask for, and answers the exit status.
-pub fn command<R: Files + AllocGlobal, S: AsStr, W: Sink, E: Sink>(
+/// Carries out what the words behind the program's name ask for, and answers the exit status. Where that takes more than a second,
+/// lines on standard error tell how far it is.
+pub fn command<R: Files + Clock + AllocGlobal, S: AsStr, W: Sink, E: Sink>(
     rt: &R,
     words: &[S],
     output: &mut W,
     errors: &mut E,
 ) -> u8 {
-    match answer(rt, words, output) {
+    match answer(rt, words, output, errors) {
         Ok(()) => DONE,
         Err(fault) => report(rt.alloc(), fault, output, errors),
     }
 }
 
 /// Gathers the words of the process's command line, and carries them out.
-pub fn command_line<R: Files + Env + AllocGlobal, W: Sink, E: Sink>(
+pub fn command_line<R: Files + Env + Clock + AllocGlobal, W: Sink, E: Sink>(
     rt: &R,
     output: &mut W,
     errors: &mut E,
 ) -> u8 {
     match words(rt) {
         Ok(words) => command(rt, words.as_slice(), output, errors),
-        Err(fault) => report(rt.alloc(), fault, output, errors),
+        Err(fault) => report(rt.alloc(), ToolFault::from(fault), output, errors),
     }
 }
 
-/// The words behind the program's name. Words that are no text are no request.
-fn words<R: Env + AllocGlobal>(rt: &R) -> Result<Vec<String>, ToolFault<'static>> {
-    let all = match env::args(rt) {
-        Ok(all) => all,
-        Err(error) if error.kind() == io::ErrorKind::OutOfMemory => return Err(ToolFault::Memory),
-        Err(_) => return Err(ToolFault::Usage),
-    };
-    Ok(all.skip(1).collect(rt.alloc())?)
-}
-
 /// Carries out a request up to its failure.
-fn answer<'a, R: Files + AllocGlobal, S: AsStr, W: Sink>(
+fn answer<'a, R: Files + Clock + AllocGlobal, S: AsStr, W: Sink, E: Sink>(
     rt: &R,
     words: &'a [S],
     output: &mut W,
+    errors: &mut E,
 ) -> Result<(), ToolFault<'a>> {
+    let mut progress = Told::new(rt.alloc(), rt, errors);
     match parse_words(rt.alloc(), words)? {
-        ToolRequest::Certify { source, certified } => certify(rt, source, certified, output),
+        ToolRequest::Certify { source, certified } => {
+            certify(rt, source, certified, output, &mut progress)
+        }
         ToolRequest::Explain { source } => {
             let text = read_text(rt, source)?;
-            match explain(rt.alloc(), text.as_str(), output)? {
+            match explain(rt.alloc(), text.as_str(), output, &mut progress)? {
                 Explained::Accepted => Ok(()),
                 Explained::Refused => Err(ToolFault::Explained),
             }
@@ -162,14 +150,15 @@ fn answer<'a, R: Files + AllocGlobal, S: AsStr, W: Sink>(
 
 /// Writes a text with its certificates to a file, which is not touched before the verifier accepts the whole of it, and puts a
 /// line for each thread.
-fn certify<'a, R: Files + AllocGlobal, W: Sink>(
+fn certify<'a, R: Files + AllocGlobal, W: Sink, P: Progress>(
     rt: &R,
     source: &'a str,
     target: &'a str,
     output: &mut W,
+    progress: &mut P,
 ) -> Result<(), ToolFault<'a>> {
     let text = read_text(rt, source)?;
-    let made = certified(rt.alloc(), text.as_str())?;
+    let made = certified(rt.alloc(), text.as_str(), progress)?;
     write_bytes(rt, target, made.text.as_slice())?;
     put_all(output, made.budgets.as_bytes())?;
     Ok(())
@@ -183,10 +172,7 @@ fn report<W: Sink, E: Sink>(
     errors: &mut E,
 ) -> u8 {
     match fault {
-        ToolFault::Usage => {
-            let _ = put_all(errors, b"usage\n");
-            USAGE
-        }
+        ToolFault::Usage => wrong_words(errors),
         ToolFault::File(name) => failed(errors, b"file ", name.as_bytes()),
         ToolFault::Output => failed(errors, b"output", b""),
         ToolFault::Memory => failed(errors, b"memory", b""),
@@ -197,30 +183,5 @@ fn report<W: Sink, E: Sink>(
             output,
             errors,
         ),
-    }
-}
-
-/// Puts a line on standard error.
-fn failed<E: Sink>(errors: &mut E, text: &[u8], name: &[u8]) -> u8 {
-    for piece in [text, name, b"\n"] {
-        if put_all(errors, piece).is_err() {
-            return FAILED;
-        }
-    }
-    FAILED
-}
-
-/// Puts the line of a refusal on standard output.
-fn refused<W: Sink, E: Sink>(
-    line: Result<String, AllocError>,
-    output: &mut W,
-    errors: &mut E,
-) -> u8 {
-    match line {
-        Ok(line) => match put_all(output, line.as_bytes()) {
-            Ok(()) => REFUSED,
-            Err(_) => failed(errors, b"output", b""),
-        },
-        Err(_) => failed(errors, b"memory", b""),
     }
 }

@@ -3,7 +3,8 @@
 use crate::certification::{NotCertified, Why};
 use asm::SourceFault;
 use certifying::Reason;
-use model::{KError, Refusal};
+use explaining::error_name;
+use model::Refusal;
 use std::alloc::{AllocError, Global};
 
 /// A refusal of a point in plain words.
@@ -21,22 +22,6 @@ fn words_of(refusal: Refusal) -> &'static str {
         Refusal::CallRefused(..) => "call refused",
         Refusal::PoolLost(_) => "memory of the image is lost",
         _ => "refused",
-    }
-}
-
-/// The name of an error of the kernel.
-fn error_name(error: KError) -> &'static str {
-    match error {
-        KError::InvalidArgument => "InvalidArgument",
-        KError::InvalidCapability => "InvalidCapability",
-        KError::IllegalOperation => "IllegalOperation",
-        KError::RangeError => "RangeError",
-        KError::AlignmentError => "AlignmentError",
-        KError::FailedLookup => "FailedLookup",
-        KError::TruncatedMessage => "TruncatedMessage",
-        KError::DeleteFirst => "DeleteFirst",
-        KError::RevokeFirst => "RevokeFirst",
-        KError::NotEnoughMemory => "NotEnoughMemory",
     }
 }
 

@@ -7,6 +7,7 @@ use crate::certification::{NotCertified, refused};
 use asm::{SourceFault, assemble};
 use certified_texts::{Draft, Layout, certified_text};
 use image::write;
+use progress::{Progress, Stage};
 use std::alloc::Global;
 use verify::verify;
 
@@ -65,11 +66,12 @@ fn record_count(drafts: &[Draft], thread: usize) -> usize {
 }
 
 /// Leaves out each record without which the text is accepted as well, as far as there is time for trials.
-pub(crate) fn drop_records(
+pub(crate) fn drop_records<P: Progress>(
     alloc: Global,
     text: &str,
     layout: &Layout<'_>,
     drafts: &mut Vec<Draft>,
+    progress: &mut P,
 ) -> Result<(), NotCertified> {
     let lines = text.lines().count().max(1);
     let mut left = MOST_LINES / lines;
@@ -83,6 +85,11 @@ pub(crate) fn drop_records(
             if !is_accepted(alloc, text, layout, drafts.as_slice())? {
                 keep(drafts, thread, record, true);
             }
+            progress.reach(Stage::Tried {
+                thread,
+                record,
+                records: record_count(drafts, thread),
+            });
         }
     }
     Ok(())

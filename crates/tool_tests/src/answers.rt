@@ -5,6 +5,7 @@ use std::alloc::Global;
 use std::process::Abort;
 use std::rt::{Env, Files};
 use std::test::Fail;
+use std::time::Clock;
 use std::{env, fs};
 use tool::{MemorySink, command};
 
@@ -18,7 +19,7 @@ fn name_of<R: Env + AllocGlobal>(rt: &R, name: &str) -> Result<String, Fail> {
 }
 
 /// Asserts that certifying a text answers this status and this line, and leaves the file as it was.
-fn is_refused<R: Files + Env + AllocGlobal + Abort>(
+fn is_refused<R: Files + Env + Clock + AllocGlobal + Abort>(
     rt: &R,
     name: &str,
     text: &str,

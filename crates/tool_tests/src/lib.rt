@@ -4,6 +4,8 @@
 #[cfg(test)]
 mod answers;
 #[cfg(test)]
+mod delays;
+#[cfg(test)]
 mod loops;
 #[cfg(test)]
 mod rows;

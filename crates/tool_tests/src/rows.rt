@@ -1,5 +1,6 @@
 //! What comes of a text.
 
+use progress::Quiet;
 use std::process::Abort;
 use std::test::Fail;
 use tool::certified;
@@ -20,7 +21,7 @@ pub fn certified_with<R: AllocGlobal + Abort>(
     text: &str,
     budgets: &str,
 ) -> Result<(), Fail> {
-    let told = match certified(rt.alloc(), text) {
+    let told = match certified(rt.alloc(), text, &mut Quiet) {
         Ok(made) => made.budgets,
         Err(_) => String::new(rt.alloc()),
     };

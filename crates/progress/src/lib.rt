@@ -1,0 +1,8 @@
+//! How far a long request is, told from time to time.
+#![tactic(auto)]
+
+mod stages;
+mod watches;
+
+pub use stages::Stage;
+pub use watches::{Progress, Quiet, Told};
