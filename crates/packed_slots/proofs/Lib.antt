@@ -1,3 +1,4 @@
+pub mod Below
 pub mod Beside
 pub mod Changing
 pub mod Inserting

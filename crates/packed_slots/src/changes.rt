@@ -108,7 +108,7 @@ fn insert_first(
 }
 
 /// Puts a capability into an empty slot, and answers the first full slot.
-pub fn insert(
+pub(crate) fn insert(
     memory: &mut Mem,
     open_slots: &OpenSlots,
     first: &Option<Slot>,
@@ -138,7 +138,7 @@ pub fn insert(
 }
 
 /// Empties a full slot. Its descendants become one less deep, and it is taken out of the list.
-pub fn splice(
+pub(crate) fn splice(
     memory: &mut Mem,
     open_slots: &OpenSlots,
     first: &Option<Slot>,
@@ -158,7 +158,7 @@ pub fn splice(
 }
 
 /// Moves what a full slot holds to an empty one: the new slot is linked behind the old one, which is then taken out.
-pub fn relocate(
+pub(crate) fn relocate(
     memory: &mut Mem,
     open_slots: &OpenSlots,
     first: &Option<Slot>,
@@ -178,7 +178,7 @@ pub fn relocate(
 }
 
 /// Changes the capability in a full slot.
-pub fn recap(
+pub(crate) fn recap(
     memory: &mut Mem,
     open_slots: &OpenSlots,
     first: &Option<Slot>,
@@ -197,7 +197,7 @@ pub fn recap(
 }
 
 /// Opens a range of slots: their bytes are zero.
-pub fn open(
+pub(crate) fn open(
     memory: &mut Mem,
     open_slots: &mut OpenSlots,
     first: &Option<Slot>,
@@ -217,7 +217,13 @@ pub fn open(
 }
 
 /// Closes a range of empty slots.
-pub fn close(memory: &Mem, open_slots: &mut OpenSlots, first: &Option<Slot>, slot: Slot, count: u32)
+pub(crate) fn close(
+    memory: &Mem,
+    open_slots: &mut OpenSlots,
+    first: &Option<Slot>,
+    slot: Slot,
+    count: u32,
+)
     requires packed { IsPacked (packing memory.now open_slots.old first.now) }
     requires within { 16 * (slot + count) ≤ length memory.now }
     requires empty { (s : ℕ) → slot ≤ s → s < slot + count → packed_slots (packing memory.now open_slots.old first.now) s ≡ Some empty_entry }

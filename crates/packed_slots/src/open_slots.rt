@@ -10,7 +10,7 @@ use std::marker::Model;
 
 /// For each slot, whether it is open. A clause sees the list of it.
 #[derive(Drop)]
-pub struct OpenSlots {
+pub(crate) struct OpenSlots {
     open: Vec<bool>,
 }
 
@@ -26,7 +26,7 @@ impl Model for OpenSlots {
 
 impl OpenSlots {
     /// So many slots, none of them open.
-    pub fn closed(alloc: Global, count: u32) -> Result<Self, AllocError>
+    pub(crate) fn closed(alloc: Global, count: u32) -> Result<Self, AllocError>
         requires { count ≤ 2 ^ 20 }
         ensures { IfOk result (λ slots. slots ≡ replicate count false) }
     {
@@ -36,7 +36,7 @@ impl OpenSlots {
     }
 
     /// How many slots there are.
-    pub fn len(&self) -> u32
+    pub(crate) fn len(&self) -> u32
         ensures value { result ≡ length self.now }
         ensures most { result ≤ 2 ^ 20 }
     {
@@ -44,7 +44,7 @@ impl OpenSlots {
     }
 
     /// Whether a slot is open.
-    pub fn contains(&self, slot: Slot) -> bool
+    pub(crate) fn contains(&self, slot: Slot) -> bool
         ensures { result ≡ is_open_in self.now slot }
     {
         let place = slot.number() as usize;
@@ -52,7 +52,7 @@ impl OpenSlots {
     }
 
     /// Opens or closes a range of slots.
-    pub fn set(&mut self, first: Slot, count: u32, value: bool)
+    pub(crate) fn set(&mut self, first: Slot, count: u32, value: bool)
         requires { first + count ≤ length self.old }
         ensures each { (s : ℕ) → is_open_in self.new s ≡ (if is_within first count s then value else is_open_in self.old s) }
         ensures size { length self.new ≡ length self.old }

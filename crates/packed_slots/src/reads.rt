@@ -1,13 +1,13 @@
 //! What slots that are packed hold, and how they are linked.
 
-ghost use Rattle.std.specs.Prelude.{ℕ, ◌≡◌, ◌%◌, ◌∷◌, [], Some, length};
+ghost use Rattle.std.specs.Prelude.{ℕ, ◌≡◌, ◌%◌, ◌∷◌, [], IsTrue, Some, length};
 ghost use Rattle.std.specs.Option.{ForSome};
 ghost use Rattle.model.specs.Capabilities.CapabilityWords.{IsCapability, words_of};
-ghost use Rattle.model.specs.Capabilities.Orders.{next_in};
-ghost use Rattle.model.specs.Capabilities.Slots.{IsFull, IsOpen, capability_at, depth_of, is_descendant};
+ghost use Rattle.model.specs.Capabilities.Orders.{descendants, next_in};
+ghost use Rattle.model.specs.Capabilities.Slots.{IsFull, IsOpen, capability_at, depth_of, is_descendant, is_full};
 ghost use Rattle.packed_slots.specs.Packing.{IsPacked, packed_order, packed_slots, packing};
 ghost use Rattle.packed_slots.specs.Words.{capability_in, is_one, words_in};
-ghost use Rattle.preorder.specs.Chains.{back_above};
+ghost use Rattle.preorder.specs.Chains.{back_above, if_deeper};
 
 use crate::links::back_above;
 use crate::open_slots::OpenSlots;
@@ -30,7 +30,12 @@ fn held(memory: &Mem, slot: Slot) -> Cap
 }
 
 /// The capability in a slot: an empty one where the slot is not open.
-pub fn capability(memory: &Mem, open_slots: &OpenSlots, first: &Option<Slot>, slot: Slot) -> Cap
+pub(crate) fn capability(
+    memory: &Mem,
+    open_slots: &OpenSlots,
+    first: &Option<Slot>,
+    slot: Slot,
+) -> Cap
     requires { IsPacked (packing memory.now open_slots.now first.now) }
     ensures value { result ≡ capability_at (packed_slots (packing memory.now open_slots.now first.now)) slot }
     ensures valid { IsCapability result }
@@ -40,6 +45,14 @@ pub fn capability(memory: &Mem, open_slots: &OpenSlots, first: &Option<Slot>, sl
     } else {
         Cap::Empty
     }
+}
+
+/// Whether a slot is open and holds a capability.
+fn is_full(memory: &Mem, open_slots: &OpenSlots, first: &Option<Slot>, slot: Slot) -> bool
+    requires { IsPacked (packing memory.now open_slots.now first.now) }
+    ensures { result ≡ is_full (packed_slots (packing memory.now open_slots.now first.now)) slot }
+{
+    !matches!(capability(memory, open_slots, first, slot), Cap::Empty)
 }
 
 /// The slot that an open one was derived from: the first one back that is less deep.
@@ -55,7 +68,7 @@ fn parent(memory: &Mem, count: u32, slot: Slot) -> Option<Slot>
 }
 
 /// The capability in an open slot, and the slot that it was derived from.
-pub fn get(
+pub(crate) fn get(
     memory: &Mem,
     open_slots: &OpenSlots,
     first: &Option<Slot>,
@@ -72,7 +85,12 @@ pub fn get(
 }
 
 /// How many slots lead up from an open slot.
-pub fn depth_above(memory: &Mem, open_slots: &OpenSlots, first: &Option<Slot>, slot: Slot) -> u32
+pub(crate) fn depth_above(
+    memory: &Mem,
+    open_slots: &OpenSlots,
+    first: &Option<Slot>,
+    slot: Slot,
+) -> u32
     requires packed { IsPacked (packing memory.now open_slots.now first.now) }
     requires opened { IsOpen (packed_slots (packing memory.now open_slots.now first.now)) slot }
     ensures { result ≡ depth_of (packed_slots (packing memory.now open_slots.now first.now)) slot }
@@ -81,7 +99,7 @@ pub fn depth_above(memory: &Mem, open_slots: &OpenSlots, first: &Option<Slot>, s
 }
 
 /// The full slot behind another, or the first one.
-pub fn next_full(
+pub(crate) fn next_full(
     memory: &Mem,
     open_slots: &OpenSlots,
     first: &Option<Slot>,
@@ -97,6 +115,36 @@ pub fn next_full(
     }
 }
 
+/// A slot, if there is one and it is deeper than a depth.
+fn if_deeper(memory: &Mem, root_depth: u32, found: Option<Slot>) -> Option<Slot>
+    requires { length memory.now % 16 ≡ 0 }
+    ensures { result ≡ if_deeper (words_in memory.now).depth root_depth found }
+{
+    match found {
+        Some(slot) if depth(memory, slot) > root_depth => Some(slot),
+        _ => None,
+    }
+}
+
+/// The descendant of a root behind another, or the first one: the slot that is linked behind, if it is deeper than the root.
+pub(crate) fn next_below(
+    memory: &Mem,
+    open_slots: &OpenSlots,
+    first: &Option<Slot>,
+    root: Slot,
+    last: Option<Slot>,
+) -> Option<Slot>
+    requires packed { IsPacked (packing memory.now open_slots.now first.now) }
+    requires known { ForSome last (λ slot. IsTrue (is_descendant (packed_slots (packing memory.now open_slots.now first.now)) root slot)) }
+    ensures { result ≡ next_in (descendants (packed_order (packing memory.now open_slots.now first.now)) (packed_slots (packing memory.now open_slots.now first.now)) root) last }
+{
+    if !is_full(memory, open_slots, first, root) {
+        return None;
+    }
+    let after = next(memory, last.unwrap_or(root));
+    if_deeper(memory, depth(memory, root), after)
+}
+
 /// Whether a slot is another.
 fn is_slot(found: Option<Slot>, slot: Slot) -> bool
     ensures { result ≡ is_one slot found }
@@ -108,7 +156,7 @@ fn is_slot(found: Option<Slot>, slot: Slot) -> bool
 }
 
 /// Whether an open slot descends from a root: whether the first slot back that is as deep as the root, or less deep, is the root.
-pub fn descends(
+pub(crate) fn descends(
     memory: &Mem,
     open_slots: &OpenSlots,
     first: &Option<Slot>,

@@ -10,7 +10,13 @@ use model::Slot;
 use pmem::Mem;
 
 /// Writes one byte.
-pub fn write8(memory: &mut Mem, open_slots: &OpenSlots, first: &Option<Slot>, offset: u32, byte: u8)
+pub(crate) fn write8(
+    memory: &mut Mem,
+    open_slots: &OpenSlots,
+    first: &Option<Slot>,
+    offset: u32,
+    byte: u8,
+)
     requires packed { IsPacked (packing memory.old open_slots.now first.now) }
     requires within { offset < length memory.old }
     requires outside { OutsideSlots (packed_slots (packing memory.old open_slots.now first.now)) offset 1 }
@@ -21,7 +27,7 @@ pub fn write8(memory: &mut Mem, open_slots: &OpenSlots, first: &Option<Slot>, of
 }
 
 /// Writes a number into four bytes, the lowest first.
-pub fn write32(
+pub(crate) fn write32(
     memory: &mut Mem,
     open_slots: &OpenSlots,
     first: &Option<Slot>,
@@ -38,7 +44,13 @@ pub fn write32(
 }
 
 /// Writes zero into `count` bytes.
-pub fn zero(memory: &mut Mem, open_slots: &OpenSlots, first: &Option<Slot>, offset: u32, count: u32)
+pub(crate) fn zero(
+    memory: &mut Mem,
+    open_slots: &OpenSlots,
+    first: &Option<Slot>,
+    offset: u32,
+    count: u32,
+)
     requires packed { IsPacked (packing memory.old open_slots.now first.now) }
     requires within { offset + count ≤ length memory.old }
     requires outside { OutsideSlots (packed_slots (packing memory.old open_slots.now first.now)) offset count }
