@@ -1,5 +1,6 @@
 pub mod Below
 pub mod Beside
+pub mod BitLists
 pub mod Changing
 pub mod Inserting
 pub mod Keeping

@@ -1,27 +1,34 @@
 //! Which slots are open.
 
-ghost use Rattle.std.specs.Prelude.{ℕ, ◌≡◌, ◌+◌, ◌^◌, ◌<◌, ◌≤◌, Bool, false, IfOk, length, replicate, if◌then◌else◌};
+ghost use Rattle.std.specs.Prelude.{ℕ, ◌≡◌, ◌≢◌, ◌==◌, ◌+◌, ◌*◌, ◌^◌, ◌<◌, ◌≤◌, Bool, false, IfOk, length, replicate, if◌then◌else◌};
+ghost use Rattle.std.specs.Int.{bit_at};
 ghost use Rattle.model.specs.Capabilities.Slots.{is_within};
+ghost use Rattle.packed_slots.specs.Bits.{is_bit};
 ghost use Rattle.packed_slots.specs.Packing.{is_open_in};
 
 use model::Slot;
 use std::alloc::{AllocError, Global};
 use std::marker::Model;
 
-/// For each slot, whether it is open. A clause sees the list of it.
+/// How many slots a word tells of.
+const WORD_SLOTS: u32 = 64;
+
+/// For each slot, whether it is open: one bit each. A clause sees the list of it.
 #[derive(Drop)]
 pub(crate) struct OpenSlots {
-    open: Vec<bool>,
+    words: Vec<u64>,
+    count: u32,
 }
 
 impl Model for OpenSlots {
-    ghost use Rattle.std.specs.Prelude.{ℕ, ◌^◌, ◌≤◌, Bool, List, length};
+    ghost use Rattle.std.specs.Prelude.{Bool, List};
+    ghost use Rattle.packed_slots.specs.Bits.{IsBits, bits_of};
 
     ghost Value = { List Bool };
 
-    ghost view = { λ slots. slots.open.items };
+    ghost view = { λ slots. bits_of slots.words.items slots.count };
 
-    ghost invariant = { λ slots. length slots.open.items ≤ 2 ^ 20 };
+    ghost invariant = { λ slots. IsBits slots.words.items slots.count };
 }
 
 impl OpenSlots {
@@ -30,9 +37,9 @@ impl OpenSlots {
         requires { count ≤ 2 ^ 20 }
         ensures { IfOk result (λ slots. slots ≡ replicate count false) }
     {
-        let mut open = Vec::new(alloc);
-        open.resize(count as usize, false)?;
-        Ok(OpenSlots { open })
+        let mut words = Vec::new(alloc);
+        words.resize(count.div_ceil(WORD_SLOTS) as usize, 0)?;
+        Ok(OpenSlots { words, count })
     }
 
     /// How many slots there are.
@@ -40,15 +47,14 @@ impl OpenSlots {
         ensures value { result ≡ length self.now }
         ensures most { result ≤ 2 ^ 20 }
     {
-        self.open.len() as u32
+        self.count
     }
 
     /// Whether a slot is open.
     pub(crate) fn contains(&self, slot: Slot) -> bool
         ensures { result ≡ is_open_in self.now slot }
     {
-        let place = slot.number() as usize;
-        place < self.open.len() && self.open[place]
+        slot.number() < self.count && is_set(&self.words, slot.number())
     }
 
     /// Opens or closes a range of slots.
@@ -57,17 +63,56 @@ impl OpenSlots {
         ensures each { (s : ℕ) → is_open_in self.new s ≡ (if is_within first count s then value else is_open_in self.old s) }
         ensures size { length self.new ≡ length self.old }
     {
-        set_range(&mut self.open, first.number(), count, value);
+        set_range(&mut self.words, first.number(), count, value);
     }
 }
 
-/// Puts one value into a range of a slice.
-fn set_range(open: &mut [bool], first: u32, count: u32, value: bool)
-    requires within { first + count ≤ length open.old }
-    requires few { length open.old ≤ 2 ^ 20 }
-    ensures { (s : ℕ) → is_open_in open.new s ≡ (if is_within first count s then value else is_open_in open.old s) }
+/// Whether a bit of a word is 1.
+fn has_bit(word: u64, bit: u32) -> bool
+    requires { bit < 64 }
+    ensures { result ≡ (bit_at word bit == 1) }
 {
-    'range: for slot in first..first + count {
-        open[slot as usize] = value;
+    word >> bit & 1 == 1
+}
+
+/// A word with another value of one bit.
+fn with_bit(word: u64, bit: u32, value: bool) -> u64
+    requires { bit < 64 }
+    ensures own { (bit_at result bit == 1) ≡ value }
+    ensures others { (i : ℕ) → i < 64 → i ≢ bit → bit_at result i ≡ bit_at word i }
+{
+    if value {
+        word | 1 << bit
+    } else {
+        word & !(1 << bit)
+    }
+}
+
+/// Whether one of the bits of a slice is 1.
+fn is_set(words: &[u64], place: u32) -> bool
+    requires { place < 64 * length words.now }
+    ensures { result ≡ is_bit words.now place }
+{
+    has_bit(words[(place / WORD_SLOTS) as usize], place % WORD_SLOTS)
+}
+
+/// Gives one of the bits of a slice another value.
+fn set_one(words: &mut [u64], place: u32, value: bool)
+    requires { place < 64 * length words.old }
+    ensures own { is_bit words.new place ≡ value }
+    ensures others { (s : ℕ) → s ≢ place → is_bit words.new s ≡ is_bit words.old s }
+{
+    let at = (place / WORD_SLOTS) as usize;
+    words[at] = with_bit(words[at], place % WORD_SLOTS, value);
+}
+
+/// Gives a range of the bits of a slice one value.
+fn set_range(words: &mut [u64], first: u32, count: u32, value: bool)
+    requires within { first + count ≤ 64 * length words.old }
+    requires few { first + count ≤ 2 ^ 20 }
+    ensures { (s : ℕ) → is_bit words.new s ≡ (if is_within first count s then value else is_bit words.old s) }
+{
+    'range: for place in first..first + count {
+        set_one(words, place, value);
     }
 }
