@@ -1,5 +1,5 @@
 //! Tests of the public calls on capability slots, lookup, decoding, CNodes and address spaces over a plain
-//! table of slots, and on queues of threads.
+//! table of slots, of packed slots beside that, and on queues of threads.
 #![tactic(auto)]
 
 #[cfg(test)]
@@ -16,6 +16,8 @@ mod machine;
 mod mappings;
 #[cfg(test)]
 mod nodes;
+#[cfg(test)]
+mod side_by_side;
 #[cfg(test)]
 mod tables;
 #[cfg(test)]
