@@ -138,6 +138,7 @@ pub(crate) fn next_below(
     requires known { ForSome last (λ slot. IsTrue (is_descendant (packed_slots (packing memory.now open_slots.now first.now)) root slot)) }
     ensures { result ≡ next_in (descendants (packed_order (packing memory.now open_slots.now first.now)) (packed_slots (packing memory.now open_slots.now first.now)) root) last }
 {
+    // (what stands in the bytes of a slot that is not full is no link)
     if !is_full(memory, open_slots, first, root) {
         return None;
     }
