@@ -1,27 +1,27 @@
 -- A new object stands at an offset where none was.
-use Rattle.std.proofs.Common.{ℕ, ◌≡◌, ◌≢◌, ◌∙◌, ◌==◌, ◌&&◌, inl, inr, Bool, true, false, if◌then◌else◌, cond, Option, Some, None, option_map, List, [], ◌∷◌, filter, map, refl, sym, ap, arith}
-use Rattle.std.specs.Prelude.{All, option_and_then, slice_index}
+use Rattle.std.proofs.Common.{ℕ, ◌≡◌, ◌≢◌, ◌∙◌, ◌==◌, ◌+◌, ◌<◌, ◌≤◌, ◌&&◌, inl, inr, Bool, true, false, if◌then◌else◌, Option, Some, None, option_map, List, [], ◌∷◌, refl, sym, ap, arith}
+use Rattle.std.specs.Prelude.{option_and_then, slice_index}
 use Rattle.std.specs.Option.{option_map_or}
+use Rattle.std.proofs.lemmas.Bool.{cases_lt, eq-eqb}
 use Rattle.std.proofs.lemmas.Bool.Decides.{eqb_tells}
-use Rattle.std.proofs.lemmas.List.Elements.{All-head, All-tail}
 use Rattle.model.specs.Capabilities.Slots.{Slots}
-use Rattle.model.specs.Kernel.Kinds.{frame_around}
+use Rattle.model.specs.Kernel.Kinds.{frame_around, kind_at, kind_of}
+use Rattle.model.specs.Kernel.Retype.{NewThread}
 use Rattle.model.specs.Kernel.State.{Object, ThreadObject, new_thread, put}
 use Rattle.model.specs.Shared.Lists.{times_in}
-use Rattle.objects.proofs.Ends.{not-queued}
 use Rattle.objects.proofs.Kept.{put-here, put-there}
 use Rattle.objects.proofs.Vacating.{other-same}
-use Rattle.objects.specs.Changes.{begun, is_frame_kind}
-use Rattle.objects.specs.Tables.{AreTables, Tables, WaitsThere, byte_in, has_queue, is_frame, object_from, object_in, object_of, record_in, record_of, sending_in, state_of, thread_in, told_by}
+use Rattle.objects.specs.Changes.{MayStand, begun, is_frame_kind}
+use Rattle.objects.specs.Standing.{Standing}
+use Rattle.objects.specs.Tables.{Tables, byte_in, is_frame, object_from, object_in, object_of, record_in, record_of, sending_in, state_of, thread_in, told_by}
 use Rattle.objects.specs.Threads.{new_object, thread_state}
+use Rattle.objects.specs.Waiting.{has_waiting}
 use Rattle.objects.specs.declared.records.Kind.{Kind}
 use Rattle.objects.specs.declared.records.Kind.TheVariants as kinds
 use Rattle.objects.specs.declared.records.Record.{Record}
 use Rattle.objects.specs.declared.records.Record.TheVariants.{Endpoint, Notification, CNode, Frame, PageTable, RootTable}
 use Rattle.objects.specs.declared.records.Thread.{Thread}
-use Rattle.queues.proofs.Parts.{times-queue}
-use Rattle.queues.specs.Queues.{queue_at}
-use Rattle.queues.specs.declared.lists.Queued.{Queued}
+use Rattle.queues.specs.Queues.{queue_of}
 
 -- ---- nothing is there
 
@@ -34,18 +34,11 @@ free-record threads waiting (Some t) r free = absurd (let clash : Some (ThreadOb
 free-record threads waiting None (Some r) free = absurd (let clash : Some (object_of threads waiting r) ≡ None = free in cc)
 free-record threads waiting None None free = refl
 
--- nobody waits where nothing is
-pub no-queue : (records : List (Option Record)) (threads : List (Option Thread)) (offset : ℕ) (entries : List Queued) → record_in records offset ≡ None
-    → All (WaitsThere records threads) entries → queue_at entries offset ≡ []
-no-queue records threads offset [] none there = refl
-no-queue records threads offset (entry ∷ rest) none there = elim (eqb_tells entry.queue offset) [
-  | inl here ↦
-      let waits = All-head (WaitsThere records threads) entry rest there in
-      absurd (let clash : false ≡ true = sym (ap (λ r. option_map_or has_queue r false) (ap (record_in records) here.1 ∙ none)) ∙ waits.queue in cc)
-  | inr apart ↦
-      ap (λ b. map (λ e. e.thread) (cond b (entry ∷ filter (λ (e : Queued). e.queue == offset) rest) (filter (λ (e : Queued). e.queue == offset) rest))) apart.0
-      ∙ no-queue records threads offset rest none (All-tail (WaitsThere records threads) entry rest there)
-]
+nobody : (queues : ℕ → List ℕ) (queue : ℕ) → ((thread : ℕ) → 0 < times_in (queues queue) thread → ⊥) → queues queue ≡ []
+nobody queues queue none = elim (queues queue) as (λ l. ((thread : ℕ) → 0 < times_in l thread → ⊥) → l ≡ []) [
+  | [] ↦ λ _. refl
+  | x ∷ rest ↦ λ none. absurd (none x (omega (arith, ap (λ b. if b then times_in rest x + 1 else times_in rest x) (eq-eqb x x refl))))
+] none
 
 -- what the record of a kind stands for
 same-record : (a b : Record) → Some a ≡ Some b → a ≡ b
@@ -70,16 +63,52 @@ no-record kinds.Frame none = absurd (let clash : Some Frame ≡ None = none in c
 no-record kinds.PageTable none = absurd (let clash : Some PageTable ≡ None = none in cc)
 no-record kinds.RootTable none = absurd (let clash : Some RootTable ≡ None = none in cc)
 
+-- a new CNode is small
+may-small : (kind : Kind) (radix bits offset : ℕ) → record_of kind ≡ Some (CNode radix) → MayStand bits kind offset → radix ≤ 14
+may-small (kinds.CNode small) radix bits offset is fits = let same : small ≡ radix = cc in omega (arith, same, fits.2)
+may-small kinds.Thread radix bits offset is fits = absurd cc
+may-small kinds.Endpoint radix bits offset is fits = absurd cc
+may-small kinds.Notification radix bits offset is fits = absurd cc
+may-small kinds.Frame radix bits offset is fits = absurd cc
+may-small kinds.PageTable radix bits offset is fits = absurd cc
+may-small kinds.RootTable radix bits offset is fits = absurd cc
+
+pub small-begun : (old new : List (Option Record)) (offset : ℕ) (kind : Kind) (r : Record) (bits : ℕ) → record_of kind ≡ Some r → MayStand bits kind offset
+    → ((other : ℕ) → record_in new other ≡ put (record_in old) offset (Some r) other)
+    → ((place radix : ℕ) → record_in old place ≡ Some (CNode radix) → radix ≤ 14) → (place radix : ℕ) → record_in new place ≡ Some (CNode radix) → radix ≤ 14
+small-begun old new offset kind r bits made fits records small place radix is = elim (eqb_tells place offset) [
+  | inl here ↦
+      may-small kind radix bits offset (made ∙ sym (ap (λ b. if b then Some r else record_in old place) here.0) ∙ sym (records place) ∙ is) fits
+  | inr apart ↦ small place radix (sym (ap (λ b. if b then Some r else record_in old place) apart.0) ∙ sym (records place) ∙ is)
+]
+
 never : {A : Type 0} (a : Bool) (x y : A) → y ≡ (if a && false then x else y)
 never true x y = refl
 never false x y = refl
 
-module _ (o : Tables) (offset : ℕ) (are : AreTables o) (free : object_in o offset ≡ None) where
+module _ (o : Tables) (slots : Slots) (memory : List ℕ) (offset : ℕ) (stands : Standing o slots memory) (free : (state_of o slots memory).objects offset ≡ None) where
+  free-object : object_in o memory offset ≡ None
+  unfolding state_of told_by
+  free-object = free
+
+  -- nobody is there, and nobody waits there
+  no-kind : kind_at (state_of o slots memory) offset ≡ None
+  no-kind = ap (option_map kind_of) free
+
+  pub waits-not : (queue : ℕ) → times_in (queue_of o.waiting memory queue) offset ≡ 0
+  waits-not queue = elim (cases_lt 0 (times_in (queue_of o.waiting memory queue) offset)) [
+    | inl some ↦ absurd (let clash : None ≡ Some NewThread = sym no-kind ∙ stands.waiters queue offset some in cc)
+    | inr few ↦ omega (arith, few)
+  ]
+
+  no-queue : queue_of o.waiting memory offset ≡ []
+  no-queue = nobody (queue_of o.waiting memory) offset (λ thread some. absurd (let clash : false ≡ true = sym (ap has_waiting no-kind) ∙ stands.waited offset thread some in cc))
+
   free-in-threads : thread_in o.threads offset ≡ None
-  free-in-threads = free-thread (thread_in o.threads offset) _ free
+  free-in-threads = free-thread (thread_in o.threads offset) _ free-object
 
   free-in-records : record_in o.records offset ≡ None
-  free-in-records = free-record o.threads (queue_at o.waiting.entries offset) (thread_in o.threads offset) (record_in o.records offset) free
+  free-in-records = free-record o.threads (queue_of o.waiting memory offset) (thread_in o.threads offset) (record_in o.records offset) free-object
 
   -- ---- a thread
 
@@ -88,45 +117,41 @@ module _ (o : Tables) (offset : ℕ) (are : AreTables o) (free : object_in o off
     sends : (other : ℕ) → other ≢ offset → sending_in threads other ≡ sending_in o.threads other
     sends other apart = ap (option_and_then (λ t. t.sending)) (threaded other ∙ put-there (thread_in o.threads) offset (Some new) other apart)
 
-    waits-not : (queue : ℕ) → times_in (queue_at o.waiting.entries queue) offset ≡ 0
-    waits-not queue =
-        omega (arith, times-queue o.waiting.entries queue offset, not-queued o.records o.threads offset o.waiting.entries free-in-threads are.waits_there)
-
-    object-threaded : (other : ℕ) → object_in (record o { threads = threads }) other ≡ put (object_in o) offset (Some (ThreadObject new_thread)) other
+    object-threaded : (other : ℕ) → object_in (record o { threads = threads }) memory other ≡ put (object_in o memory) offset (Some (ThreadObject new_thread)) other
     object-threaded other = elim (eqb_tells other offset) [
       | inl here ↦
-          ap (λ t. object_from t (option_map (object_of threads (queue_at o.waiting.entries other)) (record_in o.records other)))
+          ap (λ t. object_from t (option_map (object_of threads (queue_of o.waiting memory other)) (record_in o.records other)))
           (threaded other ∙ ap (λ b. if b then Some new else thread_in o.threads other) here.0)
-          ∙ ap (λ t. Some (ThreadObject t)) is_new ∙ ap (λ b. if b then Some (ThreadObject new_thread) else object_in o other) (sym here.0)
+          ∙ ap (λ t. Some (ThreadObject t)) is_new ∙ ap (λ b. if b then Some (ThreadObject new_thread) else object_in o memory other) (sym here.0)
       | inr apart ↦
-          ap (λ t. object_from t (option_map (object_of threads (queue_at o.waiting.entries other)) (record_in o.records other)))
+          ap (λ t. object_from t (option_map (object_of threads (queue_of o.waiting memory other)) (record_in o.records other)))
           (threaded other ∙ put-there (thread_in o.threads) offset (Some new) other apart.1)
-          ∙ ap (object_from (thread_in o.threads other)) (other-same o.threads threads offset (queue_at o.waiting.entries other) (record_in o.records other) sends (waits-not other))
-          ∙ ap (λ b. if b then Some (ThreadObject new_thread) else object_in o other) (sym apart.0)
+          ∙ ap (object_from (thread_in o.threads other)) (other-same o.threads threads offset (queue_of o.waiting memory other) (record_in o.records other) sends (waits-not other))
+          ∙ ap (λ b. if b then Some (ThreadObject new_thread) else object_in o memory other) (sym apart.0)
     ]
 
-    pub begun-thread : (slots : Slots) (memory : List ℕ) → state_of (record o { threads = threads }) slots memory ≡ begun (state_of o slots memory) memory kinds.Thread offset
+    pub begun-thread : state_of (record o { threads = threads }) slots memory ≡ begun (state_of o slots memory) memory kinds.Thread offset
     unfolding state_of told_by
-    begun-thread slots memory = λ i. record (state_of o slots memory) { objects = λ other. object-threaded other i }
+    begun-thread = λ i. record (state_of o slots memory) { objects = λ other. object-threaded other i }
 
   -- ---- another object
 
   module _ (records : List (Option Record)) (kind : Kind) (new : Record) (is : record_of kind ≡ Some new)
       (recorded : (other : ℕ) → record_in records other ≡ put (record_in o.records) offset (Some new) other) where
-    object-recorded : (other : ℕ) → object_in (record o { records = records }) other ≡ put (object_in o) offset (Some (new_object kind)) other
+    object-recorded : (other : ℕ) → object_in (record o { records = records }) memory other ≡ put (object_in o memory) offset (Some (new_object kind)) other
     object-recorded other = elim (eqb_tells other offset) [
       | inl here ↦
-          ap (λ t. object_from t (option_map (object_of o.threads (queue_at o.waiting.entries other)) (record_in records other))) (ap (thread_in o.threads) here.1 ∙ free-in-threads)
-          ∙ ap (option_map (object_of o.threads (queue_at o.waiting.entries other)))
+          ap (λ t. object_from t (option_map (object_of o.threads (queue_of o.waiting memory other)) (record_in records other))) (ap (thread_in o.threads) here.1 ∙ free-in-threads)
+          ∙ ap (option_map (object_of o.threads (queue_of o.waiting memory other)))
           (recorded other ∙ ap (λ b. if b then Some new else record_in o.records other) here.0)
           ∙ ap (λ l. Some (object_of o.threads l new))
-          (ap (queue_at o.waiting.entries) here.1 ∙ no-queue o.records o.threads offset o.waiting.entries free-in-records are.waits_there)
+          (ap (queue_of o.waiting memory) here.1 ∙ no-queue)
           ∙ ap Some (new-record o.threads kind new is).0
-          ∙ ap (λ b. if b then Some (new_object kind) else object_in o other) (sym here.0)
+          ∙ ap (λ b. if b then Some (new_object kind) else object_in o memory other) (sym here.0)
       | inr apart ↦
-          ap (λ r. object_from (thread_in o.threads other) (option_map (object_of o.threads (queue_at o.waiting.entries other)) r))
+          ap (λ r. object_from (thread_in o.threads other) (option_map (object_of o.threads (queue_of o.waiting memory other)) r))
           (recorded other ∙ put-there (record_in o.records) offset (Some new) other apart.1)
-          ∙ ap (λ b. if b then Some (new_object kind) else object_in o other) (sym apart.0)
+          ∙ ap (λ b. if b then Some (new_object kind) else object_in o memory other) (sym apart.0)
     ]
 
     -- the byte of a place in what was put, or in what was there
@@ -134,9 +159,9 @@ module _ (o : Tables) (offset : ℕ) (are : AreTables o) (free : object_in o off
     byte-new byte true same = refl
     byte-new byte false same = refl
 
-    byte-recorded : (memory : List ℕ) (place : ℕ) → byte_in records memory place
+    byte-recorded : (place : ℕ) → byte_in records memory place
         ≡ (if is_frame_kind kind && (offset == frame_around place) then Some (slice_index memory place) else byte_in o.records memory place)
-    byte-recorded memory place = elim (eqb_tells offset (frame_around place)) [
+    byte-recorded place = elim (eqb_tells offset (frame_around place)) [
       | inl here ↦
           let now : record_in records (frame_around place) ≡ Some new =
           ap (record_in records) (sym here.1) ∙ recorded offset ∙ put-here (record_in o.records) offset (Some new) in
@@ -153,9 +178,9 @@ module _ (o : Tables) (offset : ℕ) (are : AreTables o) (free : object_in o off
           ∙ ap (λ b. if is_frame_kind kind && b then Some (slice_index memory place) else byte_in o.records memory place) (sym apart.0)
     ]
 
-    pub begun-record : (slots : Slots) (memory : List ℕ) → state_of (record o { records = records }) slots memory ≡ begun (state_of o slots memory) memory kind offset
+    pub begun-record : state_of (record o { records = records }) slots memory ≡ begun (state_of o slots memory) memory kind offset
     unfolding state_of told_by
-    begun-record slots memory = λ i. record (state_of o slots memory) {
+    begun-record = λ i. record (state_of o slots memory) {
       objects = λ other. object-recorded other i;
-      bytes = λ place. byte-recorded memory place i;
+      bytes = λ place. byte-recorded place i;
     }

@@ -1,48 +1,27 @@
 -- What stands goes on where objects end, wake and begin.
-use Rattle.std.proofs.Common.{ℕ, ◌≡◌, ◌∙◌, ◌==◌, ◌+◌, ◌-◌, ◌/◌, ◌%◌, ◌^◌, ◌<◌, ◌≤◌, ◌⊎◌, ◌&&◌, inl, inr, Bool, true, false, if◌then◌else◌, Option, Some, None, IsSome, option_map, List, [], ◌∷◌, filter, fold, refl, sym, ap, subst, arith}
-use Rattle.std.specs.Prelude.{All, slice_index}
+use Rattle.std.proofs.Common.{ℕ, ◌≡◌, ◌∙◌, ◌==◌, ◌+◌, ◌/◌, ◌^◌, ◌<◌, ◌≤◌, ◌⊎◌, ◌&&◌, inl, inr, Bool, true, false, if◌then◌else◌, Option, Some, None, IsSome, option_map, List, refl, sym, ap, subst, arith}
+use Rattle.std.specs.Prelude.{slice_index}
 use Rattle.std.specs.Option.{option_map_or}
 use Rattle.std.proofs.lemmas.Bool.Decides.{eqb_tells}
-use Rattle.std.proofs.lemmas.List.Elements.{All-head, All-tail, All-weaker, filter_passes}
 use Rattle.model.specs.Capabilities.Slots.{IsOpen, Slots}
 use Rattle.model.specs.Kernel.AddressSpaces.{page_size}
 use Rattle.model.specs.Kernel.Kinds.{frame_around, kind_at, kind_of}
-use Rattle.model.specs.Kernel.Removal.{thread_places}
 use Rattle.model.specs.Kernel.Retype.{NewObject, NewUntyped, NewThread, NewEndpoint, NewNotification, NewCNode, NewFrame, NewPageTable, NewRootTable, object_bits}
-use Rattle.model.specs.Kernel.Scheduling.{full_slice, wake, without_threads}
+use Rattle.model.specs.Kernel.Scheduling.{full_slice, wake}
 use Rattle.model.specs.Kernel.State.{Object, Runnable, State, ThreadObject, EndpointObject, NotificationObject, CNodeObject, FrameObject, PageTableObject, RootTableObject, as_thread, put, thread_at}
 use Rattle.model.specs.declared.slot_entries.Entry.{Entry}
-use Rattle.objects.proofs.Frames.{Unmoved, fits-less, kind-left, kind-put, same-state}
+use Rattle.objects.proofs.Frames.{Unmoved, kind-put, same-state}
 use Rattle.objects.specs.Changes.{begun, is_frame_kind}
 use Rattle.objects.specs.Frames.{FitsMemory, IsInRecord, IsRoom, has_record, has_slots, slot_bytes}
-use Rattle.objects.specs.Standing.{Standing}
+use Rattle.objects.proofs.Kept.{put-there}
+use Rattle.objects.specs.Standing.{AreThere, Standing, WaitAtObjects}
+use Rattle.objects.specs.Waiting.{has_waiting}
+use Rattle.queues.specs.Queues.{QueuedThreads, QueuesStand, queue_of}
 use Rattle.objects.specs.Tables.{Tables, state_of}
 use Rattle.objects.specs.Threads.{new_object}
 use Rattle.objects.specs.declared.records.Kind.{Kind}
 use Rattle.objects.specs.declared.records.Kind.TheVariants as kinds
-use Rattle.removals.specs.Finishing.{is_stranded, waits_nowhere, woken}
-use Rattle.removals.specs.Steps.{ends_thread, object_ended}
-
--- ---- an object ends
-
-kind-ended : (b : Bool) (gone : ℕ → Bool) (o : Option Object) (k : NewObject)
-    → option_map kind_of (if b then None else option_map (without_threads gone) o) ≡ Some k → option_map kind_of o ≡ Some k
-kind-ended true gone o k is = absurd (let clash : None ≡ Some k = is in cc)
-kind-ended false gone o k is = sym (kind-left gone o) ∙ is
-
-none-ended : (b : Bool) (o : Option ℕ) → o ≡ None → (if b then None else o) ≡ None
-none-ended true o none = refl
-none-ended false o none = none
-
-pub stands-ended : (o n : Tables) (slots : Slots) (memory : List ℕ) (offset : ℕ) → Standing o slots memory
-    → state_of n slots memory ≡ object_ended (state_of o slots memory) offset → Standing n slots memory
-stands-ended o n slots memory offset stands is =
-    let s = state_of o slots memory in
-    record {
-      fits = subst (λ (t : State). FitsMemory t memory) (sym is) (fits-less s (object_ended s offset) memory memory stands.fits refl refl (λ slot is_open. is_open)
-          (λ place none. none-ended (offset == place - place % page_size) (s.bytes place) none)
-          (λ other kind there. kind-ended (offset == other) (ends_thread s offset) (s.objects other) kind there));
-    }
+use Rattle.removals.specs.Finishing.{is_stranded, waits_nowhere}
 
 -- ---- threads that wake
 
@@ -56,21 +35,17 @@ stranded-kind (Some FrameObject) s is = absurd (let clash : false ≡ true = is 
 stranded-kind (Some PageTableObject) s is = absurd (let clash : false ≡ true = is in cc)
 stranded-kind (Some RootTableObject) s is = absurd (let clash : false ≡ true = is in cc)
 
-woken-all : (s : State) (places : List ℕ) → All (λ place. kind_at s place ≡ Some NewThread) places → Unmoved s (fold wake s places)
-woken-all s [] threads = same-state s
-woken-all s (place ∷ rest) threads =
-    let first = All-head (λ (x : ℕ). kind_at s x ≡ Some NewThread) place rest threads in
-    let kinds : (x : ℕ) → kind_at (wake s place) x ≡ kind_at s x = λ x. kind-put s.objects place (ThreadObject (record (thread_at s place) { status = Runnable; slice = full_slice })) first x in
-    let more = woken-all (wake s place) rest
-    (All-weaker (λ (x : ℕ). kind_at s x ≡ Some NewThread) (λ (x : ℕ). kind_at (wake s place) x ≡ Some NewThread) (λ x is. kinds x ∙ is) rest
-    (All-tail (λ (x : ℕ). kind_at s x ≡ Some NewThread) place rest threads)) in
-    record { kinds = λ x. more.kinds x ∙ kinds x; bytes = more.bytes; slots = more.slots; bits = more.bits }
-
-pub woken-unmoved : (s : State) → Unmoved s (woken s)
-woken-unmoved s =
-    woken-all s (filter (is_stranded s) (thread_places s))
-    (All-weaker (λ (x : ℕ). is_stranded s x ≡ true) (λ (x : ℕ). kind_at s x ≡ Some NewThread) (λ x is. stranded-kind (s.objects x) s is)
-    (filter (is_stranded s) (thread_places s)) (filter_passes (is_stranded s) (thread_places s)))
+-- one that is stranded wakes
+pub woken-one : (s : State) (place : ℕ) → Unmoved s (if is_stranded s place then wake s place else s)
+woken-one s place = elim (is_stranded s place) as (λ b. is_stranded s place ≡ b → Unmoved s (if b then wake s place else s)) [
+  | true ↦ λ is. record {
+    kinds = kind-put s.objects place (ThreadObject (record (thread_at s place) { status = Runnable; slice = full_slice })) (stranded-kind (s.objects place) s is);
+    bytes = refl;
+    slots = refl;
+    bits = refl;
+  }
+  | false ↦ λ is. same-state s
+] refl
 
 -- ---- an object begins
 
@@ -178,7 +153,34 @@ module _ (s : State) (memory : List ℕ) (kind : Kind) (offset : ℕ) (fits : Fi
     ];
   }
 
+kind-begun : (objects : ℕ → Option Object) (offset : ℕ) (new : Object) → objects offset ≡ None → (other : ℕ) (k : NewObject) → option_map kind_of (objects other) ≡ Some k
+    → option_map kind_of (put objects offset (Some new) other) ≡ Some k
+kind-begun objects offset new free other k is = elim (eqb_tells other offset) [
+  | inl here ↦ absurd (let clash : None ≡ Some k = sym (ap (λ (x : ℕ). option_map kind_of (objects x)) here.1 ∙ ap (option_map kind_of) free) ∙ is in cc)
+  | inr apart ↦ ap (option_map kind_of) (put-there objects offset (Some new) other apart.1) ∙ is
+]
+
+waiting-begun : (objects : ℕ → Option Object) (offset : ℕ) (new : Object) → objects offset ≡ None → (other : ℕ) → has_waiting (option_map kind_of (objects other)) ≡ true
+    → has_waiting (option_map kind_of (put objects offset (Some new) other)) ≡ true
+waiting-begun objects offset new free other is = elim (eqb_tells other offset) [
+  | inl here ↦ absurd (let clash : false ≡ true = sym (ap (λ (x : ℕ). has_waiting (option_map kind_of (objects x))) here.1 ∙ ap (λ (x : Option Object). has_waiting (option_map kind_of x)) free) ∙ is in cc)
+  | inr apart ↦ ap (λ (x : Option Object). has_waiting (option_map kind_of x)) (put-there objects offset (Some new) other apart.1) ∙ is
+]
+
 pub stands-begun : (o n : Tables) (slots : Slots) (memory : List ℕ) (kind : Kind) (offset : ℕ) → Standing o slots memory
+    → (state_of o slots memory).objects offset ≡ None → n.waiting ≡ o.waiting → n.ready ≡ o.ready
     → IsRoom (state_of o slots memory) (kind_of (new_object kind)) offset → state_of n slots memory ≡ begun (state_of o slots memory) memory kind offset → Standing n slots memory
-stands-begun o n slots memory kind offset stands room is =
-    record { fits = subst (λ (t : State). FitsMemory t memory) (sym is) (begun-fits (state_of o slots memory) memory kind offset stands.fits room) }
+stands-begun o n slots memory kind offset stands free waiting ready room is =
+    let s = state_of o slots memory in
+    let t = state_of n slots memory in
+    let there : (queues : ℕ → List ℕ) → AreThere s queues → AreThere t queues = λ queues are queue thread in_queue.
+    ap (λ (u : State). kind_at u thread) is ∙ kind-begun s.objects offset (new_object kind) free thread NewThread (are queue thread in_queue) in
+    record {
+      fits = subst (λ (t : State). FitsMemory t memory) (sym is) (begun-fits s memory kind offset stands.fits room);
+      waiting = subst (λ (q : QueuedThreads). QueuesStand q memory) (sym waiting) stands.waiting;
+      ready = subst (λ (q : QueuedThreads). QueuesStand q memory) (sym ready) stands.ready;
+      waiters = subst (λ (q : QueuedThreads). AreThere t (queue_of q memory)) (sym waiting) (there (queue_of o.waiting memory) stands.waiters);
+      waited = subst (λ (q : QueuedThreads). WaitAtObjects t (queue_of q memory)) (sym waiting) (λ queue thread in_queue.
+          ap (λ (u : State). has_waiting (kind_at u queue)) is ∙ waiting-begun s.objects offset (new_object kind) free queue (stands.waited queue thread in_queue));
+      runners = subst (λ (q : QueuedThreads). AreThere t (queue_of q memory)) (sym ready) (there (queue_of o.ready memory) stands.runners);
+    }

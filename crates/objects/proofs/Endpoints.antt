@@ -18,7 +18,7 @@ use Rattle.objects.specs.declared.records.Record.TheVariants.{Endpoint, Notifica
 use Rattle.objects.specs.declared.records.Sending.{Sending}
 use Rattle.objects.specs.declared.records.Thread.{Thread}
 use Rattle.queues.proofs.Parts.{head-rest}
-use Rattle.queues.specs.Queues.{queue_at}
+use Rattle.queues.specs.Queues.{queue_of}
 
 -- ---- in any state
 
@@ -54,9 +54,21 @@ changed-notification s notification change is =
 
 -- ---- in the state of tables
 
+-- whoever waits there
+kind-from : (threads : List (Option Thread)) (waiting : List ℕ) (t : Option Thread) (r : Option Record)
+    → option_map kind_of (object_from t (option_map (object_of threads waiting) r)) ≡ option_map kind_of (object_from t (option_map (object_of threads []) r))
+kind-from threads waiting (Some t) r = refl
+kind-from threads waiting None None = refl
+kind-from threads waiting None (Some Endpoint) = refl
+kind-from threads waiting None (Some (Notification word)) = refl
+kind-from threads waiting None (Some (CNode radix)) = refl
+kind-from threads waiting None (Some Frame) = refl
+kind-from threads waiting None (Some PageTable) = refl
+kind-from threads waiting None (Some RootTable) = refl
+
 pub kind-state : (o : Tables) (offset : ℕ) (slots : Slots) (memory : List ℕ) → kind_at (state_of o slots memory) offset ≡ kind_in o offset
 unfolding state_of told_by
-kind-state o offset slots memory = refl
+kind-state o offset slots memory = kind-from o.threads (queue_of o.waiting memory offset) (thread_in o.threads offset) (record_in o.records offset)
 
 endpoint-from : (threads : List (Option Thread)) (waiting : List ℕ) (t : Option Thread) (r : Option Record)
     → option_map kind_of (object_from t (option_map (object_of threads waiting) r)) ≡ Some NewEndpoint
@@ -94,12 +106,12 @@ pub sends-nothing : (sending : Option Sending) → is_some sending ≡ false →
 sends-nothing None is = refl
 sends-nothing (Some sending) is = absurd (let clash : true ≡ false = is in cc)
 
-module _ (o : Tables) (endpoint : ℕ) (is : kind_in o endpoint ≡ Some NewEndpoint) (slots : Slots) (memory : List ℕ) where
+module _ (o : Tables) (endpoint : ℕ) (slots : Slots) (memory : List ℕ) (is : kind_at (state_of o slots memory) endpoint ≡ Some NewEndpoint) where
   abbrev e : EndpointState
   e = endpoint_at (state_of o slots memory) endpoint
 
   abbrev waiting : List ℕ
-  waiting = queue_at o.waiting.entries endpoint
+  waiting = queue_of o.waiting memory endpoint
 
   endpoint-in : e ≡ record { senders = senders_in o.threads waiting; receivers = receivers_in o.threads waiting }
   unfolding state_of told_by
@@ -137,12 +149,12 @@ module _ (o : Tables) (endpoint : ℕ) (is : kind_in o endpoint ≡ Some NewEndp
       | inr none ↦ none
     ]
 
-module _ (o : Tables) (notification : ℕ) (is : kind_in o notification ≡ Some NewNotification) (slots : Slots) (memory : List ℕ) where
+module _ (o : Tables) (notification : ℕ) (slots : Slots) (memory : List ℕ) (is : kind_at (state_of o slots memory) notification ≡ Some NewNotification) where
   abbrev n : NotificationState
   n = notification_at (state_of o slots memory) notification
 
   abbrev queue : List ℕ
-  queue = queue_at o.waiting.entries notification
+  queue = queue_of o.waiting memory notification
 
   waiters-in : n.waiters ≡ queue
   unfolding state_of told_by
@@ -185,21 +197,24 @@ module _ (o : Tables) (records : List (Option Record)) (notification word : ℕ)
   abbrev now : Tables
   now = record o { records = records }
 
-  abbrev value : Object
-  value = NotificationObject (record (option_map_or (λ n. n) (as_notification (object_in o notification)) new_notification) { word = word })
+  abbrev value : List ℕ → Object
+  value memory = NotificationObject (record (option_map_or (λ n. n) (as_notification (object_in o memory notification)) new_notification) { word = word })
 
-  object-word : (other : ℕ) → object_in now other ≡ put (object_in o) notification (Some value) other
-  object-word other = elim (eqb_tells other notification) [
+  is-now : (memory : List ℕ) → option_map kind_of (object_in o memory notification) ≡ Some NewNotification
+  is-now memory = kind-from o.threads (queue_of o.waiting memory notification) (thread_in o.threads notification) (record_in o.records notification) ∙ is
+
+  object-word : (memory : List ℕ) (other : ℕ) → object_in now memory other ≡ put (object_in o memory) notification (Some (value memory)) other
+  object-word memory other = elim (eqb_tells other notification) [
     | inl here ↦
-        ap (object_in now) here.1
-        ∙ ap (λ r. object_from (thread_in o.threads notification) (option_map (object_of o.threads (queue_at o.waiting.entries notification)) r))
+        ap (object_in now memory) here.1
+        ∙ ap (λ r. object_from (thread_in o.threads notification) (option_map (object_of o.threads (queue_of o.waiting memory notification)) r))
         (replaced notification ∙ put-here (record_in o.records) notification _)
-        ∙ word-from o.threads (queue_at o.waiting.entries notification) word (thread_in o.threads notification) (record_in o.records notification) is
-        ∙ ap (λ b. if b then Some value else object_in o other) (sym here.0)
+        ∙ word-from o.threads (queue_of o.waiting memory notification) word (thread_in o.threads notification) (record_in o.records notification) (is-now memory)
+        ∙ ap (λ b. if b then Some (value memory) else object_in o memory other) (sym here.0)
     | inr apart ↦
-        ap (λ r. object_from (thread_in o.threads other) (option_map (object_of o.threads (queue_at o.waiting.entries other)) r))
+        ap (λ r. object_from (thread_in o.threads other) (option_map (object_of o.threads (queue_of o.waiting memory other)) r))
         (replaced other ∙ put-there (record_in o.records) notification _ other apart.1)
-        ∙ ap (λ b. if b then Some value else object_in o other) (sym apart.0)
+        ∙ ap (λ b. if b then Some (value memory) else object_in o memory other) (sym apart.0)
   ]
 
   frame-word : (other : ℕ) → option_map_or is_frame (record_in records other) false ≡ option_map_or is_frame (record_in o.records other) false
@@ -208,13 +223,13 @@ module _ (o : Tables) (records : List (Option Record)) (notification word : ℕ)
         ap (λ (x : ℕ). option_map_or is_frame (record_in records x) false) here.1
         ∙ ap (λ r. option_map_or is_frame r false) (replaced notification ∙ put-here (record_in o.records) notification _)
         ∙ sym (ap (λ (x : ℕ). option_map_or is_frame (record_in o.records x) false) here.1
-        ∙ no-frame o.threads (queue_at o.waiting.entries notification) (thread_in o.threads notification) (record_in o.records notification) is)
+        ∙ no-frame o.threads [] (thread_in o.threads notification) (record_in o.records notification) is)
     | inr apart ↦ ap (λ r. option_map_or is_frame r false) (replaced other ∙ put-there (record_in o.records) notification _ other apart.1)
   ]
 
   pub word-state : (slots : Slots) (memory : List ℕ) → state_of now slots memory ≡ with_word (state_of o slots memory) notification word
   unfolding state_of told_by
   word-state slots memory = λ i. record (state_of o slots memory) {
-    objects = λ other. object-word other i;
+    objects = λ other. object-word memory other i;
     bytes = λ place. ap (λ b. if b then Some (slice_index memory place) else None) (frame-word (frame_around place)) i;
   }

@@ -1,20 +1,17 @@
 -- Which threads end with the object at an offset.
-use Rattle.std.proofs.Common.{ℕ, ◌≡◌, ◌∙◌, ◌==◌, ◌+◌, inl, inr, Bool, true, false, if◌then◌else◌, Option, Some, None, is_some, option_map, List, [], ◌∷◌, refl, sym, ap}
-use Rattle.std.specs.Prelude.{All}
+use Rattle.std.proofs.Common.{ℕ, ◌≡◌, ◌∙◌, ◌==◌, inl, inr, Bool, true, false, Option, Some, None, is_some, option_map, List, refl, sym, ap}
 use Rattle.std.specs.Option.{option_map_or}
 use Rattle.std.proofs.lemmas.Bool.{eq-eqb}
 use Rattle.std.proofs.lemmas.Bool.Decides.{eqb_tells}
-use Rattle.std.proofs.lemmas.List.Elements.{All-head, All-tail}
 use Rattle.model.specs.Capabilities.Slots.{Slots}
 use Rattle.model.specs.Kernel.Scheduling.{all_leave, leaves, without_threads}
 use Rattle.model.specs.Kernel.State.{Object, State, ThreadState, as_thread}
-use Rattle.objects.specs.Tables.{Tables, WaitsThere, object_from, object_in, object_of, record_in, state_of, thread_in, told_by}
+use Rattle.objects.specs.Tables.{Tables, object_from, object_in, object_of, record_in, state_of, thread_in, told_by}
 use Rattle.objects.specs.Threads.{thread_state}
 use Rattle.objects.specs.declared.records.Record.{Record}
 use Rattle.objects.specs.declared.records.Record.TheVariants.{Endpoint, Notification, CNode, Frame, PageTable, RootTable}
 use Rattle.objects.specs.declared.records.Thread.{Thread}
-use Rattle.queues.specs.Queues.{queue_at, times_queued}
-use Rattle.queues.specs.declared.lists.Queued.{Queued}
+use Rattle.queues.specs.Queues.{queue_of}
 use Rattle.removals.proofs.Unaffected.{filter-all, threads-all}
 use Rattle.removals.specs.Steps.{ends_thread}
 
@@ -28,10 +25,10 @@ no-thread threads waiting (Some PageTable) = refl
 no-thread threads waiting (Some RootTable) = refl
 
 -- the threads of the state are those of the table
-pub as-thread : (o : Tables) (offset : ℕ) → as_thread (object_in o offset) ≡ option_map thread_state (thread_in o.threads offset)
-as-thread o offset = elim (thread_in o.threads offset) as (λ t. as_thread (object_from t (option_map (object_of o.threads (queue_at o.waiting.entries offset)) (record_in o.records offset))) ≡ option_map thread_state t) [
+pub as-thread : (o : Tables) (memory : List ℕ) (offset : ℕ) → as_thread (object_in o memory offset) ≡ option_map thread_state (thread_in o.threads offset)
+as-thread o memory offset = elim (thread_in o.threads offset) as (λ t. as_thread (object_from t (option_map (object_of o.threads (queue_of o.waiting memory offset)) (record_in o.records offset))) ≡ option_map thread_state t) [
   | Some t ↦ refl
-  | None ↦ no-thread o.threads (queue_at o.waiting.entries offset) (record_in o.records offset)
+  | None ↦ no-thread o.threads (queue_of o.waiting memory offset) (record_in o.records offset)
 ]
 
 any-false : (t : Option ThreadState) → option_map_or (λ (x : ThreadState). false) t false ≡ false
@@ -54,7 +51,7 @@ module _ (o : Tables) (offset : ℕ) (slots : Slots) (memory : List ℕ) where
 
   ends-at : (other : ℕ) → ends_thread s offset other ≡ option_map_or (λ _. offset == other) (option_map thread_state (thread_in o.threads other)) false
   unfolding state_of told_by
-  ends-at other = ap (λ t. option_map_or (λ _. offset == other) t false) (as-thread o other)
+  ends-at other = ap (λ t. option_map_or (λ _. offset == other) t false) (as-thread o memory other)
 
   ends-elsewhere : (other : ℕ) → (offset == other) ≡ false → ends_thread s offset other ≡ false
   ends-elsewhere other apart =
@@ -92,16 +89,3 @@ module _ (o : Tables) (offset : ℕ) (slots : Slots) (memory : List ℕ) where
 pub none-there : (t : Option Thread) → is_some t ≡ false → t ≡ None
 none-there (Some t) some = absurd (let clash : true ≡ false = some in cc)
 none-there None some = refl
-
--- nobody waits under the name of a thread that is not there
-pub not-queued : (records : List (Option Record)) (threads : List (Option Thread)) (offset : ℕ) (entries : List Queued) → thread_in threads offset ≡ None
-    → All (WaitsThere records threads) entries → times_queued entries offset ≡ 0
-not-queued records threads offset [] none there = refl
-not-queued records threads offset (entry ∷ rest) none there = elim (eqb_tells entry.thread offset) [
-  | inl here ↦
-      let waits = All-head (WaitsThere records threads) entry rest there in
-      absurd (let clash : false ≡ true = sym (ap is_some (ap (thread_in threads) here.1 ∙ none)) ∙ waits.thread in cc)
-  | inr apart ↦
-      ap (λ b. if b then times_queued rest offset + 1 else times_queued rest offset) apart.0
-      ∙ not-queued records threads offset rest none (All-tail (WaitsThere records threads) entry rest there)
-]

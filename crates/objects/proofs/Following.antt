@@ -1,14 +1,18 @@
 -- The state goes along with slots and with the bytes of frames, since neither a byte of a frame nor one of a record stands in an open slot.
-use Rattle.std.proofs.Common.{ℕ, ◌≡◌, ◌∙◌, ◌/◌, Bool, true, false, if◌then◌else◌, Option, Some, None, IsSome, option_map, List, refl, sym, ap, subst}
+use Rattle.std.proofs.Common.{ℕ, ◌≡◌, ◌∙◌, ◌/◌, ◌<◌, Bool, true, false, if◌then◌else◌, Option, Some, None, IsSome, option_map, List, refl, sym, ap, subst}
 use Rattle.std.specs.Prelude.{slice_index}
 use Rattle.std.specs.Option.{option_map_or}
 use Rattle.model.specs.Capabilities.Slots.{IsOpen, SameOutside, Slots}
-use Rattle.model.specs.Kernel.Kinds.{frame_around}
+use Rattle.model.specs.Kernel.Kinds.{frame_around, kind_at}
 use Rattle.model.specs.Kernel.State.{State, with_slots}
+use Rattle.model.specs.Shared.Lists.{times_in}
 use Rattle.model.specs.declared.slot_entries.Entry.{Entry}
 use Rattle.objects.specs.Frames.{FitsMemory, IsInRecord, SameBesideFrames, SameKept}
-use Rattle.objects.specs.Standing.{Standing}
-use Rattle.objects.specs.Tables.{Tables, byte_in, is_frame, record_in, state_of, told_by}
+use Rattle.objects.specs.Standing.{AreThere, Standing, WaitAtObjects}
+use Rattle.objects.specs.Tables.{Tables, byte_in, is_frame, object_with, record_in, state_of, told_by}
+use Rattle.objects.specs.Waiting.{has_waiting}
+use Rattle.queues.proofs.Contracts.{stays, still-stand}
+use Rattle.queues.specs.Queues.{queue_of}
 
 pub own-slots : (o : Tables) (slots : Slots) (memory : List ℕ) → (state_of o slots memory).slots ≡ slots
 unfolding state_of
@@ -27,6 +31,17 @@ not-open slots slot closed = elim (slots slot) as (λ e. slots slot ≡ e → sl
   | None ↦ λ is. is
   | Some e ↦ λ is. absurd (closed (subst (λ (x : Option Entry). IsSome x) (sym is) refl))
 ] refl
+
+-- who stands in queues is there where objects are of the same kinds
+pub there-on : (s t : State) (p q : ℕ → List ℕ) → ((offset : ℕ) → kind_at t offset ≡ kind_at s offset) → ((queue : ℕ) → q queue ≡ p queue) → AreThere s p → AreThere t q
+there-on s t p q kinds same there = λ queue thread stands. kinds thread ∙ there queue thread (subst (λ l. 0 < times_in l thread) (same queue) stands)
+
+pub wait-on : (s t : State) (p q : ℕ → List ℕ) → ((offset : ℕ) → kind_at t offset ≡ kind_at s offset) → ((queue : ℕ) → q queue ≡ p queue) → WaitAtObjects s p → WaitAtObjects t q
+wait-on s t p q kinds same waited = λ queue thread stands.
+    ap has_waiting (kinds queue) ∙ waited queue thread (subst (λ l. 0 < times_in l thread) (same queue) stands)
+
+kinds-on : (s t : State) (now : Slots) → t ≡ with_slots s now → (offset : ℕ) → kind_at t offset ≡ kind_at s offset
+kinds-on s t now is = λ offset. ap (λ (u : State). kind_at u offset) is
 
 module _ (o : Tables) (slots : Slots) (old new : List ℕ) where
   abbrev s : State
@@ -47,10 +62,14 @@ module _ (o : Tables) (slots : Slots) (old new : List ℕ) where
         | false ↦ λ is. refl
       ] refl
 
-  follows-bytes : (now : Slots) → ((place byte : ℕ) → s.bytes place ≡ Some byte → slice_index new place ≡ slice_index old place)
+  pub follows-bytes : (now : Slots) → ((place byte : ℕ) → s.bytes place ≡ Some byte → slice_index new place ≡ slice_index old place)
       → state_of o now new ≡ with_slots s now
   unfolding state_of told_by
-  follows-bytes now same = λ i. record (state_of o now new) { bytes = λ place. byte-same same place i }
+  follows-bytes now same = λ i. record (state_of o now new) {
+    objects = λ offset. object_with o (stays o.waiting old new offset i) offset;
+    ready = λ priority. stays o.ready old new priority i;
+    bytes = λ place. byte-same same place i;
+  }
 
   -- ---- the bytes of frames and of records are the same
 
@@ -66,6 +85,14 @@ module _ (o : Tables) (slots : Slots) (old new : List ℕ) where
       records = records;
       apart = stands.fits.apart;
     });
+    waiting = still-stand o.waiting old new stands.waiting;
+    ready = still-stand o.ready old new stands.ready;
+    waiters = there-on s (state_of o now new) (queue_of o.waiting old) (queue_of o.waiting new) (kinds-on s (state_of o now new) now (follows-kept now stands same))
+        (stays o.waiting old new) stands.waiters;
+    waited = wait-on s (state_of o now new) (queue_of o.waiting old) (queue_of o.waiting new) (kinds-on s (state_of o now new) now (follows-kept now stands same))
+        (stays o.waiting old new) stands.waited;
+    runners = there-on s (state_of o now new) (queue_of o.ready old) (queue_of o.ready new) (kinds-on s (state_of o now new) now (follows-kept now stands same))
+        (stays o.ready old new) stands.runners;
   }
 
   -- ---- only bytes of open slots changed
@@ -101,7 +128,11 @@ module _ (o : Tables) (slots : Slots) (old new : List ℕ) where
   pub follows-frames : Standing o slots old → SameBesideFrames s old new
       → state_of o slots new ≡ record s { bytes = λ place. option_map (λ _. slice_index new place) (s.bytes place) }
   unfolding state_of told_by
-  follows-frames stands same = λ i. record s { bytes = λ place. seen place i }
+  follows-frames stands same = λ i. record s {
+    objects = λ offset. object_with o (stays o.waiting old new offset i) offset;
+    ready = λ priority. stays o.ready old new priority i;
+    bytes = λ place. seen place i;
+  }
 
   pub stands-frames : Standing o slots old → SameBesideFrames s old new → Standing o slots new
   stands-frames stands same =
@@ -114,6 +145,14 @@ module _ (o : Tables) (slots : Slots) (old new : List ℕ) where
           apart = λ place held. none (s.bytes place) (slice_index new place)
               (stands.fits.apart place held);
         });
+        waiting = still-stand o.waiting old new stands.waiting;
+        ready = still-stand o.ready old new stands.ready;
+        waiters = there-on s (state_of o slots new) (queue_of o.waiting old) (queue_of o.waiting new) (λ offset. ap (λ (t : State). kind_at t offset) (follows-frames stands same))
+            (stays o.waiting old new) stands.waiters;
+        waited = wait-on s (state_of o slots new) (queue_of o.waiting old) (queue_of o.waiting new) (λ offset. ap (λ (t : State). kind_at t offset) (follows-frames stands same))
+            (stays o.waiting old new) stands.waited;
+        runners = there-on s (state_of o slots new) (queue_of o.ready old) (queue_of o.ready new) (λ offset. ap (λ (t : State). kind_at t offset) (follows-frames stands same))
+            (stays o.ready old new) stands.runners;
       }
 
 framed-byte : (b : Bool) (now byte : ℕ) → (if b then Some now else None) ≡ Some byte → byte ≡ now

@@ -1,18 +1,21 @@
 -- Calls that change records of objects leave the same objects, and what stands stands.
-use Rattle.std.proofs.Common.{ℕ, ◌≡◌, ◌∙◌, ◌/◌, ◌^◌, inl, inr, Bool, true, false, if◌then◌else◌, Option, Some, None, option_map, List, length, refl, sym, ap, subst}
+use Rattle.std.proofs.Common.{ℕ, ◌≡◌, ◌∙◌, ◌+◌, ◌/◌, ◌^◌, ◌<◌, ◌≤◌, ◌⊎◌, inl, inr, Bool, true, false, if◌then◌else◌, Option, Some, None, option_map, List, length, refl, sym, ap, subst, arith}
 use Rattle.std.proofs.lemmas.Bool.Decides.{eqb_tells}
 use Rattle.model.specs.Capabilities.Slots.{IsOpen, Slots}
 use Rattle.model.specs.Kernel.Kinds.{kind_at, kind_of}
-use Rattle.model.specs.Kernel.Retype.{NewObject, NewEndpoint, NewNotification, NewThread}
+use Rattle.model.specs.Kernel.Retype.{NewObject, NewEndpoint, NewNotification, NewThread, object_bits}
 use Rattle.model.specs.Kernel.Scheduling.{at_tail, is_runnable, unready, without_threads}
 use Rattle.model.specs.Kernel.State.{Object, CNodeObject, EndpointObject, FrameObject, NotificationObject, PageTableObject, RootTableObject, State, ThreadObject, ThreadState, put, thread_at, with_object, with_thread}
 use Rattle.model.specs.Kernel.ThreadCalls.{with_priority}
 use Rattle.objects.proofs.Kept.{put-there}
-use Rattle.objects.specs.Frames.{FitsMemory, IsInRecord, SameElsewhere, SameObjects}
+use Rattle.objects.proofs.Following.{there-on, wait-on}
+use Rattle.objects.specs.Frames.{FitsMemory, IsInRecord, SameBesideObjects, SameBesideRecords, SameElsewhere, SameObjects, has_record}
 use Rattle.objects.specs.Standing.{Standing}
 use Rattle.objects.specs.Tables.{Tables, state_of}
-use Rattle.objects.specs.Waiting.{ReceiverTaken, SenderTaken, WaiterTaken}
+use Rattle.objects.specs.Waiting.{ReceiverTaken, SenderTaken, WaiterTaken, changed_at, joined, served}
+use Rattle.objects.specs.declared.records.Sending.{Sending}
 use Rattle.objects.specs.declared.records.WaitingSender.{WaitingSender}
+use Rattle.queues.specs.Queues.{QueuedThreads, QueuesStand, queue_of}
 
 -- ---- kinds
 
@@ -36,6 +39,28 @@ kind-left gone (Some FrameObject) = refl
 kind-left gone (Some PageTableObject) = refl
 kind-left gone (Some RootTableObject) = refl
 
+pub kind-joined : (thread : ℕ) (sending : Option Sending) (o : Object) → kind_of (joined thread sending o) ≡ kind_of o
+kind-joined thread sending (ThreadObject t) = refl
+kind-joined thread sending (EndpointObject e) = refl
+kind-joined thread sending (NotificationObject n) = refl
+kind-joined thread sending (CNodeObject radix) = refl
+kind-joined thread sending FrameObject = refl
+kind-joined thread sending PageTableObject = refl
+kind-joined thread sending RootTableObject = refl
+
+pub kind-served : (sending : Option Sending) (o : Object) → kind_of (served sending o) ≡ kind_of o
+kind-served sending (ThreadObject t) = refl
+kind-served sending (EndpointObject e) = refl
+kind-served sending (NotificationObject n) = refl
+kind-served sending (CNodeObject radix) = refl
+kind-served sending FrameObject = refl
+kind-served sending PageTableObject = refl
+kind-served sending RootTableObject = refl
+
+kind-changed : (change : Object → Object) → ((x : Object) → kind_of (change x) ≡ kind_of x) → (o : Option Object) → option_map kind_of (option_map change o) ≡ option_map kind_of o
+kind-changed change same None = refl
+kind-changed change same (Some x) = ap Some (same x)
+
 -- ---- the same objects, with the same slots and bytes
 
 pub record Unmoved (s t : State) : Type 0 where
@@ -53,6 +78,20 @@ same-state s = record { kinds = λ offset. refl; bytes = refl; slots = refl; bit
 -- an object in the place of one of its kind
 pub one-put : (s : State) (place : ℕ) (object : Object) → kind_at s place ≡ Some (kind_of object) → Unmoved s (with_object s place object)
 one-put s place object is = record { kinds = kind-put s.objects place object is; bytes = refl; slots = refl; bits = refl }
+
+-- the object at one place changes, and is of the same kind
+pub one-changed : (s : State) (place : ℕ) (change : Object → Object) → ((x : Object) → kind_of (change x) ≡ kind_of x) → Unmoved s (changed_at s place change)
+one-changed s place change same = record {
+  kinds = λ offset. elim (eqb_tells offset place) [
+    | inl here ↦
+        ap (λ b. option_map kind_of (if b then option_map change (s.objects place) else s.objects offset)) here.0
+        ∙ kind-changed change same (s.objects place) ∙ sym (ap (λ n. option_map kind_of (s.objects n)) here.1)
+    | inr apart ↦ ap (option_map kind_of) (put-there s.objects place (option_map change (s.objects place)) offset apart.1)
+  ];
+  bytes = refl;
+  slots = refl;
+  bits = refl;
+}
 
 pub with-priority : (s : State) (thread priority : ℕ) → kind_at s thread ≡ Some NewThread → Unmoved s (with_priority s thread priority)
 with-priority s thread priority is =
@@ -79,14 +118,45 @@ waiter-taken s notification (Some thread) t is taken = moved-to s t _ taken.stat
 
 -- ---- one call
 
-pub same-bytes : (s : State) (memory : List ℕ) → SameElsewhere s memory memory
-same-bytes s memory = record { size = refl; bytes = λ place none outside. refl }
+pub same-records : (s : State) (memory : List ℕ) → SameBesideRecords s memory memory
+same-records s memory = record { size = refl; bytes = λ place apart. refl }
 
-pub same-objects : (s t : State) (memory : List ℕ) → Unmoved s t → SameObjects s t memory memory
-same-objects s t memory unmoved = record {
+-- a record stands in its object
+in-object : (objects : ℕ → Option Object) (place : ℕ) (held : IsInRecord objects place)
+    → ((offset : ℕ) (kind : NewObject) → option_map kind_of (objects offset) ≡ Some kind → has_record kind ≡ true → (place < offset) ⊎ (offset + 2 ^ object_bits kind ≤ place)) → ⊥
+in-object objects place held outside = elim (outside held.offset held.kind held.there held.kept) [
+  | inl before ↦ let from = held.from in omega (arith, before, from)
+  | inr behind ↦ let below = held.below in omega (arith, behind, below)
+]
+
+pub beside-objects : (s : State) (old new : List ℕ) → SameBesideRecords s old new → SameBesideObjects s old new
+beside-objects s old new same = record { size = same.size; bytes = λ place outside. same.bytes place (λ held. in-object s.objects place held outside) }
+
+pub same-objects : (s t : State) (old new : List ℕ) → Unmoved s t → SameBesideRecords s old new → SameObjects s t old new
+same-objects s t old new unmoved same = record {
   kinds = unmoved.kinds;
   frames = λ place none. ap (λ (f : ℕ → Option ℕ). f place) unmoved.bytes ∙ none;
-  bytes = same-bytes s memory;
+  bytes = record { size = same.size; bytes = λ place none outside. same.bytes place (λ held. in-object s.objects place held outside) };
+}
+
+-- a record is where it was
+pub record-was : (s t : State) (place : ℕ) → ((offset : ℕ) (kind : NewObject) → kind_at t offset ≡ Some kind → kind_at s offset ≡ Some kind)
+    → IsInRecord t.objects place → IsInRecord s.objects place
+record-was s t place kinds held = record {
+  offset = held.offset;
+  kind = held.kind;
+  there = kinds held.offset held.kind held.there;
+  kept = held.kept;
+  from = held.from;
+  below = held.below;
+}
+
+-- one after another
+pub records-then : (s t : State) (a b c : List ℕ) → ((offset : ℕ) (kind : NewObject) → kind_at t offset ≡ Some kind → kind_at s offset ≡ Some kind)
+    → SameBesideRecords s a b → SameBesideRecords t b c → SameBesideRecords s a c
+records-then s t a b c kinds one two = record {
+  size = two.size ∙ one.size;
+  bytes = λ place apart. two.bytes place (λ held. apart (record-was s t place kinds held)) ∙ one.bytes place apart;
 }
 
 -- what fits does where fewer objects, bytes of frames and open slots are
@@ -109,14 +179,19 @@ fits-less s t old new fits bits long opens none kinds =
       apart = λ place held. none place (fits.apart place (before place held));
     }
 
--- the tables change, and the store does not
-pub stands-unmoved : (o n : Tables) (slots : Slots) (memory : List ℕ) → Standing o slots memory → Unmoved (state_of o slots memory) (state_of n slots memory)
-    → Standing n slots memory
-stands-unmoved o n slots memory stands unmoved = record {
+-- the tables change but for the queues, and the store does not
+pub stands-unmoved : (o n : Tables) (slots : Slots) (memory : List ℕ) → Standing o slots memory → n.waiting ≡ o.waiting → n.ready ≡ o.ready
+    → Unmoved (state_of o slots memory) (state_of n slots memory) → Standing n slots memory
+stands-unmoved o n slots memory stands waiting ready unmoved = record {
   fits = fits-less (state_of o slots memory) (state_of n slots memory) memory memory stands.fits unmoved.bits refl
       (λ slot is_open. subst (λ (f : Slots). IsOpen f slot) unmoved.slots is_open)
       (λ place none. ap (λ (f : ℕ → Option ℕ). f place) unmoved.bytes ∙ none)
       (λ offset kind is. sym (unmoved.kinds offset) ∙ is);
+  waiting = subst (λ (q : QueuedThreads). QueuesStand q memory) (sym waiting) stands.waiting;
+  ready = subst (λ (q : QueuedThreads). QueuesStand q memory) (sym ready) stands.ready;
+  waiters = there-on (state_of o slots memory) (state_of n slots memory) (queue_of o.waiting memory) (queue_of n.waiting memory) unmoved.kinds (λ queue. ap (λ (q : QueuedThreads). queue_of q memory queue) waiting) stands.waiters;
+  waited = wait-on (state_of o slots memory) (state_of n slots memory) (queue_of o.waiting memory) (queue_of n.waiting memory) unmoved.kinds (λ queue. ap (λ (q : QueuedThreads). queue_of q memory queue) waiting) stands.waited;
+  runners = there-on (state_of o slots memory) (state_of n slots memory) (queue_of o.ready memory) (queue_of n.ready memory) unmoved.kinds (λ queue. ap (λ (q : QueuedThreads). queue_of q memory queue) ready) stands.runners;
 }
 
 -- ---- one call after another

@@ -1,28 +1,29 @@
 -- A thread comes to stand in a queue, behind all others.
 use Rattle.std.proofs.Common.{ℕ, ◌≡◌, ◌≢◌, ◌∙◌, ◌==◌, ◌+◌, inl, inr, true, false, if◌then◌else◌, Option, Some, None, option_map, List, [], ◌∷◌, ◌++◌, map, refl, sym, ap, arith}
 use Rattle.std.specs.Prelude.{option_and_then}
+use Rattle.std.proofs.lemmas.Bool.{cases_lt}
 use Rattle.std.proofs.lemmas.Bool.Decides.{eqb_tells, nat_tests}
 use Rattle.model.specs.Capabilities.Slots.{Slots}
-use Rattle.model.specs.Kernel.Kinds.{kind_of}
+use Rattle.model.specs.Kernel.Kinds.{kind_at, kind_of}
 use Rattle.model.specs.Kernel.Soundness.{waiting_at}
 use Rattle.model.specs.Kernel.State.{EndpointObject, Object, put}
-use Rattle.model.specs.Shared.Lists.{times_in, without}
+use Rattle.model.specs.Shared.Lists.{times_in}
 use Rattle.objects.proofs.Kept.{put-here, put-there}
 use Rattle.objects.proofs.Lists.{receivers-by, receivers-same, senders-by, senders-same}
 use Rattle.objects.proofs.Vacating.{other-same}
-use Rattle.objects.specs.Tables.{Tables, kind_in, object_from, object_in, object_of, record_in, sending_in, state_of, thread_in, told_by}
+use Rattle.objects.specs.Standing.{Standing}
+use Rattle.objects.specs.Tables.{Tables, object_from, object_in, object_of, record_in, sending_in, state_of, thread_in, told_by}
 use Rattle.objects.specs.Threads.{sender_of}
 use Rattle.objects.specs.Waiting.{StandsNowhere, changed_at, has_waiting, joined}
 use Rattle.objects.specs.declared.records.Record.{Record}
 use Rattle.objects.specs.declared.records.Record.TheVariants.{Endpoint, Notification, CNode, Frame, PageTable, RootTable}
 use Rattle.objects.specs.declared.records.Sending.{Sending}
 use Rattle.objects.specs.declared.records.Thread.{Thread}
-use Rattle.queues.proofs.Parts.{queue-part, queue-push, times-none-without, times-queue}
-use Rattle.queues.specs.Queues.{QueuedThreads, queue_at, times_queued, without_thread}
+use Rattle.queues.specs.Queues.{QueuedThreads, queue_of}
 
 -- ---- those that wait, as senders and receivers
 
-times-append : (one two : List ℕ) (thread : ℕ) → times_in (one ++ two) thread ≡ times_in one thread + times_in two thread
+pub times-append : (one two : List ℕ) (thread : ℕ) → times_in (one ++ two) thread ≡ times_in one thread + times_in two thread
 times-append [] two thread = omega arith
 times-append (x ∷ one) two thread =
     let more = times-append one two thread in
@@ -62,39 +63,6 @@ more-receivers-end : (sends : ℕ → Option Sending) (waiting : List ℕ) (thre
 more-receivers-end sends [] thread is = grind (arith, is)
 more-receivers-end sends (x ∷ rest) thread is = grind (arith, more-receivers-end sends rest thread is)
 
--- ---- a thread that stands nowhere leaves everything as it is
-
-module _ (o : Tables) (waiting : QueuedThreads) (thread : ℕ) (left : waiting.entries ≡ without_thread o.waiting.entries thread) (stands : StandsNowhere (object_in o) thread) where
-  abbrev parted : Tables
-  parted = record o { waiting = waiting }
-
-  record-parted : (queue : List ℕ) (r : Record) → times_in (waiting_at (Some (object_of o.threads queue r))) thread ≡ 0
-      → object_of o.threads (without thread queue) r ≡ object_of o.threads queue r
-  record-parted queue Endpoint none =
-      ap (λ l. object_of o.threads l Endpoint) (times-none-without queue thread (sym (times-parts (sending_in o.threads) queue thread) ∙ none))
-  record-parted queue (Notification word) none = ap (λ l. object_of o.threads l (Notification word)) (times-none-without queue thread none)
-  record-parted queue (CNode radix) none = refl
-  record-parted queue Frame none = refl
-  record-parted queue PageTable none = refl
-  record-parted queue RootTable none = refl
-
-  other-parted : (queue : List ℕ) (t : Option Thread) (r : Option Record)
-      → times_in (waiting_at (object_from t (option_map (object_of o.threads queue) r))) thread ≡ 0
-      → object_from t (option_map (object_of o.threads (without thread queue)) r) ≡ object_from t (option_map (object_of o.threads queue) r)
-  other-parted queue (Some t) r none = refl
-  other-parted queue None (Some r) none = ap Some (record-parted queue r none)
-  other-parted queue None None none = refl
-
-  pub object-parted : (other : ℕ) → object_in parted other ≡ object_in o other
-  object-parted other =
-      ap (λ l. object_from (thread_in o.threads other) (option_map (object_of o.threads l) (record_in o.records other)))
-      (ap (λ entries. queue_at entries other) left ∙ queue-part o.waiting.entries (λ t. t == thread) other)
-      ∙ other-parted (queue_at o.waiting.entries other) (thread_in o.threads other) (record_in o.records other) (stands.nowhere other)
-
-  pub parted-state : (slots : Slots) (memory : List ℕ) → state_of parted slots memory ≡ state_of o slots memory
-  unfolding state_of told_by
-  parted-state slots memory = λ i. record (state_of o slots memory) { objects = λ other. object-parted other i }
-
 -- ---- it stands behind all others
 
 -- where threads wait, no thread stands
@@ -102,15 +70,40 @@ no-thread-waits : (t : Option Thread) (p : Option Object) → has_waiting (optio
 no-thread-waits (Some t) p is = absurd (let clash : false ≡ true = is in cc)
 no-thread-waits None p is = refl
 
-pub free-queue : (o : Tables) (queue : ℕ) → has_waiting (kind_in o queue) ≡ true → thread_in o.threads queue ≡ None
-free-queue o queue = no-thread-waits (thread_in o.threads queue) _
+pub free-queue : (o : Tables) (slots : Slots) (memory : List ℕ) (queue : ℕ) → has_waiting (kind_at (state_of o slots memory) queue) ≡ true → thread_in o.threads queue ≡ None
+unfolding state_of told_by
+free-queue o slots memory queue = no-thread-waits (thread_in o.threads queue) _
 
-module _ (o : Tables) (threads : List (Option Thread)) (waiting : QueuedThreads) (queue thread : ℕ) (held : Thread) (sending : Option Sending)
+-- who waits at an object stands in its queue
+waits-queued : (threads : List (Option Thread)) (waiting : List ℕ) (thread : ℕ) (t : Option Thread) (r : Option Record)
+    → has_waiting (option_map kind_of (object_from t (option_map (object_of threads waiting) r))) ≡ true
+    → times_in (waiting_at (object_from t (option_map (object_of threads waiting) r))) thread ≡ times_in waiting thread
+waits-queued threads waiting thread None (Some Endpoint) is = times-parts (sending_in threads) waiting thread
+waits-queued threads waiting thread None (Some (Notification word)) is = refl
+waits-queued threads waiting thread (Some t) r is = absurd (let clash : false ≡ true = is in cc)
+waits-queued threads waiting thread None None is = absurd (let clash : false ≡ true = is in cc)
+waits-queued threads waiting thread None (Some (CNode radix)) is = absurd (let clash : false ≡ true = is in cc)
+waits-queued threads waiting thread None (Some Frame) is = absurd (let clash : false ≡ true = is in cc)
+waits-queued threads waiting thread None (Some PageTable) is = absurd (let clash : false ≡ true = is in cc)
+waits-queued threads waiting thread None (Some RootTable) is = absurd (let clash : false ≡ true = is in cc)
+
+-- so who waits at no object stands in no queue
+pub nowhere-queued : (o : Tables) (slots : Slots) (memory : List ℕ) (thread : ℕ) → Standing o slots memory → StandsNowhere (state_of o slots memory).objects thread
+    → (queue : ℕ) → times_in (queue_of o.waiting memory queue) thread ≡ 0
+unfolding state_of told_by
+nowhere-queued o slots memory thread stands apart queue = elim (cases_lt 0 (times_in (queue_of o.waiting memory queue) thread)) [
+  | inl some ↦
+      let waits = waits-queued o.threads (queue_of o.waiting memory queue) thread (thread_in o.threads queue) (record_in o.records queue) (stands.waited queue thread some) in
+      sym waits ∙ apart.nowhere queue
+  | inr few ↦ omega (arith, few)
+]
+
+module _ (o : Tables) (threads : List (Option Thread)) (waiting : QueuedThreads) (queue thread : ℕ) (held : Thread) (sending : Option Sending) (memory : List ℕ)
     (there : thread_in o.threads thread ≡ Some held)
     (free : thread_in o.threads queue ≡ None)
     (replaced : (other : ℕ) → thread_in threads other ≡ put (thread_in o.threads) thread (Some (record held { sending = sending })) other)
-    (pushed : waiting.entries ≡ o.waiting.entries ++ record { queue = queue; thread = thread } ∷ [])
-    (gone : times_queued o.waiting.entries thread ≡ 0) where
+    (queue-now : (other : ℕ) → queue_of waiting memory other ≡ put (queue_of o.waiting memory) queue (queue_of o.waiting memory queue ++ thread ∷ []) other)
+    (waits-not : (other : ℕ) → times_in (queue_of o.waiting memory other) thread ≡ 0) where
   abbrev now : Tables
   now = record o { threads = threads; waiting = waiting }
 
@@ -120,11 +113,8 @@ module _ (o : Tables) (threads : List (Option Thread)) (waiting : QueuedThreads)
   sends-this : sending_in threads thread ≡ sending
   sends-this = ap (option_and_then (λ t. t.sending)) (replaced thread ∙ put-here (thread_in o.threads) thread _)
 
-  waits-not : (other : ℕ) → times_in (queue_at o.waiting.entries other) thread ≡ 0
-  waits-not other = omega (arith, times-queue o.waiting.entries other thread, gone)
-
   abbrev before : List ℕ
-  before = queue_at o.waiting.entries queue
+  before = queue_of o.waiting memory queue
 
   old-senders : senders-by (sending_in threads) before ≡ senders-by (sending_in o.threads) before
   old-senders = senders-same (sending_in threads) (sending_in o.threads) thread before sends (waits-not queue)
@@ -156,46 +146,43 @@ module _ (o : Tables) (threads : List (Option Thread)) (waiting : QueuedThreads)
   other-joined None = refl
 
   -- the queue's own object, that of the thread, and the others
-  queue-now : (other : ℕ) → queue_at waiting.entries other ≡ put (queue_at o.waiting.entries) queue (before ++ thread ∷ []) other
-  queue-now other = ap (λ entries. queue_at entries other) pushed ∙ queue-push o.waiting.entries queue thread other
-
   apart-from : queue ≢ thread
   apart-from same = let clash : None ≡ Some held = sym free ∙ ap (thread_in o.threads) same ∙ there in cc
 
-  joined-here : object_in now queue ≡ option_map (joined thread sending) (object_in o queue)
+  joined-here : object_in now memory queue ≡ option_map (joined thread sending) (object_in o memory queue)
   joined-here =
-      ap (λ l. object_from (thread_in threads queue) (option_map (object_of threads l) (record_in o.records queue))) (queue-now queue ∙ put-here (queue_at o.waiting.entries) queue _)
+      ap (λ l. object_from (thread_in threads queue) (option_map (object_of threads l) (record_in o.records queue))) (queue-now queue ∙ put-here (queue_of o.waiting memory) queue _)
       ∙ ap (λ t. object_from t (option_map (object_of threads (before ++ thread ∷ [])) (record_in o.records queue)))
       (replaced queue ∙ put-there (thread_in o.threads) thread _ queue apart-from ∙ free)
       ∙ other-joined (record_in o.records queue)
       ∙ ap (λ t. option_map (joined thread sending) (object_from t (option_map (object_of o.threads before) (record_in o.records queue)))) (sym free)
 
-  thread-same : object_in now thread ≡ object_in o thread
+  thread-same : object_in now memory thread ≡ object_in o memory thread
   thread-same =
-      ap (λ t. object_from t (option_map (object_of threads (queue_at waiting.entries thread)) (record_in o.records thread))) (replaced thread ∙ put-here (thread_in o.threads) thread _)
-      ∙ ap (λ t. object_from t (option_map (object_of o.threads (queue_at o.waiting.entries thread)) (record_in o.records thread))) (sym there)
+      ap (λ t. object_from t (option_map (object_of threads (queue_of waiting memory thread)) (record_in o.records thread))) (replaced thread ∙ put-here (thread_in o.threads) thread _)
+      ∙ ap (λ t. object_from t (option_map (object_of o.threads (queue_of o.waiting memory thread)) (record_in o.records thread))) (sym there)
 
-  other-same-there : (other : ℕ) → other ≢ thread → other ≢ queue → object_in now other ≡ object_in o other
+  other-same-there : (other : ℕ) → other ≢ thread → other ≢ queue → object_in now memory other ≡ object_in o memory other
   other-same-there other from_thread from_queue =
-      ap (λ t. object_from t (option_map (object_of threads (queue_at waiting.entries other)) (record_in o.records other)))
+      ap (λ t. object_from t (option_map (object_of threads (queue_of waiting memory other)) (record_in o.records other)))
       (replaced other ∙ put-there (thread_in o.threads) thread _ other from_thread)
       ∙ ap (λ l. object_from (thread_in o.threads other) (option_map (object_of threads l) (record_in o.records other)))
-      (queue-now other ∙ put-there (queue_at o.waiting.entries) queue _ other from_queue)
+      (queue-now other ∙ put-there (queue_of o.waiting memory) queue _ other from_queue)
       ∙ ap (object_from (thread_in o.threads other))
-      (other-same o.threads threads thread (queue_at o.waiting.entries other) (record_in o.records other) sends (waits-not other))
+      (other-same o.threads threads thread (queue_of o.waiting memory other) (record_in o.records other) sends (waits-not other))
 
-  object-joined : (other : ℕ) → object_in now other ≡ put (object_in o) queue (option_map (joined thread sending) (object_in o queue)) other
+  object-joined : (other : ℕ) → object_in now memory other ≡ put (object_in o memory) queue (option_map (joined thread sending) (object_in o memory queue)) other
   object-joined other = elim (eqb_tells other queue) [
     | inl here ↦
-        ap (object_in now) here.1 ∙ joined-here
-        ∙ ap (λ b. if b then option_map (joined thread sending) (object_in o queue) else object_in o other) (sym here.0)
+        ap (object_in now memory) here.1 ∙ joined-here
+        ∙ ap (λ b. if b then option_map (joined thread sending) (object_in o memory queue) else object_in o memory other) (sym here.0)
     | inr apart ↦
         (elim (eqb_tells other thread) [
-          | inl here ↦ ap (object_in now) here.1 ∙ thread-same ∙ ap (object_in o) (sym here.1)
+          | inl here ↦ ap (object_in now memory) here.1 ∙ thread-same ∙ ap (object_in o memory) (sym here.1)
           | inr differs ↦ other-same-there other differs.1 apart.1
-        ]) ∙ ap (λ b. if b then option_map (joined thread sending) (object_in o queue) else object_in o other) (sym apart.0)
+        ]) ∙ ap (λ b. if b then option_map (joined thread sending) (object_in o memory queue) else object_in o memory other) (sym apart.0)
   ]
 
-  pub joined-state : (slots : Slots) (memory : List ℕ) → state_of now slots memory ≡ changed_at (state_of o slots memory) queue (joined thread sending)
+  pub joined-state : (slots : Slots) → state_of now slots memory ≡ changed_at (state_of o slots memory) queue (joined thread sending)
   unfolding state_of told_by
-  joined-state slots memory = λ i. record (state_of o slots memory) { objects = λ other. object-joined other i }
+  joined-state slots = λ i. record (state_of o slots memory) { objects = λ other. object-joined other i }

@@ -8,6 +8,7 @@ pub mod FramePlaces
 pub mod Frames
 pub mod Fresh
 pub mod Joining
+pub mod InQueues
 pub mod Kept
 pub mod Leaving
 pub mod Lines
@@ -15,6 +16,6 @@ pub mod Lists
 pub mod Repliers
 pub mod Replacing
 pub mod Serving
+pub mod Stepping
 pub mod Stranded
 pub mod Vacating
-pub mod Waking

@@ -1,5 +1,5 @@
 -- A thread is replaced by one that sends the same.
-use Rattle.std.proofs.Common.{ℕ, ◌≡◌, ◌∙◌, ◌==◌, ◌/◌, ◌%◌, ◌<◌, inl, inr, Bool, true, false, if◌then◌else◌, Option, Some, None, is_some, option_map, List, [], ◌∷◌, ◌++◌, length, refl, sym, ap}
+use Rattle.std.proofs.Common.{ℕ, ◌≡◌, ◌∙◌, ◌==◌, ◌/◌, ◌%◌, ◌<◌, inl, inr, Bool, true, false, if◌then◌else◌, Option, Some, None, is_some, option_map, List, [], length, refl, sym, ap}
 use Rattle.std.specs.Prelude.{option_and_then, slice_index_or}
 use Rattle.std.specs.Option.{option_map_or}
 use Rattle.std.proofs.lemmas.Bool.{cases_lt}
@@ -13,7 +13,6 @@ use Rattle.model.specs.Kernel.Scheduling.{at_tail, is_runnable, to_tail, unready
 use Rattle.model.specs.Kernel.State.{EndpointObject, Object, State, ThreadObject, ThreadState, new_thread, put, thread_at, with_thread}
 use Rattle.model.specs.Kernel.ThreadCalls.{with_priority}
 use Rattle.model.specs.Machine.ProgramMemory.{RegisterFile}
-use Rattle.model.specs.Shared.Lists.{without}
 use Rattle.objects.proofs.Ends.{as-thread}
 use Rattle.objects.proofs.Kept.{put-here, put-there}
 use Rattle.objects.proofs.Lists.{receivers-by, senders-by}
@@ -24,8 +23,7 @@ use Rattle.objects.specs.declared.records.Record.{Record}
 use Rattle.objects.specs.declared.records.Record.TheVariants.{Endpoint, Notification, CNode, Frame, PageTable, RootTable}
 use Rattle.objects.specs.declared.records.Status.TheVariants.{Runnable}
 use Rattle.objects.specs.declared.records.Thread.{Thread}
-use Rattle.queues.proofs.Parts.{queue-part, queue-push}
-use Rattle.queues.specs.Queues.{QueuedThreads, queue_at, without_thread}
+use Rattle.queues.specs.Queues.{QueuedThreads, queue_of}
 
 -- ---- threads that are there
 
@@ -33,7 +31,17 @@ use Rattle.queues.specs.Queues.{QueuedThreads, queue_at, without_thread}
 pub thread-state : (o : Tables) (offset : ℕ) (slots : Slots) (memory : List ℕ)
     → thread_at (state_of o slots memory) offset ≡ option_map_or (λ t. t) (option_map thread_state (thread_in o.threads offset)) new_thread
 unfolding state_of told_by
-thread-state o offset slots memory = ap (λ t. option_map_or (λ t. t) t new_thread) (as-thread o offset)
+thread-state o offset slots memory = ap (λ t. option_map_or (λ t. t) t new_thread) (as-thread o memory offset)
+
+pub thread-is : (o : Tables) (offset : ℕ) (t : Thread) (slots : Slots) (memory : List ℕ) → thread_in o.threads offset ≡ Some t
+    → thread_at (state_of o slots memory) offset ≡ thread_state t
+thread-is o offset t slots memory is =
+    thread-state o offset slots memory ∙ ap (λ found. option_map_or (λ t. t) (option_map thread_state found) new_thread) is
+
+pub thread-kind : (o : Tables) (offset : ℕ) (t : Thread) (slots : Slots) (memory : List ℕ) → thread_in o.threads offset ≡ Some t
+    → kind_at (state_of o slots memory) offset ≡ Some NewThread
+unfolding state_of told_by
+thread-kind o offset t slots memory is = ap (λ found. option_map kind_of (object_from found (option_map (object_of o.threads (queue_of o.waiting memory offset)) (record_in o.records offset)))) is
 
 pub registers-of : (o : Tables) (offset : ℕ) (slots : Slots) (memory : List ℕ)
     → (thread_at (state_of o slots memory) offset).registers
@@ -68,10 +76,10 @@ no-thread-kind threads waiting (Some RootTable) is = cc
 
 pub thread-there : (o : Tables) (offset : ℕ) → kind_in o offset ≡ Some NewThread → is_some (thread_in o.threads offset) ≡ true
 thread-there o offset =
-    elim (thread_in o.threads offset) as (λ t. option_map kind_of (object_from t (option_map (object_of o.threads (queue_at o.waiting.entries offset)) (record_in o.records offset))) ≡ Some NewThread
+    elim (thread_in o.threads offset) as (λ t. option_map kind_of (object_from t (option_map (object_of o.threads []) (record_in o.records offset))) ≡ Some NewThread
     → is_some t ≡ true) [
       | Some t ↦ λ is. refl
-      | None ↦ λ is. no-thread-kind o.threads (queue_at o.waiting.entries offset) (record_in o.records offset) is
+      | None ↦ λ is. no-thread-kind o.threads [] (record_in o.records offset) is
     ]
 
 -- what stands somewhere has an entry
@@ -129,16 +137,16 @@ module _ (o : Tables) (threads : List (Option Thread)) (thread : ℕ) (after : T
   from-put true t p = refl
   from-put false t p = refl
 
-  object-replaced : (other : ℕ) → object_in now other ≡ put (object_in o) thread (Some (ThreadObject (thread_state after))) other
-  object-replaced other =
-      ap (λ t. object_from t (option_map (object_of threads (queue_at o.waiting.entries other)) (record_in o.records other))) (replaced other)
+  object-replaced : (memory : List ℕ) (other : ℕ) → object_in now memory other ≡ put (object_in o memory) thread (Some (ThreadObject (thread_state after))) other
+  object-replaced memory other =
+      ap (λ t. object_from t (option_map (object_of threads (queue_of o.waiting memory other)) (record_in o.records other))) (replaced other)
       ∙ from-put (other == thread) (thread_in o.threads other) _
       ∙ ap (λ p. if other == thread then Some (ThreadObject (thread_state after)) else object_from (thread_in o.threads other) p)
-      (other-still (queue_at o.waiting.entries other) (record_in o.records other))
+      (other-still (queue_of o.waiting memory other) (record_in o.records other))
 
   pub replaced-state : (slots : Slots) (memory : List ℕ) → state_of now slots memory ≡ with_thread (state_of o slots memory) thread (thread_state after)
   unfolding state_of told_by
-  replaced-state slots memory = λ i. record (state_of o slots memory) { objects = λ other. object-replaced other i }
+  replaced-state slots memory = λ i. record (state_of o slots memory) { objects = λ other. object-replaced memory other i }
 
 -- ---- the state with other registers of a thread
 
@@ -160,38 +168,20 @@ registered-state o threads offset registers changed there slots memory =
 
 -- ---- the ready list
 
-pub unready-state : (o : Tables) (ready : QueuedThreads) (thread : ℕ) → ready.entries ≡ without_thread o.ready.entries thread → (slots : Slots) (memory : List ℕ)
-    → state_of (record o { ready = ready }) slots memory ≡ unready (state_of o slots memory) thread
+pub ready-state : (o : Tables) (ready : QueuedThreads) (slots : Slots) (memory : List ℕ) (queues : ℕ → List ℕ) → ((priority : ℕ) → queue_of ready memory priority ≡ queues priority)
+    → state_of (record o { ready = ready }) slots memory ≡ record (state_of o slots memory) { ready = queues }
 unfolding state_of told_by
-unready-state o ready thread left slots memory = λ i. record (state_of o slots memory) {
-  ready = λ priority. (ap (λ entries. queue_at entries priority) left ∙ queue-part o.ready.entries (λ other. other == thread) priority) i;
-}
+ready-state o ready slots memory queues is = λ i. record (state_of o slots memory) { ready = λ priority. is priority i }
 
--- it stands behind all others of its priority
-module _ (o : Tables) (ready : QueuedThreads) (thread priority : ℕ) (slots : Slots) (memory : List ℕ)
-    (own : priority ≡ (thread_at (state_of o slots memory) thread).priority)
-    (pushed : ready.entries ≡ without_thread o.ready.entries thread ++ record { queue = priority; thread = thread } ∷ []) where
-  ready-pushed : (other : ℕ) → queue_at ready.entries other
-      ≡ put (λ p. without thread (queue_at o.ready.entries p)) priority (without thread (queue_at o.ready.entries priority) ++ thread ∷ []) other
-  ready-pushed other =
-      ap (λ entries. queue_at entries other) pushed
-      ∙ queue-push (without_thread o.ready.entries thread) priority thread other
-      ∙ (λ i. put (λ p. queue-part o.ready.entries (λ other. other == thread) p i) priority
-      (queue-part o.ready.entries (λ other. other == thread) priority i ++ thread ∷ []) other)
-
-  pub tail-state : state_of (record o { ready = ready }) slots memory ≡ to_tail (state_of o slots memory) thread
-  unfolding state_of told_by
-  tail-state = λ i. record (state_of o slots memory) {
-    ready = λ other. (ready-pushed other
-        ∙ ap (λ (p : ℕ). put (λ q. without thread (queue_at o.ready.entries q)) p (without thread (queue_at o.ready.entries p) ++ thread ∷ []) other) own) i;
-  }
+-- the ready list is the table's
+pub ready-is : (o : Tables) (slots : Slots) (memory : List ℕ) → (state_of o slots memory).ready ≡ queue_of o.ready memory
+unfolding state_of told_by
+ready-is o slots memory = refl
 
 -- ---- priorities
 
-pub replaced-there : (o n : Tables) (offset : ℕ) (t : ThreadState)
-    → ((slots : Slots) (memory : List ℕ) → state_of n slots memory ≡ with_thread (state_of o slots memory) offset t) → kind_in n offset ≡ Some NewThread
-unfolding state_of told_by
-replaced-there o n offset t is = ap (λ (s : State). kind_at s offset) (is (λ _. None) []) ∙ ap (option_map kind_of) (put-here (object_in o) offset (Some (ThreadObject t)))
+pub replaced-there : (s n : State) (offset : ℕ) (t : ThreadState) → n ≡ with_thread s offset t → kind_at n offset ≡ Some NewThread
+replaced-there s n offset t is = ap (λ (s : State). kind_at s offset) is ∙ ap (option_map kind_of) (put-here s.objects offset (Some (ThreadObject t)))
 
 -- a thread that runs goes to the tail of its new priority
 module _ (s : State) (thread priority : ℕ) (held : Thread) (is : thread_state held ≡ thread_at s thread) where

@@ -1,15 +1,11 @@
 -- The first of those that wait at an object leaves.
-use Rattle.std.proofs.Common.{ℕ, ◌≡◌, ◌∙◌, inl, inr, true, false, if◌then◌else◌, Option, Some, None, is_some, option_map, List, ◌∷◌, drop, refl, sym, ap, arith}
-use Rattle.std.specs.Prelude.{All}
+use Rattle.std.proofs.Common.{ℕ, ◌≡◌, ◌∙◌, inl, inr, if◌then◌else◌, Option, Some, None, option_map, List, ◌∷◌, drop, refl, sym, ap, arith}
 use Rattle.std.proofs.lemmas.Bool.Decides.{eqb_tells}
 use Rattle.model.specs.Capabilities.Slots.{Slots}
-use Rattle.model.specs.Kernel.Kinds.{kind_of}
-use Rattle.model.specs.Kernel.Retype.{NewThread}
 use Rattle.model.specs.Kernel.Scheduling.{head_of}
-use Rattle.model.specs.Kernel.State.{EndpointObject, Object, put}
-use Rattle.objects.proofs.Ends.{not-queued}
+use Rattle.model.specs.Kernel.State.{EndpointObject, put}
 use Rattle.objects.proofs.Lists.{receivers-by, senders-by}
-use Rattle.objects.specs.Tables.{Tables, WaitsThere, kind_in, object_from, object_in, object_of, record_in, sending_in, state_of, thread_in, told_by}
+use Rattle.objects.specs.Tables.{Tables, object_from, object_in, object_of, record_in, sending_in, state_of, thread_in, told_by}
 use Rattle.objects.specs.Threads.{sender_of}
 use Rattle.objects.specs.Waiting.{changed_at, served}
 use Rattle.objects.specs.declared.records.Record.{Record}
@@ -17,9 +13,7 @@ use Rattle.objects.specs.declared.records.Record.TheVariants.{Endpoint, Notifica
 use Rattle.objects.specs.declared.records.Sending.{Sending}
 use Rattle.objects.specs.declared.records.Thread.{Thread}
 use Rattle.queues.proofs.Parts.{head-rest}
-use Rattle.queues.proofs.Standings.{queue-first}
-use Rattle.queues.specs.Queues.{QueuedThreads, queue_at, times_queued, without_thread}
-use Rattle.queues.specs.declared.lists.Queued.{Queued}
+use Rattle.queues.specs.Queues.{QueuedThreads, queue_of}
 
 -- ---- the first of a list of those that wait
 
@@ -39,39 +33,19 @@ pub first-receives : (sends : ℕ → Option Sending) (thread : ℕ) (rest : Lis
     → receivers-by sends (thread ∷ rest) ≡ thread ∷ receivers-by sends rest
 first-receives sends thread rest is = grind (arith, is)
 
--- what waits is there
-pub waiting-there : (records : List (Option Record)) (threads : List (Option Thread)) (thread : ℕ) (entries : List Queued) → All (WaitsThere records threads) entries
-    → times_queued entries thread ≡ 1 → is_some (thread_in threads thread) ≡ true
-waiting-there records threads thread entries there once =
-    elim (thread_in threads thread) as (λ t. thread_in threads thread ≡ t → is_some t ≡ true) [
-      | Some t ↦ λ is. refl
-      | None ↦ λ is. absurd (let none = not-queued records threads thread entries is there in omega (arith, none, once))
-    ] refl
-
-some-thread : (t : Option Thread) (p : Option Object) → is_some t ≡ true → option_map kind_of (object_from t p) ≡ Some NewThread
-some-thread (Some t) p some = refl
-some-thread None p some = absurd (let clash : false ≡ true = some in cc)
-
-pub kind-there : (o : Tables) (thread : ℕ) → is_some (thread_in o.threads thread) ≡ true → kind_in o thread ≡ Some NewThread
-kind-there o thread = some-thread (thread_in o.threads thread) _
-
 -- ---- the state without it
 
-module _ (o : Tables) (waiting : QueuedThreads) (queue thread : ℕ)
-    (left : waiting.entries ≡ without_thread o.waiting.entries thread)
-    (first : head_of (queue_at o.waiting.entries queue) ≡ Some thread)
-    (once : times_queued o.waiting.entries thread ≡ 1) where
+module _ (o : Tables) (waiting : QueuedThreads) (queue thread : ℕ) (memory : List ℕ)
+    (queue-now : (other : ℕ) → queue_of waiting memory other ≡ put (queue_of o.waiting memory) queue (drop 1 (queue_of o.waiting memory queue)) other)
+    (first : head_of (queue_of o.waiting memory queue) ≡ Some thread) where
   abbrev now : Tables
   now = record o { waiting = waiting }
 
   abbrev rest : List ℕ
-  rest = drop 1 (queue_at o.waiting.entries queue)
+  rest = drop 1 (queue_of o.waiting memory queue)
 
-  whole : queue_at o.waiting.entries queue ≡ thread ∷ rest
-  whole = head-rest (queue_at o.waiting.entries queue) thread first
-
-  queue-now : (other : ℕ) → queue_at waiting.entries other ≡ put (queue_at o.waiting.entries) queue rest other
-  queue-now other = ap (λ entries. queue_at entries other) left ∙ queue-first o.waiting.entries queue thread rest other (omega (arith, once)) whole
+  whole : queue_of o.waiting memory queue ≡ thread ∷ rest
+  whole = head-rest (queue_of o.waiting memory queue) thread first
 
   abbrev sending : Option Sending
   sending = sending_in o.threads thread
@@ -100,21 +74,21 @@ module _ (o : Tables) (waiting : QueuedThreads) (queue thread : ℕ)
   other-served None (Some r) = ap Some (record-served r)
   other-served None None = refl
 
-  object-served : (other : ℕ) → object_in now other ≡ put (object_in o) queue (option_map (served sending) (object_in o queue)) other
+  object-served : (other : ℕ) → object_in now memory other ≡ put (object_in o memory) queue (option_map (served sending) (object_in o memory queue)) other
   object-served other =
       ap (λ l. object_from (thread_in o.threads other) (option_map (object_of o.threads l) (record_in o.records other))) (queue-now other)
       ∙ (elim (eqb_tells other queue) [
         | inl here ↦
-            ap (λ b. object_from (thread_in o.threads other) (option_map (object_of o.threads (if b then rest else queue_at o.waiting.entries other)) (record_in o.records other))) here.0
+            ap (λ b. object_from (thread_in o.threads other) (option_map (object_of o.threads (if b then rest else queue_of o.waiting memory other)) (record_in o.records other))) here.0
             ∙ ap (λ n. object_from (thread_in o.threads n) (option_map (object_of o.threads rest) (record_in o.records n))) here.1
             ∙ other-served (thread_in o.threads queue) (record_in o.records queue)
             ∙ ap (λ l. option_map (served sending) (object_from (thread_in o.threads queue) (option_map (object_of o.threads l) (record_in o.records queue)))) (sym whole)
-            ∙ ap (λ b. if b then option_map (served sending) (object_in o queue) else object_in o other) (sym here.0)
+            ∙ ap (λ b. if b then option_map (served sending) (object_in o memory queue) else object_in o memory other) (sym here.0)
         | inr apart ↦
-            ap (λ b. object_from (thread_in o.threads other) (option_map (object_of o.threads (if b then rest else queue_at o.waiting.entries other)) (record_in o.records other))) apart.0
-            ∙ ap (λ b. if b then option_map (served sending) (object_in o queue) else object_in o other) (sym apart.0)
+            ap (λ b. object_from (thread_in o.threads other) (option_map (object_of o.threads (if b then rest else queue_of o.waiting memory other)) (record_in o.records other))) apart.0
+            ∙ ap (λ b. if b then option_map (served sending) (object_in o memory queue) else object_in o memory other) (sym apart.0)
       ])
 
-  pub served-state : (slots : Slots) (memory : List ℕ) → state_of now slots memory ≡ changed_at (state_of o slots memory) queue (served sending)
+  pub served-state : (slots : Slots) → state_of now slots memory ≡ changed_at (state_of o slots memory) queue (served sending)
   unfolding state_of told_by
-  served-state slots memory = λ i. record (state_of o slots memory) { objects = λ other. object-served other i }
+  served-state slots = λ i. record (state_of o slots memory) { objects = λ other. object-served other i }

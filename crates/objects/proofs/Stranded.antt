@@ -6,8 +6,12 @@ use Rattle.std.proofs.lemmas.Bool.Decides.{eqb_tells}
 use Rattle.model.specs.Capabilities.Slots.{Slots}
 use Rattle.model.specs.Kernel.Scheduling.{full_slice, wake}
 use Rattle.model.specs.Kernel.State.{Object, State, Status, Inactive, Runnable, Blocked, AwaitsReply, AwaitsHandler, ThreadObject, ThreadState, as_thread, put, slot_numbers, thread_at}
+use Rattle.objects.proofs.Begun.{woken-one}
 use Rattle.objects.proofs.Ends.{as-thread}
+use Rattle.objects.proofs.Frames.{Unmoved, moved-to, records-then, same-records, same-state}
 use Rattle.objects.proofs.Kept.{put-there}
+use Rattle.objects.specs.Frames.{SameBesideRecords}
+use Rattle.objects.specs.Standing.{Standing}
 use Rattle.objects.specs.Tables.{Tables, state_of, thread_in, told_by}
 use Rattle.objects.specs.Threads.{status_of, thread_state}
 use Rattle.objects.specs.declared.records.Thread.{Thread}
@@ -19,13 +23,13 @@ pub stranded-at : (o : Tables) (offset : ℕ) (t : Thread) (slots : Slots) (memo
     → is_stranded (state_of o slots memory) offset ≡ waits_nowhere (state_of o slots memory) (status_of t.status)
 unfolding state_of told_by
 stranded-at o offset t slots memory there =
-    ap (λ p. option_map_or (λ x. waits_nowhere (state_of o slots memory) x.status) p false) (as-thread o offset ∙ ap (option_map thread_state) there)
+    ap (λ p. option_map_or (λ x. waits_nowhere (state_of o slots memory) x.status) p false) (as-thread o memory offset ∙ ap (option_map thread_state) there)
 
 pub stranded-nobody : (o : Tables) (offset : ℕ) (slots : Slots) (memory : List ℕ) → thread_in o.threads offset ≡ None
     → is_stranded (state_of o slots memory) offset ≡ false
 unfolding state_of told_by
 stranded-nobody o offset slots memory none =
-    ap (λ p. option_map_or (λ x. waits_nowhere (state_of o slots memory) x.status) p false) (as-thread o offset ∙ ap (option_map thread_state) none)
+    ap (λ p. option_map_or (λ x. waits_nowhere (state_of o slots memory) x.status) p false) (as-thread o memory offset ∙ ap (option_map thread_state) none)
 
 -- ---- one that is woken leaves the others so
 
@@ -99,3 +103,40 @@ pub sweep-on : (s t : State) (first count : ℕ) → first < count → t ≡ wok
 sweep-on s t first count less is =
     let left : suc (count - (first + 1)) ≡ count - first = omega (arith, less) in
     ap (λ (x : State). swept x (first + 1) (count - (first + 1))) is ∙ sym (sweep-step s first (count - (first + 1))) ∙ ap (λ (n : ℕ). swept s first n) left
+
+-- ---- the loop over all places
+
+-- what is left to be swept leaves what sweeping all would; the objects are the same, and only bytes of records changed
+pub record SweptSoFar (o n : Tables) (before after : Slots) (old new : List ℕ) (number count : ℕ) : Type 0 where
+  pub left : swept (state_of n after new) number (count - number) ≡ woken (state_of o before old)
+  pub unmoved : Unmoved (state_of o before old) (state_of n after new)
+  pub bytes : SameBesideRecords (state_of o before old) old new
+  pub slots : after ≡ before
+  pub stands : Standing n after new
+
+pub swept-first : (o : Tables) (slots : Slots) (memory : List ℕ) (count : ℕ) → count ≡ 2 ^ o.bits / 16 → Standing o slots memory → SweptSoFar o o slots slots memory memory 0 count
+swept-first o slots memory count is stands = record {
+  left = swept-all o slots memory count is;
+  unmoved = same-state (state_of o slots memory);
+  bytes = same-records (state_of o slots memory) memory;
+  slots = refl;
+  stands = stands;
+}
+
+pub swept-next : (o m n : Tables) (before mid after : Slots) (old half new : List ℕ) (number count : ℕ) → SweptSoFar o m before mid old half number count → number < count
+    → state_of n after new ≡ woken-if (state_of m mid half) (16 * number) → SameBesideRecords (state_of m mid half) half new → after ≡ mid → Standing n after new
+    → SweptSoFar o n before after old new (number + 1) count
+swept-next o m n before mid after old half new number count sofar less is bytes same stands =
+    let step = moved-to (state_of m mid half) (state_of n after new) _ is (woken-one (state_of m mid half) (16 * number)) in
+    record {
+      left = sweep-on (state_of m mid half) (state_of n after new) number count less is ∙ sofar.left;
+      unmoved = record {
+        kinds = λ offset. step.kinds offset ∙ sofar.unmoved.kinds offset;
+        bytes = step.bytes ∙ sofar.unmoved.bytes;
+        slots = step.slots ∙ sofar.unmoved.slots;
+        bits = step.bits ∙ sofar.unmoved.bits;
+      };
+      bytes = records-then (state_of o before old) (state_of m mid half) old half new (λ offset k k_is. sym (sofar.unmoved.kinds offset) ∙ k_is) sofar.bytes bytes;
+      slots = same ∙ sofar.slots;
+      stands = stands;
+    }

@@ -47,6 +47,11 @@ pub record IsInRecord (objects : ℕ → Option Object) (place : ℕ) : Type 0 w
   pub from : offset + slot_bytes kind ≤ place
   pub below : place < offset + 2 ^ object_bits kind
 
+-- the bytes that stand in no record are the same
+pub record SameBesideRecords (s : State) (old new : List ℕ) : Type 0 where
+  pub size : length new ≡ length old
+  pub bytes : (place : ℕ) → (IsInRecord s.objects place → ⊥) → slice_index new place ≡ slice_index old place
+
 -- the bytes that stand in no such object are the same
 pub record SameBesideObjects (s : State) (old new : List ℕ) : Type 0 where
   pub size : length new ≡ length old

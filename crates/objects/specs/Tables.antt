@@ -1,6 +1,6 @@
 -- The tables, and the state that they stand for together with the slots and the bytes of memory.
 -- seL4 Reference Manual, "Kernel Services and Objects".
-use Rattle.std.specs.Prelude.{ℕ, ◌≡◌, ◌==◌, ◌*◌, ◌/◌, ◌%◌, ◌^◌, ◌≤◌, Bool, true, false, not, if◌then◌else◌, Option, Some, None, is_some, option_map, option_and_then, List, All, filter, filter_map, length, slice_index, slice_index_or}
+use Rattle.std.specs.Prelude.{ℕ, ◌≡◌, ◌==◌, ◌*◌, ◌/◌, ◌%◌, ◌^◌, ◌≤◌, Bool, true, false, not, if◌then◌else◌, Option, Some, None, is_some, option_map, option_and_then, List, [], filter, filter_map, length, slice_index, slice_index_or}
 use Rattle.std.specs.Option.{option_map_or}
 use Rattle.model.specs.Capabilities.Slots.{Slots}
 use Rattle.model.specs.Kernel.Kinds.{frame_around, kind_of}
@@ -13,8 +13,7 @@ use Rattle.objects.specs.declared.records.Record.{Record}
 use Rattle.objects.specs.declared.records.Record.TheVariants as records
 use Rattle.objects.specs.declared.records.Sending.{Sending}
 use Rattle.objects.specs.declared.records.Thread.{Thread}
-use Rattle.queues.specs.Queues.{QueuedThreads, queue_at}
-use Rattle.queues.specs.declared.lists.Queued.{Queued}
+use Rattle.queues.specs.Queues.{QueuedThreads, queue_of}
 
 -- ---- tables
 
@@ -66,13 +65,16 @@ abbrev pub object_from : Option Thread → Option Object → Option Object
 object_from (Some t) other = Some (ThreadObject (thread_state t))
 object_from None other = other
 
-abbrev pub object_in : Tables → ℕ → Option Object
-object_in o offset =
-    object_from (thread_in o.threads offset) (option_map (object_of o.threads (queue_at o.waiting.entries offset)) (record_in o.records offset))
+-- an object, if these wait at it
+abbrev pub object_with : Tables → List ℕ → ℕ → Option Object
+object_with o waiting offset = object_from (thread_in o.threads offset) (option_map (object_of o.threads waiting) (record_in o.records offset))
 
--- the type of the object at an offset
+abbrev pub object_in : Tables → List ℕ → ℕ → Option Object
+object_in o memory offset = object_with o (queue_of o.waiting memory offset) offset
+
+-- the type of the object at an offset, whoever waits at it
 abbrev pub kind_in : Tables → ℕ → Option NewObject
-kind_in o offset = option_map kind_of (object_in o offset)
+kind_in o offset = option_map kind_of (object_with o [] offset)
 
 -- ---- the state
 
@@ -95,9 +97,9 @@ told_by o memory = record {
   memory_bits = o.bits;
   boot_radix = o.radix;
   slots = λ slot. None;
-  objects = object_in o;
+  objects = object_in o memory;
   bytes = byte_in o.records memory;
-  ready = queue_at o.ready.entries;
+  ready = queue_of o.ready memory;
   masked = λ line. slice_index_or o.masked line false;
   pending = λ line. slice_index_or o.pending line false;
 }
@@ -108,19 +110,6 @@ state_of o slots memory = with_slots (told_by o memory) slots
 
 -- ---- what is always true of the tables
 
-abbrev pub has_queue : Record → Bool
-has_queue records.Endpoint = true
-has_queue (records.Notification word) = true
-has_queue (records.CNode radix) = false
-has_queue records.Frame = false
-has_queue records.PageTable = false
-has_queue records.RootTable = false
-
--- a thread that waits is there, and so is what it waits at
-pub record WaitsThere (records : List (Option Record)) (threads : List (Option Thread)) (entry : Queued) : Type 0 where
-  pub queue : option_map_or has_queue (record_in records entry.queue) false ≡ true
-  pub thread : is_some (thread_in threads entry.thread) ≡ true
-
 pub record AreTables (o : Tables) : Type 0 where
   pub least_bits : 16 ≤ o.bits
   pub most_bits : o.bits ≤ 24
@@ -130,7 +119,6 @@ pub record AreTables (o : Tables) : Type 0 where
   pub thread_places : 512 * length o.threads ≡ 2 ^ o.bits
   pub waiting_room : o.waiting.limit ≡ length o.threads
   pub ready_room : o.ready.limit ≡ length o.threads
-  pub waits_there : All (WaitsThere o.records o.threads) o.waiting.entries
   pub nodes : (offset radix : ℕ) → record_in o.records offset ≡ Some (records.CNode radix) → radix ≤ 14
 
 -- what the table holds of a new object that is no thread

@@ -15,7 +15,8 @@ ghost use Rattle.objects.specs.Threads.{new_object};
 ghost use Rattle.removals.specs.Finishing.{woken};
 ghost use Rattle.removals.specs.Steps.{object_ended};
 
-use crate::{Kind, Objects};
+use crate::records::{Kind, Thread};
+use crate::tables::{LEAST_SIZE, Objects, record_of};
 use model::Slot;
 use slots::SlotStore;
 
@@ -85,7 +86,8 @@ impl Objects {
         ensures order { S.order store.new ≡ S.order store.old }
         ensures stands { Standing self.new (S.slots store.new) (S.memory store.new) }
     {
-        self.end_at(offset);
+        self.forget_at(store, offset);
+        self.vacate(store, offset);
     }
 
     /// A new object stands at an offset where nothing does. What memory holds there are the bytes of a frame.
@@ -102,7 +104,10 @@ impl Objects {
         ensures order { S.order store.new ≡ S.order store.old }
         ensures stands { Standing self.new (S.slots store.new) (S.memory store.new) }
     {
-        self.begin_at(offset, kind);
+        match record_of(kind) {
+            None => self.threads.put(offset, Thread::new()),
+            Some(record) => self.records.put(LEAST_SIZE, offset, record),
+        }
     }
 
     /// Threads that wait at objects that are gone run again, in rising order of their offsets.
@@ -115,6 +120,9 @@ impl Objects {
         ensures order { S.order store.new ≡ S.order store.old }
         ensures stands { Standing self.new (S.slots store.new) (S.memory store.new) }
     {
-        self.wake_all_stranded();
+        let count = self.count_places();
+        'places: for number in 0..count {
+            self.wake_if_stranded(store, LEAST_SIZE * number);
+        }
     }
 }

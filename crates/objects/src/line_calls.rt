@@ -64,8 +64,9 @@ impl Objects {
     /// Masks a line, or takes its mask away.
     fn set_masked_at(&mut self, line: u8, bit: bool)
         requires { line < 64 }
-        ensures { (slots : Slots) (memory : List ℕ) → state_of self.new slots memory
+        ensures state { (slots : Slots) (memory : List ℕ) → state_of self.new slots memory
             ≡ record (state_of self.old slots memory) { masked = put (state_of self.old slots memory).masked line bit } }
+        ensures tables { self.new ≡ record self.old { masked = self.new.masked } }
     {
         self.masked[usize::from(line)] = bit;
     }
@@ -73,8 +74,9 @@ impl Objects {
     /// An interrupt of a line stands pending, or none does.
     fn set_pending_at(&mut self, line: u8, bit: bool)
         requires { line < 64 }
-        ensures { (slots : Slots) (memory : List ℕ)
+        ensures state { (slots : Slots) (memory : List ℕ)
             → state_of self.new slots memory ≡ with_pending (state_of self.old slots memory) line bit }
+        ensures tables { self.new ≡ record self.old { pending = self.new.pending } }
     {
         self.pending[usize::from(line)] = bit;
     }

@@ -37,7 +37,7 @@ impl Objects {
         ensures order { S.order store.new ≡ S.order store.old }
         ensures stands { Standing self.new (S.slots store.new) (S.memory store.new) }
     {
-        self.push_sender_at(endpoint, thread, sending);
+        self.enqueue(store, endpoint, thread, Some(sending));
     }
 
     /// A thread that waits nowhere waits behind the others at an endpoint where nobody sends, to receive.
@@ -55,7 +55,7 @@ impl Objects {
         ensures order { S.order store.new ≡ S.order store.old }
         ensures stands { Standing self.new (S.slots store.new) (S.memory store.new) }
     {
-        self.push_receiver_at(endpoint, thread);
+        self.enqueue(store, endpoint, thread, None);
     }
 
     /// A thread that waits nowhere waits behind the others at a notification.
@@ -72,7 +72,7 @@ impl Objects {
         ensures order { S.order store.new ≡ S.order store.old }
         ensures stands { Standing self.new (S.slots store.new) (S.memory store.new) }
     {
-        self.push_waiter_at(notification, thread);
+        self.enqueue(store, notification, thread, None);
     }
 
     /// Takes the first thread that waits at an endpoint to send, with what it sends.
@@ -91,7 +91,14 @@ impl Objects {
         ensures order { S.order store.new ≡ S.order store.old }
         ensures stands { Standing self.new (S.slots store.new) (S.memory store.new) }
     {
-        self.take_sender_at(endpoint)
+        let Some(thread) = self.first_waiting(store, endpoint) else {
+            return None;
+        };
+        let Some(sending) = self.sending_of(thread) else {
+            return None;
+        };
+        self.serve(store, endpoint, thread);
+        Some(WaitingSender { thread, sending })
     }
 
     /// Takes the first thread that waits at an endpoint to receive.
@@ -106,7 +113,14 @@ impl Objects {
         ensures order { S.order store.new ≡ S.order store.old }
         ensures stands { Standing self.new (S.slots store.new) (S.memory store.new) }
     {
-        self.take_receiver_at(endpoint)
+        let Some(thread) = self.first_waiting(store, endpoint) else {
+            return None;
+        };
+        if self.sending_of(thread).is_some() {
+            return None;
+        }
+        self.serve(store, endpoint, thread);
+        Some(thread)
     }
 
     /// Takes the first thread that waits at a notification.
@@ -120,7 +134,11 @@ impl Objects {
         ensures order { S.order store.new ≡ S.order store.old }
         ensures stands { Standing self.new (S.slots store.new) (S.memory store.new) }
     {
-        self.take_waiter_at(notification)
+        let Some(thread) = self.first_waiting(store, notification) else {
+            return None;
+        };
+        self.serve(store, notification, thread);
+        Some(thread)
     }
 
     /// The word of a notification, or 0 where none is.

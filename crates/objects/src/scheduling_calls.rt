@@ -11,15 +11,17 @@ ghost use Rattle.objects.specs.Frames.{SameObjects};
 ghost use Rattle.objects.specs.Standing.{Standing};
 ghost use Rattle.objects.specs.Tables.{state_of};
 
+use crate::records::{Status, Thread};
 use crate::tables::Objects;
 use slots::SlotStore;
 
 impl Objects {
     /// The current thread: the first of the greatest priority, if any is ready.
+    #[tactic(auto, unfolding(crate::specs::Tables::state_of, crate::specs::Tables::told_by))]
     pub fn current<S: SlotStore>(&self, store: &S) -> Option<u32>
         ensures { result ≡ current (state_of self.now (S.slots store.now) (S.memory store.now)) }
     {
-        self.running()
+        self.ready.current(store)
     }
 
     /// How many ticks a thread runs on before it goes to the tail of its priority.
@@ -56,11 +58,12 @@ impl Objects {
         ensures order { S.order store.new ≡ S.order store.old }
         ensures stands { Standing self.new (S.slots store.new) (S.memory store.new) }
     {
-        self.to_tail_at(thread);
+        let held = self.thread_or_new(thread);
+        self.ready.leave(store, thread);
+        self.ready.push(store, u32::from(held.priority), thread);
     }
 
     /// Sets the priority of a thread: one that runs goes to its tail, with the slice that it has.
-    #[tactic(auto, unfolding(crate::specs::Tables::state_of, crate::specs::Tables::told_by))]
     pub fn set_priority<S: SlotStore>(&mut self, store: &mut S, thread: u32, priority: u8)
         requires there { kind_at (state_of self.old (S.slots store.old) (S.memory store.old)) thread ≡ Some NewThread }
         requires stands { Standing self.old (S.slots store.old) (S.memory store.old) }
@@ -71,7 +74,15 @@ impl Objects {
         ensures order { S.order store.new ≡ S.order store.old }
         ensures stands { Standing self.new (S.slots store.new) (S.memory store.new) }
     {
-        self.set_priority_at(thread, priority);
+        let held = self.thread_or_new(thread);
+        self.replace(thread, Thread { priority, ..held });
+        match held.status {
+            Status::Runnable => self.to_tail(store, thread),
+            Status::Inactive
+            | Status::Blocked { .. }
+            | Status::AwaitsReply
+            | Status::AwaitsHandler => {}
+        }
     }
 
     /// A thread leaves every queue and the ready list, and nobody has the right to reply to it any more.
@@ -86,6 +97,6 @@ impl Objects {
         ensures order { S.order store.new ≡ S.order store.old }
         ensures stands { Standing self.new (S.slots store.new) (S.memory store.new) }
     {
-        self.forget(thread);
+        self.forget(store, thread);
     }
 }

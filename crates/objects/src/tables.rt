@@ -8,19 +8,22 @@ ghost use Rattle.model.specs.Kernel.Removal.{slot_count};
 ghost use Rattle.model.specs.Kernel.Scheduling.{all_leave, leaves, wake};
 ghost use Rattle.model.specs.Kernel.Setup.{boot_area, is_frame_object};
 ghost use Rattle.model.specs.Kernel.State.{as_thread, binding_slot, with_slots};
-ghost use Rattle.objects.specs.Changes.{MayStand, begun, vacated, voided};
+ghost use Rattle.model.specs.Shared.Lists.{times_in};
+ghost use Rattle.objects.specs.Changes.{vacated};
+ghost use Rattle.objects.specs.Frames.{SameBesideRecords};
 ghost use Rattle.objects.specs.Standing.{Standing};
 ghost use Rattle.objects.specs.Tables.{is_frame, object_in, record_in, record_of, state_of, thread_in};
 ghost use Rattle.objects.specs.Threads.{status_of};
-ghost use Rattle.queues.specs.Queues.{times_queued};
-ghost use Rattle.removals.specs.Finishing.{is_stranded, waits_nowhere, woken};
-ghost use Rattle.removals.specs.Steps.{ends_thread, object_ended};
+ghost use Rattle.queues.specs.Queues.{queue_of};
+ghost use Rattle.removals.specs.Finishing.{is_stranded, waits_nowhere};
+ghost use Rattle.removals.specs.Steps.{ends_thread};
 
 use crate::places::Places;
 use crate::records::{Kind, Record, Status, Thread};
 use crate::thread_places::ThreadPlaces;
 use model::Slot;
 use queues::{Queues, ReadyList};
+use slots::SlotStore;
 use std::alloc::{AllocError, Global};
 use std::marker::Model;
 
@@ -128,7 +131,7 @@ impl Objects {
 
     /// How many slots the object has that starts at an offset.
     pub(crate) fn count_slots(&self, offset: u32) -> u32
-        ensures { result ≡ slot_count (object_in self.now offset) }
+        ensures { (memory : List ℕ) → result ≡ slot_count (object_in self.now memory offset) }
     {
         if self.thread_at(offset).is_some() {
             return 2;
@@ -141,21 +144,21 @@ impl Objects {
 
     /// Whether an object starts at an offset.
     fn is_there(&self, offset: u32) -> bool
-        ensures { result ≡ is_some (object_in self.now offset) }
+        ensures { (memory : List ℕ) → result ≡ is_some (object_in self.now memory offset) }
     {
         self.thread_at(offset).is_some() || self.records.get(LEAST_SIZE, offset).is_some()
     }
 
     /// Whether the object at an offset is a thread.
     pub(crate) fn has_thread(&self, offset: u32) -> bool
-        ensures { result ≡ is_some (as_thread (object_in self.now offset)) }
+        ensures { (memory : List ℕ) → result ≡ is_some (as_thread (object_in self.now memory offset)) }
     {
         self.thread_at(offset).is_some()
     }
 
     /// Whether the object at an offset is a frame.
     pub(crate) fn has_frame(&self, offset: u32) -> bool
-        ensures { result ≡ is_frame_object (object_in self.now offset) }
+        ensures { (memory : List ℕ) → result ≡ is_frame_object (object_in self.now memory offset) }
     {
         self.thread_at(offset).is_none()
             && matches!(self.records.get(LEAST_SIZE, offset), Some(Record::Frame))
@@ -171,53 +174,67 @@ impl Objects {
     }
 
     /// A thread leaves every queue and the ready list, and nobody has the right to reply to it any more.
-    pub(crate) fn forget(&mut self, thread: u32)
-        ensures state { (slots : Slots) (memory : List ℕ)
-            → state_of self.new slots memory ≡ leaves (state_of self.old slots memory) thread }
-        ensures gone { times_queued self.new.waiting.entries thread ≡ 0 }
+    pub(crate) fn forget<S: SlotStore>(&mut self, store: &mut S, thread: u32)
+        requires stands { Standing self.old (S.slots store.old) (S.memory store.old) }
+        ensures state { state_of self.new (S.slots store.new) (S.memory store.new)
+            ≡ leaves (state_of self.old (S.slots store.old) (S.memory store.old)) thread }
+        ensures slots { S.slots store.new ≡ S.slots store.old }
+        ensures bytes { SameBesideRecords (state_of self.old (S.slots store.old) (S.memory store.old)) (S.memory store.old) (S.memory store.new) }
+        ensures order { S.order store.new ≡ S.order store.old }
+        ensures stands { Standing self.new (S.slots store.new) (S.memory store.new) }
+        ensures waits_not { (queue : ℕ) → times_in (queue_of self.new.waiting (S.memory store.new) queue) thread ≡ 0 }
+        ensures ready_not { (priority : ℕ) → times_in (queue_of self.new.ready (S.memory store.new) priority) thread ≡ 0 }
     {
-        self.waiting.leave(thread);
-        self.ready.leave(thread);
+        self.waiting.leave(store, thread);
+        self.ready.leave(store, thread);
         self.threads.void_rights(thread);
     }
 
     /// If the object at an offset is a thread, it leaves what it waits for.
-    fn forget_at(&mut self, offset: u32)
-        ensures state { (slots : Slots) (memory : List ℕ) → state_of self.new slots memory
-            ≡ all_leave (state_of self.old slots memory) (ends_thread (state_of self.old slots memory) offset) }
-        ensures gone { times_queued self.new.waiting.entries offset ≡ 0 }
+    pub(crate) fn forget_at<S: SlotStore>(&mut self, store: &mut S, offset: u32)
+        requires stands { Standing self.old (S.slots store.old) (S.memory store.old) }
+        ensures state { state_of self.new (S.slots store.new) (S.memory store.new)
+            ≡ all_leave (state_of self.old (S.slots store.old) (S.memory store.old)) (ends_thread (state_of self.old (S.slots store.old) (S.memory store.old)) offset) }
+        ensures slots { S.slots store.new ≡ S.slots store.old }
+        ensures bytes { SameBesideRecords (state_of self.old (S.slots store.old) (S.memory store.old)) (S.memory store.old) (S.memory store.new) }
+        ensures order { S.order store.new ≡ S.order store.old }
+        ensures stands { Standing self.new (S.slots store.new) (S.memory store.new) }
+        ensures waits_not { (queue : ℕ) → times_in (queue_of self.new.waiting (S.memory store.new) queue) offset ≡ 0 }
+        ensures ready_not { (priority : ℕ) → times_in (queue_of self.new.ready (S.memory store.new) priority) offset ≡ 0 }
     {
         if self.threads.get(offset).is_none() {
             return;
         }
-        self.forget(offset);
+        self.forget(store, offset);
     }
 
-    /// Nothing stands at an offset any more. No thread that stands there waits.
-    fn vacate(&mut self, offset: u32)
-        requires { times_queued self.old.waiting.entries offset ≡ 0 }
-        ensures { (slots : Slots) (memory : List ℕ)
-            → state_of self.new slots memory ≡ vacated (state_of self.old slots memory) offset }
+    /// Nothing stands at an offset any more. No thread that stands there waits or is ready.
+    pub(crate) fn vacate<S: SlotStore>(&mut self, store: &mut S, offset: u32)
+        requires waits_not { (queue : ℕ) → times_in (queue_of self.old.waiting (S.memory store.old) queue) offset ≡ 0 }
+        requires ready_not { (priority : ℕ) → times_in (queue_of self.old.ready (S.memory store.old) priority) offset ≡ 0 }
+        requires stands { Standing self.old (S.slots store.old) (S.memory store.old) }
+        ensures state { state_of self.new (S.slots store.new) (S.memory store.new)
+            ≡ vacated (state_of self.old (S.slots store.old) (S.memory store.old)) offset }
+        ensures slots { S.slots store.new ≡ S.slots store.old }
+        ensures bytes { SameBesideRecords (state_of self.old (S.slots store.old) (S.memory store.old)) (S.memory store.old) (S.memory store.new) }
+        ensures order { S.order store.new ≡ S.order store.old }
+        ensures stands { Standing self.new (S.slots store.new) (S.memory store.new) }
     {
-        self.waiting.end(offset);
+        self.waiting.end(store, offset);
         self.records.clear(LEAST_SIZE, offset);
         self.threads.clear(offset);
     }
 
-    /// The object at an offset ends: a thread leaves every queue.
-    pub(crate) fn end_at(&mut self, offset: u32)
-        ensures { (slots : Slots) (memory : List ℕ)
-            → state_of self.new slots memory ≡ object_ended (state_of self.old slots memory) offset }
-    {
-        self.forget_at(offset);
-        self.vacate(offset);
-    }
-
     /// Makes a thread runnable that does not run: it goes to the tail of its priority, with a full slice.
-    pub(crate) fn wake_at(&mut self, offset: u32, thread: Thread)
-        requires { thread_in self.old.threads offset ≡ Some thread }
-        ensures { (slots : Slots) (memory : List ℕ)
-            → state_of self.new slots memory ≡ wake (state_of self.old slots memory) offset }
+    pub(crate) fn wake_at<S: SlotStore>(&mut self, store: &mut S, offset: u32, thread: Thread)
+        requires there { thread_in self.old.threads offset ≡ Some thread }
+        requires stands { Standing self.old (S.slots store.old) (S.memory store.old) }
+        ensures state { state_of self.new (S.slots store.new) (S.memory store.new)
+            ≡ wake (state_of self.old (S.slots store.old) (S.memory store.old)) offset }
+        ensures slots { S.slots store.new ≡ S.slots store.old }
+        ensures bytes { SameBesideRecords (state_of self.old (S.slots store.old) (S.memory store.old)) (S.memory store.old) (S.memory store.new) }
+        ensures order { S.order store.new ≡ S.order store.old }
+        ensures stands { Standing self.new (S.slots store.new) (S.memory store.new) }
     {
         let woken = Thread {
             status: Status::Runnable,
@@ -225,8 +242,8 @@ impl Objects {
             ..thread
         };
         self.threads.put(offset, woken);
-        self.ready.leave(offset);
-        self.ready.push(u32::from(thread.priority), offset);
+        self.ready.leave(store, offset);
+        self.ready.push(store, u32::from(thread.priority), offset);
     }
 
     /// Whether a thread waits at an object that is gone.
@@ -245,48 +262,29 @@ impl Objects {
 
     /// Wakes the thread at an offset, if one is there that waits at an object that is gone.
     #[tactic(auto, unfolding(crate::specs::Tables::state_of, crate::specs::Tables::told_by))]
-    fn wake_if_stranded(&mut self, offset: u32)
-        ensures { (slots : Slots) (memory : List ℕ) → state_of self.new slots memory
-            ≡ (if is_stranded (state_of self.old slots memory) offset
-            then wake (state_of self.old slots memory) offset else state_of self.old slots memory) }
+    pub(crate) fn wake_if_stranded<S: SlotStore>(&mut self, store: &mut S, offset: u32)
+        requires stands { Standing self.old (S.slots store.old) (S.memory store.old) }
+        ensures state { state_of self.new (S.slots store.new) (S.memory store.new)
+            ≡ (if is_stranded (state_of self.old (S.slots store.old) (S.memory store.old)) offset
+            then wake (state_of self.old (S.slots store.old) (S.memory store.old)) offset else (state_of self.old (S.slots store.old) (S.memory store.old))) }
+        ensures slots { S.slots store.new ≡ S.slots store.old }
+        ensures bytes { SameBesideRecords (state_of self.old (S.slots store.old) (S.memory store.old)) (S.memory store.old) (S.memory store.new) }
+        ensures order { S.order store.new ≡ S.order store.old }
+        ensures stands { Standing self.new (S.slots store.new) (S.memory store.new) }
     {
         if let Some(thread) = self.thread_at(offset) {
             if self.waits_nowhere(&thread) {
-                self.wake_at(offset, thread);
+                self.wake_at(store, offset, thread);
             }
         }
     }
 
     /// How many places there are where an object may start.
-    fn count_places(&self) -> u32
+    pub(crate) fn count_places(&self) -> u32
         ensures value { result ≡ 2 ^ self.now.bits / 16 }
         ensures most { result ≤ 2 ^ 20 }
     {
         power(self.bits) / LEAST_SIZE
-    }
-
-    /// Threads that wait at objects that are gone run again, in rising order of their offsets.
-    pub(crate) fn wake_all_stranded(&mut self)
-        ensures { (slots : Slots) (memory : List ℕ)
-            → state_of self.new slots memory ≡ woken (state_of self.old slots memory) }
-    {
-        let count = self.count_places();
-        'places: for number in 0..count {
-            self.wake_if_stranded(LEAST_SIZE * number);
-        }
-    }
-
-    /// A new object stands at an offset. What memory holds there are the bytes of a new frame.
-    pub(crate) fn begin_at(&mut self, offset: u32, kind: Kind)
-        requires free { object_in self.old offset ≡ None }
-        requires fits { MayStand self.old.bits kind offset }
-        ensures { (slots : Slots) (memory : List ℕ)
-            → state_of self.new slots memory ≡ begun (state_of self.old slots memory) memory kind offset }
-    {
-        match record_of(kind) {
-            None => self.threads.put(offset, Thread::new()),
-            Some(record) => self.records.put(LEAST_SIZE, offset, record),
-        }
     }
 }
 
@@ -307,7 +305,7 @@ fn quiet() -> [bool; 64]
 }
 
 /// What the table holds of a new object that is no thread.
-fn record_of(kind: Kind) -> Option<Record>
+pub(crate) fn record_of(kind: Kind) -> Option<Record>
     ensures { result ≡ record_of kind }
 {
     match kind {

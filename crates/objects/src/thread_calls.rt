@@ -11,7 +11,7 @@ ghost use Rattle.objects.specs.Standing.{Standing};
 ghost use Rattle.objects.specs.Tables.{state_of};
 ghost use Rattle.objects.specs.Threads.{status_of};
 
-use crate::records::Status;
+use crate::records::{Status, Thread};
 use crate::tables::Objects;
 use rv32_exec::Regs;
 use slots::SlotStore;
@@ -116,7 +116,9 @@ impl Objects {
         ensures order { S.order store.new ≡ S.order store.old }
         ensures stands { Standing self.new (S.slots store.new) (S.memory store.new) }
     {
-        self.block_at(thread, status);
+        let held = self.thread_or_new(thread);
+        self.replace(thread, Thread { status, ..held });
+        self.unready(store, thread);
     }
 
     /// Makes a thread runnable that does not run: it goes to the tail of its priority, with a full slice.
@@ -131,6 +133,7 @@ impl Objects {
         ensures order { S.order store.new ≡ S.order store.old }
         ensures stands { Standing self.new (S.slots store.new) (S.memory store.new) }
     {
-        self.wake_thread_at(thread);
+        let held = self.thread_or_new(thread);
+        self.wake_at(store, thread, held);
     }
 }

@@ -1,152 +1,76 @@
 //! Who waits at endpoints and notifications, and their words.
 
-ghost use Rattle.std.specs.Prelude.{ℕ, ◌≡◌, ◌∷◌, ◌++◌, [], List, Some, None, IfSome, true};
+ghost use Rattle.std.specs.Prelude.{ℕ, ◌≡◌, List, Some, true};
 ghost use Rattle.model.specs.Capabilities.Slots.{Slots};
-ghost use Rattle.model.specs.Kernel.Retype.{NewEndpoint, NewNotification, NewThread};
+ghost use Rattle.model.specs.Kernel.Kinds.{kind_at};
+ghost use Rattle.model.specs.Kernel.Retype.{NewNotification, NewThread};
 ghost use Rattle.model.specs.Kernel.Scheduling.{head_of};
-ghost use Rattle.model.specs.Kernel.State.{endpoint_at, notification_at, with_endpoint, with_notification};
-ghost use Rattle.objects.specs.Tables.{kind_in, object_in, sending_in, state_of, thread_in};
-ghost use Rattle.objects.specs.Threads.{sender_of};
-ghost use Rattle.objects.specs.Waiting.{IsOneSided, ReceiverTaken, SenderTaken, StandsNowhere, WaiterTaken, changed_at, has_waiting, joined, served, with_receiver, with_sender, with_waiter, with_word};
-ghost use Rattle.queues.specs.Queues.{queue_at, times_queued};
+ghost use Rattle.model.specs.Kernel.State.{notification_at};
+ghost use Rattle.objects.specs.Frames.{SameBesideRecords};
+ghost use Rattle.objects.specs.Standing.{Standing};
+ghost use Rattle.objects.specs.Tables.{kind_in, sending_in, state_of};
+ghost use Rattle.objects.specs.Waiting.{StandsNowhere, changed_at, has_waiting, joined, served, with_word};
+ghost use Rattle.queues.specs.Queues.{queue_of};
 
-use crate::records::{Record, Sending, Thread, WaitingSender};
+use crate::records::{Record, Sending, Thread};
 use crate::tables::{LEAST_SIZE, Objects};
+use slots::SlotStore;
 
 impl Objects {
-    /// A thread that waits nowhere has no entry any more.
-    fn part(&mut self, thread: u32)
-        requires { StandsNowhere (object_in self.old) thread }
-        ensures objects { (offset : ℕ) → object_in self.new offset ≡ object_in self.old offset }
-        ensures state { (slots : Slots) (memory : List ℕ) → state_of self.new slots memory ≡ state_of self.old slots memory }
-        ensures gone { times_queued self.new.waiting.entries thread ≡ 0 }
-    {
-        self.waiting.leave(thread);
-    }
-
-    /// A thread without an entry stands behind those that wait at an object, to send this or to receive.
-    fn enqueue(&mut self, queue: u32, thread: u32, sending: Option<Sending>)
-        requires gone { times_queued self.old.waiting.entries thread ≡ 0 }
-        requires there { kind_in self.old thread ≡ Some NewThread }
-        requires queue { has_waiting (kind_in self.old queue) ≡ true }
-        ensures { (slots : Slots) (memory : List ℕ) → state_of self.new slots memory
-            ≡ changed_at (state_of self.old slots memory) queue (joined thread sending) }
+    /// A thread that stands in no queue stands behind those that wait at an object, to send this or to receive.
+    pub(crate) fn enqueue<S: SlotStore>(
+        &mut self,
+        store: &mut S,
+        queue: u32,
+        thread: u32,
+        sending: Option<Sending>,
+    )
+        requires apart { StandsNowhere (state_of self.old (S.slots store.old) (S.memory store.old)).objects thread }
+        requires there { kind_at (state_of self.old (S.slots store.old) (S.memory store.old)) thread ≡ Some NewThread }
+        requires queue { has_waiting (kind_at (state_of self.old (S.slots store.old) (S.memory store.old)) queue) ≡ true }
+        requires stands { Standing self.old (S.slots store.old) (S.memory store.old) }
+        ensures state { state_of self.new (S.slots store.new) (S.memory store.new)
+            ≡ changed_at (state_of self.old (S.slots store.old) (S.memory store.old)) queue (joined thread sending) }
+        ensures slots { S.slots store.new ≡ S.slots store.old }
+        ensures bytes { SameBesideRecords (state_of self.old (S.slots store.old) (S.memory store.old)) (S.memory store.old) (S.memory store.new) }
+        ensures order { S.order store.new ≡ S.order store.old }
+        ensures stands { Standing self.new (S.slots store.new) (S.memory store.new) }
     {
         let held = self.thread_or_new(thread);
         self.threads.put(thread, Thread { sending, ..held });
-        self.waiting.push(queue, thread);
+        self.waiting.push(store, queue, thread);
     }
 
     /// The first of those that wait at an object leaves.
-    fn serve(&mut self, queue: u32, thread: u32)
-        requires first { head_of (queue_at self.old.waiting.entries queue) ≡ Some thread }
-        requires once { times_queued self.old.waiting.entries thread ≡ 1 }
-        ensures state { (slots : Slots) (memory : List ℕ) → state_of self.new slots memory
-            ≡ changed_at (state_of self.old slots memory) queue (served (sending_in self.old.threads thread)) }
-        ensures there { kind_in self.new thread ≡ Some NewThread }
+    pub(crate) fn serve<S: SlotStore>(&mut self, store: &mut S, queue: u32, thread: u32)
+        requires first { head_of (queue_of self.old.waiting (S.memory store.old) queue) ≡ Some thread }
+        requires stands { Standing self.old (S.slots store.old) (S.memory store.old) }
+        ensures state { state_of self.new (S.slots store.new) (S.memory store.new)
+            ≡ changed_at (state_of self.old (S.slots store.old) (S.memory store.old)) queue (served (sending_in self.old.threads thread)) }
+        ensures slots { S.slots store.new ≡ S.slots store.old }
+        ensures bytes { SameBesideRecords (state_of self.old (S.slots store.old) (S.memory store.old)) (S.memory store.old) (S.memory store.new) }
+        ensures order { S.order store.new ≡ S.order store.old }
+        ensures stands { Standing self.new (S.slots store.new) (S.memory store.new) }
+        ensures there { kind_at (state_of self.new (S.slots store.new) (S.memory store.new)) thread ≡ Some NewThread }
     {
-        self.waiting.leave(thread);
+        self.waiting.pop(store, queue);
     }
 
-    /// A thread that waits nowhere waits behind the others at an endpoint, to send this.
-    pub(crate) fn push_sender_at(&mut self, endpoint: u32, thread: u32, sending: Sending)
-        requires endpoint { kind_in self.old endpoint ≡ Some NewEndpoint }
-        requires there { kind_in self.old thread ≡ Some NewThread }
-        requires apart { StandsNowhere (object_in self.old) thread }
-        ensures { (slots : Slots) (memory : List ℕ) → state_of self.new slots memory
-            ≡ with_sender (state_of self.old slots memory) endpoint (sender_of thread sending) }
+    /// The first thread that waits at an object.
+    pub(crate) fn first_waiting<S: SlotStore>(&self, store: &S, queue: u32) -> Option<u32>
+        ensures { result ≡ head_of (queue_of self.now.waiting (S.memory store.now) queue) }
     {
-        self.part(thread);
-        self.enqueue(endpoint, thread, Some(sending));
-    }
-
-    /// A thread that waits nowhere waits behind the others at an endpoint, to receive.
-    pub(crate) fn push_receiver_at(&mut self, endpoint: u32, thread: u32)
-        requires endpoint { kind_in self.old endpoint ≡ Some NewEndpoint }
-        requires there { kind_in self.old thread ≡ Some NewThread }
-        requires apart { StandsNowhere (object_in self.old) thread }
-        ensures { (slots : Slots) (memory : List ℕ) → state_of self.new slots memory
-            ≡ with_receiver (state_of self.old slots memory) endpoint thread }
-    {
-        self.part(thread);
-        self.enqueue(endpoint, thread, None);
-    }
-
-    /// A thread that waits nowhere waits behind the others at a notification.
-    pub(crate) fn push_waiter_at(&mut self, notification: u32, thread: u32)
-        requires notification { kind_in self.old notification ≡ Some NewNotification }
-        requires there { kind_in self.old thread ≡ Some NewThread }
-        requires apart { StandsNowhere (object_in self.old) thread }
-        ensures { (slots : Slots) (memory : List ℕ) → state_of self.new slots memory
-            ≡ with_waiter (state_of self.old slots memory) notification thread }
-    {
-        self.part(thread);
-        self.enqueue(notification, thread, None);
-    }
-
-    /// The first thread that waits at an object, which waits nowhere else.
-    fn first_waiting(&self, queue: u32) -> Option<u32>
-        ensures first { result ≡ head_of (queue_at self.now.waiting.entries queue) }
-        ensures once { IfSome result (λ thread. times_queued self.now.waiting.entries thread ≡ 1) }
-    {
-        self.waiting.first(queue)
+        self.waiting.first(store, queue)
     }
 
     /// What a thread sends, if it does.
-    fn sending_of(&self, thread: u32) -> Option<Sending>
+    pub(crate) fn sending_of(&self, thread: u32) -> Option<Sending>
         ensures { result ≡ sending_in self.now.threads thread }
     {
         match self.thread_at(thread) {
             Some(held) => held.sending,
             None => None,
         }
-    }
-
-    /// Takes the first thread that waits at an endpoint to send, with what it sends.
-    pub(crate) fn take_sender_at(&mut self, endpoint: u32) -> Option<WaitingSender>
-        requires endpoint { kind_in self.old endpoint ≡ Some NewEndpoint }
-        requires one_sided { (slots : Slots) (memory : List ℕ) → IsOneSided (endpoint_at (state_of self.old slots memory) endpoint) }
-        ensures { (slots : Slots) (memory : List ℕ)
-            → SenderTaken (state_of self.old slots memory) endpoint result (state_of self.new slots memory) }
-    {
-        let Some(thread) = self.first_waiting(endpoint) else {
-            return None;
-        };
-        let Some(sending) = self.sending_of(thread) else {
-            return None;
-        };
-        self.serve(endpoint, thread);
-        Some(WaitingSender { thread, sending })
-    }
-
-    /// Takes the first thread that waits at an endpoint to receive.
-    pub(crate) fn take_receiver_at(&mut self, endpoint: u32) -> Option<u32>
-        requires endpoint { kind_in self.old endpoint ≡ Some NewEndpoint }
-        requires one_sided { (slots : Slots) (memory : List ℕ) → IsOneSided (endpoint_at (state_of self.old slots memory) endpoint) }
-        ensures { (slots : Slots) (memory : List ℕ)
-            → ReceiverTaken (state_of self.old slots memory) endpoint result (state_of self.new slots memory) }
-    {
-        let Some(thread) = self.first_waiting(endpoint) else {
-            return None;
-        };
-        if self.sending_of(thread).is_some() {
-            return None;
-        }
-        self.serve(endpoint, thread);
-        Some(thread)
-    }
-
-    /// Takes the first thread that waits at a notification.
-    pub(crate) fn take_waiter_at(&mut self, notification: u32) -> Option<u32>
-        requires { kind_in self.old notification ≡ Some NewNotification }
-        ensures { (slots : Slots) (memory : List ℕ)
-            → WaiterTaken (state_of self.old slots memory) notification result (state_of self.new slots memory) }
-    {
-        let Some(thread) = self.first_waiting(notification) else {
-            return None;
-        };
-        self.serve(notification, thread);
-        Some(thread)
     }
 
     /// The word of the notification at an offset, or 0 where none is.
@@ -167,8 +91,9 @@ impl Objects {
     /// Sets the word of a notification.
     pub(crate) fn set_word_at(&mut self, notification: u32, word: u32)
         requires { kind_in self.old notification ≡ Some NewNotification }
-        ensures { (slots : Slots) (memory : List ℕ) → state_of self.new slots memory
+        ensures state { (slots : Slots) (memory : List ℕ) → state_of self.new slots memory
             ≡ with_word (state_of self.old slots memory) notification word }
+        ensures tables { self.new ≡ record self.old { records = self.new.records } }
     {
         self.records
             .put(LEAST_SIZE, notification, Record::Notification { word });

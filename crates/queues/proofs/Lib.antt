@@ -1,4 +1,5 @@
 pub mod Rooms
 pub mod Parts
 pub mod Standings
+pub mod Contracts
 pub mod Greatest

@@ -1,5 +1,5 @@
--- All queues in one list of entries: of those of one queue, the first comes first.
-use Rattle.std.specs.Prelude.{ℕ, ◌≡◌, ◌==◌, ◌<◌, ◌≤◌, ◌/◌, ◌%◌, ◌&&◌, true, not, nat_lt, if◌then◌else◌, Option, Some, None, List, [], filter, map}
+-- The queues as callers see them, and how this form keeps them: all in one list of entries, where of those of one queue the first comes first.
+use Rattle.std.specs.Prelude.{ℕ, ◌≡◌, ◌==◌, ◌+◌, ◌<◌, ◌≤◌, ◌/◌, ◌%◌, ◌&&◌, true, not, nat_lt, if◌then◌else◌, Option, Some, None, List, [], filter, length, map, slice_index}
 use Rattle.std.specs.Option.{option_map_or}
 use Rattle.model.specs.Kernel.Scheduling.{head_of}
 use Rattle.model.specs.Shared.Lists.{times_in}
@@ -29,6 +29,35 @@ pub record StandOnce (entries : List Queued) (limit : ℕ) : Type 0 where
   pub once : (thread : ℕ) → times_queued entries thread ≤ 1
   pub aligned : (thread : ℕ) → 0 < times_queued entries thread → thread % 512 ≡ 0
   pub within : (thread : ℕ) → 0 < times_queued entries thread → thread / 512 < limit
+
+-- ---- what callers see
+
+-- the threads of a queue: another form has links to them in the bytes of memory, and this one nothing
+unfoldable pub queue_of : QueuedThreads → List ℕ → ℕ → List ℕ
+queue_of queues memory queue = queue_at queues.entries queue
+
+-- what each call that changes queues relies on and leaves true: another form has here that its links are well formed
+pub record QueuesStand (queues : QueuedThreads) (memory : List ℕ) : Type 0 where
+  pub once : StandOnce queues.entries queues.limit
+
+-- a place behind the two slots of a thread, and one in an object at which threads wait
+abbrev pub IsInThread : ℕ → ℕ → Type 0
+IsInThread thread place = (thread + 32 ≤ place) × (place < thread + 512)
+
+abbrev pub IsInPoint : ℕ → ℕ → Type 0
+IsInPoint queue place = (queue ≤ place) × (place < queue + 16)
+
+-- all bytes but those of threads that stand in queues are the same
+pub record SameBesideThreads (queues : ℕ → List ℕ) (old new : List ℕ) : Type 0 where
+  pub size : length new ≡ length old
+  pub bytes : (place : ℕ) → ((queue thread : ℕ) → 0 < times_in (queues queue) thread → IsInThread thread place → ⊥)
+      → slice_index new place ≡ slice_index old place
+
+-- all bytes but those of threads that stand in queues, and of what they wait at, are the same
+pub record SameBesideWaiting (queues : ℕ → List ℕ) (old new : List ℕ) : Type 0 where
+  pub size : length new ≡ length old
+  pub bytes : (place : ℕ) → ((queue thread : ℕ) → 0 < times_in (queues queue) thread → IsInThread thread place → ⊥)
+      → ((queue thread : ℕ) → 0 < times_in (queues queue) thread → IsInPoint queue place → ⊥) → slice_index new place ≡ slice_index old place
 
 -- ---- the greatest queue below a bound
 

@@ -1,21 +1,20 @@
--- The tables change, and the store does not.
-use Rattle.std.proofs.Common.{refl}
-use Rattle.model.specs.Kernel.State.{NotificationObject}
-use Rattle.objects.proofs.Frames.{kind-put, moved-to, same-objects, stands-unmoved}
+-- It stands behind the others, and the objects are the same.
+use Rattle.std.proofs.Common.{◌∙◌, None, ap}
+use Rattle.objects.proofs.Endpoints.{changed-notification}
+use Rattle.objects.proofs.Frames.{kind-joined, moved-to, one-changed, same-objects}
 use Rattle.objects.proofs.tables.Objects.push_waiter.Goals as goal
 use Rattle.objects.specs.Tables.{state_of}
+use Rattle.objects.specs.Waiting.{has_waiting, joined}
+
+pub enqueue-requires-clause-queue : goal.enqueue-requires-clause-queue
+enqueue-requires-clause-queue g c = ap has_waiting c.requires.notification
 
 pub returns-clause-state : goal.returns-clause-state
-returns-clause-state g c = c.push_waiter_at.ensures _ _
+returns-clause-state g c =
+    let before = state_of c.args.self.now (g.S.SlotMap.slots c.args.store.now) (g.S.SlotStore.memory c.args.store.now) in
+    c.enqueue.ensures.state ∙ changed-notification before c.args.notification (joined c.args.thread None) c.requires.notification
 
 pub returns-clause-bytes : goal.returns-clause-bytes
 returns-clause-bytes g c =
     let before = state_of c.args.self.now (g.S.SlotMap.slots c.args.store.now) (g.S.SlotStore.memory c.args.store.now) in
-    same-objects before _ (g.S.SlotStore.memory c.args.store.now)
-    (moved-to before _ _ (c.push_waiter_at.ensures _ _) (record { kinds = kind-put before.objects c.args.notification (NotificationObject _) c.requires.notification; bytes = refl; slots = refl; bits = refl }))
-
-pub returns-clause-stands : goal.returns-clause-stands
-returns-clause-stands g c =
-    let before = state_of c.args.self.now (g.S.SlotMap.slots c.args.store.now) (g.S.SlotStore.memory c.args.store.now) in
-    stands-unmoved c.args.self.now _ (g.S.SlotMap.slots c.args.store.now) (g.S.SlotStore.memory c.args.store.now) c.requires.stands
-    (moved-to before _ _ (c.push_waiter_at.ensures _ _) (record { kinds = kind-put before.objects c.args.notification (NotificationObject _) c.requires.notification; bytes = refl; slots = refl; bits = refl }))
+    same-objects before _ _ _ (moved-to before _ _ c.enqueue.ensures.state (one-changed before c.args.notification (joined c.args.thread None) (kind-joined c.args.thread None))) c.enqueue.ensures.bytes

@@ -3,8 +3,8 @@ use Rattle.std.proofs.Common.{◌≡◌, ◌<◌, length, arith}
 use Rattle.objects.proofs.Lines.{masked-state}
 use Rattle.objects.proofs.tables.Objects.set_masked_at.Goals as goal
 
-pub returns : goal.returns
-returns c = λ slots memory.
+pub returns-clause-state : goal.returns-clause-state
+returns-clause-state c = λ slots memory.
     let line : c.from.result ≡ c.args.line = c.from.ensures in
     let less : c.from.result < length c.self.inside.masked = omega (arith, line, c.requires, c.self.told.0) in
     masked-state _ c.args.self.now c.from.result c.args.line c.args.bit line c.self.view_is slots memory less

@@ -3,8 +3,8 @@ use Rattle.std.proofs.Common.{◌≡◌, ◌<◌, length, arith}
 use Rattle.objects.proofs.Lines.{pending-state}
 use Rattle.objects.proofs.tables.Objects.set_pending_at.Goals as goal
 
-pub returns : goal.returns
-returns c = λ slots memory.
+pub returns-clause-state : goal.returns-clause-state
+returns-clause-state c = λ slots memory.
     let line : c.from.result ≡ c.args.line = c.from.ensures in
     let less : c.from.result < length c.self.inside.pending = omega (arith, line, c.requires, c.self.told.1) in
     pending-state _ c.args.self.now c.from.result c.args.line c.args.bit line c.self.view_is slots memory less

@@ -1,16 +1,37 @@
--- The tables change, and the store does not.
-use Rattle.objects.proofs.Frames.{same-objects, sender-taken, stands-unmoved}
+-- Nobody waits, or the first is taken.
+use Rattle.std.proofs.Common.{◌∙◌, ap, refl, sym}
+use Rattle.model.specs.Kernel.State.{EndpointObject, endpoint_at, with_object}
+use Rattle.objects.proofs.Endpoints.{changed-endpoint, no-sender, nobody-sends, sender-first}
+use Rattle.objects.proofs.Frames.{kind-served, moved-to, one-changed, same-objects}
 use Rattle.objects.proofs.tables.Objects.take_sender.Goals as goal
-use Rattle.objects.specs.Tables.{state_of}
+use Rattle.objects.specs.Tables.{sending_in, state_of}
+use Rattle.objects.specs.Waiting.{served}
+
+pub returns-in_default-clause-state : goal.returns-in_default-clause-state
+returns-in_default-clause-state g c = record {
+  none = nobody-sends c.args.self.now c.args.endpoint (g.S.SlotMap.slots c.args.store.now) (g.S.SlotStore.memory c.args.store.now) c.requires.endpoint (sym c.first_waiting.ensures ∙ c.in_default.is);
+  state = refl;
+}
+
+pub returns-in_default-sending_of-clause-state : goal.returns-in_default-sending_of-clause-state
+returns-in_default-sending_of-clause-state g c = record {
+  none = no-sender c.args.self.now c.args.endpoint (g.S.SlotMap.slots c.args.store.now) (g.S.SlotStore.memory c.args.store.now) c.requires.endpoint c.in-Some.thread (sym c.first_waiting.ensures ∙ c.in-Some.is)
+      (sym c.sending_of.ensures ∙ c.in_default-sending_of.is) c.requires.one_sided;
+  state = refl;
+}
+
+pub returns-clause-state : goal.returns-clause-state
+returns-clause-state g c =
+    let before = state_of c.args.self.now (g.S.SlotMap.slots c.args.store.now) (g.S.SlotStore.memory c.args.store.now) in
+    record {
+      head = sender-first c.args.self.now c.args.endpoint (g.S.SlotMap.slots c.args.store.now) (g.S.SlotStore.memory c.args.store.now) c.requires.endpoint c.in-Some.thread (sym c.first_waiting.ensures ∙ c.in-Some.is) c.in-Some-sending_of.sending (sym c.sending_of.ensures ∙ c.in-Some-sending_of.is);
+      there = c.serve.ensures.there;
+      state = c.serve.ensures.state ∙ changed-endpoint before c.args.endpoint (served (sending_in c.args.self.now.threads c.in-Some.thread)) c.requires.endpoint
+          ∙ ap (λ sending. with_object before c.args.endpoint (served sending (EndpointObject (endpoint_at before c.args.endpoint)))) (sym c.sending_of.ensures ∙ c.in-Some-sending_of.is);
+    }
 
 pub returns-clause-bytes : goal.returns-clause-bytes
 returns-clause-bytes g c =
     let before = state_of c.args.self.now (g.S.SlotMap.slots c.args.store.now) (g.S.SlotStore.memory c.args.store.now) in
-    same-objects before _ (g.S.SlotStore.memory c.args.store.now)
-    (sender-taken before c.args.endpoint c.take_sender_at.result _ c.requires.endpoint (c.take_sender_at.ensures _ _))
-
-pub returns-clause-stands : goal.returns-clause-stands
-returns-clause-stands g c =
-    let before = state_of c.args.self.now (g.S.SlotMap.slots c.args.store.now) (g.S.SlotStore.memory c.args.store.now) in
-    stands-unmoved c.args.self.now _ (g.S.SlotMap.slots c.args.store.now) (g.S.SlotStore.memory c.args.store.now) c.requires.stands
-    (sender-taken before c.args.endpoint c.take_sender_at.result _ c.requires.endpoint (c.take_sender_at.ensures _ _))
+    same-objects before _ _ _ (moved-to before _ _ c.serve.ensures.state (one-changed before c.args.endpoint (served (sending_in c.args.self.now.threads c.in-Some.thread)) (kind-served (sending_in c.args.self.now.threads c.in-Some.thread))))
+    c.serve.ensures.bytes

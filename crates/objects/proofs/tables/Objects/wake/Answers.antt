@@ -1,21 +1,16 @@
--- The tables change, and the store does not.
-use Rattle.std.proofs.Common.{refl}
+-- A thread runs again, and the objects are the same.
+use Rattle.std.proofs.Common.{◌∙◌, refl, sym}
 use Rattle.model.specs.Kernel.State.{ThreadObject}
-use Rattle.objects.proofs.Frames.{kind-put, moved-to, same-objects, stands-unmoved}
+use Rattle.objects.proofs.Endpoints.{kind-state}
+use Rattle.objects.proofs.Frames.{kind-put, moved-to, same-objects}
 use Rattle.objects.proofs.tables.Objects.wake.Goals as goal
 use Rattle.objects.specs.Tables.{state_of}
 
-pub returns-clause-state : goal.returns-clause-state
-returns-clause-state g c = c.wake_thread_at.ensures _ _
+pub wake_at-requires-clause-there : goal.wake_at-requires-clause-there
+wake_at-requires-clause-there g c = c.thread_or_new-held.ensures.there (sym (kind-state c.args.self.now c.args.thread (g.S.SlotMap.slots c.args.store.now) (g.S.SlotStore.memory c.args.store.now)) ∙ c.requires.there)
 
 pub returns-clause-bytes : goal.returns-clause-bytes
 returns-clause-bytes g c =
     let before = state_of c.args.self.now (g.S.SlotMap.slots c.args.store.now) (g.S.SlotStore.memory c.args.store.now) in
-    same-objects before _ (g.S.SlotStore.memory c.args.store.now)
-    (moved-to before _ _ (c.wake_thread_at.ensures _ _) (record { kinds = kind-put before.objects c.args.thread (ThreadObject _) c.requires.there; bytes = refl; slots = refl; bits = refl }))
-
-pub returns-clause-stands : goal.returns-clause-stands
-returns-clause-stands g c =
-    let before = state_of c.args.self.now (g.S.SlotMap.slots c.args.store.now) (g.S.SlotStore.memory c.args.store.now) in
-    stands-unmoved c.args.self.now _ (g.S.SlotMap.slots c.args.store.now) (g.S.SlotStore.memory c.args.store.now) c.requires.stands
-    (moved-to before _ _ (c.wake_thread_at.ensures _ _) (record { kinds = kind-put before.objects c.args.thread (ThreadObject _) c.requires.there; bytes = refl; slots = refl; bits = refl }))
+    same-objects before _ _ _ (moved-to before _ _ c.wake_at.ensures.state
+    (record { kinds = kind-put before.objects c.args.thread (ThreadObject _) c.requires.there; bytes = refl; slots = refl; bits = refl })) c.wake_at.ensures.bytes

@@ -1,11 +1,20 @@
--- The tables change, and the store does not.
-use Rattle.objects.proofs.Begun.{woken-unmoved}
-use Rattle.objects.proofs.Frames.{moved-to, stands-unmoved}
+-- All places are swept at the end, and each in its turn.
+use Rattle.std.proofs.Common.{◌∙◌, refl}
+use Rattle.objects.proofs.Frames.{beside-objects}
+use Rattle.objects.proofs.Stranded.{swept-first, swept-next}
 use Rattle.objects.proofs.tables.Objects.wake_stranded.Goals as goal
 use Rattle.objects.specs.Tables.{state_of}
 
-pub returns-clause-stands : goal.returns-clause-stands
-returns-clause-stands g c =
-    let before = state_of c.args.self.now (g.S.SlotMap.slots c.args.store.now) (g.S.SlotStore.memory c.args.store.now) in
-    stands-unmoved c.args.self.now _ (g.S.SlotMap.slots c.args.store.now) (g.S.SlotStore.memory c.args.store.now) c.requires.stands
-    (moved-to before _ _ (c.wake_all_stranded.ensures _ _) (woken-unmoved before))
+pub places-init : goal.places-init
+places-init g c = (swept-first c.args.self.now (g.S.SlotMap.slots c.args.store.now) (g.S.SlotStore.memory c.args.store.now) c.count_places-count.result c.count_places-count.ensures.value c.requires.stands, refl)
+
+pub places-preserved : goal.places-preserved
+places-preserved g c = (
+  swept-next c.args.self.now c.places.self _ (g.S.SlotMap.slots c.args.store.now) (g.S.SlotMap.slots c.places.store) _ (g.S.SlotStore.memory c.args.store.now) (g.S.SlotStore.memory c.places.store) _
+      c.places.number c.count_places-count.result c.places.invariant.0 c.places-test.true c.wake_if_stranded.ensures.state c.wake_if_stranded.ensures.bytes
+      c.wake_if_stranded.ensures.slots c.wake_if_stranded.ensures.stands,
+  c.wake_if_stranded.ensures.order ∙ c.places.invariant.1,
+)
+
+pub returns-clause-bytes : goal.returns-clause-bytes
+returns-clause-bytes g c = beside-objects (state_of c.args.self.now (g.S.SlotMap.slots c.args.store.now) (g.S.SlotStore.memory c.args.store.now)) _ _ c.places.invariant.0.bytes

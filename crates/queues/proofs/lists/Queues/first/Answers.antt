@@ -1,11 +1,8 @@
 -- The first entry that is found has the first thread.
-use Rattle.queues.proofs.Parts.{find-head}
-use Rattle.queues.proofs.Standings.{once-first}
+use Rattle.queues.proofs.Contracts.{found-head}
 use Rattle.queues.proofs.lists.Queues.first.Goals as goal
+use Rattle.queues.specs.contracts.lists.Queues.{the_view}
 
-pub returns-clause-first : goal.returns-clause-first
-returns-clause-first c = rw (c.first_of.ensures, c.deref.ensures.value, ← c.self.view_is) (find-head c.self.inside.entries.items c.args.queue)
-
-pub returns-clause-once : goal.returns-clause-once
-returns-clause-once c =
-    rw (c.first_of.ensures, c.deref.ensures.value, ← c.self.view_is, find-head c.self.inside.entries.items c.args.queue) (once-first _ _ c.args.queue c.self.invariant)
+pub returns : goal.returns
+returns g c =
+    rw (c.first_of.ensures, c.deref.ensures.value, ← c.self.view_is) (found-head (the_view c.self.inside) (g.S.SlotStore.memory c.args.store.now) c.args.queue)

@@ -1,6 +1,10 @@
--- A part of the entries is left.
-use Rattle.queues.proofs.Standings.{once-part}
+-- A part of each queue is left.
+use Rattle.queues.proofs.Contracts.{left, left-stands}
 use Rattle.queues.proofs.lists.Queues.leave.Goals as goal
 
-pub invariant_of-self : goal.invariant_of-self
-invariant_of-self c = rw (c.take_thread.ensures.items, c.take_thread.ensures.capacity) (once-part _ _ _ c.self.invariant)
+pub returns-clause-queues : goal.returns-clause-queues
+returns-clause-queues g c = left c.args.self.now c.take.new.self (g.S.SlotStore.memory c.args.store.now) c.args.thread c.take.ensures
+
+pub returns-clause-stands : goal.returns-clause-stands
+returns-clause-stands g c =
+    left-stands c.args.self.now c.take.new.self (g.S.SlotStore.memory c.args.store.now) c.args.thread c.requires.stands c.take.ensures

@@ -1,16 +1,7 @@
--- A thread that stands in no queue finds room, and stands once.
-use Rattle.std.proofs.Common.{arith}
-use Rattle.queues.proofs.Standings.{once-push, room-once}
+-- One more entry is one more thread of its queue.
+use Rattle.queues.proofs.Contracts.{pushed}
 use Rattle.queues.proofs.lists.Queues.push.Goals as goal
 
-pub push_reserved-requires : goal.push_reserved-requires
-push_reserved-requires c =
-    let apart = rw (← c.self.view_is) at c.requires.apart in
-    let within = rw (← c.self.view_is) at c.requires.within in
-    omega (arith, room-once _ _ _ c.self.invariant apart c.requires.aligned within, c.self.inside.entries.ok.0)
-
-pub invariant_of-self : goal.invariant_of-self
-invariant_of-self c =
-    let apart = rw (← c.self.view_is) at c.requires.apart in
-    let within = rw (← c.self.view_is) at c.requires.within in
-    rw (c.push_reserved.ensures.items, c.push_reserved.ensures.capacity) (once-push _ _ _ _ c.self.invariant apart c.requires.aligned within)
+pub returns-clause-queues : goal.returns-clause-queues
+returns-clause-queues g c =
+    pushed c.args.self.now c.put_last.new.self (g.S.SlotStore.memory c.args.store.now) c.args.queue c.args.thread c.put_last.ensures.entries
