@@ -6,7 +6,7 @@ use Rattle.std.proofs.lemmas.Bool.{le-leb}
 use Rattle.std.proofs.lemmas.Nat.{pow-add}
 use Rattle.agreement.proofs.Bare.{bare-agrees}
 use Rattle.agreement.specs.Agreement.{Agrees}
-use Rattle.kernel.specs.Setups.{IsWhole, Parts, slots_in, state_in}
+use Rattle.agreement.specs.Wholeness.{IsWhole}
 use Rattle.model.specs.Capabilities.Slots.{Slots, empty_entry, opened}
 use Rattle.model.specs.Kernel.Setup.{boot_area}
 use Rattle.model.specs.Kernel.Soundness.{IsSound}
@@ -46,11 +46,11 @@ pub boot-agrees : (bits radix : ℕ) (memory : List ℕ) → 2 ^ bits ≡ length
 unfolding boot_area
 boot-agrees bits radix memory size = bare-agrees (boot_area bits radix) memory (λ slot. empty-at (nat_lt slot (boot_area_slots radix))) (λ place. refl) size
 
-pub boot-whole : (bits radix : ℕ) (parts : Parts) → 16 ≤ bits → bits ≤ 24 → 1 ≤ radix → radix ≤ 14 → radix + 5 ≤ bits → 2 ^ bits ≡ length parts.memory
-    → state_in parts ≡ boot_area bits radix → Standing parts.tables (slots_in parts) parts.memory → IsWhole parts
-boot-whole bits radix parts least most low high room size is stands = record {
+pub boot-whole : (bits radix : ℕ) (o : Tables) (slots : Slots) (memory : List ℕ) → 16 ≤ bits → bits ≤ 24 → 1 ≤ radix → radix ≤ 14 → radix + 5 ≤ bits → 2 ^ bits ≡ length memory
+    → state_of o slots memory ≡ boot_area bits radix → Standing o slots memory → IsWhole o slots memory
+boot-whole bits radix o slots memory least most low high room size is stands = record {
   sound = subst IsSound (sym is) (fresh-sound bits radix least most low high room);
-  agrees = subst (λ (s : State). Agrees s parts.memory) (sym is) (boot-agrees bits radix parts.memory size);
+  agrees = subst (λ (s : State). Agrees s memory) (sym is) (boot-agrees bits radix memory size);
   stands = stands;
 }
 

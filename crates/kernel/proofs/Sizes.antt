@@ -1,11 +1,11 @@
 -- No object stands behind the end of memory.
-use Rattle.std.proofs.Common.{ℕ, ◌≡◌, ◌+◌, ◌^◌, ◌≤◌, Option, Some, None, List, length, refl, sym, subst, ap, arith, pow_pos}
+use Rattle.std.proofs.Common.{ℕ, ◌≡◌, ◌≤◌, Some, None, List, length, refl, ap, arith, pow_pos}
 use Rattle.std.specs.Prelude.{option_map}
 use Rattle.agreement.specs.Agreement.{Agrees}
 use Rattle.model.specs.Kernel.Kinds.{kind_of}
 use Rattle.model.specs.Kernel.Retype.{object_bits}
 use Rattle.model.specs.Kernel.Soundness.{IsSound}
-use Rattle.model.specs.Kernel.State.{State, Object}
+use Rattle.model.specs.Kernel.State.{State}
 use Rattle.soundness.proofs.Places.{object-inside}
 
 pub none-behind : (s : State) (memory : List ℕ) (place : ℕ) → IsSound s → Agrees s memory → length memory ≤ place → s.objects place ≡ None

@@ -1,33 +1,23 @@
--- The parts of the kernel, the state that they stand for, and what is always true of it.
+-- The parts of the kernel, and the state that they stand for.
 -- seL4 Reference Manual, "System Bootstrapping".
-use Rattle.std.specs.Prelude.{ℕ, ◌≡◌, ◌+◌, ◌*◌, ◌%◌, ◌^◌, ◌==◌, ◌<◌, ◌&&◌, nat_le, nat_lt, Bool, true, false, if◌then◌else◌, Option, Some, None, option_map, List, slice_index}
-use Rattle.agreement.specs.Wholeness as wholeness
+use Rattle.std.specs.Prelude.{ℕ, ◌≡◌, ◌+◌, ◌*◌, ◌%◌, ◌^◌, ◌==◌, ◌<◌, ◌&&◌, nat_le, nat_lt, Bool, true, false, if◌then◌else◌, Option, Some, None, option_map, slice_index}
 use Rattle.cnode_ops.specs.Refusals.{some_slot}
+use Rattle.kernel.specs.Stores.{Store, bytes_of, slots_of}
+use Rattle.lifecycles.specs.Kernels as kernels
 use Rattle.model.specs.Capabilities.Slots.{Slots, capability_at}
 use Rattle.model.specs.Kernel.Removal.{slot_count}
 use Rattle.model.specs.Kernel.Setup.{end_of}
 use Rattle.model.specs.Kernel.State.{State, ThreadState, slot_of}
 use Rattle.model.specs.declared.capabilities.Cap.{Cap}
 use Rattle.model.specs.declared.slot_entries.Entry.{Entry}
-use Rattle.objects.specs.Tables.{Tables, state_of}
-use Rattle.slots.specs.Table.{table_slots}
 
--- the bytes of the machine, the records of slots beside them, and the tables of objects
-pub record Parts : Type 0 where
-  pub memory : List ℕ
-  pub records : List (Option Entry)
-  pub tables : Tables
-
-abbrev pub slots_in : Parts → Slots
-slots_in parts = table_slots parts.records
+-- the store, and the tables of objects
+abbrev pub Parts : Type 0
+Parts = kernels.Parts Store
 
 -- the state that they stand for
 abbrev pub state_in : Parts → State
-state_in parts = state_of parts.tables (slots_in parts) parts.memory
-
--- what each call relies on, and leaves true
-abbrev pub IsWhole : Parts → Type 0
-IsWhole parts = wholeness.IsWhole parts.tables (slots_in parts) parts.memory
+state_in parts = kernels.state_in slots_of bytes_of parts
 
 -- what an operation answers and leaves: nothing changes where its definition gives nothing
 abbrev pub GivesIf : Option State → Bool → Parts → Parts → Type 0

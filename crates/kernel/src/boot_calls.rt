@@ -1,22 +1,20 @@
 //! Calls from the boot CNode, before threads run.
 
 ghost use Rattle.std.specs.Prelude.{ℕ, ◌≡◌, List, Err, IfErr, IfOk, Ok, OnErr};
-ghost use Rattle.agreement.specs.Wholeness.{IsWhole};
 ghost use Rattle.cnode_ops.specs.Outcomes.{GivesState};
 ghost use Rattle.invocations.specs.Calls.{call_of};
 ghost use Rattle.model.specs.Capabilities.CapabilityWords.{IsCapability};
 ghost use Rattle.model.specs.Capabilities.Slots.{Slots};
 ghost use Rattle.model.specs.Images.Boot.{boot_call, boot_root, made, performed};
 ghost use Rattle.model.specs.Images.BootCalls.{loader_call};
-ghost use Rattle.objects.specs.Tables.{state_of};
+ghost use Rattle.lifecycles.specs.Kernels.{state_in};
 ghost use Rattle.soundness.specs.Calls.{IsCall};
 
 use cspace::called_slot;
 use invocations::{KernelCall, configure_with_guard, invoke};
 use invoke::CONFIGURE;
-use lifecycles::KernelObjects;
+use lifecycles::Kernel;
 use model::{Cap, KError, Slot};
-use objects::Objects;
 use slots::SlotStore;
 
 /// What names the boot CNode itself, and not one of its slots.
@@ -24,12 +22,11 @@ const BOOT_CNODE: u32 = 0xFFFF_FFFF;
 
 /// The root of the capability space in which the system is set up: the boot CNode, whose slots are named by their
 /// numbers at 32 bits.
-fn boot_root<S: SlotStore>(store: &S, objects: &Objects) -> Cap
-    requires { IsWhole objects.now (S.slots store.now) (S.memory store.now) }
-    ensures value { result ≡ boot_root (state_of objects.now (S.slots store.now) (S.memory store.now)).boot_radix }
+fn boot_root<S: SlotStore>(kernel: &Kernel<S>) -> Cap
+    ensures value { result ≡ boot_root (state_in S.slots S.memory kernel.now).boot_radix }
     ensures valid { IsCapability result }
 {
-    let radix = objects.boot_radix();
+    let radix = kernel.objects.objects.boot_radix();
     Cap::CNode {
         offset: 0,
         radix: radix as u8,
@@ -40,13 +37,12 @@ fn boot_root<S: SlotStore>(store: &S, objects: &Objects) -> Cap
 /// What a call is made on: the boot CNode itself, or what a boot slot holds. Where there is nothing the lookup
 /// failed (`FailedLookup`).
 #[tactic(auto, unfolding(objects::specs::Tables::state_of))]
-fn called<S: SlotStore>(store: &S, objects: &Objects, address: u32) -> Result<KernelCall, KError>
-    requires whole { IsWhole objects.now (S.slots store.now) (S.memory store.now) }
-    ensures call { IfOk result (λ call. boot_call (state_of objects.now (S.slots store.now) (S.memory store.now)) address ≡ Ok (call_of call)) }
-    ensures sound { IfOk result (λ call. IsCall (state_of objects.now (S.slots store.now) (S.memory store.now)) (call_of call)) }
-    ensures refused { IfErr result (λ error. boot_call (state_of objects.now (S.slots store.now) (S.memory store.now)) address ≡ Err error) }
+fn called<S: SlotStore>(kernel: &Kernel<S>, address: u32) -> Result<KernelCall, KError>
+    ensures call { IfOk result (λ call. boot_call (state_in S.slots S.memory kernel.now) address ≡ Ok (call_of call)) }
+    ensures sound { IfOk result (λ call. IsCall (state_in S.slots S.memory kernel.now) (call_of call)) }
+    ensures refused { IfErr result (λ error. boot_call (state_in S.slots S.memory kernel.now) address ≡ Err error) }
 {
-    let root = boot_root(store, objects);
+    let root = boot_root(kernel);
     if address == BOOT_CNODE {
         return Ok(KernelCall {
             root,
@@ -55,12 +51,12 @@ fn called<S: SlotStore>(store: &S, objects: &Objects, address: u32) -> Result<Ke
             capability: root,
         });
     }
-    match called_slot(store, root, address) {
+    match called_slot(&kernel.store, root, address) {
         Ok(slot) => Ok(KernelCall {
             root,
             caller: None,
             slot,
-            capability: store.capability(slot),
+            capability: kernel.store.capability(slot),
         }),
         Err(_) => Err(KError::FailedLookup),
     }
@@ -68,46 +64,45 @@ fn called<S: SlotStore>(store: &S, objects: &Objects, address: u32) -> Result<Ke
 
 /// Performs a call: Configure has a sixth word here, the guard word of the thread's CNode.
 fn perform<S: SlotStore>(
-    store: &mut S,
-    kernel: &mut KernelObjects,
+    kernel: &mut Kernel<S>,
     call: KernelCall,
     label: u32,
     words: &[u32],
 ) -> Result<(), KError>
-    requires whole { IsWhole kernel.old (S.slots store.old) (S.memory store.old) }
-    requires call { IsCall (state_of kernel.old (S.slots store.old) (S.memory store.old)) (call_of call) }
-    ensures outcome { GivesState (performed (state_of kernel.old (S.slots store.old) (S.memory store.old)) label words.now (call_of call)) result
-        (state_of kernel.new (S.slots store.new) (S.memory store.new)) }
-    ensures unchanged { OnErr result (store.new ≡ store.old) }
-    ensures same { OnErr result (kernel.new ≡ kernel.old) }
-    ensures whole { IsWhole kernel.new (S.slots store.new) (S.memory store.new) }
+    requires call { IsCall (state_in S.slots S.memory kernel.old) (call_of call) }
+    ensures outcome { GivesState (performed (state_in S.slots S.memory kernel.old) label words.now (call_of call)) result
+        (state_in S.slots S.memory kernel.new) }
+    ensures unchanged { OnErr result (kernel.new ≡ kernel.old) }
 {
     if label == CONFIGURE {
-        configure_with_guard(store, kernel, call, words)
+        configure_with_guard(&mut kernel.store, &mut kernel.objects, call, words)
     } else {
-        invoke(store, kernel, call, label, 0, words)
+        invoke(
+            &mut kernel.store,
+            &mut kernel.objects,
+            call,
+            label,
+            0,
+            words,
+        )
     }
 }
 
 /// Makes a call on what an address names, as a thread would whose capability space is the boot CNode.
 #[tactic(auto, unfolding(model::specs::Images::Boot::made))]
 pub(crate) fn make_call<S: SlotStore>(
-    store: &mut S,
-    kernel: &mut KernelObjects,
+    kernel: &mut Kernel<S>,
     address: u32,
     label: u32,
     words: &[u32],
 ) -> Result<(), KError>
-    requires whole { IsWhole kernel.old (S.slots store.old) (S.memory store.old) }
-    ensures outcome { GivesState (made (state_of kernel.old (S.slots store.old) (S.memory store.old)) (loader_call address label words.now)) result
-        (state_of kernel.new (S.slots store.new) (S.memory store.new)) }
-    ensures unchanged { OnErr result (store.new ≡ store.old) }
-    ensures same { OnErr result (kernel.new ≡ kernel.old) }
-    ensures whole { IsWhole kernel.new (S.slots store.new) (S.memory store.new) }
+    ensures outcome { GivesState (made (state_in S.slots S.memory kernel.old) (loader_call address label words.now)) result
+        (state_in S.slots S.memory kernel.new) }
+    ensures unchanged { OnErr result (kernel.new ≡ kernel.old) }
 {
-    let call = match called(store, &kernel.objects, address) {
+    let call = match called(kernel, address) {
         Ok(call) => call,
         Err(error) => return Err(error),
     };
-    perform(store, kernel, call, label, words)
+    perform(kernel, call, label, words)
 }

@@ -1,13 +1,12 @@
 //! Slots by what holds them: the boot CNode, the interrupt table, CNodes and threads.
 
-ghost use Rattle.std.specs.Prelude.{ℕ, ◌≡◌, ◌+◌, ◌^◌, ◌<◌, ◌≤◌, IfSome, List, option_map};
+ghost use Rattle.std.specs.Prelude.{ℕ, ◌≡◌, ◌+◌, ◌^◌, ◌<◌, ◌≤◌, IfSome, option_map};
 ghost use Rattle.kernel.specs.Setups.{IsPlace, entry_of, number_of, seen_entry, slot_in, slots_of_holder};
-ghost use Rattle.model.specs.Capabilities.Slots.{Slots};
 ghost use Rattle.model.specs.Kernel.Soundness.{HasSlot, IsSound};
-ghost use Rattle.objects.specs.Tables.{state_of};
+ghost use Rattle.lifecycles.specs.Kernels.{state_in};
 
+use lifecycles::Kernel;
 use model::{Cap, Slot};
-use objects::Objects;
 use slots::SlotStore;
 
 /// How many interrupt lines there are, each with a slot behind those of the boot CNode.
@@ -15,24 +14,24 @@ pub(crate) const LINES: u32 = 64;
 
 /// How many slots the boot CNode has.
 #[tactic(auto, unfolding(objects::specs::Tables::state_of))]
-pub(crate) fn boot_slots(objects: &Objects) -> u32
-    ensures value { (slots : Slots) (memory : List ℕ) → result ≡ 2 ^ (state_of objects.now slots memory).boot_radix }
+pub(crate) fn boot_slots<S: SlotStore>(kernel: &Kernel<S>) -> u32
+    ensures value { result ≡ 2 ^ (state_in S.slots S.memory kernel.now).boot_radix }
     ensures most { result ≤ 2 ^ 14 }
 {
-    1 << objects.boot_radix()
+    1 << kernel.objects.objects.boot_radix()
 }
 
 /// How many slots a holder has: none, if there is no such holder.
-fn count_slots<S: SlotStore>(store: &S, objects: &Objects, holder: u32) -> u32
-    ensures { result ≡ slots_of_holder (state_of objects.now (S.slots store.now) (S.memory store.now)) holder }
+fn count_slots<S: SlotStore>(kernel: &Kernel<S>, holder: u32) -> u32
+    ensures { result ≡ slots_of_holder (state_in S.slots S.memory kernel.now) holder }
 {
-    let count = boot_slots(objects);
+    let count = boot_slots(kernel);
     if holder == 0 {
         count
     } else if holder == 16 * count {
         LINES
     } else {
-        objects.slots_of(store, holder)
+        kernel.objects.objects.slots_of(&kernel.store, holder)
     }
 }
 
@@ -52,16 +51,16 @@ fn entry_behind<S: SlotStore>(store: &S, first: u32, index: u32) -> Option<(Cap,
 }
 
 /// The holder of a slot, and which of its slots it is.
-fn place_of<S: SlotStore>(store: &S, objects: &Objects, slot: Slot) -> (u32, u32)
-    requires sound { IsSound (state_of objects.now (S.slots store.now) (S.memory store.now)) }
-    requires held { HasSlot (state_of objects.now (S.slots store.now) (S.memory store.now)) slot }
+fn place_of<S: SlotStore>(kernel: &Kernel<S>, slot: Slot) -> (u32, u32)
+    requires sound { IsSound (state_in S.slots S.memory kernel.now) }
+    requires held { HasSlot (state_in S.slots S.memory kernel.now) slot }
     ensures number { number_of result ≡ slot }
-    ensures inside { IsPlace (state_of objects.now (S.slots store.now) (S.memory store.now)) result }
+    ensures inside { IsPlace (state_in S.slots S.memory kernel.now) result }
 {
     let number = slot.number();
     'slots: for index in 0..number {
         let holder = 16 * (number - index);
-        if index < count_slots(store, objects, holder) {
+        if index < count_slots(kernel, holder) {
             return (holder, index);
         }
     }
@@ -70,23 +69,21 @@ fn place_of<S: SlotStore>(store: &S, objects: &Objects, slot: Slot) -> (u32, u32
 
 /// What a slot of a holder holds, and the holder and number of the slot that it was derived from.
 pub(crate) fn look_at<S: SlotStore>(
-    store: &S,
-    objects: &Objects,
+    kernel: &Kernel<S>,
     holder: u32,
     index: u32,
 ) -> Option<(Cap, Option<(u32, u32)>)>
-    requires { IsSound (state_of objects.now (S.slots store.now) (S.memory store.now)) }
-    ensures held { option_map seen_entry result ≡ slot_in (state_of objects.now (S.slots store.now) (S.memory store.now)) holder index }
-    ensures parent { IfSome result (λ seen. IfSome seen.1 (IsPlace (state_of objects.now (S.slots store.now) (S.memory store.now)))) }
+    ensures held { option_map seen_entry result ≡ slot_in (state_in S.slots S.memory kernel.now) holder index }
+    ensures parent { IfSome result (λ seen. IfSome seen.1 (IsPlace (state_in S.slots S.memory kernel.now))) }
 {
-    if index >= count_slots(store, objects, holder) {
+    if index >= count_slots(kernel, holder) {
         return None;
     }
-    let Some((capability, parent)) = entry_behind(store, holder / 16, index) else {
+    let Some((capability, parent)) = entry_behind(&kernel.store, holder / 16, index) else {
         return None;
     };
     match parent {
-        Some(slot) => Some((capability, Some(place_of(store, objects, slot)))),
+        Some(slot) => Some((capability, Some(place_of(kernel, slot)))),
         None => Some((capability, None)),
     }
 }

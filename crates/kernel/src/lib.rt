@@ -5,9 +5,12 @@
 mod boot_calls;
 mod fills;
 mod holders;
+mod looks;
 mod machine;
 mod places;
+mod puts;
 mod setup;
+mod stores;
 mod system;
 
 pub use machine::Machine;

@@ -1,28 +1,24 @@
 //! All that the kernel keeps: slots and memory, and the tables of objects beside them.
 
-ghost use Rattle.std.specs.Prelude.{ℕ, ◌≡◌, ◌+◌, ◌^◌, ◌≤◌, IfOk, IfSome, OnErr, Some, None, false, option_and_then, option_map};
+ghost use Rattle.std.specs.Prelude.{ℕ, ◌≡◌, ◌+◌, ◌^◌, ◌≤◌, IfOk, IfSome, OnErr, None, option_and_then, option_map};
 ghost use Rattle.cnode_ops.specs.Outcomes.{GivesState};
 ghost use Rattle.kernel.specs.Setups.{GivesIf, IsPlace, register_in, seen_entry, slot_in, state_in};
-ghost use Rattle.model.specs.Capabilities.CapabilityWords.{IsCapability};
-ghost use Rattle.model.specs.Capabilities.Slots.{is_empty};
 ghost use Rattle.model.specs.Images.Boot.{made};
 ghost use Rattle.model.specs.Images.BootCalls.{loader_call};
-ghost use Rattle.model.specs.Kernel.Setup.{boot_area, fill, put_control, put_in_boot_slot, put_untyped};
-ghost use Rattle.model.specs.Kernel.Soundness.{IsSound};
-ghost use Rattle.model.specs.Kernel.State.{State, ThreadState, as_thread};
+ghost use Rattle.model.specs.Kernel.Setup.{boot_area, fill, put_control, put_untyped};
+ghost use Rattle.model.specs.Kernel.State.{as_thread};
 ghost use Rattle.model.specs.Kernel.Steps.{step};
-ghost use Rattle.vspace.specs.Agreement.{IsWithoutTables};
 
 use crate::boot_calls::make_call;
 use crate::fills::fill_frame;
-use crate::holders::{LINES, boot_slots, look_at};
-use crate::places::{is_free, may_be_untyped};
-use cnode_ops::Ends;
-use lifecycles::KernelObjects;
-use model::{Cap, Event, KError, Label, Register, Slot};
+use crate::holders::{LINES, look_at};
+use crate::looks::{byte_at, memory_size, register_of};
+use crate::puts::{put_control, put_untyped};
+use crate::stores::{Store, empty_store};
+use lifecycles::{Kernel, KernelObjects};
+use model::{Cap, Event, KError, Label, Slot};
 use objects::Objects;
-use rv32_exec::Regs;
-use slots::{PlainSlots, SlotMap, SlotStore};
+use slots::SlotStore;
 use std::alloc::{AllocError, Global};
 use std::marker::Model;
 
@@ -30,26 +26,15 @@ use std::marker::Model;
 /// capabilities, slots and the bytes of frames agree. It is looked at by threads, slots and bytes.
 #[derive(Drop)]
 pub struct Machine {
-    store: PlainSlots,
-    kernel: KernelObjects,
+    kernel: Kernel<Store>,
 }
 
 impl Model for Machine {
-    ghost use Rattle.kernel.specs.Setups.{IsWhole, Parts};
+    ghost use Rattle.kernel.specs.Setups.{Parts};
 
     ghost Value = { Parts };
 
-    ghost view = { λ machine. record {
-      memory = machine.store.0;
-      records = machine.store.1;
-      tables = machine.kernel;
-    } };
-
-    ghost invariant = { λ machine. IsWhole (record {
-      memory = machine.store.0;
-      records = machine.store.1;
-      tables = machine.kernel;
-    }) };
+    ghost view = { λ machine. machine.kernel };
 }
 
 impl Machine {
@@ -63,13 +48,14 @@ impl Machine {
         requires room { radix + 5 ≤ bits }
         ensures { IfOk result (λ machine. state_in machine ≡ boot_area bits radix) }
     {
-        let mut store = PlainSlots::new(alloc, bits)?;
+        let mut store = empty_store(alloc, bits)?;
         let objects = Objects::new(alloc, bits, radix)?;
         store.open_range(Slot::new(0), (1 << radix) + LINES);
-        Ok(Machine {
+        let kernel = Kernel {
             store,
-            kernel: KernelObjects { objects },
-        })
+            objects: KernelObjects { objects },
+        };
+        Ok(Machine { kernel })
     }
 
     /// What slot `index` of a holder holds, and the slot that it was derived from, as (holder, index). Holders are the boot
@@ -78,7 +64,7 @@ impl Machine {
         ensures held { option_map seen_entry result ≡ slot_in (state_in self.now) holder index }
         ensures parent { IfSome result (λ seen. IfSome seen.1 (IsPlace (state_in self.now))) }
     {
-        look_at(&self.store, &self.kernel.objects, holder, index)
+        look_at(&self.kernel, holder, index)
     }
 
     /// Puts untyped memory into an empty boot slot: 2^`bits` bytes from `offset` on, behind all that stands,
@@ -87,21 +73,14 @@ impl Machine {
     pub(crate) fn untyped(&mut self, index: u32, offset: u32, bits: u8) -> bool
         ensures { GivesIf (put_untyped (state_in self.old) index offset bits) result self.old self.new }
     {
-        let untyped = Cap::Untyped {
-            offset,
-            bits,
-            watermark: 0,
-        };
-        let first = 16 * (self.boot_slots() + LINES);
-        let fits = may_be_untyped(&self.store, first, offset, bits);
-        fits && self.put(index, untyped)
+        put_untyped(&mut self.kernel, index, offset, bits)
     }
 
     /// Puts interrupt control into an empty boot slot, if it is one.
     pub(crate) fn control(&mut self, index: u32) -> bool
         ensures { GivesIf (put_control (state_in self.old) index) result self.old self.new }
     {
-        self.put(index, Cap::InterruptControl)
+        put_control(&mut self.kernel, index)
     }
 
     /// Puts bytes, at most 4096, into the frame that begins at an offset, from its first byte on. Nothing changes where
@@ -109,7 +88,7 @@ impl Machine {
     pub(crate) fn fill(&mut self, offset: u32, bytes: &[u8]) -> bool
         ensures { GivesIf (fill (state_in self.old) offset bytes.now) result self.old self.new }
     {
-        fill_frame(&mut self.store, &self.kernel, offset, bytes)
+        fill_frame(&mut self.kernel, offset, bytes)
     }
 
     /// Makes a call on what an address among the boot slots names.
@@ -117,7 +96,7 @@ impl Machine {
         ensures outcome { GivesState (made (state_in self.old) (loader_call address label words.now)) result (state_in self.new) }
         ensures unchanged { OnErr result (self.new ≡ self.old) }
     {
-        make_call(&mut self.store, &mut self.kernel, address, label, words)
+        make_call(&mut self.kernel, address, label, words)
     }
 
     /// What an event does.
@@ -125,24 +104,21 @@ impl Machine {
         ensures state { state_in self.new ≡ (step (state_in self.old) event).0 }
         ensures label { result ≡ (step (state_in self.old) event).1 }
     {
-        steps::step(&mut self.store, &mut self.kernel, event)
+        steps::step(&mut self.kernel, event)
     }
 
     /// A register of the thread at an offset: its program counter by index 0, and else that of this index, 1 to 31.
     pub fn reg(&self, thread: u32, index: u8) -> Option<u32>
         ensures { result ≡ option_and_then (λ t. register_in t index) (as_thread ((state_in self.now).objects thread)) }
     {
-        if !self.kernel.objects.is_thread(&self.store, thread) {
-            return None;
-        }
-        register_in(&self.kernel.objects.registers(&self.store, thread), index)
+        register_of(&self.kernel, thread, index)
     }
 
     /// The byte at an offset of memory, if it is one of a frame.
     pub fn byte(&self, offset: u32) -> Option<u8>
         ensures { result ≡ (state_in self.now).bytes offset }
     {
-        self.kernel.objects.byte(&self.store, offset)
+        byte_at(&self.kernel, offset)
     }
 
     /// How many bytes of memory there are. No object stands behind them.
@@ -150,43 +126,6 @@ impl Machine {
         ensures value { result ≡ 2 ^ (state_in self.now).memory_bits }
         ensures inside { (place : ℕ) → result ≤ place → (state_in self.now).objects place ≡ None }
     {
-        self.store.mem().len()
-    }
-
-    /// How many slots the boot CNode has: so many stand before that of the first line.
-    fn boot_slots(&self) -> u32
-        ensures value { result ≡ 2 ^ (state_in self.now).boot_radix }
-        ensures most { result ≤ 2 ^ 14 }
-    {
-        boot_slots(&self.kernel.objects)
-    }
-
-    /// Puts a capability without a parent into an empty boot slot, if it is one.
-    fn put(&mut self, index: u32, capability: Cap) -> bool
-        requires valid { IsCapability capability }
-        requires plain { IsWithoutTables capability }
-        requires some { is_empty capability ≡ false }
-        requires sound { (t : State) → IsSound (state_in self.old) → put_in_boot_slot (state_in self.old) index capability ≡ Some t → IsSound t }
-        ensures { GivesIf (put_in_boot_slot (state_in self.old) index capability) result self.old self.new }
-    {
-        let count = self.boot_slots();
-        let free = is_free(&self.store, count, index);
-        if free {
-            self.store.insert(Slot::new(index), capability, None);
-        }
-        free
-    }
-}
-
-/// The program counter by index 0, and else the register of this index, 1 to 31.
-fn register_in(registers: &Regs, index: u8) -> Option<u32>
-    ensures { (t : ThreadState) → t.registers ≡ registers.now → result ≡ register_in t index }
-{
-    if index == 0 {
-        Some(registers.pc())
-    } else if index <= 31 {
-        Some(registers.read(Register(index)))
-    } else {
-        None
+        memory_size(&self.kernel)
     }
 }

@@ -4,6 +4,8 @@
 
 mod beginning;
 mod kernel_objects;
+mod kernels;
 mod making;
 
 pub use kernel_objects::KernelObjects;
+pub use kernels::Kernel;

@@ -1,19 +1,15 @@
 -- What an instruction leaves.
-use Rattle.std.proofs.Common.{ℕ, ℤ, pos, ◌≤ℤ◌, ◌≡◌, ◌∙◌, ◌^◌, ◌<◌, Result, sym, ap, refl, arith}
+use Rattle.std.proofs.Common.{ℕ, ℤ, pos, ◌≤ℤ◌, ◌^◌, ◌<◌, refl, arith}
 use Rattle.std.proofs.lemmas.Int.{ints}
-use Rattle.model.specs.declared.instructions.Access.TheVariants.{Fetch}
-use Rattle.model.specs.declared.instructions.AccessSize.TheVariants.{Word}
 use Rattle.model.specs.declared.instructions.Instr.{Instr}
 use Rattle.model.specs.declared.instructions.Instr.TheVariants.{Upper, Jal, Jalr, Branch, Load, Store, Immediate, Shift, Registers, Fence, Ecall, Ebreak}
-use Rattle.model.specs.declared.instructions.MemoryFault.{MemoryFault}
 use Rattle.model.specs.Kernel.AddressSpaces.{content_of, with_content}
 use Rattle.model.specs.Kernel.Messages.{with_registers}
 use Rattle.model.specs.Kernel.Soundness.{IsSound}
 use Rattle.model.specs.Kernel.State.{State, thread_at}
-use Rattle.model.specs.Kernel.Steps.{registers_of, runs, runs_fetched}
+use Rattle.model.specs.Kernel.Steps.{registers_of}
 use Rattle.model.specs.Machine.Effects.{Effect, effect}
 use Rattle.model.specs.Machine.Instructions.{IsInstr, word_of}
-use Rattle.model.specs.Machine.ProgramMemory.{loaded}
 use Rattle.soundness.proofs.Bytes.{content-whole}
 use Rattle.soundness.proofs.Registers.{registers-of}
 use Rattle.soundness.proofs.Sizes.{Fits, effect-sound}

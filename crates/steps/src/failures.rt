@@ -2,18 +2,18 @@
 //! seL4 Reference Manual, "Faults".
 
 ghost use Rattle.std.specs.Prelude.{ℕ, ◌≡◌};
-ghost use Rattle.agreement.specs.Wholeness.{IsWhole};
 ghost use Rattle.model.specs.Kernel.Faults.{instruction_fault, memory_fault};
 ghost use Rattle.model.specs.Kernel.Soundness.{SentIsSound};
 ghost use Rattle.model.specs.Kernel.State.{ByFault};
 ghost use Rattle.model.specs.Kernel.Steps.{faults, registers_of};
-ghost use Rattle.objects.specs.Tables.{state_of};
+ghost use Rattle.lifecycles.specs.Kernels.{state_in};
 ghost use Rattle.objects.specs.Threads.{message_of};
 ghost use Rattle.soundness.specs.Running.{IsRunning};
 
 use faults::raise_fault;
+use lifecycles::Kernel;
 use model::{Cause, FaultKind, MemoryFault, Outcome};
-use objects::{Fault, Objects};
+use objects::Fault;
 use slots::SlotStore;
 
 /// Which fault it is.
@@ -29,51 +29,40 @@ fn kind_of(fault: Fault) -> FaultKind
 }
 
 /// The thread that runs faults.
-fn fail<S: SlotStore>(store: &mut S, objects: &mut Objects, thread: u32, fault: Fault) -> Outcome
-    requires whole { IsWhole objects.old (S.slots store.old) (S.memory store.old) }
-    requires runs { IsRunning (state_of objects.old (S.slots store.old) (S.memory store.old)) thread }
+fn fail<S: SlotStore>(kernel: &mut Kernel<S>, thread: u32, fault: Fault) -> Outcome
+    requires runs { IsRunning (state_in S.slots S.memory kernel.old) thread }
     requires told { SentIsSound (ByFault (message_of fault)) }
-    ensures state { state_of objects.new (S.slots store.new) (S.memory store.new)
-        ≡ (faults (state_of objects.old (S.slots store.old) (S.memory store.old)) thread (message_of fault)).0 }
-    ensures outcome { result ≡ (faults (state_of objects.old (S.slots store.old) (S.memory store.old)) thread (message_of fault)).1 }
-    ensures whole { IsWhole objects.new (S.slots store.new) (S.memory store.new) }
+    ensures state { state_in S.slots S.memory kernel.new
+        ≡ (faults (state_in S.slots S.memory kernel.old) thread (message_of fault)).0 }
+    ensures outcome { result ≡ (faults (state_in S.slots S.memory kernel.old) thread (message_of fault)).1 }
 {
-    raise_fault(store, objects, thread, fault);
+    raise_fault(
+        &mut kernel.store,
+        &mut kernel.objects.objects,
+        thread,
+        fault,
+    );
     Outcome::Faulted(kind_of(fault))
 }
 
 /// The thread that runs meets an instruction that cannot run.
-pub(crate) fn trap<S: SlotStore>(
-    store: &mut S,
-    objects: &mut Objects,
-    thread: u32,
-    cause: Cause,
-) -> Outcome
-    requires whole { IsWhole objects.old (S.slots store.old) (S.memory store.old) }
-    requires runs { IsRunning (state_of objects.old (S.slots store.old) (S.memory store.old)) thread }
-    ensures state { state_of objects.new (S.slots store.new) (S.memory store.new)
-        ≡ (faults (state_of objects.old (S.slots store.old) (S.memory store.old)) thread (instruction_fault (registers_of (state_of objects.old (S.slots store.old) (S.memory store.old)) thread).pc cause)).0 }
-    ensures outcome { result ≡ (faults (state_of objects.old (S.slots store.old) (S.memory store.old)) thread (instruction_fault (registers_of (state_of objects.old (S.slots store.old) (S.memory store.old)) thread).pc cause)).1 }
-    ensures whole { IsWhole objects.new (S.slots store.new) (S.memory store.new) }
+pub(crate) fn trap<S: SlotStore>(kernel: &mut Kernel<S>, thread: u32, cause: Cause) -> Outcome
+    requires runs { IsRunning (state_in S.slots S.memory kernel.old) thread }
+    ensures state { state_in S.slots S.memory kernel.new
+        ≡ (faults (state_in S.slots S.memory kernel.old) thread (instruction_fault (registers_of (state_in S.slots S.memory kernel.old) thread).pc cause)).0 }
+    ensures outcome { result ≡ (faults (state_in S.slots S.memory kernel.old) thread (instruction_fault (registers_of (state_in S.slots S.memory kernel.old) thread).pc cause)).1 }
 {
-    let pc = objects.pc(store, thread);
-    fail(store, objects, thread, Fault::Instruction { pc, cause })
+    let pc = kernel.pc(thread);
+    fail(kernel, thread, Fault::Instruction { pc, cause })
 }
 
 /// The thread that runs reads, writes or runs memory without the right to.
-pub(crate) fn miss<S: SlotStore>(
-    store: &mut S,
-    objects: &mut Objects,
-    thread: u32,
-    fault: MemoryFault,
-) -> Outcome
-    requires whole { IsWhole objects.old (S.slots store.old) (S.memory store.old) }
-    requires runs { IsRunning (state_of objects.old (S.slots store.old) (S.memory store.old)) thread }
-    ensures state { state_of objects.new (S.slots store.new) (S.memory store.new)
-        ≡ (faults (state_of objects.old (S.slots store.old) (S.memory store.old)) thread (memory_fault (registers_of (state_of objects.old (S.slots store.old) (S.memory store.old)) thread).pc fault)).0 }
-    ensures outcome { result ≡ (faults (state_of objects.old (S.slots store.old) (S.memory store.old)) thread (memory_fault (registers_of (state_of objects.old (S.slots store.old) (S.memory store.old)) thread).pc fault)).1 }
-    ensures whole { IsWhole objects.new (S.slots store.new) (S.memory store.new) }
+pub(crate) fn miss<S: SlotStore>(kernel: &mut Kernel<S>, thread: u32, fault: MemoryFault) -> Outcome
+    requires runs { IsRunning (state_in S.slots S.memory kernel.old) thread }
+    ensures state { state_in S.slots S.memory kernel.new
+        ≡ (faults (state_in S.slots S.memory kernel.old) thread (memory_fault (registers_of (state_in S.slots S.memory kernel.old) thread).pc fault)).0 }
+    ensures outcome { result ≡ (faults (state_in S.slots S.memory kernel.old) thread (memory_fault (registers_of (state_in S.slots S.memory kernel.old) thread).pc fault)).1 }
 {
-    let pc = objects.pc(store, thread);
-    fail(store, objects, thread, Fault::Memory { pc, fault })
+    let pc = kernel.pc(thread);
+    fail(kernel, thread, Fault::Memory { pc, fault })
 }

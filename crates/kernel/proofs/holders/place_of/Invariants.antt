@@ -2,8 +2,8 @@
 use Rattle.std.proofs.Common.{ℕ, ◌*◌, ◌-◌, ◌<◌, ◌≤◌}
 use Rattle.kernel.proofs.holders.place_of.Given as goal
 use Rattle.kernel.specs.Setups.{slots_of_holder}
-use Rattle.objects.specs.Tables.{state_of}
+use Rattle.lifecycles.specs.Kernels.{state_in}
 
 abbrev pub invariant-slots : goal.invariant-slots
 invariant-slots g l =
-    (earlier : ℕ) → earlier < l.index → slots_of_holder (state_of l.objects (g.S.SlotMap.slots l.store) (g.S.SlotStore.memory l.store)) (16 * (l.number - earlier)) ≤ earlier
+    (earlier : ℕ) → earlier < l.index → slots_of_holder (state_in g.S.SlotMap.slots g.S.SlotStore.memory l.kernel) (16 * (l.number - earlier)) ≤ earlier

@@ -1,8 +1,12 @@
 -- What is left is sound.
+use Rattle.agreement.specs.Wholeness.{IsWhole}
 use Rattle.soundness.proofs.Machines.{tick-machine}
 use Rattle.soundness.proofs.ThreadCalls.{tick-whole}
+use Rattle.std.proofs.Common.{subst, sym}
 use Rattle.steps.proofs.events.pass_tick.Goals as goal
 use Rattle.system_calls.proofs.Kept.{kept}
 
-pub returns-clause-whole : goal.returns-clause-whole
-returns-clause-whole g c = kept _ _ _ _ _ _ _ c.requires.whole c.tick.ensures.state (tick-whole _ c.requires.whole.sound) (tick-machine _) c.tick.ensures.bytes c.tick.ensures.stands
+pub invariant_of-kernel : goal.invariant_of-kernel
+invariant_of-kernel g c =
+    let whole = subst (λ k. IsWhole k.objects (g.S.SlotMap.slots k.store) (g.S.SlotStore.memory k.store)) (sym c.kernel-inside.view_is) c.kernel.invariant in
+    kept _ _ _ _ _ _ _ whole c.tick.ensures.state (tick-whole _ whole.sound) (tick-machine _) c.tick.ensures.bytes c.tick.ensures.stands

@@ -1,9 +1,12 @@
 -- What is left is sound.
+use Rattle.agreement.specs.Wholeness.{IsWhole}
 use Rattle.soundness.proofs.Events.{raise-whole}
 use Rattle.soundness.proofs.Machines.{raise-machine}
+use Rattle.std.proofs.Common.{subst, sym}
 use Rattle.steps.proofs.events.raise_line.Goals as goal
 use Rattle.system_calls.proofs.Kept.{kept}
 
-pub returns-clause-whole : goal.returns-clause-whole
-returns-clause-whole g c =
-    kept _ _ _ _ _ _ _ c.requires.whole c.raise.ensures.state (raise-whole _ c.requires.whole.sound c.args.line) (raise-machine _ c.args.line) c.raise.ensures.bytes c.raise.ensures.stands
+pub invariant_of-kernel : goal.invariant_of-kernel
+invariant_of-kernel g c =
+    let whole = subst (λ k. IsWhole k.objects (g.S.SlotMap.slots k.store) (g.S.SlotStore.memory k.store)) (sym c.kernel-inside.view_is) c.kernel.invariant in
+    kept _ _ _ _ _ _ _ whole c.raise.ensures.state (raise-whole _ whole.sound c.args.line) (raise-machine _ c.args.line) c.raise.ensures.bytes c.raise.ensures.stands

@@ -1,11 +1,11 @@
 -- The current thread runs.
-use Rattle.model.specs.Kernel.Scheduling.{current}
-use Rattle.objects.specs.Tables.{Tables, state_of}
+use Rattle.lifecycles.specs.Kernels.{state_in}
+use Rattle.model.specs.Kernel.Soundness.{IsSound}
 use Rattle.soundness.proofs.Running.{current-runs}
-use Rattle.std.proofs.Common.{◌≡◌, ◌∙◌, subst, sym}
+use Rattle.std.proofs.Common.{rules, subst}
 use Rattle.steps.proofs.events.run_current.Goals as goal
 
-pub run_thread-requires-clause-runs : goal.run_thread-requires-clause-runs
-run_thread-requires-clause-runs g c =
-    let chosen = subst (λ (o : Tables). c.choose.result ≡ current (state_of o (g.S.SlotMap.slots c.args.store.now) (g.S.SlotStore.memory c.args.store.now))) c.kernel.view_is c.choose.ensures in
-    current-runs _ c.requires.whole.sound.threads c.in-Some.thread (sym chosen ∙ c.in-Some.is)
+pub run_thread-requires : goal.run_thread-requires
+run_thread-requires g c =
+    let sound = subst (λ k. IsSound (state_in g.S.SlotMap.slots g.S.SlotStore.memory k)) c.kernel.view_is c.kernel.invariant.sound in
+    record { runs = current-runs _ sound.threads c.in-Some.thread (search rules) }

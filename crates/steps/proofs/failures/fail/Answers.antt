@@ -1,10 +1,13 @@
 -- What is left is sound.
+use Rattle.agreement.specs.Wholeness.{IsWhole}
 use Rattle.soundness.proofs.Events.{fault-whole}
 use Rattle.soundness.proofs.Machines.{fault-machine}
+use Rattle.std.proofs.Common.{rules, subst, sym}
 use Rattle.steps.proofs.failures.fail.Goals as goal
 use Rattle.system_calls.proofs.Kept.{kept}
 
-pub returns-clause-whole : goal.returns-clause-whole
-returns-clause-whole g c =
-    kept _ _ _ _ _ _ _ c.requires.whole c.raise_fault.ensures.state (fault-whole _ c.requires.whole.sound c.args.thread _ c.requires.runs c.requires.told)
+pub invariant_of-kernel : goal.invariant_of-kernel
+invariant_of-kernel g c =
+    let whole = subst (λ k. IsWhole k.objects (g.S.SlotMap.slots k.store) (g.S.SlotStore.memory k.store)) (sym c.kernel-inside.view_is) c.kernel.invariant in
+    kept _ _ _ _ _ _ _ whole c.raise_fault.ensures.state (fault-whole _ whole.sound c.args.thread _ (search rules) c.requires.told)
     (fault-machine _ c.args.thread _) c.raise_fault.ensures.bytes c.raise_fault.ensures.stands

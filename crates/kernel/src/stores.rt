@@ -1,0 +1,19 @@
+//! The store that the kernel stands on: its type is named here alone, and its form in `specs/Stores.antt`.
+
+ghost use Rattle.std.specs.Prelude.{ℕ, ◌≡◌, ◌^◌, ◌≤◌, IfOk, None, replicate};
+ghost use Rattle.kernel.specs.Stores.{bytes_of, slots_of};
+
+use slots::PlainSlots;
+use std::alloc::{AllocError, Global};
+
+pub(crate) type Store = PlainSlots;
+
+/// Memory of 2^`bits` bytes, all zero, and no open slot.
+pub(crate) fn empty_store(alloc: Global, bits: u32) -> Result<Store, AllocError>
+    requires least { 16 ≤ bits }
+    requires most { bits ≤ 24 }
+    ensures bytes { IfOk result (λ store. bytes_of store ≡ replicate (2 ^ bits) 0) }
+    ensures slots { IfOk result (λ store. (s : ℕ) → slots_of store s ≡ None) }
+{
+    PlainSlots::new(alloc, bits)
+}
