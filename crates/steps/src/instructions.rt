@@ -51,7 +51,7 @@ fn execute<S: SlotStore>(kernel: &mut Kernel<S>, thread: u32, instruction: Instr
 {
     match perform(kernel, thread, instruction) {
         Exec::Next => Outcome::Plain,
-        Exec::Ecall => system_call(&mut kernel.store, &mut kernel.objects, thread),
+        Exec::Ecall => system_call(kernel, thread),
         Exec::Trap(cause) => trap(kernel, thread, cause),
         Exec::Memory(address, access) => {
             let fault = MemoryFault { address, access };

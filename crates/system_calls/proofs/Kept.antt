@@ -14,6 +14,10 @@ use Rattle.objects.specs.Tables.{Tables, state_of}
 use Rattle.soundness.proofs.Places.{object-inside}
 use Rattle.soundness.specs.Machines.{SameBase}
 
+-- the state that is sound there
+abbrev pub state_before : {o : Tables} {slots : Slots} {memory : List ℕ} → IsWhole o slots memory → State
+state_before {o} {slots} {memory} whole = state_of o slots memory
+
 pub kept : (o n : Tables) (slots now : Slots) (old new : List ℕ) (u : State) → IsWhole o slots old → state_of n now new ≡ u → IsSound u → SameBase (state_of o slots old) u
     → SameObjects (state_of o slots old) (state_of n now new) old new → Standing n now new → IsWhole n now new
 unfolding state_of

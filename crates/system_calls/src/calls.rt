@@ -1,9 +1,8 @@
 //! All system calls.
 
 ghost use Rattle.std.specs.Prelude.{ℕ, ◌≡◌};
-ghost use Rattle.agreement.specs.Wholeness.{IsWhole};
 ghost use Rattle.model.specs.Kernel.Steps.{calls, system_call};
-ghost use Rattle.objects.specs.Tables.{state_of};
+ghost use Rattle.lifecycles.specs.Kernels.{state_in};
 ghost use Rattle.soundness.specs.Running.{IsRunning};
 ghost use Rattle.system_calls.specs.Kinds.{system_call_of};
 
@@ -13,7 +12,7 @@ use crate::receives::receive_call;
 use crate::replies::{give_way, reply};
 use crate::send_calls::send_call;
 use ipc::A0;
-use lifecycles::KernelObjects;
+use lifecycles::Kernel;
 use model::{Outcome, Register};
 use slots::SlotStore;
 
@@ -21,38 +20,31 @@ use slots::SlotStore;
 const A7: Register = Register(17);
 
 /// A thread makes a system call.
-fn call<S: SlotStore>(
-    store: &mut S,
-    kernel: &mut KernelObjects,
-    thread: u32,
-    call: SystemCall,
-) -> Outcome
-    requires whole { IsWhole kernel.old (S.slots store.old) (S.memory store.old) }
-    requires runs { IsRunning (state_of kernel.old (S.slots store.old) (S.memory store.old)) thread }
-    ensures state { state_of kernel.new (S.slots store.new) (S.memory store.new)
-        ≡ (calls (state_of kernel.old (S.slots store.old) (S.memory store.old)) thread (system_call_of call)).0 }
-    ensures outcome { result ≡ (calls (state_of kernel.old (S.slots store.old) (S.memory store.old)) thread (system_call_of call)).1 }
-    ensures whole { IsWhole kernel.new (S.slots store.new) (S.memory store.new) }
+fn call<S: SlotStore>(kernel: &mut Kernel<S>, thread: u32, call: SystemCall) -> Outcome
+    requires runs { IsRunning (state_in S.slots S.memory kernel.old) thread }
+    ensures state { state_in S.slots S.memory kernel.new
+        ≡ (calls (state_in S.slots S.memory kernel.old) thread (system_call_of call)).0 }
+    ensures outcome { result ≡ (calls (state_in S.slots S.memory kernel.old) thread (system_call_of call)).1 }
 {
     match call {
-        SystemCall::Send(kind) => send_call(store, kernel, thread, kind),
-        SystemCall::Receive(kind) => receive_call(store, &mut kernel.objects, thread, kind),
+        SystemCall::Send(kind) => send_call(kernel, thread, kind),
+        SystemCall::Receive(kind) => receive_call(kernel, thread, kind),
         SystemCall::ReplyAndReceive => {
-            reply(store, &mut kernel.objects, thread);
-            receive_call(store, &mut kernel.objects, thread, ReceiveKind::Wait)
+            reply(kernel, thread);
+            receive_call(kernel, thread, ReceiveKind::Wait)
         }
         SystemCall::Reply => {
-            reply(store, &mut kernel.objects, thread);
-            pass(store, &mut kernel.objects, thread);
+            reply(kernel, thread);
+            pass(kernel, thread);
             Outcome::Plain
         }
         SystemCall::Yield => {
-            give_way(store, &mut kernel.objects, thread);
+            give_way(kernel, thread);
             Outcome::Plain
         }
         SystemCall::PutCharacter => {
-            let byte = (kernel.objects.registers(store, thread).read(A0) % 0x100) as u8;
-            pass(store, &mut kernel.objects, thread);
+            let byte = (kernel.registers(thread).read(A0) % 0x100) as u8;
+            pass(kernel, thread);
             Outcome::Put(byte)
         }
     }
@@ -63,17 +55,15 @@ fn call<S: SlotStore>(
 ///
 /// seL4 Reference Manual, "System Calls".
 #[tactic(auto, unfolding(model::specs::Kernel::Steps::system_call))]
-pub fn system_call<S: SlotStore>(store: &mut S, kernel: &mut KernelObjects, thread: u32) -> Outcome
-    requires whole { IsWhole kernel.old (S.slots store.old) (S.memory store.old) }
-    requires runs { IsRunning (state_of kernel.old (S.slots store.old) (S.memory store.old)) thread }
-    ensures state { state_of kernel.new (S.slots store.new) (S.memory store.new)
-        ≡ (system_call (state_of kernel.old (S.slots store.old) (S.memory store.old)) thread).0 }
-    ensures outcome { result ≡ (system_call (state_of kernel.old (S.slots store.old) (S.memory store.old)) thread).1 }
-    ensures whole { IsWhole kernel.new (S.slots store.new) (S.memory store.new) }
+pub fn system_call<S: SlotStore>(kernel: &mut Kernel<S>, thread: u32) -> Outcome
+    requires runs { IsRunning (state_in S.slots S.memory kernel.old) thread }
+    ensures state { state_in S.slots S.memory kernel.new
+        ≡ (system_call (state_in S.slots S.memory kernel.old) thread).0 }
+    ensures outcome { result ≡ (system_call (state_in S.slots S.memory kernel.old) thread).1 }
 {
-    let number = kernel.objects.registers(store, thread).read(A7);
+    let number = kernel.registers(thread).read(A7);
     match SystemCall::of_number(number) {
-        Some(known) => call(store, kernel, thread, known),
-        None => unknown_call(store, &mut kernel.objects, thread, number),
+        Some(known) => call(kernel, thread, known),
+        None => unknown_call(kernel, thread, number),
     }
 }

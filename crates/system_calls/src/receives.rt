@@ -1,12 +1,11 @@
 //! Recv and NBRecv.
 
 ghost use Rattle.std.specs.Prelude.{ℕ, ◌≡◌, Some};
-ghost use Rattle.agreement.specs.Wholeness.{IsWhole};
 ghost use Rattle.model.specs.Capabilities.Slots.{capability_at};
 ghost use Rattle.model.specs.Kernel.Kinds.{kind_at};
 ghost use Rattle.model.specs.Kernel.Retype.{NewEndpoint, NewNotification};
 ghost use Rattle.model.specs.Kernel.Steps.{receive_by, receive_call, receive_on_endpoint, receive_on_notification};
-ghost use Rattle.objects.specs.Tables.{state_of};
+ghost use Rattle.lifecycles.specs.Kernels.{state_in};
 ghost use Rattle.soundness.specs.Running.{IsRunning};
 ghost use Rattle.system_calls.specs.Kinds.{receive_call_of};
 
@@ -14,34 +13,41 @@ use crate::answers::lacks_capability;
 use crate::kinds::ReceiveKind;
 use crate::names::named_slot;
 use ipc::{receive, try_to_receive};
+use lifecycles::Kernel;
 use model::{Cap, LookupFailure, Outcome, Slot};
 use notify::{poll, wait};
-use objects::Objects;
 use slots::SlotStore;
 
 /// A thread receives from an endpoint.
 fn receive_message<S: SlotStore>(
-    store: &mut S,
-    objects: &mut Objects,
+    kernel: &mut Kernel<S>,
     thread: u32,
     kind: ReceiveKind,
     endpoint: u32,
 ) -> Outcome
-    requires whole { IsWhole objects.old (S.slots store.old) (S.memory store.old) }
-    requires runs { IsRunning (state_of objects.old (S.slots store.old) (S.memory store.old)) thread }
-    requires endpoint { kind_at (state_of objects.old (S.slots store.old) (S.memory store.old)) endpoint ≡ Some NewEndpoint }
-    ensures state { state_of objects.new (S.slots store.new) (S.memory store.new)
-        ≡ (receive_on_endpoint (state_of objects.old (S.slots store.old) (S.memory store.old)) thread (receive_call_of kind) endpoint).0 }
-    ensures outcome { result ≡ (receive_on_endpoint (state_of objects.old (S.slots store.old) (S.memory store.old)) thread (receive_call_of kind) endpoint).1 }
-    ensures whole { IsWhole objects.new (S.slots store.new) (S.memory store.new) }
+    requires runs { IsRunning (state_in S.slots S.memory kernel.old) thread }
+    requires endpoint { kind_at (state_in S.slots S.memory kernel.old) endpoint ≡ Some NewEndpoint }
+    ensures state { state_in S.slots S.memory kernel.new
+        ≡ (receive_on_endpoint (state_in S.slots S.memory kernel.old) thread (receive_call_of kind) endpoint).0 }
+    ensures outcome { result ≡ (receive_on_endpoint (state_in S.slots S.memory kernel.old) thread (receive_call_of kind) endpoint).1 }
 {
     match kind {
         ReceiveKind::Wait => {
-            receive(store, objects, endpoint, thread);
+            receive(
+                &mut kernel.store,
+                &mut kernel.objects.objects,
+                endpoint,
+                thread,
+            );
             Outcome::Waited
         }
         ReceiveKind::Poll => {
-            try_to_receive(store, objects, endpoint, thread);
+            try_to_receive(
+                &mut kernel.store,
+                &mut kernel.objects.objects,
+                endpoint,
+                thread,
+            );
             Outcome::Plain
         }
     }
@@ -49,27 +55,34 @@ fn receive_message<S: SlotStore>(
 
 /// A thread takes the word of a notification.
 fn receive_signal<S: SlotStore>(
-    store: &mut S,
-    objects: &mut Objects,
+    kernel: &mut Kernel<S>,
     thread: u32,
     kind: ReceiveKind,
     notification: u32,
 ) -> Outcome
-    requires whole { IsWhole objects.old (S.slots store.old) (S.memory store.old) }
-    requires runs { IsRunning (state_of objects.old (S.slots store.old) (S.memory store.old)) thread }
-    requires notification { kind_at (state_of objects.old (S.slots store.old) (S.memory store.old)) notification ≡ Some NewNotification }
-    ensures state { state_of objects.new (S.slots store.new) (S.memory store.new)
-        ≡ (receive_on_notification (state_of objects.old (S.slots store.old) (S.memory store.old)) thread (receive_call_of kind) notification).0 }
-    ensures outcome { result ≡ (receive_on_notification (state_of objects.old (S.slots store.old) (S.memory store.old)) thread (receive_call_of kind) notification).1 }
-    ensures whole { IsWhole objects.new (S.slots store.new) (S.memory store.new) }
+    requires runs { IsRunning (state_in S.slots S.memory kernel.old) thread }
+    requires notification { kind_at (state_in S.slots S.memory kernel.old) notification ≡ Some NewNotification }
+    ensures state { state_in S.slots S.memory kernel.new
+        ≡ (receive_on_notification (state_in S.slots S.memory kernel.old) thread (receive_call_of kind) notification).0 }
+    ensures outcome { result ≡ (receive_on_notification (state_in S.slots S.memory kernel.old) thread (receive_call_of kind) notification).1 }
 {
     match kind {
         ReceiveKind::Wait => {
-            wait(store, objects, notification, thread);
+            wait(
+                &mut kernel.store,
+                &mut kernel.objects.objects,
+                notification,
+                thread,
+            );
             Outcome::Waited
         }
         ReceiveKind::Poll => {
-            poll(store, objects, notification, thread);
+            poll(
+                &mut kernel.store,
+                &mut kernel.objects.objects,
+                notification,
+                thread,
+            );
             Outcome::Plain
         }
     }
@@ -77,58 +90,41 @@ fn receive_signal<S: SlotStore>(
 
 /// A thread receives by what a slot holds. Another capability, or one that may not read, is as good as none.
 fn receive_by<S: SlotStore>(
-    store: &mut S,
-    objects: &mut Objects,
+    kernel: &mut Kernel<S>,
     thread: u32,
     kind: ReceiveKind,
     slot: Slot,
-    capability: Cap,
 ) -> Outcome
-    requires whole { IsWhole objects.old (S.slots store.old) (S.memory store.old) }
-    requires runs { IsRunning (state_of objects.old (S.slots store.old) (S.memory store.old)) thread }
-    requires held { capability_at (S.slots store.old) slot ≡ capability }
-    ensures state { state_of objects.new (S.slots store.new) (S.memory store.new)
-        ≡ (receive_by (state_of objects.old (S.slots store.old) (S.memory store.old)) thread (receive_call_of kind) capability).0 }
-    ensures outcome { result ≡ (receive_by (state_of objects.old (S.slots store.old) (S.memory store.old)) thread (receive_call_of kind) capability).1 }
-    ensures whole { IsWhole objects.new (S.slots store.new) (S.memory store.new) }
+    requires runs { IsRunning (state_in S.slots S.memory kernel.old) thread }
+    ensures state { state_in S.slots S.memory kernel.new
+        ≡ (receive_by (state_in S.slots S.memory kernel.old) thread (receive_call_of kind) (capability_at (S.slots kernel.old.store) slot)).0 }
+    ensures outcome { result ≡ (receive_by (state_in S.slots S.memory kernel.old) thread (receive_call_of kind) (capability_at (S.slots kernel.old.store) slot)).1 }
 {
-    match capability {
+    match kernel.store.capability(slot) {
         Cap::Endpoint { offset, rights, .. } if rights.may_read() => {
-            receive_message(store, objects, thread, kind, offset)
+            receive_message(kernel, thread, kind, offset)
         }
         Cap::Notification { offset, rights, .. } if rights.may_read() => {
-            receive_signal(store, objects, thread, kind, offset)
+            receive_signal(kernel, thread, kind, offset)
         }
-        _ => lacks_capability(
-            store,
-            objects,
-            thread,
-            true,
-            LookupFailure::MissingCapability,
-        ),
+        _ => lacks_capability(kernel, thread, true, LookupFailure::MissingCapability),
     }
 }
 
 /// Recv or NBRecv by the capability that a0 names.
 #[tactic(auto, unfolding(objects::specs::Tables::state_of))]
 pub(crate) fn receive_call<S: SlotStore>(
-    store: &mut S,
-    objects: &mut Objects,
+    kernel: &mut Kernel<S>,
     thread: u32,
     kind: ReceiveKind,
 ) -> Outcome
-    requires whole { IsWhole objects.old (S.slots store.old) (S.memory store.old) }
-    requires runs { IsRunning (state_of objects.old (S.slots store.old) (S.memory store.old)) thread }
-    ensures state { state_of objects.new (S.slots store.new) (S.memory store.new)
-        ≡ (receive_call (state_of objects.old (S.slots store.old) (S.memory store.old)) thread (receive_call_of kind)).0 }
-    ensures outcome { result ≡ (receive_call (state_of objects.old (S.slots store.old) (S.memory store.old)) thread (receive_call_of kind)).1 }
-    ensures whole { IsWhole objects.new (S.slots store.new) (S.memory store.new) }
+    requires runs { IsRunning (state_in S.slots S.memory kernel.old) thread }
+    ensures state { state_in S.slots S.memory kernel.new
+        ≡ (receive_call (state_in S.slots S.memory kernel.old) thread (receive_call_of kind)).0 }
+    ensures outcome { result ≡ (receive_call (state_in S.slots S.memory kernel.old) thread (receive_call_of kind)).1 }
 {
-    match named_slot(store, objects, thread) {
-        Ok(slot) => {
-            let capability = store.capability(slot);
-            receive_by(store, objects, thread, kind, slot, capability)
-        }
-        Err(failure) => lacks_capability(store, objects, thread, true, failure),
+    match named_slot(kernel, thread) {
+        Ok(slot) => receive_by(kernel, thread, kind, slot),
+        Err(failure) => lacks_capability(kernel, thread, true, failure),
     }
 }

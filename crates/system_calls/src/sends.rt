@@ -1,22 +1,22 @@
 //! Messages and signals that are sent.
 
 ghost use Rattle.std.specs.Prelude.{ℕ, ◌≡◌, ◌<◌, ◌≤◌, ◌^◌, Some};
-ghost use Rattle.agreement.specs.Wholeness.{IsWhole};
 ghost use Rattle.model.specs.Capabilities.LookupNumbers.{bits_left_of};
 ghost use Rattle.model.specs.Kernel.Kinds.{kind_at};
 ghost use Rattle.model.specs.Kernel.Messages.{signal};
 ghost use Rattle.model.specs.Kernel.Retype.{NewEndpoint, NewNotification};
 ghost use Rattle.model.specs.Kernel.Steps.{send_on, sends_nothing, signal_on};
-ghost use Rattle.objects.specs.Tables.{state_of};
+ghost use Rattle.lifecycles.specs.Kernels.{state_in};
 ghost use Rattle.soundness.specs.Running.{IsRunning};
 ghost use Rattle.system_calls.specs.Kinds.{send_call_of};
 
 use crate::answers::{answer, lacks_capability, pass};
 use crate::kinds::SendKind;
 use ipc::{send, try_to_send};
+use lifecycles::Kernel;
 use model::{LookupFailure, Outcome};
 use notify::signal;
-use objects::{Objects, Sending, Sent};
+use objects::{Sending, Sent};
 use slots::SlotStore;
 
 /// What a thread sends by a capability with this badge.
@@ -32,28 +32,25 @@ fn sending(sent: Sent, badge: u32, grant_reply: bool) -> Sending
 
 /// A thread sends to an endpoint, by a capability with this badge.
 pub(crate) fn send_on<S: SlotStore>(
-    store: &mut S,
-    objects: &mut Objects,
+    kernel: &mut Kernel<S>,
     thread: u32,
     kind: SendKind,
     endpoint: u32,
     badge: u32,
     grant_reply: bool,
 ) -> Outcome
-    requires whole { IsWhole objects.old (S.slots store.old) (S.memory store.old) }
-    requires runs { IsRunning (state_of objects.old (S.slots store.old) (S.memory store.old)) thread }
-    requires endpoint { kind_at (state_of objects.old (S.slots store.old) (S.memory store.old)) endpoint ≡ Some NewEndpoint }
+    requires runs { IsRunning (state_in S.slots S.memory kernel.old) thread }
+    requires endpoint { kind_at (state_in S.slots S.memory kernel.old) endpoint ≡ Some NewEndpoint }
     requires small { badge < 2 ^ 28 }
-    ensures state { state_of objects.new (S.slots store.new) (S.memory store.new)
-        ≡ (send_on (state_of objects.old (S.slots store.old) (S.memory store.old)) thread (send_call_of kind) endpoint badge grant_reply).0 }
-    ensures outcome { result ≡ (send_on (state_of objects.old (S.slots store.old) (S.memory store.old)) thread (send_call_of kind) endpoint badge grant_reply).1 }
-    ensures whole { IsWhole objects.new (S.slots store.new) (S.memory store.new) }
+    ensures state { state_in S.slots S.memory kernel.new
+        ≡ (send_on (state_in S.slots S.memory kernel.old) thread (send_call_of kind) endpoint badge grant_reply).0 }
+    ensures outcome { result ≡ (send_on (state_in S.slots S.memory kernel.old) thread (send_call_of kind) endpoint badge grant_reply).1 }
 {
     match kind {
         SendKind::Call => {
             send(
-                store,
-                objects,
+                &mut kernel.store,
+                &mut kernel.objects.objects,
                 endpoint,
                 thread,
                 sending(Sent::Call, badge, grant_reply),
@@ -62,8 +59,8 @@ pub(crate) fn send_on<S: SlotStore>(
         }
         SendKind::Send => {
             send(
-                store,
-                objects,
+                &mut kernel.store,
+                &mut kernel.objects.objects,
                 endpoint,
                 thread,
                 sending(Sent::Send, badge, grant_reply),
@@ -72,8 +69,8 @@ pub(crate) fn send_on<S: SlotStore>(
         }
         SendKind::Try => {
             try_to_send(
-                store,
-                objects,
+                &mut kernel.store,
+                &mut kernel.objects.objects,
                 endpoint,
                 thread,
                 sending(Sent::Send, badge, grant_reply),
@@ -84,70 +81,59 @@ pub(crate) fn send_on<S: SlotStore>(
 }
 
 /// A thread signals a notification, and runs on.
-fn give_signal<S: SlotStore>(
-    store: &mut S,
-    objects: &mut Objects,
-    thread: u32,
-    notification: u32,
-    badge: u32,
-)
-    requires whole { IsWhole objects.old (S.slots store.old) (S.memory store.old) }
-    requires runs { IsRunning (state_of objects.old (S.slots store.old) (S.memory store.old)) thread }
-    requires notification { kind_at (state_of objects.old (S.slots store.old) (S.memory store.old)) notification ≡ Some NewNotification }
+fn give_signal<S: SlotStore>(kernel: &mut Kernel<S>, thread: u32, notification: u32, badge: u32)
+    requires runs { IsRunning (state_in S.slots S.memory kernel.old) thread }
+    requires notification { kind_at (state_in S.slots S.memory kernel.old) notification ≡ Some NewNotification }
     requires small { badge < 2 ^ 28 }
-    ensures state { state_of objects.new (S.slots store.new) (S.memory store.new)
-        ≡ signal (state_of objects.old (S.slots store.old) (S.memory store.old)) notification badge }
-    ensures whole { IsWhole objects.new (S.slots store.new) (S.memory store.new) }
-    ensures runs { IsRunning (state_of objects.new (S.slots store.new) (S.memory store.new)) thread }
+    ensures state { state_in S.slots S.memory kernel.new
+        ≡ signal (state_in S.slots S.memory kernel.old) notification badge }
+    ensures runs { IsRunning (state_in S.slots S.memory kernel.new) thread }
 {
-    signal(store, objects, notification, badge);
+    signal(
+        &mut kernel.store,
+        &mut kernel.objects.objects,
+        notification,
+        badge,
+    );
 }
 
 /// A thread signals a notification, by a capability with this badge.
 pub(crate) fn signal_on<S: SlotStore>(
-    store: &mut S,
-    objects: &mut Objects,
+    kernel: &mut Kernel<S>,
     thread: u32,
     kind: SendKind,
     notification: u32,
     badge: u32,
 ) -> Outcome
-    requires whole { IsWhole objects.old (S.slots store.old) (S.memory store.old) }
-    requires runs { IsRunning (state_of objects.old (S.slots store.old) (S.memory store.old)) thread }
-    requires notification { kind_at (state_of objects.old (S.slots store.old) (S.memory store.old)) notification ≡ Some NewNotification }
+    requires runs { IsRunning (state_in S.slots S.memory kernel.old) thread }
+    requires notification { kind_at (state_in S.slots S.memory kernel.old) notification ≡ Some NewNotification }
     requires small { badge < 2 ^ 28 }
-    ensures state { state_of objects.new (S.slots store.new) (S.memory store.new)
-        ≡ (signal_on (state_of objects.old (S.slots store.old) (S.memory store.old)) thread (send_call_of kind) notification badge).0 }
-    ensures outcome { result ≡ (signal_on (state_of objects.old (S.slots store.old) (S.memory store.old)) thread (send_call_of kind) notification badge).1 }
-    ensures whole { IsWhole objects.new (S.slots store.new) (S.memory store.new) }
+    ensures state { state_in S.slots S.memory kernel.new
+        ≡ (signal_on (state_in S.slots S.memory kernel.old) thread (send_call_of kind) notification badge).0 }
+    ensures outcome { result ≡ (signal_on (state_in S.slots S.memory kernel.old) thread (send_call_of kind) notification badge).1 }
 {
-    give_signal(store, objects, thread, notification, badge);
-    answer(store, objects, thread, kind, 0);
+    give_signal(kernel, thread, notification, badge);
+    answer(kernel, thread, kind, 0);
     Outcome::Plain
 }
 
 /// Without a capability NBSend does nothing, and the others fault.
 pub(crate) fn send_nothing<S: SlotStore>(
-    store: &mut S,
-    objects: &mut Objects,
+    kernel: &mut Kernel<S>,
     thread: u32,
     kind: SendKind,
     failure: LookupFailure,
 ) -> Outcome
-    requires whole { IsWhole objects.old (S.slots store.old) (S.memory store.old) }
-    requires runs { IsRunning (state_of objects.old (S.slots store.old) (S.memory store.old)) thread }
+    requires runs { IsRunning (state_in S.slots S.memory kernel.old) thread }
     requires few { bits_left_of failure ≤ 32 }
-    ensures state { state_of objects.new (S.slots store.new) (S.memory store.new)
-        ≡ (sends_nothing (state_of objects.old (S.slots store.old) (S.memory store.old)) thread (send_call_of kind) failure).0 }
-    ensures outcome { result ≡ (sends_nothing (state_of objects.old (S.slots store.old) (S.memory store.old)) thread (send_call_of kind) failure).1 }
-    ensures whole { IsWhole objects.new (S.slots store.new) (S.memory store.new) }
+    ensures state { state_in S.slots S.memory kernel.new
+        ≡ (sends_nothing (state_in S.slots S.memory kernel.old) thread (send_call_of kind) failure).0 }
+    ensures outcome { result ≡ (sends_nothing (state_in S.slots S.memory kernel.old) thread (send_call_of kind) failure).1 }
 {
     match kind {
-        SendKind::Call | SendKind::Send => {
-            lacks_capability(store, objects, thread, false, failure)
-        }
+        SendKind::Call | SendKind::Send => { lacks_capability(kernel, thread, false, failure) }
         SendKind::Try => {
-            pass(store, objects, thread);
+            pass(kernel, thread);
             Outcome::Plain
         }
     }

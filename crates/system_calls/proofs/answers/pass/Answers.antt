@@ -1,9 +1,12 @@
 -- What is left is sound.
+use Rattle.agreement.specs.Wholeness.{IsWhole}
 use Rattle.soundness.proofs.Machines.{passes-machine}
 use Rattle.soundness.proofs.ThreadCalls.{passes-whole}
+use Rattle.std.proofs.Common.{rules, subst, sym}
 use Rattle.system_calls.proofs.Kept.{kept}
 use Rattle.system_calls.proofs.answers.pass.Goals as goal
 
-pub returns-clause-whole : goal.returns-clause-whole
-returns-clause-whole g c =
-    kept _ _ _ _ _ _ _ c.requires.whole c.pass.ensures.state (passes-whole _ c.requires.whole.sound c.args.thread c.requires.there) (passes-machine _ c.args.thread) c.pass.ensures.bytes c.pass.ensures.stands
+pub invariant_of-kernel : goal.invariant_of-kernel
+invariant_of-kernel g c =
+    let whole = subst (λ k. IsWhole k.objects (g.S.SlotMap.slots k.store) (g.S.SlotStore.memory k.store)) (sym c.kernel-inside.view_is) c.kernel.invariant in
+    kept _ _ _ _ _ _ _ whole c.pass.ensures.state (passes-whole _ whole.sound c.args.thread (search rules)) (passes-machine _ c.args.thread) c.pass.ensures.bytes c.pass.ensures.stands

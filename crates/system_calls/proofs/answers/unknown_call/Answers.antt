@@ -1,14 +1,16 @@
 -- What is left is sound.
+use Rattle.agreement.specs.Wholeness.{IsWhole}
 use Rattle.model.specs.Kernel.Steps.{calls_known}
-use Rattle.objects.specs.Tables.{state_of}
 use Rattle.soundness.proofs.Machines.{fault-machine}
 use Rattle.soundness.proofs.SystemCalls.{unknown-whole}
-use Rattle.std.proofs.Common.{None, rules}
-use Rattle.system_calls.proofs.Kept.{kept}
+use Rattle.std.proofs.Common.{None, rules, subst, sym}
+use Rattle.system_calls.proofs.Kept.{kept, state_before}
 use Rattle.system_calls.proofs.answers.unknown_call.Goals as goal
 
-pub returns-clause-whole : goal.returns-clause-whole
-returns-clause-whole g c =
-    kept _ _ _ _ _ _ (calls_known (state_of c.args.objects.now (g.S.SlotMap.slots c.args.store.now) (g.S.SlotStore.memory c.args.store.now)) c.args.thread c.args.number None).0 c.requires.whole (search rules)
-    (unknown-whole _ c.args.thread c.requires.whole.sound c.requires.runs c.args.number c.ranges.number.fits)
-    (fault-machine _ c.args.thread _) c.raise_fault.ensures.bytes c.raise_fault.ensures.stands
+pub invariant_of-kernel : goal.invariant_of-kernel
+invariant_of-kernel g c =
+    let whole = subst (λ k. IsWhole k.objects (g.S.SlotMap.slots k.store) (g.S.SlotStore.memory k.store)) (sym c.kernel-inside.view_is) c.kernel.invariant in
+    let s = state_before whole in
+    kept _ _ _ _ _ _ (calls_known s c.args.thread c.args.number None).0 whole (search rules)
+    (unknown-whole s c.args.thread whole.sound (search rules) c.args.number c.ranges.number.fits)
+    (fault-machine s c.args.thread _) c.raise_fault.ensures.bytes c.raise_fault.ensures.stands

@@ -3,6 +3,7 @@ use Rattle.model.specs.Capabilities.LookupNumbers.{bits_left_of}
 use Rattle.model.specs.Kernel.State.{State}
 use Rattle.model.specs.Kernel.Steps.{named_slot}
 use Rattle.model.specs.declared.lookup_failures.LookupFailure.{LookupFailure}
+use Rattle.lifecycles.specs.Kernels.{state_in}
 use Rattle.objects.specs.Tables.{state_of}
 use Rattle.soundness.proofs.SystemCalls.{named-left}
 use Rattle.std.proofs.Common.{ℕ, ◌≡◌, ◌≤◌, Result, Ok, Err, rules, sym}
@@ -15,4 +16,4 @@ few s thread (Err failure) is = named-left s thread failure (sym is)
 
 pub returns-clause-few : goal.returns-clause-few
 unfolding state_of
-returns-clause-few g c = few (state_of c.args.objects.now (g.S.SlotMap.slots c.args.store.now) (g.S.SlotStore.memory c.args.store.now)) c.args.thread c.called_slot.result (search rules)
+returns-clause-few g c = few (state_in g.S.SlotMap.slots g.S.SlotStore.memory c.args.kernel.now) c.args.thread c.called_slot.result (search rules)

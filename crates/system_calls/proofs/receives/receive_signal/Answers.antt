@@ -1,15 +1,19 @@
 -- What is left is sound.
+use Rattle.agreement.specs.Wholeness.{IsWhole}
 use Rattle.soundness.proofs.Machines.{wait-machine, poll-machine}
 use Rattle.soundness.proofs.Messages.{wait-whole, poll-whole}
+use Rattle.std.proofs.Common.{rules, subst, sym}
 use Rattle.system_calls.proofs.Kept.{kept}
 use Rattle.system_calls.proofs.receives.receive_signal.Goals as goal
 
-pub returns-in-Wait-clause-whole : goal.returns-in-Wait-clause-whole
-returns-in-Wait-clause-whole g c =
-    kept _ _ _ _ _ _ _ c.requires.whole c.wait.ensures.state (wait-whole _ c.args.notification c.requires.whole.sound c.requires.notification c.args.thread c.requires.runs)
+pub invariant_of-kernel : goal.invariant_of-kernel
+invariant_of-kernel g c =
+    let whole = subst (λ k. IsWhole k.objects (g.S.SlotMap.slots k.store) (g.S.SlotStore.memory k.store)) (sym c.kernel-inside.view_is) c.kernel.invariant in
+    kept _ _ _ _ _ _ _ whole c.wait.ensures.state (wait-whole _ c.args.notification whole.sound (search rules) c.args.thread (search rules))
     (wait-machine _ c.args.notification c.args.thread) c.wait.ensures.bytes c.wait.ensures.stands
 
-pub returns-in-Poll-clause-whole : goal.returns-in-Poll-clause-whole
-returns-in-Poll-clause-whole g c =
-    kept _ _ _ _ _ _ _ c.requires.whole c.poll.ensures.state (poll-whole _ c.args.notification c.requires.whole.sound c.requires.notification c.args.thread c.requires.runs)
+pub invariant_of-kernel-in-Poll : goal.invariant_of-kernel-in-Poll
+invariant_of-kernel-in-Poll g c =
+    let whole = subst (λ k. IsWhole k.objects (g.S.SlotMap.slots k.store) (g.S.SlotStore.memory k.store)) (sym c.kernel-inside.view_is) c.kernel.invariant in
+    kept _ _ _ _ _ _ _ whole c.poll.ensures.state (poll-whole _ c.args.notification whole.sound (search rules) c.args.thread (search rules))
     (poll-machine _ c.args.notification c.args.thread) c.poll.ensures.bytes c.poll.ensures.stands
