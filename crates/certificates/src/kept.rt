@@ -38,10 +38,10 @@ pub(crate) enum Kept {
 impl Known {
     /// The state that it stands for, where its part is shown.
     pub(crate) fn state<'s>(&self, slots: &'s [NotedSlot], shown: &'s ShownPart) -> PointState<'s>
-        requires shown { Rise shown.now.changes.items }
+        requires shown { Rise shown.now.changes }
         requires rising { Rise slots.now }
         requires unlinked { AreUnlinked slots.now }
-        ensures slots { slots_of result.slots ≡ changed slots.now shown.now.changes.items }
+        ensures slots { slots_of result.slots ≡ changed slots.now shown.now.changes }
         ensures state { (log : List NotedSlot) → Shows log self.now.part shown.now → state_of result ≡ state_by slots.now log self.now }
         ensures image { result.slots.image.now ≡ slots.now }
     {
@@ -87,7 +87,7 @@ impl Kept {
 
     /// What is noted of the point, where the part of its state is shown.
     pub(crate) fn noted<'s>(&self, slots: &'s [NotedSlot], shown: &'s ShownPart) -> Noted<'s>
-        requires shown { Rise shown.now.changes.items }
+        requires shown { Rise shown.now.changes }
         requires rising { Rise slots.now }
         requires unlinked { AreUnlinked slots.now }
         ensures noted { (log : List NotedSlot) → ShowsKept log shown.now self.now → noted_of result ≡ noted_by slots.now log self.now }

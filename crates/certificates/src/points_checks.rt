@@ -134,6 +134,7 @@ impl<R: ThreadRules> Program<'_, '_, R> {
         let start = NotedSlots {
             image: self.slots,
             changes: &[],
+            families: None,
         };
         let kept = points.kept[entry as usize];
         let shown = kept.shown(self.alloc, &points.log)?;

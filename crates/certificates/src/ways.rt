@@ -92,8 +92,8 @@ impl<R: ThreadRules> Program<'_, '_, R> {
     ) -> Option<Refusal>
         requires program { IsProgram (R.image self.now.rules.now) (R.thread self.now.rules.now) self.now.thread.now self.now.number self.now.slots.now }
         requires image { way.now.slots.image.now ≡ self.now.slots.now }
-        requires shown { Rise shown.now.changes.items }
-        requires slots { slots_of way.now.slots ≡ changed self.now.slots.now shown.now.changes.items }
+        requires shown { Rise shown.now.changes }
+        requires slots { slots_of way.now.slots ≡ changed self.now.slots.now shown.now.changes }
         ensures { (log : List NotedSlot) (t : Thread) (a : ℕ) → Shows log known.now.part shown.now → t.header.budget ≡ self.now.thread.now.header.budget
             → result ≡ first_broken (edge_rules t at (measure_of measure.now) (edge_of a (S.value_of step.now) way.now) (states.Known (state_by self.now.slots.now log known.now))) }
     {
@@ -125,7 +125,7 @@ impl<R: ThreadRules> Program<'_, '_, R> {
         requires image { way.now.slots.image.now ≡ self.now.slots.now }
         requires plain { way.now.keeps_slots ≡ false }
         requires shown { Shows points.now.log part shown.now }
-        requires slots { slots_of way.now.slots ≡ changed self.now.slots.now shown.now.changes.items }
+        requires slots { slots_of way.now.slots ≡ changed self.now.slots.now shown.now.changes }
         ensures { (t : Thread) (a : ℕ) → t.header.budget ≡ self.now.thread.now.header.budget
             → IfOk result (λ broken. broken ≡ first_broken (edge_rules t at (measure_of measure.now) (edge_of a (S.value_of step.now) way.now) (noted_at (R.image self.now.rules.now) (R.thread self.now.rules.now) address))) }
     {

@@ -1,7 +1,7 @@
 -- Changes that are told at their keys, one after another, are all of them.
 use Rattle.std.proofs.Common.{ℕ, zero, suc, ◌≡◌, ◌∙◌, ◌==◌, ◌||◌, ◌&&◌, Bool, true, false, not, is_some, option_to_list, arith, if◌then◌else◌, Option, Some, None, option_map, option_and_then, List, [], ◌∷◌, ◌++◌, map, refl, sym, ap}
 use Rattle.std.specs.Option.{option_map_or}
-use Rattle.std.specs.List.{flat_map, list_any}
+use Rattle.std.specs.List.{filter, flat_map, list_any}
 use Rattle.std.proofs.lemmas.Bool.Decides.{nat_tests}
 use Rattle.std.proofs.lemmas.Bool.{eq-eqb, eqb-true}
 use Rattle.model.specs.Acceptance.NotedStates.{NotedSlot, SlotKey, is_same_key, number_of, slot_at, with_noted}
@@ -16,13 +16,15 @@ use Rattle.typestate.specs.declared.slot_changes.SlotChange.{SlotChange}
 use Rattle.typestate.specs.declared.slot_changes.SlotChange.TheVariants.{Nothing, Puts, Moves, Removes}
 use Rattle.typestate.specs.ChangeLists.{changes_of, child_change, named_by, removal_change, told_at, told_of}
 use Rattle.typestate.specs.Differences.{changed, left_by, slots_of}
+use Rattle.typestate.specs.Families.{children_of, has_parent}
+use Rattle.typestate.specs.Levels.{all_below, below_by, hanging_below, hangs_below, named, touched_by}
 use Rattle.typestate.specs.Removals.{may_lose}
 use Rattle.typestate.specs.SlotChanges.{cap_left, emptied, followed, heir, is_parent, is_removed, loses_children, noted_descends, noted_outside, noted_parent, slot_left, slots_left, what_stays, without_gone}
 use Rattle.typestate.proofs.Compared.{is_changed, same-place, unchanged}
-use Rattle.typestate.proofs.LevelByLevel.{descends-longer, descends-same}
+use Rattle.typestate.proofs.LevelByLevel.{descends-longer, descends-same, listed-goes}
 use Rattle.typestate.proofs.MoveCalls.{follows-keeps, map-at, map-rises}
 use Rattle.typestate.specs.Unlinked.{AreUnlinked, is_linked}
-use Rattle.typestate.proofs.OwnChanges.{HoldOwn, hold-own}
+use Rattle.typestate.proofs.OwnChanges.{HoldOwn, hold-own, unnamed-parent}
 use Rattle.typestate.proofs.RemovedNoted.{reset-full, reset-left, stay-at, stay-rise, stays-keeps}
 use Rattle.typestate.proofs.Rising.{RiseFrom, changes-rise, from-first, looks-equal}
 use Rattle.typestate.proofs.SlotLists.{noted-at}
@@ -245,29 +247,29 @@ module _ (image changes : List NotedSlot) (unlinked : AreUnlinked image) (ordere
           ] refl
         ] refl none
 
-    -- a slot that stays, of which no child goes, is left as it is, where it was derived from no other
-    left-alone : (s : NotedSlot) → s.parent ≡ None → loses_children gone noted s.key ≡ false → slot_left gone noted s ≡ s
-    left-alone s alone none =
+    -- a slot that stays, of which no child goes, is left as it is, where what it was derived from stays
+    left-alone : (s : NotedSlot) → option_map_or gone s.parent false ≡ false → loses_children gone noted s.key ≡ false → slot_left gone noted s ≡ s
+    left-alone s stays none =
         ap (λ (c : Cap). let r : NotedSlot = record { key = s.key; capability = c; parent = heir gone noted s } in r) (cap-kept gone noted s.key s.capability none)
-        ∙ ap (λ (p : Option SlotKey). let r : NotedSlot = record { key = s.key; capability = s.capability; parent = p } in r)
-        (heir-same 255 gone noted s.parent (ap (λ (p : Option SlotKey). option_map_or gone p false) alone))
+        ∙ ap (λ (p : Option SlotKey). let r : NotedSlot = record { key = s.key; capability = s.capability; parent = p } in r) (heir-same 255 gone noted s.parent stays)
 
-    module _ (keys : List SlotKey) (stay : (key : SlotKey) (s : NotedSlot) → slot_at noted key ≡ Some s → s.parent ≡ None → is_named noted (removal_change gone noted) keys key ≡ false
-        → (gone s.key ≡ false) × (loses_children gone noted s.key ≡ false)) where
+    module _ (keys : List SlotKey) (touched_ : List NotedSlot) (own : HoldOwn noted touched_)
+        (stay : (key : SlotKey) (s : NotedSlot) → slot_at noted key ≡ Some s → is_changed touched_ key ≡ false → is_named noted (removal_change gone noted) keys key ≡ false
+        → (gone s.key ≡ false) × (option_map_or gone s.parent false ≡ false) × (loses_children gone noted s.key ≡ false)) where
       abbrev tell : NotedSlot → List NotedSlot
       tell = removal_change gone noted
 
-      pub removal-made : changed noted (flat_map (told_at tell noted) keys ++ flat_map (told_of tell) changes) ≡ left
+      pub removal-made : changed noted (flat_map (told_at tell noted) keys ++ flat_map (told_of tell) touched_) ≡ left
       removal-made =
           let named = flat_map (told_at tell noted) keys in
-          let made = named ++ told noted tell changes in
-          ap (λ (l : List NotedSlot). changed noted (named ++ l)) (told-own noted tell changes (hold-own image changes 0 ordered))
+          let made = named ++ told noted tell touched_ in
+          ap (λ (l : List NotedSlot). changed noted (named ++ l)) (told-own noted tell touched_ own)
           ∙ looks-equal (changed noted made) left 0 0 (changes-rise noted made rises) (stay-rise (what_stays gone noted) (stays-keeps gone noted) noted 0 rises)
-          (told-all noted tell (slot_at left) (same-place left) removal-leaves keys changes removal-rest
+          (told-all noted tell (slot_at left) (same-place left) removal-leaves keys touched_ removal-rest
           (λ key s at unchanged isnt.
-          let stays = stay key s at (no-parent key s at unchanged) isnt in
+          let stays = stay key s at unchanged isnt in
           sym (left-is key ∙ ap (option_and_then (what_stays gone noted)) at ∙ ap (λ b. if b then None else Some (slot_left gone noted s)) stays.0
-          ∙ ap (λ (r : NotedSlot). Some r) (left-alone s (no-parent key s at unchanged) stays.1)))
+          ∙ ap (λ (r : NotedSlot). Some r) (left-alone s stays.1 stays.2)))
           (λ key none. sym (left-is key ∙ ap (option_and_then (what_stays gone noted)) none)))
 
   module _ (from to : SlotKey) where
@@ -302,11 +304,26 @@ module _ (image changes : List NotedSlot) (unlinked : AreUnlinked image) (ordere
           | false ↦ λ is _. sym (wanted ∙ ap (λ b. Some (if b then record s { parent = Some to } else s)) is)
         ] refl none
 
-    pub children-made : changed noted (flat_map (told_of (child_change from to)) changes) ≡ children
+    -- nothing is told of what is no child
+    child-alone : (c : NotedSlot) → has_parent from (left_by c) ≡ false → told_of (child_change from to) c ≡ []
+    child-alone c isnt = elim (left_by c) as (λ o. has_parent from o ≡ false → option_map_or (child_change from to) o [] ≡ []) [
+      | None ↦ λ _. refl
+      | Some s ↦ λ none. ap (λ b. if b then followed from to s ∷ [] else []) none
+    ] isnt
+
+    children-told : (cs : List NotedSlot) → flat_map (told_of (child_change from to)) (children_of cs from) ≡ flat_map (told_of (child_change from to)) cs
+    children-told [] = refl
+    children-told (c ∷ rest) = elim (has_parent from (left_by c)) as (λ b. has_parent from (left_by c) ≡ b
+        → flat_map (told_of (child_change from to)) (if b then c ∷ children_of rest from else children_of rest from) ≡ told_of (child_change from to) c ++ flat_map (told_of (child_change from to)) rest) [
+          | true ↦ λ _. ap (λ (l : List NotedSlot). told_of (child_change from to) c ++ l) (children-told rest)
+          | false ↦ λ isnt. children-told rest ∙ ap (λ (l : List NotedSlot). l ++ flat_map (told_of (child_change from to)) rest) (sym (child-alone c isnt))
+        ] refl
+
+    pub children-made : changed noted (flat_map (told_of (child_change from to)) (children_of changes from)) ≡ children
     children-made =
         let tell = child_change from to in
         let made = told noted tell changes in
-        ap (changed noted) (told-own noted tell changes (hold-own image changes 0 ordered))
+        ap (changed noted) (children-told changes) ∙ ap (changed noted) (told-own noted tell changes (hold-own image changes 0 ordered))
         ∙ looks-equal (changed noted made) children 0 0 (changes-rise noted made rises) (map-rises follow (follows-keeps from to) noted 0 rises)
         (told-all noted tell (slot_at children) (same-place children) child-leaves [] changes child-rest
         (λ key s at unchanged isnt. child-rest key s at (ap (λ (p : Option SlotKey). is_changed (if is_parent from p then follow s ∷ [] else []) key) (no-parent key s at unchanged)))
@@ -359,49 +376,6 @@ parent-is key (Some p) is = record { parent = p; there = refl; same = is }
 found-at : (slots : List NotedSlot) (key : SlotKey) (s : NotedSlot) → slot_at slots key ≡ Some s → slot_at slots s.key ≡ Some s
 found-at slots key s at = same-place slots s.key key (found-key slots key s at) ∙ at
 
-module _ (slots : List NotedSlot) (rises : RiseFrom 0 slots) (key : SlotKey) (s : NotedSlot) (at : slot_at slots key ≡ Some s) (alone : s.parent ≡ None) where
-  one-stays : (gone : SlotKey) → (is_same_key gone key || list_any (λ k. is_same_key k key) (option_to_list (noted_parent slots gone))) ≡ false
-      → (is_removed slots (One gone) s.key ≡ false) × (loses_children (is_removed slots (One gone)) slots s.key ≡ false)
-  one-stays gone isnt =
-      let parts = or-both (is_same_key gone key) (list_any (λ k. is_same_key k key) (option_to_list (noted_parent slots gone))) isnt in (
-        number-apart s.key key gone (found-key slots key s at) parts.0,
-        no-loss slots rises (is_removed slots (One gone)) s.key (λ c.
-            let there : slot_at slots gone ≡ Some c.child = same-place slots gone c.child.key (eqb-true (number_of gone) (number_of c.child.key) c.removed) ∙ found-at slots c.at c.child c.held in
-            let p = parent-is s.key c.child.parent c.below in
-            let above : noted_parent slots gone ≡ Some p.parent = ap (option_and_then (λ (x : NotedSlot). x.parent)) there ∙ p.there in
-            let named : (is_same_key p.parent key || false) ≡ false = ap (λ (o : Option SlotKey). list_any (λ k. is_same_key k key) (option_to_list o)) (sym above) ∙ parts.1 in
-            let same : is_same_key p.parent key ≡ true = ap (λ (n : ℕ). number_of p.parent == n) (sym (found-key slots key s at)) ∙ p.same in
-            let clash : true ≡ false = sym (ap (λ b. b || false) same) ∙ named in cc),
-      )
-
-  -- nothing stands above a slot that was derived from none
-  descends-not : (n : ℕ) (root k : SlotKey) → number_of k ≡ number_of key → noted_descends n slots root k ≡ false
-  unfolding noted_descends
-  descends-not zero root k same = refl
-  descends-not (suc n) root k same =
-      ap (λ (o : Option SlotKey). option_map_or (λ parent. is_same_key parent root || noted_descends n slots root parent) o false)
-      (ap (option_and_then (λ (x : NotedSlot). x.parent)) (same-place slots k key same ∙ at) ∙ alone)
-
-  below-one : (n : ℕ) (root k p : SlotKey) → noted_parent slots k ≡ Some p → number_of p ≡ number_of key → is_same_key root key ≡ false → noted_descends (suc n) slots root k ≡ false
-  unfolding noted_descends
-  below-one n root k p above same isnt =
-      ap (λ (o : Option SlotKey). option_map_or (λ parent. is_same_key parent root || noted_descends n slots root parent) o false) above
-      ∙ ap (λ b. b || noted_descends n slots root p) (flipped (number_of p) (number_of root) (ap (λ (m : ℕ). number_of root == m) same ∙ isnt)) ∙ descends-not n root p same
-    where
-      flipped : (a b : ℕ) → (b == a) ≡ false → (a == b) ≡ false
-      flipped a b isnt = grind (arith, nat_tests)
-
-  below-stays : (root : SlotKey) → (is_same_key root key || false) ≡ false → (is_removed slots (Below root) s.key ≡ false) × (loses_children (is_removed slots (Below root)) slots s.key ≡ false)
-  below-stays root isnt =
-      let parts = or-both (is_same_key root key) false isnt in (
-        descends-not 256 root s.key (found-key slots key s at),
-        no-loss slots rises (is_removed slots (Below root)) s.key (λ c.
-            let p = parent-is s.key c.child.parent c.below in
-            let above : noted_parent slots c.child.key ≡ Some p.parent = ap (option_and_then (λ (x : NotedSlot). x.parent)) (found-at slots c.at c.child c.held) ∙ p.there in
-            let same : number_of p.parent ≡ number_of key = eqb-true (number_of p.parent) (number_of s.key) p.same ∙ found-key slots key s at in
-            let clash : true ≡ false = sym c.removed ∙ below-one 255 root c.child.key p.parent above same parts.0 in cc),
-      )
-
 above-stays : (n : ℕ) (slots : List NotedSlot) (root k p key : SlotKey) → noted_parent slots k ≡ Some p → number_of p ≡ number_of key → noted_descends (suc n) slots root key ≡ false → is_same_key key root ≡ false
     → noted_descends (suc n) slots root k ≡ false
 unfolding noted_descends
@@ -428,18 +402,102 @@ never-loses slots rises (Below root) key stays isnt =
     let same : number_of p.parent ≡ number_of key = eqb-true (number_of p.parent) (number_of key) p.same in
     let clash : true ≡ false = sym c.removed ∙ above-stays 255 slots root c.child.key p.parent key above same stays isnt in cc)
 
-unnamed-stay : (slots : List NotedSlot) (rises : RiseFrom 0 slots) (which : Removed) (key : SlotKey) (s : NotedSlot) → slot_at slots key ≡ Some s → s.parent ≡ None
-    → list_any (λ k. is_same_key k key) (named_by slots which) ≡ false → (is_removed slots which s.key ≡ false) × (loses_children (is_removed slots which) slots s.key ≡ false)
-unnamed-stay slots rises (One gone) key s at alone isnt = one-stays slots rises key s at alone gone isnt
-unnamed-stay slots rises (Below root) key s at alone isnt = below-stays slots rises key s at alone root isnt
+own-some : (slots : List NotedSlot) (test : NotedSlot → Bool) (cs : List NotedSlot) → HoldOwn slots cs → HoldOwn slots (filter test cs)
+own-some slots test [] own = tt
+own-some slots test (c ∷ rest) own =
+    let more = own-some slots test rest own.1 in elim (test c) as (λ b. HoldOwn slots (if b then c ∷ filter test rest else filter test rest)) [ true ↦ (own.0, more) | false ↦ more ]
+
+-- a slot that no removal touches
+module _ (n : NotedSlots) (rises : RiseFrom 0 (slots_of n)) (key : SlotKey) (s : NotedSlot) (at : slot_at (slots_of n) key ≡ Some s) where
+  abbrev here : List NotedSlot
+  here = slots_of n
+
+  owned : HoldOwn here n.changes.now
+  owned = hold-own n.image.now n.changes.now 0 (from-first n.changes.now n.ordered)
+
+  passes-touched : (root : SlotKey) (going cs : List NotedSlot) → HoldOwn here cs → is_changed cs key ≡ true → is_changed (filter (λ c. hangs_below root going (left_by c)) cs) key ≡ false → hangs_below root going (Some s) ≡ false
+  passes-touched root going [] own some none = absurd (let clash : false ≡ true = some in cc)
+  passes-touched root going (c ∷ rest) own some none = elim (is_same_key c.key key) as (λ b. is_same_key c.key key ≡ b → (b || is_changed rest key) ≡ true → hangs_below root going (Some s) ≡ false) [
+    | true ↦ λ same _.
+        let left : left_by c ≡ Some s = sym own.0 ∙ same-place here c.key key (eqb-true (number_of c.key) (number_of key) same) ∙ at in
+        elim (hangs_below root going (left_by c)) as (λ b. hangs_below root going (left_by c) ≡ b → is_changed (if b then c ∷ filter (λ c. hangs_below root going (left_by c)) rest else filter (λ c. hangs_below root going (left_by c)) rest) key ≡ false → hangs_below root going (Some s) ≡ false) [
+          | true ↦ λ _ clash. absurd (let no : true ≡ false = sym (ap (λ b. b || is_changed (filter (λ c. hangs_below root going (left_by c)) rest) key) same) ∙ clash in cc)
+          | false ↦ λ isnt _. ap (hangs_below root going) (sym left) ∙ isnt
+        ] refl none
+    | false ↦ λ isnt later. passes-touched root going rest own.1 later (dropped (hangs_below root going (left_by c)) none)
+  ] refl some
+    where
+      dropped : (b : Bool) → is_changed (if b then c ∷ filter (λ c. hangs_below root going (left_by c)) rest else filter (λ c. hangs_below root going (left_by c)) rest) key ≡ false
+          → is_changed (filter (λ c. hangs_below root going (left_by c)) rest) key ≡ false
+      dropped true none = (or-both (is_same_key c.key key) (is_changed (filter (λ c. hangs_below root going (left_by c)) rest) key) none).1
+      dropped false none = none
+
+  untouched-hangs : (root : SlotKey) (going : List NotedSlot) → is_changed (hanging_below n root going) key ≡ false → hangs_below root going (Some s) ≡ false
+  untouched-hangs root going none = elim (is_changed n.changes.now key) as (λ b. is_changed n.changes.now key ≡ b → hangs_below root going (Some s) ≡ false) [
+    | true ↦ λ some. passes-touched root going n.changes.now owned some none
+    | false ↦ λ not. ap (λ (o : Option SlotKey). option_map_or (λ p. is_same_key p root || is_some (slot_at going p)) o false) (unnamed-parent n key s at not)
+  ] refl
+
+  -- what hangs below none of those that go does not go
+  above-apart : (test other : SlotKey → Bool) → ((p : SlotKey) → test p ≡ false → other p ≡ false) → (o : Option SlotKey) → option_map_or test o false ≡ false → option_map_or other o false ≡ false
+  above-apart test other so None none = none
+  above-apart test other so (Some p) none = so p none
+
+  parent-here : noted_parent here s.key ≡ s.parent
+  parent-here = ap (option_and_then (λ (x : NotedSlot). x.parent)) (found-at here key s at)
+
+  flipped : (a b : ℕ) → (a == b) ≡ false → (b == a) ≡ false
+  flipped a b isnt = grind (arith, nat_tests)
+
+  may-not : (gone : SlotKey) (o : Option SlotKey) → list_any (λ k. is_same_key k key) (option_to_list o) ≡ false → is_parent s.key o ≡ false
+  may-not gone None none = refl
+  may-not gone (Some p) none = ap (λ (m : ℕ). number_of p == m) (found-key here key s at) ∙ (or-both (is_same_key p key) false none).0
+
+  unnamed-stay : (which : Removed) → is_changed (touched_by n which) key ≡ false → list_any (λ k. is_same_key k key) (named_by here which) ≡ false
+      → (is_removed here which s.key ≡ false) × (option_map_or (is_removed here which) s.parent false ≡ false) × (loses_children (is_removed here which) here s.key ≡ false)
+  unfolding noted_descends
+  unnamed-stay (One gone) none isnt =
+      let parts = or-both (is_same_key gone key) (list_any (λ k. is_same_key k key) (option_to_list (noted_parent here gone))) isnt in
+      let stays : is_same_key gone s.key ≡ false = number-apart s.key key gone (found-key here key s at) parts.0 in (
+        stays,
+        above-apart (λ p. is_same_key p gone || false) (is_same_key gone) (λ p off. flipped (number_of p) (number_of gone) (or-both (is_same_key p gone) false off).0) s.parent (untouched-hangs gone [] none),
+        never-loses here rises (One gone) s.key stays (may-not gone (noted_parent here gone) parts.1),
+      )
+  unnamed-stay (Below root) none isnt =
+      let going = below_by 256 n root in
+      let free = untouched-hangs root going none in
+      let above : option_map_or (is_removed here (Below root)) s.parent false ≡ false =
+      above-apart (λ p. is_same_key p root || is_some (slot_at going p)) (noted_descends 256 here root) (λ p off. sym (listed-goes n root 256 p) ∙ (or-both (is_same_key p root) (is_some (slot_at going p)) off).1) s.parent free in
+      let stays : noted_descends 256 here root s.key ≡ false = stays-off going free above in (
+        stays,
+        above,
+        never-loses here rises (Below root) s.key stays (ap (λ (m : ℕ). m == number_of root) (found-key here key s at) ∙ flipped (number_of root) (number_of key) (or-both (is_same_key root key) false isnt).0),
+      )
+    where
+      shorter : (p : SlotKey) (b : Bool) → noted_descends 255 here root p ≡ b → noted_descends 256 here root p ≡ false → b ≡ false
+      shorter p true is off = absurd (let clash : true ≡ false = sym (descends-longer 255 here root p is) ∙ off in cc)
+      shorter p false is off = refl
+
+      both-off : (a b : Bool) → a ≡ false → b ≡ false → (a || b) ≡ false
+      both-off a b one other = ap (λ x. x || b) one ∙ other
+
+      stays-off : (going : List NotedSlot) → hangs_below root going (Some s) ≡ false → option_map_or (noted_descends 256 here root) s.parent false ≡ false → noted_descends 256 here root s.key ≡ false
+      stays-off going free above =
+          ap (λ (o : Option SlotKey). option_map_or (λ parent. is_same_key parent root || noted_descends 255 here root parent) o false) parent-here
+          ∙ (elim s.parent as (λ o. option_map_or (λ p. is_same_key p root || is_some (slot_at going p)) o false ≡ false → option_map_or (noted_descends 256 here root) o false ≡ false
+          → option_map_or (λ parent. is_same_key parent root || noted_descends 255 here root parent) o false ≡ false) [
+            | None ↦ λ _ _. refl
+            | Some p ↦ λ one other. both-off (is_same_key p root) (noted_descends 255 here root p) (or-both (is_same_key p root) (is_some (slot_at going p)) one).0 (shorter p (noted_descends 255 here root p) refl other)
+          ] free above)
 
 pub changes-make : (n : NotedSlots) (change : SlotChange) → RiseFrom 0 (slots_of n) → ((key : SlotKey) (s : NotedSlot) → slot_at (slots_of n) key ≡ Some s → is_empty s.capability ≡ false)
     → changed (slots_of n) (changes_of n change) ≡ slots_left (slots_of n) change
 changes-make n Nothing rises full = refl
 changes-make n (Puts s) rises full = refl
 changes-make n (Moves from s) rises full =
-    changed-more (slots_of n) (flat_map (told_of (child_change from s.key)) n.changes.now) (s ∷ emptied from ∷ [])
+    changed-more (slots_of n) (flat_map (told_of (child_change from s.key)) (children_of n.changes.now from)) (s ∷ emptied from ∷ [])
     ∙ ap (λ l. changed l (s ∷ emptied from ∷ [])) (children-made n.image.now n.changes.now n.unlinked (from-first n.changes.now n.ordered) rises full from s.key)
 changes-make n (Removes which) rises full =
-    removal-made n.image.now n.changes.now n.unlinked (from-first n.changes.now n.ordered) rises full (is_removed (slots_of n) which) (named_by (slots_of n) which)
-    (λ key s at alone isnt. unnamed-stay (slots_of n) rises which key s at alone isnt)
+    removal-made n.image.now n.changes.now n.unlinked (from-first n.changes.now n.ordered) rises full (is_removed (slots_of n) which) (named_by (slots_of n) which) (touched_by n which)
+    (own-some (slots_of n) (λ c. hangs_below (named which) (all_below n which) (left_by c)) n.changes.now (hold-own n.image.now n.changes.now 0 (from-first n.changes.now n.ordered)))
+    (λ key s at none isnt. unnamed-stay n rises key s at which none isnt)

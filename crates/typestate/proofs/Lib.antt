@@ -12,6 +12,9 @@ pub mod Compared
 pub mod SomeHeld
 mod TidyChanges
 pub mod OwnChanges
+pub mod Linked
+pub mod LinkedChanges
+pub mod Hanging
 pub mod LevelByLevel
 pub mod ListedStrays
 pub mod UnlinkedSlots
@@ -37,6 +40,7 @@ pub mod OwnKeys
 pub mod ParentLines
 pub mod StraySlots
 pub mod ChangesMake
+pub mod KeptChildren
 pub mod HeldCaps
 pub mod FrameRules
 pub mod HandlerRules

@@ -1,5 +1,5 @@
 -- What a search by key finds in slots whose keys rise.
-use Rattle.std.proofs.Common.{ℕ, zero, suc, ◌≡◌, ◌∙◌, ◌==◌, ◌+◌, ◌<◌, ◌≤◌, inl, inr, false, if◌then◌else◌, Some, None, Result, Ok, Err, List, [], ◌∷◌, length, get_or, refl, sym, ap, arith}
+use Rattle.std.proofs.Common.{ℕ, zero, suc, ◌≡◌, ◌∙◌, ◌==◌, ◌+◌, ◌<◌, ◌≤◌, inl, inr, false, if◌then◌else◌, Some, None, Result, Ok, Err, List, [], ◌∷◌, length, get_or, refl, sym, ap, subst, arith}
 use Rattle.std.specs.Prelude.{MatchResult}
 use Rattle.std.specs.List.Sorted.{IsSearchInRange, IsBinarySearchResult, IsNonDecreasingBy}
 use Rattle.std.specs.Ordering.{nat_cmp, ordering_index}
@@ -7,6 +7,7 @@ use Rattle.std.proofs.lemmas.Cmp.{ranked}
 use Rattle.std.proofs.lemmas.Bool.{cases_lt}
 use Rattle.std.proofs.lemmas.Bool.Decides.{nat_tests}
 use Rattle.model.specs.Acceptance.NotedStates.{NotedSlot, SlotKey, number_of, slot_at}
+use Rattle.typestate.specs.Families.{found as numbered}
 use Rattle.typestate.specs.Orders.{Rise}
 use Rattle.typestate.proofs.Rising.{RiseFrom, first-found, from-first}
 
@@ -60,3 +61,12 @@ searched slots key (Err place) rises inside parts =
       | inl less ↦ below-apart (number_at slots i d) (number_of key) (ranked (number_at slots i d) (number_of key) _ (sym (parted.0 i d (omega arith) less)))
       | inr most ↦ above-apart (number_at slots i d) (number_of key) (ranked (number_at slots i d) (number_of key) _ (sym (parted.1 i d most below)))
     ])
+
+-- the same by a number
+pub searched-number : (slots : List NotedSlot) (n : ℕ) (r : Result ℕ ℕ) → Rise slots → IsSearchInRange r (length slots) → IsBinarySearchResult (λ s. nat_cmp (number_of s.key) n) slots r
+    → MatchResult r (λ place. (d : NotedSlot) → numbered slots n ≡ Some (get_or slots place d)) (λ _. numbered slots n ≡ None)
+searched-number slots n r =
+    let key : SlotKey = record { cnode = 0; index = n } in
+    let same : number_of key ≡ n = omega arith in
+    subst (λ m. Rise slots → IsSearchInRange r (length slots) → IsBinarySearchResult (λ s. nat_cmp (number_of s.key) m) slots r
+    → MatchResult r (λ place. (d : NotedSlot) → numbered slots m ≡ Some (get_or slots place d)) (λ _. numbered slots m ≡ None)) same (searched slots key r)

@@ -9,6 +9,8 @@ use Rattle.typestate.specs.declared.slot_changes.Removed.TheVariants.{One, Below
 use Rattle.typestate.specs.declared.slot_changes.SlotChange.{SlotChange}
 use Rattle.typestate.specs.declared.slot_changes.SlotChange.TheVariants.{Nothing, Puts, Moves, Removes}
 use Rattle.typestate.specs.Differences.{left_by, slots_of}
+use Rattle.typestate.specs.Families.{children_of}
+use Rattle.typestate.specs.Levels.{touched_by}
 use Rattle.typestate.specs.SlotChanges.{emptied, followed, heir, is_parent, is_removed, noted_parent, slot_left}
 
 -- a slot that stays, and is then a child of the slot of a key
@@ -42,7 +44,7 @@ named_by slots (Below root) = root ∷ []
 abbrev pub changes_of : NotedSlots → SlotChange → List NotedSlot
 changes_of n Nothing = []
 changes_of n (Puts s) = s ∷ []
-changes_of n (Moves from s) = flat_map (told_of (child_change from s.key)) n.changes.now ++ s ∷ emptied from ∷ []
+changes_of n (Moves from s) = flat_map (told_of (child_change from s.key)) (children_of n.changes.now from) ++ s ∷ emptied from ∷ []
 changes_of n (Removes which) =
     let tell = removal_change (is_removed (slots_of n) which) (slots_of n) in
-    flat_map (told_at tell (slots_of n)) (named_by (slots_of n) which) ++ flat_map (told_of tell) n.changes.now
+    flat_map (told_at tell (slots_of n)) (named_by (slots_of n) which) ++ flat_map (told_of tell) (touched_by n which)

@@ -1,4 +1,6 @@
+pub mod Left
 pub mod Orders
+pub mod Families
 pub mod Unlinked
 pub mod Differences
 pub mod Calls
@@ -9,8 +11,8 @@ pub mod Messages
 pub mod Logs
 pub mod SlotChanges
 pub mod CNodeCalls
-pub mod ChangeLists
 pub mod Levels
+pub mod ChangeLists
 pub mod Removals
 pub mod Invocations
 pub mod Pools

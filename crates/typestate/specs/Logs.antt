@@ -26,8 +26,8 @@ IsNext shorter longer = (shorter.first ≡ longer.first) × (shorter.end ≤ lon
 pub record Shows (log : List NotedSlot) (part : Part) (shown : ShownPart) : Type 0 where
   pub part_is : shown.part ≡ part
   pub held : Holds log part
-  pub rising : Rise shown.changes.items
-  pub same : (slots : List NotedSlot) → Rise slots → changed slots shown.changes.items ≡ changed slots (part_of log part)
+  pub rising : Rise shown.changes
+  pub same : (slots : List NotedSlot) → Rise slots → changed slots shown.changes ≡ changed slots (part_of log part)
 
 -- some part is shown
 abbrev pub ShowsSome : List NotedSlot → ShownPart → Type 0

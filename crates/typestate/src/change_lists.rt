@@ -84,19 +84,23 @@ impl NotedSlots<'_> {
             SlotChange::Nothing => {}
             SlotChange::Puts(slot) => made.push(*slot)?,
             SlotChange::Moves { from, to } => {
-                self.note_children(*from, to.key, self.changes, made)?;
+                let mut children = Vec::new(*made.allocator());
+                self.note_children_of(*from, &mut children)?;
+                self.note_children(*from, to.key, &children, made)?;
                 made.push(*to)?;
                 made.push(emptied(*from))?;
             }
             SlotChange::Removes(which) => {
                 let below = self.all_below(*made.allocator(), which)?;
+                let touched = self.one_level(*made.allocator(), which.named(), &below)?;
                 let removal = Removal {
                     slots: *self,
                     which: *which,
                     below: &below,
+                    touched: &touched,
                 };
                 removal.note_named(made)?;
-                removal.note_removals(self.changes, made)?;
+                removal.note_removals(made)?;
             }
         }
         Ok(())

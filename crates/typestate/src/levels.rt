@@ -1,50 +1,64 @@
 //! What descends from a slot, level by level.
 //! seL4 Reference Manual, "Capability Derivation Tree".
 
-ghost use Rattle.std.specs.Prelude.{ℕ, ◌≡◌, ◌+◌, IfOk};
-ghost use Rattle.typestate.specs.Levels.{all_below, below_by, hangs_below};
+ghost use Rattle.std.specs.Prelude.{ℕ, ◌≡◌, ◌+◌, ◌++◌, IfOk, None, Option, flat_map, if◌then◌else◌};
+ghost use Rattle.std.specs.List.{list_any};
+ghost use Rattle.model.specs.Acceptance.NotedStates.{NotedSlot, SlotKey, is_same_key, slot_at};
+ghost use Rattle.typestate.specs.Families.{AllAt, ByNumber, children_of};
+ghost use Rattle.typestate.specs.Levels.{all_below, below_by, hanging_below};
 ghost use Rattle.typestate.specs.Orders.{Rise};
 
-use crate::noted::{left, listed};
+use crate::shown::put;
 use crate::{NotedSlot, NotedSlots, Removed, SlotKey};
 use std::alloc::{AllocError, Global};
 
 /// Through how many slots a line of parents is followed: none of the kernel's is longer.
 const MOST: u32 = 256;
 
-/// Whether what a slot holds was derived from a root, or from one of the slots of these changes.
-fn hangs_below(root: SlotKey, going: &[NotedSlot], held: Option<NotedSlot>) -> bool
-    requires { Rise going.now }
-    ensures { result ≡ hangs_below root going.now held }
+/// Changes in the order of their keys, each once: of several to one slot, which are the same, one is left. Memory may be refused.
+fn in_order(alloc: Global, found: &[NotedSlot]) -> Result<Vec<NotedSlot>, AllocError>
+    ensures rising { IfOk result (λ next. Rise next.items) }
+    ensures same { IfOk result (λ next. (at : SlotKey → Option NotedSlot) → ByNumber at → AllAt at found.now
+        → (key : SlotKey) → slot_at next.items key ≡ (if list_any (λ c. is_same_key c.key key) found.now then at key else None)) }
 {
-    let Some(slot) = held else {
-        return false;
-    };
-    match slot.parent {
-        Some(parent) => parent.is_same(root) || listed(going, parent).is_some(),
-        None => false,
+    let mut next = Vec::new(alloc);
+    for change in found {
+        put(&mut next, *change)?;
     }
+    Ok(next)
 }
 
 impl NotedSlots<'_> {
-    /// The changes whose slots descend from a root through at most one slot more than those of these changes do. Memory may be
-    /// refused.
-    fn one_level(
+    /// The changes whose slots were derived from a root, and then from each of some slots. Memory may be refused.
+    fn children_of_all(
         &self,
         alloc: Global,
         root: SlotKey,
         going: &[NotedSlot],
     ) -> Result<Vec<NotedSlot>, AllocError>
-        requires { Rise going.now }
+        ensures { IfOk result (λ found. found.items ≡ children_of self.now.changes.now root ++ flat_map (λ s. children_of self.now.changes.now s.key) going.now) }
+    {
+        let mut found = Vec::new(alloc);
+        self.note_children_of(root, &mut found)?;
+        for slot in going {
+            self.note_children_of(slot.key, &mut found)?;
+        }
+        Ok(found)
+    }
+
+    /// The changes whose slots were derived from a root, or from one of the slots of these changes. Memory may be refused.
+    pub(crate) fn one_level(
+        &self,
+        alloc: Global,
+        root: SlotKey,
+        going: &[NotedSlot],
+    ) -> Result<Vec<NotedSlot>, AllocError>
+        ensures hanging { IfOk result (λ next. next.items ≡ hanging_below self.now root going.now) }
         ensures below { IfOk result (λ next. (n : ℕ) → going.now ≡ below_by n self.now root → next.items ≡ below_by (n + 1) self.now root) }
         ensures rising { IfOk result (λ next. Rise next.items) }
     {
-        let mut next = Vec::new(alloc);
-        for change in self.changes {
-            if hangs_below(root, going, left(*change)) {
-                next.push(*change)?;
-            }
-        }
+        let found = self.children_of_all(alloc, root, going)?;
+        let next = in_order(alloc, &found)?;
         Ok(next)
     }
 

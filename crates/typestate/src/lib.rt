@@ -7,6 +7,7 @@ mod calls_at_points;
 mod change_lists;
 mod cnode_calls;
 mod comparisons;
+mod families;
 mod frame_calls;
 mod handler_calls;
 mod holders;
@@ -23,6 +24,7 @@ mod points;
 mod pool_calls;
 mod records;
 mod removal;
+mod shown;
 mod slot_changes;
 mod spaces;
 mod stays;
@@ -32,6 +34,7 @@ mod tidy;
 mod windows;
 
 pub use behind::{Behind, Written};
+pub use families::Families;
 pub use holders::allows;
 pub use keys::{NotedSlot, SlotKey};
 pub use laws::{

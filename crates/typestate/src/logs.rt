@@ -8,6 +8,7 @@ ghost use Rattle.typestate.specs.Orders.{Rise};
 ghost use Rattle.typestate.specs.Unlinked.{AreUnlinked};
 
 use crate::records::note_record;
+use crate::shown::ShownChanges;
 use crate::{NotedSlot, NotedSlots};
 use image::RecordRef;
 use std::alloc::{AllocError, Global};
@@ -31,32 +32,7 @@ pub struct SlotLog {
 #[derive(Drop)]
 pub struct ShownPart {
     part: Part,
-    changes: Vec<NotedSlot>,
-}
-
-/// Puts a change among changes whose keys rise, in place of one to the same slot. Memory may be refused.
-fn put(changes: &mut Vec<NotedSlot>, change: NotedSlot) -> Result<(), AllocError>
-    requires { Rise changes.old.items }
-    ensures rising { IfOk result (λ _. Rise changes.new.items) }
-    ensures same { IfOk result (λ _. (key : SlotKey) → slot_at changes.new.items key ≡ (if is_same_key change.key key then Some change else slot_at changes.old.items key)) }
-{
-    match changes.binary_search_by_key(&change.key.number(), |slot| slot.key.number()) {
-        Ok(place) => changes[place] = change,
-        Err(place) => changes.insert(place, change)?,
-    }
-    Ok(())
-}
-
-/// Puts changes one after another among changes whose keys rise. Memory may be refused.
-fn put_all(changes: &mut Vec<NotedSlot>, made: &[NotedSlot]) -> Result<(), AllocError>
-    requires { Rise changes.old.items }
-    ensures rising { IfOk result (λ _. Rise changes.new.items) }
-    ensures same { IfOk result (λ _. (slots : List NotedSlot) → Rise slots → changed slots changes.new.items ≡ changed (changed slots changes.old.items) made.now) }
-{
-    for change in made {
-        put(changes, *change)?;
-    }
-    Ok(())
+    changes: ShownChanges,
 }
 
 impl Part {
@@ -75,7 +51,7 @@ impl ShownPart {
     {
         ShownPart {
             part: Part { first: 0, end: 0 },
-            changes: Vec::new(alloc),
+            changes: ShownChanges::new(alloc),
         }
     }
 
@@ -88,16 +64,13 @@ impl ShownPart {
 
     /// The slots with the changes made to those of the image.
     pub fn slots<'s>(&'s self, image: &'s [NotedSlot]) -> NotedSlots<'s>
-        requires shown { Rise self.now.changes.items }
+        requires shown { Rise self.now.changes }
         requires rising { Rise image.now }
         requires unlinked { AreUnlinked image.now }
-        ensures slots { slots_of result ≡ changed image.now self.now.changes.items }
+        ensures slots { slots_of result ≡ changed image.now self.now.changes }
         ensures image { result.image.now ≡ image.now }
     {
-        NotedSlots {
-            image,
-            changes: &self.changes,
-        }
+        self.changes.slots(image)
     }
 }
 
@@ -198,7 +171,9 @@ impl SlotLog {
         requires next { IsNext shown.old.part part }
         ensures { IfOk result (λ _. Shows self.now part shown.new) }
     {
-        put_all(&mut shown.changes, &self.changes[shown.part.end..part.end])?;
+        shown
+            .changes
+            .put_all(&self.changes[shown.part.end..part.end])?;
         shown.part = part;
         Ok(())
     }
@@ -215,7 +190,7 @@ impl SlotLog {
                     first: part.first,
                     end: part.first,
                 },
-                changes: Vec::new(self.alloc),
+                changes: ShownChanges::new(self.alloc),
             };
         }
         self.show_more(shown, part)

@@ -6,6 +6,7 @@ ghost use Rattle.model.specs.Capabilities.CapabilityWords.{IsCapability};
 ghost use Rattle.model.specs.declared.capabilities.Cap.TheVariants.{Empty};
 ghost use Rattle.std.specs.Option.{option_map_or};
 ghost use Rattle.typestate.specs.Differences.{left_by, slots_of};
+ghost use Rattle.typestate.specs.Families.{found};
 ghost use Rattle.typestate.specs.Orders.{Rise};
 
 use crate::{NotedSlot, NotedSlots, SlotKey};
@@ -49,7 +50,15 @@ pub(crate) fn listed(slots: &[NotedSlot], key: SlotKey) -> Option<NotedSlot>
     requires { Rise slots.now }
     ensures { result ≡ slot_at slots.now key }
 {
-    match slots.binary_search_by_key(&key.number(), |slot| slot.key.number()) {
+    numbered(slots, key.number())
+}
+
+/// The slot of this number in a list whose keys rise.
+pub(crate) fn numbered(slots: &[NotedSlot], number: u64) -> Option<NotedSlot>
+    requires { Rise slots.now }
+    ensures { result ≡ found slots.now number }
+{
+    match slots.binary_search_by_key(&number, |slot| slot.key.number()) {
         Ok(place) => Some(slots[place]),
         Err(_) => None,
     }

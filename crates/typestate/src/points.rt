@@ -1,9 +1,12 @@
 //! The slots at a point, as what differs from the image's.
 
+ghost use Rattle.std.specs.Prelude.{[]};
+ghost use Rattle.std.specs.Option.{option_map_or};
+ghost use Rattle.typestate.specs.Families.{AreLinked};
 ghost use Rattle.typestate.specs.Orders.{Rise};
 ghost use Rattle.typestate.specs.Unlinked.{AreUnlinked};
 
-use crate::NotedSlot;
+use crate::{Families, NotedSlot};
 
 /// The full slots of a thread's CNodes at a point: those that the image lists, with changes made. The keys of both rise. What the
 /// image lists has no parents and no mappings: only changes bring them.
@@ -12,7 +15,10 @@ use crate::NotedSlot;
 pub struct NotedSlots<'s> {
     pub image: &'s [NotedSlot],
     pub changes: &'s [NotedSlot],
+    /// The changes by what their slots were derived from: none where no change brings a parent.
+    pub families: Option<&'s Families>,
     ghost rising: { Rise image.now },
     ghost ordered: { Rise changes.now },
     ghost unlinked: { AreUnlinked image.now },
+    ghost linked: { AreLinked changes.now (option_map_or (λ f. f.now.links.keys) families []) },
 }

@@ -16,6 +16,7 @@ ghost use Rattle.typestate.specs.Calls.{call_on};
 ghost use Rattle.typestate.specs.CNodeCalls.{cnode_after};
 ghost use Rattle.typestate.specs.ChangeLists.{changes_of};
 ghost use Rattle.typestate.specs.Differences.{changed, slots_of};
+ghost use Rattle.typestate.specs.Levels.{named};
 ghost use Rattle.typestate.specs.Orders.{Rise};
 ghost use Rattle.typestate.specs.declared.points.NotedSlots.{NotedSlots};
 ghost use Rattle.typestate.specs.declared.slot_changes.SlotChange.{SlotChange};
@@ -31,6 +32,17 @@ pub enum Removed {
     One(SlotKey),
     /// All that were derived from this one.
     Below(SlotKey),
+}
+
+impl Removed {
+    /// The slot that is named.
+    pub(crate) fn named(&self) -> SlotKey
+        ensures { result ≡ named self.now }
+    {
+        match self {
+            Removed::One(key) | Removed::Below(key) => *key,
+        }
+    }
 }
 
 /// What a call makes of the slots.

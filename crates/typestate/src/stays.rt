@@ -1,13 +1,14 @@
 //! What becomes of the slots at a point where some go.
 //! seL4 Reference Manual, "Deletion, Revocation, and Recycling".
 
-ghost use Rattle.std.specs.Prelude.{◌≡◌, ◌&&◌, ◌||◌, ◌++◌, IfOk, false, flat_map};
+ghost use Rattle.std.specs.Prelude.{◌≡◌, ◌&&◌, ◌||◌, ◌++◌, IfOk, false, flat_map, true};
 ghost use Rattle.std.specs.List.{list_any};
 ghost use Rattle.std.specs.Option.{option_map_or};
 ghost use Rattle.model.specs.Capabilities.CapabilityKinds.{is_untyped};
 ghost use Rattle.model.specs.Capabilities.CapabilityWords.{IsCapability};
 ghost use Rattle.typestate.specs.ChangeLists.{kept_child, named_by, removal_change, told_at, told_of};
 ghost use Rattle.typestate.specs.Differences.{left_by, slots_of};
+ghost use Rattle.typestate.specs.Families.{child_at, children_of};
 ghost use Rattle.typestate.specs.Removals.{gone_by, may_lose};
 ghost use Rattle.typestate.specs.SlotChanges.{cap_left, is_parent, loses_children, noted_outside, slot_left};
 
@@ -89,18 +90,49 @@ impl Removal<'_, '_> {
             .any(|change| self.stays_below(left(*change), key))
     }
 
-    /// Whether a child of the slot of this key goes. What the image lists is no child.
+    /// Whether what a change of this number leaves was derived from the slot of a key, stays, and is then still a child of it.
+    fn child_stays(&self, key: SlotKey, number: u64) -> bool
+        ensures { result ≡ option_map_or (λ c. option_map_or (kept_child (slots_of self.now.slots) self.now.which key) (left_by c) false) (child_at self.now.slots.changes.now key number) false }
+    {
+        match self.slots.child(key, number) {
+            Some(change) => self.stays_below(left(change), key),
+            None => false,
+        }
+    }
+
+    /// Whether one of the slots that were derived from the slot of this key stays, and is then still a child of it.
+    fn one_child_stays(&self, key: SlotKey) -> bool
+        ensures { result ≡ list_any (λ c. option_map_or (kept_child (slots_of self.now.slots) self.now.which key) (left_by c) false) (children_of self.now.slots.changes.now key) }
+    {
+        let Some(families) = self.slots.families else {
+            return false;
+        };
+        for link in families.children_of(key) {
+            if self.child_stays(key, link.1) {
+                return true;
+            }
+        }
+        false
+    }
+
+    /// Whether a child of the slot of this key, which may lose some, goes. What the image lists is no child.
     fn has_lost(&self, key: SlotKey) -> bool
+        requires { may_lose (slots_of self.now.slots) self.now.which key ≡ true }
         ensures { result ≡ list_any (λ s. gone_by self.now s.key && is_parent key s.parent) (slots_of self.now.slots) }
     {
-        self.one_goes(self.slots.changes, key)
+        match self.which {
+            Removed::One(_) => true,
+            Removed::Below(_) => self.one_goes(self.touched, key),
+        }
     }
 
     /// Whether a child of the slot of this key stays. What the image lists is no child.
     fn has_kept(&self, key: SlotKey) -> bool
         ensures { result ≡ list_any (kept_child (slots_of self.now.slots) self.now.which key) (slots_of self.now.slots) }
     {
-        self.one_stays(self.slots.changes, key)
+        let touched = self.one_stays(self.touched, key);
+        let children = self.one_child_stays(key);
+        touched || children
     }
 
     /// Whether a child of the slot of this key, which stays, may go: only that of which the one slot that goes was derived, or that
@@ -210,15 +242,11 @@ impl Removal<'_, '_> {
         Ok(())
     }
 
-    /// Appends what becomes of what these changes leave where some slots go.
-    pub(crate) fn note_removals(
-        &self,
-        changes: &[NotedSlot],
-        made: &mut Vec<NotedSlot>,
-    ) -> Result<(), AllocError>
-        ensures { IfOk result (λ _. made.new.items ≡ made.old.items ++ flat_map (told_of (removal_change (gone_by self.now) (slots_of self.now.slots))) changes.now) }
+    /// Appends what becomes of what was derived from a slot that goes or is named.
+    pub(crate) fn note_removals(&self, made: &mut Vec<NotedSlot>) -> Result<(), AllocError>
+        ensures { IfOk result (λ _. made.new.items ≡ made.old.items ++ flat_map (told_of (removal_change (gone_by self.now) (slots_of self.now.slots))) self.now.touched.now) }
     {
-        for change in changes {
+        for change in self.touched {
             if let Some(slot) = left(*change) {
                 self.note_removed(slot, made)?;
             }

@@ -133,6 +133,7 @@ impl Space<'_, '_> {
         let none = NotedSlots {
             image: &[],
             changes: &[],
+            families: None,
         };
         for slot in listed {
             if self.is_stray(&none, *slot) {

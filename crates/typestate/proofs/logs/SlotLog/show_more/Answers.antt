@@ -13,7 +13,7 @@ returns c =
       part_is = refl;
       held = c.requires.held;
       rising = c.in_ok-put_all.ensures.rising;
-      same = next-changes c.args.self.now old.changes.items c.put_all.new.changes.items old.part c.args.part c.requires.old.held c.requires.held c.requires.next
+      same = next-changes c.args.self.now old.changes c.put_all.new.self old.part c.args.part c.requires.old.held c.requires.held c.requires.next
           c.requires.old.same (λ slots rises. c.in_ok-put_all.ensures.same slots rises
-          ∙ ap (λ (log : List NotedSlot). changed (changed slots old.changes.items) (take (c.args.part.end - old.part.end) (drop old.part.end log))) same);
+          ∙ ap (λ (log : List NotedSlot). changed (changed slots old.changes) (take (c.args.part.end - old.part.end) (drop old.part.end log))) same);
     }

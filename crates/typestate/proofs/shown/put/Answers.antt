@@ -3,7 +3,7 @@ use Rattle.std.proofs.Common.{rules, ◌∙◌, ap}
 use Rattle.std.proofs.lemmas.List.Sorted.{answers_always}
 use Rattle.model.specs.Acceptance.NotedStates.{NotedSlot, number_of}
 use Rattle.typestate.proofs.PutPlaces.{put-found, put-missed, rise-of}
-use Rattle.typestate.proofs.logs.put.Goals as goal
+use Rattle.typestate.proofs.shown.put.Goals as goal
 
 pub returns-in-Ok-clause-rising : goal.returns-in-Ok-clause-rising
 returns-in-Ok-clause-rising c =

@@ -3,8 +3,8 @@ use Rattle.std.proofs.Common.{◌≡◌, List, take}
 use Rattle.model.specs.Acceptance.NotedStates.{NotedSlot}
 use Rattle.typestate.specs.Differences.{changed}
 use Rattle.typestate.specs.Orders.{Rise}
-use Rattle.typestate.proofs.logs.put_all.Given as goal
+use Rattle.typestate.proofs.shown.ShownChanges.put_all.Given as goal
 
 abbrev pub invariant-loop-change : goal.invariant-loop-change
 invariant-loop-change l =
-    Rise l.changes.items × ((slots : List NotedSlot) → Rise slots → changed slots l.changes.items ≡ changed (changed slots l.fn.changes.items) (take l.change-index l.made))
+    Rise l.self × ((slots : List NotedSlot) → Rise slots → changed slots l.self ≡ changed (changed slots l.fn.self) (take l.change-index l.made))

@@ -1,0 +1,59 @@
+-- Changes by what their slots were derived from.
+use Rattle.std.specs.Prelude.{ℕ, ◌≡◌, ◌==◌, ◌&&◌, Bool, true, false, if◌then◌else◌, Option, Some, None, option_and_then, List, [], ◌∷◌}
+use Rattle.std.specs.List.{filter, find, list_any}
+use Rattle.std.specs.Option.{option_map, option_map_or}
+use Rattle.std.specs.Ordering.{nat_cmp, ordering_then, is_eq}
+use Rattle.std.specs.declared.cmp.Ordering.{Ordering}
+use Rattle.model.specs.Acceptance.NotedStates.{NotedSlot, SlotKey, number_of}
+use Rattle.typestate.specs.Left.{left_by}
+
+-- the slot of a number
+abbrev pub found : List NotedSlot → ℕ → Option NotedSlot
+found slots number = find (λ s. number_of s.key == number) slots
+
+-- whether what a slot holds was derived from the slot of a number
+abbrev pub is_child_of : ℕ → Option NotedSlot → Bool
+is_child_of parent held = option_map_or (λ s. option_map_or (λ p. number_of p == parent) s.parent false) held false
+
+abbrev pub has_parent : SlotKey → Option NotedSlot → Bool
+has_parent key held = is_child_of (number_of key) held
+
+-- the changes whose slots were derived from the slot of a key
+abbrev pub children_of : List NotedSlot → SlotKey → List NotedSlot
+children_of changes parent = filter (λ c. has_parent parent (left_by c)) changes
+
+-- the change to the slot of a number, if that was derived from the slot of a key
+abbrev pub child_at : List NotedSlot → SlotKey → ℕ → Option NotedSlot
+child_at changes parent number = option_and_then (λ c. if has_parent parent (left_by c) then Some c else None) (found changes number)
+
+-- links in the order of the parents, and then of the children
+abbrev pub link_cmp : ℕ × ℕ → ℕ × ℕ → Ordering
+link_cmp a b = ordering_then (nat_cmp a.0 b.0) (nat_cmp a.1 b.1)
+
+abbrev pub has_link : List (ℕ × ℕ) → ℕ → ℕ → Bool
+has_link links parent child = list_any (λ (q : ℕ × ℕ). is_eq (link_cmp (parent, child) q)) links
+
+-- each child has its link
+abbrev pub AreLinked : List NotedSlot → List (ℕ × ℕ) → Type 0
+AreLinked changes links =
+    (parent child : ℕ) → option_map_or (λ c. is_child_of parent (left_by c)) (found changes child) false ≡ true → has_link links parent child ≡ true
+
+-- what a change leaves has its link
+abbrev pub HasLink : List (ℕ × ℕ) → NotedSlot → Type 0
+HasLink links change = (parent : ℕ) → is_child_of parent (left_by change) ≡ true → has_link links parent (number_of change.key) ≡ true
+
+abbrev pub KeepsLinks : List (ℕ × ℕ) → List (ℕ × ℕ) → Type 0
+KeepsLinks old new = (parent child : ℕ) → has_link old parent child ≡ true → has_link new parent child ≡ true
+
+-- what the slot was derived from that a change leaves
+abbrev pub parent_left : NotedSlot → Option SlotKey
+parent_left c = option_and_then (λ s. s.parent) (left_by c)
+
+-- what stands at a key does not depend on how the key is written
+abbrev pub ByNumber : (SlotKey → Option NotedSlot) → Type 0
+ByNumber at = (a b : SlotKey) → number_of a ≡ number_of b → at a ≡ at b
+
+-- each of these stands at its key
+abbrev pub AllAt : (SlotKey → Option NotedSlot) → List NotedSlot → Type 0
+AllAt at [] = Unit {0}
+AllAt at (c ∷ rest) = (at c.key ≡ Some c) × AllAt at rest

@@ -1,0 +1,99 @@
+//! Changes by their slots, and by what these were derived from.
+
+ghost use Rattle.std.specs.Prelude.{◌≡◌, [], IfErr, IfOk, Some, List, if◌then◌else◌};
+ghost use Rattle.model.specs.Acceptance.NotedStates.{NotedSlot, SlotKey, is_same_key, slot_at};
+ghost use Rattle.typestate.specs.Differences.{changed, slots_of};
+ghost use Rattle.typestate.specs.Orders.{Rise};
+ghost use Rattle.typestate.specs.Unlinked.{AreUnlinked};
+
+use crate::noted::listed;
+use crate::{Families, NotedSlot, NotedSlots};
+use std::alloc::{AllocError, Global};
+use std::marker::Model;
+
+/// Changes whose keys rise, each found by its slot and by what that was derived from. A clause sees their list.
+#[derive(Drop)]
+pub struct ShownChanges {
+    changes: Vec<NotedSlot>,
+    families: Families,
+}
+
+/// Puts a change among changes whose keys rise, in place of one to the same slot. Memory may be refused.
+pub(crate) fn put(changes: &mut Vec<NotedSlot>, change: NotedSlot) -> Result<(), AllocError>
+    requires { Rise changes.old.items }
+    ensures rising { IfOk result (λ _. Rise changes.new.items) }
+    ensures same { IfOk result (λ _. (key : SlotKey) → slot_at changes.new.items key ≡ (if is_same_key change.key key then Some change else slot_at changes.old.items key)) }
+    ensures kept { IfErr result (λ _. changes.new.items ≡ changes.old.items) }
+{
+    match changes.binary_search_by_key(&change.key.number(), |slot| slot.key.number()) {
+        Ok(place) => changes[place] = change,
+        Err(place) => changes.insert(place, change)?,
+    }
+    Ok(())
+}
+
+impl Model for ShownChanges {
+    ghost use Rattle.std.specs.Prelude.{List};
+    ghost use Rattle.model.specs.Acceptance.NotedStates.{NotedSlot};
+    ghost use Rattle.typestate.specs.Families.{AreLinked};
+
+    ghost Value = { List NotedSlot };
+
+    ghost view = { λ shown. shown.changes.items };
+
+    ghost invariant = { λ shown. AreLinked shown.changes.items shown.families.links.keys };
+}
+
+impl ShownChanges {
+    /// No changes.
+    pub(crate) fn new(alloc: Global) -> Self
+        ensures { result ≡ [] }
+    {
+        ShownChanges {
+            changes: Vec::new(alloc),
+            families: Families::new(alloc),
+        }
+    }
+
+    /// Puts a change among the others, in place of one to the same slot. Memory may be refused.
+    fn put(&mut self, change: NotedSlot) -> Result<(), AllocError>
+        requires { Rise self.old }
+        ensures rising { IfOk result (λ _. Rise self.new) }
+        ensures same { IfOk result (λ _. (key : SlotKey) → slot_at self.new key ≡ (if is_same_key change.key key then Some change else slot_at self.old key)) }
+    {
+        let before = listed(&self.changes, change.key);
+        self.families.add(change)?;
+        put(&mut self.changes, change)?;
+        if let Some(before) = before {
+            self.families.replace(before, change);
+        }
+        Ok(())
+    }
+
+    /// Puts changes one after another among the others. Memory may be refused.
+    pub(crate) fn put_all(&mut self, made: &[NotedSlot]) -> Result<(), AllocError>
+        requires { Rise self.old }
+        ensures rising { IfOk result (λ _. Rise self.new) }
+        ensures same { IfOk result (λ _. (slots : List NotedSlot) → Rise slots → changed slots self.new ≡ changed (changed slots self.old) made.now) }
+    {
+        for change in made {
+            self.put(*change)?;
+        }
+        Ok(())
+    }
+
+    /// The slots with the changes made to those of the image.
+    pub(crate) fn slots<'s>(&'s self, image: &'s [NotedSlot]) -> NotedSlots<'s>
+        requires shown { Rise self.now }
+        requires rising { Rise image.now }
+        requires unlinked { AreUnlinked image.now }
+        ensures slots { slots_of result ≡ changed image.now self.now }
+        ensures image { result.image.now ≡ image.now }
+    {
+        NotedSlots {
+            image,
+            changes: &self.changes,
+            families: Some(&self.families),
+        }
+    }
+}
