@@ -1,1 +1,12 @@
-pub mod ThreadsLeft
+mod Recorded
+mod Followed
+mod NextRecords
+mod FirstBroken
+mod Called
+mod EachPoint
+mod EdgeRules
+mod PointLists
+mod LeftNext
+mod ShownParts
+mod Outcomes
+mod ThreadsLeft

@@ -1,5 +1,5 @@
 -- The rules on the programs of the threads that are left.
-use Rattle.std.proofs.Common.{ℕ, suc, ◌≡◌, ◌∙◌, ◌+◌, inl, inr, true, false, Some, None, is_some, Option, List, [], ◌∷◌, ◌++◌, add-one, drop, drop-cons, get_or, length, map, refl, sym, ap, arith}
+use Rattle.std.proofs.Common.{ℕ, suc, ◌≡◌, ◌∙◌, ◌+◌, inl, inr, true, false, Some, None, is_some, Option, List, [], ◌∷◌, add-one, drop, drop-cons, get_or, length, map, sym, ap, arith}
 use Rattle.std.specs.Prelude.{flat_map, slice_get}
 use Rattle.std.specs.Option.{option_or}
 use Rattle.std.specs.List.{enumerate_from}
@@ -11,14 +11,10 @@ use Rattle.model.specs.Acceptance.Rules.{Rule, first_broken}
 use Rattle.model.specs.Images.Described.{Numbered}
 use Rattle.model.specs.Images.Image.{Image, Thread}
 use Rattle.model.specs.declared.refusals.Refusal.{Refusal}
+use Rattle.program_rules.proofs.FirstBroken.{first-both}
 
 abbrev pub rules_from : Image → ℕ → List Thread → List Rule
 rules_from image n threads = flat_map (rules_of_program image) (map (λ (t : ℕ × Thread). let u : Numbered = record { number = t.0; thread = t.1 } in u) (enumerate_from n threads))
-
-first-both : (xs ys : List Rule) → first_broken (xs ++ ys) ≡ option_or (first_broken xs) (first_broken ys)
-first-both [] ys = refl
-first-both (None ∷ xs) ys = first-both xs ys
-first-both (Some refusal ∷ xs) ys = refl
 
 module _ (image : Image) (n : ℕ) (t : Thread) (rest : List Thread) where
   abbrev own : List Rule

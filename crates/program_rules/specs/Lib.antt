@@ -1,1 +1,4 @@
-pub mod Given
+pub mod Left
+pub mod Kept
+pub mod Programs
+pub mod PointChecks

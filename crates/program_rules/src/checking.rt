@@ -6,8 +6,7 @@ ghost use Rattle.model.specs.Acceptance.PointRules.{program_rules, rules_of_prog
 ghost use Rattle.model.specs.Acceptance.Rules.{first_broken};
 ghost use Rattle.thread_spaces.specs.Given.{AreOffsets, IsListed};
 
-use crate::space_rules::SpaceRules;
-use certificates::Program;
+use crate::programs::Program;
 use fitting::{certificates_that_fit_keep_their_limits, images_that_fit_keep_their_limits};
 use image::{ImageRef, ThreadRef};
 use model::Refusal;
@@ -39,19 +38,11 @@ fn broken_by(
     let windows = windows_of(alloc, image, thread, offsets, &cnodes)?;
     let slots = slots_of(alloc, image, thread, offsets, &cnodes)?;
     let space = given_space(image, thread, offsets, &windows);
-    let lists_stray = space.lists_stray(&slots);
-    let rules = SpaceRules {
+    let program = Program {
         space,
         number,
-        lists_stray,
-    };
-    let program = Program {
-        rules: &rules,
-        thread,
-        number,
         slots: &slots,
-        image,
-        root: space.table,
+        lists_stray: space.lists_stray(&slots),
         alloc,
     };
     program.broken()

@@ -1,7 +1,18 @@
-//! The rules on the programs of a well-formed image: the first that is broken, of all threads in their order.
+//! The rules on the programs of a well-formed image: what each thread's certificate notes of the points of its program, and the
+//! first rule that is broken, of all threads in their order.
 #![tactic(auto)]
 
+mod call_checks;
 mod checking;
+mod following;
+mod kept;
+mod notes;
+mod own_checks;
+mod points;
+mod points_checks;
+mod programs;
+mod records;
 mod space_rules;
+mod ways;
 
 pub use checking::broken;

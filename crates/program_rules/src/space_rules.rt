@@ -1,56 +1,66 @@
 //! The rules on slots and system calls, over the CNodes that a well-formed image gives a thread.
 
-ghost use Rattle.program_rules.specs.Given.{IsGiven};
+ghost use Rattle.std.specs.Prelude.{◌≡◌, [], IfOk, List, false, option_map, true};
+ghost use Rattle.model.specs.Acceptance.CallRules.{after_call};
+ghost use Rattle.model.specs.Acceptance.Measures.{Measure};
+ghost use Rattle.model.specs.Acceptance.NotedStates.{has_stray_slots, record_of};
+ghost use Rattle.model.specs.Acceptance.PointStates.{point_of};
+ghost use Rattle.model.specs.declared.ranges.Range.{Range};
+ghost use Rattle.program_rules.specs.Programs.{thread_of};
+ghost use Rattle.typestate.specs.Calls.{known_with, left_with};
+ghost use Rattle.typestate.specs.Differences.{slots_of};
+ghost use Rattle.typestate.specs.Spaces.{IsSpace};
+ghost use Rattle.typestate.specs.Strays.{IsTidyBehind, NoneStray};
 
-use certificates::ThreadRules;
+use crate::programs::Program;
 use image::RecordRef;
-use model::{Point, Refusal};
+use model::Refusal;
 use ranges::Bounds;
 use std::alloc::AllocError;
 use thread_spaces::{mappings_are_listed, slots_are_own, threads_stand_apart};
-use typestate::{Behind, NotedSlot, NotedSlots, Space, no_stray_slot_leads_outside};
+use typestate::{Behind, NotedSlot, NotedSlots, no_stray_slot_leads_outside};
 
-/// A thread of an image, by its number, with the CNodes that the image gives it, and whether the slots that the image lists in
-/// them hold what the thread may not have. Those are the same at each point, so this is told once.
-#[derive(Clone, Copy)]
-pub(crate) struct SpaceRules<'a, 's> {
-    pub(crate) space: Space<'a, 's>,
-    pub(crate) number: u32,
-    pub(crate) lists_stray: bool,
-}
-
-impl ThreadRules for SpaceRules<'_, '_> {
-    ghost use Rattle.program_rules.specs.Given.{IsGiven};
-
-    ghost image = { λ rules. rules.space.image.now };
-
-    ghost thread = { λ rules. record { number = rules.number; thread = rules.space.thread.now } };
-
-    ghost holds = { λ rules. IsGiven rules.space rules.lists_stray };
-
-    fn has_stray_slots(
+impl Program<'_, '_> {
+    /// Whether some slot at a point is one that the thread may not have, or the point's record notes one outside of the
+    /// thread's CNodes. Where it is known that no slot is, only the record is looked at.
+    pub(crate) fn has_stray_slots(
         &self,
         point: u32,
         noted: Option<&RecordRef<'_>>,
         slots: &NotedSlots<'_>,
         is_clean: bool,
-    ) -> bool {
+    ) -> bool
+        requires space { IsSpace self.now.space }
+        requires image { slots.now.image.now ≡ self.now.slots.now }
+        requires noted { option_map (λ r. r.now) noted ≡ record_of self.now.space.thread.now point }
+        requires clean { is_clean ≡ true → NoneStray self.now.space.image.now self.now.space.thread.now (slots_of slots.now) }
+        ensures { (ranges : List Range) (measure : Measure) → result ≡ has_stray_slots self.now.space.image.now self.now.space.thread.now point (known_with ranges (slots_of slots.now) measure) }
+    {
         self.space
             .has_stray_slots(slots, noted, self.lists_stray, is_clean)
     }
 
-    fn after_call(
+    /// What the system call at a point leaves, or why it is refused, and whether it is known to leave no slot that the thread
+    /// may not have. The slots that it changes are put into the list, which is empty. Memory may be refused.
+    pub(crate) fn after_call(
         &self,
-        at: Point,
+        point: u32,
         bounds: &Bounds,
         slots: &NotedSlots<'_>,
         made: &mut Vec<NotedSlot>,
-    ) -> Result<Result<Behind, Refusal>, AllocError> {
+    ) -> Result<Result<Behind, Refusal>, AllocError>
+        requires space { IsSpace self.now.space }
+        requires image { slots.now.image.now ≡ self.now.slots.now }
+        requires own { (measure : Measure) → has_stray_slots self.now.space.image.now self.now.space.thread.now point (known_with bounds.now (slots_of slots.now) measure) ≡ false }
+        requires none { made.old.items ≡ [] }
+        ensures tidy { IfOk result (IsTidyBehind self.now.space.image.now self.now.space.thread.now (slots_of slots.now) made.new.items) }
+        ensures left { IfOk result (λ called. (measure : Measure) → after_call self.now.space.image.now self.now.space.thread.now (point_of (thread_of self.now) point) (known_with bounds.now (slots_of slots.now) measure) ≡ left_with (slots_of slots.now) made.new.items called) }
+    {
         let _ = self.space.image.header();
         threads_stand_apart();
         mappings_are_listed();
         no_stray_slot_leads_outside();
         slots_are_own(self.space.image, self.space.thread, slots);
-        self.space.after_call(slots, at, bounds, made)
+        self.space.after_call(slots, self.at(point), bounds, made)
     }
 }

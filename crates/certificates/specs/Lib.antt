@@ -1,4 +1,0 @@
-pub mod Left
-pub mod Kept
-pub mod Programs
-pub mod PointChecks

@@ -1,0 +1,43 @@
+-- A log that grows keeps what is noted.
+use Rattle.std.proofs.Common.{◌≡◌, ◌+◌, Option, IfOk, List, ap, subst}
+use Rattle.measure.specs.Measures.{measure_of}
+use Rattle.model.specs.Acceptance.NotedStates.{NotedSlot}
+use Rattle.model.specs.Acceptance.PointRules.{call_edge, edge_rules, noted_at}
+use Rattle.model.specs.Acceptance.PointStates.{address_of, point_of}
+use Rattle.model.specs.Acceptance.Rules.{first_broken}
+use Rattle.model.specs.declared.refusals.Refusal.{Refusal}
+use Rattle.program_rules.proofs.EachPoint.{grown-read}
+use Rattle.program_rules.proofs.Outcomes.{always}
+use Rattle.program_rules.proofs.programs.Program.behind_rules.Goals as goal
+use Rattle.program_rules.specs.Kept.{IsRead}
+use Rattle.program_rules.specs.Programs.{thread_of}
+use Rattle.typestate.specs.Calls.{behind_with}
+use Rattle.typestate.specs.Logs.{KeepsParts}
+
+pub way_behind-requires-clause-read : goal.way_behind-requires-clause-read
+way_behind-requires-clause-read c =
+    grown-read c.args.self.now.space.image.now (thread_of c.args.self.now) c.args.self.now.slots.now c.args.points.now.log c.follow.new.self
+    c.args.points.now.kept.items c.in_ok-part.ensures.others c.requires.read
+
+pub returns-clause-read : goal.returns-clause-read
+returns-clause-read c =
+    let image = c.args.self.now.space.image.now in
+    let t = thread_of c.args.self.now in
+    let slots = c.args.self.now.slots.now in
+    let kept = c.args.points.now.kept.items in
+    always (IsRead image t slots c.follow.new.self kept) c.way_behind.result (grown-read image t slots c.args.points.now.log c.follow.new.self kept c.in_ok-part.ensures.others c.requires.read)
+
+pub returns-clause-others : goal.returns-clause-others
+returns-clause-others c = always (KeepsParts c.args.points.now.log c.follow.new.self) c.way_behind.result c.in_ok-part.ensures.others
+
+pub returns-clause-broken : goal.returns-clause-broken
+returns-clause-broken c =
+    let image = c.args.self.now.space.image.now in
+    let t = thread_of c.args.self.now in
+    let address = address_of c.args.self.now.space.thread.now c.args.point in
+    let slots = c.args.self.now.slots.now in
+    subst (λ (x : Option Refusal). IfOk c.way_behind.result (λ b. b ≡ x))
+    (ap (λ (all : List NotedSlot). first_broken (edge_rules t.thread (point_of t c.args.point) (measure_of c.args.known.now.measure)
+    (call_edge address c.args.known.now.bounds (behind_with all c.args.behind.now)) (noted_at image t (address + 4))))
+    (c.in_ok-part.ensures.same slots c.args.self.now.rising))
+    c.way_behind.ensures

@@ -1,0 +1,22 @@
+-- By what the rules say of the slots.
+use Rattle.std.proofs.Common.{◌≡◌, ◌∙◌, Bool, true, false, not, [], pos, refl, sym, subst}
+use Rattle.model.specs.Acceptance.Measures.{Measure}
+use Rattle.program_rules.proofs.programs.Program.has_no_stray_slot.Goals as goal
+use Rattle.program_rules.specs.Programs.{thread_of}
+use Rattle.typestate.specs.Calls.{known_with}
+use Rattle.typestate.specs.Differences.{slots_of}
+use Rattle.typestate.specs.Strays.{NoneStray}
+
+is-false : (b : Bool) → not b ≡ true → b ≡ false
+is-false true is = absurd (let clash : false ≡ true = is in cc)
+is-false false is = refl
+
+pub returns : goal.returns
+returns c = λ is.
+    let image = c.args.self.now.space.image.now in
+    let t = thread_of c.args.self.now in
+    let bounds = c.args.known.now.bounds in
+    let nothing : Measure = record { constant = pos 0; terms = [] } in
+    subst (NoneStray image t.thread) (c.slots-slots.ensures.slots ∙ c.requires.shown.same c.args.self.now.slots.now c.args.self.now.rising)
+    (c.points_without_stray_slots_have_none.ensures image t.thread c.args.point (known_with bounds (slots_of c.slots-slots.result) nothing)
+    (sym (c.has_stray_slots.ensures bounds nothing) ∙ is-false c.has_stray_slots.result is))

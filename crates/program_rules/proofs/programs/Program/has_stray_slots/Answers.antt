@@ -1,0 +1,10 @@
+-- The slots at a point are the image's with changes.
+use Rattle.std.proofs.Common.{◌∙◌, [], List, sym, ap}
+use Rattle.std.specs.List.{list_any}
+use Rattle.model.specs.Acceptance.NotedStates.{NotedSlot}
+use Rattle.program_rules.proofs.programs.Program.has_stray_slots.Goals as goal
+use Rattle.typestate.specs.Strays.{is_stray_in}
+
+pub has_stray_slots-requires-clause-listed : goal.has_stray_slots-requires-clause-listed
+has_stray_slots-requires-clause-listed c =
+    c.args.self.now.told ∙ ap (λ (slots : List NotedSlot). list_any (is_stray_in c.args.self.now.space []) slots) (sym c.requires.image)

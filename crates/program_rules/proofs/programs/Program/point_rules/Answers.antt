@@ -1,0 +1,81 @@
+-- By what is kept of the point.
+use Rattle.std.proofs.Common.{◌≡◌, ◌∙◌, ◌<◌, inl, inr, Option, IfOk, length, sym, ap, subst, arith}
+use Rattle.model.specs.Acceptance.PointStates.{Known, Missing, Unmeasured, noted}
+use Rattle.model.specs.declared.refusals.Refusal.{Refusal}
+use Rattle.program_rules.proofs.EachPoint.{kept-at}
+use Rattle.program_rules.proofs.Outcomes.{follows-from}
+use Rattle.program_rules.proofs.PointLists.{noted-rules}
+use Rattle.program_rules.proofs.ShownParts.{some-grown, some-shown}
+use Rattle.program_rules.proofs.programs.Program.point_rules.Goals as goal
+use Rattle.program_rules.specs.Kept.{IsCleanIn, IsSound, noted_by, state_by}
+use Rattle.program_rules.specs.Programs.{thread_of}
+use Rattle.program_rules.specs.declared.kept.Kept.{Kept}
+use Rattle.typestate.specs.Logs.{KeepsParts, ShowsSome}
+
+pub state_rules-requires-clause-sound : goal.state_rules-requires-clause-sound
+state_rules-requires-clause-sound c =
+    let count = c.requires.read.count in
+    let within : c.args.point < length c.args.points.now.kept.items = omega (arith, count, c.requires.within) in
+    let is = kept-at c.args.self.now.space.image.now (thread_of c.args.self.now) c.args.self.now.slots.now c.args.points.now.log c.args.points.now.kept.items
+    c.args.point c.index.result.now c.requires.read.noted within c.index.ensures in
+    subst (λ (k : Kept). IsSound c.args.points.now.log c.args.point k) c.in-Known.is is.sound
+
+pub state_rules-requires-clause-clean : goal.state_rules-requires-clause-clean
+state_rules-requires-clause-clean c =
+    let image = c.args.self.now.space.image.now in
+    let t = thread_of c.args.self.now in
+    let count = c.requires.read.count in
+    let within : c.args.point < length c.args.points.now.kept.items = omega (arith, count, c.requires.within) in
+    let is = kept-at image t c.args.self.now.slots.now c.args.points.now.log c.args.points.now.kept.items c.args.point c.index.result.now c.requires.read.noted within c.index.ensures in
+    subst (λ (k : Kept). IsCleanIn image t.thread c.args.self.now.slots.now c.args.points.now.log k) c.in-Known.is is.clean
+
+pub returns-in_ok-show-in-Known-clause-broken : goal.returns-in_ok-show-in-Known-clause-broken
+returns-in_ok-show-in-Known-clause-broken c =
+    let image = c.args.self.now.space.image.now in
+    let t = thread_of c.args.self.now in
+    let count = c.requires.read.count in
+    let within : c.args.point < length c.args.points.now.kept.items = omega (arith, count, c.requires.within) in
+    let is = kept-at image t c.args.self.now.slots.now c.args.points.now.log c.args.points.now.kept.items c.args.point c.index.result.now c.requires.read.noted within c.index.ensures in
+    let known : Known (state_by c.args.self.now.slots.now c.args.points.now.log c.in-Known.known) ≡ noted image t c.args.point =
+    ap (noted_by c.args.self.now.slots.now c.args.points.now.log) (sym c.in-Known.is) ∙ is.same in
+    subst (λ (x : Option Refusal). IfOk c.state_rules.result (λ broken. broken ≡ x))
+    (noted-rules image t c.args.point (Known (state_by c.args.self.now.slots.now c.args.points.now.log c.in-Known.known)) known) c.state_rules.ensures.broken
+
+pub returns-in-Missing : goal.returns-in-Missing
+returns-in-Missing c =
+    let image = c.args.self.now.space.image.now in
+    let t = thread_of c.args.self.now in
+    let count = c.requires.read.count in
+    let within : c.args.point < length c.args.points.now.kept.items = omega (arith, count, c.requires.within) in
+    let is = kept-at image t c.args.self.now.slots.now c.args.points.now.log c.args.points.now.kept.items c.args.point c.index.result.now c.requires.read.noted within c.index.ensures in
+    record {
+      broken = elim c.in-Missing.is [
+        | inl missing ↦ noted-rules image t c.args.point Missing (ap (noted_by c.args.self.now.slots.now c.args.points.now.log) (sym missing) ∙ is.same)
+        | inr unmeasured ↦ noted-rules image t c.args.point Unmeasured (ap (noted_by c.args.self.now.slots.now c.args.points.now.log) (sym unmeasured) ∙ is.same)
+      ];
+      read = c.requires.read;
+      shown = c.requires.some;
+    }
+
+pub state_rules-requires-clause-known : goal.state_rules-requires-clause-known
+state_rules-requires-clause-known c =
+    let count = c.requires.read.count in
+    let within : c.args.point < length c.args.points.now.kept.items = omega (arith, count, c.requires.within) in
+    let is = kept-at c.args.self.now.space.image.now (thread_of c.args.self.now) c.args.self.now.slots.now c.args.points.now.log c.args.points.now.kept.items
+    c.args.point c.index.result.now c.requires.read.noted within c.index.ensures in
+    ap (noted_by c.args.self.now.slots.now c.args.points.now.log) (sym c.in-Known.is) ∙ is.same
+
+pub show-requires-clause-held : goal.show-requires-clause-held
+show-requires-clause-held c =
+    let count = c.requires.read.count in
+    let within : c.args.point < length c.args.points.now.kept.items = omega (arith, count, c.requires.within) in
+    let is = kept-at c.args.self.now.space.image.now (thread_of c.args.self.now) c.args.self.now.slots.now c.args.points.now.log c.args.points.now.kept.items
+    c.args.point c.index.result.now c.requires.read.noted within c.index.ensures in
+    (subst (λ (k : Kept). IsSound c.args.points.now.log c.args.point k) c.in-Known.is is.sound).0
+
+pub returns-in_ok-show-in-Known-clause-shown : goal.returns-in_ok-show-in-Known-clause-shown
+returns-in_ok-show-in-Known-clause-shown c =
+    let log = c.state_rules.new.points.log in
+    follows-from (λ _. KeepsParts c.args.points.now.log log) (λ _. ShowsSome log c.show.new.shown) c.state_rules.result
+    (λ _ keeps. some-grown c.args.points.now.log log c.show.new.shown keeps (some-shown c.args.points.now.log c.in-Known.known.part c.show.new.shown c.in_ok-show-in-Known.ensures))
+    c.state_rules.ensures.others

@@ -1,0 +1,18 @@
+-- No point so far breaks a rule, and the records that are left are those of the points to come.
+use Rattle.std.proofs.Common.{◌≡◌, None}
+use Rattle.std.specs.List.{range_with_len}
+use Rattle.std.specs.Prelude.{flat_map}
+use Rattle.model.specs.Acceptance.PointRules.{point_rules}
+use Rattle.model.specs.Acceptance.Rules.{first_broken}
+use Rattle.program_rules.proofs.NextRecords.{AreLeft}
+use Rattle.program_rules.proofs.programs.Program.points_rules.Given as goal
+use Rattle.program_rules.specs.Kept.{IsRead}
+use Rattle.program_rules.specs.Programs.{thread_of}
+use Rattle.typestate.specs.Logs.{ShowsSome}
+
+abbrev pub invariant-rules : goal.invariant-rules
+invariant-rules l =
+    let image = l.fn.self.space.image.now in
+    let t = thread_of l.fn.self in
+    IsRead image t l.fn.self.slots.now l.points.log l.points.kept.items × AreLeft l.fn.self.space.thread.now l.point l.records
+    × (first_broken (flat_map (point_rules image t) (range_with_len 0 l.point)) ≡ None) × ShowsSome l.points.log l.shown

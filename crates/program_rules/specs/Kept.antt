@@ -1,0 +1,86 @@
+-- What is kept of points, and what it says that the certificate notes of them.
+use Rattle.std.specs.Prelude.{ℕ, ◌≡◌, ◌+◌, ◌^◌, ◌≤ℤ◌, negsuc, Bool, true, false, Option, Some, None, Result, Ok, Err, List, length, slice_get}
+use Rattle.measure.specs.Measures.{measure_of}
+use Rattle.model.specs.Acceptance.NotedStates.{NotedSlot, PointState}
+use Rattle.model.specs.Acceptance.PointStates.{Noted, Known, Missing, Unmeasured, noted}
+use Rattle.model.specs.Images.Described.{Numbered}
+use Rattle.model.specs.Images.Image.{Image, Thread}
+use Rattle.model.specs.declared.refusals.Refusal.{Refusal}
+use Rattle.point_rules.specs.declared.following.Left.TheVariants as left
+use Rattle.point_rules.specs.declared.following.Left.{Left}
+use Rattle.program_rules.specs.declared.kept.Kept.TheVariants as kept
+use Rattle.program_rules.specs.declared.kept.Kept.{Kept}
+use Rattle.program_rules.specs.declared.kept.Known.{Known as State}
+use Rattle.typestate.specs.Differences.{changed}
+use Rattle.typestate.specs.Logs.{Holds, Shows, part_of}
+use Rattle.typestate.specs.Strays.{NoneStray}
+use Rattle.typestate.specs.declared.behind.Behind.{Behind}
+use Rattle.typestate.specs.declared.logs.Part.{Part}
+use Rattle.typestate.specs.declared.logs.ShownPart.{ShownPart}
+
+-- the state, by what is kept beside the image's slots and the log of changes
+abbrev pub state_by : List NotedSlot → List NotedSlot → State → PointState
+state_by slots log k = record { ranges = k.bounds; slots = changed slots (part_of log k.part); measure = measure_of k.measure }
+
+-- what is noted
+abbrev pub noted_by : List NotedSlot → List NotedSlot → Kept → Noted
+noted_by slots log (kept.Known k) = Known (state_by slots log k)
+noted_by slots log kept.Missing = Missing
+noted_by slots log kept.Unmeasured = Unmeasured
+
+-- whether it is a state
+abbrev pub has_state : Noted → Bool
+has_state (Known s) = true
+has_state Missing = false
+has_state Unmeasured = false
+
+-- what is kept of what a point leaves for the next one, with the part that its slots have
+abbrev pub kept_as : Left → Part → Bool → Kept
+kept_as (left.Known bounds measure) part clean = kept.Known (record { bounds = bounds; measure = measure; part = part; is_clean = clean })
+kept_as left.Missing part clean = kept.Missing
+kept_as left.Unmeasured part clean = kept.Unmeasured
+
+-- its changes are in the log
+abbrev pub HasPart : List NotedSlot → Kept → Type 0
+HasPart log (kept.Known k) = Holds log k.part
+HasPart log kept.Missing = Unit {0}
+HasPart log kept.Unmeasured = Unit {0}
+
+-- they are shown
+abbrev pub ShowsKept : List NotedSlot → ShownPart → Kept → Type 0
+ShowsKept log shown (kept.Known k) = Shows log k.part shown
+ShowsKept log shown kept.Missing = Unit {0}
+ShowsKept log shown kept.Unmeasured = Unit {0}
+
+-- its changes are in the log, and its measure can be lowered by one for each point that is left
+abbrev pub IsSound : List NotedSlot → ℕ → Kept → Type 0
+IsSound log point (kept.Known k) = Holds log k.part × (negsuc (2 ^ 62 + point) ≤ℤ (measure_of k.measure).constant)
+IsSound log point kept.Missing = Unit {0}
+IsSound log point kept.Unmeasured = Unit {0}
+
+-- where it is known that no slot is one that the thread may not have, none is
+abbrev pub IsCleanIn : Image → Thread → List NotedSlot → List NotedSlot → Kept → Type 0
+IsCleanIn image t slots log (kept.Known k) = k.is_clean ≡ true → NoneStray image t (changed slots (part_of log k.part))
+IsCleanIn image t slots log kept.Missing = Unit {0}
+IsCleanIn image t slots log kept.Unmeasured = Unit {0}
+
+-- the same of what a call leaves that is looked at
+abbrev pub IsCleanBehind : Image → Thread → List NotedSlot → List NotedSlot → Option (Result Behind Refusal) → Type 0
+IsCleanBehind image t slots made (Some (Ok b)) = b.is_tidy ≡ true → NoneStray image t (changed slots made)
+IsCleanBehind image t slots made (Some (Err refusal)) = Unit {0}
+IsCleanBehind image t slots made None = Unit {0}
+
+-- what is kept of one point is what the certificate notes of it
+pub record IsKeptAt (image : Image) (t : Numbered) (slots log : List NotedSlot) (point : ℕ) (k : Kept) : Type 0 where
+  pub same : noted_by slots log k ≡ noted image t point
+  pub sound : IsSound log point k
+  pub clean : IsCleanIn image t.thread slots log k
+
+-- of each point
+pub record AreKept (image : Image) (t : Numbered) (slots log : List NotedSlot) (kept : List Kept) : Type 0 where
+  pub each : (point : ℕ) (k : Kept) → slice_get kept point ≡ Some k → IsKeptAt image t slots log point k
+
+-- all points of the program
+pub record IsRead (image : Image) (t : Numbered) (slots log : List NotedSlot) (kept : List Kept) : Type 0 where
+  pub count : length kept ≡ t.thread.header.words
+  pub noted : AreKept image t slots log kept

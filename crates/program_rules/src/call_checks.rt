@@ -1,0 +1,131 @@
+//! The rules on a point's system call, and on the way on behind it.
+
+ghost use Rattle.std.specs.Prelude.{◌≡◌, ◌+◌, ◌<◌, IfOk, None, Some, false, option_map};
+ghost use Rattle.measure.specs.Measures.{measure_of};
+ghost use Rattle.model.specs.Acceptance.NotedStates.{record_of};
+ghost use Rattle.model.specs.Acceptance.PointRules.{call_edge, edge_rules, noted_at};
+ghost use Rattle.model.specs.Acceptance.PointStates.{address_of, instruction_at, point_of};
+ghost use Rattle.model.specs.Acceptance.PointStates as states;
+ghost use Rattle.model.specs.Acceptance.Rules.{first_broken};
+ghost use Rattle.model.specs.declared.instructions.Instr.TheVariants.{Ecall};
+ghost use Rattle.program_rules.specs.Kept.{IsCleanIn, IsRead, IsSound, state_by};
+ghost use Rattle.program_rules.specs.PointChecks.{later_rules};
+ghost use Rattle.program_rules.specs.Programs.{thread_of};
+ghost use Rattle.program_rules.specs.declared.kept.Kept.TheVariants as kept;
+ghost use Rattle.typestate.specs.Calls.{behind_with};
+ghost use Rattle.typestate.specs.Differences.{changed};
+ghost use Rattle.typestate.specs.Logs.{KeepsParts, Shows, part_of};
+ghost use Rattle.typestate.specs.Spaces.{IsSpace};
+
+use crate::kept::Known;
+use crate::points::Points;
+use crate::programs::Program;
+use image::RecordRef;
+use measure::AfterCall;
+use model::Refusal;
+use point_rules::{Way, registers_of};
+use std::alloc::AllocError;
+use typestate::{Behind, NotedSlot, Part, ShownPart};
+
+impl Program<'_, '_> {
+    /// What the way on behind a system call breaks that leaves this, and the slots of a part of the log, which is shown. Memory may
+    /// be refused.
+    fn way_behind<'n>(
+        &'n self,
+        points: &Points,
+        shown: &'n ShownPart,
+        point: u32,
+        known: &'n Known,
+        behind: &'n Behind,
+        part: Part,
+    ) -> Result<Option<Refusal>, AllocError>
+        requires read { IsRead self.now.space.image.now (thread_of self.now) self.now.slots.now points.now.log points.now.kept.items }
+        requires within { point < self.now.space.thread.now.header.words }
+        requires shown { Shows points.now.log part shown.now }
+        ensures { IfOk result (λ broken. broken ≡ first_broken (edge_rules self.now.space.thread.now (point_of (thread_of self.now) point) (measure_of known.now.measure)
+            (call_edge (address_of self.now.space.thread.now point) known.now.bounds (behind_with (changed self.now.slots.now (part_of points.now.log part)) behind.now))
+            (noted_at self.now.space.image.now (thread_of self.now) (address_of self.now.space.thread.now point + 4)))) }
+    {
+        let way = Way {
+            before: &known.bounds,
+            behind: &behind.bounds,
+            slots: shown.slots(self.slots),
+            keeps_slots: false,
+            is_wait: behind.is_wait,
+        };
+        let step = AfterCall {
+            written: registers_of(behind.written),
+        };
+        let at = self.at(point);
+        let next = self.address(point) + 4;
+        self.way_to(points, shown, part, at, &known.measure, &way, &step, next)
+    }
+
+    /// What the way on behind a system call breaks that leaves this, and makes these changes of slots. Memory may be refused.
+    fn behind_rules(
+        &self,
+        points: &mut Points,
+        point: u32,
+        known: &Known,
+        behind: &Behind,
+        made: &[NotedSlot],
+    ) -> Result<Option<Refusal>, AllocError>
+        requires read { IsRead self.now.space.image.now (thread_of self.now) self.now.slots.now points.old.log points.old.kept.items }
+        requires within { point < self.now.space.thread.now.header.words }
+        requires sound { IsSound points.old.log point (kept.Known known.now) }
+        ensures broken { IfOk result (λ broken. broken ≡ first_broken (edge_rules self.now.space.thread.now (point_of (thread_of self.now) point) (measure_of known.now.measure)
+            (call_edge (address_of self.now.space.thread.now point) known.now.bounds (behind_with (changed (changed self.now.slots.now (part_of points.old.log known.now.part)) made.now) behind.now))
+            (noted_at self.now.space.image.now (thread_of self.now) (address_of self.now.space.thread.now point + 4)))) }
+        ensures read { IfOk result (λ _. IsRead self.now.space.image.now (thread_of self.now) self.now.slots.now points.new.log points.new.kept.items) }
+        ensures others { IfOk result (λ _. KeepsParts points.old.log points.new.log) }
+    {
+        let part = points.log.follow(known.part, made)?;
+        let mut shown = ShownPart::new(self.alloc);
+        points.log.show(&mut shown, part)?;
+        self.way_behind(points, &shown, point, known, behind, part)
+    }
+
+    /// What the system call at a point breaks: it is refused, or its way on is. It is not looked at again where the next point has the
+    /// state that it leaves. Memory may be refused.
+    pub(crate) fn call_rules(
+        &self,
+        points: &mut Points,
+        shown: &ShownPart,
+        point: u32,
+        noted: Option<&RecordRef<'_>>,
+        is_next_noted: bool,
+        known: &Known,
+    ) -> Result<Option<Refusal>, AllocError>
+        requires space { IsSpace self.now.space }
+        requires read { IsRead self.now.space.image.now (thread_of self.now) self.now.slots.now points.old.log points.old.kept.items }
+        requires within { point < self.now.space.thread.now.header.words }
+        requires is { instruction_at self.now.space.thread.now point ≡ Some Ecall }
+        requires noted { option_map (λ r. r.now) noted ≡ record_of self.now.space.thread.now point }
+        requires next { is_next_noted ≡ false → record_of self.now.space.thread.now (point + 1) ≡ None }
+        requires known { states.Known (state_by self.now.slots.now points.old.log known.now) ≡ states.noted self.now.space.image.now (thread_of self.now) point }
+        requires sound { IsSound points.old.log point (kept.Known known.now) }
+        requires shown { Shows points.old.log known.now.part shown.now }
+        requires clean { IsCleanIn self.now.space.image.now self.now.space.thread.now self.now.slots.now points.old.log (kept.Known known.now) }
+        ensures broken { IfOk result (λ broken. broken ≡ first_broken (later_rules self.now.space.image.now (thread_of self.now) point (state_by self.now.slots.now points.old.log known.now) (Some Ecall))) }
+        ensures read { IfOk result (λ _. IsRead self.now.space.image.now (thread_of self.now) self.now.slots.now points.new.log points.new.kept.items) }
+        ensures others { IfOk result (λ _. KeepsParts points.old.log points.new.log) }
+    {
+        if self.leaves_next(points, point, is_next_noted) {
+            return Ok(None);
+        }
+        let mut made = Vec::new(self.alloc);
+        let slots = shown.slots(self.slots);
+        match self.called(
+            point,
+            noted,
+            &known.bounds,
+            &slots,
+            known.is_clean,
+            &mut made,
+        )? {
+            None => Ok(None),
+            Some(Err(refusal)) => Ok(Some(refusal)),
+            Some(Ok(behind)) => self.behind_rules(points, point, known, &behind, &made),
+        }
+    }
+}

@@ -1,0 +1,110 @@
+//! The rules at a point with a state, up to its system call and its ways on.
+
+ghost use Rattle.std.specs.Prelude.{◌≡◌, ◌<◌, IfSome, Option, Some, option_map, true};
+ghost use Rattle.measure.specs.Measures.{measure_of};
+ghost use Rattle.model.specs.Acceptance.Measures.{Measure as NotedMeasure};
+ghost use Rattle.model.specs.Acceptance.NotedStates.{record_of};
+ghost use Rattle.model.specs.Acceptance.PointRules.{is_computed_jump, is_illegal, is_unmapped};
+ghost use Rattle.model.specs.Acceptance.PointStates.{point_of};
+ghost use Rattle.model.specs.Acceptance.Rules.{first_broken};
+ghost use Rattle.model.specs.Machine.Instructions.{IsInstr};
+ghost use Rattle.program_rules.specs.PointChecks.{own_rules};
+ghost use Rattle.program_rules.specs.Programs.{thread_of};
+ghost use Rattle.typestate.specs.Calls.{known_with};
+ghost use Rattle.typestate.specs.Differences.{slots_of};
+ghost use Rattle.typestate.specs.Spaces.{IsSpace};
+ghost use Rattle.typestate.specs.Strays.{NoneStray};
+
+use crate::kept::Known;
+use crate::programs::Program;
+use image::RecordRef;
+use measure::least;
+use model::{Instr, Point, Refusal};
+use point_rules::Pages;
+use ranges::Bounds;
+use typestate::NotedSlots;
+
+/// Whether a word is no instruction that a program may have.
+fn is_illegal(instr: Option<Instr>) -> bool
+    ensures { result ≡ is_illegal instr }
+{
+    match instr {
+        None | Some(Instr::Ebreak) => true,
+        Some(_) => false,
+    }
+}
+
+/// Whether it is a jump to an address in a register.
+fn is_computed_jump(instr: Option<Instr>) -> bool
+    ensures { result ≡ is_computed_jump instr }
+{
+    matches!(instr, Some(Instr::Jalr { .. }))
+}
+
+impl Program<'_, '_> {
+    /// A point of the program.
+    pub(crate) fn at(&self, point: u32) -> Point
+        ensures { result ≡ point_of (thread_of self.now) point }
+    {
+        Point {
+            thread: self.number,
+            point,
+        }
+    }
+
+    /// Whether a load or store at a point may reach what the thread may not.
+    #[tactic(auto, unfolding(model::specs::Acceptance::PointRules::is_unmapped))]
+    fn is_unmapped(&self, instr: Option<Instr>, bounds: &Bounds, slots: &NotedSlots<'_>) -> bool
+        requires space { IsSpace self.now.space }
+        requires instr { IfSome instr IsInstr }
+        ensures { (measure : NotedMeasure) → result ≡ is_unmapped self.now.space.image.now self.now.space.thread.now (known_with bounds.now (slots_of slots.now) measure) instr }
+    {
+        let pages = Pages {
+            image: self.space.image,
+            thread: self.space.thread,
+            root: self.space.table,
+            slots: *slots,
+        };
+        match instr {
+            Some(instr) => pages.is_unmapped(instr, bounds),
+            None => false,
+        }
+    }
+
+    /// What a point with this state and these slots breaks by itself, the first of: its word is an instruction
+    /// (`IllegalInstruction`), and no jump to an address in a register (`ComputedJump`); no slot is one that the thread may not have
+    /// (`CapNotThere`); the measure is at least 1 (`MeasureNotFalling`); and it loads and stores only where it may (`NotMapped`).
+    pub(crate) fn own_rules(
+        &self,
+        point: u32,
+        instr: Option<Instr>,
+        noted: Option<&RecordRef<'_>>,
+        known: &Known,
+        slots: &NotedSlots<'_>,
+    ) -> Option<Refusal>
+        requires space { IsSpace self.now.space }
+        requires instr { IfSome instr IsInstr }
+        requires noted { option_map (λ r. r.now) noted ≡ record_of self.now.space.thread.now point }
+        requires image { slots.now.image.now ≡ self.now.slots.now }
+        requires clean { known.now.is_clean ≡ true → NoneStray self.now.space.image.now self.now.space.thread.now (slots_of slots.now) }
+        ensures { result ≡ first_broken (own_rules self.now.space.image.now (thread_of self.now) point (known_with known.now.bounds (slots_of slots.now) (measure_of known.now.measure)) instr) }
+    {
+        let at = self.at(point);
+        if is_illegal(instr) {
+            return Some(Refusal::IllegalInstruction(at));
+        }
+        if is_computed_jump(instr) {
+            return Some(Refusal::ComputedJump(at));
+        }
+        if self.has_stray_slots(point, noted, slots, known.is_clean) {
+            return Some(Refusal::CapNotThere(at));
+        }
+        if least(&known.measure, &known.bounds) < 1 {
+            return Some(Refusal::MeasureNotFalling(at));
+        }
+        if self.is_unmapped(instr, &known.bounds, slots) {
+            return Some(Refusal::NotMapped(at));
+        }
+        None
+    }
+}

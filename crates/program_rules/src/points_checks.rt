@@ -1,0 +1,155 @@
+//! The rules on all points of a program, and on its entry.
+
+ghost use Rattle.std.specs.Prelude.{◌≡◌, ◌+◌, ◌<◌, IfOk, None, Some, false, flat_map, option_map};
+ghost use Rattle.std.specs.List.{range_with_len};
+ghost use Rattle.model.specs.Acceptance.NotedStates.{record_of};
+ghost use Rattle.model.specs.Acceptance.PointRules.{entry_rules, point_rules, rules_of_program, state_rules};
+ghost use Rattle.model.specs.Acceptance.PointStates.{noted};
+ghost use Rattle.model.specs.Acceptance.PointStates as states;
+ghost use Rattle.model.specs.Acceptance.Rules.{first_broken};
+ghost use Rattle.program_rules.specs.Kept.{IsCleanIn, IsRead, IsSound, state_by};
+ghost use Rattle.program_rules.specs.Programs.{thread_of};
+ghost use Rattle.program_rules.specs.declared.kept.Kept.TheVariants as kept;
+ghost use Rattle.typestate.specs.Logs.{KeepsParts, Shows, ShowsSome};
+ghost use Rattle.typestate.specs.Spaces.{IsSpace};
+
+use crate::kept::{Kept, Known};
+use crate::notes::RecordsLeft;
+use crate::points::Points;
+use crate::programs::Program;
+use image::RecordRef;
+use model::{Instr, Refusal};
+use point_rules::{Noted, entered};
+use rv32_isa::decode;
+use std::alloc::AllocError;
+use typestate::{NotedSlots, ShownPart};
+
+impl Program<'_, '_> {
+    /// What a point with this state breaks first. Memory may be refused.
+    #[tactic(auto, unfolding(model::specs::Acceptance::PointRules::state_rules))]
+    fn state_rules(
+        &self,
+        points: &mut Points,
+        shown: &ShownPart,
+        point: u32,
+        noted: Option<&RecordRef<'_>>,
+        is_next_noted: bool,
+        known: &Known,
+    ) -> Result<Option<Refusal>, AllocError>
+        requires space { IsSpace self.now.space }
+        requires read { IsRead self.now.space.image.now (thread_of self.now) self.now.slots.now points.old.log points.old.kept.items }
+        requires within { point < self.now.space.thread.now.header.words }
+        requires noted { option_map (λ r. r.now) noted ≡ record_of self.now.space.thread.now point }
+        requires next { is_next_noted ≡ false → record_of self.now.space.thread.now (point + 1) ≡ None }
+        requires known { states.Known (state_by self.now.slots.now points.old.log known.now) ≡ states.noted self.now.space.image.now (thread_of self.now) point }
+        requires sound { IsSound points.old.log point (kept.Known known.now) }
+        requires part { Shows points.old.log known.now.part shown.now }
+        requires clean { IsCleanIn self.now.space.image.now self.now.space.thread.now self.now.slots.now points.old.log (kept.Known known.now) }
+        ensures broken { IfOk result (λ broken. broken ≡ first_broken (state_rules self.now.space.image.now (thread_of self.now) point (state_by self.now.slots.now points.old.log known.now))) }
+        ensures read { IfOk result (λ _. IsRead self.now.space.image.now (thread_of self.now) self.now.slots.now points.new.log points.new.kept.items) }
+        ensures others { IfOk result (λ _. KeepsParts points.old.log points.new.log) }
+    {
+        let instr = decode(self.space.thread.word(point));
+        let slots = shown.slots(self.slots);
+        if let Some(refusal) = self.own_rules(point, instr, noted, known, &slots) {
+            return Ok(Some(refusal));
+        }
+        match instr {
+            Some(Instr::Ecall) => {
+                self.call_rules(points, shown, point, noted, is_next_noted, known)
+            }
+            Some(instr) => self.ways_rules(points, shown, point, instr, known, is_next_noted),
+            None => Ok(None),
+        }
+    }
+
+    /// What a point breaks first: one without a state breaks nothing. Its part is shown for that, in place of another one. Memory
+    /// may be refused.
+    #[tactic(auto, unfolding(model::specs::Acceptance::PointRules::point_rules))]
+    fn point_rules(
+        &self,
+        points: &mut Points,
+        shown: &mut ShownPart,
+        point: u32,
+        noted: Option<&RecordRef<'_>>,
+        is_next_noted: bool,
+    ) -> Result<Option<Refusal>, AllocError>
+        requires space { IsSpace self.now.space }
+        requires read { IsRead self.now.space.image.now (thread_of self.now) self.now.slots.now points.old.log points.old.kept.items }
+        requires within { point < self.now.space.thread.now.header.words }
+        requires noted { option_map (λ r. r.now) noted ≡ record_of self.now.space.thread.now point }
+        requires next { is_next_noted ≡ false → record_of self.now.space.thread.now (point + 1) ≡ None }
+        requires some { ShowsSome points.old.log shown.old }
+        ensures broken { IfOk result (λ broken. broken ≡ first_broken (point_rules self.now.space.image.now (thread_of self.now) point)) }
+        ensures read { IfOk result (λ _. IsRead self.now.space.image.now (thread_of self.now) self.now.slots.now points.new.log points.new.kept.items) }
+        ensures shown { IfOk result (λ _. ShowsSome points.new.log shown.new) }
+    {
+        match points.kept[point as usize] {
+            Kept::Known(known) => {
+                points.log.show(shown, known.part)?;
+                self.state_rules(points, shown, point, noted, is_next_noted, &known)
+            }
+            Kept::Missing | Kept::Unmeasured => Ok(None),
+        }
+    }
+
+    /// What the points break first, in their order. Memory may be refused.
+    fn points_rules(&self, points: &mut Points) -> Result<Option<Refusal>, AllocError>
+        requires space { IsSpace self.now.space }
+        requires read { IsRead self.now.space.image.now (thread_of self.now) self.now.slots.now points.old.log points.old.kept.items }
+        ensures { IfOk result (λ broken. broken ≡ first_broken (flat_map (point_rules self.now.space.image.now (thread_of self.now)) (range_with_len 0 self.now.space.thread.now.header.words))) }
+    {
+        let mut records = RecordsLeft::of(self.space.thread);
+        let mut shown = ShownPart::new(self.alloc);
+        'rules: for point in 0..self.space.thread.word_count() {
+            let noted = records.take(point);
+            let is_next_noted = records.is_next(point + 1);
+            let broken = self.point_rules(
+                points,
+                &mut shown,
+                point,
+                noted.as_ref(),
+                is_next_noted,
+            )?;
+            if broken.is_some() {
+                return Ok(broken);
+            }
+        }
+        Ok(None)
+    }
+
+    /// What the thread breaks of the state of its entry. Memory may be refused.
+    fn entry_rules(&self, points: &Points) -> Result<Option<Refusal>, AllocError>
+        requires read { IsRead self.now.space.image.now (thread_of self.now) self.now.slots.now points.now.log points.now.kept.items }
+        ensures { IfOk result (λ broken. broken ≡ first_broken (entry_rules self.now.space.image.now (thread_of self.now)
+            (noted self.now.space.image.now (thread_of self.now) self.now.space.thread.now.header.entry))) }
+    {
+        let entry = self.space.thread.header().entry;
+        let start = NotedSlots {
+            image: self.slots,
+            changes: &[],
+            families: None,
+        };
+        let kept = points.kept[entry as usize];
+        let shown = kept.shown(self.alloc, &points.log)?;
+        match kept.noted(self.slots, &shown) {
+            Noted::Known(state) => Ok(entered(self.space.thread, self.at(entry), &start, &state)),
+            Noted::Missing | Noted::Unmeasured => Ok(Some(Refusal::RangeNotKept(self.at(entry)))),
+        }
+    }
+
+    /// What the program breaks first of the rules on programs: at its entry, and then at its points in their order. Memory may be
+    /// refused.
+    #[tactic(auto, unfolding(model::specs::Acceptance::PointRules::rules_of_program))]
+    pub(crate) fn broken(&self) -> Result<Option<Refusal>, AllocError>
+        requires space { IsSpace self.now.space }
+        ensures { IfOk result (λ broken. broken ≡ first_broken (rules_of_program self.now.space.image.now (thread_of self.now))) }
+    {
+        let mut points = Points::of(self)?;
+        let broken = self.entry_rules(&points)?;
+        if broken.is_some() {
+            return Ok(broken);
+        }
+        self.points_rules(&mut points)
+    }
+}

@@ -1,0 +1,290 @@
+//! The ways on from a point with a state.
+
+ghost use Rattle.std.specs.Prelude.{ℕ, ◌≡◌, ◌+◌, ◌<◌, ◌≢◌, IfOk, IfSome, List, None, Option, Some, false, option_map, true, if◌then◌else◌};
+ghost use Rattle.measure.specs.Measures.{measure_of};
+ghost use Rattle.model.specs.Acceptance.Edges.{Edge as RuleEdge, after};
+ghost use Rattle.model.specs.Acceptance.NotedStates.{NotedSlot, PointState as State, record_of};
+ghost use Rattle.model.specs.Acceptance.PointRules.{edge_rules, noted_at, point_at, rules_on_edges};
+ghost use Rattle.model.specs.Acceptance.PointStates.{address_of, instruction_at, noted};
+ghost use Rattle.model.specs.Acceptance.PointStates as states;
+ghost use Rattle.model.specs.Acceptance.Rules.{first_broken};
+ghost use Rattle.model.specs.Images.Image.{Thread};
+ghost use Rattle.model.specs.Machine.Instructions.{IsInstr};
+ghost use Rattle.model.specs.declared.instructions.Instr.TheVariants.{Ecall};
+ghost use Rattle.model.specs.declared.ranges.Range.{Range};
+ghost use Rattle.point_rules.specs.Points.{edge_of};
+ghost use Rattle.program_rules.specs.Kept.{HasPart, IsRead, noted_by, state_by};
+ghost use Rattle.program_rules.specs.PointChecks.{IsBefore, is_branch, later_rules, way_rules};
+ghost use Rattle.program_rules.specs.Programs.{thread_of};
+ghost use Rattle.ranges.specs.Edges.{way_of};
+ghost use Rattle.typestate.specs.Differences.{changed, slots_of};
+ghost use Rattle.typestate.specs.Logs.{Shows};
+ghost use Rattle.typestate.specs.Orders.{Rise};
+
+use crate::kept::{Kept, Known};
+use crate::points::Points;
+use crate::programs::Program;
+use measure::{AfterInstruction, Measure, Step};
+use model::{Instr, Point, Refusal};
+use point_rules::{Way, kept_at, leads_to, left_calls_are_kept, left_states_are_kept};
+use ranges::{Bounds, Edge, after};
+use std::alloc::AllocError;
+use typestate::{Part, ShownPart};
+
+/// The ranges before an instruction, for the values that come this way: a branch leaves only some of them.
+fn before<'b>(instr: Instr, bounds: &'b Bounds, edge: &'b Edge) -> &'b Bounds
+    ensures { result.now ≡ (if is_branch instr then edge.now.bounds else bounds.now) }
+{
+    match instr {
+        Instr::Branch { .. } => &edge.bounds,
+        _ => bounds,
+    }
+}
+
+/// Whether an instruction goes on behind itself alone, or not at all.
+#[tactic(auto, unfolding(model::specs::Acceptance::Edges::after))]
+fn takes_no_way(instr: Instr) -> bool
+    ensures { (pc : ℕ) (ranges : List Range) → result ≡ true → (after pc instr ranges).taken ≡ None }
+{
+    !matches!(instr, Instr::Jal { .. } | Instr::Branch { .. })
+}
+
+impl Program<'_, '_> {
+    /// The point at an address, if the program has one there.
+    fn point_at(&self, address: u32) -> Option<u32>
+        ensures value { result ≡ point_at self.now.space.thread.now address }
+        ensures within { IfSome result (λ point. point < self.now.space.thread.now.header.words) }
+    {
+        let header = self.space.thread.header();
+        if address < header.base || address % 4 != 0 {
+            return None;
+        }
+        let point = (address - header.base) / 4;
+        if point < header.words {
+            Some(point)
+        } else {
+            None
+        }
+    }
+
+    /// What is kept of the point at an address: nothing, where the program has none there.
+    fn kept_at(&self, points: &Points, address: u32) -> Kept
+        requires read { IsRead self.now.space.image.now (thread_of self.now) self.now.slots.now points.now.log points.now.kept.items }
+        ensures noted { noted_by self.now.slots.now points.now.log result ≡ noted_at self.now.space.image.now (thread_of self.now) address }
+        ensures held { HasPart points.now.log result }
+    {
+        match self.point_at(address) {
+            Some(point) => points.kept[point as usize],
+            None => Kept::Missing,
+        }
+    }
+
+    /// What a way on breaks that leads from this part's slots to a point with the same part: they are not looked at.
+    fn way_within<S: Step>(
+        &self,
+        shown: &ShownPart,
+        at: Point,
+        measure: &Measure,
+        way: &Way<'_>,
+        step: &S,
+        known: &Known,
+    ) -> Option<Refusal>
+        requires image { way.now.slots.image.now ≡ self.now.slots.now }
+        requires shown { Rise shown.now.changes }
+        requires slots { slots_of way.now.slots ≡ changed self.now.slots.now shown.now.changes }
+        ensures { (log : List NotedSlot) (t : Thread) (a : ℕ) → Shows log known.now.part shown.now → t.header.budget ≡ self.now.space.thread.now.header.budget
+            → result ≡ first_broken (edge_rules t at (measure_of measure.now) (edge_of a (S.value_of step.now) way.now) (states.Known (state_by self.now.slots.now log known.now))) }
+    {
+        let state = known.state(self.slots, shown);
+        let way = Way {
+            before: way.before,
+            behind: way.behind,
+            slots: way.slots,
+            keeps_slots: true,
+            is_wait: way.is_wait,
+        };
+        kept_at(
+            self.space.thread.header().budget,
+            at,
+            measure,
+            &way,
+            step,
+            &state,
+        )
+    }
+
+    /// What a way on breaks that leads from the slots of this part to an address. Memory may be refused.
+    pub(crate) fn way_to<S: Step>(
+        &self,
+        points: &Points,
+        shown: &ShownPart,
+        part: Part,
+        at: Point,
+        measure: &Measure,
+        way: &Way<'_>,
+        step: &S,
+        address: u32,
+    ) -> Result<Option<Refusal>, AllocError>
+        requires read { IsRead self.now.space.image.now (thread_of self.now) self.now.slots.now points.now.log points.now.kept.items }
+        requires image { way.now.slots.image.now ≡ self.now.slots.now }
+        requires plain { way.now.keeps_slots ≡ false }
+        requires shown { Shows points.now.log part shown.now }
+        requires slots { slots_of way.now.slots ≡ changed self.now.slots.now shown.now.changes }
+        ensures { (t : Thread) (a : ℕ) → t.header.budget ≡ self.now.space.thread.now.header.budget
+            → IfOk result (λ broken. broken ≡ first_broken (edge_rules t at (measure_of measure.now) (edge_of a (S.value_of step.now) way.now) (noted_at self.now.space.image.now (thread_of self.now) address))) }
+    {
+        let kept = self.kept_at(points, address);
+        match kept {
+            Kept::Known(known) if known.part.is_same(part) => {
+                Ok(self.way_within(shown, at, measure, way, step, &known))
+            }
+            _ => {
+                let there = kept.shown(self.alloc, &points.log)?;
+                let target = kept.noted(self.slots, &there);
+                Ok(leads_to(
+                    self.space.thread.header().budget,
+                    at,
+                    measure,
+                    way,
+                    step,
+                    &target,
+                ))
+            }
+        }
+    }
+
+    /// What a way on from an instruction at a point breaks, whose part is shown. Memory may be refused.
+    fn way_rules(
+        &self,
+        points: &Points,
+        shown: &ShownPart,
+        point: u32,
+        instr: Instr,
+        known: &Known,
+        way: &Edge,
+    ) -> Result<Option<Refusal>, AllocError>
+        requires read { IsRead self.now.space.image.now (thread_of self.now) self.now.slots.now points.now.log points.now.kept.items }
+        requires instr { IsInstr instr }
+        requires shown { Shows points.now.log known.now.part shown.now }
+        ensures { (edge : RuleEdge) → way_of edge ≡ way.now → edge.before ≡ (if is_branch instr then edge.ranges else known.now.bounds)
+            → IfOk result (λ broken. broken ≡ first_broken (way_rules self.now.space.image.now (thread_of self.now) point (state_by self.now.slots.now points.now.log known.now) instr (Some edge))) }
+    {
+        let found = Way {
+            before: before(instr, &known.bounds, way),
+            behind: &way.bounds,
+            slots: shown.slots(self.slots),
+            keeps_slots: false,
+            is_wait: false,
+        };
+        let step = AfterInstruction::new(instr, found.before, found.behind);
+        let at = self.at(point);
+        self.way_to(
+            points,
+            shown,
+            known.part,
+            at,
+            &known.measure,
+            &found,
+            &step,
+            way.target,
+        )
+    }
+
+    /// The same, where there may be no such way.
+    fn option_rules(
+        &self,
+        points: &Points,
+        shown: &ShownPart,
+        point: u32,
+        instr: Instr,
+        known: &Known,
+        way: &Option<Edge>,
+    ) -> Result<Option<Refusal>, AllocError>
+        requires read { IsRead self.now.space.image.now (thread_of self.now) self.now.slots.now points.now.log points.now.kept.items }
+        requires instr { IsInstr instr }
+        requires shown { Shows points.now.log known.now.part shown.now }
+        ensures { (edge : Option RuleEdge) → option_map way_of edge ≡ way.now → IsBefore instr known.now.bounds edge
+            → IfOk result (λ broken. broken ≡ first_broken (way_rules self.now.space.image.now (thread_of self.now) point (state_by self.now.slots.now points.now.log known.now) instr edge)) }
+    {
+        match way {
+            Some(way) => self.way_rules(points, shown, point, instr, known, way),
+            None => Ok(None),
+        }
+    }
+
+    /// Whether the next point has the very state that this one leaves: no record notes it, and it has a state. The way to it keeps its
+    /// rules then, and a system call before it is not refused.
+    pub(crate) fn leaves_next(&self, points: &Points, point: u32, is_next_noted: bool) -> bool
+        requires read { IsRead self.now.space.image.now (thread_of self.now) self.now.slots.now points.now.log points.now.kept.items }
+        requires within { point < self.now.space.thread.now.header.words }
+        requires next { is_next_noted ≡ false → record_of self.now.space.thread.now (point + 1) ≡ None }
+        ensures plain { (s : State) (instr : Instr) → result ≡ true → states.Known s ≡ noted self.now.space.image.now (thread_of self.now) point
+            → instruction_at self.now.space.thread.now point ≡ Some instr → instr ≢ Ecall
+            → first_broken (way_rules self.now.space.image.now (thread_of self.now) point s instr (after (address_of self.now.space.thread.now point) instr s.ranges).fall_through) ≡ None }
+        ensures call { (s : State) → result ≡ true → states.Known s ≡ noted self.now.space.image.now (thread_of self.now) point
+            → instruction_at self.now.space.thread.now point ≡ Some Ecall
+            → first_broken (later_rules self.now.space.image.now (thread_of self.now) point s (Some Ecall)) ≡ None }
+    {
+        left_states_are_kept();
+        left_calls_are_kept();
+        if is_next_noted {
+            return false;
+        }
+        match self.point_at(self.address(point) + 4) {
+            Some(next) => next == point + 1 && points.kept[next as usize].has_state(),
+            None => false,
+        }
+    }
+
+    /// What the taken way on from an instruction breaks. Memory may be refused.
+    fn taken_rules(
+        &self,
+        points: &Points,
+        shown: &ShownPart,
+        point: u32,
+        instr: Instr,
+        known: &Known,
+    ) -> Result<Option<Refusal>, AllocError>
+        requires read { IsRead self.now.space.image.now (thread_of self.now) self.now.slots.now points.now.log points.now.kept.items }
+        requires within { point < self.now.space.thread.now.header.words }
+        requires instr { IsInstr instr }
+        requires shown { Shows points.now.log known.now.part shown.now }
+        ensures { IfOk result (λ broken. broken ≡ first_broken (way_rules self.now.space.image.now (thread_of self.now) point (state_by self.now.slots.now points.now.log known.now) instr (after (address_of self.now.space.thread.now point) instr known.now.bounds).taken)) }
+    {
+        if takes_no_way(instr) {
+            return Ok(None);
+        }
+        let ways = after(self.address(point), instr, &known.bounds);
+        self.option_rules(points, shown, point, instr, known, &ways.taken)
+    }
+
+    /// What the ways on from an instruction break that is no system call, the taken one first. Memory may be refused.
+    pub(crate) fn ways_rules(
+        &self,
+        points: &Points,
+        shown: &ShownPart,
+        point: u32,
+        instr: Instr,
+        known: &Known,
+        is_next_noted: bool,
+    ) -> Result<Option<Refusal>, AllocError>
+        requires read { IsRead self.now.space.image.now (thread_of self.now) self.now.slots.now points.now.log points.now.kept.items }
+        requires within { point < self.now.space.thread.now.header.words }
+        requires next { is_next_noted ≡ false → record_of self.now.space.thread.now (point + 1) ≡ None }
+        requires known { states.Known (state_by self.now.slots.now points.now.log known.now) ≡ noted self.now.space.image.now (thread_of self.now) point }
+        requires instr { IsInstr instr }
+        requires is { instruction_at self.now.space.thread.now point ≡ Some instr }
+        requires plain { instr ≢ Ecall }
+        requires shown { Shows points.now.log known.now.part shown.now }
+        ensures { IfOk result (λ broken. broken ≡ first_broken (rules_on_edges self.now.space.image.now (thread_of self.now) point (state_by self.now.slots.now points.now.log known.now))) }
+    {
+        if self.leaves_next(points, point, is_next_noted) {
+            return self.taken_rules(points, shown, point, instr, known);
+        }
+        let ways = after(self.address(point), instr, &known.bounds);
+        match self.option_rules(points, shown, point, instr, known, &ways.taken)? {
+            Some(refusal) => Ok(Some(refusal)),
+            None => self.option_rules(points, shown, point, instr, known, &ways.fall_through),
+        }
+    }
+}
