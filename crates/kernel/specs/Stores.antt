@@ -1,15 +1,14 @@
 -- The store that the kernel stands on. Its form is named here, and its type in `src/stores.rt`.
-use Rattle.std.specs.Prelude.{ℕ, Option, List}
+use Rattle.std.specs.Prelude.{ℕ, List}
 use Rattle.model.specs.Capabilities.Slots.{Slots}
-use Rattle.model.specs.declared.slot_entries.Entry.{Entry}
-use Rattle.slots.specs.Table.{table_slots}
+use Rattle.packed_slots.specs.Packing.{Packed, packed_slots}
 
--- what a clause sees of the store: its bytes, and its records of slots
+-- what a clause sees of the store: its bytes, which slots are open, and the first full slot
 abbrev pub Store : Type 0
-Store = List ℕ × List (Option Entry)
+Store = Packed
 
 abbrev pub bytes_of : Store → List ℕ
-bytes_of store = store.0
+bytes_of store = store.memory
 
 abbrev pub slots_of : Store → Slots
-slots_of store = table_slots store.1
+slots_of store = packed_slots store

@@ -3,10 +3,10 @@
 ghost use Rattle.std.specs.Prelude.{ℕ, ◌≡◌, ◌^◌, ◌≤◌, IfOk, None, replicate};
 ghost use Rattle.kernel.specs.Stores.{bytes_of, slots_of};
 
-use slots::PlainSlots;
+use packed_slots::PackedSlots;
 use std::alloc::{AllocError, Global};
 
-pub(crate) type Store = PlainSlots;
+pub(crate) type Store = PackedSlots;
 
 /// Memory of 2^`bits` bytes, all zero, and no open slot.
 pub(crate) fn empty_store(alloc: Global, bits: u32) -> Result<Store, AllocError>
@@ -15,5 +15,5 @@ pub(crate) fn empty_store(alloc: Global, bits: u32) -> Result<Store, AllocError>
     ensures bytes { IfOk result (λ store. bytes_of store ≡ replicate (2 ^ bits) 0) }
     ensures slots { IfOk result (λ store. (s : ℕ) → slots_of store s ≡ None) }
 {
-    PlainSlots::new(alloc, bits)
+    PackedSlots::new(alloc, bits)
 }
