@@ -1,17 +1,16 @@
 //! Calls on CNodes.
 
 ghost use Rattle.std.specs.Prelude.{◌≡◌, OnErr};
-ghost use Rattle.agreement.specs.Wholeness.{IsWhole};
 ghost use Rattle.cnode_ops.specs.Outcomes.{GivesState};
 ghost use Rattle.invocations.specs.Calls.{call_of};
 ghost use Rattle.model.specs.Kernel.Invocations.{perform};
 ghost use Rattle.model.specs.declared.invocations.Invocation.TheVariants.{OnCNode};
-ghost use Rattle.objects.specs.Tables.{state_of};
+ghost use Rattle.lifecycles.specs.Kernels.{state_in};
 ghost use Rattle.soundness.specs.Calls.{IsCall};
 
 use crate::KernelCall;
 use cnode_ops::{NodeCall, copy, delete, mint, move_cap, mutate, revoke};
-use lifecycles::KernelObjects;
+use lifecycles::Kernel;
 use model::{CNodeCall, KError};
 use slots::SlotStore;
 
@@ -19,18 +18,14 @@ use slots::SlotStore;
 ///
 /// seL4 Reference Manual, seL4_CNode.
 pub(crate) fn on_cnode<S: SlotStore>(
-    store: &mut S,
-    kernel: &mut KernelObjects,
+    kernel: &mut Kernel<S>,
     call: KernelCall,
     asked: CNodeCall,
 ) -> Result<(), KError>
-    requires whole { IsWhole kernel.old (S.slots store.old) (S.memory store.old) }
-    requires call { IsCall (state_of kernel.old (S.slots store.old) (S.memory store.old)) (call_of call) }
-    ensures outcome { GivesState (perform (state_of kernel.old (S.slots store.old) (S.memory store.old)) (call_of call) (OnCNode asked)) result
-        (state_of kernel.new (S.slots store.new) (S.memory store.new)) }
-    ensures unchanged { OnErr result (store.new ≡ store.old) }
-    ensures same { OnErr result (kernel.new ≡ kernel.old) }
-    ensures whole { IsWhole kernel.new (S.slots store.new) (S.memory store.new) }
+    requires call { IsCall (state_in S.slots S.memory kernel.old) (call_of call) }
+    ensures outcome { GivesState (perform (state_in S.slots S.memory kernel.old) (call_of call) (OnCNode asked)) result
+        (state_in S.slots S.memory kernel.new) }
+    ensures unchanged { OnErr result (kernel.new ≡ kernel.old) }
 {
     let on = NodeCall {
         root: call.root,
@@ -41,23 +36,23 @@ pub(crate) fn on_cnode<S: SlotStore>(
             destination,
             source,
             rights,
-        } => copy(store, on, destination, source, rights),
+        } => copy(&mut kernel.store, on, destination, source, rights),
         CNodeCall::Mint {
             destination,
             source,
             rights,
             payload,
-        } => mint(store, on, destination, source, rights, payload),
+        } => mint(&mut kernel.store, on, destination, source, rights, payload),
         CNodeCall::Move {
             destination,
             source,
-        } => move_cap(store, on, destination, source),
+        } => move_cap(&mut kernel.store, on, destination, source),
         CNodeCall::Mutate {
             destination,
             source,
             payload,
-        } => mutate(store, on, destination, source, payload),
-        CNodeCall::Delete { slot } => delete(store, kernel, on, slot),
-        CNodeCall::Revoke { slot } => revoke(store, kernel, on, slot),
+        } => mutate(&mut kernel.store, on, destination, source, payload),
+        CNodeCall::Delete { slot } => delete(&mut kernel.store, &mut kernel.objects, on, slot),
+        CNodeCall::Revoke { slot } => revoke(&mut kernel.store, &mut kernel.objects, on, slot),
     }
 }

@@ -1,18 +1,17 @@
 //! Calls on frames.
 
 ghost use Rattle.std.specs.Prelude.{ℕ, ◌≡◌, OnErr, Option};
-ghost use Rattle.agreement.specs.Wholeness.{IsWhole};
 ghost use Rattle.cnode_ops.specs.Outcomes.{GivesState};
 ghost use Rattle.invocations.specs.Calls.{AppliesTo, call_of};
 ghost use Rattle.model.specs.Kernel.Invocations.{perform};
 ghost use Rattle.model.specs.declared.capabilities.FrameMapping.{FrameMapping};
 ghost use Rattle.model.specs.declared.invocations.Invocation.TheVariants.{OnFrame};
-ghost use Rattle.objects.specs.Tables.{state_of};
+ghost use Rattle.lifecycles.specs.Kernels.{state_in};
 ghost use Rattle.soundness.specs.Calls.{IsCall};
 
 use crate::KernelCall;
 use cnode_ops::Ends;
-use lifecycles::KernelObjects;
+use lifecycles::Kernel;
 use model::{Cap, FrameCall, KError, Rights};
 use slots::SlotStore;
 use vspace::{FrameCap, map_frame};
@@ -44,20 +43,16 @@ fn frame_of(call: KernelCall, held: Rights) -> FrameCap
 ///
 /// seL4 Reference Manual, seL4_RISCV_Page.
 pub(crate) fn on_frame<S: SlotStore>(
-    store: &mut S,
-    kernel: &mut KernelObjects,
+    kernel: &mut Kernel<S>,
     call: KernelCall,
     held: Rights,
     asked: FrameCall,
 ) -> Result<(), KError>
-    requires whole { IsWhole kernel.old (S.slots store.old) (S.memory store.old) }
-    requires call { IsCall (state_of kernel.old (S.slots store.old) (S.memory store.old)) (call_of call) }
+    requires call { IsCall (state_in S.slots S.memory kernel.old) (call_of call) }
     requires applies { AppliesTo call.capability (OnFrame held asked) }
-    ensures outcome { GivesState (perform (state_of kernel.old (S.slots store.old) (S.memory store.old)) (call_of call) (OnFrame held asked)) result
-        (state_of kernel.new (S.slots store.new) (S.memory store.new)) }
-    ensures unchanged { OnErr result (store.new ≡ store.old) }
-    ensures same { OnErr result (kernel.new ≡ kernel.old) }
-    ensures whole { IsWhole kernel.new (S.slots store.new) (S.memory store.new) }
+    ensures outcome { GivesState (perform (state_in S.slots S.memory kernel.old) (call_of call) (OnFrame held asked)) result
+        (state_in S.slots S.memory kernel.new) }
+    ensures unchanged { OnErr result (kernel.new ≡ kernel.old) }
 {
     match asked {
         FrameCall::MapFrame {
@@ -67,10 +62,10 @@ pub(crate) fn on_frame<S: SlotStore>(
         } => {
             let cspace = call.root;
             let frame = frame_of(call, held);
-            map_frame(store, cspace, frame, root, address, rights)
+            map_frame(&mut kernel.store, cspace, frame, root, address, rights)
         }
         FrameCall::UnmapFrame => {
-            kernel.unmap(store, call.slot);
+            kernel.objects.unmap(&mut kernel.store, call.slot);
             Ok(())
         }
     }

@@ -1,18 +1,17 @@
 //! The call that only the loader has.
 
 ghost use Rattle.std.specs.Prelude.{◌≡◌, ◌+◌, ◌<◌, ◌≤◌, OnErr, Some, length};
-ghost use Rattle.agreement.specs.Wholeness.{IsWhole};
 ghost use Rattle.cnode_ops.specs.Outcomes.{GivesState};
 ghost use Rattle.invocations.specs.Calls.{call_of};
 ghost use Rattle.model.specs.Capabilities.CapabilityKinds.{thread_of};
 ghost use Rattle.model.specs.Kernel.CallForms.{slot_name, word};
 ghost use Rattle.model.specs.Kernel.Invocations.{configure_with_guard};
-ghost use Rattle.objects.specs.Tables.{state_of};
+ghost use Rattle.lifecycles.specs.Kernels.{state_in};
 ghost use Rattle.soundness.specs.Calls.{IsCall};
 
 use crate::KernelCall;
 use crate::thread_calls::give_spaces;
-use lifecycles::KernelObjects;
+use lifecycles::Kernel;
 use model::{Cap, KError, SlotName};
 use slots::SlotStore;
 use tcb_ops::Spaces;
@@ -60,18 +59,14 @@ fn spaces_of(words: &[u32]) -> Spaces
 ///
 /// seL4 Reference Manual, "System Bootstrapping".
 pub fn configure_with_guard<S: SlotStore>(
-    store: &mut S,
-    kernel: &mut KernelObjects,
+    kernel: &mut Kernel<S>,
     call: KernelCall,
     words: &[u32],
 ) -> Result<(), KError>
-    requires whole { IsWhole kernel.old (S.slots store.old) (S.memory store.old) }
-    requires call { IsCall (state_of kernel.old (S.slots store.old) (S.memory store.old)) (call_of call) }
-    ensures outcome { GivesState (configure_with_guard (state_of kernel.old (S.slots store.old) (S.memory store.old)) (call_of call) words.now) result
-        (state_of kernel.new (S.slots store.new) (S.memory store.new)) }
-    ensures unchanged { OnErr result (store.new ≡ store.old) }
-    ensures same { OnErr result (kernel.new ≡ kernel.old) }
-    ensures whole { IsWhole kernel.new (S.slots store.new) (S.memory store.new) }
+    requires call { IsCall (state_in S.slots S.memory kernel.old) (call_of call) }
+    ensures outcome { GivesState (configure_with_guard (state_in S.slots S.memory kernel.old) (call_of call) words.now) result
+        (state_in S.slots S.memory kernel.new) }
+    ensures unchanged { OnErr result (kernel.new ≡ kernel.old) }
 {
     let Some(thread) = thread_of(call.capability) else {
         return Err(KError::IllegalOperation);
@@ -80,5 +75,5 @@ pub fn configure_with_guard<S: SlotStore>(
         return Err(KError::TruncatedMessage);
     }
     let spaces = spaces_of(words);
-    give_spaces(store, &mut kernel.objects, call, thread, spaces)
+    give_spaces(kernel, call, thread, spaces)
 }

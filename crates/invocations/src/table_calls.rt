@@ -1,18 +1,17 @@
 //! Calls on page tables.
 
 ghost use Rattle.std.specs.Prelude.{ℕ, ◌≡◌, OnErr, Option};
-ghost use Rattle.agreement.specs.Wholeness.{IsWhole};
 ghost use Rattle.cnode_ops.specs.Outcomes.{GivesState};
 ghost use Rattle.invocations.specs.Calls.{AppliesTo, call_of};
 ghost use Rattle.model.specs.Kernel.Invocations.{perform};
 ghost use Rattle.model.specs.declared.capabilities.TableMapping.{TableMapping};
 ghost use Rattle.model.specs.declared.invocations.Invocation.TheVariants.{OnTable};
-ghost use Rattle.objects.specs.Tables.{state_of};
+ghost use Rattle.lifecycles.specs.Kernels.{state_in};
 ghost use Rattle.soundness.specs.Calls.{IsCall};
 
 use crate::KernelCall;
 use cnode_ops::Ends;
-use lifecycles::KernelObjects;
+use lifecycles::Kernel;
 use model::{Cap, KError, TableCall};
 use slots::SlotStore;
 use vspace::{PageTableCap, map_table};
@@ -37,28 +36,24 @@ fn table_of(call: KernelCall) -> PageTableCap
 ///
 /// seL4 Reference Manual, seL4_RISCV_PageTable.
 pub(crate) fn on_table<S: SlotStore>(
-    store: &mut S,
-    kernel: &mut KernelObjects,
+    kernel: &mut Kernel<S>,
     call: KernelCall,
     asked: TableCall,
 ) -> Result<(), KError>
-    requires whole { IsWhole kernel.old (S.slots store.old) (S.memory store.old) }
-    requires call { IsCall (state_of kernel.old (S.slots store.old) (S.memory store.old)) (call_of call) }
+    requires call { IsCall (state_in S.slots S.memory kernel.old) (call_of call) }
     requires applies { AppliesTo call.capability (OnTable asked) }
-    ensures outcome { GivesState (perform (state_of kernel.old (S.slots store.old) (S.memory store.old)) (call_of call) (OnTable asked)) result
-        (state_of kernel.new (S.slots store.new) (S.memory store.new)) }
-    ensures unchanged { OnErr result (store.new ≡ store.old) }
-    ensures same { OnErr result (kernel.new ≡ kernel.old) }
-    ensures whole { IsWhole kernel.new (S.slots store.new) (S.memory store.new) }
+    ensures outcome { GivesState (perform (state_in S.slots S.memory kernel.old) (call_of call) (OnTable asked)) result
+        (state_in S.slots S.memory kernel.new) }
+    ensures unchanged { OnErr result (kernel.new ≡ kernel.old) }
 {
     match asked {
         TableCall::MapTable { root, address } => {
             let cspace = call.root;
             let table = table_of(call);
-            map_table(store, cspace, table, root, address)
+            map_table(&mut kernel.store, cspace, table, root, address)
         }
         TableCall::UnmapTable => {
-            kernel.unmap(store, call.slot);
+            kernel.objects.unmap(&mut kernel.store, call.slot);
             Ok(())
         }
     }

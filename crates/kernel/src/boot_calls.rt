@@ -75,16 +75,9 @@ fn perform<S: SlotStore>(
     ensures unchanged { OnErr result (kernel.new ≡ kernel.old) }
 {
     if label == CONFIGURE {
-        configure_with_guard(&mut kernel.store, &mut kernel.objects, call, words)
+        configure_with_guard(kernel, call, words)
     } else {
-        invoke(
-            &mut kernel.store,
-            &mut kernel.objects,
-            call,
-            label,
-            0,
-            words,
-        )
+        invoke(kernel, call, label, 0, words)
     }
 }
 

@@ -41,8 +41,7 @@ pub(crate) fn invoke_on<S: SlotStore>(
         capability,
     };
     let answer = invoke(
-        &mut kernel.store,
-        &mut kernel.objects,
+        kernel,
         call,
         message.label(),
         extra_capabilities,

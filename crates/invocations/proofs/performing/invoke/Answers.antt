@@ -9,7 +9,7 @@ use Rattle.model.specs.Kernel.Invocations.{perform}
 use Rattle.model.specs.Kernel.State.{State}
 use Rattle.model.specs.declared.errors.KError.{KError}
 use Rattle.model.specs.declared.invocations.Invocation.{Invocation}
-use Rattle.objects.specs.Tables.{state_of}
+use Rattle.lifecycles.specs.Kernels.{state_in}
 
 pub perform-requires-clause-applies : goal.perform-requires-clause-applies
 perform-requires-clause-applies g c =
@@ -17,8 +17,8 @@ perform-requires-clause-applies g c =
 
 pub returns-in-Ok-clause-outcome : goal.returns-in-Ok-clause-outcome
 returns-in-Ok-clause-outcome g c =
-    let s = state_of c.args.kernel.now (g.S.SlotMap.slots c.args.store.now) (g.S.SlotStore.memory c.args.store.now) in
-    let t = state_of c.perform.new.kernel (g.S.SlotMap.slots c.perform.new.store) (g.S.SlotStore.memory c.perform.new.store) in
+    let s = state_in g.S.SlotMap.slots g.S.SlotStore.memory c.args.kernel.now in
+    let t = state_in g.S.SlotMap.slots g.S.SlotStore.memory c.perform.new.kernel in
     let call = call_of c.args.call in
     subst (λ (d : Result State KError). GivesState d c.perform.result t)
     (sym (invoked-by s call c.args.label c.args.extra c.args.words.now c.decode_call.result c.decode_call.ensures ∙ ap (λ (r : Result Invocation KError). r >>= perform s call) c.in-Ok.is))
@@ -26,6 +26,6 @@ returns-in-Ok-clause-outcome g c =
 
 pub returns-in-Err-clause-outcome : goal.returns-in-Err-clause-outcome
 returns-in-Err-clause-outcome g c =
-    let s = state_of c.args.kernel.now (g.S.SlotMap.slots c.args.store.now) (g.S.SlotStore.memory c.args.store.now) in
+    let s = state_in g.S.SlotMap.slots g.S.SlotStore.memory c.args.kernel.now in
     let call = call_of c.args.call in
     invoked-by s call c.args.label c.args.extra c.args.words.now c.decode_call.result c.decode_call.ensures ∙ ap (λ (r : Result Invocation KError). r >>= perform s call) c.in-Err.is
