@@ -8,9 +8,9 @@ use crate::Fault;
 use model::{Point, Refusal};
 use ranges::Bounds;
 use std::alloc::{AllocError, Global};
-use thread_spaces::{mappings_are_listed, slots_are_own, threads_stand_apart};
+use thread_spaces::slots_are_own;
 use typestate::{
-    Behind, NotedSlot, NotedSlots, Part, ShownPart, SlotLog, Space, no_stray_slot_leads_outside,
+    Behind, NotedSlot, NotedSlots, Part, ShownPart, SlotLog, Space, ThreadSlots, no_stray_slot_leads_outside,
 };
 
 /// A thread of an image without certificates: the CNodes that the image gives it, and what it puts into them.
@@ -106,12 +106,13 @@ impl Given<'_, '_> {
         {
             return Err(Fault::refused(at.point, Refusal::CapNotThere(at)));
         }
-        let _ = self.space.image.header();
-        threads_stand_apart();
-        mappings_are_listed();
         no_stray_slot_leads_outside();
         slots_are_own(self.space.image, self.space.thread, slots);
-        match self.space.after_call(slots, at, bounds, made)? {
+        let own = ThreadSlots {
+            space: self.space,
+            slots: *slots,
+        };
+        match own.after_call(at, bounds, made)? {
             Ok(behind) => Ok(behind),
             Err(refusal) => Err(Fault::refused(at.point, refusal)),
         }

@@ -11,8 +11,8 @@ use point_rules::{Left, follows, follows_call};
 use ranges::Bounds;
 use rv32_isa::decode;
 use std::alloc::AllocError;
-use thread_spaces::{mappings_are_listed, slots_are_own, threads_stand_apart};
-use typestate::{Behind, NotedSlot, NotedSlots, Part, SlotLog, no_stray_slot_leads_outside};
+use thread_spaces::slots_are_own;
+use typestate::{Behind, NotedSlot, NotedSlots, Part, SlotLog, ThreadSlots, no_stray_slot_leads_outside};
 
 /// What is known at a point. The slots are the image's with some changes.
 #[derive(Drop)]
@@ -212,11 +212,12 @@ impl<'a> Scene<'a, '_, '_, '_, '_> {
         {
             return Ok(Err(Refusal::CapNotThere(at)));
         }
-        let _ = self.space.image.header();
-        threads_stand_apart();
-        mappings_are_listed();
         no_stray_slot_leads_outside();
         slots_are_own(self.space.image, self.space.thread, slots);
-        self.space.after_call(slots, at, bounds, made)
+        let own = ThreadSlots {
+            space: self.space,
+            slots: *slots,
+        };
+        own.after_call(at, bounds, made)
     }
 }

@@ -17,8 +17,8 @@ use image::RecordRef;
 use model::Refusal;
 use ranges::Bounds;
 use std::alloc::AllocError;
-use thread_spaces::{mappings_are_listed, slots_are_own, threads_stand_apart};
-use typestate::{Behind, NotedSlot, NotedSlots, no_stray_slot_leads_outside};
+use thread_spaces::slots_are_own;
+use typestate::{Behind, NotedSlot, NotedSlots, ThreadSlots, no_stray_slot_leads_outside};
 
 impl Program<'_, '_> {
     /// Whether some slot at a point is one that the thread may not have, or the point's record notes one outside of the
@@ -56,11 +56,12 @@ impl Program<'_, '_> {
         ensures tidy { IfOk result (IsTidyBehind self.now.space.image.now self.now.space.thread.now (slots_of slots.now) made.new.items) }
         ensures left { IfOk result (λ called. (measure : Measure) → after_call self.now.space.image.now self.now.space.thread.now (point_of (thread_of self.now) point) (known_with bounds.now (slots_of slots.now) measure) ≡ left_with (slots_of slots.now) made.new.items called) }
     {
-        let _ = self.space.image.header();
-        threads_stand_apart();
-        mappings_are_listed();
         no_stray_slot_leads_outside();
         slots_are_own(self.space.image, self.space.thread, slots);
-        self.space.after_call(slots, self.at(point), bounds, made)
+        let own = ThreadSlots {
+            space: self.space,
+            slots: *slots,
+        };
+        own.after_call(self.at(point), bounds, made)
     }
 }

@@ -4,7 +4,7 @@ use Rattle.std.specs.Prelude.{slice_get}
 use Rattle.std.proofs.lemmas.Option.{get_or_from_slice_get, slice_get_within}
 use Rattle.model.specs.Images.Image.{Image}
 use Rattle.typestate.specs.Spaces.{AreWindows, IsWindow}
-use Rattle.typestate.specs.declared.windows.Window.{Window}
+use Rattle.typestate.specs.declared.window.Window.{Window}
 
 windows-push : (image : Image) (cnodes : List ℕ) (windows : List Window) (cnode : ℕ) (w : Window) → AreWindows image cnodes windows → IsWindow image cnode w
     → AreWindows image (cnodes ++ cnode ∷ []) (windows ++ w ∷ [])

@@ -9,6 +9,7 @@ ghost use Rattle.model.specs.Images.Places.{offset_of};
 ghost use Rattle.thread_spaces.specs.Given.{AreOffsets, IsListed};
 ghost use Rattle.typestate.specs.Spaces.{AreWindows, IsSpace};
 
+use crate::space_laws::{mappings_are_listed, threads_stand_apart};
 use image::{ImageRef, ThreadRef};
 use model::Cap;
 use typestate::{Space, Window};
@@ -60,6 +61,9 @@ pub fn given_space<'a, 's>(
     ensures thread { result.thread.now ≡ thread.now }
     ensures windows { result.windows.now ≡ windows.now }
 {
+    let _ = image.header();
+    threads_stand_apart();
+    mappings_are_listed();
     Space {
         image,
         thread,

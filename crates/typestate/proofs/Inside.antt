@@ -13,7 +13,7 @@ use Rattle.model.specs.declared.errors.KError.{KError}
 use Rattle.model.specs.declared.errors.KError.TheVariants.{FailedLookup, RangeError}
 use Rattle.model.specs.declared.invocations.SlotName.{SlotName}
 use Rattle.model.specs.declared.lookup_failures.LookupFailure.{LookupFailure}
-use Rattle.typestate.specs.declared.windows.Window.{Window}
+use Rattle.typestate.specs.declared.window.Window.{Window}
 use Rattle.typestate.specs.CNodeCalls.{NamesSlot}
 use Rattle.typestate.specs.Spaces.{AreWindows, NothingLeadsOutside, is_among, key_in, own_slots, with_held}
 use Rattle.typestate.proofs.Lookups.{AgreeInside, IsIndexIn, argument-same, index-below}

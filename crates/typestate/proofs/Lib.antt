@@ -40,6 +40,7 @@ pub mod OwnKeys
 pub mod ParentLines
 pub mod StraySlots
 pub mod ChangesMake
+pub mod GivenFacts
 pub mod KeptChildren
 pub mod HeldCaps
 pub mod FrameRules

@@ -19,7 +19,7 @@ use Rattle.model.specs.Kernel.Retype.{NewObjects, first_capability, object, plac
 use Rattle.model.specs.Kernel.State.{slot_of}
 use Rattle.typestate.specs.declared.pool_calls.Makeable.{Makeable}
 use Rattle.typestate.specs.declared.pool_calls.Makeable.TheVariants.{Endpoint, Notification, Frame}
-use Rattle.typestate.specs.declared.windows.Window.{Window}
+use Rattle.typestate.specs.declared.window.Window.{Window}
 use Rattle.typestate.specs.Differences.{changed, left_by}
 use Rattle.typestate.specs.Pools.{IsOwnWindow, new_of, pool_used, slot_made, slots_made}
 use Rattle.typestate.specs.Spaces.{AreOwn, StandsApart}

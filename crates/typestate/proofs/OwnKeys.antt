@@ -10,7 +10,7 @@ use Rattle.model.specs.Images.Image.{Image}
 use Rattle.model.specs.Images.Places.{offset_of, type_at}
 use Rattle.typestate.specs.Spaces.{AreWindows}
 use Rattle.typestate.specs.Strays.{has_key, is_at}
-use Rattle.typestate.specs.declared.windows.Window.{Window}
+use Rattle.typestate.specs.declared.window.Window.{Window}
 
 taken : (a m : Bool) → (a || m && a) ≡ a
 taken true m = refl

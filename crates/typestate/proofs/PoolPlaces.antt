@@ -32,7 +32,7 @@ use Rattle.model.specs.Kernel.State.{slot_of}
 use Rattle.typestate.specs.declared.pool_calls.Makeable.{Makeable}
 use Rattle.typestate.specs.declared.pool_calls.NewPlace.{NewPlace}
 use Rattle.typestate.specs.declared.pool_calls.Makeable.TheVariants as makeable
-use Rattle.typestate.specs.declared.windows.Window.{Window}
+use Rattle.typestate.specs.declared.window.Window.{Window}
 use Rattle.typestate.specs.Differences.{changed}
 use Rattle.typestate.specs.Invocations.{held_after}
 use Rattle.typestate.specs.Pools.{IsOwnWindow, Makes, NamesNode, PlacedNew, fits_node, new_of, pool_used, room_in, slots_made}

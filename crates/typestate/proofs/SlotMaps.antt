@@ -15,7 +15,7 @@ use Rattle.model.specs.Kernel.State.{slot_of}
 use Rattle.model.specs.declared.capabilities.Cap.{Cap}
 use Rattle.model.specs.declared.capabilities.Cap.TheVariants.{Empty, Untyped, Endpoint, Notification, CNode, Frame, PageTable, Tcb, RootTable, InterruptControl, InterruptHandler}
 use Rattle.model.specs.declared.slot_entries.Entry.{Entry}
-use Rattle.typestate.specs.declared.windows.Window.{Window}
+use Rattle.typestate.specs.declared.window.Window.{Window}
 use Rattle.typestate.specs.Spaces.{AreWindows, IsWindow, NothingLeadsOutside, entry_in, is_among, key_in, key_within, own_slots, stands_within}
 use Rattle.typestate.proofs.Lookups.{AgreeInside}
 

@@ -4,6 +4,7 @@ pub mod Families
 pub mod Unlinked
 pub mod Differences
 pub mod Calls
+pub mod GivenSpaces
 pub mod Spaces
 pub mod Strays
 pub mod Mappings

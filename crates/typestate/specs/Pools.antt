@@ -21,7 +21,7 @@ use Rattle.model.specs.Kernel.State.{slot_of}
 use Rattle.typestate.specs.declared.pool_calls.Makeable.{Makeable}
 use Rattle.typestate.specs.declared.pool_calls.Makeable.TheVariants.{Endpoint, Notification, Frame}
 use Rattle.typestate.specs.declared.pool_calls.NewPlace.{NewPlace}
-use Rattle.typestate.specs.declared.windows.Window.{Window}
+use Rattle.typestate.specs.declared.window.Window.{Window}
 use Rattle.typestate.specs.Invocations.{held_after}
 use Rattle.typestate.specs.SlotChanges.{noted_depth}
 use Rattle.typestate.specs.Spaces.{IsWindow}

@@ -13,7 +13,7 @@ use Rattle.typestate.specs.SlotChanges.{is_parent}
 use Rattle.typestate.specs.declared.behind.Behind.{Behind}
 use Rattle.typestate.specs.declared.slot_changes.SlotChange.{SlotChange}
 use Rattle.typestate.specs.declared.slot_changes.SlotChange.TheVariants.{Nothing, Puts, Moves, Removes}
-use Rattle.typestate.specs.declared.windows.Window.{Window}
+use Rattle.typestate.specs.declared.window.Window.{Window}
 use Rattle.typestate.specs.declared.windows.Space.{Space}
 
 -- whether a slot of this key stands in the CNode

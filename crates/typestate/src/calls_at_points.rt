@@ -7,21 +7,19 @@ ghost use Rattle.model.specs.Acceptance.Measures.{Measure};
 ghost use Rattle.typestate.specs.Calls.{call_on, known_with, left_with};
 ghost use Rattle.typestate.specs.Differences.{slots_of};
 ghost use Rattle.typestate.specs.Invocations.{HoldsFull};
-ghost use Rattle.typestate.specs.Mappings.{MappingsAreListed};
 ghost use Rattle.typestate.specs.Strays.{IsTidyBehind};
-ghost use Rattle.typestate.specs.Spaces.{AreOwn, IsSpace, NothingLeadsOutside, StandsApart, own_slots};
+ghost use Rattle.typestate.specs.Spaces.{own_slots};
 
-use crate::{Behind, NotedSlot, NotedSlots, Space, SystemCall, message_call};
+use crate::{Behind, NotedSlot, SystemCall, ThreadSlots, message_call};
 use model::{Cap, Point, Refusal};
 use ranges::Bounds;
 use std::alloc::AllocError;
 
-impl Space<'_, '_> {
+impl ThreadSlots<'_, '_, '_> {
     /// A call on the capability in a slot of the thread's, with the message in the registers. The slots that it changes are put
     /// into the list, which is empty. Memory may be refused.
     fn called_on(
         &self,
-        slots: &NotedSlots<'_>,
         at: Point,
         bounds: &Bounds,
         slot: u32,
@@ -29,23 +27,18 @@ impl Space<'_, '_> {
         answers: bool,
         made: &mut Vec<NotedSlot>,
     ) -> Result<Result<Behind, Refusal>, AllocError>
-        requires space { IsSpace self.now }
-        requires apart { StandsApart self.now.image.now self.now.thread.now }
-        requires listed { MappingsAreListed self.now.image.now self.now.thread.now }
-        requires inside { NothingLeadsOutside self.now.image.now self.now.thread.now (slots_of slots.now) }
-        requires own { AreOwn self.now.image.now self.now.thread.now (slots_of slots.now) }
-        requires held { HoldsFull (own_slots self.now.windows.now (slots_of slots.now)) slot capability }
+        requires held { HoldsFull (own_slots self.now.space.windows.now (slots_of self.now.slots)) slot capability }
         requires none { made.old.items ≡ [] }
-        ensures tidy { IfOk result (IsTidyBehind self.now.image.now self.now.thread.now (slots_of slots.now) made.new.items) }
-        ensures left { IfOk result (λ called. (measure : Measure) → invocation self.now.image.now self.now.thread.now at (known_with bounds.now (slots_of slots.now) measure) (call_on self.now.image.now self.now.thread.now slot capability) answers
-            ≡ left_with (slots_of slots.now) made.new.items called) }
+        ensures tidy { IfOk result (IsTidyBehind self.now.space.image.now self.now.space.thread.now (slots_of self.now.slots) made.new.items) }
+        ensures left { IfOk result (λ called. (measure : Measure) → invocation self.now.space.image.now self.now.space.thread.now at (known_with bounds.now (slots_of self.now.slots) measure) (call_on self.now.space.image.now self.now.space.thread.now slot capability) answers
+            ≡ left_with (slots_of self.now.slots) made.new.items called) }
     {
         let call = match message_call(at, bounds, capability) {
             Ok(call) => call,
             Err(refusal) => return Ok(Err(refusal)),
         };
-        let held = self.held(slots, slot);
-        match self.invoked(slots, at, held, call, made)? {
+        let held = self.held(slot);
+        match self.invoked(at, held, call, made)? {
             Ok(is_tidy) => Ok(Ok(Behind::called(bounds, answers, is_tidy))),
             Err(refusal) => Ok(Err(refusal)),
         }
@@ -55,21 +48,15 @@ impl Space<'_, '_> {
     /// empty. Memory may be refused.
     pub fn after_call(
         &self,
-        slots: &NotedSlots<'_>,
         at: Point,
         bounds: &Bounds,
         made: &mut Vec<NotedSlot>,
     ) -> Result<Result<Behind, Refusal>, AllocError>
-        requires space { IsSpace self.now }
-        requires apart { StandsApart self.now.image.now self.now.thread.now }
-        requires listed { MappingsAreListed self.now.image.now self.now.thread.now }
-        requires inside { NothingLeadsOutside self.now.image.now self.now.thread.now (slots_of slots.now) }
-        requires own { AreOwn self.now.image.now self.now.thread.now (slots_of slots.now) }
         requires none { made.old.items ≡ [] }
-        ensures tidy { IfOk result (IsTidyBehind self.now.image.now self.now.thread.now (slots_of slots.now) made.new.items) }
-        ensures left { IfOk result (λ called. (measure : Measure) → after_call self.now.image.now self.now.thread.now at (known_with bounds.now (slots_of slots.now) measure) ≡ left_with (slots_of slots.now) made.new.items called) }
+        ensures tidy { IfOk result (IsTidyBehind self.now.space.image.now self.now.space.thread.now (slots_of self.now.slots) made.new.items) }
+        ensures left { IfOk result (λ called. (measure : Measure) → after_call self.now.space.image.now self.now.space.thread.now at (known_with bounds.now (slots_of self.now.slots) measure) ≡ left_with (slots_of self.now.slots) made.new.items called) }
     {
-        match self.system_call(slots, at, bounds) {
+        match self.system_call(at, bounds) {
             Err(refusal) => Ok(Err(refusal)),
             Ok(SystemCall::Plain(behind)) => Ok(Ok(behind)),
             Ok(
@@ -78,7 +65,7 @@ impl Space<'_, '_> {
                     capability,
                     answers,
                 },
-            ) => self.called_on(slots, at, bounds, slot, capability, answers, made),
+            ) => self.called_on(at, bounds, slot, capability, answers, made),
         }
     }
 }

@@ -15,10 +15,10 @@ ghost use Rattle.model.specs.declared.invocations.SlotName.{SlotName};
 ghost use Rattle.typestate.specs.CNodeCalls.{AreEnds, NamesEnds, NamesSlot, allowed_slots, cnode_after, ends_of, with_child};
 ghost use Rattle.typestate.specs.Differences.{slots_of};
 ghost use Rattle.typestate.specs.SlotChanges.{left_or_refused};
-ghost use Rattle.typestate.specs.Spaces.{AreOwn, IsSpace, NothingLeadsOutside, StandsApart, is_inside};
+ghost use Rattle.typestate.specs.Spaces.{AreOwn, StandsApart, is_inside};
 
 use crate::spaces::key_in;
-use crate::{NotedSlot, NotedSlots, OwnSlots, Removed, SlotChange, SlotKey, Space};
+use crate::{NotedSlot, NotedSlots, OwnSlots, Removed, SlotChange, SlotKey, ThreadSlots};
 use cap_copies::{copy_of, minted_copy_of};
 use cspace::argument_slot;
 use model::{CNodeCall, Cap, KError, Point, Refusal, SlotName};
@@ -85,60 +85,45 @@ fn put_copy(
     }))
 }
 
-impl Space<'_, '_> {
+impl ThreadSlots<'_, '_, '_> {
     /// The slot of this name under a CNode of the thread, with the capability in it, or the kernel's error.
-    pub(crate) fn named(
-        &self,
-        slots: &NotedSlots<'_>,
-        root: Cap,
-        name: SlotName,
-    ) -> Result<(SlotKey, Cap), KError>
-        requires space { IsSpace self.now }
-        requires inside { NothingLeadsOutside self.now.image.now self.now.thread.now (slots_of slots.now) }
-        requires root { is_inside self.now.image.now self.now.thread.now root ≡ true }
+    pub(crate) fn named(&self, root: Cap, name: SlotName) -> Result<(SlotKey, Cap), KError>
+        requires root { is_inside self.now.space.image.now self.now.space.thread.now root ≡ true }
         requires valid { IsCapability root }
-        ensures value { let all = noted_slots self.now.image.now self.now.thread.now (slots_of slots.now) in
-            NamesSlot self.now.image.now self.now.thread.now all (argument_slot all root name) result }
+        ensures value { let all = noted_slots self.now.space.image.now self.now.space.thread.now (slots_of self.now.slots) in
+            NamesSlot self.now.space.image.now self.now.space.thread.now all (argument_slot all root name) result }
         ensures valid { IfOk result (λ found. IsCapability found.1) }
     {
         let own = OwnSlots {
-            windows: self.windows,
-            slots: *slots,
+            windows: self.space.windows,
+            slots: self.slots,
         };
         let slot = match argument_slot(&own, root, name) {
             Ok(slot) => slot,
             Err(error) => return Err(error),
         };
-        match key_in(self.windows, slot.number()) {
-            Some(key) => Ok((key, slots.capability(key))),
+        match key_in(self.space.windows, slot.number()) {
+            Some(key) => Ok((key, self.slots.capability(key))),
             None => unreachable!(),
         }
     }
 
     /// The empty slot and the full one that a call names, or the kernel's error.
-    fn ends(
-        &self,
-        slots: &NotedSlots<'_>,
-        capability: Cap,
-        destination: SlotName,
-        source: SlotName,
-    ) -> Result<Ends, KError>
-        requires space { IsSpace self.now }
-        requires inside { NothingLeadsOutside self.now.image.now self.now.thread.now (slots_of slots.now) }
-        requires root { is_inside self.now.image.now self.now.thread.now capability ≡ true }
+    fn ends(&self, capability: Cap, destination: SlotName, source: SlotName) -> Result<Ends, KError>
+        requires root { is_inside self.now.space.image.now self.now.space.thread.now capability ≡ true }
         requires valid { IsCapability capability }
-        ensures value { let all = noted_slots self.now.image.now self.now.thread.now (slots_of slots.now) in
-            NamesEnds self.now.image.now self.now.thread.now all self.now.root source (ends_of all capability self.now.root destination source) result }
+        ensures value { let all = noted_slots self.now.space.image.now self.now.space.thread.now (slots_of self.now.slots) in
+            NamesEnds self.now.space.image.now self.now.space.thread.now all self.now.space.root source (ends_of all capability self.now.space.root destination source) result }
         ensures valid { IfOk result (λ ends. IsCapability ends.held) }
     {
-        let (to, there) = match self.named(slots, capability, destination) {
+        let (to, there) = match self.named(capability, destination) {
             Ok(found) => found,
             Err(error) => return Err(error),
         };
         if !is_vacant(there) {
             return Err(KError::DeleteFirst);
         }
-        let (from, held) = match self.named(slots, self.root, source) {
+        let (from, held) = match self.named(self.space.root, source) {
             Ok(found) => found,
             Err(error) => return Err(error),
         };
@@ -151,32 +136,26 @@ impl Space<'_, '_> {
     /// Copy.
     fn copy(
         &self,
-        slots: &NotedSlots<'_>,
         at: Point,
         capability: Cap,
         destination: SlotName,
         source: SlotName,
         rights_word: u32,
     ) -> Result<SlotChange, Refusal>
-        requires space { IsSpace self.now }
-        requires apart { StandsApart self.now.image.now self.now.thread.now }
-        requires inside { NothingLeadsOutside self.now.image.now self.now.thread.now (slots_of slots.now) }
-        requires own { AreOwn self.now.image.now self.now.thread.now (slots_of slots.now) }
-        requires root { is_inside self.now.image.now self.now.thread.now capability ≡ true }
+        requires root { is_inside self.now.space.image.now self.now.space.thread.now capability ≡ true }
         requires valid { IsCapability capability }
-        ensures { cnode_after self.now.image.now self.now.thread.now at (slots_of slots.now) capability (calls.Copy destination source rights_word) ≡ left_or_refused (slots_of slots.now) result }
+        ensures { cnode_after self.now.space.image.now self.now.space.thread.now at (slots_of self.now.slots) capability (calls.Copy destination source rights_word) ≡ left_or_refused (slots_of self.now.slots) result }
     {
-        let ends = match self.ends(slots, capability, destination, source) {
+        let ends = match self.ends(capability, destination, source) {
             Ok(ends) => ends,
             Err(error) => return Err(Refusal::CallRefused(at, error)),
         };
-        put_copy(slots, at, ends, copy_of(ends.held, rights_word))
+        put_copy(&self.slots, at, ends, copy_of(ends.held, rights_word))
     }
 
     /// Mint: a copy with a badge or a guard word.
     fn mint(
         &self,
-        slots: &NotedSlots<'_>,
         at: Point,
         capability: Cap,
         destination: SlotName,
@@ -184,20 +163,16 @@ impl Space<'_, '_> {
         rights_word: u32,
         payload: u32,
     ) -> Result<SlotChange, Refusal>
-        requires space { IsSpace self.now }
-        requires apart { StandsApart self.now.image.now self.now.thread.now }
-        requires inside { NothingLeadsOutside self.now.image.now self.now.thread.now (slots_of slots.now) }
-        requires own { AreOwn self.now.image.now self.now.thread.now (slots_of slots.now) }
-        requires root { is_inside self.now.image.now self.now.thread.now capability ≡ true }
+        requires root { is_inside self.now.space.image.now self.now.space.thread.now capability ≡ true }
         requires valid { IsCapability capability }
-        ensures { cnode_after self.now.image.now self.now.thread.now at (slots_of slots.now) capability (calls.Mint destination source rights_word payload) ≡ left_or_refused (slots_of slots.now) result }
+        ensures { cnode_after self.now.space.image.now self.now.space.thread.now at (slots_of self.now.slots) capability (calls.Mint destination source rights_word payload) ≡ left_or_refused (slots_of self.now.slots) result }
     {
-        let ends = match self.ends(slots, capability, destination, source) {
+        let ends = match self.ends(capability, destination, source) {
             Ok(ends) => ends,
             Err(error) => return Err(Refusal::CallRefused(at, error)),
         };
         put_copy(
-            slots,
+            &self.slots,
             at,
             ends,
             minted_copy_of(ends.held, rights_word, payload),
@@ -207,21 +182,16 @@ impl Space<'_, '_> {
     /// Move: a program may not lose sight of its pools.
     fn moves(
         &self,
-        slots: &NotedSlots<'_>,
         at: Point,
         capability: Cap,
         destination: SlotName,
         source: SlotName,
     ) -> Result<SlotChange, Refusal>
-        requires space { IsSpace self.now }
-        requires apart { StandsApart self.now.image.now self.now.thread.now }
-        requires inside { NothingLeadsOutside self.now.image.now self.now.thread.now (slots_of slots.now) }
-        requires own { AreOwn self.now.image.now self.now.thread.now (slots_of slots.now) }
-        requires root { is_inside self.now.image.now self.now.thread.now capability ≡ true }
+        requires root { is_inside self.now.space.image.now self.now.space.thread.now capability ≡ true }
         requires valid { IsCapability capability }
-        ensures { cnode_after self.now.image.now self.now.thread.now at (slots_of slots.now) capability (calls.Move destination source) ≡ left_or_refused (slots_of slots.now) result }
+        ensures { cnode_after self.now.space.image.now self.now.space.thread.now at (slots_of self.now.slots) capability (calls.Move destination source) ≡ left_or_refused (slots_of self.now.slots) result }
     {
-        let ends = match self.ends(slots, capability, destination, source) {
+        let ends = match self.ends(capability, destination, source) {
             Ok(ends) => ends,
             Err(error) => return Err(Refusal::CallRefused(at, error)),
         };
@@ -236,49 +206,30 @@ impl Space<'_, '_> {
             to: NotedSlot {
                 key: ends.to,
                 capability: ends.held,
-                parent: slots.parent(ends.from),
+                parent: self.slots.parent(ends.from),
             },
         })
     }
 
     /// Mutate, which is none of a program's calls: the kernel's errors come first.
-    fn mutate(
-        &self,
-        slots: &NotedSlots<'_>,
-        at: Point,
-        capability: Cap,
-        destination: SlotName,
-        source: SlotName,
-    ) -> Refusal
-        requires space { IsSpace self.now }
-        requires inside { NothingLeadsOutside self.now.image.now self.now.thread.now (slots_of slots.now) }
-        requires root { is_inside self.now.image.now self.now.thread.now capability ≡ true }
+    fn mutate(&self, at: Point, capability: Cap, destination: SlotName, source: SlotName) -> Refusal
+        requires root { is_inside self.now.space.image.now self.now.space.thread.now capability ≡ true }
         requires valid { IsCapability capability }
-        ensures { (payload : ℕ) → cnode_after self.now.image.now self.now.thread.now at (slots_of slots.now) capability (calls.Mutate destination source payload) ≡ Err result }
+        ensures { (payload : ℕ) → cnode_after self.now.space.image.now self.now.space.thread.now at (slots_of self.now.slots) capability (calls.Mutate destination source payload) ≡ Err result }
     {
-        match self.ends(slots, capability, destination, source) {
+        match self.ends(capability, destination, source) {
             Ok(_) => Refusal::CallRefused(at, KError::IllegalOperation),
             Err(error) => Refusal::CallRefused(at, error),
         }
     }
 
     /// Delete: a program may not lose its pools. Nothing happens to an empty slot.
-    fn delete(
-        &self,
-        slots: &NotedSlots<'_>,
-        at: Point,
-        capability: Cap,
-        name: SlotName,
-    ) -> Result<SlotChange, Refusal>
-        requires space { IsSpace self.now }
-        requires apart { StandsApart self.now.image.now self.now.thread.now }
-        requires inside { NothingLeadsOutside self.now.image.now self.now.thread.now (slots_of slots.now) }
-        requires own { AreOwn self.now.image.now self.now.thread.now (slots_of slots.now) }
-        requires root { is_inside self.now.image.now self.now.thread.now capability ≡ true }
+    fn delete(&self, at: Point, capability: Cap, name: SlotName) -> Result<SlotChange, Refusal>
+        requires root { is_inside self.now.space.image.now self.now.space.thread.now capability ≡ true }
         requires valid { IsCapability capability }
-        ensures { cnode_after self.now.image.now self.now.thread.now at (slots_of slots.now) capability (calls.Delete name) ≡ left_or_refused (slots_of slots.now) result }
+        ensures { cnode_after self.now.space.image.now self.now.space.thread.now at (slots_of self.now.slots) capability (calls.Delete name) ≡ left_or_refused (slots_of self.now.slots) result }
     {
-        let (key, held) = match self.named(slots, capability, name) {
+        let (key, held) = match self.named(capability, name) {
             Ok(found) => found,
             Err(error) => return Err(Refusal::CallRefused(at, error)),
         };
@@ -292,22 +243,12 @@ impl Space<'_, '_> {
     }
 
     /// Revoke: what descends from a slot goes.
-    fn revoke(
-        &self,
-        slots: &NotedSlots<'_>,
-        at: Point,
-        capability: Cap,
-        name: SlotName,
-    ) -> Result<SlotChange, Refusal>
-        requires space { IsSpace self.now }
-        requires apart { StandsApart self.now.image.now self.now.thread.now }
-        requires inside { NothingLeadsOutside self.now.image.now self.now.thread.now (slots_of slots.now) }
-        requires own { AreOwn self.now.image.now self.now.thread.now (slots_of slots.now) }
-        requires root { is_inside self.now.image.now self.now.thread.now capability ≡ true }
+    fn revoke(&self, at: Point, capability: Cap, name: SlotName) -> Result<SlotChange, Refusal>
+        requires root { is_inside self.now.space.image.now self.now.space.thread.now capability ≡ true }
         requires valid { IsCapability capability }
-        ensures { cnode_after self.now.image.now self.now.thread.now at (slots_of slots.now) capability (calls.Revoke name) ≡ left_or_refused (slots_of slots.now) result }
+        ensures { cnode_after self.now.space.image.now self.now.space.thread.now at (slots_of self.now.slots) capability (calls.Revoke name) ≡ left_or_refused (slots_of self.now.slots) result }
     {
-        let (key, _) = match self.named(slots, capability, name) {
+        let (key, _) = match self.named(capability, name) {
             Ok(found) => found,
             Err(error) => return Err(Refusal::CallRefused(at, error)),
         };
@@ -318,42 +259,37 @@ impl Space<'_, '_> {
     /// that a pool is lost, and then that a program may not move or copy what its source holds.
     pub fn cnode_call(
         &self,
-        slots: &NotedSlots<'_>,
         at: Point,
         capability: Cap,
         call: CNodeCall,
     ) -> Result<SlotChange, Refusal>
-        requires space { IsSpace self.now }
-        requires apart { StandsApart self.now.image.now self.now.thread.now }
-        requires inside { NothingLeadsOutside self.now.image.now self.now.thread.now (slots_of slots.now) }
-        requires own { AreOwn self.now.image.now self.now.thread.now (slots_of slots.now) }
-        requires root { is_inside self.now.image.now self.now.thread.now capability ≡ true }
+        requires root { is_inside self.now.space.image.now self.now.space.thread.now capability ≡ true }
         requires valid { IsCapability capability }
-        ensures { cnode_after self.now.image.now self.now.thread.now at (slots_of slots.now) capability call ≡ left_or_refused (slots_of slots.now) result }
+        ensures { cnode_after self.now.space.image.now self.now.space.thread.now at (slots_of self.now.slots) capability call ≡ left_or_refused (slots_of self.now.slots) result }
     {
         match call {
             CNodeCall::Copy {
                 destination,
                 source,
                 rights,
-            } => self.copy(slots, at, capability, destination, source, rights),
+            } => self.copy(at, capability, destination, source, rights),
             CNodeCall::Mint {
                 destination,
                 source,
                 rights,
                 payload,
-            } => self.mint(slots, at, capability, destination, source, rights, payload),
+            } => self.mint(at, capability, destination, source, rights, payload),
             CNodeCall::Move {
                 destination,
                 source,
-            } => self.moves(slots, at, capability, destination, source),
+            } => self.moves(at, capability, destination, source),
             CNodeCall::Mutate {
                 destination,
                 source,
                 ..
-            } => Err(self.mutate(slots, at, capability, destination, source)),
-            CNodeCall::Delete { slot } => self.delete(slots, at, capability, slot),
-            CNodeCall::Revoke { slot } => self.revoke(slots, at, capability, slot),
+            } => Err(self.mutate(at, capability, destination, source)),
+            CNodeCall::Delete { slot } => self.delete(at, capability, slot),
+            CNodeCall::Revoke { slot } => self.revoke(at, capability, slot),
         }
     }
 }

@@ -15,13 +15,12 @@ ghost use Rattle.model.specs.declared.invocations.FrameCall.TheVariants.{MapFram
 ghost use Rattle.model.specs.declared.invocations.Invocation.TheVariants.{OnFrame};
 ghost use Rattle.typestate.specs.Differences.{left_by, slots_of};
 ghost use Rattle.typestate.specs.Invocations.{IsCallOn, held_after, mapped_at, mapping_made, with_root};
-ghost use Rattle.typestate.specs.Mappings.{MappingsAreListed, lists_page, lists_region};
+ghost use Rattle.typestate.specs.Mappings.{lists_page, lists_region};
 ghost use Rattle.typestate.specs.SlotChanges.{left_or_refused};
 ghost use Rattle.typestate.specs.declared.slot_changes.SlotChange.TheVariants.{Puts};
-ghost use Rattle.typestate.specs.Spaces.{AreOwn, IsSpace, NothingLeadsOutside, StandsApart};
 
 use crate::noted::left;
-use crate::{NotedSlot, NotedSlots, SlotChange, Space};
+use crate::{NotedSlot, NotedSlots, SlotChange, Space, ThreadSlots};
 use model::{
     Cap, FrameCall, FrameEntry, FrameMapping, KError, Point, Refusal, Rights, SlotName, TableEntry,
 };
@@ -159,40 +158,31 @@ impl Space<'_, '_> {
         }
         false
     }
+}
 
+impl ThreadSlots<'_, '_, '_> {
     /// Whether a region of the thread's address space has a page table. No program can map or unmap one.
-    fn is_region_taken(&self, slots: &NotedSlots<'_>, region: u32) -> bool
-        requires space { IsSpace self.now }
-        requires apart { StandsApart self.now.image.now self.now.thread.now }
-        requires listed { MappingsAreListed self.now.image.now self.now.thread.now }
-        requires inside { NothingLeadsOutside self.now.image.now self.now.thread.now (slots_of slots.now) }
-        requires own { AreOwn self.now.image.now self.now.thread.now (slots_of slots.now) }
-        ensures { result ≡ is_region_taken (noted_kernel self.now.image.now self.now.thread.now (slots_of slots.now)) self.now.table region }
+    fn is_region_taken(&self, region: u32) -> bool
+        ensures { result ≡ is_region_taken (noted_kernel self.now.space.image.now self.now.space.thread.now (slots_of self.now.slots)) self.now.space.table region }
     {
-        self.lists_region(region)
+        self.space.lists_region(region)
     }
 
     /// Whether a frame is mapped at a page of the thread's address space.
-    fn is_page_taken(&self, slots: &NotedSlots<'_>, page: u32) -> bool
-        requires space { IsSpace self.now }
-        requires apart { StandsApart self.now.image.now self.now.thread.now }
-        requires listed { MappingsAreListed self.now.image.now self.now.thread.now }
-        requires own { AreOwn self.now.image.now self.now.thread.now (slots_of slots.now) }
-        ensures { result ≡ is_page_taken (noted_kernel self.now.image.now self.now.thread.now (slots_of slots.now)) self.now.table page }
+    fn is_page_taken(&self, page: u32) -> bool
+        ensures { result ≡ is_page_taken (noted_kernel self.now.space.image.now self.now.space.thread.now (slots_of self.now.slots)) self.now.space.table page }
     {
-        let listed = self.lists_page(page);
-        let held = slots.takes_page(self.table, page);
+        let listed = self.space.lists_page(page);
+        let held = self.slots.takes_page(self.space.table, page);
         listed || held
     }
 
     /// Whether a slot of this name holds the thread's root table, or the kernel's error: no other one can be there.
-    fn names_root(&self, slots: &NotedSlots<'_>, name: SlotName) -> Result<(), KError>
-        requires space { IsSpace self.now }
-        requires inside { NothingLeadsOutside self.now.image.now self.now.thread.now (slots_of slots.now) }
-        ensures value { root_named (noted_slots self.now.image.now self.now.thread.now (slots_of slots.now)) (noted_root self.now.image.now self.now.thread.now) name ≡ with_root self.now.table result }
-        ensures placed { IfOk result (λ _. IsPlace self.now.table 12) }
+    fn names_root(&self, name: SlotName) -> Result<(), KError>
+        ensures value { root_named (noted_slots self.now.space.image.now self.now.space.thread.now (slots_of self.now.slots)) (noted_root self.now.space.image.now self.now.space.thread.now) name ≡ with_root self.now.space.table result }
+        ensures placed { IfOk result (λ _. IsPlace self.now.space.table 12) }
     {
-        let (_, held) = match self.named(slots, self.root, name) {
+        let (_, held) = match self.named(self.space.root, name) {
             Ok(found) => found,
             Err(error) => return Err(error),
         };
@@ -204,34 +194,24 @@ impl Space<'_, '_> {
     }
 
     /// The mapping of a frame at a page with these rights, or the kernel's error.
-    fn mapping_at(
-        &self,
-        slots: &NotedSlots<'_>,
-        allowed: Rights,
-        page: u32,
-    ) -> Result<FrameMapping, KError>
-        requires space { IsSpace self.now }
-        requires apart { StandsApart self.now.image.now self.now.thread.now }
-        requires listed { MappingsAreListed self.now.image.now self.now.thread.now }
-        requires inside { NothingLeadsOutside self.now.image.now self.now.thread.now (slots_of slots.now) }
-        requires own { AreOwn self.now.image.now self.now.thread.now (slots_of slots.now) }
-        requires placed { IsPlace self.now.table 12 }
+    fn mapping_at(&self, allowed: Rights, page: u32) -> Result<FrameMapping, KError>
+        requires placed { IsPlace self.now.space.table 12 }
         requires near { page < 2 ^ 19 }
         requires kinds { (allowed.0 ≡ 0) ⊎ AreMappingRights allowed.0 }
-        ensures value { result ≡ mapped_at self.now.image.now self.now.thread.now (slots_of slots.now) allowed self.now.table page }
+        ensures value { result ≡ mapped_at self.now.space.image.now self.now.space.thread.now (slots_of self.now.slots) allowed self.now.space.table page }
         ensures valid { IfOk result (λ made. IsFrameMapping (Some made)) }
     {
-        if !self.is_region_taken(slots, page / REGION_PAGES) {
+        if !self.is_region_taken(page / REGION_PAGES) {
             return Err(KError::FailedLookup);
         }
-        if self.is_page_taken(slots, page) {
+        if self.is_page_taken(page) {
             return Err(KError::DeleteFirst);
         }
         if !may_be_mapped(allowed) {
             return Err(KError::InvalidArgument);
         }
         Ok(FrameMapping {
-            root: self.table,
+            root: self.space.table,
             page,
             rights: allowed,
         })
@@ -240,25 +220,19 @@ impl Space<'_, '_> {
     /// The mapping that Map makes of a frame's capability with these rights and this mapping, or the kernel's error.
     fn mapping_for(
         &self,
-        slots: &NotedSlots<'_>,
         mapping: Option<FrameMapping>,
         held: Rights,
         root: SlotName,
         address: u32,
         rights: u32,
     ) -> Result<FrameMapping, KError>
-        requires space { IsSpace self.now }
-        requires apart { StandsApart self.now.image.now self.now.thread.now }
-        requires listed { MappingsAreListed self.now.image.now self.now.thread.now }
-        requires inside { NothingLeadsOutside self.now.image.now self.now.thread.now (slots_of slots.now) }
-        requires own { AreOwn self.now.image.now self.now.thread.now (slots_of slots.now) }
-        ensures value { result ≡ mapping_made self.now.image.now self.now.thread.now (slots_of slots.now) mapping held root address rights }
+        ensures value { result ≡ mapping_made self.now.space.image.now self.now.space.thread.now (slots_of self.now.slots) mapping held root address rights }
         ensures valid { IfOk result (λ made. IsFrameMapping (Some made)) }
     {
         if mapping.is_some() {
             return Err(KError::InvalidCapability);
         }
-        match self.names_root(slots, root) {
+        match self.names_root(root) {
             Ok(()) => {}
             Err(error) => return Err(error),
         }
@@ -266,13 +240,12 @@ impl Space<'_, '_> {
             Ok(page) => page,
             Err(error) => return Err(error),
         };
-        self.mapping_at(slots, mapping_rights(held, rights), page)
+        self.mapping_at(mapping_rights(held, rights), page)
     }
 
     /// Map of the frame whose capability a slot holds: no program may make what it can execute.
     fn map(
         &self,
-        slots: &NotedSlots<'_>,
         at: Point,
         held: NotedSlot,
         allowed: Rights,
@@ -280,17 +253,12 @@ impl Space<'_, '_> {
         address: u32,
         rights: u32,
     ) -> Result<SlotChange, Refusal>
-        requires space { IsSpace self.now }
-        requires apart { StandsApart self.now.image.now self.now.thread.now }
-        requires listed { MappingsAreListed self.now.image.now self.now.thread.now }
-        requires inside { NothingLeadsOutside self.now.image.now self.now.thread.now (slots_of slots.now) }
-        requires own { AreOwn self.now.image.now self.now.thread.now (slots_of slots.now) }
-        requires held { slot_at (slots_of slots.now) held.key ≡ Some held }
+        requires held { slot_at (slots_of self.now.slots) held.key ≡ Some held }
         requires frame { IsCallOn held.capability (OnFrame allowed (MapFrame root address rights)) }
-        ensures { held_after self.now.image.now self.now.thread.now at (slots_of slots.now) held (OnFrame allowed (MapFrame root address rights)) ≡ left_or_refused (slots_of slots.now) result }
+        ensures { held_after self.now.space.image.now self.now.space.thread.now at (slots_of self.now.slots) held (OnFrame allowed (MapFrame root address rights)) ≡ left_or_refused (slots_of self.now.slots) result }
     {
         let mapping = mapping_of(held.capability);
-        match self.mapping_for(slots, mapping, allowed, root, address, rights) {
+        match self.mapping_for(mapping, allowed, root, address, rights) {
             Err(error) => Err(Refusal::CallRefused(at, error)),
             Ok(mapping) => {
                 if !is_data(rights) {
@@ -304,27 +272,21 @@ impl Space<'_, '_> {
     /// Map and Unmap of the frame whose capability a slot holds, with these rights.
     pub(crate) fn frame_call(
         &self,
-        slots: &NotedSlots<'_>,
         at: Point,
         held: NotedSlot,
         allowed: Rights,
         call: FrameCall,
     ) -> Result<SlotChange, Refusal>
-        requires space { IsSpace self.now }
-        requires apart { StandsApart self.now.image.now self.now.thread.now }
-        requires listed { MappingsAreListed self.now.image.now self.now.thread.now }
-        requires inside { NothingLeadsOutside self.now.image.now self.now.thread.now (slots_of slots.now) }
-        requires own { AreOwn self.now.image.now self.now.thread.now (slots_of slots.now) }
-        requires held { slot_at (slots_of slots.now) held.key ≡ Some held }
+        requires held { slot_at (slots_of self.now.slots) held.key ≡ Some held }
         requires frame { IsCallOn held.capability (OnFrame allowed call) }
-        ensures { held_after self.now.image.now self.now.thread.now at (slots_of slots.now) held (OnFrame allowed call) ≡ left_or_refused (slots_of slots.now) result }
+        ensures { held_after self.now.space.image.now self.now.space.thread.now at (slots_of self.now.slots) held (OnFrame allowed call) ≡ left_or_refused (slots_of self.now.slots) result }
     {
         match call {
             FrameCall::MapFrame {
                 root,
                 address,
                 rights,
-            } => self.map(slots, at, held, allowed, root, address, rights),
+            } => self.map(at, held, allowed, root, address, rights),
             FrameCall::UnmapFrame => Ok(recapped(held, with_mapping(held.capability, None))),
         }
     }

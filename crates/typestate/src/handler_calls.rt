@@ -9,10 +9,9 @@ ghost use Rattle.model.specs.declared.invocations.Invocation.TheVariants.{OnHand
 ghost use Rattle.typestate.specs.Differences.{slots_of};
 ghost use Rattle.typestate.specs.Invocations.{held_after};
 ghost use Rattle.typestate.specs.SlotChanges.{left_or_refused};
-ghost use Rattle.typestate.specs.Spaces.{AreOwn, IsSpace, NothingLeadsOutside, StandsApart};
 
 use crate::cnode_calls::is_vacant;
-use crate::{NotedSlots, SlotChange, Space};
+use crate::{SlotChange, ThreadSlots};
 use model::{Cap, HandlerCall, KError, Point, Refusal, SlotName};
 
 /// Whether a line may signal by a capability.
@@ -25,16 +24,13 @@ fn may_be_bound(capability: Cap) -> bool
     }
 }
 
-impl Space<'_, '_> {
+impl ThreadSlots<'_, '_, '_> {
     /// Why a line gets no notification of this name: the kernel's error comes first. A depth of 255 has the same error.
-    fn binds(&self, slots: &NotedSlots<'_>, at: Point, line: u8, name: SlotName) -> Refusal
-        requires space { IsSpace self.now }
-        requires apart { StandsApart self.now.image.now self.now.thread.now }
-        requires inside { NothingLeadsOutside self.now.image.now self.now.thread.now (slots_of slots.now) }
+    fn binds(&self, at: Point, line: u8, name: SlotName) -> Refusal
         requires line { line < 64 }
-        ensures { (held : NotedSlot) → held_after self.now.image.now self.now.thread.now at (slots_of slots.now) held (OnHandler line (SetNotification name)) ≡ Err result }
+        ensures { (held : NotedSlot) → held_after self.now.space.image.now self.now.space.thread.now at (slots_of self.now.slots) held (OnHandler line (SetNotification name)) ≡ Err result }
     {
-        let (_, source) = match self.named(slots, self.root, name) {
+        let (_, source) = match self.named(self.space.root, name) {
             Ok(found) => found,
             Err(error) => return Refusal::CallRefused(at, error),
         };
@@ -50,23 +46,18 @@ impl Space<'_, '_> {
     /// What a call on a line's handler leaves of the slots: an acknowledgement changes none.
     pub(crate) fn handler_call(
         &self,
-        slots: &NotedSlots<'_>,
         at: Point,
         line: u8,
         call: HandlerCall,
     ) -> Result<SlotChange, Refusal>
-        requires space { IsSpace self.now }
-        requires apart { StandsApart self.now.image.now self.now.thread.now }
-        requires inside { NothingLeadsOutside self.now.image.now self.now.thread.now (slots_of slots.now) }
-        requires own { AreOwn self.now.image.now self.now.thread.now (slots_of slots.now) }
         requires line { line < 64 }
-        ensures { (held : NotedSlot) → held_after self.now.image.now self.now.thread.now at (slots_of slots.now) held (OnHandler line call) ≡ left_or_refused (slots_of slots.now) result }
+        ensures { (held : NotedSlot) → held_after self.now.space.image.now self.now.space.thread.now at (slots_of self.now.slots) held (OnHandler line call) ≡ left_or_refused (slots_of self.now.slots) result }
     {
         match call {
             HandlerCall::Acknowledge => Ok(SlotChange::Nothing),
             HandlerCall::Clear => Err(Refusal::CallRefused(at, KError::IllegalOperation)),
             HandlerCall::SetNotification { notification } => {
-                Err(self.binds(slots, at, line, notification))
+                Err(self.binds(at, line, notification))
             }
         }
     }

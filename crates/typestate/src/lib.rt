@@ -30,7 +30,9 @@ mod spaces;
 mod stays;
 mod strays;
 mod system_calls;
+mod thread_slots;
 mod tidy;
+mod window;
 mod windows;
 
 pub use behind::{Behind, Written};
@@ -51,4 +53,6 @@ pub use slot_changes::{
 };
 pub use spaces::OwnSlots;
 pub use system_calls::SystemCall;
-pub use windows::{Space, Window};
+pub use thread_slots::ThreadSlots;
+pub use window::Window;
+pub use windows::Space;

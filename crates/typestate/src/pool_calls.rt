@@ -17,10 +17,12 @@ ghost use Rattle.model.specs.declared.invocations.Invocation.TheVariants.{OnUnty
 ghost use Rattle.typestate.specs.Differences.{slots_of};
 ghost use Rattle.typestate.specs.Invocations.{IsCallOn, held_after, made_or_refused};
 ghost use Rattle.typestate.specs.Pools.{IsOwnWindow, Makes, NamesNode, PlaceAnswer, bits_asked, fits_node, new_of, room_in, sized, slot_made, slots_made, some_full};
-ghost use Rattle.typestate.specs.Spaces.{AreOwn, IsSpace, NothingLeadsOutside, StandsApart, is_inside};
+ghost use Rattle.typestate.specs.Spaces.{is_inside};
 ghost use Rattle.typestate.specs.Strays.{IsTidyCall, is_at};
 
-use crate::{NotedSlot, NotedSlots, SlotKey, Space, Window, tidy_puts_leave_no_stray_slot};
+use crate::{
+    NotedSlot, NotedSlots, SlotKey, Space, ThreadSlots, Window, tidy_puts_leave_no_stray_slot,
+};
 use model::{Cap, KError, Point, Refusal, RetypeCall, Rights, SlotName, UntypedMemory};
 use std::alloc::AllocError;
 use untyped::place;
@@ -210,7 +212,6 @@ impl NotedSlots<'_> {
 impl Space<'_, '_> {
     /// The CNode of a capability that leads to one of the thread's.
     fn own_window(&self, capability: Cap) -> Result<Window, KError>
-        requires space { IsSpace self.now }
         requires inside { is_inside self.now.image.now self.now.thread.now capability ≡ true }
         ensures { NamesNode self.now.image.now self.now.thread.now (wanted (cnode_of capability) FailedLookup) result }
     {
@@ -222,42 +223,39 @@ impl Space<'_, '_> {
             None => unreachable!(),
         }
     }
+}
 
+impl ThreadSlots<'_, '_, '_> {
     /// The CNode that a call names for the new capabilities: depth 0 names the root of the thread's capability space.
-    fn node(&self, slots: &NotedSlots<'_>, name: SlotName) -> Result<Window, KError>
-        requires space { IsSpace self.now }
-        requires inside { NothingLeadsOutside self.now.image.now self.now.thread.now (slots_of slots.now) }
-        ensures { NamesNode self.now.image.now self.now.thread.now (node (noted_slots self.now.image.now self.now.thread.now (slots_of slots.now)) (noted_root self.now.image.now self.now.thread.now) name) result }
+    fn node(&self, name: SlotName) -> Result<Window, KError>
+        ensures { NamesNode self.now.space.image.now self.now.space.thread.now (node (noted_slots self.now.space.image.now self.now.space.thread.now (slots_of self.now.slots)) (noted_root self.now.space.image.now self.now.space.thread.now) name) result }
     {
         if name.depth == 0 {
-            return self.own_window(self.root);
+            return self.space.own_window(self.space.root);
         }
-        let (_, held) = match self.named(slots, self.root, name) {
+        let (_, held) = match self.named(self.space.root, name) {
             Ok(found) => found,
             Err(error) => return Err(error),
         };
-        self.own_window(held)
+        self.space.own_window(held)
     }
 
     /// Whether one of some slots of a CNode of the thread's is full.
-    fn is_taken(&self, slots: &NotedSlots<'_>, window: Window, index: u32, count: u32) -> bool
-        requires apart { StandsApart self.now.image.now self.now.thread.now }
-        requires own { AreOwn self.now.image.now self.now.thread.now (slots_of slots.now) }
-        requires mine { IsOwnWindow self.now.image.now self.now.thread.now window }
+    fn is_taken(&self, window: Window, index: u32, count: u32) -> bool
+        requires mine { IsOwnWindow self.now.space.image.now self.now.space.thread.now window }
         requires fits { fits_node window.radix index count ≡ true }
-        ensures { result ≡ any_full (noted_slots self.now.image.now self.now.thread.now (slots_of slots.now)) (slot_of window.offset index) count }
+        ensures { result ≡ any_full (noted_slots self.now.space.image.now self.now.space.thread.now (slots_of self.now.slots)) (slot_of window.offset index) count }
     {
         let first = SlotKey {
             cnode: window.cnode,
             index,
         };
-        slots.is_any_full(first, count)
+        self.slots.is_any_full(first, count)
     }
 
     /// Where new objects stand in a pool, and its watermark behind them, or the kernel's error.
     fn room_in(
         &self,
-        slots: &NotedSlots<'_>,
         held: SlotKey,
         memory: UntypedMemory,
         window: Window,
@@ -265,21 +263,19 @@ impl Space<'_, '_> {
         index: u32,
         count: u32,
     ) -> Result<(u32, u32), KError>
-        requires apart { StandsApart self.now.image.now self.now.thread.now }
-        requires own { AreOwn self.now.image.now self.now.thread.now (slots_of slots.now) }
-        requires mine { IsOwnWindow self.now.image.now self.now.thread.now window }
+        requires mine { IsOwnWindow self.now.space.image.now self.now.space.thread.now window }
         requires bits { bits ≤ 24 }
         requires size { memory.bits ≤ 24 }
         requires used { memory.watermark ≤ 2 ^ memory.bits }
-        ensures { result ≡ room_in self.now.image.now self.now.thread.now (slots_of slots.now) held memory window bits index count }
+        ensures { result ≡ room_in self.now.space.image.now self.now.space.thread.now (slots_of self.now.slots) held memory window bits index count }
     {
         if !fits_node(window.radix, index, count) {
             return Err(KError::RangeError);
         }
-        if self.is_taken(slots, window, index, count) {
+        if self.is_taken(window, index, count) {
             return Err(KError::DeleteFirst);
         }
-        if !slots.may_have_child(held) {
+        if !self.slots.may_have_child(held) {
             return Err(KError::IllegalOperation);
         }
         match place(memory.bits, memory.watermark, bits, count) {
@@ -291,28 +287,23 @@ impl Space<'_, '_> {
     /// The checks of Retype, in the kernel's order, on the pool in the slot of a key.
     fn new_place(
         &self,
-        slots: &NotedSlots<'_>,
         held: SlotKey,
         memory: UntypedMemory,
         call: RetypeCall,
     ) -> Result<NewPlace, KError>
-        requires space { IsSpace self.now }
-        requires apart { StandsApart self.now.image.now self.now.thread.now }
-        requires inside { NothingLeadsOutside self.now.image.now self.now.thread.now (slots_of slots.now) }
-        requires own { AreOwn self.now.image.now self.now.thread.now (slots_of slots.now) }
-        requires mine { is_own self.now.image.now (reached self.now.image.now self.now.thread.now) held ≡ true }
+        requires mine { is_own self.now.space.image.now (reached self.now.space.image.now self.now.space.thread.now) held ≡ true }
         requires valid { IsCapability (Untyped memory.offset memory.bits memory.watermark) }
-        ensures { PlaceAnswer self.now.image.now self.now.thread.now (slots_of slots.now) held memory call result }
+        ensures { PlaceAnswer self.now.space.image.now self.now.space.thread.now (slots_of self.now.slots) held memory call result }
     {
         let bits = match bits_asked(call.kind, call.size) {
             Ok(bits) => bits,
             Err(error) => return Err(error),
         };
-        let window = match self.node(slots, call.node) {
+        let window = match self.node(call.node) {
             Ok(window) => window,
             Err(error) => return Err(error),
         };
-        match self.room_in(slots, held, memory, window, bits, call.index, call.count) {
+        match self.room_in(held, memory, window, bits, call.index, call.count) {
             Ok((place, watermark)) => Ok(NewPlace {
                 offset: memory.offset + place,
                 watermark,
@@ -329,25 +320,20 @@ impl Space<'_, '_> {
     /// refused.
     pub(crate) fn pool_call(
         &self,
-        slots: &NotedSlots<'_>,
         at: Point,
         held: NotedSlot,
         memory: UntypedMemory,
         call: RetypeCall,
         made: &mut Vec<NotedSlot>,
     ) -> Result<Result<bool, Refusal>, AllocError>
-        requires space { IsSpace self.now }
-        requires apart { StandsApart self.now.image.now self.now.thread.now }
-        requires inside { NothingLeadsOutside self.now.image.now self.now.thread.now (slots_of slots.now) }
-        requires own { AreOwn self.now.image.now self.now.thread.now (slots_of slots.now) }
-        requires held { slot_at (slots_of slots.now) held.key ≡ Some held }
+        requires held { slot_at (slots_of self.now.slots) held.key ≡ Some held }
         requires pool { held.capability ≡ Untyped memory.offset memory.bits memory.watermark }
         requires none { made.old.items ≡ [] }
-        ensures tidy { IfOk result (IsTidyCall self.now.image.now self.now.thread.now (slots_of slots.now) made.new.items) }
-        ensures made { IfOk result (λ done. held_after self.now.image.now self.now.thread.now at (slots_of slots.now) held (OnUntyped memory call) ≡ made_or_refused (slots_of slots.now) made.new.items done) }
+        ensures tidy { IfOk result (IsTidyCall self.now.space.image.now self.now.space.thread.now (slots_of self.now.slots) made.new.items) }
+        ensures made { IfOk result (λ done. held_after self.now.space.image.now self.now.space.thread.now at (slots_of self.now.slots) held (OnUntyped memory call) ≡ made_or_refused (slots_of self.now.slots) made.new.items done) }
     {
         tidy_puts_leave_no_stray_slot();
-        let new = match self.new_place(slots, held.key, memory, call) {
+        let new = match self.new_place(held.key, memory, call) {
             Ok(new) => new,
             Err(error) => return Ok(Err(Refusal::CallRefused(at, error))),
         };
@@ -364,6 +350,6 @@ impl Space<'_, '_> {
             parent: held.parent,
         })?;
         note_made(kind, new.offset, call.count, new.slot, held.key, made)?;
-        Ok(Ok(self.are_tidy_puts(slots, made)))
+        Ok(Ok(self.space.are_tidy_puts(&self.slots, made)))
     }
 }

@@ -4,7 +4,6 @@ ghost use Rattle.std.specs.Prelude.{ℕ, ◌≡◌, ◌||◌, [], length, option
 ghost use Rattle.std.specs.List.{list_any};
 ghost use Rattle.model.specs.Acceptance.NotedStates.{PointState, has_stray_slots, is_foreign, is_own, leads_to_boot, notes_outside, record_of};
 ghost use Rattle.typestate.specs.Differences.{slots_of};
-ghost use Rattle.typestate.specs.Spaces.{IsSpace};
 ghost use Rattle.typestate.specs.Strays.{cnodes_of, has_key, is_at, NoneStray, is_stray_at, is_stray_in, is_unfit};
 
 use crate::records::key_of;
@@ -65,7 +64,6 @@ impl NotedSlots<'_> {
 impl Space<'_, '_> {
     /// Whether a slot of this key stands in one of the thread's CNodes.
     pub fn is_own(&self, key: SlotKey) -> bool
-        requires { IsSpace self.now }
         ensures { result ≡ is_own self.now.image.now (cnodes_of self.now) key }
     {
         have_key(self.windows, key)
@@ -74,7 +72,6 @@ impl Space<'_, '_> {
     /// Whether a capability is none that the thread may have: one to a thread, a page table or interrupt control, or one
     /// to a CNode or a root table that is not the thread's.
     fn is_foreign(&self, capability: Cap) -> bool
-        requires { IsSpace self.now }
         ensures { result ≡ is_foreign self.now.image.now self.now.thread.now (cnodes_of self.now) capability }
     {
         match capability {
@@ -87,7 +84,6 @@ impl Space<'_, '_> {
 
     /// Whether a slot is one that the thread may not have, wherever its parents lead.
     pub(crate) fn is_unfit(&self, slot: NotedSlot) -> bool
-        requires { IsSpace self.now }
         ensures { result ≡ is_unfit self.now slot }
     {
         !self.is_own(slot.key) || self.is_foreign(slot.capability)
@@ -95,7 +91,6 @@ impl Space<'_, '_> {
 
     /// Whether a slot is one that the thread may not have.
     fn is_stray(&self, slots: &NotedSlots<'_>, slot: NotedSlot) -> bool
-        requires { IsSpace self.now }
         ensures { result ≡ is_stray_in self.now (slots_of slots.now) slot }
     {
         self.is_unfit(slot) || !slots.leads_to_boot(slot.parent)
@@ -103,7 +98,6 @@ impl Space<'_, '_> {
 
     /// Whether the slot of this key is one that the thread may not have. What a later change took away is none.
     fn holds_stray(&self, slots: &NotedSlots<'_>, key: SlotKey) -> bool
-        requires { IsSpace self.now }
         ensures { result ≡ is_stray_at self.now (slots_of slots.now) key }
     {
         match slots.at(key) {
@@ -114,7 +108,6 @@ impl Space<'_, '_> {
 
     /// Whether one of the slots of these keys is one that the thread may not have.
     fn one_stray(&self, slots: &NotedSlots<'_>, keys: &[NotedSlot]) -> bool
-        requires { IsSpace self.now }
         ensures { result ≡ list_any (λ k. is_stray_at self.now (slots_of slots.now) k.key) keys.now }
     {
         for slot in keys {
@@ -127,7 +120,6 @@ impl Space<'_, '_> {
 
     /// Whether one of these is a slot that the thread may not have, where no other slot is full: what has a parent is one.
     pub fn lists_stray(&self, listed: &[NotedSlot]) -> bool
-        requires { IsSpace self.now }
         ensures { result ≡ list_any (is_stray_in self.now []) listed.now }
     {
         let none = NotedSlots {
@@ -146,7 +138,6 @@ impl Space<'_, '_> {
     /// Whether a slot that the image lists is one that the thread may not have. Where none is by itself, none is beside others
     /// either: what was told of them once is not asked again.
     fn keeps_stray(&self, slots: &NotedSlots<'_>, lists_stray: bool) -> bool
-        requires space { IsSpace self.now }
         requires listed { lists_stray ≡ list_any (is_stray_in self.now []) slots.now.image.now }
         ensures { (result || list_any (λ k. is_stray_at self.now (slots_of slots.now) k.key) slots.now.changes.now) ≡ list_any (is_stray_in self.now (slots_of slots.now)) (slots_of slots.now) }
     {
@@ -159,7 +150,6 @@ impl Space<'_, '_> {
 
     /// Whether some slot is one that the thread may not have.
     fn has_stray(&self, slots: &NotedSlots<'_>, lists_stray: bool) -> bool
-        requires space { IsSpace self.now }
         requires listed { lists_stray ≡ list_any (is_stray_in self.now []) slots.now.image.now }
         ensures { result ≡ list_any (is_stray_in self.now (slots_of slots.now)) (slots_of slots.now) }
     {
@@ -170,7 +160,6 @@ impl Space<'_, '_> {
 
     /// Whether a record notes a slot outside of the thread's CNodes, be it full or empty.
     fn notes_outside(&self, noted: &RecordRef<'_>) -> bool
-        requires { IsSpace self.now }
         ensures { result ≡ notes_outside self.now.image.now (cnodes_of self.now) noted.now }
     {
         for entry in noted.slots() {
@@ -191,7 +180,6 @@ impl Space<'_, '_> {
         lists_stray: bool,
         is_clean: bool,
     ) -> bool
-        requires space { IsSpace self.now }
         requires listed { lists_stray ≡ list_any (is_stray_in self.now []) slots.now.image.now }
         requires clean { is_clean ≡ true → NoneStray self.now.image.now self.now.thread.now (slots_of slots.now) }
         ensures { (point : ℕ) (state : PointState) → state.slots ≡ slots_of slots.now → record_of self.now.thread.now point ≡ option_map (λ r. r.now) noted.entry

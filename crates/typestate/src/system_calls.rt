@@ -13,11 +13,11 @@ ghost use Rattle.model.specs.declared.refusals.Point.{Point};
 ghost use Rattle.typestate.specs.Calls.{by_kind, found_call, goes_on, kind_of, known_with};
 ghost use Rattle.typestate.specs.Differences.{slots_of};
 ghost use Rattle.typestate.specs.Invocations.{CalledOf, HoldsFull};
-ghost use Rattle.typestate.specs.Spaces.{IsSpace, NothingLeadsOutside, own_slots};
+ghost use Rattle.typestate.specs.Spaces.{own_slots};
 
 use crate::behind::{A0, Behind};
 use crate::plain_calls::{Sending, receive_rule, sends_message, sends_signal};
-use crate::{NotedSlots, OwnSlots, Space};
+use crate::{OwnSlots, ThreadSlots};
 use cspace::called_slot;
 use model::{Cap, KError, Point, Refusal, Register, Slot};
 use ranges::Bounds;
@@ -101,27 +101,21 @@ fn sends(
     }
 }
 
-impl Space<'_, '_> {
+impl ThreadSlots<'_, '_, '_> {
     /// The slot that a system call names, and the capability in it.
-    fn called(
-        &self,
-        slots: &NotedSlots<'_>,
-        at: Point,
-        bounds: &Bounds,
-    ) -> Result<(Slot, Cap), Refusal>
-        requires { IsSpace self.now }
-        ensures value { (measure : Measure) → result ≡ found_call at (known_with bounds.now (slots_of slots.now) measure) (own_slots self.now.windows.now (slots_of slots.now)) self.now.root }
-        ensures held { IfOk result (λ found. HoldsFull (own_slots self.now.windows.now (slots_of slots.now)) found.0 found.1) }
+    fn called(&self, at: Point, bounds: &Bounds) -> Result<(Slot, Cap), Refusal>
+        ensures value { (measure : Measure) → result ≡ found_call at (known_with bounds.now (slots_of self.now.slots) measure) (own_slots self.now.space.windows.now (slots_of self.now.slots)) self.now.space.root }
+        ensures held { IfOk result (λ found. HoldsFull (own_slots self.now.space.windows.now (slots_of self.now.slots)) found.0 found.1) }
     {
         let address = match known(at, bounds, A0) {
             Ok(address) => address,
             Err(refusal) => return Err(refusal),
         };
         let own = OwnSlots {
-            windows: self.windows,
-            slots: *slots,
+            windows: self.space.windows,
+            slots: self.slots,
         };
-        match called_slot(&own, self.root, address) {
+        match called_slot(&own, self.space.root, address) {
             Ok(slot) => Ok((slot, own.capability(slot))),
             Err(_) => Err(Refusal::CapNotThere(at)),
         }
@@ -129,16 +123,9 @@ impl Space<'_, '_> {
 
     /// The system call at a point, up to where a call on a capability begins. No slot may hold what leads outside of the
     /// thread's CNodes: such slots are refused before.
-    pub fn system_call(
-        &self,
-        slots: &NotedSlots<'_>,
-        at: Point,
-        bounds: &Bounds,
-    ) -> Result<SystemCall, Refusal>
-        requires space { IsSpace self.now }
-        requires inside { NothingLeadsOutside self.now.image.now self.now.thread.now (slots_of slots.now) }
-        ensures value { (measure : Measure) → after_call self.now.image.now self.now.thread.now at (known_with bounds.now (slots_of slots.now) measure) ≡ goes_on self.now.image.now self.now.thread.now at (known_with bounds.now (slots_of slots.now) measure) result }
-        ensures held { CalledOf (HoldsFull (own_slots self.now.windows.now (slots_of slots.now))) result }
+    pub fn system_call(&self, at: Point, bounds: &Bounds) -> Result<SystemCall, Refusal>
+        ensures value { (measure : Measure) → after_call self.now.space.image.now self.now.space.thread.now at (known_with bounds.now (slots_of self.now.slots) measure) ≡ goes_on self.now.space.image.now self.now.space.thread.now at (known_with bounds.now (slots_of self.now.slots) measure) result }
+        ensures held { CalledOf (HoldsFull (own_slots self.now.space.windows.now (slots_of self.now.slots))) result }
     {
         let number = match known(at, bounds, Register::A7) {
             Ok(number) => number,
@@ -147,25 +134,17 @@ impl Space<'_, '_> {
         match kind_of_number(number) {
             None => Err(Refusal::CallRefused(at, KError::IllegalOperation)),
             Some(Kind::Passes) => Ok(SystemCall::Plain(Behind::unchanged(bounds, false))),
-            Some(Kind::Receives { is_wait }) => self.receives(slots, at, bounds, is_wait),
-            Some(Kind::Sends(kind)) => self.sends(slots, at, bounds, kind),
+            Some(Kind::Receives { is_wait }) => self.receives(at, bounds, is_wait),
+            Some(Kind::Sends(kind)) => self.sends(at, bounds, kind),
         }
     }
 
     /// A receive.
-    fn receives(
-        &self,
-        slots: &NotedSlots<'_>,
-        at: Point,
-        bounds: &Bounds,
-        is_wait: bool,
-    ) -> Result<SystemCall, Refusal>
-        requires space { IsSpace self.now }
-        requires inside { NothingLeadsOutside self.now.image.now self.now.thread.now (slots_of slots.now) }
-        ensures value { (measure : Measure) → by_kind self.now.image.now self.now.thread.now at (known_with bounds.now (slots_of slots.now) measure) (Some (Receives is_wait)) ≡ goes_on self.now.image.now self.now.thread.now at (known_with bounds.now (slots_of slots.now) measure) result }
-        ensures held { CalledOf (HoldsFull (own_slots self.now.windows.now (slots_of slots.now))) result }
+    fn receives(&self, at: Point, bounds: &Bounds, is_wait: bool) -> Result<SystemCall, Refusal>
+        ensures value { (measure : Measure) → by_kind self.now.space.image.now self.now.space.thread.now at (known_with bounds.now (slots_of self.now.slots) measure) (Some (Receives is_wait)) ≡ goes_on self.now.space.image.now self.now.space.thread.now at (known_with bounds.now (slots_of self.now.slots) measure) result }
+        ensures held { CalledOf (HoldsFull (own_slots self.now.space.windows.now (slots_of self.now.slots))) result }
     {
-        match self.called(slots, at, bounds) {
+        match self.called(at, bounds) {
             Err(refusal) => Err(refusal),
             Ok((_, capability)) => match receive_rule(at, bounds, is_wait, capability) {
                 Ok(behind) => Ok(SystemCall::Plain(behind)),
@@ -175,19 +154,11 @@ impl Space<'_, '_> {
     }
 
     /// A send.
-    fn sends(
-        &self,
-        slots: &NotedSlots<'_>,
-        at: Point,
-        bounds: &Bounds,
-        kind: Sending,
-    ) -> Result<SystemCall, Refusal>
-        requires space { IsSpace self.now }
-        requires inside { NothingLeadsOutside self.now.image.now self.now.thread.now (slots_of slots.now) }
-        ensures value { (measure : Measure) → by_kind self.now.image.now self.now.thread.now at (known_with bounds.now (slots_of slots.now) measure) (Some (Sends kind)) ≡ goes_on self.now.image.now self.now.thread.now at (known_with bounds.now (slots_of slots.now) measure) result }
-        ensures held { CalledOf (HoldsFull (own_slots self.now.windows.now (slots_of slots.now))) result }
+    fn sends(&self, at: Point, bounds: &Bounds, kind: Sending) -> Result<SystemCall, Refusal>
+        ensures value { (measure : Measure) → by_kind self.now.space.image.now self.now.space.thread.now at (known_with bounds.now (slots_of self.now.slots) measure) (Some (Sends kind)) ≡ goes_on self.now.space.image.now self.now.space.thread.now at (known_with bounds.now (slots_of self.now.slots) measure) result }
+        ensures held { CalledOf (HoldsFull (own_slots self.now.space.windows.now (slots_of self.now.slots))) result }
     {
-        match self.called(slots, at, bounds) {
+        match self.called(at, bounds) {
             Err(refusal) => Err(refusal),
             Ok((slot, capability)) => sends(at, bounds, kind, slot, capability),
         }

@@ -8,7 +8,6 @@ ghost use Rattle.std.specs.List.{list_all};
 ghost use Rattle.model.specs.Acceptance.NotedStates.{slot_at};
 ghost use Rattle.model.specs.Capabilities.Slots.{is_empty};
 ghost use Rattle.typestate.specs.Differences.{slots_of};
-ghost use Rattle.typestate.specs.Spaces.{IsSpace};
 ghost use Rattle.typestate.specs.Strays.{is_tidy, is_tidy_move, is_tidy_put, keeps_line, keeps_parent};
 
 use crate::change_lists::is_parent;
@@ -59,7 +58,6 @@ impl NotedSlots<'_> {
 impl Space<'_, '_> {
     /// Whether a slot that is put leaves no stray slot where there was none.
     fn is_tidy_put(&self, slots: &NotedSlots<'_>, slot: NotedSlot) -> bool
-        requires { IsSpace self.now }
         ensures { result ≡ is_tidy_put self.now (slots_of slots.now) slot }
     {
         !self.is_unfit(slot) && !is_empty(slot.capability) && slots.keeps_line(slot)
@@ -67,7 +65,6 @@ impl Space<'_, '_> {
 
     /// Whether a slot that moves leaves no stray slot where there was none.
     fn is_tidy_move(&self, slots: &NotedSlots<'_>, from: SlotKey, slot: NotedSlot) -> bool
-        requires { IsSpace self.now }
         ensures { result ≡ is_tidy_move self.now (slots_of slots.now) from slot }
     {
         !self.is_unfit(slot)
@@ -79,7 +76,6 @@ impl Space<'_, '_> {
 
     /// Whether a change leaves no stray slot where there was none. What is removed leaves none.
     pub(crate) fn is_tidy(&self, slots: &NotedSlots<'_>, change: &SlotChange) -> bool
-        requires { IsSpace self.now }
         ensures { result ≡ is_tidy self.now (slots_of slots.now) change.now }
     {
         match change {
@@ -91,7 +87,6 @@ impl Space<'_, '_> {
 
     /// Whether slots that are put one after another leave no stray slot where there was none.
     pub(crate) fn are_tidy_puts(&self, slots: &NotedSlots<'_>, made: &[NotedSlot]) -> bool
-        requires { IsSpace self.now }
         ensures { result ≡ list_all (is_tidy_put self.now (slots_of slots.now)) made.now }
     {
         for slot in made {

@@ -1,18 +1,13 @@
-//! A thread's CNodes, and where they stand.
+//! A thread's capability space, as a well-formed image gives it.
 
-ghost use Rattle.std.specs.Prelude.{◌≤◌};
+ghost use Rattle.std.specs.Prelude.{◌≡◌};
+ghost use Rattle.model.specs.Acceptance.NotedKernel.{noted_root};
+ghost use Rattle.model.specs.Images.Places.{offset_of};
+ghost use Rattle.typestate.specs.GivenSpaces.{IsGivenSpace};
 
+use crate::Window;
 use image::{ImageRef, ThreadRef};
 use model::Cap;
-
-/// A CNode of 2^`radix` slots: its object, and its offset from the start of physical memory.
-#[derive(Clone, Copy, Debug)]
-pub struct Window {
-    pub cnode: u32,
-    pub offset: u32,
-    pub radix: u8,
-    ghost small: { radix ≤ 14 },
-}
 
 /// A thread of an image, with the CNodes that the image gives it, the root of its capability space, and the
 /// offset of its root table.
@@ -23,4 +18,7 @@ pub struct Space<'a, 's> {
     pub windows: &'s [Window],
     pub root: Cap,
     pub table: u32,
+    ghost rooted: { root ≡ noted_root image.now thread.now },
+    ghost mapped: { table ≡ offset_of image.now thread.now.header.root },
+    ghost given: { ∥ IsGivenSpace image.now thread.now windows.now root ∥₁ },
 }

@@ -9,18 +9,12 @@ use Rattle.explaining.proofs.scenes.Scene.answered.Goals as goal
 abbrev nothing : Measure
 nothing = record { constant = pos 0; terms = [] }
 
-pub after_call-requires-clause-apart : goal.after_call-requires-clause-apart
-after_call-requires-clause-apart c =
-    c.threads_stand_apart.ensures c.args.self.now.space.image.now c.args.self.now.space.thread.now c.header.ensures.fits c.requires.given.formed c.requires.given.listed
-
-pub after_call-requires-clause-inside : goal.after_call-requires-clause-inside
-after_call-requires-clause-inside c =
+pub invariant_of-own : goal.invariant_of-own
+invariant_of-own c =
     let state = known_with c.args.bounds.now (slots_of c.args.slots.now) nothing in
-    c.no_stray_slot_leads_outside.ensures c.args.self.now.space.image.now c.args.self.now.space.thread.now c.args.at.point state
-    (sym (c.has_stray_slots.ensures c.args.at.point state refl (sym (c.as_ref.ensures.value ∙ c.record_at-noted.ensures))) ∙ c.if-has_stray_slots.false)
-
-pub after_call-requires-clause-own : goal.after_call-requires-clause-own
-after_call-requires-clause-own c =
-    let state = known_with c.args.bounds.now (slots_of c.args.slots.now) nothing in
-    c.slots_are_own.ensures c.args.at.point state refl
-    (sym (c.has_stray_slots.ensures c.args.at.point state refl (sym (c.as_ref.ensures.value ∙ c.record_at-noted.ensures))) ∙ c.if-has_stray_slots.false)
+    record {
+      inside = c.no_stray_slot_leads_outside.ensures c.args.self.now.space.image.now c.args.self.now.space.thread.now c.args.at.point state
+          (sym (c.has_stray_slots.ensures c.args.at.point state refl (sym (c.as_ref.ensures.value ∙ c.record_at-noted.ensures))) ∙ c.if-has_stray_slots.false);
+      own = c.slots_are_own.ensures c.args.at.point state refl
+          (sym (c.has_stray_slots.ensures c.args.at.point state refl (sym (c.as_ref.ensures.value ∙ c.record_at-noted.ensures))) ∙ c.if-has_stray_slots.false);
+    }

@@ -1,9 +1,9 @@
 -- What is noted is a capability, whose fields lie in their ranges.
 use Rattle.std.proofs.Common.{◌≡◌, ◌∙◌, ◌||◌, Bool, true, false, not, refl, sym, ap}
-use Rattle.image.proofs.CapabilityTests.{decides-test}
 use Rattle.model.specs.Acceptance.NotedStates.{is_foreign, is_own}
 use Rattle.model.specs.Capabilities.CapabilityFields.{is_capability}
 use Rattle.typestate.specs.Strays.{cnodes_of, is_unfit}
+use Rattle.typestate.proofs.GivenFacts.{decides-test}
 use Rattle.typestate.proofs.windows.Space.is_unfit.Goals as goal
 
 unfit-by : (own foreign valid : Bool) → own ≡ true → valid ≡ true → foreign ≡ (not own || foreign || not valid)

@@ -8,6 +8,7 @@ use Rattle.model.specs.Kernel.Arguments.{wanted}
 use Rattle.typestate.specs.Pools.{NamesNode}
 use Rattle.typestate.specs.Spaces.{is_inside}
 use Rattle.typestate.specs.Strays.{is_at}
+use Rattle.typestate.proofs.GivenFacts.{space-of}
 use Rattle.typestate.proofs.OwnKeys.{own-cnode-told}
 use Rattle.typestate.proofs.PoolPlaces.{none-any, own-window}
 use Rattle.typestate.proofs.windows.Space.own_window.Goals as goal
@@ -20,12 +21,12 @@ unreachable-requires c =
     let offset = c.in-CNode.offset in
     let radix = c.in-CNode.radix in
     absurd (let clash : false ≡ true =
-    sym (none-any (is_at offset radix) ws (sym c.window_at.ensures ∙ c.in-None.is)) ∙ own-cnode-told image (reached image t) ws offset radix c.requires.space.cnodes
+    sym (none-any (is_at offset radix) ws (sym c.window_at.ensures ∙ c.in-None.is)) ∙ own-cnode-told image (reached image t) ws offset radix (space-of c.args.self.now).cnodes
     ∙ sym (ap (is_inside image t) c.in-CNode.is) ∙ c.requires.inside in cc)
 
 pub returns : goal.returns
 returns c =
     let image = c.args.self.now.image.now in
     let t = c.args.self.now.thread.now in
-    let found = own-window image t c.args.self.now.windows.now c.in-CNode.offset c.in-CNode.radix c.in-Some.window c.requires.space.cnodes (sym c.window_at.ensures ∙ c.in-Some.is) in
+    let found = own-window image t c.args.self.now.windows.now c.in-CNode.offset c.in-CNode.radix c.in-Some.window (space-of c.args.self.now).cnodes (sym c.window_at.ensures ∙ c.in-Some.is) in
     subst (λ (held : Cap). NamesNode image t (wanted (cnode_of held) FailedLookup) (Ok c.in-Some.window)) (sym c.in-CNode.is) (found.0, found.1, found.2)

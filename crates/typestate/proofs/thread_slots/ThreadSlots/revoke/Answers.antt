@@ -1,0 +1,27 @@
+-- By the slot that is named.
+use Rattle.model.specs.Acceptance.NotedKernel.{noted_slots}
+use Rattle.model.specs.Kernel.Arguments.{argument_slot}
+use Rattle.typestate.specs.Differences.{slots_of}
+use Rattle.typestate.proofs.GivenFacts.{apart-of}
+use Rattle.typestate.proofs.Inside.{named-err, named-ok}
+use Rattle.typestate.proofs.Rising.{changes-rise, from-first}
+use Rattle.typestate.proofs.RemoveRules.{revoke-goes, revoke-refused}
+use Rattle.typestate.proofs.thread_slots.ThreadSlots.revoke.Goals as goal
+
+pub returns-in-Err : goal.returns-in-Err
+returns-in-Err c =
+    let image = c.args.self.now.space.image.now in
+    let t = c.args.self.now.space.thread.now in
+    let slots = slots_of c.args.self.now.slots in
+    let all = noted_slots image t slots in
+    revoke-refused image t c.args.at slots c.args.capability c.args.name c.in-Err.error (named-err image t all (argument_slot all c.args.capability c.args.name) c.in-Err.error c.in-Err.ensures.value)
+
+pub returns : goal.returns
+returns c =
+    let image = c.args.self.now.space.image.now in
+    let t = c.args.self.now.space.thread.now in
+    let slots = slots_of c.args.self.now.slots in
+    let all = noted_slots image t slots in
+    let rises = changes-rise c.args.self.now.slots.image.now c.args.self.now.slots.changes.now (from-first c.args.self.now.slots.image.now c.args.self.now.slots.rising) in
+    let x = named-ok image t all (argument_slot all c.args.capability c.args.name) c.in-Ok.found.0 c.in-Ok.found.1 c.in-Ok.ensures.value in
+    revoke-goes image t c.args.at slots c.args.capability c.args.name (apart-of c.args.self.now.space) c.args.self.now.own c.args.self.now.inside rises x.0 c.in-Ok.found.0 c.in-Ok.found.1 x.1 x.2 x.3

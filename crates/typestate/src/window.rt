@@ -1,0 +1,12 @@
+//! A thread's CNode, and where it stands.
+
+ghost use Rattle.std.specs.Prelude.{◌≤◌};
+
+/// A CNode of 2^`radix` slots: its object, and its offset from the start of physical memory.
+#[derive(Clone, Copy, Debug)]
+pub struct Window {
+    pub cnode: u32,
+    pub offset: u32,
+    pub radix: u8,
+    ghost small: { radix ≤ 14 },
+}
