@@ -193,7 +193,7 @@ module _ (n : NotedSlots) (root : SlotKey) where
     | false ↦ λ _ later. on-changed k rest key all.1 later
   ] refl some
 
-  steady : (k j : ℕ) → ((key : SlotKey) → below (suc k) key ≡ below k key) → k ≤ j → (key : SlotKey) → below j key ≡ below k key
+  pub steady : (k j : ℕ) → ((key : SlotKey) → below (suc k) key ≡ below k key) → k ≤ j → (key : SlotKey) → below j key ≡ below k key
   unfolding noted_descends
   steady k zero still less key = ap (λ m. below m key) (let same : zero ≡ k = omega (arith, less) in same)
   steady k (suc j) still less key = elim (at-or-below k j less) [

@@ -14,8 +14,8 @@ mod TidyChanges
 pub mod OwnChanges
 pub mod Linked
 pub mod LinkedChanges
-pub mod Hanging
 pub mod LevelByLevel
+pub mod Descents
 pub mod ListedStrays
 pub mod UnlinkedSlots
 pub mod LogParts

@@ -1,7 +1,7 @@
 -- Changes by what their slots were derived from.
-use Rattle.std.specs.Prelude.{ℕ, ◌≡◌, ◌==◌, ◌&&◌, Bool, true, false, if◌then◌else◌, Option, Some, None, option_and_then, List, [], ◌∷◌}
+use Rattle.std.specs.Prelude.{ℕ, ◌≡◌, ◌==◌, Bool, true, false, if◌then◌else◌, Option, Some, None, option_and_then, List, [], ◌∷◌}
 use Rattle.std.specs.List.{filter, find, list_any}
-use Rattle.std.specs.Option.{option_map, option_map_or}
+use Rattle.std.specs.Option.{option_map_or}
 use Rattle.std.specs.Ordering.{nat_cmp, ordering_then, is_eq}
 use Rattle.std.specs.declared.cmp.Ordering.{Ordering}
 use Rattle.model.specs.Acceptance.NotedStates.{NotedSlot, SlotKey, number_of}
@@ -48,12 +48,3 @@ KeepsLinks old new = (parent child : ℕ) → has_link old parent child ≡ true
 -- what the slot was derived from that a change leaves
 abbrev pub parent_left : NotedSlot → Option SlotKey
 parent_left c = option_and_then (λ s. s.parent) (left_by c)
-
--- what stands at a key does not depend on how the key is written
-abbrev pub ByNumber : (SlotKey → Option NotedSlot) → Type 0
-ByNumber at = (a b : SlotKey) → number_of a ≡ number_of b → at a ≡ at b
-
--- each of these stands at its key
-abbrev pub AllAt : (SlotKey → Option NotedSlot) → List NotedSlot → Type 0
-AllAt at [] = Unit {0}
-AllAt at (c ∷ rest) = (at c.key ≡ Some c) × AllAt at rest

@@ -13,6 +13,7 @@ pub mod Logs
 pub mod SlotChanges
 pub mod CNodeCalls
 pub mod Levels
+pub mod Descents
 pub mod ChangeLists
 pub mod Removals
 pub mod Invocations

@@ -91,13 +91,12 @@ impl NotedSlots<'_> {
                 made.push(emptied(*from))?;
             }
             SlotChange::Removes(which) => {
-                let below = self.all_below(*made.allocator(), which)?;
-                let touched = self.one_level(*made.allocator(), which.named(), &below)?;
+                let affected = self.affected(*made.allocator(), which)?;
                 let removal = Removal {
                     slots: *self,
                     which: *which,
-                    below: &below,
-                    touched: &touched,
+                    below: &affected.below,
+                    touched: &affected.touched,
                 };
                 removal.note_named(made)?;
                 removal.note_removals(made)?;

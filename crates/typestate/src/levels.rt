@@ -1,95 +1,157 @@
-//! What descends from a slot, level by level.
+//! What descends from a slot, level by level: what the next level adds are the children of the newest one.
 //! seL4 Reference Manual, "Capability Derivation Tree".
 
-ghost use Rattle.std.specs.Prelude.{ℕ, ◌≡◌, ◌+◌, ◌++◌, IfOk, None, Option, flat_map, if◌then◌else◌};
-ghost use Rattle.std.specs.List.{list_any};
-ghost use Rattle.model.specs.Acceptance.NotedStates.{NotedSlot, SlotKey, is_same_key, slot_at};
-ghost use Rattle.typestate.specs.Families.{AllAt, ByNumber, children_of};
-ghost use Rattle.typestate.specs.Levels.{all_below, below_by, hanging_below};
+ghost use Rattle.std.specs.Prelude.{ℕ, ◌≡◌, ◌==◌, ◌+◌, ◌++◌, ◌||◌, [], IfOk, flat_map};
+ghost use Rattle.std.specs.List.{filter_map, list_any};
+ghost use Rattle.std.specs.List.Sorted.{IsStrictlySortedBy};
+ghost use Rattle.std.specs.Ordering.{nat_cmp};
+ghost use Rattle.model.specs.Acceptance.NotedStates.{number_of};
+ghost use Rattle.typestate.specs.Descents.{AreBelow, if_other, is_found, levels_of};
+ghost use Rattle.typestate.specs.Families.{children_of, found};
+ghost use Rattle.typestate.specs.Levels.{all_below, touched_by};
 ghost use Rattle.typestate.specs.Orders.{Rise};
 
-use crate::shown::put;
+use crate::change_lists::emptied;
+use crate::noted::numbered;
 use crate::{NotedSlot, NotedSlots, Removed, SlotKey};
 use std::alloc::{AllocError, Global};
+use std::collections::btree_set::BTreeSet;
 
-/// Through how many slots a line of parents is followed: none of the kernel's is longer.
-const MOST: u32 = 256;
+/// The changes whose slots descend from the one of which all descendants go, and those whose slots were derived from one that goes or
+/// is named.
+#[derive(Drop)]
+pub(crate) struct Affected {
+    pub(crate) below: Vec<NotedSlot>,
+    pub(crate) touched: Vec<NotedSlot>,
+}
 
-/// Changes in the order of their keys, each once: of several to one slot, which are the same, one is left. Memory may be refused.
-fn in_order(alloc: Global, found: &[NotedSlot]) -> Result<Vec<NotedSlot>, AllocError>
-    ensures rising { IfOk result (λ next. Rise next.items) }
-    ensures same { IfOk result (λ next. (at : SlotKey → Option NotedSlot) → ByNumber at → AllAt at found.now
-        → (key : SlotKey) → slot_at next.items key ≡ (if list_any (λ c. is_same_key c.key key) found.now then at key else None)) }
+/// Through how many slots what goes descends from the slot that is named: no line of the kernel's is longer.
+fn levels_of(which: &Removed) -> u32
+    ensures { result ≡ levels_of which.now }
 {
-    let mut next = Vec::new(alloc);
-    for change in found {
-        put(&mut next, *change)?;
+    match which {
+        Removed::One(_) => 0,
+        Removed::Below(_) => 256,
     }
-    Ok(next)
+}
+
+/// Notes the numbers of slots. Memory may be refused.
+fn note_numbers(numbers: &mut BTreeSet<u64>, slots: &[NotedSlot]) -> Result<(), AllocError>
+    ensures { IfOk result (λ _. (n : ℕ) → is_found numbers.new.keys n ≡ (is_found numbers.old.keys n || list_any (λ c. number_of c.key == n) slots.now)) }
+{
+    for slot in slots {
+        numbers.insert(slot.key.number())?;
+    }
+    Ok(())
+}
+
+/// Appends a slot, if it is not that of a key. Memory may be refused.
+fn note_other(key: SlotKey, slot: NotedSlot, others: &mut Vec<NotedSlot>) -> Result<(), AllocError>
+    ensures { IfOk result (λ _. others.new.items ≡ others.old.items ++ if_other key slot) }
+{
+    if !slot.key.is_same(key) {
+        others.push(slot)?;
+    }
+    Ok(())
+}
+
+/// Those of some slots that are not that of a key. Memory may be refused.
+fn others(alloc: Global, key: SlotKey, slots: &[NotedSlot]) -> Result<Vec<NotedSlot>, AllocError>
+    ensures { IfOk result (λ others. others.items ≡ flat_map (if_other key) slots.now) }
+{
+    let mut others = Vec::new(alloc);
+    for slot in slots {
+        note_other(key, *slot, &mut others)?;
+    }
+    Ok(others)
 }
 
 impl NotedSlots<'_> {
-    /// The changes whose slots were derived from a root, and then from each of some slots. Memory may be refused.
+    /// The changes whose slots were derived from each of some slots. Memory may be refused.
     fn children_of_all(
         &self,
         alloc: Global,
-        root: SlotKey,
         going: &[NotedSlot],
     ) -> Result<Vec<NotedSlot>, AllocError>
-        ensures { IfOk result (λ found. found.items ≡ children_of self.now.changes.now root ++ flat_map (λ s. children_of self.now.changes.now s.key) going.now) }
+        ensures { IfOk result (λ children. children.items ≡ flat_map (λ s. children_of self.now.changes.now s.key) going.now) }
     {
-        let mut found = Vec::new(alloc);
-        self.note_children_of(root, &mut found)?;
+        let mut children = Vec::new(alloc);
         for slot in going {
-            self.note_children_of(slot.key, &mut found)?;
+            self.note_children_of(slot.key, &mut children)?;
         }
-        Ok(found)
+        Ok(children)
     }
 
-    /// The changes whose slots were derived from a root, or from one of the slots of these changes. Memory may be refused.
-    pub(crate) fn one_level(
+    /// Notes the children of the newest slots that were found below a root, and answers from which of them the search goes on: from
+    /// all but the root, where lines of parents go round. Memory may be refused.
+    fn next_level(
         &self,
         alloc: Global,
         root: SlotKey,
-        going: &[NotedSlot],
+        numbers: &mut BTreeSet<u64>,
+        newest: &[NotedSlot],
     ) -> Result<Vec<NotedSlot>, AllocError>
-        ensures hanging { IfOk result (λ next. next.items ≡ hanging_below self.now root going.now) }
-        ensures below { IfOk result (λ next. (n : ℕ) → going.now ≡ below_by n self.now root → next.items ≡ below_by (n + 1) self.now root) }
-        ensures rising { IfOk result (λ next. Rise next.items) }
+        ensures { IfOk result (λ next. (k : ℕ) → AreBelow k self.now root numbers.old.keys newest.now → AreBelow (k + 1) self.now root numbers.new.keys next.items) }
     {
-        let found = self.children_of_all(alloc, root, going)?;
-        let next = in_order(alloc, &found)?;
+        let children = self.children_of_all(alloc, newest)?;
+        note_numbers(numbers, &children)?;
+        let next = others(alloc, root, &children)?;
         Ok(next)
     }
 
-    /// The changes whose slots descend from a root, through at most 256 slots: level by level, as long as there are more.
-    fn below(&self, alloc: Global, root: SlotKey) -> Result<Vec<NotedSlot>, AllocError>
-        ensures below { IfOk result (λ all. all.items ≡ below_by 256 self.now root) }
-        ensures rising { IfOk result (λ all. Rise all.items) }
-    {
-        let mut going = Vec::new(alloc);
-        for _ in 0..MOST {
-            let next = self.one_level(alloc, root, &going)?;
-            if next.len() == going.len() {
-                return Ok(going);
-            }
-            going = next;
-        }
-        Ok(going)
-    }
-
-    /// The changes whose slots descend from the one of which all descendants go. Memory may be refused.
-    pub(crate) fn all_below(
+    /// Notes what descends from a root through at most so many slots, as long as there are more, and answers from which slots the
+    /// search goes on. Memory may be refused.
+    fn levels(
         &self,
         alloc: Global,
-        which: &Removed,
+        root: SlotKey,
+        most: u32,
+        numbers: &mut BTreeSet<u64>,
     ) -> Result<Vec<NotedSlot>, AllocError>
-        ensures listed { IfOk result (λ all. all.items ≡ all_below self.now which.now) }
-        ensures rising { IfOk result (λ all. Rise all.items) }
+        requires { numbers.old.keys ≡ [] }
+        ensures { IfOk result (λ newest. AreBelow most self.now root numbers.new.keys newest.items) }
     {
-        match which {
-            Removed::One(_) => Ok(Vec::new(alloc)),
-            Removed::Below(root) => self.below(alloc, *root),
+        let mut newest = Vec::new(alloc);
+        newest.push(emptied(root))?;
+        for _ in 0..most {
+            if newest.is_empty() {
+                return Ok(newest);
+            }
+            newest = self.next_level(alloc, root, numbers, &newest)?;
         }
+        Ok(newest)
+    }
+
+    /// The changes of these numbers, in their order. Memory may be refused.
+    fn all_numbered(
+        &self,
+        alloc: Global,
+        numbers: &BTreeSet<u64>,
+    ) -> Result<Vec<NotedSlot>, AllocError>
+        ensures listed { IfOk result (λ all. all.items ≡ filter_map (found self.now.changes.now) numbers.now.keys) }
+        ensures ordered { IfOk result (λ _. IsStrictlySortedBy nat_cmp numbers.now.keys) }
+    {
+        let mut all = Vec::new(alloc);
+        for number in numbers {
+            if let Some(change) = numbered(self.changes, *number) {
+                all.push(change)?;
+            }
+        }
+        Ok(all)
+    }
+
+    /// What goes, and what was derived from what goes or is named. Memory may be refused.
+    pub(crate) fn affected(&self, alloc: Global, which: &Removed) -> Result<Affected, AllocError>
+        ensures listed { IfOk result (λ all. all.below.items ≡ all_below self.now which.now) }
+        ensures told { IfOk result (λ all. all.touched.items ≡ touched_by self.now which.now) }
+        ensures rising { IfOk result (λ all. Rise all.below.items) }
+    {
+        let root = which.named();
+        let mut numbers = BTreeSet::new(alloc);
+        let newest = self.levels(alloc, root, levels_of(which), &mut numbers)?;
+        let below = self.all_numbered(alloc, &numbers)?;
+        self.next_level(alloc, root, &mut numbers, &newest)?;
+        let touched = self.all_numbered(alloc, &numbers)?;
+        Ok(Affected { below, touched })
     }
 }

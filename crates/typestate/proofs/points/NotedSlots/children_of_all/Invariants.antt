@@ -1,8 +1,8 @@
 -- The children so far.
-use Rattle.std.proofs.Common.{◌≡◌, ◌++◌, take}
+use Rattle.std.proofs.Common.{◌≡◌, take}
 use Rattle.std.specs.List.{flat_map}
 use Rattle.typestate.specs.Families.{children_of}
 use Rattle.typestate.proofs.points.NotedSlots.children_of_all.Given as goal
 
 abbrev pub invariant-loop-slot : goal.invariant-loop-slot
-invariant-loop-slot l = l.found.items ≡ children_of l.fn.self.changes.now l.fn.root ++ flat_map (λ s. children_of l.fn.self.changes.now s.key) (take l.slot-index l.going)
+invariant-loop-slot l = l.children.items ≡ flat_map (λ s. children_of l.fn.self.changes.now s.key) (take l.slot-index l.going)

@@ -1,9 +1,9 @@
 -- Child by child.
-use Rattle.std.proofs.Common.{ℕ, ◌≡◌, ◌∙◌, ◌++◌, Option, Some, List, [], ◌∷◌, Bor, sym, ap, subst}
+use Rattle.std.proofs.Common.{ℕ, ◌∙◌, ◌++◌, Option, List, [], ◌∷◌, Bor, sym, ap, subst}
 use Rattle.std.specs.List.{cons_option, filter_map}
 use Rattle.std.specs.Option.{option_map_or}
 use Rattle.model.specs.Acceptance.NotedStates.{NotedSlot, SlotKey}
-use Rattle.typestate.specs.Families.{AreLinked, child_at, children_of}
+use Rattle.typestate.specs.Families.{AreLinked, child_at}
 use Rattle.typestate.specs.declared.families.Families.{Families}
 use Rattle.typestate.proofs.Linked.{append-again, append-none, linked-children, unlinked-children}
 use Rattle.typestate.proofs.points.NotedSlots.note_children_of.Goals as goal
