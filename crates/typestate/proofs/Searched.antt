@@ -70,3 +70,7 @@ searched-number slots n r =
     let same : number_of key ≡ n = omega arith in
     subst (λ m. Rise slots → IsSearchInRange r (length slots) → IsBinarySearchResult (λ s. nat_cmp (number_of s.key) m) slots r
     → MatchResult r (λ place. (d : NotedSlot) → numbered slots m ≡ Some (get_or slots place d)) (λ _. numbered slots m ≡ None)) same (searched slots key r)
+
+-- what stands at a place
+pub numbered-here : (slots : List NotedSlot) (n i : ℕ) (d : NotedSlot) → Rise slots → i < length slots → number_of (get_or slots i d).key ≡ n → numbered slots n ≡ Some (get_or slots i d)
+numbered-here slots n i d rises inside is = subst (λ m. numbered slots m ≡ Some (get_or slots i d)) is (found slots 0 (get_or slots i d).key i d (from-first slots rises) inside refl)

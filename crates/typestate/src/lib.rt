@@ -18,6 +18,7 @@ mod levels;
 mod lines;
 mod logs;
 mod messages;
+mod near;
 mod noted;
 mod plain_calls;
 mod points;

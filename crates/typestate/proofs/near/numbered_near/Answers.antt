@@ -1,0 +1,26 @@
+-- Right before the place, or by the order of the keys.
+use Rattle.std.proofs.Common.{rules, ℕ, ◌≡◌, ◌∙◌, Some, Ok, Err, sym, ap}
+use Rattle.std.proofs.lemmas.List.Sorted.{answers_always}
+use Rattle.model.specs.Acceptance.NotedStates.{NotedSlot, number_of}
+use Rattle.typestate.proofs.Searched.{numbered-here, searched-number}
+use Rattle.typestate.proofs.near.numbered_near.Goals as goal
+
+pub returns-in-Ok : goal.returns-in-Ok
+returns-in-Ok c =
+    let slots = c.args.slots.now in
+    let by_key = c.in-Ok.ensures.position (λ (s : NotedSlot). number_of s.key) (answers_always _ _ _ (λ f a r g called. search rules)) in
+    ap (λ (s : NotedSlot). Some s) c.index-slots-other.is ∙ sym (searched-number slots c.args.number (Ok c.in-Ok.other) c.requires c.in-Ok.ensures.bound by_key c.index-slots-other.result)
+
+pub returns-in-Err : goal.returns-in-Err
+returns-in-Err c =
+    let slots = c.args.slots.now in
+    let place = c.in-Err.field-0 in
+    let by_key = c.in-Err.ensures.position (λ (s : NotedSlot). number_of s.key) (answers_always _ _ _ (λ f a r g called. search rules)) in
+    sym (searched-number slots c.args.number (Err place) c.requires c.in-Err.ensures.bound by_key)
+
+pub returns-then-number : goal.returns-then-number
+returns-then-number c =
+    let slots = c.args.slots.now in
+    let here = ap (λ (s : NotedSlot). number_of s.key) (sym c.index-slots-before.is ∙ sym c.slot.view_is) ∙ sym c.number.ensures ∙ c.if-number.true in
+    ap (λ (s : NotedSlot). Some s) c.index-slots-before.is
+    ∙ sym (numbered-here slots c.args.number c.saturating_sub-before.result c.index-slots-before.result c.requires c.if-before-slots.true here)
