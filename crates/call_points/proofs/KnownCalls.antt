@@ -23,7 +23,8 @@ use Rattle.model.specs.Capabilities.Slots.{Slots, capability_at}
 use Rattle.model.specs.Images.Format.{◌>>=◌}
 use Rattle.model.specs.Images.Image.{Image, Thread}
 use Rattle.model.specs.Kernel.Messages.{a0, a7}
-use Rattle.model.specs.Kernel.Steps.{SystemCall, call_of}
+use Rattle.model.specs.Kernel.Steps.{call_of}
+use Rattle.model.specs.declared.system_calls.SystemCall.{SystemCall}
 use Rattle.model.specs.Machine.ProgramMemory.{RegisterFile, read}
 
 -- ---- results

@@ -15,7 +15,8 @@ use Rattle.model.specs.Acceptance.ThreadInvariants.{LieWithin}
 use Rattle.model.specs.Images.Described.{Numbered, numbered_threads}
 use Rattle.model.specs.Images.Image.{Image, Thread}
 use Rattle.model.specs.Kernel.Messages.{Message, a0, a1, delivered, info_word}
-use Rattle.model.specs.Kernel.Steps.{SendCall, SystemCall}
+use Rattle.model.specs.declared.system_calls.SendCall.{SendCall}
+use Rattle.model.specs.declared.system_calls.SystemCall.{SystemCall}
 use Rattle.model.specs.Machine.ProgramMemory.{RegisterFile, write, read}
 use Rattle.call_points.specs.Behind.{LeadsBehind}
 use Rattle.call_points.specs.Known.{CallsSo, IsAllowed, NamesSo}

@@ -10,7 +10,10 @@ use Rattle.model.specs.Acceptance.Ranges.{single, with_range}
 use Rattle.model.specs.Capabilities.Rights.{may_grant_reply, may_read, may_write}
 use Rattle.model.specs.Images.Image.{Image, Thread}
 use Rattle.model.specs.Kernel.Messages.{a0, a1}
-use Rattle.model.specs.Kernel.Steps.{SendCall, Calling, Sending, Trying, SystemCall, Sends, Receives, RepliesAndReceives, Replies, Yields, PutsCharacter}
+use Rattle.model.specs.declared.system_calls.SendCall.{SendCall}
+use Rattle.model.specs.declared.system_calls.SendCall.TheVariants.{Calling, Sending, Trying}
+use Rattle.model.specs.declared.system_calls.SystemCall.{SystemCall}
+use Rattle.model.specs.declared.system_calls.SystemCall.TheVariants.{Sends, Receives, RepliesAndReceives, Replies, Yields, PutsCharacter}
 use Rattle.typestate.specs.Calls.{call_on}
 
 -- ---- receives

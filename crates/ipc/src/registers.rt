@@ -12,12 +12,6 @@ use objects::Fault;
 use rv32_exec::Regs;
 use std::marker::Model;
 
-/// The capability or the byte of a call; a receiver gets the sender's badge.
-pub const A0: Register = Register(10);
-
-/// The info word.
-pub const A1: Register = Register(11);
-
 /// How many words a message has at most.
 const MOST_WORDS: u32 = 8;
 
@@ -47,7 +41,7 @@ impl Message {
     pub fn of(registers: &Regs) -> Self
         ensures { result ≡ message_in registers.now }
     {
-        let info = registers.read(A1);
+        let info = registers.read(Register::A1);
         Message {
             label: info / 0x1000,
             count: MOST_WORDS.min(info % 0x80),
@@ -188,8 +182,8 @@ pub(crate) fn delivered(registers: Regs, badge: u32, message: &Message) -> Regs
     ensures { result ≡ delivered registers badge message.now }
 {
     let mut now = registers;
-    now.write(A0, badge);
-    now.write(A1, 0x1000 * message.label + message.count);
+    now.write(Register::A0, badge);
+    now.write(Register::A1, 0x1000 * message.label + message.count);
     write_words(&mut now, &message.words[..message.count as usize]);
     now
 }
@@ -199,7 +193,7 @@ pub fn with_word(registers: Regs, word: u32) -> Regs
     ensures { result ≡ write registers (register 10) word }
 {
     let mut now = registers;
-    now.write(A0, word);
+    now.write(Register::A0, word);
     now
 }
 

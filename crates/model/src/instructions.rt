@@ -11,6 +11,8 @@ pub struct Register(pub u8);
 impl Register {
     /// `a0` of the calling convention: a system call's capability, and what it answers.
     pub const A0: Register = Register(10);
+    /// `a1` of the calling convention: a message's info word.
+    pub const A1: Register = Register(11);
     /// `a7` of the calling convention: a system call's number.
     pub const A7: Register = Register(17);
 }

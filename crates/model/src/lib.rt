@@ -44,4 +44,4 @@ pub use refusals::{Point, Refusal};
 pub use rights::Rights;
 pub use slot_entries::Entry;
 pub use slot_numbers::Slot;
-pub use system_calls::RECEIVE;
+pub use system_calls::{ReceiveCall, SendCall, SystemCall};

@@ -18,7 +18,8 @@ use Rattle.model.specs.Kernel.Retype.{NewEndpoint, NewNotification}
 use Rattle.model.specs.Kernel.Scheduling.{head_of, is_runnable}
 use Rattle.model.specs.Kernel.Soundness.{IsSound, waiting_at}
 use Rattle.model.specs.Kernel.State.{State, Status, Runnable, Object, ThreadObject, EndpointObject, NotificationObject, EndpointState, NotificationState, Sender, BySend, ThreadState, as_endpoint, as_notification, as_thread, endpoint_at, new_endpoint, new_notification, new_thread, notification_at, thread_at, with_object}
-use Rattle.model.specs.Kernel.Steps.{Sending, call_of, calls_known, refused, send_by, send_named, send_on, sender, signal_on, system_call}
+use Rattle.model.specs.Kernel.Steps.{call_of, calls_known, refused, send_by, send_named, send_on, sender, signal_on, system_call}
+use Rattle.model.specs.declared.system_calls.SendCall.TheVariants.{Sending}
 use Rattle.model.specs.Machine.Effects.{advanced}
 use Rattle.model.specs.Machine.ProgramMemory.{RegisterFile, read, write}
 use Rattle.model.specs.Shared.Lists.{times_in}

@@ -17,7 +17,8 @@ use Rattle.model.specs.Kernel.Messages.{passes}
 use Rattle.model.specs.Kernel.Retype.{NewEndpoint}
 use Rattle.model.specs.Kernel.Scheduling.{is_runnable}
 use Rattle.model.specs.Kernel.State.{State, Object, ThreadObject, EndpointObject, NotificationObject, ThreadState, as_thread, new_endpoint, new_thread, thread_at}
-use Rattle.model.specs.Kernel.Steps.{Sending, after_invocation, invokes, system_call}
+use Rattle.model.specs.Kernel.Steps.{after_invocation, invokes, system_call}
+use Rattle.model.specs.declared.system_calls.SendCall.TheVariants.{Sending}
 use Rattle.model.specs.Machine.Effects.{advanced}
 use Rattle.model.specs.Shared.Lists.{without}
 use Rattle.model_laws.proofs.PlainSteps.{append-none, right-between}

@@ -13,7 +13,8 @@ use Rattle.model.specs.Kernel.Arguments.{Call, argument_slot, destination_slot}
 use Rattle.model.specs.Kernel.Invocations.{invoke, perform}
 use Rattle.model.specs.Kernel.Messages.{passes}
 use Rattle.model.specs.Kernel.State.{State, holds_some, with_slots}
-use Rattle.model.specs.Kernel.Steps.{Sending, cspace_of, invokes, system_call}
+use Rattle.model.specs.Kernel.Steps.{cspace_of, invokes, system_call}
+use Rattle.model.specs.declared.system_calls.SendCall.TheVariants.{Sending}
 use Rattle.model_laws.proofs.Below.{empty-capability}
 use Rattle.model_laws.proofs.HandingCalls.{sends-by}
 use Rattle.model_laws.proofs.Stored.{MayStore, capability_of, entered-away, entered-cases, entered-here, got, invoked-passes, known, passed, stored-within}

@@ -57,7 +57,13 @@ use Rattle.model.specs.Kernel.Removal.{SlotSet, closes, closing, delete, emptied
 use Rattle.model.specs.Kernel.Retype.{any_full, is_large_enough, is_small_enough, node, object_bits, retype, type_of}
 use Rattle.model.specs.Kernel.Scheduling.{at_tail, block, current, full_slice, is_runnable, leaves, tick, ticked, to_tail, unready, wake, yielded}
 use Rattle.model.specs.Kernel.State.{FaultMessage, NotificationState, Sender, Sent, BySend, ByCall, ByFault, State, Status, Inactive, Runnable, Blocked, AwaitsReply, AwaitsHandler, as_thread, binding_slot, cspace_slot, endpoint_at, holds_some, slot_of, vspace_slot, notification_at, put, thread_at, with_endpoint, with_notification, with_slots, with_thread}
-use Rattle.model.specs.Kernel.Steps.{Done, SystemCall, Sends, Receives, RepliesAndReceives, Replies, Yields, PutsCharacter, call_of, calls, calls_known, registers_of, lacks_capability, named_slot, signal_on, SendCall, Calling, Sending, Trying, ReceiveCall, Receiving, Polling, after_effect, after_invocation, answered, completed, invokes, ran, receive_by, receive_named, receive_on_endpoint, receive_on_notification, refused, runs, runs_decoded, runs_fetched, send_by, send_named, send_on, sender, sends_nothing, step, system_call}
+use Rattle.model.specs.Kernel.Steps.{Done, call_of, calls, calls_known, registers_of, lacks_capability, named_slot, signal_on, after_effect, after_invocation, answered, completed, invokes, ran, receive_by, receive_named, receive_on_endpoint, receive_on_notification, refused, runs, runs_decoded, runs_fetched, send_by, send_named, send_on, sender, sends_nothing, step, system_call}
+use Rattle.model.specs.declared.system_calls.SendCall.{SendCall}
+use Rattle.model.specs.declared.system_calls.SendCall.TheVariants.{Calling, Sending, Trying}
+use Rattle.model.specs.declared.system_calls.ReceiveCall.{ReceiveCall}
+use Rattle.model.specs.declared.system_calls.ReceiveCall.TheVariants.{Receiving, Polling}
+use Rattle.model.specs.declared.system_calls.SystemCall.{SystemCall}
+use Rattle.model.specs.declared.system_calls.SystemCall.TheVariants.{Sends, Receives, RepliesAndReceives, Replies, Yields, PutsCharacter}
 use Rattle.model_laws.specs.Ready.{HoldsNoneTwice}
 use Rattle.model_laws.proofs.ReadyLists.{filtered-none_twice, moved-none_twice, unready-none_twice}
 

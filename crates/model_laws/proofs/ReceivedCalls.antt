@@ -18,7 +18,8 @@ use Rattle.model.specs.Kernel.Retype.{NewEndpoint}
 use Rattle.model.specs.Kernel.Scheduling.{block, head_of}
 use Rattle.model.specs.Kernel.Soundness.{IsSound, waiting_at}
 use Rattle.model.specs.Kernel.State.{State, Inactive, AwaitsReply, Object, ThreadObject, EndpointObject, NotificationObject, EndpointState, Sender, Sent, ByCall, ThreadState, as_endpoint, as_thread, endpoint_at, new_endpoint, new_thread, thread_at, with_object}
-use Rattle.model.specs.Kernel.Steps.{Receiving, call_of, calls_known, lacks_capability, receive_by, receive_named, receive_on_endpoint, system_call}
+use Rattle.model.specs.Kernel.Steps.{call_of, calls_known, lacks_capability, receive_by, receive_named, receive_on_endpoint, system_call}
+use Rattle.model.specs.declared.system_calls.ReceiveCall.TheVariants.{Receiving}
 use Rattle.model.specs.Machine.Effects.{advanced}
 use Rattle.model.specs.Shared.Lists.{times_in, without}
 use Rattle.model_laws.proofs.Below.{endpoint-kind}

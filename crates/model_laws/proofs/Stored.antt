@@ -18,7 +18,8 @@ use Rattle.model.specs.Kernel.Kinds.{kind_at, kind_of}
 use Rattle.model.specs.Kernel.Messages.{passes}
 use Rattle.model.specs.Kernel.Scheduling.{is_runnable}
 use Rattle.model.specs.Kernel.State.{State, Object, ThreadObject, EndpointObject, NotificationObject, ThreadState, as_thread, new_thread, thread_at, with_slots}
-use Rattle.model.specs.Kernel.Steps.{Sending, after_invocation, invokes}
+use Rattle.model.specs.Kernel.Steps.{after_invocation, invokes}
+use Rattle.model.specs.declared.system_calls.SendCall.TheVariants.{Sending}
 use Rattle.model.specs.Machine.Effects.{advanced}
 use Rattle.model.specs.Shared.Lists.{without}
 use Rattle.model_laws.proofs.PlainSteps.{append-none, right-between}

@@ -32,7 +32,12 @@ use Rattle.model.specs.Capabilities.Rights.{may_grant_reply, may_read, may_write
 use Rattle.model.specs.Kernel.Scheduling.{current}
 use Rattle.model.specs.Capabilities.Slots.{capability_at}
 use Rattle.model.specs.Kernel.State.{State}
-use Rattle.model.specs.Kernel.Steps.{Done, SystemCall, Sends, Receives, RepliesAndReceives, Replies, Yields, PutsCharacter, SendCall, Calling, Sending, Trying, Receiving, Polling, after_effect, after_invocation, call_of, calls, calls_known, invokes, lacks_capability, named_slot, ran, receive_by, receive_named, receive_on_endpoint, receive_on_notification, refused, registers_of, runs, runs_decoded, runs_fetched, send_by, send_named, send_on, signal_on, sends_nothing, step, system_call}
+use Rattle.model.specs.Kernel.Steps.{Done, after_effect, after_invocation, call_of, calls, calls_known, invokes, lacks_capability, named_slot, ran, receive_by, receive_named, receive_on_endpoint, receive_on_notification, refused, registers_of, runs, runs_decoded, runs_fetched, send_by, send_named, send_on, signal_on, sends_nothing, step, system_call}
+use Rattle.model.specs.declared.system_calls.SendCall.{SendCall}
+use Rattle.model.specs.declared.system_calls.SendCall.TheVariants.{Calling, Sending, Trying}
+use Rattle.model.specs.declared.system_calls.ReceiveCall.TheVariants.{Receiving, Polling}
+use Rattle.model.specs.declared.system_calls.SystemCall.{SystemCall}
+use Rattle.model.specs.declared.system_calls.SystemCall.TheVariants.{Sends, Receives, RepliesAndReceives, Replies, Yields, PutsCharacter}
 use Rattle.model.specs.Kernel.Waits.{is_error, is_fault, is_wait, is_waited}
 use Rattle.model_laws.specs.WaitingCalls.{IsWaitingCall, receives, replies_and_receives, calls_endpoint, sends_to_endpoint, NamesEndpoint, StandsAtWait}
 

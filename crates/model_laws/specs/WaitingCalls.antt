@@ -12,7 +12,11 @@ use Rattle.model.specs.Kernel.Messages.{a7}
 use Rattle.model.specs.Kernel.Scheduling.{current}
 use Rattle.model.specs.Capabilities.Slots.{capability_at}
 use Rattle.model.specs.Kernel.State.{State}
-use Rattle.model.specs.Kernel.Steps.{SystemCall, Sends, Receives, RepliesAndReceives, Calling, Sending, Receiving, call_of, named_slot, registers_of}
+use Rattle.model.specs.Kernel.Steps.{call_of, named_slot, registers_of}
+use Rattle.model.specs.declared.system_calls.SendCall.TheVariants.{Calling, Sending}
+use Rattle.model.specs.declared.system_calls.ReceiveCall.TheVariants.{Receiving}
+use Rattle.model.specs.declared.system_calls.SystemCall.{SystemCall}
+use Rattle.model.specs.declared.system_calls.SystemCall.TheVariants.{Sends, Receives, RepliesAndReceives}
 
 -- a0 names a capability to an endpoint
 pub record NamesEndpoint (s : State) (thread : ℕ) : Type 0 where

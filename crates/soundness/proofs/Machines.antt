@@ -7,7 +7,9 @@ use Rattle.model.specs.Kernel.Interrupts.{Signal, acknowledge, binding, interrup
 use Rattle.model.specs.Kernel.Messages.{Message, deliver, deliver_word, message_of, message_sent, passes, passes_with, poll, receive, received, received_waiting, receives, replied, reply, resumption, send, sends, signal, signals, takes_word, tries_to_send, try_to_receive, try_to_send, wait, waits_for_signal, waits_to_receive, with_caller, with_registers}
 use Rattle.model.specs.Kernel.Scheduling.{at_tail, block, current, is_runnable, leaves, tick, ticked, unready, wake, yielded}
 use Rattle.model.specs.Kernel.State.{State, Status, Inactive, Runnable, Blocked, AwaitsReply, AwaitsHandler, FaultMessage, NotificationState, Sender, Sent, BySend, ByCall, ByFault, ThreadState, endpoint_at, notification_at, put, thread_at, with_endpoint, with_notification, with_thread}
-use Rattle.model.specs.Kernel.Steps.{SendCall, Calling, Sending, Trying, answered}
+use Rattle.model.specs.Kernel.Steps.{answered}
+use Rattle.model.specs.declared.system_calls.SendCall.{SendCall}
+use Rattle.model.specs.declared.system_calls.SendCall.TheVariants.{Calling, Sending, Trying}
 use Rattle.model.specs.Kernel.ThreadCalls.{resume, suspend, with_priority, with_register}
 use Rattle.model.specs.Machine.ProgramMemory.{Content, RegisterFile}
 use Rattle.soundness.specs.Machines.{SameBase}

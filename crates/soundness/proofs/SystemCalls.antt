@@ -23,7 +23,13 @@ use Rattle.model.specs.Kernel.Retype.{NewThread, NewEndpoint, NewNotification}
 use Rattle.model.specs.Kernel.Scheduling.{block, is_runnable, wake}
 use Rattle.model.specs.Kernel.Soundness.{awaits_answer, IsSound}
 use Rattle.model.specs.Kernel.State.{State, Status, Inactive, Runnable, Blocked, AwaitsReply, AwaitsHandler, Object, ThreadObject, EndpointObject, NotificationObject, CNodeObject, FrameObject, PageTableObject, RootTableObject, BySend, ByCall, as_thread, cspace_slot, notification_at, thread_at, with_notification}
-use Rattle.model.specs.Kernel.Steps.{SystemCall, Sends, Receives, RepliesAndReceives, Replies, Yields, PutsCharacter, SendCall, Calling, Sending, Trying, ReceiveCall, Receiving, Polling, after_invocation, answered, call_of, calls, calls_known, completed, cspace_of, invokes, lacks_capability, named_slot, receive_by, receive_named, receive_on_endpoint, receive_on_notification, refused, registers_of, send_by, send_named, send_on, sender, sends_nothing, signal_on, system_call}
+use Rattle.model.specs.Kernel.Steps.{after_invocation, answered, call_of, calls, calls_known, completed, cspace_of, invokes, lacks_capability, named_slot, receive_by, receive_named, receive_on_endpoint, receive_on_notification, refused, registers_of, send_by, send_named, send_on, sender, sends_nothing, signal_on, system_call}
+use Rattle.model.specs.declared.system_calls.SendCall.{SendCall}
+use Rattle.model.specs.declared.system_calls.SendCall.TheVariants.{Calling, Sending, Trying}
+use Rattle.model.specs.declared.system_calls.ReceiveCall.{ReceiveCall}
+use Rattle.model.specs.declared.system_calls.ReceiveCall.TheVariants.{Receiving, Polling}
+use Rattle.model.specs.declared.system_calls.SystemCall.{SystemCall}
+use Rattle.model.specs.declared.system_calls.SystemCall.TheVariants.{Sends, Receives, RepliesAndReceives, Replies, Yields, PutsCharacter}
 use Rattle.model.specs.Machine.Effects.{advanced}
 use Rattle.model.specs.Machine.ProgramMemory.{RegisterFile, read, write}
 use Rattle.model.specs.Shared.Labels.{error_number}

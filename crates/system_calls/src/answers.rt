@@ -8,13 +8,11 @@ ghost use Rattle.model.specs.Kernel.Retype.{NewThread};
 ghost use Rattle.model.specs.Kernel.Steps.{answered, calls_known, completed, lacks_capability, refused};
 ghost use Rattle.lifecycles.specs.Kernels.{state_in};
 ghost use Rattle.soundness.specs.Running.{IsRunning};
-ghost use Rattle.system_calls.specs.Kinds.{send_call_of};
 
-use crate::kinds::SendKind;
 use faults::raise_fault;
-use ipc::{A0, A1, pass_with};
+use ipc::pass_with;
 use lifecycles::Kernel;
-use model::{FaultKind, KError, LookupFailure, Outcome};
+use model::{FaultKind, KError, LookupFailure, Outcome, Register, SendCall};
 use objects::{Fault, Status};
 use slots::SlotStore;
 
@@ -43,7 +41,7 @@ pub(crate) fn lacks_capability<S: SlotStore>(
     let registers = kernel.registers(thread);
     let fault = Fault::Capability {
         pc: registers.pc(),
-        address: registers.read(A0),
+        address: registers.read(Register::A0),
         in_receive,
         failure,
     };
@@ -78,17 +76,17 @@ pub(crate) fn unknown_call<S: SlotStore>(
 }
 
 /// A thread goes on: one that calls has the number of an error, or 0, as the label of an answer.
-pub(crate) fn answer<S: SlotStore>(kernel: &mut Kernel<S>, thread: u32, kind: SendKind, number: u32)
+pub(crate) fn answer<S: SlotStore>(kernel: &mut Kernel<S>, thread: u32, kind: SendCall, number: u32)
     requires there { kind_at (state_in S.slots S.memory kernel.old) thread ≡ Some NewThread }
     requires small { number < 2 ^ 16 }
     ensures state { state_in S.slots S.memory kernel.new
-        ≡ answered (state_in S.slots S.memory kernel.old) thread (send_call_of kind) number }
+        ≡ answered (state_in S.slots S.memory kernel.old) thread kind number }
 {
     match kind {
-        SendKind::Call => {
+        SendCall::Calling => {
             let mut registers = kernel.registers(thread);
-            registers.write(A0, 0);
-            registers.write(A1, 0x1000 * number);
+            registers.write(Register::A0, 0);
+            registers.write(Register::A1, 0x1000 * number);
             pass_with(
                 &mut kernel.store,
                 &mut kernel.objects.objects,
@@ -96,7 +94,7 @@ pub(crate) fn answer<S: SlotStore>(kernel: &mut Kernel<S>, thread: u32, kind: Se
                 registers,
             );
         }
-        SendKind::Send | SendKind::Try => pass(kernel, thread),
+        SendCall::Sending | SendCall::Trying => pass(kernel, thread),
     }
 }
 
@@ -104,13 +102,13 @@ pub(crate) fn answer<S: SlotStore>(kernel: &mut Kernel<S>, thread: u32, kind: Se
 pub(crate) fn refuse<S: SlotStore>(
     kernel: &mut Kernel<S>,
     thread: u32,
-    kind: SendKind,
+    kind: SendCall,
     error: KError,
 ) -> Outcome
     requires runs { IsRunning (state_in S.slots S.memory kernel.old) thread }
     ensures state { state_in S.slots S.memory kernel.new
-        ≡ (refused (state_in S.slots S.memory kernel.old) thread (send_call_of kind) error).0 }
-    ensures outcome { result ≡ (refused (state_in S.slots S.memory kernel.old) thread (send_call_of kind) error).1 }
+        ≡ (refused (state_in S.slots S.memory kernel.old) thread kind error).0 }
+    ensures outcome { result ≡ (refused (state_in S.slots S.memory kernel.old) thread kind error).1 }
 {
     answer(kernel, thread, kind, u32::from(error.number()));
     Outcome::Refused(error)
@@ -118,9 +116,9 @@ pub(crate) fn refuse<S: SlotStore>(
 
 /// A call was carried out. It may have ended its caller, which then gets no answer, or suspended it, which then goes
 /// on without one once it is resumed.
-pub(crate) fn complete<S: SlotStore>(kernel: &mut Kernel<S>, thread: u32, kind: SendKind)
+pub(crate) fn complete<S: SlotStore>(kernel: &mut Kernel<S>, thread: u32, kind: SendCall)
     ensures state { state_in S.slots S.memory kernel.new
-        ≡ completed (state_in S.slots S.memory kernel.old) thread (send_call_of kind) }
+        ≡ completed (state_in S.slots S.memory kernel.old) thread kind }
 {
     if !kernel.objects.objects.is_thread(&kernel.store, thread) {
         return;

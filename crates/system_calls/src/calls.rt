@@ -4,46 +4,40 @@ ghost use Rattle.std.specs.Prelude.{ℕ, ◌≡◌};
 ghost use Rattle.model.specs.Kernel.Steps.{calls, system_call};
 ghost use Rattle.lifecycles.specs.Kernels.{state_in};
 ghost use Rattle.soundness.specs.Running.{IsRunning};
-ghost use Rattle.system_calls.specs.Kinds.{system_call_of};
 
 use crate::answers::{pass, unknown_call};
-use crate::kinds::{ReceiveKind, SystemCall};
 use crate::receives::receive_call;
 use crate::replies::{give_way, reply};
 use crate::send_calls::send_call;
-use ipc::A0;
 use lifecycles::Kernel;
-use model::{Outcome, Register};
+use model::{Outcome, ReceiveCall, Register, SystemCall};
 use slots::SlotStore;
-
-/// The register with the number of the call.
-const A7: Register = Register(17);
 
 /// A thread makes a system call.
 fn call<S: SlotStore>(kernel: &mut Kernel<S>, thread: u32, call: SystemCall) -> Outcome
     requires runs { IsRunning (state_in S.slots S.memory kernel.old) thread }
     ensures state { state_in S.slots S.memory kernel.new
-        ≡ (calls (state_in S.slots S.memory kernel.old) thread (system_call_of call)).0 }
-    ensures outcome { result ≡ (calls (state_in S.slots S.memory kernel.old) thread (system_call_of call)).1 }
+        ≡ (calls (state_in S.slots S.memory kernel.old) thread call).0 }
+    ensures outcome { result ≡ (calls (state_in S.slots S.memory kernel.old) thread call).1 }
 {
     match call {
-        SystemCall::Send(kind) => send_call(kernel, thread, kind),
-        SystemCall::Receive(kind) => receive_call(kernel, thread, kind),
-        SystemCall::ReplyAndReceive => {
+        SystemCall::Sends(kind) => send_call(kernel, thread, kind),
+        SystemCall::Receives(kind) => receive_call(kernel, thread, kind),
+        SystemCall::RepliesAndReceives => {
             reply(kernel, thread);
-            receive_call(kernel, thread, ReceiveKind::Wait)
+            receive_call(kernel, thread, ReceiveCall::Receiving)
         }
-        SystemCall::Reply => {
+        SystemCall::Replies => {
             reply(kernel, thread);
             pass(kernel, thread);
             Outcome::Plain
         }
-        SystemCall::Yield => {
+        SystemCall::Yields => {
             give_way(kernel, thread);
             Outcome::Plain
         }
-        SystemCall::PutCharacter => {
-            let byte = (kernel.registers(thread).read(A0) % 0x100) as u8;
+        SystemCall::PutsCharacter => {
+            let byte = (kernel.registers(thread).read(Register::A0) % 0x100) as u8;
             pass(kernel, thread);
             Outcome::Put(byte)
         }
@@ -61,7 +55,7 @@ pub fn system_call<S: SlotStore>(kernel: &mut Kernel<S>, thread: u32) -> Outcome
         ≡ (system_call (state_in S.slots S.memory kernel.old) thread).0 }
     ensures outcome { result ≡ (system_call (state_in S.slots S.memory kernel.old) thread).1 }
 {
-    let number = kernel.registers(thread).read(A7);
+    let number = kernel.registers(thread).read(Register::A7);
     match SystemCall::of_number(number) {
         Some(known) => call(kernel, thread, known),
         None => unknown_call(kernel, thread, number),

@@ -5,22 +5,20 @@ ghost use Rattle.model.specs.Capabilities.Slots.{IsFull, capability_at};
 ghost use Rattle.model.specs.Kernel.Steps.{invokes};
 ghost use Rattle.lifecycles.specs.Kernels.{state_in};
 ghost use Rattle.soundness.specs.Running.{IsRunning};
-ghost use Rattle.system_calls.specs.Kinds.{send_call_of};
 
 use crate::answers::{complete, refuse};
-use crate::kinds::SendKind;
 use crate::names::cspace_of;
 use invocations::{KernelCall, invoke};
-use ipc::{A1, Message};
+use ipc::Message;
 use lifecycles::Kernel;
-use model::{Cap, Outcome, Slot};
+use model::{Cap, Outcome, Register, SendCall, Slot};
 use slots::SlotStore;
 
 /// A thread calls what its capability does, by the message in its registers.
 pub(crate) fn invoke_on<S: SlotStore>(
     kernel: &mut Kernel<S>,
     thread: u32,
-    kind: SendKind,
+    kind: SendCall,
     slot: Slot,
     capability: Cap,
 ) -> Outcome
@@ -28,12 +26,12 @@ pub(crate) fn invoke_on<S: SlotStore>(
     requires full { IsFull (S.slots kernel.old.store) slot }
     requires held { capability_at (S.slots kernel.old.store) slot ≡ capability }
     ensures state { state_in S.slots S.memory kernel.new
-        ≡ (invokes (state_in S.slots S.memory kernel.old) thread (send_call_of kind) slot capability).0 }
-    ensures outcome { result ≡ (invokes (state_in S.slots S.memory kernel.old) thread (send_call_of kind) slot capability).1 }
+        ≡ (invokes (state_in S.slots S.memory kernel.old) thread kind slot capability).0 }
+    ensures outcome { result ≡ (invokes (state_in S.slots S.memory kernel.old) thread kind slot capability).1 }
 {
     let registers = kernel.registers(thread);
     let message = Message::of(&registers);
-    let extra_capabilities = registers.read(A1) / 0x80 % 4;
+    let extra_capabilities = registers.read(Register::A1) / 0x80 % 4;
     let call = KernelCall {
         root: cspace_of(kernel, thread),
         caller: Some(thread),

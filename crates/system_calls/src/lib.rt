@@ -5,7 +5,6 @@
 mod answers;
 mod calls;
 mod capability_calls;
-mod kinds;
 mod names;
 mod receives;
 mod replies;

@@ -11,9 +11,8 @@ ghost use Rattle.model.specs.Kernel.Steps.{cspace_of, named_slot};
 ghost use Rattle.lifecycles.specs.Kernels.{state_in};
 
 use cspace::called_slot;
-use ipc::A0;
 use lifecycles::Kernel;
-use model::{Cap, LookupFailure, Slot};
+use model::{Cap, LookupFailure, Register, Slot};
 use slots::SlotStore;
 
 /// The root of a thread's capability space, which stands in its slot 0.
@@ -38,5 +37,9 @@ pub(crate) fn named_slot<S: SlotStore>(
     ensures few { IfErr result (λ failure. bits_left_of failure ≤ 32) }
 {
     let root = cspace_of(kernel, thread);
-    called_slot(&kernel.store, root, kernel.registers(thread).read(A0))
+    called_slot(
+        &kernel.store,
+        root,
+        kernel.registers(thread).read(Register::A0),
+    )
 }

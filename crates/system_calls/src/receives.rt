@@ -7,14 +7,12 @@ ghost use Rattle.model.specs.Kernel.Retype.{NewEndpoint, NewNotification};
 ghost use Rattle.model.specs.Kernel.Steps.{receive_by, receive_call, receive_on_endpoint, receive_on_notification};
 ghost use Rattle.lifecycles.specs.Kernels.{state_in};
 ghost use Rattle.soundness.specs.Running.{IsRunning};
-ghost use Rattle.system_calls.specs.Kinds.{receive_call_of};
 
 use crate::answers::lacks_capability;
-use crate::kinds::ReceiveKind;
 use crate::names::named_slot;
 use ipc::{receive, try_to_receive};
 use lifecycles::Kernel;
-use model::{Cap, LookupFailure, Outcome, Slot};
+use model::{Cap, LookupFailure, Outcome, ReceiveCall, Slot};
 use notify::{poll, wait};
 use slots::SlotStore;
 
@@ -22,17 +20,17 @@ use slots::SlotStore;
 fn receive_message<S: SlotStore>(
     kernel: &mut Kernel<S>,
     thread: u32,
-    kind: ReceiveKind,
+    kind: ReceiveCall,
     endpoint: u32,
 ) -> Outcome
     requires runs { IsRunning (state_in S.slots S.memory kernel.old) thread }
     requires endpoint { kind_at (state_in S.slots S.memory kernel.old) endpoint ≡ Some NewEndpoint }
     ensures state { state_in S.slots S.memory kernel.new
-        ≡ (receive_on_endpoint (state_in S.slots S.memory kernel.old) thread (receive_call_of kind) endpoint).0 }
-    ensures outcome { result ≡ (receive_on_endpoint (state_in S.slots S.memory kernel.old) thread (receive_call_of kind) endpoint).1 }
+        ≡ (receive_on_endpoint (state_in S.slots S.memory kernel.old) thread kind endpoint).0 }
+    ensures outcome { result ≡ (receive_on_endpoint (state_in S.slots S.memory kernel.old) thread kind endpoint).1 }
 {
     match kind {
-        ReceiveKind::Wait => {
+        ReceiveCall::Receiving => {
             receive(
                 &mut kernel.store,
                 &mut kernel.objects.objects,
@@ -41,7 +39,7 @@ fn receive_message<S: SlotStore>(
             );
             Outcome::Waited
         }
-        ReceiveKind::Poll => {
+        ReceiveCall::Polling => {
             try_to_receive(
                 &mut kernel.store,
                 &mut kernel.objects.objects,
@@ -57,17 +55,17 @@ fn receive_message<S: SlotStore>(
 fn receive_signal<S: SlotStore>(
     kernel: &mut Kernel<S>,
     thread: u32,
-    kind: ReceiveKind,
+    kind: ReceiveCall,
     notification: u32,
 ) -> Outcome
     requires runs { IsRunning (state_in S.slots S.memory kernel.old) thread }
     requires notification { kind_at (state_in S.slots S.memory kernel.old) notification ≡ Some NewNotification }
     ensures state { state_in S.slots S.memory kernel.new
-        ≡ (receive_on_notification (state_in S.slots S.memory kernel.old) thread (receive_call_of kind) notification).0 }
-    ensures outcome { result ≡ (receive_on_notification (state_in S.slots S.memory kernel.old) thread (receive_call_of kind) notification).1 }
+        ≡ (receive_on_notification (state_in S.slots S.memory kernel.old) thread kind notification).0 }
+    ensures outcome { result ≡ (receive_on_notification (state_in S.slots S.memory kernel.old) thread kind notification).1 }
 {
     match kind {
-        ReceiveKind::Wait => {
+        ReceiveCall::Receiving => {
             wait(
                 &mut kernel.store,
                 &mut kernel.objects.objects,
@@ -76,7 +74,7 @@ fn receive_signal<S: SlotStore>(
             );
             Outcome::Waited
         }
-        ReceiveKind::Poll => {
+        ReceiveCall::Polling => {
             poll(
                 &mut kernel.store,
                 &mut kernel.objects.objects,
@@ -92,13 +90,13 @@ fn receive_signal<S: SlotStore>(
 fn receive_by<S: SlotStore>(
     kernel: &mut Kernel<S>,
     thread: u32,
-    kind: ReceiveKind,
+    kind: ReceiveCall,
     slot: Slot,
 ) -> Outcome
     requires runs { IsRunning (state_in S.slots S.memory kernel.old) thread }
     ensures state { state_in S.slots S.memory kernel.new
-        ≡ (receive_by (state_in S.slots S.memory kernel.old) thread (receive_call_of kind) (capability_at (S.slots kernel.old.store) slot)).0 }
-    ensures outcome { result ≡ (receive_by (state_in S.slots S.memory kernel.old) thread (receive_call_of kind) (capability_at (S.slots kernel.old.store) slot)).1 }
+        ≡ (receive_by (state_in S.slots S.memory kernel.old) thread kind (capability_at (S.slots kernel.old.store) slot)).0 }
+    ensures outcome { result ≡ (receive_by (state_in S.slots S.memory kernel.old) thread kind (capability_at (S.slots kernel.old.store) slot)).1 }
 {
     match kernel.store.capability(slot) {
         Cap::Endpoint { offset, rights, .. } if rights.may_read() => {
@@ -116,12 +114,12 @@ fn receive_by<S: SlotStore>(
 pub(crate) fn receive_call<S: SlotStore>(
     kernel: &mut Kernel<S>,
     thread: u32,
-    kind: ReceiveKind,
+    kind: ReceiveCall,
 ) -> Outcome
     requires runs { IsRunning (state_in S.slots S.memory kernel.old) thread }
     ensures state { state_in S.slots S.memory kernel.new
-        ≡ (receive_call (state_in S.slots S.memory kernel.old) thread (receive_call_of kind)).0 }
-    ensures outcome { result ≡ (receive_call (state_in S.slots S.memory kernel.old) thread (receive_call_of kind)).1 }
+        ≡ (receive_call (state_in S.slots S.memory kernel.old) thread kind).0 }
+    ensures outcome { result ≡ (receive_call (state_in S.slots S.memory kernel.old) thread kind).1 }
 {
     match named_slot(kernel, thread) {
         Ok(slot) => receive_by(kernel, thread, kind, slot),

@@ -5,24 +5,22 @@ ghost use Rattle.model.specs.Capabilities.Slots.{IsFull, capability_at};
 ghost use Rattle.model.specs.Kernel.Steps.{send_by, send_call};
 ghost use Rattle.lifecycles.specs.Kernels.{state_in};
 ghost use Rattle.soundness.specs.Running.{IsRunning};
-ghost use Rattle.system_calls.specs.Kinds.{send_call_of};
 
 use crate::answers::refuse;
 use crate::capability_calls::invoke_on;
-use crate::kinds::SendKind;
 use crate::names::named_slot;
 use crate::sends::{send_nothing, send_on, signal_on};
 use lifecycles::Kernel;
-use model::{Cap, KError, Outcome, Slot};
+use model::{Cap, KError, Outcome, SendCall, Slot};
 use slots::SlotStore;
 
 /// A thread sends by what a slot holds: a message, a signal, or else a call on the capability.
-fn send_by<S: SlotStore>(kernel: &mut Kernel<S>, thread: u32, kind: SendKind, slot: Slot) -> Outcome
+fn send_by<S: SlotStore>(kernel: &mut Kernel<S>, thread: u32, kind: SendCall, slot: Slot) -> Outcome
     requires runs { IsRunning (state_in S.slots S.memory kernel.old) thread }
     requires full { IsFull (S.slots kernel.old.store) slot }
     ensures state { state_in S.slots S.memory kernel.new
-        ≡ (send_by (state_in S.slots S.memory kernel.old) thread (send_call_of kind) slot (capability_at (S.slots kernel.old.store) slot)).0 }
-    ensures outcome { result ≡ (send_by (state_in S.slots S.memory kernel.old) thread (send_call_of kind) slot (capability_at (S.slots kernel.old.store) slot)).1 }
+        ≡ (send_by (state_in S.slots S.memory kernel.old) thread kind slot (capability_at (S.slots kernel.old.store) slot)).0 }
+    ensures outcome { result ≡ (send_by (state_in S.slots S.memory kernel.old) thread kind slot (capability_at (S.slots kernel.old.store) slot)).1 }
 {
     let capability = kernel.store.capability(slot);
     match capability {
@@ -55,12 +53,12 @@ fn send_by<S: SlotStore>(kernel: &mut Kernel<S>, thread: u32, kind: SendKind, sl
 pub(crate) fn send_call<S: SlotStore>(
     kernel: &mut Kernel<S>,
     thread: u32,
-    kind: SendKind,
+    kind: SendCall,
 ) -> Outcome
     requires runs { IsRunning (state_in S.slots S.memory kernel.old) thread }
     ensures state { state_in S.slots S.memory kernel.new
-        ≡ (send_call (state_in S.slots S.memory kernel.old) thread (send_call_of kind)).0 }
-    ensures outcome { result ≡ (send_call (state_in S.slots S.memory kernel.old) thread (send_call_of kind)).1 }
+        ≡ (send_call (state_in S.slots S.memory kernel.old) thread kind).0 }
+    ensures outcome { result ≡ (send_call (state_in S.slots S.memory kernel.old) thread kind).1 }
 {
     match named_slot(kernel, thread) {
         Ok(slot) => send_by(kernel, thread, kind, slot),

@@ -8,13 +8,11 @@ ghost use Rattle.model.specs.Kernel.Retype.{NewEndpoint, NewNotification};
 ghost use Rattle.model.specs.Kernel.Steps.{send_on, sends_nothing, signal_on};
 ghost use Rattle.lifecycles.specs.Kernels.{state_in};
 ghost use Rattle.soundness.specs.Running.{IsRunning};
-ghost use Rattle.system_calls.specs.Kinds.{send_call_of};
 
 use crate::answers::{answer, lacks_capability, pass};
-use crate::kinds::SendKind;
 use ipc::{send, try_to_send};
 use lifecycles::Kernel;
-use model::{LookupFailure, Outcome};
+use model::{LookupFailure, Outcome, SendCall};
 use notify::signal;
 use objects::{Sending, Sent};
 use slots::SlotStore;
@@ -34,7 +32,7 @@ fn sending(sent: Sent, badge: u32, grant_reply: bool) -> Sending
 pub(crate) fn send_on<S: SlotStore>(
     kernel: &mut Kernel<S>,
     thread: u32,
-    kind: SendKind,
+    kind: SendCall,
     endpoint: u32,
     badge: u32,
     grant_reply: bool,
@@ -43,11 +41,11 @@ pub(crate) fn send_on<S: SlotStore>(
     requires endpoint { kind_at (state_in S.slots S.memory kernel.old) endpoint ≡ Some NewEndpoint }
     requires small { badge < 2 ^ 28 }
     ensures state { state_in S.slots S.memory kernel.new
-        ≡ (send_on (state_in S.slots S.memory kernel.old) thread (send_call_of kind) endpoint badge grant_reply).0 }
-    ensures outcome { result ≡ (send_on (state_in S.slots S.memory kernel.old) thread (send_call_of kind) endpoint badge grant_reply).1 }
+        ≡ (send_on (state_in S.slots S.memory kernel.old) thread kind endpoint badge grant_reply).0 }
+    ensures outcome { result ≡ (send_on (state_in S.slots S.memory kernel.old) thread kind endpoint badge grant_reply).1 }
 {
     match kind {
-        SendKind::Call => {
+        SendCall::Calling => {
             send(
                 &mut kernel.store,
                 &mut kernel.objects.objects,
@@ -57,7 +55,7 @@ pub(crate) fn send_on<S: SlotStore>(
             );
             Outcome::Waited
         }
-        SendKind::Send => {
+        SendCall::Sending => {
             send(
                 &mut kernel.store,
                 &mut kernel.objects.objects,
@@ -67,7 +65,7 @@ pub(crate) fn send_on<S: SlotStore>(
             );
             Outcome::Waited
         }
-        SendKind::Try => {
+        SendCall::Trying => {
             try_to_send(
                 &mut kernel.store,
                 &mut kernel.objects.objects,
@@ -101,7 +99,7 @@ fn give_signal<S: SlotStore>(kernel: &mut Kernel<S>, thread: u32, notification: 
 pub(crate) fn signal_on<S: SlotStore>(
     kernel: &mut Kernel<S>,
     thread: u32,
-    kind: SendKind,
+    kind: SendCall,
     notification: u32,
     badge: u32,
 ) -> Outcome
@@ -109,8 +107,8 @@ pub(crate) fn signal_on<S: SlotStore>(
     requires notification { kind_at (state_in S.slots S.memory kernel.old) notification ≡ Some NewNotification }
     requires small { badge < 2 ^ 28 }
     ensures state { state_in S.slots S.memory kernel.new
-        ≡ (signal_on (state_in S.slots S.memory kernel.old) thread (send_call_of kind) notification badge).0 }
-    ensures outcome { result ≡ (signal_on (state_in S.slots S.memory kernel.old) thread (send_call_of kind) notification badge).1 }
+        ≡ (signal_on (state_in S.slots S.memory kernel.old) thread kind notification badge).0 }
+    ensures outcome { result ≡ (signal_on (state_in S.slots S.memory kernel.old) thread kind notification badge).1 }
 {
     give_signal(kernel, thread, notification, badge);
     answer(kernel, thread, kind, 0);
@@ -121,18 +119,20 @@ pub(crate) fn signal_on<S: SlotStore>(
 pub(crate) fn send_nothing<S: SlotStore>(
     kernel: &mut Kernel<S>,
     thread: u32,
-    kind: SendKind,
+    kind: SendCall,
     failure: LookupFailure,
 ) -> Outcome
     requires runs { IsRunning (state_in S.slots S.memory kernel.old) thread }
     requires few { bits_left_of failure ≤ 32 }
     ensures state { state_in S.slots S.memory kernel.new
-        ≡ (sends_nothing (state_in S.slots S.memory kernel.old) thread (send_call_of kind) failure).0 }
-    ensures outcome { result ≡ (sends_nothing (state_in S.slots S.memory kernel.old) thread (send_call_of kind) failure).1 }
+        ≡ (sends_nothing (state_in S.slots S.memory kernel.old) thread kind failure).0 }
+    ensures outcome { result ≡ (sends_nothing (state_in S.slots S.memory kernel.old) thread kind failure).1 }
 {
     match kind {
-        SendKind::Call | SendKind::Send => { lacks_capability(kernel, thread, false, failure) }
-        SendKind::Try => {
+        SendCall::Calling | SendCall::Sending => {
+            lacks_capability(kernel, thread, false, failure)
+        }
+        SendCall::Trying => {
             pass(kernel, thread);
             Outcome::Plain
         }

@@ -13,7 +13,10 @@ use Rattle.model.specs.Images.Described.{described}
 use Rattle.model.specs.Images.Image.{Image}
 use Rattle.model.specs.Kernel.Messages.{a7}
 use Rattle.model.specs.Kernel.State.{State}
-use Rattle.model.specs.Kernel.Steps.{SendCall, SystemCall, Sends, Receives, RepliesAndReceives, Replies, Yields, PutsCharacter, call_of, named_slot, registers_of}
+use Rattle.model.specs.Kernel.Steps.{call_of, named_slot, registers_of}
+use Rattle.model.specs.declared.system_calls.SendCall.{SendCall}
+use Rattle.model.specs.declared.system_calls.SystemCall.{SystemCall}
+use Rattle.model.specs.declared.system_calls.SystemCall.TheVariants.{Sends, Receives, RepliesAndReceives, Replies, Yields, PutsCharacter}
 use Rattle.model.specs.Machine.ProgramMemory.{read}
 use Rattle.thread_moves.specs.Laws.{InterruptsGoWell, Laws, MessagesGoWell, PlainStepsGoWell, TicksGoWell}
 use Rattle.thread_moves.specs.Steps.{HasGoneWell, InvokesNothing}

@@ -15,7 +15,9 @@ use Rattle.model.specs.Kernel.Messages.{a0, a1, passes}
 use Rattle.model.specs.Kernel.Scheduling.{is_runnable}
 use Rattle.model.specs.Kernel.Soundness.{IsSound}
 use Rattle.model.specs.Kernel.State.{State, Status, Runnable, Object, ThreadObject, ThreadState, as_thread, thread_at}
-use Rattle.model.specs.Kernel.Steps.{SendCall, Calling, Sending, Trying, answered, completed, memory_base}
+use Rattle.model.specs.Kernel.Steps.{answered, completed, memory_base}
+use Rattle.model.specs.declared.system_calls.SendCall.{SendCall}
+use Rattle.model.specs.declared.system_calls.SendCall.TheVariants.{Calling, Sending, Trying}
 use Rattle.thread_moves.specs.Laws.{Laws}
 use Rattle.thread_moves.specs.Moving.{CallsAt}
 use Rattle.thread_moves.proofs.Laws.{IsCounted, counted, passes-stand, result-stands}

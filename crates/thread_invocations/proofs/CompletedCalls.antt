@@ -17,7 +17,9 @@ use Rattle.model.specs.Images.Image.{Image}
 use Rattle.model.specs.Kernel.Messages.{a0, a1, info_word, passes}
 use Rattle.model.specs.Kernel.Soundness.{IsSound}
 use Rattle.model.specs.Kernel.State.{State, ThreadObject, ThreadState}
-use Rattle.model.specs.Kernel.Steps.{SendCall, Calling, Sending, Trying, answered, completed, memory_base, registers_of}
+use Rattle.model.specs.Kernel.Steps.{answered, completed, memory_base, registers_of}
+use Rattle.model.specs.declared.system_calls.SendCall.{SendCall}
+use Rattle.model.specs.declared.system_calls.SendCall.TheVariants.{Calling, Sending, Trying}
 use Rattle.model.specs.Machine.Effects.{advanced}
 use Rattle.model.specs.Machine.ProgramMemory.{RegisterFile, write}
 use Rattle.thread_moves.specs.Moving.{CallsAt}

@@ -26,7 +26,10 @@ use Rattle.model.specs.Kernel.Messages.{a1, extra_capabilities_of, message_of}
 use Rattle.model.specs.Kernel.Scheduling.{current}
 use Rattle.model.specs.Kernel.Soundness.{IsSound}
 use Rattle.model.specs.Kernel.State.{State, ThreadState}
-use Rattle.model.specs.Kernel.Steps.{Done, SendCall, SystemCall, Sends, after_invocation, calls, completed, cspace_of, invokes, memory_base, named_slot, registers_of, send_by, send_call, send_named}
+use Rattle.model.specs.Kernel.Steps.{Done, after_invocation, calls, completed, cspace_of, invokes, memory_base, named_slot, registers_of, send_by, send_call, send_named}
+use Rattle.model.specs.declared.system_calls.SendCall.{SendCall}
+use Rattle.model.specs.declared.system_calls.SystemCall.{SystemCall}
+use Rattle.model.specs.declared.system_calls.SystemCall.TheVariants.{Sends}
 use Rattle.model.specs.Kernel.Waits.{is_error, is_fault}
 use Rattle.model.specs.Machine.ProgramMemory.{RegisterFile, read}
 use Rattle.thread_moves.specs.Moving.{CallsAt}

@@ -26,7 +26,9 @@ use Rattle.model.specs.Kernel.Invocations.{perform}
 use Rattle.model.specs.Kernel.Messages.{a0, a1}
 use Rattle.model.specs.Kernel.Soundness.{IsSound}
 use Rattle.model.specs.Kernel.State.{State, Runnable, ThreadState}
-use Rattle.model.specs.Kernel.Steps.{SendCall, Calling, Sending, Trying, completed, memory_base}
+use Rattle.model.specs.Kernel.Steps.{completed, memory_base}
+use Rattle.model.specs.declared.system_calls.SendCall.{SendCall}
+use Rattle.model.specs.declared.system_calls.SendCall.TheVariants.{Calling, Sending, Trying}
 use Rattle.soundness.proofs.Machines.{acknowledge-machine}
 use Rattle.thread_moves.specs.Moving.{CallsAt}
 use Rattle.thread_moves.proofs.Laws.{one-thread}

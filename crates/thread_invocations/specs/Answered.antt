@@ -8,7 +8,7 @@ use Rattle.model.specs.Images.Described.{Numbered}
 use Rattle.model.specs.Images.Image.{Image}
 use Rattle.model.specs.Kernel.Messages.{a0, a1}
 use Rattle.model.specs.Kernel.State.{State}
-use Rattle.model.specs.Kernel.Steps.{SendCall}
+use Rattle.model.specs.declared.system_calls.SendCall.{SendCall}
 
 -- Call has an answer, and nothing else is written; an invocation is no wait
 pub record IsAnswered (kind : SendCall) (state : PointState) (left : AfterCall) : Type 0 where

@@ -4,7 +4,9 @@ use Rattle.call_points.specs.Messages.{IsInvoked}
 use Rattle.model.specs.Capabilities.Slots.{capability_at}
 use Rattle.model.specs.Kernel.Messages.{a7}
 use Rattle.model.specs.Kernel.State.{State}
-use Rattle.model.specs.Kernel.Steps.{SendCall, Sends, call_of, named_slot, registers_of}
+use Rattle.model.specs.Kernel.Steps.{call_of, named_slot, registers_of}
+use Rattle.model.specs.declared.system_calls.SendCall.{SendCall}
+use Rattle.model.specs.declared.system_calls.SystemCall.TheVariants.{Sends}
 use Rattle.model.specs.Machine.ProgramMemory.{read}
 
 -- the number is that of Call, Send or NBSend, and the capability that is named is neither an endpoint nor a notification

@@ -22,7 +22,8 @@ use Rattle.model.specs.Images.Image.{Image}
 use Rattle.model.specs.Kernel.Scheduling.{current}
 use Rattle.model.specs.Kernel.Soundness.{IsSound}
 use Rattle.model.specs.Kernel.State.{State, ThreadState}
-use Rattle.model.specs.Kernel.Steps.{SendCall, completed, memory_base}
+use Rattle.model.specs.Kernel.Steps.{completed, memory_base}
+use Rattle.model.specs.declared.system_calls.SendCall.{SendCall}
 use Rattle.soundness.specs.Laws.{AcknowledgementKeepsSoundness}
 use Rattle.thread_facts.specs.Standing.{AllStand}
 use Rattle.thread_invocations.specs.Answered.{DerivesFromSome, IsAnswered}

@@ -19,7 +19,11 @@ use Rattle.model.specs.Kernel.Kinds.{kind_of}
 use Rattle.model.specs.Kernel.Messages.{a0, passes, reply}
 use Rattle.model.specs.Kernel.Soundness.{IsSound}
 use Rattle.model.specs.Kernel.State.{State, ThreadState}
-use Rattle.model.specs.Kernel.Steps.{SendCall, SystemCall, Sends, Receives, RepliesAndReceives, Replies, Yields, PutsCharacter, Receiving, Polling, calls, memory_base, named_slot, registers_of}
+use Rattle.model.specs.Kernel.Steps.{calls, memory_base, named_slot, registers_of}
+use Rattle.model.specs.declared.system_calls.SendCall.{SendCall}
+use Rattle.model.specs.declared.system_calls.ReceiveCall.TheVariants.{Receiving, Polling}
+use Rattle.model.specs.declared.system_calls.SystemCall.{SystemCall}
+use Rattle.model.specs.declared.system_calls.SystemCall.TheVariants.{Sends, Receives, RepliesAndReceives, Replies, Yields, PutsCharacter}
 use Rattle.model.specs.Kernel.Waits.{is_waited}
 use Rattle.model.specs.Machine.ProgramMemory.{read}
 use Rattle.thread_moves.specs.Moving.{CallsAt}

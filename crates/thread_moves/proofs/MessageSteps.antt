@@ -25,7 +25,8 @@ use Rattle.model.specs.Kernel.Messages.{a7}
 use Rattle.model.specs.Kernel.Scheduling.{current}
 use Rattle.model.specs.Kernel.Soundness.{IsSound}
 use Rattle.model.specs.Kernel.State.{State, Runnable, ThreadObject, ThreadState, thread_at}
-use Rattle.model.specs.Kernel.Steps.{Done, SystemCall, call_of, calls, calls_known, memory_base, ran, registers_of, runs, runs_decoded, runs_fetched, step, system_call}
+use Rattle.model.specs.Kernel.Steps.{Done, call_of, calls, calls_known, memory_base, ran, registers_of, runs, runs_decoded, runs_fetched, step, system_call}
+use Rattle.model.specs.declared.system_calls.SystemCall.{SystemCall}
 use Rattle.model.specs.Kernel.Waits.{is_error, is_fault}
 use Rattle.model.specs.Machine.Decoding.{decoded}
 use Rattle.model.specs.Machine.Effects.{effect}

@@ -23,7 +23,9 @@ use Rattle.model.specs.Kernel.Messages.{Message, a0, deliver, deliver_word, mess
 use Rattle.model.specs.Kernel.Scheduling.{block}
 use Rattle.model.specs.Kernel.Soundness.{IsSound}
 use Rattle.model.specs.Kernel.State.{State, Inactive, AwaitsReply, Sender, Sent, BySend, ByCall, ByFault, EndpointObject, EndpointState, ThreadObject, ThreadState, endpoint_at, thread_at, with_endpoint}
-use Rattle.model.specs.Kernel.Steps.{Done, ReceiveCall, Receiving, Polling, lacks_capability, memory_base, receive_by, receive_call, receive_named}
+use Rattle.model.specs.Kernel.Steps.{Done, lacks_capability, memory_base, receive_by, receive_call, receive_named}
+use Rattle.model.specs.declared.system_calls.ReceiveCall.{ReceiveCall}
+use Rattle.model.specs.declared.system_calls.ReceiveCall.TheVariants.{Receiving, Polling}
 use Rattle.model.specs.Kernel.Waits.{is_error, is_fault, is_waited}
 use Rattle.model.specs.Machine.Effects.{advanced}
 use Rattle.model.specs.Machine.ProgramMemory.{write}

@@ -25,7 +25,9 @@ use Rattle.model.specs.Kernel.Kinds.{kind_of}
 use Rattle.model.specs.Kernel.Messages.{a0, a1, passes, send, send_to, sends, signal, tries_to_send, try_to_send, waits_to_send}
 use Rattle.model.specs.Kernel.Soundness.{IsSound}
 use Rattle.model.specs.Kernel.State.{State, BySend, ByCall, EndpointObject, EndpointState, NotificationObject, NotificationState, ThreadState, endpoint_at, with_endpoint}
-use Rattle.model.specs.Kernel.Steps.{Done, SendCall, Calling, Sending, Trying, memory_base, named_slot, refused, send_by, send_call, send_named, sender, send_on, signal_on}
+use Rattle.model.specs.Kernel.Steps.{Done, memory_base, named_slot, refused, send_by, send_call, send_named, sender, send_on, signal_on}
+use Rattle.model.specs.declared.system_calls.SendCall.{SendCall}
+use Rattle.model.specs.declared.system_calls.SendCall.TheVariants.{Calling, Sending, Trying}
 use Rattle.model.specs.Kernel.Waits.{is_waited}
 use Rattle.thread_moves.specs.Moving.{CallsAt}
 use Rattle.thread_moves.specs.Laws.{Laws}

@@ -13,7 +13,9 @@ use Rattle.model.specs.Images.Image.{Image}
 use Rattle.model.specs.Kernel.AddressSpaces.{content_of}
 use Rattle.model.specs.Kernel.Messages.{a7}
 use Rattle.model.specs.Kernel.State.{State}
-use Rattle.model.specs.Kernel.Steps.{SendCall, Sends, call_of, named_slot, registers_of, state_after, step, trace}
+use Rattle.model.specs.Kernel.Steps.{call_of, named_slot, registers_of, state_after, step, trace}
+use Rattle.model.specs.declared.system_calls.SendCall.{SendCall}
+use Rattle.model.specs.declared.system_calls.SystemCall.TheVariants.{Sends}
 use Rattle.model.specs.Kernel.Waits.{is_error, is_fault}
 use Rattle.model.specs.Machine.Decoding.{decoded}
 use Rattle.model.specs.Machine.ProgramMemory.{loaded, read}

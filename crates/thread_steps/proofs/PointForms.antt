@@ -38,7 +38,12 @@ use Rattle.model.specs.Kernel.Invocations.{perform}
 use Rattle.model.specs.Kernel.Messages.{a0, a1, a7, extra_capabilities_of, label_of, length_of, word_registers}
 use Rattle.model.specs.Capabilities.CapabilityFields.{unpacked}
 use Rattle.model.specs.Capabilities.Rights.{may_grant_reply, may_read, may_write}
-use Rattle.model.specs.Kernel.Steps.{SendCall, Calling, Sending, Trying, Receiving, Polling, SystemCall, Sends, Receives, RepliesAndReceives, Replies, Yields, PutsCharacter, call_of}
+use Rattle.model.specs.Kernel.Steps.{call_of}
+use Rattle.model.specs.declared.system_calls.SendCall.{SendCall}
+use Rattle.model.specs.declared.system_calls.SendCall.TheVariants.{Calling, Sending, Trying}
+use Rattle.model.specs.declared.system_calls.ReceiveCall.TheVariants.{Receiving, Polling}
+use Rattle.model.specs.declared.system_calls.SystemCall.{SystemCall}
+use Rattle.model.specs.declared.system_calls.SystemCall.TheVariants.{Sends, Receives, RepliesAndReceives, Replies, Yields, PutsCharacter}
 use Rattle.model.specs.declared.invocations.Invocation.{Invocation}
 use Rattle.thread_steps.specs.Formed.{HasForm, is_low}
 use Rattle.thread_steps.proofs.NotedForms.{AreLow, after-low, all-long, behind-long, entries-long, image-low, noted-low, with-long}

@@ -19,13 +19,10 @@ use Rattle.model.specs.Acceptance.CallRules.{AfterCall, by_capability, changes_n
 use Rattle.model.specs.Acceptance.Measures.{Measure}
 use Rattle.model.specs.Acceptance.NotedStates.{NotedSlot, PointState}
 use Rattle.model.specs.Kernel.Messages.{a0, a1}
-use Rattle.model.specs.Kernel.Steps as steps
 use Rattle.typestate.specs.Differences.{changed}
 use Rattle.typestate.specs.declared.behind.Behind.{Behind}
 use Rattle.typestate.specs.declared.behind.Written.{Written}
 use Rattle.typestate.specs.declared.behind.Written.TheVariants.{Nothing, Badge, Answer, Message}
-use Rattle.typestate.specs.declared.plain_calls.Sending.{Sending}
-use Rattle.typestate.specs.declared.plain_calls.Sending.TheVariants.{Calling, Waiting, Trying}
 use Rattle.typestate.specs.declared.system_calls.Kind.{Kind}
 use Rattle.typestate.specs.declared.system_calls.Kind.TheVariants.{Sends, Receives, Passes}
 use Rattle.typestate.specs.declared.system_calls.SystemCall.{SystemCall}
@@ -49,15 +46,10 @@ abbrev pub told : List NotedSlot → Result Behind Refusal → Result AfterCall 
 told slots (Ok b) = Ok (behind_with slots b)
 told slots (Err refusal) = Err refusal
 
-abbrev pub kind_of : Sending → steps.SendCall
-kind_of Calling = steps.Calling
-kind_of Waiting = steps.Sending
-kind_of Trying = steps.Trying
-
 -- ---- system calls by what is asked of them
 
 abbrev pub by_kind : Image → Thread → Point → PointState → Option Kind → Result AfterCall Refusal
-by_kind image t at state (Some (Sends kind)) = by_capability image t at state (send_rule image t at state (kind_of kind))
+by_kind image t at state (Some (Sends kind)) = by_capability image t at state (send_rule image t at state kind)
 by_kind image t at state (Some (Receives is_wait)) = by_capability image t at state (λ slot. receive_rule at state is_wait)
 by_kind image t at state (Some Passes) = Ok (changes_nothing state false)
 by_kind image t at state None = Err (CallRefused at IllegalOperation)

@@ -4,22 +4,11 @@ ghost use Rattle.std.specs.Prelude.{◌≡◌, List};
 ghost use Rattle.model.specs.Acceptance.CallRules.{receive_rule, sends_message, sends_signal};
 ghost use Rattle.model.specs.Acceptance.Measures.{Measure};
 ghost use Rattle.model.specs.Acceptance.NotedStates.{NotedSlot};
-ghost use Rattle.typestate.specs.Calls.{kind_of, known_with, told};
+ghost use Rattle.typestate.specs.Calls.{known_with, told};
 
 use crate::behind::{BADGES, Behind, Written, with_answer, with_message};
-use model::{Cap, Point, Range, Refusal, Rights};
+use model::{Cap, Point, Range, Refusal, Rights, SendCall};
 use ranges::Bounds;
-
-/// How a message or a signal is sent.
-#[derive(Clone, Copy, Debug, PartialEq, Eq)]
-pub(crate) enum Sending {
-    /// Call: waits, and then for the answer.
-    Calling,
-    /// Send: waits for a receiver.
-    Waiting,
-    /// NBSend: goes on where nobody waits.
-    Trying,
-}
 
 /// What a receive leaves, or that the capability is none to receive by.
 pub(crate) fn receive_rule(
@@ -55,20 +44,20 @@ pub(crate) fn receive_rule(
 pub(crate) fn sends_message(
     at: Point,
     bounds: &Bounds,
-    kind: Sending,
+    kind: SendCall,
     rights: Rights,
 ) -> Result<Behind, Refusal>
-    ensures { (slots : List NotedSlot) (measure : Measure) → told slots result ≡ sends_message at (known_with bounds.now slots measure) (kind_of kind) rights }
+    ensures { (slots : List NotedSlot) (measure : Measure) → told slots result ≡ sends_message at (known_with bounds.now slots measure) kind rights }
 {
     match kind {
-        Sending::Calling if rights.may_write() && rights.may_grant_reply() => Ok(Behind {
+        SendCall::Calling if rights.may_write() && rights.may_grant_reply() => Ok(Behind {
             bounds: with_message(bounds, Range::single(0)),
             is_wait: true,
             written: Written::Message,
             is_tidy: true,
         }),
-        Sending::Waiting if rights.may_write() => Ok(Behind::unchanged(bounds, true)),
-        Sending::Trying if rights.may_write() => Ok(Behind::unchanged(bounds, false)),
+        SendCall::Sending if rights.may_write() => Ok(Behind::unchanged(bounds, true)),
+        SendCall::Trying if rights.may_write() => Ok(Behind::unchanged(bounds, false)),
         _ => Err(Refusal::CapNotThere(at)),
     }
 }
@@ -77,15 +66,15 @@ pub(crate) fn sends_message(
 pub(crate) fn sends_signal(
     at: Point,
     bounds: &Bounds,
-    kind: Sending,
+    kind: SendCall,
     rights: Rights,
 ) -> Result<Behind, Refusal>
-    ensures { (slots : List NotedSlot) (measure : Measure) → told slots result ≡ sends_signal at (known_with bounds.now slots measure) (kind_of kind) rights }
+    ensures { (slots : List NotedSlot) (measure : Measure) → told slots result ≡ sends_signal at (known_with bounds.now slots measure) kind rights }
 {
     if !rights.may_write() {
         return Err(Refusal::CapNotThere(at));
     }
-    if matches!(kind, Sending::Calling) {
+    if matches!(kind, SendCall::Calling) {
         Ok(Behind {
             bounds: with_answer(bounds),
             is_wait: false,

@@ -10,16 +10,18 @@ ghost use Rattle.model.specs.Kernel.Steps.{call_of};
 ghost use Rattle.model.specs.Machine.Instructions.{IsRegister};
 ghost use Rattle.typestate.specs.declared.system_calls.Kind.TheVariants.{Receives, Sends};
 ghost use Rattle.model.specs.declared.refusals.Point.{Point};
-ghost use Rattle.typestate.specs.Calls.{by_kind, found_call, goes_on, kind_of, known_with};
+ghost use Rattle.typestate.specs.Calls.{by_kind, found_call, goes_on, known_with};
 ghost use Rattle.typestate.specs.Differences.{slots_of};
 ghost use Rattle.typestate.specs.Invocations.{CalledOf, HoldsFull};
 ghost use Rattle.typestate.specs.Spaces.{own_slots};
 
 use crate::behind::{A0, Behind};
-use crate::plain_calls::{Sending, receive_rule, sends_message, sends_signal};
+use crate::plain_calls::{receive_rule, sends_message, sends_signal};
 use crate::{OwnSlots, ThreadSlots};
 use cspace::called_slot;
-use model::{Cap, KError, Point, Refusal, Register, Slot};
+use model::{
+    Cap, KError, Point, ReceiveCall, Refusal, Register, SendCall, Slot, SystemCall as NumberedCall,
+};
 use ranges::Bounds;
 use slots::SlotMap;
 
@@ -27,7 +29,7 @@ use slots::SlotMap;
 #[derive(Clone, Copy, Debug)]
 pub(crate) enum Kind {
     /// Call, Send and NBSend.
-    Sends(Sending),
+    Sends(SendCall),
     /// Recv and ReplyRecv, which wait, and NBRecv, which does not.
     Receives { is_wait: bool },
     /// Reply, Yield and PutChar, which need nothing and change neither registers nor slots.
@@ -47,18 +49,28 @@ pub enum SystemCall {
     },
 }
 
+/// What a system call asks for.
+fn kind_of(call: NumberedCall) -> Kind
+    ensures { (image : Image) (t : Thread) (at : Point) (state : PointState) → by_number image t at state (Some call) ≡ by_kind image t at state (Some result) }
+{
+    match call {
+        NumberedCall::Sends(kind) => Kind::Sends(kind),
+        NumberedCall::Receives(ReceiveCall::Receiving) => Kind::Receives { is_wait: true },
+        NumberedCall::Receives(ReceiveCall::Polling) => Kind::Receives { is_wait: false },
+        NumberedCall::RepliesAndReceives => Kind::Receives { is_wait: true },
+        NumberedCall::Replies => Kind::Passes,
+        NumberedCall::Yields => Kind::Passes,
+        NumberedCall::PutsCharacter => Kind::Passes,
+    }
+}
+
 /// What the system call of a number asks for.
 fn kind_of_number(number: u32) -> Option<Kind>
     ensures { (image : Image) (t : Thread) (at : Point) (state : PointState) → by_number image t at state (call_of number) ≡ by_kind image t at state result }
 {
-    match number {
-        1 => Some(Kind::Sends(Sending::Calling)),
-        2 | 5 => Some(Kind::Receives { is_wait: true }),
-        3 => Some(Kind::Sends(Sending::Waiting)),
-        4 => Some(Kind::Sends(Sending::Trying)),
-        8 => Some(Kind::Receives { is_wait: false }),
-        6 | 7 | 9 => Some(Kind::Passes),
-        _ => None,
+    match NumberedCall::of_number(number) {
+        Some(call) => Some(kind_of(call)),
+        None => None,
     }
 }
 
@@ -77,11 +89,11 @@ pub(crate) fn known(at: Point, bounds: &Bounds, register: Register) -> Result<u3
 fn sends(
     at: Point,
     bounds: &Bounds,
-    kind: Sending,
+    kind: SendCall,
     slot: Slot,
     capability: Cap,
 ) -> Result<SystemCall, Refusal>
-    ensures value { (image : Image) (t : Thread) (slots : List NotedSlot) (measure : Measure) → send_rule image t at (known_with bounds.now slots measure) (kind_of kind) slot capability ≡ goes_on image t at (known_with bounds.now slots measure) result }
+    ensures value { (image : Image) (t : Thread) (slots : List NotedSlot) (measure : Measure) → send_rule image t at (known_with bounds.now slots measure) kind slot capability ≡ goes_on image t at (known_with bounds.now slots measure) result }
     ensures named { CalledOf (λ called held. (called ≡ slot) × (held ≡ capability)) result }
 {
     let left = match capability {
@@ -91,7 +103,7 @@ fn sends(
             return Ok(SystemCall::Invokes {
                 slot: slot.number(),
                 capability,
-                answers: matches!(kind, Sending::Calling),
+                answers: matches!(kind, SendCall::Calling),
             });
         }
     };
@@ -154,7 +166,7 @@ impl ThreadSlots<'_, '_, '_> {
     }
 
     /// A send.
-    fn sends(&self, at: Point, bounds: &Bounds, kind: Sending) -> Result<SystemCall, Refusal>
+    fn sends(&self, at: Point, bounds: &Bounds, kind: SendCall) -> Result<SystemCall, Refusal>
         ensures value { (measure : Measure) → by_kind self.now.space.image.now self.now.space.thread.now at (known_with bounds.now (slots_of self.now.slots) measure) (Some (Sends kind)) ≡ goes_on self.now.space.image.now self.now.space.thread.now at (known_with bounds.now (slots_of self.now.slots) measure) result }
         ensures held { CalledOf (HoldsFull (own_slots self.now.space.windows.now (slots_of self.now.slots))) result }
     {

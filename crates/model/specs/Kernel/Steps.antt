@@ -21,6 +21,12 @@ use Rattle.model.specs.declared.labels.Outcome.{Outcome}
 use Rattle.model.specs.declared.labels.Outcome.TheVariants.{Faulted, Refused, Completed, Put, Waited, Plain}
 use Rattle.model.specs.declared.lookup_failures.LookupFailure.{LookupFailure}
 use Rattle.model.specs.declared.lookup_failures.LookupFailure.TheVariants.{MissingCapability}
+pub use Rattle.model.specs.declared.system_calls.ReceiveCall.{ReceiveCall}
+pub use Rattle.model.specs.declared.system_calls.ReceiveCall.TheVariants.{Receiving, Polling}
+pub use Rattle.model.specs.declared.system_calls.SendCall.{SendCall}
+pub use Rattle.model.specs.declared.system_calls.SendCall.TheVariants.{Calling, Sending, Trying}
+pub use Rattle.model.specs.declared.system_calls.SystemCall.{SystemCall}
+pub use Rattle.model.specs.declared.system_calls.SystemCall.TheVariants.{Sends, Receives, RepliesAndReceives, Replies, Yields, PutsCharacter}
 use Rattle.model.specs.Kernel.AddressSpaces.{content_of, with_content}
 use Rattle.model.specs.Kernel.Faults.{capability_fault, fault, instruction_fault, memory_fault, unknown_call}
 use Rattle.model.specs.Machine.Decoding.{decoded}
@@ -60,12 +66,6 @@ lacks_capability s thread in_receive failure =
     let r = registers_of s thread in faults s thread (capability_fault r.pc (read r a0) in_receive failure)
 
 -- ---- Call, Send and NBSend
-
-pub data SendCall : Type 0 where
-  Calling : SendCall
-  Sending : SendCall
-  -- without waiting
-  Trying : SendCall
 
 -- the thread goes on; Call has the error's number as the label of an answer, or 0
 abbrev pub answered : State → ℕ → SendCall → ℕ → State
@@ -129,11 +129,6 @@ send_call s thread kind = send_named s thread kind (named_slot s thread)
 
 -- ---- Recv, ReplyRecv and NBRecv
 
-pub data ReceiveCall : Type 0 where
-  Receiving : ReceiveCall
-  -- without waiting
-  Polling : ReceiveCall
-
 abbrev pub receive_on_endpoint : State → ℕ → ReceiveCall → ℕ → Done
 receive_on_endpoint s thread Receiving endpoint = (receive s endpoint thread, Waited)
 receive_on_endpoint s thread Polling endpoint = (try_to_receive s endpoint thread, Plain)
@@ -158,19 +153,6 @@ abbrev pub receive_call : State → ℕ → ReceiveCall → Done
 receive_call s thread kind = receive_named s thread kind (named_slot s thread)
 
 -- ---- all system calls
-
-pub data SystemCall : Type 0 where
-  -- Call, Send, NBSend
-  Sends : SendCall → SystemCall
-  -- Recv, NBRecv
-  Receives : ReceiveCall → SystemCall
-  -- ReplyRecv: the fault of its receive comes after the reply
-  RepliesAndReceives : SystemCall
-  Replies : SystemCall
-  -- to the tail of its priority, with a full slice
-  Yields : SystemCall
-  -- puts the low byte of a0 into the trace
-  PutsCharacter : SystemCall
 
 -- the call of a number
 abbrev pub call_of : ℕ → Option SystemCall

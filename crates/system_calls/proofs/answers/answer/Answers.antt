@@ -1,6 +1,7 @@
 -- What is left is sound.
 use Rattle.agreement.specs.Wholeness.{IsWhole}
-use Rattle.model.specs.Kernel.Steps.{Calling, answered}
+use Rattle.model.specs.Kernel.Steps.{answered}
+use Rattle.model.specs.declared.system_calls.SendCall.TheVariants.{Calling}
 use Rattle.soundness.proofs.Machines.{answered-machine}
 use Rattle.soundness.proofs.SystemCalls.{answered-whole}
 use Rattle.std.proofs.Common.{rules, subst, sym}

@@ -12,8 +12,8 @@ invariant_of-kernel g c =
     kept _ _ _ _ _ _ _ whole c.receive.ensures.state (receive-whole _ c.args.endpoint c.args.thread whole.sound (search rules) (search rules))
     (receive-machine _ c.args.endpoint c.args.thread) c.receive.ensures.bytes c.receive.ensures.stands
 
-pub invariant_of-kernel-in-Poll : goal.invariant_of-kernel-in-Poll
-invariant_of-kernel-in-Poll g c =
+pub invariant_of-kernel-in-Polling : goal.invariant_of-kernel-in-Polling
+invariant_of-kernel-in-Polling g c =
     let whole = subst (λ k. IsWhole k.objects (g.S.SlotMap.slots k.store) (g.S.SlotStore.memory k.store)) (sym c.kernel-inside.view_is) c.kernel.invariant in
     kept _ _ _ _ _ _ _ whole c.try_to_receive.ensures.state
     (try_to_receive-whole _ c.args.endpoint c.args.thread whole.sound (search rules) (search rules))

@@ -12,8 +12,8 @@ invariant_of-kernel g c =
     kept _ _ _ _ _ _ _ whole c.wait.ensures.state (wait-whole _ c.args.notification whole.sound (search rules) c.args.thread (search rules))
     (wait-machine _ c.args.notification c.args.thread) c.wait.ensures.bytes c.wait.ensures.stands
 
-pub invariant_of-kernel-in-Poll : goal.invariant_of-kernel-in-Poll
-invariant_of-kernel-in-Poll g c =
+pub invariant_of-kernel-in-Polling : goal.invariant_of-kernel-in-Polling
+invariant_of-kernel-in-Polling g c =
     let whole = subst (λ k. IsWhole k.objects (g.S.SlotMap.slots k.store) (g.S.SlotStore.memory k.store)) (sym c.kernel-inside.view_is) c.kernel.invariant in
     kept _ _ _ _ _ _ _ whole c.poll.ensures.state (poll-whole _ c.args.notification whole.sound (search rules) c.args.thread (search rules))
     (poll-machine _ c.args.notification c.args.thread) c.poll.ensures.bytes c.poll.ensures.stands

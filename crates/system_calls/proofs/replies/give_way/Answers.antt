@@ -2,7 +2,7 @@
 use Rattle.agreement.specs.Wholeness.{IsWhole}
 use Rattle.model.specs.Kernel.Messages.{passes}
 use Rattle.model.specs.Kernel.Scheduling.{yielded}
-use Rattle.model.specs.Kernel.Steps.{Yields}
+use Rattle.model.specs.declared.system_calls.SystemCall.TheVariants.{Yields}
 use Rattle.objects.proofs.Frames.{objects-then}
 use Rattle.soundness.proofs.Machines.{passes-machine, then-machine, yielded-machine}
 use Rattle.soundness.proofs.SystemCalls.{called-whole}
