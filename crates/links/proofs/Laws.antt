@@ -1,0 +1,48 @@
+-- The laws of this crate as lemmas, for crates above.
+use Rattle.std.proofs.Common.{ℕ, ◌≡◌, ◌∙◌, ◌<◌, inl, inr, if◌then◌else◌, Some, None, sym, ap, subst}
+use Rattle.std.proofs.lemmas.Bool.Decides.{eqb_tells}
+use Rattle.links.specs.Laws.{FirstIsDropped, LeavingTakesOut, NoOwnerNoQueue, PushingJoins}
+use Rattle.links.specs.Threaded.{AreLinked, Threaded, left, listed, pushed}
+use Rattle.links.proofs.Chains.{put-off}
+use Rattle.links.proofs.Joining.{more, pushed-as}
+use Rattle.links.proofs.Leaving.{left-as, less}
+use Rattle.links.proofs.Listing.{dropped, found, linked-as, none-as, out-as}
+pub use Rattle.links.proofs.Chains.{put-here, put-off, put_at-here, put_at-off}
+
+near-pushed : (w : Threaded) (size queue thread : ℕ) → AreLinked w size → thread < size
+    → (other x : ℕ) → (pushed w queue thread).owner x ≡ Some other → x < size
+near-pushed w size queue thread known near other x is = elim (eqb_tells x thread) [
+  | inl same ↦ subst (λ (t : ℕ). t < size) (sym same.1) near
+  | inr off ↦ known.near other x (sym (put-off w.owner thread (Some queue) x off.1) ∙ is)
+]
+
+near-left : (w : Threaded) (size queue thread : ℕ) → AreLinked w size → (other x : ℕ) → (left w queue thread).owner x ≡ Some other → x < size
+near-left w size queue thread known other x is = elim (eqb_tells x thread) [
+  | inl same ↦ absurd (let clash : None ≡ Some other = sym (ap (λ b. if b then None else w.owner x) same.0) ∙ is in cc)
+  | inr off ↦ known.near other x (sym (put-off w.owner thread None x off.1) ∙ is)
+]
+
+pub pushing : PushingJoins
+pushing = record {
+  linked = λ w size queue thread known none near.
+      linked-as (pushed w queue thread) (more (listed w size) queue thread) size (pushed-as w (listed w size) queue thread known.queues none) (near-pushed w size queue thread known near);
+  queues = λ w size queue thread known none near.
+      found (pushed w queue thread) (more (listed w size) queue thread) size (pushed-as w (listed w size) queue thread known.queues none) (near-pushed w size queue thread known near);
+}
+
+pub leaving : LeavingTakesOut
+leaving = record {
+  linked = λ w size queue thread known is.
+      linked-as (left w queue thread) (less (listed w size) thread) size (left-as w (listed w size) queue thread known.queues is) (near-left w size queue thread known);
+  queues = λ w size queue thread known is.
+      found (left w queue thread) (less (listed w size) thread) size (left-as w (listed w size) queue thread known.queues is) (near-left w size queue thread known);
+}
+
+pub unowned : NoOwnerNoQueue
+unowned = record {
+  out = λ w size thread known. out-as w (listed w size) thread known.queues;
+  none = λ w size thread known. none-as w (listed w size) thread known.queues;
+}
+
+pub first_dropped : FirstIsDropped
+first_dropped = λ w size queue thread known head. dropped w (listed w size) queue thread known.queues head

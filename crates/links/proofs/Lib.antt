@@ -1,0 +1,5 @@
+mod Chains
+mod Joining
+pub mod Laws
+mod Listing
+mod Leaving

@@ -1,0 +1,28 @@
+-- The laws of this crate on what changes of links make of queues.
+use Rattle.std.specs.Prelude.{ℕ, ◌≡◌, ◌<◌, Some, None, [], ◌∷◌, ◌++◌, drop}
+use Rattle.model.specs.Kernel.Scheduling.{head_of}
+use Rattle.model.specs.Kernel.State.{put}
+use Rattle.model.specs.Shared.Lists.{times_in, without}
+use Rattle.links.specs.Threaded.{AreLinked, Threaded, left, listed, pushed}
+
+-- a thread that stands in no queue is put behind the last one of a queue
+pub record PushingJoins : Type 0 where
+  pub linked : (w : Threaded) (size queue thread : ℕ) → AreLinked w size → w.owner thread ≡ None → thread < size → AreLinked (pushed w queue thread) size
+  pub queues : (w : Threaded) (size queue thread : ℕ) → AreLinked w size → w.owner thread ≡ None → thread < size
+      → (other : ℕ) → listed (pushed w queue thread) size other ≡ put (listed w size) queue (listed w size queue ++ thread ∷ []) other
+
+-- a thread is taken out of its queue, wherever it stands there
+pub record LeavingTakesOut : Type 0 where
+  pub linked : (w : Threaded) (size queue thread : ℕ) → AreLinked w size → w.owner thread ≡ Some queue → AreLinked (left w queue thread) size
+  pub queues : (w : Threaded) (size queue thread : ℕ) → AreLinked w size → w.owner thread ≡ Some queue
+      → (other : ℕ) → listed (left w queue thread) size other ≡ without thread (listed w size other)
+
+-- a thread without a queue stands in none, and whoever stands in none has none
+pub record NoOwnerNoQueue : Type 0 where
+  pub out : (w : Threaded) (size thread : ℕ) → AreLinked w size → w.owner thread ≡ None → (other : ℕ) → times_in (listed w size other) thread ≡ 0
+  pub none : (w : Threaded) (size thread : ℕ) → AreLinked w size → ((other : ℕ) → times_in (listed w size other) thread ≡ 0) → w.owner thread ≡ None
+
+-- without its first thread, a queue is what stands behind it, and the others are as they were
+abbrev pub FirstIsDropped : Type 0
+FirstIsDropped = (w : Threaded) (size queue thread : ℕ) → AreLinked w size → head_of (listed w size queue) ≡ Some thread
+    → (other : ℕ) → without thread (listed w size other) ≡ put (listed w size) queue (drop 1 (listed w size queue)) other
