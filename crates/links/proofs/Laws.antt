@@ -1,12 +1,12 @@
 -- The laws of this crate as lemmas, for crates above.
 use Rattle.std.proofs.Common.{ℕ, ◌≡◌, ◌∙◌, ◌<◌, inl, inr, if◌then◌else◌, Some, None, sym, ap, subst}
 use Rattle.std.proofs.lemmas.Bool.Decides.{eqb_tells}
-use Rattle.links.specs.Laws.{FirstIsDropped, LeavingTakesOut, NoOwnerNoQueue, PushingJoins}
+use Rattle.links.specs.Laws.{FirstIsDropped, LeavingTakesOut, NamedStandThere, NoOwnerNoQueue, PushingJoins}
 use Rattle.links.specs.Threaded.{AreLinked, Threaded, left, listed, pushed}
 use Rattle.links.proofs.Chains.{put-off}
 use Rattle.links.proofs.Joining.{more, pushed-as}
 use Rattle.links.proofs.Leaving.{left-as, less}
-use Rattle.links.proofs.Listing.{dropped, found, linked-as, none-as, out-as}
+use Rattle.links.proofs.Listing.{dropped, first-named, found, last-named, linked-as, next-named, none-as, out-as, previous-named}
 pub use Rattle.links.proofs.Chains.{put-here, put-off, put_at-here, put_at-off}
 
 near-pushed : (w : Threaded) (size queue thread : ℕ) → AreLinked w size → thread < size
@@ -46,3 +46,11 @@ unowned = record {
 
 pub first_dropped : FirstIsDropped
 first_dropped = λ w size queue thread known head. dropped w (listed w size) queue thread known.queues head
+
+pub named_stand : NamedStandThere
+named_stand = record {
+  first = λ w size queue thread known is. first-named w (listed w size) queue thread known.queues is;
+  last = λ w size queue thread known is. last-named w (listed w size) queue thread known.queues is;
+  next = λ w size queue thread other known is named. next-named w (listed w size) queue thread other known.queues is named;
+  previous = λ w size queue thread other known is named. previous-named w (listed w size) queue thread other known.queues is named;
+}

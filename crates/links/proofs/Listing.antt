@@ -9,7 +9,8 @@ use Rattle.model.specs.Shared.Lists.{times_in, without}
 use Rattle.model.proofs.Orders.{times-first, without-absent, without-first}
 use Rattle.preorder.specs.Chains.{IsChain, Links}
 use Rattle.preorder.specs.Preorder.{Row, rows_of, slots_of}
-use Rattle.preorder.proofs.Laws.{few-rows}
+use Rattle.preorder.proofs.Laws.{IsIn, few-rows, next-in, previous-in}
+use Rattle.links.proofs.Chains.{last-in}
 use Rattle.links.specs.Threaded.{AreLinked, AreLinkedAs, Threaded, linked, listed}
 
 linked-list : (xs : List ℕ) (next previous : Links) (before : Option ℕ) (n : ℕ) → IsChain next previous before xs → length xs ≤ n → linked next n (first_of xs) ≡ xs
@@ -91,3 +92,37 @@ dropped w lists queue thread known head other = elim (eqb_tells other queue) [
       without-absent thread (lists other) (elsewhere w lists queue thread other known (known.owned queue thread (head-in (lists queue) thread head)) off.1)
       ∙ sym (ap (λ b. if b then drop 1 (lists queue) else lists other) off.0)
 ]
+
+-- ---- who is named
+
+first-stands : (xs : List ℕ) (thread : ℕ) → first_of xs ≡ Some thread → 0 < times_in xs thread
+first-stands [] thread is = absurd (let clash : None ≡ Some thread = is in cc)
+first-stands (x ∷ rest) thread is = let same : x ≡ thread = cc in omega (arith, times-first x rest, ap (times_in (x ∷ rest)) same)
+
+pub first-named : (w : Threaded) (lists : ℕ → List ℕ) (queue thread : ℕ) → AreLinkedAs w lists → w.first queue ≡ Some thread → w.owner thread ≡ Some queue
+first-named w lists queue thread known is = known.owned queue thread (first-stands (lists queue) thread (sym (known.first queue) ∙ is))
+
+pub last-named : (w : Threaded) (lists : ℕ → List ℕ) (queue thread : ℕ) → AreLinkedAs w lists → w.last queue ≡ Some thread → w.owner thread ≡ Some queue
+last-named w lists queue thread known is = known.owned queue thread (last-in (lists queue) thread (sym (known.last queue) ∙ is))
+
+in-stands : (xs : List ℕ) (o : Option ℕ) (other : ℕ) → IsIn xs o → o ≡ Some other → 0 < times_in xs other
+in-stands xs o other some is =
+    let e : Some some.slot ≡ Some other = sym some.is ∙ is in
+    let f : some.slot ≡ other = cc in
+    omega (arith, some.there, ap (times_in xs) f)
+
+pub next-named : (w : Threaded) (lists : ℕ → List ℕ) (queue thread other : ℕ) → AreLinkedAs w lists → w.owner thread ≡ Some queue → w.next thread ≡ Some other
+    → w.owner other ≡ Some queue
+next-named w lists queue thread other known is named =
+    elim (next-in (lists queue) w.next w.previous None thread (known.chain queue) (known.stands queue thread is)) [
+      | inl none ↦ absurd (let clash : None ≡ Some other = sym none ∙ named in cc)
+      | inr some ↦ known.owned queue other (in-stands (lists queue) (w.next thread) other some named)
+    ]
+
+pub previous-named : (w : Threaded) (lists : ℕ → List ℕ) (queue thread other : ℕ) → AreLinkedAs w lists → w.owner thread ≡ Some queue → w.previous thread ≡ Some other
+    → w.owner other ≡ Some queue
+previous-named w lists queue thread other known is named =
+    elim (previous-in (lists queue) w.next w.previous None thread (known.chain queue) (known.stands queue thread is)) [
+      | inl none ↦ absurd (let clash : None ≡ Some other = sym none ∙ named in cc)
+      | inr some ↦ known.owned queue other (in-stands (lists queue) (w.previous thread) other some named)
+    ]

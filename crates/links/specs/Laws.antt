@@ -26,3 +26,10 @@ pub record NoOwnerNoQueue : Type 0 where
 abbrev pub FirstIsDropped : Type 0
 FirstIsDropped = (w : Threaded) (size queue thread : ℕ) → AreLinked w size → head_of (listed w size queue) ≡ Some thread
     → (other : ℕ) → without thread (listed w size other) ≡ put (listed w size) queue (drop 1 (listed w size queue)) other
+
+-- whoever is named as the first or the last of a queue, or by one who stands in it, stands in it too
+pub record NamedStandThere : Type 0 where
+  pub first : (w : Threaded) (size queue thread : ℕ) → AreLinked w size → w.first queue ≡ Some thread → w.owner thread ≡ Some queue
+  pub last : (w : Threaded) (size queue thread : ℕ) → AreLinked w size → w.last queue ≡ Some thread → w.owner thread ≡ Some queue
+  pub next : (w : Threaded) (size queue thread other : ℕ) → AreLinked w size → w.owner thread ≡ Some queue → w.next thread ≡ Some other → w.owner other ≡ Some queue
+  pub previous : (w : Threaded) (size queue thread other : ℕ) → AreLinked w size → w.owner thread ≡ Some queue → w.previous thread ≡ Some other → w.owner other ≡ Some queue

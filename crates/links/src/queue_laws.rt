@@ -1,6 +1,6 @@
 //! Laws on threads that come to stand in queues, and leave them.
 
-ghost use Rattle.links.specs.Laws.{FirstIsDropped, LeavingTakesOut, NoOwnerNoQueue, PushingJoins};
+ghost use Rattle.links.specs.Laws.{FirstIsDropped, LeavingTakesOut, NamedStandThere, NoOwnerNoQueue, PushingJoins};
 
 /// A thread that is linked behind the last one of a queue stands behind all others of it, and no other queue changes.
 pub fn pushing_joins()
@@ -20,4 +20,9 @@ pub fn without_an_owner_is_in_no_queue()
 /// A queue without its first thread is what stands behind that.
 pub fn a_first_thread_is_dropped()
     ensures { FirstIsDropped }
+{}
+
+/// Whoever is named by the links of a queue stands in it.
+pub fn whoever_is_named_stands_there()
+    ensures { NamedStandThere }
 {}
