@@ -1,0 +1,5 @@
+mod Frames
+mod LeavingQueues
+mod LinkSteps
+mod MemoryWrites
+mod Standings

@@ -1,0 +1,78 @@
+//! Threads linked in both directions, with the first and the last one of their queue at hand.
+
+ghost use Rattle.std.specs.Prelude.{ℕ, ◌≡◌, Some, length};
+ghost use Rattle.std.specs.Option.{ForSome};
+ghost use Rattle.links.specs.Threaded.{end_without, first_joined};
+ghost use Rattle.linked_queues.specs.Layout.{IsThreadAt};
+ghost use Rattle.linked_queues.specs.Words.{base_of, link_at, linked_last, taken_out};
+
+use crate::words::{Ends, LinkWords, link, put_link, put_link_at, word_of};
+use slots::SlotStore;
+
+/// The words of a thread's links, by their numbers.
+const QUEUE: u32 = 0;
+
+const NEXT: u32 = 1;
+
+const PREVIOUS: u32 = 2;
+
+/// Links a thread behind the last one of a queue, and answers the ends that the queue then has.
+pub(crate) fn link_last<S: SlotStore>(
+    store: &mut S,
+    links: LinkWords,
+    ends: Ends,
+    queue: u32,
+    thread: u32,
+) -> Ends
+    requires there { IsThreadAt (S.slots store.old) (length (S.memory store.old)) thread }
+    requires behind { ForSome ends.last (IsThreadAt (S.slots store.old) (length (S.memory store.old))) }
+    ensures bytes { S.memory store.new ≡ linked_last (base_of links) (S.memory store.old) ends.last queue thread }
+    ensures ends { result ≡ record { first = first_joined ends.first thread; last = Some thread } }
+    ensures slots { S.slots store.new ≡ S.slots store.old }
+    ensures order { S.order store.new ≡ S.order store.old }
+    ensures size { length (S.memory store.new) ≡ length (S.memory store.old) }
+{
+    put_link(store, links, thread, QUEUE, queue);
+    put_link(store, links, thread, NEXT, 0);
+    put_link(store, links, thread, PREVIOUS, word_of(ends.last));
+    put_link_at(store, links, ends.last, NEXT, thread);
+    Ends {
+        first: Some(ends.first.unwrap_or(thread)),
+        last: Some(thread),
+    }
+}
+
+/// Takes a thread out from between its neighbours, and answers the ends that its queue then has.
+pub(crate) fn unlink<S: SlotStore>(store: &mut S, links: LinkWords, ends: Ends, thread: u32) -> Ends
+    requires there { IsThreadAt (S.slots store.old) (length (S.memory store.old)) thread }
+    requires behind { ForSome (link_at (base_of links) (S.memory store.old) thread 1) (IsThreadAt (S.slots store.old) (length (S.memory store.old))) }
+    requires before { ForSome (link_at (base_of links) (S.memory store.old) thread 2) (IsThreadAt (S.slots store.old) (length (S.memory store.old))) }
+    ensures bytes { S.memory store.new ≡ taken_out (base_of links) (S.memory store.old) thread }
+    ensures ends { result ≡ record {
+      first = end_without (link_at (base_of links) (S.memory store.old) thread 2) (link_at (base_of links) (S.memory store.old) thread 1) ends.first;
+      last = end_without (link_at (base_of links) (S.memory store.old) thread 1) (link_at (base_of links) (S.memory store.old) thread 2) ends.last;
+    } }
+    ensures slots { S.slots store.new ≡ S.slots store.old }
+    ensures order { S.order store.new ≡ S.order store.old }
+    ensures size { length (S.memory store.new) ≡ length (S.memory store.old) }
+{
+    let after = link(store, links, thread, NEXT);
+    let before = link(store, links, thread, PREVIOUS);
+    put_link(store, links, thread, QUEUE, 0);
+    put_link_at(store, links, before, NEXT, word_of(after));
+    put_link_at(store, links, after, PREVIOUS, word_of(before));
+    Ends {
+        first: end_without(before, after, ends.first),
+        last: end_without(after, before, ends.last),
+    }
+}
+
+/// The end of a queue without a thread that has one neighbour towards that end, and another away from it.
+fn end_without(towards: Option<u32>, away: Option<u32>, end: Option<u32>) -> Option<u32>
+    ensures { result ≡ end_without towards away end }
+{
+    match towards {
+        None => away,
+        Some(_) => end,
+    }
+}
