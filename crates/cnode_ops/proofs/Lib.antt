@@ -3,6 +3,7 @@ pub mod Emptied
 pub mod Kept
 pub mod LinesTaken
 pub mod FreeWindows
+pub mod FullSlots
 pub mod Lookups
 pub mod OpenNodes
 pub mod PlacedObjects
@@ -14,4 +15,5 @@ pub mod Values
 pub mod Watermarks
 pub mod EmptiedSets
 pub mod ClosedSlots
+pub mod RemovedLists
 pub mod RemovedSets

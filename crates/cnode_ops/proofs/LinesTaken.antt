@@ -17,38 +17,31 @@ use Rattle.cnode_ops.specs.Refusals.{goes, some_slot, stays}
 use Rattle.cnode_ops.specs.Sets.{set_of}
 use Rattle.cnode_ops.specs.declared.sets.Removed.{Removed}
 use Rattle.cnode_ops.proofs.RefusedLaw.{found-some}
-use Rattle.cnode_ops.proofs.SomeSlot.{some-at, some-where}
+use Rattle.cnode_ops.proofs.SomeSlot.{some-at, some-none, some-where}
 
--- one slot more
-some-more : (n : ℕ) (test : ℕ → Bool) → some_slot 0 (n + 1) test ≡ (some_slot 0 n test || test n)
-some-more n test = bool-iff (some_slot 0 (n + 1) test) (some_slot 0 n test || test n)
-    (λ some.
-    let at = some-where 0 (n + 1) test some in
-    elim (eqb_tells at.0 n) [
-      | inl here ↦ ap (λ b. some_slot 0 n test || b) (ap test (sym here.1) ∙ at.3) ∙ or-true (some_slot 0 n test)
-      | inr other ↦ ap (λ b. b || test n) (some-at 0 n at.0 test at.1 (omega (arith, at.2, other.1)) at.3)
-    ])
-    (elim (test n) as (λ b. test n ≡ b → (some_slot 0 n test || b) ≡ true → some_slot 0 (n + 1) test ≡ true) [
-      | true ↦ λ is either. some-at 0 (n + 1) n test (omega arith) (omega arith) is
-      | false ↦ λ is either.
-          let at = some-where 0 n test (sym (or-false (some_slot 0 n test)) ∙ either) in
-          some-at 0 (n + 1) at.0 test at.1 (omega (arith, at.2)) at.3
-    ] refl)
+-- who takes a line goes
+pub takes-goes : (slots : Slots) (size : ℕ) (set : Removed) (line slot : ℕ) → takes_line slots size set line slot ≡ true → goes slots set slot ≡ true
+takes-goes slots size set line slot is = (both (goes slots set slot) _ (both (is_handler_of line (capability_at slots slot)) _ is).1).0
 
-pub some-more-none : (n : ℕ) (test : ℕ → Bool) → test n ≡ false → some_slot 0 n test ≡ some_slot 0 (n + 1) test
-some-more-none n test none = sym (some-more n test ∙ ap (λ b. some_slot 0 n test || b) none ∙ or-false (some_slot 0 n test))
+-- a line that is told once one more is told is that, or was told before
+pub told-after : (lines : List Bool) (taken line : ℕ) (P : Type 0) → (taken ≡ line → P) → (get_or lines line false ≡ true → P)
+    → get_or (set lines taken true) line false ≡ true → P
+told-after lines taken line P here before is = elim (eqb_tells taken line) [
+  | inl same ↦ here same.1
+  | inr other ↦ before (sym (get_or-set_other lines taken line true false (λ same. other.1 (sym same))) ∙ is)
+]
 
--- a slot takes one line
-pub line-more : (lines : List Bool) (n taken line : ℕ) (test : ℕ → Bool) → length lines ≡ 64 → taken < 64 → get_or lines line false ≡ some_slot 0 n test → test n ≡ (taken == line)
-    → get_or (set lines taken true) line false ≡ some_slot 0 (n + 1) test
-line-more lines n taken line test long few before at = elim (eqb_tells taken line) [
-  | inl here ↦
-      get_or-set_at lines taken line true false (sym here.1) (omega (arith, long, few))
-      ∙ sym (some-more n test ∙ ap (λ b. some_slot 0 n test || b) (at ∙ here.0) ∙ or-true (some_slot 0 n test))
-  | inr other ↦
-      get_or-set_other lines taken line true false (λ same. other.1 (sym same))
-      ∙ before
-      ∙ some-more-none n test (at ∙ other.0)
+-- and one that is not was not
+pub untold-before : (lines : List Bool) (taken line : ℕ) → length lines ≡ 64 → taken < 64 → get_or (set lines taken true) line false ≡ false → get_or lines line false ≡ false
+untold-before lines taken line long few is = elim (eqb_tells taken line) [
+  | inl here ↦ absurd (let clash : true ≡ false = sym (get_or-set_at lines taken line true false (sym here.1) (omega (arith, long, few))) ∙ is in cc)
+  | inr other ↦ sym (get_or-set_other lines taken line true false (λ same. other.1 (sym same))) ∙ is
+]
+
+pub untold-other : (lines : List Bool) (taken line : ℕ) → length lines ≡ 64 → taken < 64 → get_or (set lines taken true) line false ≡ false → (taken == line) ≡ false
+untold-other lines taken line long few is = elim (eqb_tells taken line) [
+  | inl here ↦ absurd (let clash : true ≡ false = sym (get_or-set_at lines taken line true false (sym here.1) (omega (arith, long, few))) ∙ is in cc)
+  | inr other ↦ other.0
 ]
 
 handler-full : (line : ℕ) (c : Cap) → is_handler_of line c ≡ true → is_empty c ≡ false
@@ -105,11 +98,17 @@ module _ (s : State) (removed : Removed) (line : ℕ) (near : (y : ℕ) → IsOp
       (join (handles at.0) _ member.1 (join (goes s.slots removed at.0) (not (is_handled_beside s.slots size removed line)) (join (is_full s.slots at.0) (own at.0) full member.0) (ap not beside ∙ parts.1))))
 
 -- the answer of one who asks a store
-pub lines-answer : (s : State) (removed : Removed) (slots : Slots) (count n bytes line : ℕ) (answer : Bool) → 16 * count ≡ bytes → ((y : ℕ) → IsOpen slots y → y < count) → count ≤ n → n ≤ count
-    → answer ≡ some_slot 0 n (takes_line slots (bytes / 16) removed line) → s.slots ≡ slots → 2 ^ s.memory_bits ≡ bytes → answer ≡ takes_last s (set_of s.slots removed) (is_handler_of line)
-lines-answer s removed slots count n bytes line answer many near low high is has memory =
-    let one : n ≡ 2 ^ s.memory_bits / 16 = omega (arith, low, high, many, memory) in
-    let two : bytes / 16 ≡ 2 ^ s.memory_bits / 16 = omega (arith, memory) in
-    is
-    ∙ (λ i. some_slot 0 (one i) (takes_line (sym has i) (two i) removed line))
-    ∙ lines-law s removed line (λ y opens. omega (arith, one, high, near y (subst (λ (t : Slots). IsOpen t y) has opens)))
+pub lines-answer : (s : State) (removed : Removed) (slots : Slots) (bytes line : ℕ) (answer : Bool) → ((y : ℕ) → IsOpen slots y → y < bytes / 16)
+    → (answer ≡ true → some_slot 0 (bytes / 16) (takes_line slots (bytes / 16) removed line) ≡ true) → (answer ≡ false → (slot : ℕ) → takes_line slots (bytes / 16) removed line slot ≡ false)
+    → s.slots ≡ slots → 2 ^ s.memory_bits ≡ bytes → answer ≡ takes_last s (set_of s.slots removed) (is_handler_of line)
+lines-answer s removed slots bytes line answer near told none has memory =
+    let size : bytes / 16 ≡ 2 ^ s.memory_bits / 16 = omega (arith, memory) in
+    let same : answer ≡ some_slot 0 (bytes / 16) (takes_line slots (bytes / 16) removed line) =
+    elim answer as (λ b. answer ≡ b → b ≡ some_slot 0 (bytes / 16) (takes_line slots (bytes / 16) removed line)) [
+      | true ↦ λ is. sym (told is)
+      | false ↦ λ is. sym (some-none 0 (bytes / 16) (takes_line slots (bytes / 16) removed line) (λ i less. none is (0 + i)))
+    ] refl
+    in
+    same
+    ∙ (λ i. some_slot 0 (size i) (takes_line (sym has i) (size i) removed line))
+    ∙ lines-law s removed line (λ y opens. omega (arith, size, near y (subst (λ (t : Slots). IsOpen t y) has opens)))

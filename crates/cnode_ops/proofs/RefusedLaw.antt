@@ -249,11 +249,10 @@ module _ (s : State) (sound : IsSound s) (set : Removed) (near : (y : ℕ) → I
       ∙ sym (found-some s.memory_bits _)
 
 -- the answer of one who asks a store
-pub refused-answer : (s : State) (set : Removed) (slots : Slots) (count bytes : ℕ) (answer : Bool) → 16 * count ≡ bytes → ((y : ℕ) → IsOpen slots y → y < count)
-    → some_slot 0 count (refuses slots (bytes / 16) set) ≡ answer → s.slots ≡ slots → IsSound s → 2 ^ s.memory_bits ≡ bytes → answer ≡ wants_revoke_first s (with_bindings s (set_of s.slots set))
-refused-answer s set slots count bytes answer many near is has sound memory =
-    let one : count ≡ 2 ^ s.memory_bits / 16 = omega (arith, many, memory) in
-    let two : bytes / 16 ≡ 2 ^ s.memory_bits / 16 = omega (arith, memory) in
+pub refused-answer : (s : State) (set : Removed) (slots : Slots) (bytes : ℕ) (answer : Bool) → ((y : ℕ) → IsOpen slots y → y < bytes / 16)
+    → some_slot 0 (bytes / 16) (refuses slots (bytes / 16) set) ≡ answer → s.slots ≡ slots → IsSound s → 2 ^ s.memory_bits ≡ bytes → answer ≡ wants_revoke_first s (with_bindings s (set_of s.slots set))
+refused-answer s set slots bytes answer near is has sound memory =
+    let size : bytes / 16 ≡ 2 ^ s.memory_bits / 16 = omega (arith, memory) in
     sym is
-    ∙ (λ i. some_slot 0 (one i) (refuses (sym has i) (two i) set))
-    ∙ refused-law s sound set (λ y opens. omega (arith, one, near y (subst (λ (t : Slots). IsOpen t y) has opens)))
+    ∙ (λ i. some_slot 0 (size i) (refuses (sym has i) (size i) set))
+    ∙ refused-law s sound set (λ y opens. omega (arith, size, near y (subst (λ (t : Slots). IsOpen t y) has opens)))

@@ -1,5 +1,5 @@
 -- What a removal's loops leave, of a state and slots that are kept apart.
-use Rattle.std.proofs.Common.{ℕ, ◌≡◌, ◌∙◌, ◌<◌, List, Bool, false, true, slice_index_or, Ok, sym, ap, subst}
+use Rattle.std.proofs.Common.{ℕ, ◌≡◌, ◌∙◌, ◌^◌, ◌<◌, List, Bool, false, true, slice_index_or, Ok, length, sym, ap, subst, arith}
 use Rattle.model.specs.Capabilities.CapabilityKinds.{is_handler_of}
 use Rattle.model.specs.Capabilities.Slots.{IsDerivation, IsOpen, Slots, is_descendant}
 use Rattle.model.specs.Kernel.Removal.{SlotSet, emptied, remove, takes_last, wants_revoke_first, with_bindings}
@@ -8,7 +8,8 @@ use Rattle.model.specs.Kernel.State.{State, binding_slot}
 use Rattle.model.proofs.Ancestors.{descendant-full, full-open}
 use Rattle.removals.specs.Finishing.{MaySettle, settled}
 use Rattle.removals.specs.Steps.{SameShape, bindings_from, joined}
-use Rattle.removals.proofs.Whole.{both-loops, may-settle, members-all, removed, sound-ready}
+use Rattle.removals.proofs.Whole.{both-loops, may-settle, members-all, open-near, removed, sound-ready}
+use Rattle.cnode_ops.specs.Refusals.{AreNear}
 use Rattle.cnode_ops.specs.Sets.{set_of}
 use Rattle.cnode_ops.specs.declared.sets.Removed.{Removed}
 
@@ -46,6 +47,11 @@ module _ (w one two : State) (slots : Slots) (set : Removed) (lines : List Bool)
   pub loops-remove : (last : State) → last ≡ settled two → remove w (set_of slots set) ≡ Ok last
   loops-remove last is =
       ap (λ (n : Slots). remove w (set_of n set)) same ∙ removed w two last (set_of w.slots set) ran.sound members_open ran.kept_first left is
+
+-- no slot behind the end of memory is open
+pub near-open : (w : State) (slots : Slots) (memory : List ℕ) → w.slots ≡ slots → IsSound w → 2 ^ w.memory_bits ≡ length memory → AreNear slots memory
+near-open w slots memory has sound size y opens =
+    omega (arith, open-near w sound y (subst (λ (n : Slots). IsOpen n y) (sym has) opens), size)
 
 -- all that descends is open
 pub below-open : (w : State) (slots : Slots) (root slot : ℕ) → w.slots ≡ slots → IsSound w → is_descendant slots root slot ≡ true → IsOpen slots slot

@@ -1,4 +1,5 @@
 pub mod Lines
+pub mod Listed
 pub mod Nodes
 pub mod Outcomes
 pub mod Placed

@@ -1,6 +1,6 @@
 -- What a removal asks of the slots before it takes any away.
 -- seL4 Reference Manual, "Deletion, Revocation, and Recycling"; the refusal is our own.
-use Rattle.std.specs.Prelude.{ℕ, ◌/◌, ◌^◌, ◌&&◌, Bool, false, not}
+use Rattle.std.specs.Prelude.{ℕ, ◌/◌, ◌^◌, ◌<◌, ◌&&◌, Bool, List, false, length, not}
 use Rattle.std.specs.Option.{option_map_or}
 use Rattle.std.specs.List.{list_any, range_with_len}
 use Rattle.cnode_ops.specs.Sets.{set_of}
@@ -8,7 +8,11 @@ use Rattle.cnode_ops.specs.declared.sets.Removed.{Removed}
 use Rattle.model.specs.declared.capabilities.Cap.{Cap}
 use Rattle.model.specs.declared.capabilities.Cap.TheVariants.{Empty, Untyped, Endpoint, Notification, CNode, Frame, PageTable, Tcb, RootTable, InterruptControl, InterruptHandler}
 use Rattle.model.specs.Capabilities.CapabilityKinds.{names_object, object_of}
-use Rattle.model.specs.Capabilities.Slots.{Slots, capability_at, is_full}
+use Rattle.model.specs.Capabilities.Slots.{IsOpen, Slots, capability_at, is_full}
+
+-- no slot behind the end of memory is open
+abbrev pub AreNear : Slots → List ℕ → Type 0
+AreNear slots memory = (slot : ℕ) → IsOpen slots slot → slot < length memory / 16
 
 -- whether one of so many slots from one on passes a test
 unfoldable pub some_slot : ℕ → ℕ → (ℕ → Bool) → Bool

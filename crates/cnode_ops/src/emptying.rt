@@ -29,18 +29,42 @@ pub(crate) fn object_of(capability: Cap) -> Option<u32>
     }
 }
 
+/// Whether the capability in a slot names the object at an offset.
+fn names<S: SlotStore>(store: &S, slot: Slot, offset: u32) -> bool
+    ensures { result ≡ names_object offset (capability_at (S.slots store.now) slot) }
+{
+    object_of(store.capability(slot)) == Some(offset)
+}
+
 /// Whether some slot's capability names the object at an offset.
 fn is_named<S: SlotStore>(store: &S, offset: u32) -> bool
     ensures some { result ≡ true → (slot : ℕ) × (names_object offset (capability_at (S.slots store.now) slot) ≡ true) }
     ensures none { result ≡ false → (slot : ℕ) → names_object offset (capability_at (S.slots store.now) slot) ≡ false }
 {
-    let count = store.count();
-    'slots: for number in 0..count {
-        if object_of(store.capability(Slot::new(number))) == Some(offset) {
+    let mut at = None;
+    'slots: loop {
+        let Some(slot) = store.next_full(at) else {
+            return false;
+        };
+        if names(store, slot, offset) {
+            return true;
+        }
+        at = Some(slot);
+    }
+}
+
+/// Whether some slot's capability names the object at an offset. The slot that one was derived from is looked at first,
+/// since it names the same object in most cases.
+fn is_named_still<S: SlotStore>(store: &S, parent: &Option<Slot>, offset: u32) -> bool
+    ensures some { result ≡ true → (slot : ℕ) × (names_object offset (capability_at (S.slots store.now) slot) ≡ true) }
+    ensures none { result ≡ false → (slot : ℕ) → names_object offset (capability_at (S.slots store.now) slot) ≡ false }
+{
+    if let Some(above) = parent {
+        if names(store, *above, offset) {
             return true;
         }
     }
-    false
+    is_named(store, offset)
 }
 
 /// Empties a slot, with the mapping of its capability: what that was, and the slot that it was derived
@@ -62,8 +86,13 @@ fn take_out<S: SlotStore, E: Ends>(store: &mut S, ends: &mut E, slot: Slot) -> (
     held
 }
 
-/// Ends the object that a removed capability named, if no other names it.
-fn end_unnamed<S: SlotStore, E: Ends>(store: &mut S, ends: &mut E, removed: Cap)
+/// Ends the object that a removed capability named, if no other names it. `parent` is the slot that it was derived from.
+fn end_unnamed<S: SlotStore, E: Ends>(
+    store: &mut S,
+    ends: &mut E,
+    removed: Cap,
+    parent: &Option<Slot>,
+)
     requires agree { E.Agree ends.old (S.slots store.old) (S.memory store.old) }
     requires there { IsThere (E.state ends.old (S.slots store.old) (S.memory store.old)) removed }
     ensures state { IfUnnamed (E.state ends.old (S.slots store.old) (S.memory store.old)) removed
@@ -74,7 +103,7 @@ fn end_unnamed<S: SlotStore, E: Ends>(store: &mut S, ends: &mut E, removed: Cap)
     let Some(offset) = object_of(removed) else {
         return;
     };
-    if is_named(store, offset) {
+    if is_named_still(store, parent, offset) {
         return;
     }
     ends.end(store, removed);
@@ -117,7 +146,7 @@ pub(crate) fn empty_slot<S: SlotStore, E: Ends>(store: &mut S, ends: &mut E, slo
     ensures agree { E.Agree ends.new (S.slots store.new) (S.memory store.new) }
 {
     let (removed, parent) = take_out(store, ends, slot);
-    end_unnamed(store, ends, removed);
+    end_unnamed(store, ends, removed, &parent);
     if let Some(parent) = parent {
         rewind(store, ends, parent);
     }

@@ -2,7 +2,7 @@
 //! that still holds capabilities.
 
 ghost use Rattle.std.specs.Prelude.{ℕ, ◌≡◌, ◌+◌, ◌/◌, ◌^◌, ◌≤◌, ◌&&◌, not, length};
-ghost use Rattle.cnode_ops.specs.Refusals.{goes, is_left_filled, is_named_beside, refuses, slots_named, some_slot, stays};
+ghost use Rattle.cnode_ops.specs.Refusals.{AreNear, is_left_filled, is_named_beside, slots_named, some_slot, stays};
 ghost use Rattle.model.specs.Capabilities.CapabilityKinds.{names_object};
 ghost use Rattle.model.specs.Capabilities.CapabilityWords.{IsCapability};
 ghost use Rattle.model.specs.Capabilities.Slots.{capability_at};
@@ -12,16 +12,9 @@ ghost use Rattle.model.specs.Kernel.State.{State};
 ghost use Rattle.cnode_ops.specs.Sets.{set_of};
 
 use crate::emptying::object_of;
-use crate::sets::{Removed, is_removed};
+use crate::sets::{Removed, is_removed, next_removed};
 use model::{Cap, Slot};
 use slots::{SlotStore, is_taken};
-
-/// Whether a slot is full, and one of those that go.
-pub(crate) fn goes<S: SlotStore>(store: &S, set: &Removed, slot: Slot) -> bool
-    ensures { result ≡ goes (S.slots store.now) set.now slot }
-{
-    is_taken(store, slot) && is_removed(store, *set, slot)
-}
 
 /// Whether a slot is full, and none of those that go.
 pub(crate) fn stays<S: SlotStore>(store: &S, set: &Removed, slot: Slot) -> bool
@@ -39,15 +32,19 @@ fn names_beside<S: SlotStore>(store: &S, set: &Removed, offset: u32, slot: Slot)
 
 /// Whether some slot that stays names the object at an offset.
 fn is_named_beside<S: SlotStore>(store: &S, set: &Removed, offset: u32) -> bool
+    requires near { AreNear (S.slots store.now) (S.memory store.now) }
     ensures { result ≡ is_named_beside (S.slots store.now) (length (S.memory store.now) / 16) set.now offset }
 {
-    let count = store.count();
-    'slots: for number in 0..count {
-        if names_beside(store, set, offset, Slot::new(number)) {
+    let mut at = None;
+    'slots: loop {
+        let Some(slot) = store.next_full(at) else {
+            return false;
+        };
+        if names_beside(store, set, offset, slot) {
             return true;
         }
+        at = Some(slot);
     }
-    false
 }
 
 /// Whether one of so many slots from `first` on is full and stays.
@@ -78,7 +75,8 @@ fn slots_named(capability: Cap) -> u32
 /// Whether the object that a capability names has a full slot that stays, and no slot that stays names
 /// it.
 fn is_left_filled<S: SlotStore>(store: &S, set: &Removed, capability: Cap) -> bool
-    requires { IsCapability capability }
+    requires valid { IsCapability capability }
+    requires near { AreNear (S.slots store.now) (S.memory store.now) }
     ensures { result ≡ is_left_filled (S.slots store.now) (length (S.memory store.now) / 16) set.now capability }
 {
     let Some(offset) = object_of(capability) else {
@@ -88,24 +86,21 @@ fn is_left_filled<S: SlotStore>(store: &S, set: &Removed, capability: Cap) -> bo
         && !is_named_beside(store, set, offset)
 }
 
-/// Whether a slot goes, and the object that its capability names would end with a full slot that stays.
-fn refuses<S: SlotStore>(store: &S, set: &Removed, slot: Slot) -> bool
-    ensures { result ≡ refuses (S.slots store.now) (length (S.memory store.now) / 16) set.now slot }
-{
-    goes(store, set, slot) && is_left_filled(store, set, store.capability(slot))
-}
-
 /// Whether these slots may not go yet: with them would go the last capability to a CNode or a thread that
 /// still holds a capability which stays.
 pub(crate) fn wants_revoke_first<S: SlotStore>(store: &S, set: Removed) -> bool
+    requires near { AreNear (S.slots store.now) (S.memory store.now) }
     ensures { (s : State) → s.slots ≡ S.slots store.now → IsSound s → 2 ^ s.memory_bits ≡ length (S.memory store.now)
         → result ≡ wants_revoke_first s (with_bindings s (set_of s.slots set)) }
 {
-    let count = store.count();
-    'slots: for number in 0..count {
-        if refuses(store, &set, Slot::new(number)) {
+    let mut at = None;
+    'slots: loop {
+        let Some(slot) = next_removed(store, &set, at) else {
+            return false;
+        };
+        if is_left_filled(store, &set, store.capability(slot)) {
             return true;
         }
+        at = Some(slot);
     }
-    false
 }

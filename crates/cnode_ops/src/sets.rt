@@ -1,8 +1,12 @@
 //! The slots that a removal takes away.
 
-ghost use Rattle.std.specs.Prelude.{ℕ, ◌≡◌, None, IfSome, true, false};
-ghost use Rattle.cnode_ops.specs.Sets.{set_of};
-ghost use Rattle.model.specs.Capabilities.Slots.{IsFull, IsOpen};
+ghost use Rattle.std.specs.Prelude.{ℕ, ◌≡◌, Some, None, IfSome, true, false, if◌then◌else◌};
+ghost use Rattle.std.specs.Option.{ForSome};
+ghost use Rattle.cnode_ops.specs.Listed.{Lists};
+ghost use Rattle.cnode_ops.specs.Refusals.{goes};
+ghost use Rattle.cnode_ops.specs.Sets.{listed_in, set_of};
+ghost use Rattle.model.specs.Capabilities.Orders.{next_in};
+ghost use Rattle.model.specs.Capabilities.Slots.{IsFull, IsOpen, is_full};
 
 use model::Slot;
 use slots::{SlotStore, is_taken};
@@ -22,6 +26,36 @@ pub(crate) fn is_removed<S: SlotStore>(store: &S, set: Removed, slot: Slot) -> b
     match set {
         Removed::One(only) => slot.number() == only.number(),
         Removed::Below(root) => store.descends(root, slot),
+    }
+}
+
+/// A slot, if it is full.
+fn if_taken<S: SlotStore>(store: &S, slot: Slot) -> Option<Slot>
+    ensures { result ≡ (if is_full (S.slots store.now) slot then Some slot else None) }
+{
+    if is_taken(store, slot) {
+        Some(slot)
+    } else {
+        None
+    }
+}
+
+/// The full slot of these behind another in the store's order, or the first one.
+pub(crate) fn next_removed<S: SlotStore>(
+    store: &S,
+    set: &Removed,
+    previous: Option<Slot>,
+) -> Option<Slot>
+    requires known { ForSome previous (λ slot. goes (S.slots store.now) set.now slot ≡ true) }
+    ensures next { result ≡ next_in (listed_in (S.order store.now) (S.slots store.now) set.now) previous }
+    ensures lists { Lists (listed_in (S.order store.now) (S.slots store.now) set.now) (goes (S.slots store.now) set.now) }
+{
+    match *set {
+        Removed::One(only) => match previous {
+            None => if_taken(store, only),
+            Some(_) => None,
+        },
+        Removed::Below(root) => store.next_below(root, previous),
     }
 }
 
