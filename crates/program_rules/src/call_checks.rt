@@ -15,7 +15,6 @@ ghost use Rattle.program_rules.specs.declared.kept.Kept.TheVariants as kept;
 ghost use Rattle.typestate.specs.Calls.{behind_with};
 ghost use Rattle.typestate.specs.Differences.{changed};
 ghost use Rattle.typestate.specs.Logs.{KeepsParts, Shows, part_of};
-ghost use Rattle.typestate.specs.Spaces.{IsSpace};
 
 use crate::kept::Known;
 use crate::points::Points;
@@ -96,7 +95,6 @@ impl Program<'_, '_> {
         is_next_noted: bool,
         known: &Known,
     ) -> Result<Option<Refusal>, AllocError>
-        requires space { IsSpace self.now.space }
         requires read { IsRead self.now.space.image.now (thread_of self.now) self.now.slots.now points.old.log points.old.kept.items }
         requires within { point < self.now.space.thread.now.header.words }
         requires is { instruction_at self.now.space.thread.now point ≡ Some Ecall }

@@ -14,7 +14,6 @@ ghost use Rattle.program_rules.specs.declared.kept.Kept.TheVariants as kept;
 ghost use Rattle.typestate.specs.Calls.{behind_with, known_with, left_with};
 ghost use Rattle.typestate.specs.Differences.{changed, slots_of};
 ghost use Rattle.typestate.specs.Logs.{Holds, KeepsParts, Shows, part_of};
-ghost use Rattle.typestate.specs.Spaces.{IsSpace};
 ghost use Rattle.typestate.specs.Strays.{NoneStray};
 
 use crate::kept::{Kept, Known};
@@ -94,7 +93,6 @@ impl Program<'_, '_> {
         is_clean: bool,
         made: &mut Vec<NotedSlot>,
     ) -> Result<Option<Result<Behind, Refusal>>, AllocError>
-        requires space { IsSpace self.now.space }
         requires image { slots.now.image.now ≡ self.now.slots.now }
         requires noted { option_map (λ r. r.now) noted ≡ record_of self.now.space.thread.now point }
         requires clean { is_clean ≡ true → NoneStray self.now.space.image.now self.now.space.thread.now (slots_of slots.now) }
@@ -119,7 +117,6 @@ impl Program<'_, '_> {
         log: &SlotLog,
         shown: &ShownPart,
     ) -> bool
-        requires space { IsSpace self.now.space }
         requires noted { option_map (λ r. r.now) noted ≡ record_of self.now.space.thread.now point }
         requires shown { Shows log.now known.now.part shown.now }
         requires clean { IsCleanIn self.now.space.image.now self.now.space.thread.now self.now.slots.now log.now (kept.Known known.now) }
@@ -142,7 +139,6 @@ impl Program<'_, '_> {
         log: &SlotLog,
         shown: &ShownPart,
     ) -> Kept
-        requires space { IsSpace self.now.space }
         requires noted { option_map (λ r. r.now) noted ≡ record_of self.now.space.thread.now point }
         requires sound { IsSound log.now point kept.now }
         requires shown { ShowsKept log.now shown.now kept.now }
@@ -173,7 +169,6 @@ impl Program<'_, '_> {
         log: &mut SlotLog,
         shown: &ShownPart,
     ) -> Result<Kept, AllocError>
-        requires space { IsSpace self.now.space }
         requires noted { option_map (λ r. r.now) noted ≡ record_of self.now.space.thread.now point }
         requires few { point ≤ 65536 }
         requires sound { IsSound log.old point (kept.Known known.now) }
@@ -216,7 +211,6 @@ impl Program<'_, '_> {
         log: &mut SlotLog,
         shown: &ShownPart,
     ) -> Result<Kept, AllocError>
-        requires space { IsSpace self.now.space }
         requires within { point < self.now.space.thread.now.header.words }
         requires noted { option_map (λ r. r.now) noted ≡ record_of self.now.space.thread.now point }
         requires sound { IsSound log.old point kept.now }

@@ -12,7 +12,6 @@ ghost use Rattle.program_rules.specs.PointChecks.{own_rules};
 ghost use Rattle.program_rules.specs.Programs.{thread_of};
 ghost use Rattle.typestate.specs.Calls.{known_with};
 ghost use Rattle.typestate.specs.Differences.{slots_of};
-ghost use Rattle.typestate.specs.Spaces.{IsSpace};
 ghost use Rattle.typestate.specs.Strays.{NoneStray};
 
 use crate::kept::Known;
@@ -55,7 +54,6 @@ impl Program<'_, '_> {
     /// Whether a load or store at a point may reach what the thread may not.
     #[tactic(auto, unfolding(model::specs::Acceptance::PointRules::is_unmapped))]
     fn is_unmapped(&self, instr: Option<Instr>, bounds: &Bounds, slots: &NotedSlots<'_>) -> bool
-        requires space { IsSpace self.now.space }
         requires instr { IfSome instr IsInstr }
         ensures { (measure : NotedMeasure) → result ≡ is_unmapped self.now.space.image.now self.now.space.thread.now (known_with bounds.now (slots_of slots.now) measure) instr }
     {
@@ -82,7 +80,6 @@ impl Program<'_, '_> {
         known: &Known,
         slots: &NotedSlots<'_>,
     ) -> Option<Refusal>
-        requires space { IsSpace self.now.space }
         requires instr { IfSome instr IsInstr }
         requires noted { option_map (λ r. r.now) noted ≡ record_of self.now.space.thread.now point }
         requires image { slots.now.image.now ≡ self.now.slots.now }

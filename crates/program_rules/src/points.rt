@@ -8,7 +8,6 @@ ghost use Rattle.program_rules.specs.Kept.{IsCleanIn, IsRead, IsSound, noted_by}
 ghost use Rattle.program_rules.specs.Programs.{thread_of};
 ghost use Rattle.typestate.specs.Logs.{KeepsParts};
 ghost use Rattle.typestate.specs.Orders.{Rise};
-ghost use Rattle.typestate.specs.Spaces.{IsSpace};
 
 use crate::kept::{Kept, Known};
 use crate::notes::RecordsLeft;
@@ -66,7 +65,6 @@ fn noted_or(
 impl Points {
     /// The points of a program: each has the state of its record, or what the point before leaves. Memory may be refused.
     pub(crate) fn of(program: &Program<'_, '_>) -> Result<Self, AllocError>
-        requires space { IsSpace program.now.space }
         ensures { IfOk result (λ points. IsRead program.now.space.image.now (thread_of program.now) program.now.slots.now points.log points.kept.items) }
     {
         let mut records = RecordsLeft::of(program.space.thread);

@@ -11,7 +11,6 @@ ghost use Rattle.program_rules.specs.Kept.{IsCleanIn, IsRead, IsSound, state_by}
 ghost use Rattle.program_rules.specs.Programs.{thread_of};
 ghost use Rattle.program_rules.specs.declared.kept.Kept.TheVariants as kept;
 ghost use Rattle.typestate.specs.Logs.{KeepsParts, Shows, ShowsSome};
-ghost use Rattle.typestate.specs.Spaces.{IsSpace};
 
 use crate::kept::{Kept, Known};
 use crate::notes::RecordsLeft;
@@ -36,7 +35,6 @@ impl Program<'_, '_> {
         is_next_noted: bool,
         known: &Known,
     ) -> Result<Option<Refusal>, AllocError>
-        requires space { IsSpace self.now.space }
         requires read { IsRead self.now.space.image.now (thread_of self.now) self.now.slots.now points.old.log points.old.kept.items }
         requires within { point < self.now.space.thread.now.header.words }
         requires noted { option_map (λ r. r.now) noted ≡ record_of self.now.space.thread.now point }
@@ -74,7 +72,6 @@ impl Program<'_, '_> {
         noted: Option<&RecordRef<'_>>,
         is_next_noted: bool,
     ) -> Result<Option<Refusal>, AllocError>
-        requires space { IsSpace self.now.space }
         requires read { IsRead self.now.space.image.now (thread_of self.now) self.now.slots.now points.old.log points.old.kept.items }
         requires within { point < self.now.space.thread.now.header.words }
         requires noted { option_map (λ r. r.now) noted ≡ record_of self.now.space.thread.now point }
@@ -95,7 +92,6 @@ impl Program<'_, '_> {
 
     /// What the points break first, in their order. Memory may be refused.
     fn points_rules(&self, points: &mut Points) -> Result<Option<Refusal>, AllocError>
-        requires space { IsSpace self.now.space }
         requires read { IsRead self.now.space.image.now (thread_of self.now) self.now.slots.now points.old.log points.old.kept.items }
         ensures { IfOk result (λ broken. broken ≡ first_broken (flat_map (point_rules self.now.space.image.now (thread_of self.now)) (range_with_len 0 self.now.space.thread.now.header.words))) }
     {
@@ -142,7 +138,6 @@ impl Program<'_, '_> {
     /// refused.
     #[tactic(auto, unfolding(model::specs::Acceptance::PointRules::rules_of_program))]
     pub(crate) fn broken(&self) -> Result<Option<Refusal>, AllocError>
-        requires space { IsSpace self.now.space }
         ensures { IfOk result (λ broken. broken ≡ first_broken (rules_of_program self.now.space.image.now (thread_of self.now))) }
     {
         let mut points = Points::of(self)?;

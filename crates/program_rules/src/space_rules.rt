@@ -9,7 +9,6 @@ ghost use Rattle.model.specs.declared.ranges.Range.{Range};
 ghost use Rattle.program_rules.specs.Programs.{thread_of};
 ghost use Rattle.typestate.specs.Calls.{known_with, left_with};
 ghost use Rattle.typestate.specs.Differences.{slots_of};
-ghost use Rattle.typestate.specs.Spaces.{IsSpace};
 ghost use Rattle.typestate.specs.Strays.{IsTidyBehind, NoneStray};
 
 use crate::programs::Program;
@@ -30,7 +29,6 @@ impl Program<'_, '_> {
         slots: &NotedSlots<'_>,
         is_clean: bool,
     ) -> bool
-        requires space { IsSpace self.now.space }
         requires image { slots.now.image.now ≡ self.now.slots.now }
         requires noted { option_map (λ r. r.now) noted ≡ record_of self.now.space.thread.now point }
         requires clean { is_clean ≡ true → NoneStray self.now.space.image.now self.now.space.thread.now (slots_of slots.now) }
@@ -49,7 +47,6 @@ impl Program<'_, '_> {
         slots: &NotedSlots<'_>,
         made: &mut Vec<NotedSlot>,
     ) -> Result<Result<Behind, Refusal>, AllocError>
-        requires space { IsSpace self.now.space }
         requires image { slots.now.image.now ≡ self.now.slots.now }
         requires own { (measure : Measure) → has_stray_slots self.now.space.image.now self.now.space.thread.now point (known_with bounds.now (slots_of slots.now) measure) ≡ false }
         requires none { made.old.items ≡ [] }
