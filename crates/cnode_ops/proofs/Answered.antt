@@ -12,7 +12,7 @@ use Rattle.model.specs.declared.errors.KError.{KError}
 use Rattle.model.specs.declared.errors.KError.TheVariants.{IllegalOperation, RangeError}
 use Rattle.model.specs.declared.invocations.SlotName.{SlotName}
 use Rattle.cnode_ops.specs.Nodes.{CNodesAreOpen, HasOpenSlots}
-use Rattle.cnode_ops.specs.Outcomes.{Gives}
+use Rattle.model.specs.Kernel.Outcomes.{Gives}
 use Rattle.cap_copies.specs.Copies.{minted_copy_of}
 use Rattle.cnode_ops.specs.Results.{named_slots}
 use Rattle.cnode_ops.proofs.Kept.{nodes-put}

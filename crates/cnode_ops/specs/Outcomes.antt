@@ -1,5 +1,6 @@
 -- What the calls on CNodes answer: as their definitions say of every state with these slots.
 use Rattle.std.specs.Prelude.{ℕ, ◌≡◌, Result, Ok, Err}
+use Rattle.model.specs.Kernel.Outcomes.{Gives}
 use Rattle.model.specs.Capabilities.Slots.{Slots}
 use Rattle.model.specs.Kernel.Arguments.{Call}
 use Rattle.model.specs.Kernel.CNodeCalls.{copy, mint, move, mutate}
@@ -7,11 +8,6 @@ use Rattle.model.specs.Kernel.State.{State, with_slots}
 use Rattle.model.specs.declared.errors.KError.{KError}
 use Rattle.model.specs.declared.invocations.SlotName.{SlotName}
 use Rattle.cnode_ops.specs.declared.named.NodeCall.{NodeCall}
-
--- a call that passes leaves these slots, and one that is refused the error
-abbrev pub Gives : {A : Type 0} → Result State KError → State → Slots → Result A KError → Type 0
-Gives defined s after (Ok x) = defined ≡ Ok (with_slots s after)
-Gives defined s after (Err e) = defined ≡ Err e
 
 -- what a definition gives in every state with these slots, for every call on this CNode from this capability space
 abbrev pub GivesOn : {A : Type 0} → (State → Call → Result State KError) → NodeCall → Slots → Slots → Result A KError → Type 0
@@ -33,8 +29,3 @@ GivesMove on destination source slots after result = GivesOn (λ s call. move s 
 abbrev pub GivesMutate : {A : Type 0} → NodeCall → SlotName → SlotName → ℕ → Slots → Slots → Result A KError → Type 0
 GivesMutate on destination source payload slots after result =
     GivesOn (λ s call. mutate s call destination source payload) on slots after result
-
--- a call that passes leaves this state, and one that is refused the error
-abbrev pub GivesState : {A : Type 0} → Result State KError → Result A KError → State → Type 0
-GivesState defined (Ok x) after = defined ≡ Ok after
-GivesState defined (Err e) after = defined ≡ Err e

@@ -1,7 +1,7 @@
 //! Emptying a whole set of slots.
 
 ghost use Rattle.std.specs.Prelude.{ℕ, ◌≡◌, ◌<◌, OnErr, true, false, slice_index_or};
-ghost use Rattle.cnode_ops.specs.Outcomes.{GivesState};
+ghost use Rattle.model.specs.Kernel.Outcomes.{GivesState};
 ghost use Rattle.cnode_ops.specs.Sets.{set_of};
 ghost use Rattle.model.specs.Capabilities.Slots.{IsOpen};
 ghost use Rattle.model.specs.Kernel.Removal.{SlotSet, delete, emptied, remove, revoke};

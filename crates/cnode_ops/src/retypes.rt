@@ -2,7 +2,7 @@
 
 ghost use Rattle.std.specs.Prelude.{◌≡◌, ◌≤◌, true, OnErr};
 ghost use Rattle.cnode_ops.specs.Nodes.{HasOpenSlots};
-ghost use Rattle.cnode_ops.specs.Outcomes.{GivesState};
+ghost use Rattle.model.specs.Kernel.Outcomes.{GivesState};
 ghost use Rattle.cnode_ops.specs.Placed.{new_type};
 ghost use Rattle.cnode_ops.specs.RetypeChecks.{places};
 ghost use Rattle.model.specs.Capabilities.CapabilityWords.{IsCapability};

@@ -5,7 +5,8 @@ use Rattle.std.proofs.lemmas.Bool.{not-true}
 use Rattle.agreement.proofs.Laws.{follows-law}
 use Rattle.agreement.proofs.Mutated.{mutate-agrees, mutate-closes}
 use Rattle.agreement.proofs.Puts.{copy-agrees, move-agrees, moved-closes, put-closes}
-use Rattle.cnode_ops.specs.Outcomes.{Gives, GivesCopy, GivesMint, GivesMove, GivesMutate, GivesOn, GivesState}
+use Rattle.cnode_ops.specs.Outcomes.{GivesCopy, GivesMint, GivesMove, GivesMutate, GivesOn}
+use Rattle.model.specs.Kernel.Outcomes.{Gives, GivesState}
 use Rattle.cnode_ops.specs.declared.named.NodeCall.{NodeCall}
 use Rattle.agreement.specs.Wholeness.{Agreed, IsWhole}
 use Rattle.invocations.proofs.Standing.{Whole, refused-whole}

@@ -7,7 +7,7 @@ use Rattle.agreement.proofs.Puts.{put-closes, put-named}
 use Rattle.agreement.proofs.Steps.{unmapped-stands, unmapped-state}
 use Rattle.agreement.specs.Agreement.{Agrees}
 use Rattle.agreement.specs.Wholeness.{Agreed, IsWhole}
-use Rattle.cnode_ops.specs.Outcomes.{GivesState}
+use Rattle.model.specs.Kernel.Outcomes.{Gives, GivesState}
 use Rattle.invocations.proofs.Roots.{held-at}
 use Rattle.invocations.proofs.Standing.{Whole}
 use Rattle.model.proofs.Ancestors.{full-open}
@@ -39,7 +39,7 @@ use Rattle.soundness.proofs.Carried.{full-near}
 use Rattle.soundness.proofs.Lookups.{passes-both}
 use Rattle.soundness.proofs.MappingCalls.{frame-sound, invoked-at, table-sound}
 use Rattle.soundness.specs.Calls.{IsCall}
-use Rattle.vspace.specs.Answers.{Gives, GivesMapped}
+use Rattle.vspace.specs.Answers.{GivesMapped}
 use Rattle.vspace.specs.Kept.{IsNamedTable, NamesTable, SameBesideTables}
 use Rattle.vspace.specs.TableAnswers.{GivesTableMapped}
 use Rattle.vspace.specs.Tables.{AreNear, TablesAgree}

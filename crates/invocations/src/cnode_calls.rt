@@ -1,7 +1,7 @@
 //! Calls on CNodes.
 
 ghost use Rattle.std.specs.Prelude.{◌≡◌, OnErr};
-ghost use Rattle.cnode_ops.specs.Outcomes.{GivesState};
+ghost use Rattle.model.specs.Kernel.Outcomes.{GivesState};
 ghost use Rattle.invocations.specs.Calls.{call_of};
 ghost use Rattle.model.specs.Kernel.Invocations.{perform};
 ghost use Rattle.model.specs.declared.invocations.Invocation.TheVariants.{OnCNode};

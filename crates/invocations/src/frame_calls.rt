@@ -1,7 +1,7 @@
 //! Calls on frames.
 
 ghost use Rattle.std.specs.Prelude.{ℕ, ◌≡◌, OnErr, Option};
-ghost use Rattle.cnode_ops.specs.Outcomes.{GivesState};
+ghost use Rattle.model.specs.Kernel.Outcomes.{GivesState};
 ghost use Rattle.invocations.specs.Calls.{AppliesTo, call_of};
 ghost use Rattle.model.specs.Kernel.Invocations.{perform};
 ghost use Rattle.model.specs.declared.capabilities.FrameMapping.{FrameMapping};

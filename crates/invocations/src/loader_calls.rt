@@ -1,7 +1,7 @@
 //! The call that only the loader has.
 
 ghost use Rattle.std.specs.Prelude.{◌≡◌, ◌+◌, ◌<◌, ◌≤◌, OnErr, Some, length};
-ghost use Rattle.cnode_ops.specs.Outcomes.{GivesState};
+ghost use Rattle.model.specs.Kernel.Outcomes.{GivesState};
 ghost use Rattle.invocations.specs.Calls.{call_of};
 ghost use Rattle.model.specs.Capabilities.CapabilityKinds.{thread_of};
 ghost use Rattle.model.specs.Kernel.CallForms.{slot_name, word};

@@ -1,7 +1,7 @@
 //! Performing a call on whatever capability it is made on.
 
 ghost use Rattle.std.specs.Prelude.{◌≡◌, OnErr};
-ghost use Rattle.cnode_ops.specs.Outcomes.{GivesState};
+ghost use Rattle.model.specs.Kernel.Outcomes.{GivesState};
 ghost use Rattle.invocations.specs.Calls.{AppliesTo, call_of};
 ghost use Rattle.model.specs.Kernel.Invocations.{invoke, perform};
 ghost use Rattle.lifecycles.specs.Kernels.{state_in};

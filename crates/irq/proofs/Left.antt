@@ -3,7 +3,7 @@ use Rattle.std.proofs.Common.{ℕ, ◌≡◌, ◌∙◌, false, IsSome, List, Op
 use Rattle.agreement.proofs.Laws.{follows-law}
 use Rattle.agreement.proofs.Puts.{copy-agrees, put-closes}
 use Rattle.agreement.specs.Wholeness.{Agreed, IsWhole}
-use Rattle.cnode_ops.specs.Outcomes.{GivesState}
+use Rattle.model.specs.Kernel.Outcomes.{GivesState}
 use Rattle.model.specs.Capabilities.CapabilityKinds.{frame_mapping}
 use Rattle.model.specs.Capabilities.CapabilityWords.{IsCapability}
 use Rattle.model.specs.Capabilities.Slots.{SameOutside, Slots, capability_at, empty_entry, inserted}

@@ -2,7 +2,7 @@
 
 ghost use Rattle.std.specs.Prelude.{ℕ, ◌≡◌, ◌/◌, ◌<◌, ◌≤◌, IfOk, OnErr, length};
 ghost use Rattle.agreement.specs.Wholeness.{IsWhole};
-ghost use Rattle.cnode_ops.specs.Outcomes.{GivesState};
+ghost use Rattle.model.specs.Kernel.Outcomes.{GivesState};
 ghost use Rattle.irq.specs.Handlers.{bound_source, handler_place, is_handled};
 ghost use Rattle.model.specs.Capabilities.CapabilityKinds.{is_handler_of};
 ghost use Rattle.model.specs.Capabilities.CapabilityWords.{IsCapability};

@@ -1,7 +1,7 @@
 //! Calls from the boot CNode, before threads run.
 
 ghost use Rattle.std.specs.Prelude.{ℕ, ◌≡◌, List, Err, IfErr, IfOk, Ok, OnErr};
-ghost use Rattle.cnode_ops.specs.Outcomes.{GivesState};
+ghost use Rattle.model.specs.Kernel.Outcomes.{GivesState};
 ghost use Rattle.invocations.specs.Calls.{call_of};
 ghost use Rattle.model.specs.Capabilities.CapabilityWords.{IsCapability};
 ghost use Rattle.model.specs.Capabilities.Slots.{Slots};

@@ -1,7 +1,7 @@
 //! All that the kernel keeps: slots and memory, and the tables of objects beside them.
 
 ghost use Rattle.std.specs.Prelude.{ℕ, ◌≡◌, ◌+◌, ◌^◌, ◌≤◌, IfOk, IfSome, OnErr, None, option_and_then, option_map};
-ghost use Rattle.cnode_ops.specs.Outcomes.{GivesState};
+ghost use Rattle.model.specs.Kernel.Outcomes.{GivesState};
 ghost use Rattle.kernel.specs.Setups.{GivesIf, IsPlace, register_in, seen_entry, slot_in, state_in};
 ghost use Rattle.model.specs.Images.Boot.{made};
 ghost use Rattle.model.specs.Images.BootCalls.{loader_call};

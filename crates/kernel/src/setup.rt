@@ -1,7 +1,7 @@
 //! A system that is set up by calls, before its threads run.
 
 ghost use Rattle.std.specs.Prelude.{◌≡◌, ◌+◌, ◌≤◌, IfOk, IfSome, OnErr, option_and_then, option_map};
-ghost use Rattle.cnode_ops.specs.Outcomes.{GivesState};
+ghost use Rattle.model.specs.Kernel.Outcomes.{GivesState};
 ghost use Rattle.kernel.specs.Setups.{GivesIf, IsPlace, register_in, seen_entry, slot_in, state_in};
 ghost use Rattle.model.specs.Images.Boot.{made};
 ghost use Rattle.model.specs.Images.BootCalls.{loader_call};

@@ -3,7 +3,8 @@ use Rattle.std.proofs.Common.{◌≡◌, ◌∙◌, List, [], ◌∷◌, ◌++�
 use Rattle.model.specs.declared.boot_faults.BootFault.{BootFault}
 use Rattle.model.specs.Images.Boot.{made}
 use Rattle.model.specs.Images.BootCalls.{LoaderCall}
-use Rattle.loader.specs.Loading.{Leaves, Progress, ◌>>=◌, called, counted}
+use Rattle.loader.specs.Loading.{Progress, ◌>>=◌, called, counted}
+use Rattle.model.specs.Kernel.Outcomes.{GivesState}
 
 pub bind-bind : (r : Result Progress BootFault) (f g : Progress → Result Progress BootFault) → (r >>= λ q. (f q >>= g)) ≡ ((r >>= f) >>= g)
 bind-bind (Ok p) f g = refl
@@ -34,10 +35,10 @@ done before total p none so_far = so_far ∙ ap (called p) none
 -- ---- what a function answers
 
 pub leaves-more : {A : Type 0} (cs behind : List LoaderCall) (p p1 q : Progress) (r : Result A BootFault) → called p cs ≡ Ok p1
-    → Leaves (called p1 behind) r q → Leaves (called p (cs ++ behind)) r q
+    → GivesState (called p1 behind) r q → GivesState (called p (cs ++ behind)) r q
 leaves-more cs behind p p1 q r passed left =
     let whole : called p (cs ++ behind) ≡ called p1 behind = called-append p cs behind ∙ ap (λ (d : Result Progress BootFault). d >>= λ q. called q behind) passed in
-    subst (λ (d : Result Progress BootFault). Leaves d r q) (sym whole) left
+    subst (λ (d : Result Progress BootFault). GivesState d r q) (sym whole) left
 
 pub calls-fail : (cs behind : List LoaderCall) (p : Progress) (fault : BootFault) → called p cs ≡ Err fault → called p (cs ++ behind) ≡ Err fault
 calls-fail cs behind p fault failed = called-append p cs behind ∙ ap (λ (d : Result Progress BootFault). d >>= λ q. called q behind) failed

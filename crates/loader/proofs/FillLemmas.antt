@@ -18,7 +18,8 @@ use Rattle.model.specs.Kernel.Setup.{fill, is_frame_object, with_first_bytes}
 use Rattle.model.specs.Kernel.State.{Object, State}
 use Rattle.loader.specs.Filling.{page_count, page_filled, pages_filled, pages_from}
 use Rattle.loader.proofs.Rests.{numbers-next, numbers-none}
-use Rattle.loader.specs.Loading.{Leaves, Progress, ◌>>=◌, all_performed, performed, placed}
+use Rattle.loader.specs.Loading.{Progress, ◌>>=◌, all_performed, performed, placed}
+use Rattle.model.specs.Kernel.Outcomes.{GivesState}
 
 -- ---- one fill
 
@@ -160,8 +161,8 @@ pages-first t =
 
 pub page-leaves : {A : Type 0} (image : Image) (t : Thread) (s : State) (page : ℕ) (f : FrameEntry) (a b place : ℕ) (program bytes : List ℕ) (h : ThreadHeader) (number calls : ℕ)
     (r : Result A BootFault) (q : Progress) → h ≡ t.header → a ≡ h.base → b ≡ page * page_size → Some f ≡ frame_at image h.root (a + b) → place ≡ offset_of image f.frame
-    → bytes ≡ take page_size (drop (page * page_size) program) → program ≡ bytes_of t.words → Leaves (placed number calls (fill s place bytes)) r q
-    → Leaves (placed number calls (page_filled image t s (t.header.base + page * page_size))) r q
+    → bytes ≡ take page_size (drop (page * page_size) program) → program ≡ bytes_of t.words → GivesState (placed number calls (fill s place bytes)) r q
+    → GivesState (placed number calls (page_filled image t s (t.header.base + page * page_size))) r q
 page-leaves image t s page f a b place program bytes h number calls r q header base offset found at cut words left =
     let base_is : a ≡ t.header.base = base ∙ ap (λ (h : ThreadHeader). h.base) header in
     let frame : frame_at image t.header.root (t.header.base + page * page_size) ≡ Some f =
@@ -170,4 +171,4 @@ page-leaves image t s page f a b place program bytes h number calls r q header b
     let same : fill s place bytes ≡ page_filled image t s (t.header.base + page * page_size) =
     ap (λ (n : ℕ). fill s n bytes) at ∙ ap (λ (xs : List ℕ). fill s (offset_of image f.frame) xs) (cut ∙ ap (λ (xs : List ℕ). take page_size (drop (page * page_size) xs)) words)
     ∙ sym (page-there image t s (page * page_size) f frame) in
-    subst (λ (o : Option State). Leaves (placed number calls o) r q) same left
+    subst (λ (o : Option State). GivesState (placed number calls o) r q) same left

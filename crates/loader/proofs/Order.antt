@@ -9,7 +9,8 @@ use Rattle.model.specs.Images.BootCalls.{LoaderCall, Operation, PutsUntyped, Put
 use Rattle.model.specs.Images.Image.{Image}
 use Rattle.model.specs.Kernel.Setup.{boot_area, put_control, put_untyped}
 use Rattle.model.specs.Kernel.State.{State}
-use Rattle.loader.specs.Loading.{Leaves, Progress, ◌>>=◌, all_performed, called, counted, performed, placed}
+use Rattle.loader.specs.Loading.{Progress, ◌>>=◌, all_performed, called, counted, performed, placed}
+use Rattle.model.specs.Kernel.Outcomes.{GivesState}
 use Rattle.loader.proofs.Calls.{bind-bind}
 
 abbrev pub state_after : Result Progress BootFault → Result State BootFault
@@ -73,9 +74,9 @@ pub first-failed : (untypeds : ℕ) (xs ys : List Operation) (p : Progress) (fau
 first-failed untypeds xs ys p fault failed = then-failed untypeds xs ys _ p fault refl failed
 
 pub second-leaves : {A : Type 0} (untypeds : ℕ) (xs ys : List Operation) (p p1 q : Progress) (r : Result A BootFault) → all_performed untypeds p xs ≡ Ok p1
-    → Leaves (all_performed untypeds p1 ys) r q → Leaves (all_performed untypeds p (xs ++ ys)) r q
+    → GivesState (all_performed untypeds p1 ys) r q → GivesState (all_performed untypeds p (xs ++ ys)) r q
 second-leaves untypeds xs ys p p1 q r first second =
-    subst (λ (d : Result Progress BootFault). Leaves d r q) (sym (then-done untypeds xs ys _ p p1 refl first)) second
+    subst (λ (d : Result Progress BootFault). GivesState d r q) (sym (then-done untypeds xs ys _ p p1 refl first)) second
 
 -- ---- the whole
 

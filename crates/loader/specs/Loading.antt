@@ -63,8 +63,3 @@ performed untypeds p (Fills number fills) = placed number p.calls (option_and_th
 abbrev pub all_performed : ℕ → Progress → List Operation → Result Progress BootFault
 all_performed untypeds p [] = Ok p
 all_performed untypeds p (o ∷ later) = performed untypeds p o >>= λ q. all_performed untypeds q later
-
--- what a function of the loader answers and leaves
-abbrev pub Leaves : {A : Type 0} → Result Progress BootFault → Result A BootFault → Progress → Type 0
-Leaves defined (Ok x) after = defined ≡ Ok after
-Leaves defined (Err fault) after = defined ≡ Err fault

@@ -4,7 +4,8 @@ ghost use Rattle.std.specs.Prelude.{◌≡◌, ◌+◌, ◌*◌, ◌%◌, ◌^�
 ghost use Rattle.kernel.specs.Setups.{state_in};
 ghost use Rattle.loader.specs.Filling.{ArePlaces, page_filled, pages_filled};
 ghost use Rattle.loader.specs.Limits.{ContentFits, IsLimited, ThreadFits};
-ghost use Rattle.loader.specs.Loading.{Leaves, all_performed, performed, placed, progress_of};
+ghost use Rattle.loader.specs.Loading.{all_performed, performed, placed, progress_of};
+ghost use Rattle.model.specs.Kernel.Outcomes.{GivesState};
 ghost use Rattle.model.specs.Images.BootCalls.{content_operation, program_operation};
 ghost use Rattle.model.specs.Images.Described.{numbered_threads};
 ghost use Rattle.model.specs.Images.Fills.{frame_at, program_pages};
@@ -29,7 +30,7 @@ impl Loader {
     ) -> Result<(), BootFault>
         requires limits { IsLimited image.now }
         requires places { ArePlaces image.now image.now.header.objects places.now }
-        ensures outcome { Leaves (all_performed image.now.header.untypeds (progress_of self.old) (map (content_operation image.now) image.now.contents)) result (progress_of self.new) }
+        ensures outcome { GivesState (all_performed image.now.header.untypeds (progress_of self.old) (map (content_operation image.now) image.now.contents)) result (progress_of self.new) }
         ensures counted { self.new.calls ≡ self.old.calls }
     {
         for content in image.contents() {
@@ -47,7 +48,7 @@ impl Loader {
     ) -> Result<(), BootFault>
         requires fits { ContentFits image.now.header content.now }
         requires places { ArePlaces image.now image.now.header.objects places.now }
-        ensures outcome { Leaves (performed image.now.header.untypeds (progress_of self.old) (content_operation image.now content.now)) result (progress_of self.new) }
+        ensures outcome { GivesState (performed image.now.header.untypeds (progress_of self.old) (content_operation image.now content.now)) result (progress_of self.new) }
         ensures counted { self.new.calls ≡ self.old.calls }
     {
         let frame = content.header().frame;
@@ -65,7 +66,7 @@ impl Loader {
     ) -> Result<(), BootFault>
         requires limits { IsLimited image.now }
         requires places { ArePlaces image.now image.now.header.objects places.now }
-        ensures outcome { Leaves (all_performed image.now.header.untypeds (progress_of self.old) (map (program_operation image.now) (numbered_threads image.now))) result (progress_of self.new) }
+        ensures outcome { GivesState (all_performed image.now.header.untypeds (progress_of self.old) (map (program_operation image.now) (numbered_threads image.now))) result (progress_of self.new) }
         ensures counted { self.new.calls ≡ self.old.calls }
     {
         let mut number = 0;
@@ -87,7 +88,7 @@ impl Loader {
         requires limits { IsLimited image.now }
         requires fits { ThreadFits image.now.header thread.now }
         requires places { ArePlaces image.now image.now.header.objects places.now }
-        ensures outcome { Leaves (performed image.now.header.untypeds (progress_of self.old) (program_operation image.now (record { number = number; thread = thread.now }))) result (progress_of self.new) }
+        ensures outcome { GivesState (performed image.now.header.untypeds (progress_of self.old) (program_operation image.now (record { number = number; thread = thread.now }))) result (progress_of self.new) }
         ensures counted { self.new.calls ≡ self.old.calls }
     {
         let header = thread.header();
@@ -112,7 +113,7 @@ impl Loader {
         requires limits { IsLimited image.now }
         requires fits { ThreadFits image.now.header thread.now }
         requires places { ArePlaces image.now image.now.header.objects places.now }
-        ensures outcome { Leaves (placed number self.old.calls (pages_filled image.now thread.now (state_in self.old.setup) (program_pages thread.now))) result (progress_of self.new) }
+        ensures outcome { GivesState (placed number self.old.calls (pages_filled image.now thread.now (state_in self.old.setup) (program_pages thread.now))) result (progress_of self.new) }
         ensures counted { self.new.calls ≡ self.old.calls }
     {
         let pages = (4 * thread.header().words + (PAGE - 1)) / PAGE;
@@ -134,7 +135,7 @@ impl Loader {
         requires limits { IsLimited image.now }
         requires places { ArePlaces image.now image.now.header.objects places.now }
         requires page { page ≤ 64 }
-        ensures outcome { Leaves (placed number self.old.calls (page_filled image.now thread.now (state_in self.old.setup) (thread.now.header.base + page * page_size))) result (progress_of self.new) }
+        ensures outcome { GivesState (placed number self.old.calls (page_filled image.now thread.now (state_in self.old.setup) (thread.now.header.base + page * page_size))) result (progress_of self.new) }
         ensures counted { self.new.calls ≡ self.old.calls }
     {
         let header = thread.header();
@@ -150,7 +151,7 @@ impl Loader {
 
     /// Puts bytes into the frame at a place. What is not there is told by a number.
     fn fill(&mut self, number: u32, place: u64, bytes: &[u8]) -> Result<(), BootFault>
-        ensures outcome { Leaves (placed number self.old.calls (fill (state_in self.old.setup) place bytes.now)) result (progress_of self.new) }
+        ensures outcome { GivesState (placed number self.old.calls (fill (state_in self.old.setup) place bytes.now)) result (progress_of self.new) }
         ensures counted { self.new.calls ≡ self.old.calls }
     {
         if self.is_outside(place) {

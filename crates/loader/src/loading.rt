@@ -3,7 +3,8 @@
 ghost use Rattle.std.specs.Prelude.{ℕ, ◌≡◌, ◌+◌, ◌-◌, ◌≤◌, ◌<◌, ◌^◌, ◌∷◌, ◌++◌, [], map, flat_map, length};
 ghost use Rattle.std.specs.List.{range_with_len};
 ghost use Rattle.loader.specs.Limits.{CapabilityFits, FrameFits, InterruptFits, IsLimited, TableFits, ThreadFits};
-ghost use Rattle.loader.specs.Loading.{Leaves, called, first_thread_calls, progress_of, register_call};
+ghost use Rattle.loader.specs.Loading.{called, first_thread_calls, progress_of, register_call};
+ghost use Rattle.model.specs.Kernel.Outcomes.{GivesState};
 ghost use Rattle.model.specs.Images.BootCalls.{capability_call, frame_calls, interrupt_call, loader_call, object_call, signal_calls, table_call, thread_calls};
 ghost use Rattle.model.specs.Images.Described.{numbered};
 ghost use Rattle.model.specs.Kernel.CallForms.{resume_label};
@@ -47,7 +48,7 @@ impl Loader {
     /// Makes a call. A refusal is told by its number.
     pub(crate) fn call(&mut self, cap: u32, label: u32, words: &[u32]) -> Result<(), BootFault>
         requires { self.old.calls ≤ 2 ^ 30 }
-        ensures outcome { Leaves (called (progress_of self.old) (loader_call cap label words.now ∷ [])) result (progress_of self.new) }
+        ensures outcome { GivesState (called (progress_of self.old) (loader_call cap label words.now ∷ [])) result (progress_of self.new) }
         ensures counted { self.new.calls ≤ self.old.calls + 1 }
     {
         match self.setup.call(cap, label, words) {
@@ -63,7 +64,7 @@ impl Loader {
     pub(crate) fn make_objects(&mut self, image: &ImageRef<'_>) -> Result<(), BootFault>
         requires limits { IsLimited image.now }
         requires room { self.old.calls ≤ 2 ^ 29 }
-        ensures outcome { Leaves (called (progress_of self.old) (map (object_call image.now) (range_with_len 0 image.now.header.objects))) result (progress_of self.new) }
+        ensures outcome { GivesState (called (progress_of self.old) (map (object_call image.now) (range_with_len 0 image.now.header.objects))) result (progress_of self.new) }
         ensures counted { self.new.calls ≤ self.old.calls + 4096 }
     {
         for number in 0..image.header().objects {
@@ -77,7 +78,7 @@ impl Loader {
         requires limits { IsLimited image.now }
         requires number { number < image.now.header.objects }
         requires room { self.old.calls ≤ 2 ^ 30 }
-        ensures outcome { Leaves (called (progress_of self.old) (object_call image.now number ∷ [])) result (progress_of self.new) }
+        ensures outcome { GivesState (called (progress_of self.old) (object_call image.now number ∷ [])) result (progress_of self.new) }
         ensures counted { self.new.calls ≤ self.old.calls + 1 }
     {
         let object = image.object(number);
@@ -90,7 +91,7 @@ impl Loader {
     pub(crate) fn take_handlers(&mut self, image: &ImageRef<'_>) -> Result<(), BootFault>
         requires limits { IsLimited image.now }
         requires room { self.old.calls ≤ 2 ^ 29 }
-        ensures outcome { Leaves (called (progress_of self.old) (map (interrupt_call image.now) (numbered image.now.interrupts))) result (progress_of self.new) }
+        ensures outcome { GivesState (called (progress_of self.old) (map (interrupt_call image.now) (numbered image.now.interrupts))) result (progress_of self.new) }
         ensures counted { self.new.calls ≤ self.old.calls + 64 }
     {
         for number in 0..image.header().interrupts {
@@ -110,7 +111,7 @@ impl Loader {
         requires limits { IsLimited image.now }
         requires number { number < image.now.header.interrupts }
         requires room { self.old.calls ≤ 2 ^ 30 }
-        ensures outcome { Leaves (called (progress_of self.old) (interrupt_call image.now (number, entry) ∷ [])) result (progress_of self.new) }
+        ensures outcome { GivesState (called (progress_of self.old) (interrupt_call image.now (number, entry) ∷ [])) result (progress_of self.new) }
         ensures counted { self.new.calls ≤ self.old.calls + 1 }
     {
         let words = [entry.line, handler_slot(image, number), DEPTH];
@@ -121,7 +122,7 @@ impl Loader {
     pub(crate) fn put_capabilities(&mut self, image: &ImageRef<'_>) -> Result<(), BootFault>
         requires limits { IsLimited image.now }
         requires room { self.old.calls ≤ 2 ^ 29 }
-        ensures outcome { Leaves (called (progress_of self.old) (map (capability_call image.now) image.now.capabilities)) result (progress_of self.new) }
+        ensures outcome { GivesState (called (progress_of self.old) (map (capability_call image.now) image.now.capabilities)) result (progress_of self.new) }
         ensures counted { self.new.calls ≤ self.old.calls + 16384 }
     {
         for number in 0..image.header().capabilities {
@@ -140,7 +141,7 @@ impl Loader {
         requires limits { IsLimited image.now }
         requires fits { CapabilityFits image.now.header entry }
         requires room { self.old.calls ≤ 2 ^ 30 }
-        ensures outcome { Leaves (called (progress_of self.old) (capability_call image.now entry ∷ [])) result (progress_of self.new) }
+        ensures outcome { GivesState (called (progress_of self.old) (capability_call image.now entry ∷ [])) result (progress_of self.new) }
         ensures counted { self.new.calls ≤ self.old.calls + 1 }
     {
         let cnode = image.object(entry.cnode);
@@ -166,7 +167,7 @@ impl Loader {
     pub(crate) fn map_tables(&mut self, image: &ImageRef<'_>) -> Result<(), BootFault>
         requires limits { IsLimited image.now }
         requires room { self.old.calls ≤ 2 ^ 29 }
-        ensures outcome { Leaves (called (progress_of self.old) (map (table_call image.now) image.now.tables)) result (progress_of self.new) }
+        ensures outcome { GivesState (called (progress_of self.old) (map (table_call image.now) image.now.tables)) result (progress_of self.new) }
         ensures counted { self.new.calls ≤ self.old.calls + 1024 }
     {
         for number in 0..image.header().tables {
@@ -181,7 +182,7 @@ impl Loader {
         requires limits { IsLimited image.now }
         requires fits { TableFits image.now.header entry }
         requires room { self.old.calls ≤ 2 ^ 30 }
-        ensures outcome { Leaves (called (progress_of self.old) (table_call image.now entry ∷ [])) result (progress_of self.new) }
+        ensures outcome { GivesState (called (progress_of self.old) (table_call image.now entry ∷ [])) result (progress_of self.new) }
         ensures counted { self.new.calls ≤ self.old.calls + 1 }
     {
         let words = [original_slot(image, entry.root), DEPTH, entry.address];
@@ -192,7 +193,7 @@ impl Loader {
     pub(crate) fn map_frames(&mut self, image: &ImageRef<'_>) -> Result<(), BootFault>
         requires limits { IsLimited image.now }
         requires room { self.old.calls ≤ 2 ^ 29 }
-        ensures outcome { Leaves (called (progress_of self.old) (flat_map (frame_calls image.now) (numbered image.now.frames))) result (progress_of self.new) }
+        ensures outcome { GivesState (called (progress_of self.old) (flat_map (frame_calls image.now) (numbered image.now.frames))) result (progress_of self.new) }
         ensures counted { self.new.calls ≤ self.old.calls + 8192 }
     {
         for number in 0..image.header().frames {
@@ -213,7 +214,7 @@ impl Loader {
         requires fits { FrameFits image.now.header entry }
         requires number { number < image.now.header.frames }
         requires room { self.old.calls ≤ 2 ^ 30 - 1 }
-        ensures outcome { Leaves (called (progress_of self.old) (frame_calls image.now (number, entry))) result (progress_of self.new) }
+        ensures outcome { GivesState (called (progress_of self.old) (frame_calls image.now (number, entry))) result (progress_of self.new) }
         ensures counted { self.new.calls ≤ self.old.calls + 2 }
     {
         let copy = frame_copy_slot(image, number);
@@ -231,7 +232,7 @@ impl Loader {
     pub(crate) fn bind_interrupts(&mut self, image: &ImageRef<'_>) -> Result<(), BootFault>
         requires limits { IsLimited image.now }
         requires room { self.old.calls ≤ 2 ^ 29 }
-        ensures outcome { Leaves (called (progress_of self.old) (flat_map (signal_calls image.now) (numbered image.now.interrupts))) result (progress_of self.new) }
+        ensures outcome { GivesState (called (progress_of self.old) (flat_map (signal_calls image.now) (numbered image.now.interrupts))) result (progress_of self.new) }
         ensures counted { self.new.calls ≤ self.old.calls + 128 }
     {
         for number in 0..image.header().interrupts {
@@ -252,7 +253,7 @@ impl Loader {
         requires fits { InterruptFits image.now.header entry }
         requires number { number < image.now.header.interrupts }
         requires room { self.old.calls ≤ 2 ^ 30 - 1 }
-        ensures outcome { Leaves (called (progress_of self.old) (signal_calls image.now (number, entry))) result (progress_of self.new) }
+        ensures outcome { GivesState (called (progress_of self.old) (signal_calls image.now (number, entry))) result (progress_of self.new) }
         ensures counted { self.new.calls ≤ self.old.calls + 2 }
     {
         let copy = notification_copy_slot(image, number);
@@ -277,7 +278,7 @@ impl Loader {
     pub(crate) fn start_threads(&mut self, image: &ImageRef<'_>) -> Result<(), BootFault>
         requires limits { IsLimited image.now }
         requires room { self.old.calls ≤ 2 ^ 29 }
-        ensures outcome { Leaves (called (progress_of self.old) (flat_map (thread_calls image.now) image.now.threads)) result (progress_of self.new) }
+        ensures outcome { GivesState (called (progress_of self.old) (flat_map (thread_calls image.now) image.now.threads)) result (progress_of self.new) }
         ensures counted { self.new.calls ≤ self.old.calls + 2240 }
     {
         for thread in image.threads() {
@@ -295,7 +296,7 @@ impl Loader {
         requires limits { IsLimited image.now }
         requires fits { ThreadFits image.now.header thread.now }
         requires room { self.old.calls ≤ 2 ^ 30 - 40 }
-        ensures outcome { Leaves (called (progress_of self.old) (thread_calls image.now thread.now)) result (progress_of self.new) }
+        ensures outcome { GivesState (called (progress_of self.old) (thread_calls image.now thread.now)) result (progress_of self.new) }
         ensures counted { self.new.calls ≤ self.old.calls + 35 }
     {
         let header = thread.header();
@@ -315,7 +316,7 @@ impl Loader {
         header: &ThreadHeader,
     ) -> Result<(), BootFault>
         requires room { self.old.calls ≤ 2 ^ 30 - 40 }
-        ensures outcome { Leaves (called (progress_of self.old) (first_thread_calls tcb cspace vspace header.now)) result (progress_of self.new) }
+        ensures outcome { GivesState (called (progress_of self.old) (first_thread_calls tcb cspace vspace header.now)) result (progress_of self.new) }
         ensures counted { self.new.calls ≤ self.old.calls + 3 }
     {
         let words = [header.fault, cspace, DEPTH, vspace, DEPTH, header.guard];
@@ -328,7 +329,7 @@ impl Loader {
     fn resume(&mut self, tcb: u32, thread: &ThreadRef<'_>) -> Result<(), BootFault>
         requires few { length thread.now.registers ≤ 31 }
         requires room { self.old.calls ≤ 2 ^ 30 - 36 }
-        ensures outcome { Leaves (called (progress_of self.old) (map (register_call tcb) thread.now.registers ++ loader_call tcb resume_label [] ∷ [])) result (progress_of self.new) }
+        ensures outcome { GivesState (called (progress_of self.old) (map (register_call tcb) thread.now.registers ++ loader_call tcb resume_label [] ∷ [])) result (progress_of self.new) }
         ensures counted { self.new.calls ≤ self.old.calls + 32 }
     {
         self.set_registers(tcb, thread)?;
@@ -339,7 +340,7 @@ impl Loader {
     fn set_registers(&mut self, tcb: u32, thread: &ThreadRef<'_>) -> Result<(), BootFault>
         requires few { length thread.now.registers ≤ 31 }
         requires room { self.old.calls ≤ 2 ^ 30 - 36 }
-        ensures outcome { Leaves (called (progress_of self.old) (map (register_call tcb) thread.now.registers)) result (progress_of self.new) }
+        ensures outcome { GivesState (called (progress_of self.old) (map (register_call tcb) thread.now.registers)) result (progress_of self.new) }
         ensures counted { self.new.calls ≤ self.old.calls + 31 }
     {
         for entry in thread.registers() {

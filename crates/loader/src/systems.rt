@@ -5,7 +5,8 @@ ghost use Rattle.booting.specs.Standing.{StandApart};
 ghost use Rattle.kernel.specs.Setups.{state_in};
 ghost use Rattle.loader.specs.Filling.{ArePlaces};
 ghost use Rattle.loader.specs.Limits.{IsLimited};
-ghost use Rattle.loader.specs.Loading.{Leaves, all_performed, called, performed, placed, progress_of};
+ghost use Rattle.loader.specs.Loading.{all_performed, called, performed, placed, progress_of};
+ghost use Rattle.model.specs.Kernel.Outcomes.{GivesState};
 ghost use Rattle.model.specs.Acceptance.Accepted.{IsWellFormed};
 ghost use Rattle.model.specs.Images.Boot.{booted};
 ghost use Rattle.model.specs.Images.BootCalls.{PutsControl, PutsUntyped, first_calls, last_calls, operations};
@@ -86,7 +87,7 @@ impl Loader {
         requires limits { IsLimited image.now }
         requires places { ArePlaces image.now image.now.header.objects places.now }
         requires first { self.old.calls ≡ 0 }
-        ensures { Leaves (all_performed image.now.header.untypeds (progress_of self.old) (operations image.now)) result (progress_of self.new) }
+        ensures { GivesState (all_performed image.now.header.untypeds (progress_of self.old) (operations image.now)) result (progress_of self.new) }
     {
         self.put_untypeds(image)?;
         self.put_control(image)?;
@@ -99,7 +100,7 @@ impl Loader {
     /// Puts the untyped memory into its boot slots.
     fn put_untypeds(&mut self, image: &ImageRef<'_>) -> Result<(), BootFault>
         requires limits { IsLimited image.now }
-        ensures outcome { Leaves (all_performed image.now.header.untypeds (progress_of self.old) (map (λ u. PutsUntyped u.0 u.1) (numbered image.now.untypeds))) result (progress_of self.new) }
+        ensures outcome { GivesState (all_performed image.now.header.untypeds (progress_of self.old) (map (λ u. PutsUntyped u.0 u.1) (numbered image.now.untypeds))) result (progress_of self.new) }
         ensures counted { self.new.calls ≡ self.old.calls }
     {
         for number in 0..image.header().untypeds {
@@ -112,7 +113,7 @@ impl Loader {
     /// Puts untyped memory into its boot slot.
     fn put_untyped(&mut self, number: u32, entry: UntypedEntry) -> Result<(), BootFault>
         requires { entry.bits ≤ 24 }
-        ensures outcome { Leaves (placed number self.old.calls (put_untyped (state_in self.old.setup) number entry.offset entry.bits)) result (progress_of self.new) }
+        ensures outcome { GivesState (placed number self.old.calls (put_untyped (state_in self.old.setup) number entry.offset entry.bits)) result (progress_of self.new) }
         ensures counted { self.new.calls ≡ self.old.calls }
     {
         if self.setup.untyped(number, entry.offset, entry.bits as u8) {
@@ -125,7 +126,7 @@ impl Loader {
     /// Puts interrupt control into its boot slot.
     fn put_control(&mut self, image: &ImageRef<'_>) -> Result<(), BootFault>
         requires limits { IsLimited image.now }
-        ensures outcome { Leaves (performed image.now.header.untypeds (progress_of self.old) (PutsControl (control_slot image.now))) result (progress_of self.new) }
+        ensures outcome { GivesState (performed image.now.header.untypeds (progress_of self.old) (PutsControl (control_slot image.now))) result (progress_of self.new) }
         ensures counted { self.new.calls ≡ self.old.calls }
     {
         if self.setup.control(control_slot(image)) {
@@ -139,7 +140,7 @@ impl Loader {
     fn make_first_calls(&mut self, image: &ImageRef<'_>) -> Result<(), BootFault>
         requires limits { IsLimited image.now }
         requires room { self.old.calls ≡ 0 }
-        ensures outcome { Leaves (called (progress_of self.old) (first_calls image.now)) result (progress_of self.new) }
+        ensures outcome { GivesState (called (progress_of self.old) (first_calls image.now)) result (progress_of self.new) }
         ensures counted { self.new.calls ≤ self.old.calls + 2 ^ 15 }
     {
         self.make_objects(image)?;
@@ -153,7 +154,7 @@ impl Loader {
     fn make_last_calls(&mut self, image: &ImageRef<'_>) -> Result<(), BootFault>
         requires limits { IsLimited image.now }
         requires room { self.old.calls ≤ 2 ^ 16 }
-        ensures { Leaves (called (progress_of self.old) (last_calls image.now)) result (progress_of self.new) }
+        ensures { GivesState (called (progress_of self.old) (last_calls image.now)) result (progress_of self.new) }
     {
         self.bind_interrupts(image)?;
         self.start_threads(image)

@@ -20,3 +20,4 @@ pub mod Setup
 pub mod Soundness
 pub mod Steps
 pub mod Waits
+pub mod Outcomes

@@ -2,7 +2,7 @@
 
 ghost use Rattle.std.specs.Prelude.{◌≡◌, ◌+◌, ◌/◌, ◌^◌, ◌<◌, OnErr, Some};
 ghost use Rattle.agreement.specs.Agreement.{Agrees};
-ghost use Rattle.cnode_ops.specs.Outcomes.{GivesState};
+ghost use Rattle.model.specs.Kernel.Outcomes.{GivesState};
 ghost use Rattle.model.specs.Capabilities.CapabilityWords.{IsCapability};
 ghost use Rattle.model.specs.Capabilities.Slots.{SameOutside};
 ghost use Rattle.model.specs.Kernel.Kinds.{kind_at};

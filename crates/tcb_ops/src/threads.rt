@@ -1,7 +1,7 @@
 //! Priorities and registers of threads, and threads that stop and go on.
 
 ghost use Rattle.std.specs.Prelude.{ℕ, ◌≡◌, ◌==◌, ◌≤◌, OnErr, Some, if◌then◌else◌};
-ghost use Rattle.cnode_ops.specs.Outcomes.{GivesState};
+ghost use Rattle.model.specs.Kernel.Outcomes.{GivesState};
 ghost use Rattle.model.specs.Kernel.Kinds.{kind_at};
 ghost use Rattle.model.specs.Kernel.Messages.{register};
 ghost use Rattle.model.specs.Kernel.Retype.{NewThread};

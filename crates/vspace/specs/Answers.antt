@@ -1,5 +1,6 @@
 -- What the calls on mappings answer: as the definitions of the invocations say of every state with these slots.
 use Rattle.std.specs.Prelude.{ℕ, ◌≡◌, ◌==◌, ◌+◌, ◌*◌, ◌/◌, ◌%◌, ◌^◌, ◌⊎◌, false, nat_lt, Option, Some, None, Result, Ok, Err}
+use Rattle.model.specs.Kernel.Outcomes.{Gives}
 use Rattle.model.specs.Kernel.AddressSpaces.{address_limit, maps_page, maps_region, page_size}
 use Rattle.model.specs.Kernel.Arguments.{◌>>=◌, check}
 use Rattle.model.specs.Capabilities.CapabilityWords.{IsFrameMapping}
@@ -16,11 +17,6 @@ use Rattle.model.specs.declared.errors.KError.TheVariants.{AlignmentError, Delet
 use Rattle.model.specs.declared.invocations.SlotName.{SlotName}
 use Rattle.model.specs.declared.rights.Rights.{Rights}
 use Rattle.vspace.specs.Tables.{AreNear, MapsFrame, MapsTable}
-
--- a call that passes leaves these slots, and one that is refused the error
-abbrev pub Gives : {A : Type 0} → Result State KError → State → Slots → Result A KError → Type 0
-Gives defined s after (Ok x) = defined ≡ Ok (with_slots s after)
-Gives defined s after (Err e) = defined ≡ Err e
 
 -- the entry of a page that nothing maps, in the page table of its region
 pub record FreeEntry (slots : Slots) (root page place : ℕ) : Type 0 where

@@ -14,7 +14,8 @@ use Rattle.model.specs.declared.capabilities.TableMapping.{TableMapping}
 use Rattle.model.specs.declared.errors.KError.{KError}
 use Rattle.model.specs.declared.errors.KError.TheVariants.{AlignmentError, DeleteFirst, InvalidArgument}
 use Rattle.model.specs.declared.invocations.SlotName.{SlotName}
-use Rattle.vspace.specs.Answers.{Gives, IsRegionFree}
+use Rattle.vspace.specs.Answers.{IsRegionFree}
+use Rattle.model.specs.Kernel.Outcomes.{Gives}
 use Rattle.vspace.specs.Tables.{AreNear, Holds, MapsTable}
 
 -- the region of an address that can be mapped

@@ -1,6 +1,6 @@
 -- What each call leaves is what its definition says, and whole.
 use Rattle.std.proofs.Common.{refl, subst, sym}
-use Rattle.cnode_ops.specs.Outcomes.{GivesState}
+use Rattle.model.specs.Kernel.Outcomes.{GivesState}
 use Rattle.invocations.proofs.Lent.{asked, given}
 use Rattle.invocations.proofs.CNodeSteps.{copy-made, mint-made, move-made, mutate-made}
 use Rattle.invocations.proofs.Roots.{may-call}

@@ -1,6 +1,6 @@
 -- The checks, and then Configure with the sixth word.
 use Rattle.std.proofs.Common.{◌∙◌, Result, subst, sym}
-use Rattle.cnode_ops.specs.Outcomes.{GivesState}
+use Rattle.model.specs.Kernel.Outcomes.{GivesState}
 use Rattle.invocations.proofs.Guarded.{guarded-long, guarded-none, guarded-short, tcb-of}
 use Rattle.invocations.proofs.loader_calls.configure_with_guard.Goals as goal
 use Rattle.invocations.specs.Calls.{call_of}

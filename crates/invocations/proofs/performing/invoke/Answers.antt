@@ -1,6 +1,6 @@
 -- A message is decoded, and its call performed.
 use Rattle.std.proofs.Common.{◌∙◌, Result, ap, subst, sym}
-use Rattle.cnode_ops.specs.Outcomes.{GivesState}
+use Rattle.model.specs.Kernel.Outcomes.{GivesState}
 use Rattle.invocations.proofs.Decoding.{decoded-applies, invoked-by}
 use Rattle.invocations.proofs.performing.invoke.Goals as goal
 use Rattle.invocations.specs.Calls.{call_of}

@@ -1,6 +1,6 @@
 -- Each kind of capability has its own function.
 use Rattle.std.proofs.Common.{subst, sym}
-use Rattle.cnode_ops.specs.Outcomes.{GivesState}
+use Rattle.model.specs.Kernel.Outcomes.{GivesState}
 use Rattle.invocations.proofs.performing.perform.Goals as goal
 use Rattle.invocations.specs.Calls.{AppliesTo, call_of}
 use Rattle.model.specs.Kernel.Invocations.{perform}

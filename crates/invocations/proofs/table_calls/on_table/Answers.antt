@@ -1,7 +1,7 @@
 -- What each call leaves is what its definition says, and whole.
 use Rattle.std.proofs.Common.{◌≡◌, ◌∙◌, Ok, ap, refl, subst, sym}
 use Rattle.agreement.proofs.Laws.{own-tables}
-use Rattle.cnode_ops.specs.Outcomes.{GivesState}
+use Rattle.model.specs.Kernel.Outcomes.{GivesState}
 use Rattle.invocations.proofs.Lent.{asked, given}
 use Rattle.invocations.proofs.MappedTables.{table-mapped, table-unmapped}
 use Rattle.invocations.proofs.Roots.{held-at, may-call}

@@ -1,7 +1,7 @@
 -- What each call leaves is what its definition says, and whole.
 use Rattle.std.proofs.Common.{◌≡◌, Ok, ap, arith, subst, sym}
 use Rattle.agreement.specs.Wholeness.{IsWhole}
-use Rattle.cnode_ops.specs.Outcomes.{GivesState}
+use Rattle.model.specs.Kernel.Outcomes.{GivesState}
 use Rattle.invocations.proofs.Lent.{asked, given, state_before}
 use Rattle.invocations.proofs.ObjectSteps.{given-whole, kept-whole, priority-keeps, register-keeps, thread-there}
 use Rattle.invocations.proofs.thread_calls.on_thread.Goals as goal

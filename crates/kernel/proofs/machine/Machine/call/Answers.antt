@@ -1,5 +1,5 @@
 -- What is lent on is the state.
-use Rattle.cnode_ops.specs.Outcomes.{GivesState}
+use Rattle.model.specs.Kernel.Outcomes.{GivesState}
 use Rattle.kernel.proofs.machine.Machine.call.Goals as goal
 use Rattle.kernel.specs.Setups.{Parts, state_in}
 use Rattle.model.specs.Images.Boot.{made}

@@ -5,7 +5,8 @@ use Rattle.model.specs.Images.BootCalls.{Operation, PutsUntyped, PutsControl, Ca
 use Rattle.model.specs.Images.Described.{numbered, numbered_threads}
 use Rattle.model.specs.Images.Places.{control_slot}
 use Rattle.std.proofs.Common.{subst, sym}
-use Rattle.loader.specs.Loading.{Leaves, all_performed, progress_of}
+use Rattle.loader.specs.Loading.{all_performed, progress_of}
+use Rattle.model.specs.Kernel.Outcomes.{GivesState}
 use Rattle.loader.proofs.FillLemmas.{op-fails, op-more}
 use Rattle.loader.proofs.Order.{all-calls, both-ok, first-failed, second-failed, second-leaves}
 use Rattle.loader.proofs.loading.Loader.load.Goals as goal
@@ -129,4 +130,4 @@ returns c =
     let e5 : all_performed u p0 (m1 ++ m2 ++ m3 ++ m4) ≡ Ok p5 = both-ok u (m1 ++ m2 ++ m3) m4 p0 p4 p5 e4 c.in_ok-fill_programs.ensures.outcome in
     let q = progress_of c.make_last_calls.new.self in
     second-leaves u (m1 ++ m2 ++ m3 ++ m4) m5 p0 p5 q c.make_last_calls.result e5
-    (subst (λ d. Leaves d c.make_last_calls.result q) (sym (all-calls u p5 (last_calls image))) c.make_last_calls.ensures)
+    (subst (λ d. GivesState d c.make_last_calls.result q) (sym (all-calls u p5 (last_calls image))) c.make_last_calls.ensures)
