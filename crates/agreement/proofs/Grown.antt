@@ -21,7 +21,7 @@ use Rattle.objects.specs.Frames.{SameBesideObjects, has_record}
 use Rattle.soundness.specs.Unused.{IsFree}
 use Rattle.vspace.specs.Kept.{IsNamedTable, NamesTable}
 use Rattle.vspace.specs.Tables.{TablesAgree}
-use Rattle.vspace.proofs.AgreementPut.{agree-put}
+use Rattle.vspace.proofs.Laws.{agree-put}
 
 -- what stands where after the object, whatever the bytes are
 module _ (t : State) (kind : NewObject) (place slot parent to : ℕ) (old : List ℕ) (growing : Growing t old place to)

@@ -15,7 +15,7 @@ use Rattle.agreement.proofs.RoomsMade.{alone, slots-alone, some-alone}
 use Rattle.agreement.specs.Growing.{one_placed}
 use Rattle.agreement.specs.Rooms.{has_page}
 use Rattle.objects.specs.Frames.{has_record}
-use Rattle.removals.proofs.Found.{both}
+use Rattle.removals.proofs.Laws.{both}
 use Rattle.vspace.specs.Kept.{NamesTable}
 
 -- ---- kinds

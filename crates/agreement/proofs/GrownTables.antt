@@ -22,8 +22,7 @@ use Rattle.objects.specs.Frames.{SameBesideObjects, has_record}
 use Rattle.vspace.specs.Agreement.{IsNewPageTable, MayBePut}
 use Rattle.vspace.specs.Kept.{IsNamedTable, NamesTable}
 use Rattle.vspace.specs.Tables.{TablesAgree}
-use Rattle.vspace.proofs.AgreementBytes.{agree-outside, named-stands}
-use Rattle.vspace.proofs.AgreementSlots.{agree-beside, agree-opened}
+use Rattle.vspace.proofs.Laws.{agree-beside, agree-opened, agree-outside, named-stands}
 
 -- ---- what may be put
 

@@ -1,17 +1,18 @@
-pub mod Agreeing
-pub mod Bare
-pub mod Grown
-pub mod GrownPlaces
-pub mod GrownTables
+mod Agreeing
+mod Bare
+mod Grown
+mod GrownPlaces
+mod GrownTables
+mod ObjectsAgree
+mod Lessened
+mod Mutated
+mod NewBegin
+mod NewBeside
+mod NewPlaced
+mod NewStates
+mod OneMore
+mod Puts
+mod RoomsMade
+mod Steps
+mod Whole
 pub mod Laws
-pub mod Lessened
-pub mod Mutated
-pub mod NewBegin
-pub mod NewBeside
-pub mod NewPlaced
-pub mod NewStates
-pub mod OneMore
-pub mod Puts
-pub mod RoomsMade
-pub mod Steps
-pub mod Whole

@@ -11,8 +11,7 @@ use Rattle.model.specs.declared.capabilities.Cap.{Cap}
 use Rattle.model.specs.declared.capabilities.Cap.TheVariants.{Empty, Untyped, Endpoint, Notification, CNode, Frame, PageTable, Tcb, RootTable, InterruptControl, InterruptHandler}
 use Rattle.model.specs.declared.slot_entries.Entry.{Entry}
 use Rattle.objects.specs.Tables.{Tables, state_of}
-use Rattle.vspace.proofs.AgreementBytes.{agree-outside}
-use Rattle.vspace.proofs.AgreementSlots.{agree-changed, agree-moved}
+use Rattle.vspace.proofs.Laws.{agree-changed, agree-moved, agree-outside}
 use Rattle.vspace.specs.Agreement.{IsWithoutTables}
 use Rattle.vspace.specs.Kept.{NamesTable}
 use Rattle.vspace.specs.Tables.{TablesAgree}

@@ -15,10 +15,9 @@ use Rattle.model.specs.Kernel.Soundness.{IsSound}
 use Rattle.model.specs.Kernel.State.{State, with_slots}
 use Rattle.model.specs.declared.capabilities.Cap.{Cap}
 use Rattle.model.specs.declared.capabilities.Cap.TheVariants.{Empty, Untyped, Endpoint, Notification, CNode, Frame, PageTable, Tcb, RootTable, InterruptControl, InterruptHandler}
-use Rattle.soundness.proofs.UnusedMemory.{unused-free}
+use Rattle.soundness.proofs.Laws.{unused-free}
 use Rattle.soundness.specs.Unused.{IsFree}
-use Rattle.vspace.proofs.AgreementBytes.{agree-outside}
-use Rattle.vspace.proofs.AgreementSlots.{agree-changed}
+use Rattle.vspace.proofs.Laws.{agree-changed, agree-outside}
 use Rattle.vspace.specs.Agreement.{IsWithoutTables}
 use Rattle.vspace.specs.Kept.{IsNamedTable, NamesTable}
 use Rattle.vspace.specs.Tables.{TablesAgree}

@@ -10,9 +10,7 @@ use Rattle.model.specs.Kernel.Removal.{slot_count}
 use Rattle.model.specs.Kernel.Retype.{NewObject, NewObjects, first_capability, object, object_bits, place_of_new, with_new_slots}
 use Rattle.model.specs.Kernel.State.{State, slot_of}
 use Rattle.model.specs.declared.slot_entries.Entry.{Entry}
-use Rattle.soundness.proofs.NewKinds.{new-slots}
-use Rattle.soundness.proofs.NewObjects.{depth-leaves}
-use Rattle.soundness.proofs.Pieces.{slots-fit}
+use Rattle.soundness.proofs.Laws.{depth-leaves, new-slots, slots-fit}
 use Rattle.soundness.specs.Unused.{IsFree}
 
 -- where memory is free, the slots of a new object are closed, and an open slot is none of them

@@ -13,7 +13,7 @@ use Rattle.model.specs.Kernel.Removal.{slot_count}
 use Rattle.model.specs.Kernel.Retype.{NewObject, NewUntyped, NewThread, NewEndpoint, NewNotification, NewCNode, NewFrame, NewPageTable, NewRootTable, is_large_enough, is_small_enough, object, object_bits}
 use Rattle.model.specs.Kernel.State.{State, with_slots}
 use Rattle.model.specs.declared.slot_entries.Entry.{Entry}
-use Rattle.objects.proofs.Following.{follows-kept, not-open, stands-kept}
+use Rattle.objects.proofs.Laws.{follows-kept, not-open, stands-kept}
 use Rattle.objects.specs.Changes.{MayStand}
 use Rattle.objects.specs.Frames.{IsInRecord, IsRoom, SameKept, has_slots, slot_bytes}
 use Rattle.objects.specs.Standing.{Standing}

@@ -2,7 +2,7 @@
 use Rattle.std.proofs.Common.{ℕ, ◌≡◌, ◌≢◌, ◌∙◌, ◌==◌, ◌/◌, inl, inr, Bool, true, false, if◌then◌else◌, Option, Some, None, IsSome, List, refl, sym, ap, subst}
 use Rattle.std.specs.Option.{option_map, option_map_or}
 use Rattle.std.proofs.lemmas.Bool.Decides.{eqb_tells}
-use Rattle.agreement.proofs.Laws.{follows-law, stands-law}
+use Rattle.agreement.proofs.ObjectsAgree.{follows-law, stands-law}
 use Rattle.agreement.specs.Agreement.{Agrees}
 use Rattle.agreement.specs.Wholeness.{Agreed}
 use Rattle.model.proofs.SlotChanges.{capability-adopted}
@@ -15,11 +15,9 @@ use Rattle.model.specs.declared.capabilities.Cap.{Cap}
 use Rattle.model.specs.declared.capabilities.Cap.TheVariants.{Empty, Untyped, Endpoint, Notification, CNode, Frame, PageTable, Tcb, RootTable, InterruptControl, InterruptHandler}
 use Rattle.model.specs.declared.slot_entries.Entry.{Entry}
 use Rattle.objects.specs.Tables.{Tables, state_of}
-use Rattle.removals.proofs.Whole.{root-kind}
-use Rattle.soundness.proofs.Copies.{is_single}
-use Rattle.vspace.proofs.AgreementBytes.{agree-outside}
-use Rattle.vspace.proofs.AgreementPut.{agree-put}
-use Rattle.vspace.proofs.AgreementSlots.{agree-moved}
+use Rattle.removals.proofs.Laws.{root-kind}
+use Rattle.soundness.proofs.Laws.{is_single}
+use Rattle.vspace.proofs.Laws.{agree-moved, agree-outside, agree-put}
 use Rattle.vspace.specs.Agreement.{MayBePut}
 use Rattle.vspace.specs.Kept.{IsNamedTable, NamesTable}
 use Rattle.vspace.specs.Tables.{TablesAgree}

@@ -18,14 +18,14 @@ use Rattle.agreement.proofs.Agreeing.{agrees-less}
 use Rattle.agreement.proofs.Lessened.{Lessened, less-same}
 use Rattle.agreement.specs.Agreement.{Agrees}
 use Rattle.agreement.specs.Wholeness.{Agreed}
-use Rattle.objects.proofs.Following.{follows-kept, not-open, stands-kept, still-open}
+use Rattle.objects.proofs.Laws.{follows-kept, not-open, stands-kept, still-open}
 use Rattle.objects.specs.Frames.{IsInRecord, SameBesideObjects, SameElsewhere, SameKept}
 use Rattle.objects.specs.Standing.{Standing}
 use Rattle.objects.specs.Tables.{Tables, state_of}
-use Rattle.removals.proofs.Named.{kind-threads}
+use Rattle.removals.proofs.Laws.{kind-threads}
 use Rattle.removals.specs.Finishing.{is_stranded, waits_nowhere, woken}
 use Rattle.removals.specs.Steps.{ended, ends_thread, object_ended, without_root}
-use Rattle.vspace.proofs.AgreementSlots.{agree-beside}
+use Rattle.vspace.proofs.Laws.{agree-beside}
 use Rattle.vspace.specs.Kept.{IsBeside, IsNamedTable, SameBesideTables}
 use Rattle.vspace.specs.Tables.{TablesAgree}
 

@@ -10,9 +10,7 @@ use Rattle.std.proofs.lemmas.List.Splits.{length-slice_split, slice_split_at}
 use Rattle.model.specs.Images.Listing.{Text}
 use Rattle.asm_line.specs.declared.lines.Line.{Line}
 use Rattle.asm_line.specs.Listed.{Lists}
-use Rattle.asm_line.proofs.ListedLines.{Reads}
-use Rattle.asm_line.proofs.ListedTexts.{reads}
-use Rattle.asm_line.proofs.PlainWords.{is_plain, line-all}
+use Rattle.asm_line.proofs.Laws.{Reads, is_plain, line-all, reads}
 
 abbrev pub is_feed : ℕ → Bool
 is_feed byte = byte == 10

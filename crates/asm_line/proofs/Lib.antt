@@ -1,6 +1,7 @@
-pub mod NameBytes
-pub mod ListedLines
-pub mod ListedTexts
-pub mod NumberLaws
-pub mod PlainWords
-pub mod Splitting
+mod NameBytes
+mod ListedLines
+mod ListedTexts
+mod NumberLaws
+mod PlainWords
+mod Splitting
+pub mod Laws

@@ -7,7 +7,7 @@ use Rattle.model.specs.Capabilities.Slots.{capability_at}
 use Rattle.model.specs.Kernel.Soundness.{HasShape}
 use Rattle.model.specs.Kernel.State.{State, holds_some}
 use Rattle.model.specs.declared.capabilities.Cap.{Cap}
-use Rattle.soundness.proofs.Carried.{held-at, held-by}
+use Rattle.soundness.proofs.Laws.{held-at, held-by}
 
 pub none-held : (s : State) (test : Cap → Bool) → ((slot : ℕ) → test (capability_at s.slots slot) ≡ false) → holds_some s test ≡ false
 none-held s test none =

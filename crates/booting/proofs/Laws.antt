@@ -19,4 +19,5 @@ pub use Rattle.booting.proofs.RunEnd.{CountsAreLengths, loaded-end}
 pub use Rattle.booting.proofs.SoundBooted.{described-sound}
 pub use Rattle.booting.proofs.SoundWords.{each-all, filtered-all, flat-all}
 pub use Rattle.booting.proofs.WholeFits.{bytes-long, contents-fit, counts-are}
-pub use Rattle.booting.proofs.WholeFrames.{find-get}
+pub use Rattle.booting.proofs.WholeFrames.{find-get, find-no}
+pub use Rattle.booting.proofs.WholeLoads.{boots-well}

@@ -54,6 +54,6 @@ mod ThreadsOne
 mod ThreadsStanding
 mod ThreadsWoken
 mod WholeFits
-pub mod WholeFrames
-pub mod WholeLoads
+mod WholeFrames
+mod WholeLoads
 pub mod Laws

@@ -1,6 +1,6 @@
 -- What is said of all objects of a well-formed image: where they stand.
 use Rattle.std.proofs.Common.{ℕ, ◌≡◌, true, arith}
-use Rattle.fitting.proofs.ImageFits.{is-fitting}
+use Rattle.fitting.proofs.Laws.{is-fitting}
 use Rattle.booting.proofs.PlacesObjects.{ObjectStands, UntypedStands, home_of, object-stands, objects-apart}
 use Rattle.booting.proofs.PlacesRules.{are-formed}
 use Rattle.booting.specs.Standing.{StandApart, StandsInside}

@@ -13,7 +13,7 @@ use Rattle.model.specs.Capabilities.Placement.{align, place_of_object, placement
 use Rattle.model.specs.Images.Image.{Image}
 use Rattle.model.specs.Images.Places.{bits_of, object_at, offset_of, untyped_at, used_before, used_by}
 use Rattle.model.specs.Kernel.State.{boot_area_end}
-use Rattle.soundness.proofs.NewPlaces.{laid}
+use Rattle.soundness.proofs.Laws.{laid}
 
 -- ---- entries by their numbers
 

@@ -3,7 +3,7 @@ use Rattle.std.proofs.Common.{ℕ, zero, suc, ◌≡◌, ◌+◌, ◌*◌, ◌^�
 use Rattle.std.proofs.lemmas.Bool.{and_parts, false≢true, or_cases, le-leb, leb-true}
 use Rattle.std.proofs.lemmas.Nat.{pow-add}
 use Rattle.model.specs.declared.entries.ObjectEntry.{ObjectEntry}
-use Rattle.fitting.proofs.FormatFits.{between-bounds}
+use Rattle.fitting.proofs.Laws.{between-bounds}
 use Rattle.fitting.specs.Fitting.{IsFitting}
 use Rattle.booting.proofs.PlacesObjects.{object-at}
 use Rattle.model.specs.Images.Image.{Image, between, size_fits}

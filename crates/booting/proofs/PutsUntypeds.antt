@@ -28,7 +28,7 @@ use Rattle.booting.proofs.RunFills.{take-more}
 use Rattle.booting.proofs.RunSequences.{Leads, leads-both, leads-control, leads-each, leads-same, leads-to, leads-untyped, one-each}
 use Rattle.booting.proofs.WholeFits.{length-numbered, take-whole}
 use Rattle.model.specs.Kernel.Soundness.{IsSound}
-use Rattle.soundness.proofs.Setups.{control-whole, put_untyped-whole}
+use Rattle.soundness.proofs.Laws.{control-whole, put_untyped-whole}
 
 -- untyped memory that nothing uses
 abbrev fresh : ℕ × UntypedEntry → Holding

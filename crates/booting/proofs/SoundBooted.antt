@@ -17,9 +17,9 @@ use Rattle.model.specs.Images.Places.{control_slot, type_at}
 use Rattle.model.specs.Kernel.Setup.{boot_area}
 use Rattle.model.specs.Kernel.Soundness.{IsSound}
 use Rattle.model.specs.Kernel.State.{State}
-use Rattle.soundness.proofs.FreshMachines.{fresh-sound}
+use Rattle.soundness.proofs.Laws.{fresh-sound}
 use Rattle.fitting.specs.Fitting.{IsFitting}
-use Rattle.fitting.proofs.ImageFits.{is-fitting}
+use Rattle.fitting.proofs.Laws.{is-fitting}
 use Rattle.booting.proofs.PlacesRules.{are-formed, range-at}
 use Rattle.booting.proofs.PutsUntypeds.{puts-sound, puts-lead}
 use Rattle.booting.proofs.SoundRuns.{FillsBytes, HasSmallBytes, HasSmallWords, IsFine, run-sound}

@@ -12,8 +12,7 @@ use Rattle.model.specs.Kernel.Soundness.{IsSound}
 use Rattle.model.specs.Kernel.State.{State}
 use Rattle.model.specs.declared.boot_faults.BootFault.{BootFault}
 use Rattle.model.specs.declared.boot_faults.BootFault.TheVariants.{Kernel, Outside}
-use Rattle.soundness.proofs.Loading.{made-whole}
-use Rattle.soundness.proofs.Setups.{control-whole, fill-whole}
+use Rattle.soundness.proofs.Laws.{control-whole, fill-whole, made-whole}
 
 -- calls have words of 32 bits, and what is filled are bytes
 abbrev pub HasSmallBytes : Fill → Type 0

@@ -4,7 +4,7 @@ use Rattle.std.specs.Prelude.{nat_lt, slice_get}
 use Rattle.std.specs.Option.{option_map_or}
 use Rattle.std.proofs.lemmas.Bool.{and_parts, eq-eqb, eqb-true}
 use Rattle.std.proofs.lemmas.Option.{none-some, same_Some}
-use Rattle.fitting.proofs.FormatFits.{field-between, field-parts, many-each}
+use Rattle.fitting.proofs.Laws.{field-between, field-parts, many-each}
 use Rattle.model.specs.Capabilities.CapabilityKinds.{is_guard_word}
 use Rattle.model.specs.Images.Described.{start_of}
 use Rattle.model.specs.Images.Format.{field, many_fit}

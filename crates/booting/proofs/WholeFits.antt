@@ -3,7 +3,7 @@ use Rattle.std.proofs.Common.{ℕ, ◌≡◌, ◌∙◌, ◌+◌, ◌*◌, ◌�
 use Rattle.std.specs.Prelude.{nat_le, nat_lt, flat_map, slice_get}
 use Rattle.std.specs.List.{enumerate_from}
 use Rattle.std.proofs.lemmas.Bool.{and_parts}
-use Rattle.fitting.proofs.FormatFits.{field-between, many-each, many-length}
+use Rattle.fitting.proofs.Laws.{field-between, many-each, many-length}
 use Rattle.fitting.specs.Fitting.{IsFitting}
 use Rattle.booting.proofs.RunBoots.{length-joined}
 use Rattle.booting.proofs.RunEnd.{CountsAreLengths}

@@ -22,7 +22,7 @@ use Rattle.booting.proofs.PhaseHandlers.{handlers-by-one}
 use Rattle.booting.proofs.PhaseSignals.{signals-by-one}
 use Rattle.booting.proofs.PhaseTables.{tables-by-one}
 use Rattle.fitting.specs.Fitting.{IsFitting}
-use Rattle.fitting.proofs.ImageFits.{is-fitting}
+use Rattle.fitting.proofs.Laws.{is-fitting}
 use Rattle.booting.proofs.PlacesRules.{AreFormed, are-formed}
 use Rattle.booting.proofs.PutsUntypeds.{puts-lead}
 use Rattle.booting.proofs.Readings.{IsWithin, one_thread}

@@ -3,10 +3,9 @@ use Rattle.std.proofs.Common.{ℕ, ◌≡◌, ◌∙◌, ◌+◌, ◌*◌, ◌<�
 use Rattle.std.specs.Prelude.{Contains}
 use Rattle.thread_facts.proofs.Laws.{thread-entry, within-wider}
 use Rattle.call_points.specs.Behind.{LeadsBehind}
-use Rattle.falling.proofs.FallsOverCalls.{falls-over, stays-within}
-use Rattle.falling.proofs.NotedTerms.{noted-named}
+use Rattle.falling.proofs.Laws.{falls-over, noted-named, stays-within}
 use Rattle.falling.specs.Terms.{NamesRegisters, WritesOnly}
-use Rattle.fitting.proofs.ImageFits.{is-fitting}
+use Rattle.fitting.proofs.Laws.{is-fitting}
 use Rattle.fitting.specs.Fitting.{IsFitting}
 use Rattle.model.specs.declared.instructions.Instr.{Instr}
 use Rattle.model.specs.declared.instructions.Instr.TheVariants.{Ecall}
@@ -20,7 +19,7 @@ use Rattle.model.specs.Acceptance.ThreadInvariants.{LieWithin}
 use Rattle.model.specs.Images.Described.{Numbered, numbered_threads}
 use Rattle.model.specs.Images.Image.{Image}
 use Rattle.model.specs.Machine.ProgramMemory.{RegisterFile}
-use Rattle.thread_steps.proofs.Laws.{point-kept, known-form, not-stray-formed, slots-back}
+use Rattle.thread_steps.proofs.Laws.{known-form, not-stray-formed, point-kept, slots-back}
 use Rattle.thread_steps.specs.Formed.{AreFormed, HasForm}
 use Rattle.thread_steps.specs.Points.{IsPoint, LeadsOn}
 use Rattle.call_points.proofs.GivenThreads.{base-aligned}

@@ -10,7 +10,8 @@ use ranges::Bounds;
 use std::alloc::{AllocError, Global};
 use thread_spaces::slots_are_own;
 use typestate::{
-    Behind, NotedSlot, NotedSlots, Part, ShownPart, SlotLog, Space, ThreadSlots, no_stray_slot_leads_outside,
+    Behind, NotedSlot, NotedSlots, Part, ShownPart, SlotLog, Space, ThreadSlots,
+    no_stray_slot_leads_outside,
 };
 
 /// A thread of an image without certificates: the CNodes that the image gives it, and what it puts into them.

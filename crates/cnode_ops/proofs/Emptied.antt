@@ -5,7 +5,7 @@ use Rattle.model.specs.declared.capabilities.Cap.TheVariants.{Empty, Untyped, En
 use Rattle.model.specs.Capabilities.CapabilityKinds.{unmapped}
 use Rattle.model.specs.Capabilities.Slots.{IsFull, Slots, capability_at, is_empty}
 use Rattle.removals.specs.Steps.{unmapped_at}
-use Rattle.removals.proofs.Stepwise.{unmapped-itself}
+use Rattle.removals.proofs.Laws.{unmapped-itself}
 
 unmapped-twice : (c : Cap) → unmapped (unmapped c) ≡ unmapped c
 unmapped-twice Empty = refl

@@ -8,12 +8,7 @@ use Rattle.model.specs.Kernel.Removal.{SlotSet, emptied, kept_entry}
 use Rattle.model.specs.Kernel.State.{State, binding_slot, slot_numbers}
 use Rattle.model.proofs.Ancestors.{depth-child, descendant-from_test, descendant-full, full-open}
 use Rattle.removals.specs.Steps.{BindingEmptied, IsReady, SameShape, alone, bindings_from, bound, joined, left, unbound}
-use Rattle.removals.proofs.Found.{or-cases}
-use Rattle.removals.proofs.Keeping.{there-out}
-use Rattle.removals.proofs.SameFull.{emptied-same}
-use Rattle.removals.proofs.Loop.{descends-still}
-use Rattle.removals.proofs.Readiness.{full-was, not-full, ready-emptied}
-use Rattle.removals.proofs.Rounds.{full-apart, line-left, line-taken, lines-done, open-kept, round}
+use Rattle.removals.proofs.Laws.{descends-still, emptied-same, full-apart, full-was, line-left, line-taken, lines-done, not-full, open-kept, or-cases, ready-emptied, round, there-out}
 use Rattle.cnode_ops.specs.Sets.{set_of}
 use Rattle.cnode_ops.specs.declared.sets.Removed.{Removed}
 use Rattle.cnode_ops.specs.declared.sets.Removed.TheVariants.{Below, One}

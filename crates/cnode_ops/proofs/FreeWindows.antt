@@ -1,7 +1,7 @@
 -- The slots of a window lie in the CNode, and are empty where none is full.
 use Rattle.std.proofs.Common.{ℕ, ◌≡◌, ◌∙◌, ◌+◌, ◌-◌, ◌/◌, ◌^◌, ◌<◌, ◌≤◌, ◌&&◌, Bool, true, false, not, nat_le, Option, Some, None, Result, Ok, Err, refl, sym, subst, arith}
 use Rattle.std.proofs.lemmas.Bool.{and_parts, leb-true, not-false}
-use Rattle.cspace.proofs.Places.{slot_below}
+use Rattle.cspace.proofs.Laws.{slot_below}
 use Rattle.cnode_ops.specs.Nodes.{HasOpenSlots}
 use Rattle.cnode_ops.specs.Refusals.{some_slot}
 use Rattle.cnode_ops.specs.RetypeChecks.{has_slots, window}

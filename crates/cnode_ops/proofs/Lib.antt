@@ -1,19 +1,20 @@
-pub mod Answered
-pub mod Emptied
-pub mod Kept
-pub mod LinesTaken
-pub mod FreeWindows
-pub mod FullSlots
-pub mod Lookups
-pub mod OpenNodes
-pub mod PlacedObjects
-pub mod Refused
-pub mod RefusedLaw
-pub mod RetypeSteps
-pub mod SomeSlot
-pub mod Values
-pub mod Watermarks
-pub mod EmptiedSets
-pub mod ClosedSlots
-pub mod RemovedLists
-pub mod RemovedSets
+mod Answered
+mod Emptied
+mod Kept
+mod LinesTaken
+mod FreeWindows
+mod FullSlots
+mod Lookups
+mod OpenNodes
+mod PlacedObjects
+mod Refused
+mod RefusedLaw
+mod RetypeSteps
+mod SomeSlot
+mod Values
+mod Watermarks
+mod EmptiedSets
+mod ClosedSlots
+mod RemovedLists
+mod RemovedSets
+pub mod Laws

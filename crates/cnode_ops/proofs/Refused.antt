@@ -5,7 +5,7 @@ use Rattle.model.specs.Capabilities.CapabilityKinds.{object_of}
 use Rattle.model.specs.Capabilities.CapabilityWords.{IsCapability}
 use Rattle.model.specs.declared.capabilities.Cap.{Cap}
 use Rattle.model.specs.declared.capabilities.Cap.TheVariants.{Empty, Untyped, Endpoint, Notification, CNode, Frame, PageTable, Tcb, RootTable, InterruptControl, InterruptHandler}
-use Rattle.cspace.proofs.Places.{slot_below}
+use Rattle.cspace.proofs.Laws.{slot_below}
 use Rattle.cnode_ops.specs.Refusals.{slots_named}
 
 named-offset : (o p : ℕ) → Some o ≡ Some p → o ≡ p

@@ -8,7 +8,7 @@ use Rattle.model.specs.Kernel.State.{State, binding_slot}
 use Rattle.model.proofs.Ancestors.{descendant-full, full-open}
 use Rattle.removals.specs.Finishing.{MaySettle, settled}
 use Rattle.removals.specs.Steps.{SameShape, bindings_from, joined}
-use Rattle.removals.proofs.Whole.{both-loops, may-settle, members-all, open-near, removed, sound-ready}
+use Rattle.removals.proofs.Laws.{both-loops, may-settle, members-all, open-near, removed, sound-ready}
 use Rattle.cnode_ops.specs.Refusals.{AreNear}
 use Rattle.cnode_ops.specs.Sets.{set_of}
 use Rattle.cnode_ops.specs.declared.sets.Removed.{Removed}

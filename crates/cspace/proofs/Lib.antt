@@ -1,2 +1,3 @@
-pub mod Places
-pub mod Steps
+mod Places
+mod Steps
+pub mod Laws

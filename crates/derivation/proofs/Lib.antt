@@ -1,3 +1,4 @@
-pub mod Moves
-pub mod Splices
-pub mod Removed
+mod Moves
+mod Splices
+mod Removed
+pub mod Laws

@@ -12,7 +12,9 @@ use ranges::Bounds;
 use rv32_isa::decode;
 use std::alloc::AllocError;
 use thread_spaces::slots_are_own;
-use typestate::{Behind, NotedSlot, NotedSlots, Part, SlotLog, ThreadSlots, no_stray_slot_leads_outside};
+use typestate::{
+    Behind, NotedSlot, NotedSlots, Part, SlotLog, ThreadSlots, no_stray_slot_leads_outside,
+};
 
 /// What is known at a point. The slots are the image's with some changes.
 #[derive(Drop)]

@@ -1,8 +1,9 @@
-pub mod FormValues
-pub mod GreatestValues
-pub mod LeastValues
-pub mod MeasureValues
-pub mod WrittenForms
-pub mod FallsIsLess
-pub mod NotedTerms
-pub mod FallsOverCalls
+mod FormValues
+mod GreatestValues
+mod LeastValues
+mod MeasureValues
+mod WrittenForms
+mod FallsIsLess
+mod NotedTerms
+mod FallsOverCalls
+pub mod Laws

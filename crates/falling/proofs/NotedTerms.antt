@@ -19,7 +19,7 @@ use Rattle.model.specs.Acceptance.RangeRules.{destination}
 use Rattle.model.specs.Images.Described.{Numbered}
 use Rattle.model.specs.Images.Format.{many_fit}
 use Rattle.model.specs.Images.Image.{Image, StateRecord, Thread, image_with, record_format, record_header_format, ranges_format, records_format, sections_format, slots_format, term_format, terms_format, registers_format, thread_format, thread_header_format, whole_image, words_format}
-use Rattle.fitting.proofs.FormatFits.{field-between, many-each}
+use Rattle.fitting.proofs.Laws.{field-between, many-each}
 use Rattle.falling.specs.Terms.{NamesRegisters}
 use Rattle.falling.proofs.MeasureValues.{IsTerm}
 

@@ -1,4 +1,5 @@
-pub mod EntryFits
-pub mod FormatFits
-pub mod ImageFits
-pub mod Certificates
+mod EntryFits
+mod FormatFits
+mod ImageFits
+mod Certificates
+pub mod Laws

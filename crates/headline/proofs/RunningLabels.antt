@@ -22,7 +22,7 @@ use Rattle.model.specs.Kernel.State.{Object, State, Status, Inactive, Runnable, 
 use Rattle.model.specs.Kernel.Steps.{memory_base, ran, step}
 use Rattle.model.specs.Kernel.Waits.{is_of, open_count}
 use Rattle.model.specs.Machine.ProgramMemory.{RegisterFile}
-use Rattle.soundness.proofs.Running.{current-runs}
+use Rattle.soundness.proofs.Laws.{current-runs}
 use Rattle.thread_steps.specs.Points.{IsPoint}
 
 -- ---- who ran

@@ -4,7 +4,7 @@ use Rattle.std.proofs.Math.Nat.{mul-suc}
 use Rattle.model.specs.declared.refusals.Refusal.{Refusal}
 use Rattle.model.specs.Images.Format.{Format, ◌>>=◌, end_of, values_of, many_read}
 use Rattle.image.specs.Sizes.{HasSize}
-use Rattle.image.proofs.Laws.{bind_ok, ok_is}
+use Rattle.image.proofs.FormatLaws.{bind_ok, ok_is}
 
 end_of-put : {A : Type 0} (x : A) (read : Result (List A × ℕ) Refusal) → end_of (read >>= λ xs. Ok (x ∷ xs.0, xs.1)) ≡ end_of read
 end_of-put x (Ok xs) = refl

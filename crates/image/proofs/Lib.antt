@@ -1,13 +1,14 @@
-pub mod CapabilityTests
-pub mod EntryLists
-pub mod HeaderSpellings
+mod CapabilityTests
+mod EntryLists
+mod HeaderSpellings
+mod FormatLaws
+mod Lists
+mod RangeEntries
+mod SectionSizes
+mod SpellingLaws
+mod ThreadLaws
+mod WholeImage
+mod WholeReading
+mod WordLaws
+mod Words
 pub mod Laws
-pub mod Lists
-pub mod RangeEntries
-pub mod SectionSizes
-pub mod SpellingLaws
-pub mod ThreadLaws
-pub mod WholeImage
-pub mod WholeReading
-pub mod WordLaws
-pub mod Words

@@ -10,7 +10,7 @@ use Rattle.model.specs.declared.refusals.Refusal.TheVariants.{Limit, Truncated}
 use Rattle.model.specs.Images.Format.{◌>>=◌, end_of, field, many_read, number_at, values_of}
 use Rattle.model.specs.Images.Image.{anything, between, range_format, ranges_format}
 use Rattle.image.proofs.EntryLists.{all_read}
-use Rattle.image.proofs.Laws.{bind_ok, guard_ok, ok_is, test_ok}
+use Rattle.image.proofs.FormatLaws.{bind_ok, guard_ok, ok_is, test_ok}
 
 -- a number that is read passes its test
 passed : (test : ℕ → Bool) (bytes : List ℕ) (at : ℕ) (x : ℕ × ℕ) → (field test).reads bytes at ≡ Ok x → test x.0 ≡ true

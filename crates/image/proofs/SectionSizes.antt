@@ -6,7 +6,7 @@ use Rattle.model.specs.declared.refusals.Refusal.TheVariants.{Limit}
 use Rattle.model.specs.Images.Format.{Format, ◌>>=◌, number_at, field, both, named}
 use Rattle.model.specs.Images.Image.{anything, below, between, capability_format, frame_format, interrupt_format, object_format, pair_key, size_fits, table_format, untyped_format}
 use Rattle.image.specs.Sizes.{HasSize}
-use Rattle.image.proofs.Laws.{bind_ok, guard_ok, test_ok, ok_is}
+use Rattle.image.proofs.FormatLaws.{bind_ok, guard_ok, test_ok, ok_is}
 
 field_size : (test loose : ℕ → Bool) → ((n : ℕ) → test n ≡ true → loose n ≡ true) → HasSize 4 (field test) (field loose)
 field_size test loose looser = record {

@@ -17,7 +17,7 @@ use Rattle.model.specs.Shared.Bytes.{AreBytes}
 use Rattle.model.specs.Capabilities.CapabilityFields.{unpacked}
 use Rattle.model.specs.Images.Format.{IsSpelling, reading}
 use Rattle.model.specs.Images.Image.{Image, Sections, anything, below, between, capability_format, content_format, frame_format, header_fields, header_format, image_with, interrupt_format, magic, names_parent, no_parent, object_format, pair_key, sections_format, size_fits, slot_format, slots_format, table_format, untyped_format, whole_image, words_format}
-use Rattle.image.proofs.Laws.{IsBytes, IsLawful, bind_ok, guard_ok, ok_is, number_law, both_law, named_law, ordered_law, wide32}
+use Rattle.image.proofs.FormatLaws.{IsBytes, IsLawful, bind_ok, guard_ok, ok_is, number_law, both_law, named_law, ordered_law, wide32}
 use Rattle.image.proofs.ThreadLaws.{AreLawful, field_law, thread_law, words_law}
 
 magic_first : (n : ℕ) → (ltb n (2 ^ 32) && eqb n magic) ≡ true → magic ≡ n

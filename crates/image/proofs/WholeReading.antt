@@ -5,7 +5,7 @@ use Rattle.model.specs.declared.refusals.Refusal.{Refusal}
 use Rattle.model.specs.Images.Format.{end_of}
 use Rattle.model.specs.Images.Image.{capability_format, content_format, frame_format, header_format, image_with, interrupt_format, object_format, pair_key, sections_format, slots_format, table_format, thread_format, untyped_format, whole_image}
 use Rattle.image.specs.Sections.{AreSections, HasCounts, capabilities_format, contents_format, frames_format, interrupts_format, objects_format, sections_image, tables_format, threads_format, untypeds_format}
-use Rattle.image.proofs.Laws.{IsBytes}
+use Rattle.image.proofs.FormatLaws.{IsBytes}
 use Rattle.image.proofs.WholeImage.{image_law}
 use Rattle.image.proofs.EntryLists.{list_length, read_from_end}
 

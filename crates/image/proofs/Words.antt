@@ -9,7 +9,7 @@ use Rattle.std.proofs.Math.Seq.{take-add}
 use Rattle.std.proofs.lemmas.List.{drop-drop, length-drop, length-take}
 use Rattle.model.specs.Images.Fills.{bytes_of}
 use Rattle.model.specs.Images.Image.{anything, words_format}
-use Rattle.image.proofs.Laws.{IsBytes, IsBytes-drop, IsBytes-take, bind_ok, guard_ok, ok_is, wide32}
+use Rattle.image.proofs.FormatLaws.{IsBytes, IsBytes-drop, IsBytes-take, bind_ok, guard_ok, ok_is, wide32}
 use Rattle.image.proofs.EntryLists.{all_read}
 
 -- the words from a place on

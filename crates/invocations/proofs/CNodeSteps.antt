@@ -2,9 +2,7 @@
 use Rattle.std.proofs.Common.{ℕ, ◌≡◌, ◌≢◌, ◌∙◌, true, false, not, Option, Some, None, IsSome, List, Result, Ok, Err, refl, sym, ap, subst}
 use Rattle.std.specs.Prelude.{OnErr}
 use Rattle.std.proofs.lemmas.Bool.{not-true}
-use Rattle.agreement.proofs.Laws.{follows-law}
-use Rattle.agreement.proofs.Mutated.{mutate-agrees, mutate-closes}
-use Rattle.agreement.proofs.Puts.{copy-agrees, move-agrees, moved-closes, put-closes}
+use Rattle.agreement.proofs.Laws.{copy-agrees, follows-law, move-agrees, moved-closes, mutate-agrees, mutate-closes, put-closes}
 use Rattle.cnode_ops.specs.Outcomes.{GivesCopy, GivesMint, GivesMove, GivesMutate, GivesOn}
 use Rattle.model.specs.Kernel.Outcomes.{Gives, GivesState}
 use Rattle.cnode_ops.specs.declared.named.NodeCall.{NodeCall}
@@ -23,11 +21,7 @@ use Rattle.model.specs.declared.errors.KError.TheVariants.{IllegalOperation, Ran
 use Rattle.model.specs.declared.invocations.SlotName.{SlotName}
 use Rattle.model.specs.declared.slot_entries.Entry.{Entry}
 use Rattle.objects.specs.Tables.{Tables, state_of}
-use Rattle.soundness.proofs.CNodeCalls.{AreNamed, are-named, copy-sound, mint-sound, move-sound, mutate-sound}
-use Rattle.soundness.proofs.Copies.{alike-both, copied-alike, copied-badge_fits, copied-guard_fits, copied-unmapped, copied-valid, copies-shared, no-badge, payload-alike, payload-mapping, payload-valid}
-use Rattle.soundness.proofs.Inserted.{empty-open}
-use Rattle.soundness.proofs.Lookups.{check-passes, passes-both}
-use Rattle.soundness.proofs.Places.{plain-open}
+use Rattle.soundness.proofs.Laws.{AreNamed, alike-both, are-named, check-passes, copied-alike, copied-badge_fits, copied-guard_fits, copied-unmapped, copied-valid, copies-shared, copy-sound, empty-open, mint-sound, move-sound, mutate-sound, no-badge, passes-both, payload-alike, payload-mapping, payload-valid, plain-open}
 use Rattle.soundness.specs.Calls.{IsCall}
 
 -- ---- what is left

@@ -10,7 +10,7 @@ use Rattle.model.specs.declared.capabilities.Cap.TheVariants.{Empty, Untyped, En
 use Rattle.model.specs.declared.errors.KError.{KError}
 use Rattle.model.specs.declared.errors.KError.TheVariants.{IllegalOperation, TruncatedMessage}
 use Rattle.model.specs.declared.invocations.Invocation.{Invocation}
-use Rattle.soundness.proofs.Lookups.{passes-both, wanted-some}
+use Rattle.soundness.proofs.Laws.{passes-both, wanted-some}
 
 -- one form or another
 chosen : (P : CallForm → Type 0) (b : Bool) (one : CallForm) (rest : Option CallForm) (form : CallForm) → P one → (rest ≡ Some form → P form)

@@ -1,8 +1,9 @@
-pub mod CNodeSteps
-pub mod Decoding
-pub mod Guarded
-pub mod Lent
-pub mod MappedTables
-pub mod ObjectSteps
-pub mod Roots
-pub mod Standing
+mod CNodeSteps
+mod Decoding
+mod Guarded
+mod Lent
+mod MappedTables
+mod ObjectSteps
+mod Roots
+mod Standing
+pub mod Laws

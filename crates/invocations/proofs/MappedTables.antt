@@ -3,8 +3,7 @@ use Rattle.std.proofs.Common.{ℕ, ◌≡◌, ◌∙◌, ◌||◌, ◌+◌, ◌/
 use Rattle.std.specs.Option.{option_map_or}
 use Rattle.std.specs.Prelude.{OnErr}
 use Rattle.std.proofs.lemmas.Bool.Decides.{eqb_tells}
-use Rattle.agreement.proofs.Puts.{put-closes, put-named}
-use Rattle.agreement.proofs.Steps.{unmapped-stands, unmapped-state}
+use Rattle.agreement.proofs.Laws.{put-closes, put-named, unmapped-stands, unmapped-state}
 use Rattle.agreement.specs.Agreement.{Agrees}
 use Rattle.agreement.specs.Wholeness.{Agreed, IsWhole}
 use Rattle.model.specs.Kernel.Outcomes.{Gives, GivesState}
@@ -33,11 +32,9 @@ use Rattle.model.specs.declared.invocations.TableCall.TheVariants.{MapTable, Unm
 use Rattle.model.specs.declared.rights.Rights.{Rights}
 use Rattle.model.specs.declared.slot_entries.Entry.{Entry}
 use Rattle.objects.specs.Tables.{Tables, state_of}
-use Rattle.removals.proofs.Whole.{root-kind}
+use Rattle.removals.proofs.Laws.{root-kind}
 use Rattle.removals.specs.Steps.{slots_unmapped, unmapped_at}
-use Rattle.soundness.proofs.Carried.{full-near}
-use Rattle.soundness.proofs.Lookups.{passes-both}
-use Rattle.soundness.proofs.MappingCalls.{frame-sound, invoked-at, table-sound}
+use Rattle.soundness.proofs.Laws.{frame-sound, full-near, invoked-at, passes-both, table-sound}
 use Rattle.soundness.specs.Calls.{IsCall}
 use Rattle.vspace.specs.Answers.{GivesMapped}
 use Rattle.vspace.specs.Kept.{IsNamedTable, NamesTable, SameBesideTables}

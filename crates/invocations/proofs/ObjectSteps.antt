@@ -1,7 +1,7 @@
 -- What a call on objects alone leaves is whole.
 use Rattle.std.proofs.Common.{ℕ, ◌≡◌, ◌∙◌, ◌^◌, ◌<◌, ◌==◌, ◌%◌, ◌||◌, not, nat_le, Option, Some, List, Result, Ok, Err, refl, sym, ap, subst}
 use Rattle.std.specs.Prelude.{OnErr}
-use Rattle.agreement.proofs.Whole.{whole-kept}
+use Rattle.agreement.proofs.Laws.{whole-kept}
 use Rattle.model.specs.Kernel.Outcomes.{GivesState}
 use Rattle.invocations.proofs.Standing.{Whole}
 use Rattle.model.specs.Capabilities.Slots.{Slots}
@@ -17,10 +17,7 @@ use Rattle.model.specs.declared.errors.KError.TheVariants.{AlignmentError, Illeg
 use Rattle.objects.specs.Frames.{SameObjects}
 use Rattle.objects.specs.Standing.{Standing}
 use Rattle.objects.specs.Tables.{Tables, state_of}
-use Rattle.soundness.proofs.Lookups.{passes-both}
-use Rattle.soundness.proofs.Machines.{with_priority-machine, with_register-machine}
-use Rattle.soundness.proofs.MappingCalls.{invoked-at}
-use Rattle.soundness.proofs.ThreadCalls.{set_priority-whole, set_register-whole}
+use Rattle.soundness.proofs.Laws.{invoked-at, passes-both, set_priority-whole, set_register-whole, with_priority-machine, with_register-machine}
 use Rattle.soundness.specs.Calls.{IsCall}
 
 pub record Keeps (s t : State) : Type 0 where

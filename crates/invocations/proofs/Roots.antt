@@ -3,7 +3,7 @@ use Rattle.std.proofs.Common.{ℕ, ◌≡◌, None, ◌-◌, ◌+◌, ◌/◌, �
 use Rattle.std.proofs.Math.Nat.{zero-mod}
 use Rattle.std.proofs.lemmas.Nat.{pow_pos}
 use Rattle.agreement.specs.Wholeness.{IsWhole}
-use Rattle.cnode_ops.proofs.OpenNodes.{boot-open, sound-nodes}
+use Rattle.cnode_ops.proofs.Laws.{boot-open, sound-nodes}
 use Rattle.cnode_ops.specs.Nodes.{CNodesAreOpen, HasOpenSlots}
 use Rattle.model.specs.Capabilities.CapabilityWords.{IsCapability}
 use Rattle.model.specs.Capabilities.CapabilityKinds.{cnode_of}
@@ -14,8 +14,7 @@ use Rattle.model.specs.Kernel.State.{State}
 use Rattle.model.specs.declared.capabilities.Cap.{Cap}
 use Rattle.model.specs.declared.capabilities.Cap.TheVariants.{CNode, InterruptHandler}
 use Rattle.objects.specs.Tables.{Tables, state_of}
-use Rattle.soundness.proofs.CNodeCalls.{invoked-root}
-use Rattle.soundness.proofs.MappingCalls.{IsAt, invoked-at}
+use Rattle.soundness.proofs.Laws.{IsAt, invoked-at, invoked-root}
 use Rattle.soundness.specs.Calls.{IsCall, IsRoot, of_slot, of_loader}
 
 boot-valid : (radix : ℕ) → 1 ≤ radix → radix ≤ 14 → IsCapability (CNode 0 radix (32 - radix))

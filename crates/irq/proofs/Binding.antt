@@ -16,13 +16,7 @@ use Rattle.model.specs.declared.errors.KError.{KError}
 use Rattle.model.specs.declared.errors.KError.TheVariants.{IllegalOperation, InvalidCapability}
 use Rattle.model.specs.declared.invocations.SlotName.{SlotName}
 use Rattle.objects.specs.Tables.{Tables, state_of}
-use Rattle.soundness.proofs.CNodeCalls.{room-below}
-use Rattle.soundness.proofs.Copies.{bindable}
-use Rattle.soundness.proofs.Inserted.{empty-open}
-use Rattle.soundness.proofs.Lookups.{check-passes, passes-both, source-plain}
-use Rattle.soundness.proofs.Places.{line-open}
-use Rattle.soundness.proofs.Rebound.{Binds, bind-sound, line-empty, room-still, source-same}
-use Rattle.soundness.proofs.Removed.{deleted-leaves}
+use Rattle.soundness.proofs.Laws.{Binds, bind-sound, bindable, check-passes, deleted-leaves, empty-open, line-empty, line-open, passes-both, room-below, room-still, source-plain, source-same}
 use Rattle.soundness.specs.Calls.{IsRoot, boot}
 
 -- ---- the checks, and then the slots

@@ -4,7 +4,7 @@ use Rattle.std.specs.List.{list_any, range_with_len}
 use Rattle.std.proofs.lemmas.Bool.{leb-true}
 use Rattle.agreement.specs.Agreement.{Agrees}
 use Rattle.agreement.specs.Wholeness.{IsWhole}
-use Rattle.cnode_ops.proofs.SomeSlot.{store-some}
+use Rattle.cnode_ops.proofs.Laws.{store-some}
 use Rattle.cnode_ops.specs.Refusals.{some_slot}
 use Rattle.irq.proofs.Left.{Child, child-state, child-whole}
 use Rattle.irq.specs.Handlers.{handler_place, is_handled}
@@ -22,11 +22,7 @@ use Rattle.model.specs.declared.errors.KError.{KError}
 use Rattle.model.specs.declared.errors.KError.TheVariants.{IllegalOperation, RangeError, RevokeFirst}
 use Rattle.model.specs.declared.invocations.SlotName.{SlotName}
 use Rattle.objects.specs.Tables.{Tables, state_of}
-use Rattle.soundness.proofs.CNodeCalls.{room-below}
-use Rattle.soundness.proofs.CopyingCalls.{get-sound}
-use Rattle.soundness.proofs.Inserted.{empty-open}
-use Rattle.soundness.proofs.Lookups.{check-passes, destination-plain, passes-both}
-use Rattle.soundness.proofs.Places.{plain-open}
+use Rattle.soundness.proofs.Laws.{check-passes, destination-plain, empty-open, get-sound, passes-both, plain-open, room-below}
 use Rattle.soundness.specs.Calls.{IsRoot, held}
 
 -- ---- the checks, and then the slots

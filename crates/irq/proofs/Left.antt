@@ -1,7 +1,6 @@
 -- What a call on a line leaves is whole.
 use Rattle.std.proofs.Common.{ℕ, ◌≡◌, ◌∙◌, false, IsSome, List, Option, Some, None, Result, Ok, Err, OnErr, refl, sym, ap, subst}
-use Rattle.agreement.proofs.Laws.{follows-law}
-use Rattle.agreement.proofs.Puts.{copy-agrees, put-closes}
+use Rattle.agreement.proofs.Laws.{copy-agrees, follows-law, put-closes}
 use Rattle.agreement.specs.Wholeness.{Agreed, IsWhole}
 use Rattle.model.specs.Kernel.Outcomes.{GivesState}
 use Rattle.model.specs.Capabilities.CapabilityKinds.{frame_mapping}
@@ -15,8 +14,7 @@ use Rattle.model.specs.declared.capabilities.Cap.{Cap}
 use Rattle.model.specs.declared.errors.KError.{KError}
 use Rattle.model.specs.declared.slot_entries.Entry.{Entry}
 use Rattle.objects.specs.Tables.{Tables, state_of}
-use Rattle.soundness.proofs.Copies.{is_single}
-use Rattle.soundness.proofs.Removed.{deleted-sound}
+use Rattle.soundness.proofs.Laws.{deleted-sound, is_single}
 
 -- a removal, or nothing where it is refused
 pub removed-whole : {A : Type 0} {T : Type 0} (slots_of : T → Slots) (memory_of : T → List ℕ) (store now : T) (o then : Tables) (slot : ℕ) (result : Result A KError)

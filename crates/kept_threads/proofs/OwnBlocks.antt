@@ -3,7 +3,7 @@ use Rattle.std.proofs.Common.{ℕ, zero, suc, ◌≡◌, ◌∙◌, ◌==◌, �
 use Rattle.std.specs.Prelude.{Contains, slice_get}
 use Rattle.std.specs.List.{enumerate_from, list_any}
 use Rattle.std.proofs.lemmas.Bool.{cases_eq, cases_order, eq-eqb, or_parts}
-use Rattle.thread_facts.proofs.Laws.{with_number, entry-from}
+use Rattle.thread_facts.proofs.Laws.{entry-from, with_number}
 use Rattle.booting.specs.Standing.{StandApart}
 use Rattle.fitting.specs.Fitting.{IsFitting}
 use Rattle.model.specs.Acceptance.Accepted.{IsWellFormed}

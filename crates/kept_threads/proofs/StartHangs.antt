@@ -4,8 +4,8 @@ use Rattle.std.specs.Prelude.{slice_get}
 use Rattle.std.proofs.lemmas.Bool.{cases_lt, false≢true, le-leb, lt-leb}
 use Rattle.std.proofs.lemmas.Option.{none-some, same_Some, slice_get_cases}
 use Rattle.fitting.specs.Fitting.{CapabilityFits, IsFitting, ObjectFits}
-use Rattle.fitting.proofs.ImageFits.{is-fitting}
-use Rattle.booting.proofs.Laws.{object-at, are-formed, ReadsBoot, listed-untyped, source-untyped, described-sound}
+use Rattle.fitting.proofs.Laws.{is-fitting}
+use Rattle.booting.proofs.Laws.{ReadsBoot, are-formed, described-sound, listed-untyped, object-at, source-untyped}
 use Rattle.model.specs.declared.capabilities.Cap.{Cap}
 use Rattle.model.specs.declared.entries.CapabilityEntry.{CapabilityEntry}
 use Rattle.model.specs.Acceptance.Accepted.{IsWellFormed}
@@ -22,9 +22,9 @@ use Rattle.model.specs.Images.Places.{cnode_slot, control_slot, handler_slot, in
 use Rattle.model.proofs.Depths.{depth-none, depth-some}
 use Rattle.thread_lookups.proofs.Laws.{HasKey, key-found}
 use Rattle.thread_spaces.specs.Given.{IsListed}
-use Rattle.thread_spaces.proofs.Laws.{original-below, boot-holds, capability-shown, from-loaded, listed-shown, parent-shown, parent-in-boot, stands-apart}
+use Rattle.thread_spaces.proofs.Laws.{boot-holds, capability-shown, from-loaded, listed-shown, original-below, parent-in-boot, parent-shown, stands-apart}
 use Rattle.thread_starts.proofs.Laws.{IsListedSlot, at-key, slot-listed}
-use Rattle.typestate.proofs.NamedKeys.{IsNamed, key-named}
+use Rattle.typestate.proofs.Laws.{IsNamed, key-named}
 use Rattle.thread_facts.specs.Hanging.{HangsAsListed}
 
 module _ (image : Image) (fits : whole_image.fits image ≡ true) (well : IsWellFormed image) where

@@ -10,7 +10,7 @@ use Rattle.model.specs.Images.Places.{offset_of, type_at}
 use Rattle.model.specs.Kernel.Retype.{NewObject, NewUntyped, NewThread, NewEndpoint, NewNotification, NewCNode, NewFrame, NewPageTable, NewRootTable, object}
 use Rattle.model.specs.Kernel.State.{Object, Status, Inactive, Runnable, ThreadObject, ThreadState, as_thread}
 use Rattle.thread_facts.specs.Standing.{IsControlBlock}
-use Rattle.thread_facts.proofs.Laws.{with_number, find-entry}
+use Rattle.thread_facts.proofs.Laws.{find-entry, with_number}
 
 -- ---- what is found
 

@@ -23,7 +23,7 @@ use Rattle.model.specs.Kernel.Soundness.{IsSound}
 use Rattle.model.specs.Kernel.State.{State}
 use Rattle.model.specs.Machine.ProgramMemory.{Content, RegisterFile}
 use Rattle.thread_facts.specs.Untouched.{IsUntouched}
-use Rattle.thread_facts.proofs.Laws.{implied, NamesFrame, names-frame}
+use Rattle.thread_facts.proofs.Laws.{NamesFrame, implied, names-frame}
 use Rattle.thread_steps.specs.Frames.{FrameIsKept, FramesAreKept}
 
 -- ---- code is mapped once, and without write

@@ -9,7 +9,7 @@ use Rattle.model.specs.Kernel.Setup.{fill}
 use Rattle.model.specs.Kernel.Soundness.{IsSound}
 use Rattle.objects.specs.Standing.{Standing}
 use Rattle.objects.specs.Tables.{Tables, state_of}
-use Rattle.soundness.proofs.Setups.{fill-whole}
+use Rattle.soundness.proofs.Laws.{fill-whole}
 
 -- bytes one after another, and all of them
 pub all-small : (bytes : List ℕ) → ((i : ℕ) → slice_index bytes i < 2 ^ 8) → All (λ byte. byte < 2 ^ 8) bytes

@@ -4,7 +4,7 @@ use Rattle.std.specs.Option.{option_map_or}
 use Rattle.std.proofs.Math.Pow.{pow_mono}
 use Rattle.std.proofs.lemmas.Bool.{le-leb}
 use Rattle.std.proofs.lemmas.Nat.{pow-add}
-use Rattle.agreement.proofs.Bare.{bare-agrees}
+use Rattle.agreement.proofs.Laws.{bare-agrees}
 use Rattle.agreement.specs.Agreement.{Agrees}
 use Rattle.agreement.specs.Wholeness.{IsWhole}
 use Rattle.model.specs.Capabilities.Slots.{Slots, empty_entry, opened}
@@ -14,7 +14,7 @@ use Rattle.model.specs.Kernel.State.{State, boot_area_slots, with_slots}
 use Rattle.model.specs.declared.capabilities.Cap.TheVariants.{Empty}
 use Rattle.objects.specs.Standing.{Standing}
 use Rattle.objects.specs.Tables.{Tables, state_of}
-use Rattle.soundness.proofs.FreshMachines.{fresh-sound}
+use Rattle.soundness.proofs.Laws.{fresh-sound}
 
 -- the boot area and the interrupt table fit into memory
 pub boot-fits : (bits radix : ℕ) → 16 ≤ bits → radix + 5 ≤ bits → 16 * (2 ^ radix + 64) ≤ 2 ^ bits

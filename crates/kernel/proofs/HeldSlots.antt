@@ -12,9 +12,9 @@ use Rattle.model.specs.Kernel.Removal.{slot_count}
 use Rattle.model.specs.Kernel.Soundness.{HasSlot, of_boot_area, of_object, IsSound}
 use Rattle.model.specs.Kernel.State.{State}
 use Rattle.model.specs.declared.slot_entries.Entry.{Entry}
-use Rattle.objects.proofs.Alignments.{object-aligned}
+use Rattle.objects.proofs.Laws.{object-aligned}
 use Rattle.objects.specs.Tables.{Tables, state_of}
-use Rattle.soundness.proofs.Places.{object-inside, slot-stands}
+use Rattle.soundness.proofs.Laws.{object-inside, slot-stands}
 
 module _ (s : State) where
   table-slots : slots_of_holder s (16 * 2 ^ s.boot_radix) ≡ 64

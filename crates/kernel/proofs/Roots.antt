@@ -1,8 +1,7 @@
 -- A capability without a parent comes into an empty boot slot.
 use Rattle.std.proofs.Common.{ℕ, ◌≡◌, ◌∙◌, ◌^◌, ◌<◌, ◌&&◌, Bool, true, false, not, nat_lt, if◌then◌else◌, Option, Some, None, IsSome, List, refl, sym, ap, subst}
 use Rattle.std.proofs.lemmas.Bool.{and_parts, ltb-true, not-true}
-use Rattle.agreement.proofs.Laws.{follows-law}
-use Rattle.agreement.proofs.Puts.{put-agrees, put-closes}
+use Rattle.agreement.proofs.Laws.{follows-law, put-agrees, put-closes}
 use Rattle.agreement.specs.Wholeness.{Agreed}
 use Rattle.model.specs.Capabilities.CapabilityWords.{IsCapability}
 use Rattle.model.specs.Capabilities.Slots.{IsOpen, SameOutside, Slots, empty_entry, inserted, is_full}
@@ -13,8 +12,7 @@ use Rattle.model.specs.declared.capabilities.Cap.{Cap}
 use Rattle.model.specs.declared.capabilities.Cap.TheVariants.{Empty, Untyped, Endpoint, Notification, CNode, Frame, PageTable, Tcb, RootTable, InterruptControl, InterruptHandler}
 use Rattle.model.specs.declared.slot_entries.Entry.{Entry}
 use Rattle.objects.specs.Tables.{Tables, state_of}
-use Rattle.soundness.proofs.Inserted.{empty-open}
-use Rattle.soundness.proofs.Places.{of_boot_cnode, plain-open}
+use Rattle.soundness.proofs.Laws.{empty-open, of_boot_cnode, plain-open}
 use Rattle.vspace.specs.Agreement.{IsWithoutTables, MayBePut}
 use Rattle.vspace.specs.Kept.{IsNamedTable, NamesTable}
 

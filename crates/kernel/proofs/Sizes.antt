@@ -6,7 +6,7 @@ use Rattle.model.specs.Kernel.Kinds.{kind_of}
 use Rattle.model.specs.Kernel.Retype.{object_bits}
 use Rattle.model.specs.Kernel.Soundness.{IsSound}
 use Rattle.model.specs.Kernel.State.{State}
-use Rattle.soundness.proofs.Places.{object-inside}
+use Rattle.soundness.proofs.Laws.{object-inside}
 
 pub none-behind : (s : State) (memory : List ℕ) (place : ℕ) → IsSound s → Agrees s memory → length memory ≤ place → s.objects place ≡ None
 none-behind s memory place sound agrees behind = elim (s.objects place) as (λ o. s.objects place ≡ o → o ≡ None) [

@@ -1,4 +1,5 @@
-pub mod Marked
-pub mod OneAfterAnother
-pub mod OneMade
-pub mod Places
+mod Marked
+mod OneAfterAnother
+mod OneMade
+mod Places
+pub mod Laws

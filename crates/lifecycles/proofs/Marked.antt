@@ -2,9 +2,7 @@
 use Rattle.std.proofs.Common.{ℕ, ◌≡◌, ◌≢◌, ◌∙◌, ◌+◌, ◌-◌, ◌*◌, ◌^◌, ◌<◌, ◌≤◌, inl, inr, not, true, false, Option, Some, IsSome, List, refl, sym, ap, subst, arith}
 use Rattle.std.proofs.Math.Pow.{pow_mono}
 use Rattle.std.proofs.lemmas.Bool.Decides.{eqb_tells}
-use Rattle.agreement.proofs.Laws.{slots-law, stands-law}
-use Rattle.agreement.proofs.NewBegin.{growing-base}
-use Rattle.agreement.proofs.Puts.{put-closes}
+use Rattle.agreement.proofs.Laws.{growing-base, put-closes, slots-law, stands-law}
 use Rattle.agreement.specs.Wholeness.{Agreed}
 use Rattle.agreement.specs.Growing.{Growing}
 use Rattle.cnode_ops.specs.Placed.{IsPlaced, used_to}
@@ -25,8 +23,7 @@ use Rattle.model.specs.declared.capabilities.Cap.TheVariants.{Empty, Untyped}
 use Rattle.model.specs.declared.slot_entries.Entry.{Entry}
 use Rattle.objects.specs.Standing.{Standing}
 use Rattle.objects.specs.Tables.{Tables, state_of}
-use Rattle.soundness.proofs.Places.{slot-near}
-use Rattle.soundness.proofs.UnusedMemory.{unused-free}
+use Rattle.soundness.proofs.Laws.{slot-near, unused-free}
 
 -- ---- another capability in a slot
 

@@ -1,11 +1,7 @@
 -- Objects one after another: none is made at first, one more each time, and all at the end.
 use Rattle.std.proofs.Common.{ℕ, ◌≡◌, ◌≢◌, ◌∙◌, ◌+◌, ◌-◌, ◌*◌, ◌/◌, ◌%◌, ◌^◌, ◌<◌, ◌≤◌, inl, inr, pow_pos, Bool, true, false, if◌then◌else◌, Option, Some, IsSome, List, refl, sym, ap, subst, arith}
 use Rattle.std.proofs.Math.Nat.{add-mul-mod_self_right, mul-le-mul_right}
-use Rattle.agreement.proofs.NewBeside.{parent-depth, parent-full, rest-empty, window-apart}
-use Rattle.agreement.proofs.NewPlaced.{inserted-first}
-use Rattle.agreement.proofs.NewStates.{sixteen, slots-within}
-use Rattle.agreement.proofs.OneMore.{none-yet, one-more}
-use Rattle.agreement.proofs.RoomsMade.{alone, slots-opened}
+use Rattle.agreement.proofs.Laws.{alone, inserted-first, none-yet, one-more, parent-depth, parent-full, rest-empty, sixteen, slots-opened, slots-within, window-apart}
 use Rattle.agreement.specs.Growing.{Growing, one_placed}
 use Rattle.lifecycles.proofs.Places.{of-some, room-depth, room-full, room-of_open}
 use Rattle.lifecycles.specs.Beginnings.{AreLaid, AreMade}
@@ -18,7 +14,7 @@ use Rattle.model.specs.Kernel.Retype.{NewObject, NewObjects, first_capability, o
 use Rattle.model.specs.Kernel.State.{State}
 use Rattle.model.specs.declared.capabilities.Cap.TheVariants.{Empty}
 use Rattle.model.specs.declared.slot_entries.Entry.{Entry}
-use Rattle.soundness.proofs.NewKinds.{first-fresh, first-valid}
+use Rattle.soundness.proofs.Laws.{first-fresh, first-valid}
 
 -- ---- places
 

@@ -1,10 +1,7 @@
 -- The state once one object was made: its room, its record, and its capability.
 use Rattle.std.proofs.Common.{ℕ, ◌≡◌, ◌∙◌, ◌+◌, ◌%◌, ◌^◌, ◌<◌, ◌≤◌, ◌⊎◌, inl, inr, Bool, true, false, if◌then◌else◌, Option, Some, IsSome, option_map, List, refl, sym, ap, subst, arith}
 use Rattle.std.proofs.lemmas.Bool.Decides.{eqb_tells}
-use Rattle.agreement.proofs.Grown.{grown}
-use Rattle.agreement.proofs.Laws.{slots-law, stands-law}
-use Rattle.agreement.proofs.NewPlaced.{inserted-first, placed-object, placed-untyped}
-use Rattle.agreement.proofs.NewStates.{room-state, sixteen}
+use Rattle.agreement.proofs.Laws.{alone, grown, inserted-first, is-open, placed-object, placed-untyped, put-closes, room-state, sixteen, slots-law, stands-law}
 use Rattle.agreement.specs.Growing.{Growing, one_placed}
 use Rattle.agreement.specs.Rooms.{RoomMade, has_page}
 use Rattle.cnode_ops.specs.Placed.{new_type}
@@ -18,8 +15,6 @@ use Rattle.model.specs.Kernel.Kinds.{kind_at, kind_of}
 use Rattle.model.specs.Kernel.Retype.{NewObject, first_capability, is_large_enough, is_small_enough, object_bits, with_first_capabilities, with_new_slots}
 use Rattle.model.specs.Kernel.State.{State, with_slots}
 use Rattle.model.specs.declared.slot_entries.Entry.{Entry}
-use Rattle.agreement.proofs.Puts.{is-open, put-closes}
-use Rattle.agreement.proofs.RoomsMade.{alone}
 use Rattle.objects.specs.Changes.{begun, is_frame_kind}
 use Rattle.objects.specs.Frames.{SameBesideObjects}
 use Rattle.objects.specs.Standing.{Standing}
@@ -27,7 +22,7 @@ use Rattle.objects.specs.Tables.{Tables, state_of}
 use Rattle.objects.specs.Threads.{new_object}
 use Rattle.objects.specs.declared.records.Kind.{Kind}
 use Rattle.objects.specs.declared.records.Kind.TheVariants as kinds
-use Rattle.soundness.proofs.NewKinds.{first-valid}
+use Rattle.soundness.proofs.Laws.{first-valid}
 
 -- ---- kinds
 

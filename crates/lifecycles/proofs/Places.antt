@@ -1,8 +1,6 @@
 -- The place of a new object: nothing stands there, and what is at it when its room is made.
 use Rattle.std.proofs.Common.{ℕ, ◌≡◌, ◌∙◌, ◌+◌, ◌/◌, ◌%◌, ◌^◌, ◌<◌, inl, inr, Bool, true, false, if◌then◌else◌, Option, Some, None, IsSome, option_map, List, pow_pos, refl, sym, ap, subst, arith}
-use Rattle.agreement.proofs.NewBeside.{window-apart}
-use Rattle.agreement.proofs.OneMore.{some-one}
-use Rattle.agreement.proofs.RoomsMade.{alone, slots-alone}
+use Rattle.agreement.proofs.Laws.{alone, slots-alone, some-one, window-apart}
 use Rattle.agreement.specs.Growing.{Growing}
 use Rattle.model.proofs.Ancestors.{full-open}
 use Rattle.model.proofs.SlotChanges.{capability_of, full-same, parent_of}

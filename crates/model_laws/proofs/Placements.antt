@@ -1,7 +1,7 @@
 -- The first of new objects stands at a multiple of their size.
 use Rattle.std.proofs.Common.{ℕ, ◌≡◌, ◌+◌, ◌-◌, ◌*◌, ◌/◌, ◌%◌, ◌^◌, ◌<◌, ◌≤◌, true, false, Option, Some, None, if◌then◌else◌, nat_le, pow_pos, sym, ap, arith}
 use Rattle.model.specs.Capabilities.Placement.{align, place_of_object, placement}
-use Rattle.untyped.proofs.Multiples.{sum_is_multiple}
+use Rattle.untyped.proofs.Laws.{sum_is_multiple}
 
 first-aligned : (bits watermark object_bits count first end : ℕ) → placement bits watermark object_bits count ≡ Some (first, end) → first ≡ align watermark (2 ^ object_bits)
 first-aligned bits watermark object_bits count first end placed =

@@ -15,7 +15,7 @@ use Rattle.model.specs.Acceptance.RangeRules.{is_single, ranges_after, value_or}
 use Rattle.model.specs.Acceptance.Ranges.{full, moved, range_of, single, with_range}
 use Rattle.model.specs.Acceptance.ThreadInvariants.{LieWithin}
 use Rattle.ranges.specs.Inside.{LiesIn}
-use Rattle.ranges.proofs.WrittenRegisters.{written_within}
+use Rattle.ranges.proofs.Laws.{written_within}
 
 -- ---- ADDI
 

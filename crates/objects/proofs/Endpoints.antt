@@ -17,7 +17,7 @@ use Rattle.objects.specs.declared.records.Record.{Record}
 use Rattle.objects.specs.declared.records.Record.TheVariants.{Endpoint, Notification, CNode, Frame, PageTable, RootTable}
 use Rattle.objects.specs.declared.records.Sending.{Sending}
 use Rattle.objects.specs.declared.records.Thread.{Thread}
-use Rattle.queues.proofs.Parts.{head-rest}
+use Rattle.queues.proofs.Laws.{head-rest}
 use Rattle.queues.specs.Queues.{queue_of}
 
 -- ---- in any state

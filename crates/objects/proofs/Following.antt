@@ -11,7 +11,7 @@ use Rattle.objects.specs.Frames.{FitsMemory, IsInRecord, SameBesideFrames, SameK
 use Rattle.objects.specs.Standing.{AreThere, Standing, WaitAtObjects}
 use Rattle.objects.specs.Tables.{Tables, byte_in, is_frame, object_with, record_in, state_of, told_by}
 use Rattle.objects.specs.Waiting.{has_waiting}
-use Rattle.queues.proofs.Contracts.{stays, still-stand}
+use Rattle.queues.proofs.Laws.{stays, still-stand}
 use Rattle.queues.specs.Queues.{queue_of}
 
 pub own-slots : (o : Tables) (slots : Slots) (memory : List ℕ) → (state_of o slots memory).slots ≡ slots

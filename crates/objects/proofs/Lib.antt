@@ -1,21 +1,22 @@
-pub mod Alignments
-pub mod Beginning
-pub mod Begun
-pub mod Endpoints
-pub mod Ends
-pub mod Following
-pub mod FramePlaces
-pub mod Frames
-pub mod Fresh
-pub mod Joining
-pub mod InQueues
-pub mod Kept
-pub mod Leaving
-pub mod Lines
-pub mod Lists
-pub mod Repliers
-pub mod Replacing
-pub mod Serving
-pub mod Stepping
-pub mod Stranded
-pub mod Vacating
+mod Alignments
+mod Beginning
+mod Begun
+mod Endpoints
+mod Ends
+mod Following
+mod FramePlaces
+mod Frames
+mod Fresh
+mod Joining
+mod InQueues
+mod Kept
+mod Leaving
+mod Lines
+mod Lists
+mod Repliers
+mod Replacing
+mod Serving
+mod Stepping
+mod Stranded
+mod Vacating
+pub mod Laws

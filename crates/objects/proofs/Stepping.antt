@@ -29,7 +29,7 @@ use Rattle.objects.specs.declared.records.Record.{Record}
 use Rattle.objects.specs.declared.records.Sending.{Sending}
 use Rattle.objects.specs.declared.records.Status.TheVariants as statuses
 use Rattle.objects.specs.declared.records.Thread.{Thread}
-use Rattle.queues.proofs.Contracts.{stays, still-stand}
+use Rattle.queues.proofs.Laws.{stays, still-stand}
 use Rattle.queues.specs.Queues.{QueuedThreads, QueuesStand, SameBesideThreads, SameBesideWaiting, queue_of}
 
 -- what a call leaves: a state, and that it stands

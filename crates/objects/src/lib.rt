@@ -4,22 +4,22 @@
 #![tactic(auto)]
 
 mod calls;
-mod laws;
 mod line_calls;
 mod places;
 mod queue_calls;
 mod records;
 mod scheduling_calls;
+mod state_laws;
 mod tables;
 mod thread_calls;
 mod thread_places;
 mod threads;
 mod waiting;
 
-pub use laws::{
+pub use records::{Fault, Kind, Sending, Sent, Status, Thread, WaitingSender};
+pub use state_laws::{
     a_byte_is_in_memory, a_state_follows_its_frames, a_state_follows_its_slots,
     a_state_follows_other_bytes, a_state_has_its_slots, what_stands_beside_frames,
     what_stands_beside_other_bytes, what_stands_still_does,
 };
-pub use records::{Fault, Kind, Sending, Sent, Status, Thread, WaitingSender};
 pub use tables::{FULL_SLICE, Objects};

@@ -1,5 +1,6 @@
-pub mod Rooms
-pub mod Parts
-pub mod Standings
-pub mod Contracts
-pub mod Greatest
+mod Rooms
+mod Parts
+mod Standings
+mod Contracts
+mod Greatest
+pub mod Laws

@@ -2,10 +2,10 @@
 //! seL4 Reference Manual, "Endpoints", "Notifications", "Scheduling"; one table serves them all here.
 #![tactic(auto)]
 
-mod laws;
 mod lists;
+mod queue_laws;
 mod ready;
 
-pub use laws::{a_queue_stays, queues_that_stand_still_do};
 pub use lists::{Queued, Queues};
+pub use queue_laws::{a_queue_stays, queues_that_stand_still_do};
 pub use ready::ReadyList;

@@ -1,8 +1,9 @@
-pub mod BranchedRegisters
-pub mod BranchedSides
-pub mod Copies
-pub mod Ones
-pub mod ResultsInside
-pub mod WaysTaken
-pub mod Written
-pub mod WrittenRegisters
+mod BranchedRegisters
+mod BranchedSides
+mod Copies
+mod Ones
+mod ResultsInside
+mod WaysTaken
+mod Written
+mod WrittenRegisters
+pub mod Laws

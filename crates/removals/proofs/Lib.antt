@@ -1,19 +1,20 @@
-pub mod Found
-pub mod Lasts
-pub mod Parents
-pub mod Keeping
-pub mod Splits
-pub mod Children
-pub mod OneByOne
-pub mod Unaffected
-pub mod Stepwise
-pub mod Emptyings
-pub mod InSteps
-pub mod Finishing
-pub mod SameFull
-pub mod Loop
-pub mod Rounds
-pub mod Readiness
-pub mod Sweeping
-pub mod Whole
-pub mod Named
+mod Found
+mod Lasts
+mod Parents
+mod Keeping
+mod Splits
+mod Children
+mod OneByOne
+mod Unaffected
+mod Stepwise
+mod Emptyings
+mod InSteps
+mod Finishing
+mod SameFull
+mod Loop
+mod Rounds
+mod Readiness
+mod Sweeping
+mod Whole
+mod Named
+pub mod Laws

@@ -8,7 +8,7 @@ use Rattle.model.specs.declared.events.Event.{Event}
 use Rattle.model.specs.declared.labels.Label.{Label}
 use Rattle.runner.specs.Running.{Failed, PutsFront, ended, lines_of}
 use Rattle.sinks.specs.Sinks.{Grows, GrowsByBeginning, one_more}
-use Rattle.sinks.proofs.SinkLemmas.{Grows-then}
+use Rattle.sinks.proofs.Laws.{Grows-then}
 
 -- ---- beginnings
 

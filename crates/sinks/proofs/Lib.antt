@@ -1,1 +1,2 @@
-pub mod SinkLemmas
+mod SinkLemmas
+pub mod Laws

@@ -22,13 +22,7 @@ use Rattle.model.specs.Kernel.State.{State, ThreadObject, ThreadState, boot_area
 use Rattle.model.proofs.Ancestors.{full-open}
 use Rattle.model.proofs.SlotChanges.{capability_of, parent_of}
 use Rattle.removals.specs.Finishing.{MaySettle, has_slot, without_strays}
-use Rattle.removals.proofs.Finishing.{has-one, slot-left}
-use Rattle.removals.proofs.Found.{found-where, or-cases}
-use Rattle.removals.proofs.Keeping.{capability-out, kept-test, parent-out, there-in}
-use Rattle.removals.proofs.Named.{kind-threads}
-use Rattle.removals.proofs.Readiness.{valid-kept}
-use Rattle.removals.proofs.Rounds.{open-kept}
-use Rattle.removals.proofs.Whole.{may-settle, open-near}
+use Rattle.removals.proofs.Laws.{capability-out, found-where, has-one, kept-test, kind-threads, may-settle, open-kept, open-near, or-cases, parent-out, slot-left, there-in, valid-kept}
 use Rattle.soundness.proofs.Jumps.{depth-jumped, descends-full, descends-still, outside-above}
 use Rattle.soundness.proofs.Rest.{thread-kind}
 

@@ -1,46 +1,47 @@
-pub mod Bytes
-pub mod CNodeCalls
-pub mod Carried
-pub mod Copies
-pub mod CopyingCalls
-pub mod Delivered
-pub mod Events
-pub mod FreshMachines
-pub mod Grants
-pub mod Inserted
-pub mod Instructions
-pub mod Invoked
-pub mod Jumps
-pub mod LeftMemory
-pub mod LeftSlots
-pub mod LeftThreads
-pub mod Loading
-pub mod Lookups
-pub mod Machines
-pub mod MappingCalls
-pub mod Messages
-pub mod Moving
-pub mod NewKinds
-pub mod NewObjects
-pub mod NewPlaces
-pub mod Pieces
-pub mod Places
-pub mod QueueSteps
-pub mod Queues
-pub mod Rebound
-pub mod Recapped
-pub mod Registers
-pub mod Relocated
-pub mod Removed
-pub mod Rest
-pub mod RetypeCalls
-pub mod Running
-pub mod Setups
-pub mod Sizes
-pub mod Stepped
-pub mod Steps
-pub mod SystemCalls
-pub mod ThreadCalls
-pub mod UnmappedTables
-pub mod UnusedMemory
-pub mod Waking
+mod Bytes
+mod CNodeCalls
+mod Carried
+mod Copies
+mod CopyingCalls
+mod Delivered
+mod Events
+mod FreshMachines
+mod Grants
+mod Inserted
+mod Instructions
+mod Invoked
+mod Jumps
+mod LeftMemory
+mod LeftSlots
+mod LeftThreads
+mod Loading
+mod Lookups
+mod Machines
+mod MappingCalls
+mod Messages
+mod Moving
+mod NewKinds
+mod NewObjects
+mod NewPlaces
+mod Pieces
+mod Places
+mod QueueSteps
+mod Queues
+mod Rebound
+mod Recapped
+mod Registers
+mod Relocated
+mod Removed
+mod Rest
+mod RetypeCalls
+mod Running
+mod Setups
+mod Sizes
+mod Stepped
+mod Steps
+mod SystemCalls
+mod ThreadCalls
+mod UnmappedTables
+mod UnusedMemory
+mod Waking
+pub mod Laws

@@ -3,7 +3,7 @@ use Rattle.std.proofs.Common.{ℕ, ◌≡◌, ◌≢◌, ◌∙◌, ◌==◌, in
 use Rattle.std.proofs.lemmas.Bool.{eq-eqb, ne_eqb}
 use Rattle.std.proofs.lemmas.Bool.Decides.{eqb_tells}
 use Rattle.derivation.specs.Moves.{name_after_move}
-use Rattle.derivation.proofs.Moves.{descendant-moved}
+use Rattle.derivation.proofs.Laws.{descendant-moved}
 use Rattle.model.proofs.Ancestors.{full-open}
 use Rattle.model.proofs.Derivations.{derivation-relocated}
 use Rattle.model.proofs.SlotChanges.{capability_of, parent_of, capability-adopted, entry-other, entry-same, full-not-empty}

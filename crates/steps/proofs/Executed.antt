@@ -10,11 +10,7 @@ use Rattle.model.specs.Kernel.State.{State, thread_at}
 use Rattle.model.specs.Kernel.Steps.{registers_of}
 use Rattle.model.specs.Machine.Effects.{Effect, effect}
 use Rattle.model.specs.Machine.Instructions.{IsInstr, word_of}
-use Rattle.soundness.proofs.Bytes.{content-whole}
-use Rattle.soundness.proofs.Registers.{registers-of}
-use Rattle.soundness.proofs.Sizes.{Fits, effect-sound}
-use Rattle.soundness.proofs.Stepped.{byte-less}
-use Rattle.soundness.proofs.ThreadCalls.{fine-of, registers-whole}
+use Rattle.soundness.proofs.Laws.{Fits, byte-less, content-whole, effect-sound, fine-of, registers-of, registers-whole}
 use Rattle.soundness.specs.Running.{IsRunning}
 
 -- ---- instructions fit

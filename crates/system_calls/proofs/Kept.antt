@@ -1,7 +1,7 @@
 -- A call on objects by its definition leaves what is whole whole.
 use Rattle.std.proofs.Common.{ℕ, ◌≡◌, ◌∙◌, ◌^◌, ◌<◌, ◌≤◌, List, Some, sym, ap, subst, arith}
 use Rattle.std.proofs.Math.Pow.{pow_mono}
-use Rattle.agreement.proofs.Whole.{whole-kept}
+use Rattle.agreement.proofs.Laws.{whole-kept}
 use Rattle.agreement.specs.Wholeness.{IsWhole}
 use Rattle.model.specs.Capabilities.Slots.{Slots}
 use Rattle.model.specs.Kernel.Kinds.{kind_at}
@@ -11,7 +11,7 @@ use Rattle.model.specs.Kernel.State.{State}
 use Rattle.objects.specs.Frames.{SameObjects}
 use Rattle.objects.specs.Standing.{Standing}
 use Rattle.objects.specs.Tables.{Tables, state_of}
-use Rattle.soundness.proofs.Places.{object-inside}
+use Rattle.soundness.proofs.Laws.{object-inside}
 use Rattle.soundness.specs.Machines.{SameBase}
 
 -- the state that is sound there

@@ -13,11 +13,7 @@ use Rattle.model.specs.declared.capabilities.Cap.{Cap}
 use Rattle.model.specs.declared.errors.KError.{KError}
 use Rattle.model.specs.declared.errors.KError.TheVariants.{DeleteFirst, FailedLookup, IllegalOperation, InvalidCapability}
 use Rattle.model.specs.declared.invocations.SlotName.{SlotName}
-use Rattle.soundness.proofs.CNodeCalls.{room-below}
-use Rattle.soundness.proofs.Inserted.{empty-open}
-use Rattle.soundness.proofs.Lookups.{check-passes, passes-both, wanted-some}
-use Rattle.soundness.proofs.Places.{own-slot_open, thread-slot}
-use Rattle.soundness.proofs.Rest.{thread-kind}
+use Rattle.soundness.proofs.Laws.{check-passes, empty-open, own-slot_open, passes-both, room-below, thread-kind, thread-slot, wanted-some}
 use Rattle.tcb_ops.specs.Configuring.{MayConfigure, cnode_source, room_for_spaces, root_source, sources, spaces_put}
 use Rattle.tcb_ops.specs.declared.spaces.Sources.{Sources}
 

@@ -1,9 +1,6 @@
 -- What Configure leaves agrees as before.
 use Rattle.std.proofs.Common.{ℕ, ◌≡◌, ◌∙◌, Option, Some, None, IsSome, List, refl, sym, ap, subst, arith}
-use Rattle.agreement.proofs.Agreeing.{agrees-less}
-use Rattle.agreement.proofs.Laws.{follows-law}
-use Rattle.agreement.proofs.Lessened.{less-same}
-use Rattle.agreement.proofs.Puts.{copy-agrees, is-open, put-closes}
+use Rattle.agreement.proofs.Laws.{agrees-less, copy-agrees, follows-law, is-open, less-same, put-closes}
 use Rattle.agreement.specs.Agreement.{Agrees}
 use Rattle.agreement.specs.Wholeness.{Agreed}
 use Rattle.model.proofs.SlotChanges.{capability_of, full-not-empty}
@@ -16,12 +13,12 @@ use Rattle.model.specs.Kernel.ThreadCalls.{with_guard}
 use Rattle.model.specs.declared.capabilities.Cap.{Cap}
 use Rattle.objects.specs.Frames.{SameObjects}
 use Rattle.objects.specs.Tables.{Tables, state_of}
-use Rattle.soundness.proofs.Copies.{IsAlike, IsQuiet, alike-same, payload-alike, payload-mapping, root-quiet}
+use Rattle.soundness.proofs.Laws.{IsAlike, IsQuiet, alike-same, payload-alike, payload-mapping, root-quiet}
 use Rattle.tcb_ops.proofs.Checks.{configured}
 use Rattle.tcb_ops.proofs.Putting.{guarded-valid, quiet, still}
 use Rattle.tcb_ops.specs.Configuring.{MayConfigure, cspace_put, spaces_put}
 use Rattle.tcb_ops.specs.declared.spaces.Sources.{Sources}
-use Rattle.vspace.proofs.AgreementSlots.{agree-beside}
+use Rattle.vspace.proofs.Laws.{agree-beside}
 
 -- ---- the copies
 

@@ -10,7 +10,7 @@ use Rattle.model.specs.Kernel.State.{cspace_slot}
 use Rattle.model.specs.Kernel.ThreadCalls.{given_guard_fits, with_guard}
 use Rattle.model.specs.declared.capabilities.Cap.{Cap}
 use Rattle.model.specs.declared.slot_entries.Entry.{Entry}
-use Rattle.soundness.proofs.Copies.{IsQuiet, cnode-quiet, no-badge, payload-valid}
+use Rattle.soundness.proofs.Laws.{IsQuiet, cnode-quiet, no-badge, payload-valid}
 
 -- ---- the copy of the CNode's capability
 

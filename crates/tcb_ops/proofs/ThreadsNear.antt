@@ -6,7 +6,7 @@ use Rattle.model.specs.Kernel.Kinds.{kind_at, piece_of_object}
 use Rattle.model.specs.Kernel.Retype.{NewThread}
 use Rattle.model.specs.Kernel.Soundness.{IsSound}
 use Rattle.model.specs.Kernel.State.{State}
-use Rattle.soundness.proofs.Pieces.{named-piece}
+use Rattle.soundness.proofs.Laws.{named-piece}
 
 pub slots-near : (s : State) (thread : ℕ) → IsSound s → kind_at s thread ≡ Some NewThread → thread / 16 + 1 < 2 ^ 20
 slots-near s thread sound there =

@@ -1,10 +1,10 @@
 mod CodePages
 mod DecodedFields
 mod ListedThreads
-pub mod MappedPages
+mod MappedPages
 mod NotedKeys
 mod RootTables
 mod RulesKept
-pub mod ThreadObjects
+mod ThreadObjects
 mod WiderRanges
 pub mod Laws

@@ -4,7 +4,7 @@ use Rattle.std.specs.Option.{option_map_or}
 use Rattle.model.specs.Kernel.State.{State, Object, ThreadObject, ThreadState, as_thread, new_thread, thread_at}
 use Rattle.model.specs.Machine.ProgramMemory.{RegisterFile, read}
 use Rattle.model.specs.declared.instructions.Register.{Register}
-use Rattle.soundness.proofs.Delivered.{read-less as word-read}
+use Rattle.soundness.proofs.Laws.{read-less as word-read}
 
 -- the thread of an object
 pub at-place : (s : State) (x : ℕ) (t : ThreadState) → s.objects x ≡ Some (ThreadObject t) → thread_at s x ≡ t

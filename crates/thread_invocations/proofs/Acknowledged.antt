@@ -16,7 +16,7 @@ use Rattle.model.specs.Kernel.Soundness.{IsSound}
 use Rattle.model.specs.Kernel.State.{State, NotificationState, ThreadState, notification_at, put}
 use Rattle.thread_moves.specs.Laws.{Laws}
 use Rattle.thread_moves.specs.Moving.{CallsAt}
-use Rattle.thread_moves.proofs.Laws.{bound-there, unchanged-stand, HasSignalled, signal-leaves-so, calls-on}
+use Rattle.thread_moves.proofs.Laws.{HasSignalled, bound-there, calls-on, signal-leaves-so, unchanged-stand}
 
 -- masks and pending bits tell a signal nothing
 signals-same : (s : State) (masked pending : ℕ → Bool) (n badge y : ℕ) (o : NotificationState) (waiters : List ℕ)

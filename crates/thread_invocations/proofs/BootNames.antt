@@ -8,7 +8,7 @@ use Rattle.std.proofs.lemmas.Option.{slice_get-get_or}
 use Rattle.booting.specs.Loading.{all_loaded}
 use Rattle.booting.proofs.Laws.{AreFormed, FrameKept, ReadsObjects, are-formed, cnode-type, counts-are, frame-type, loaded-end, reads-objects, stand-apart}
 use Rattle.fitting.specs.Fitting.{FrameFits, IsFitting}
-use Rattle.fitting.proofs.ImageFits.{is-fitting}
+use Rattle.fitting.proofs.Laws.{is-fitting}
 use Rattle.kept_threads.proofs.Laws.{frame-aligned}
 use Rattle.model.specs.Acceptance.Accepted.{IsWellFormed}
 use Rattle.model.specs.Acceptance.NotedStates.{is_own_cnode}

@@ -3,7 +3,7 @@ use Rattle.std.proofs.Common.{ℕ, zero, suc, ◌≡◌, ◌∙◌, ◌+◌, ◌
 use Rattle.std.specs.Prelude.{Contains}
 use Rattle.std.specs.Option.{option_map_or}
 use Rattle.booting.proofs.Laws.{are-formed}
-use Rattle.fitting.proofs.ImageFits.{is-fitting}
+use Rattle.fitting.proofs.Laws.{is-fitting}
 use Rattle.thread_facts.specs.Hanging.{HangsAsListed}
 use Rattle.thread_facts.specs.Untouched.{IsUntouched}
 use Rattle.model.proofs.Depths.{depth-none, depth-some}

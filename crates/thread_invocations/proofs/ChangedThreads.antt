@@ -14,7 +14,7 @@ use Rattle.model.specs.Images.Image.{Image}
 use Rattle.model.specs.Kernel.Soundness.{IsSound}
 use Rattle.model.specs.Kernel.State.{State, Inactive, Object, ThreadObject, EndpointObject, NotificationObject, ThreadState}
 use Rattle.thread_moves.specs.Moving.{CallsAt, IsLeftAlone, PassesWith, WaitsOn}
-use Rattle.thread_moves.proofs.Laws.{IsCounted, NoThread, stands-alone, decided, runs-free}
+use Rattle.thread_moves.proofs.Laws.{IsCounted, NoThread, decided, runs-free, stands-alone}
 use Rattle.thread_invocations.specs.Answered.{DerivesFromSome}
 use Rattle.thread_invocations.specs.Changes.{ChangesOwn}
 use Rattle.thread_invocations.specs.Mirrors.{Mirrors}

@@ -11,7 +11,7 @@ use Rattle.model.specs.Kernel.Invocations.{invoke, perform}
 use Rattle.model.specs.Kernel.Messages.{a1, extra_capabilities_of, label_of, length_of, word_registers}
 use Rattle.model.specs.Kernel.State.{State}
 use Rattle.model.specs.Machine.ProgramMemory.{RegisterFile, read}
-use Rattle.soundness.proofs.Lookups.{passes-both, wanted-some, check-passes}
+use Rattle.soundness.proofs.Laws.{check-passes, passes-both, wanted-some}
 use Rattle.thread_invocations.specs.Performed.{IsOn}
 use Rattle.thread_invocations.proofs.CallWords.{first-words, words-taken}
 use Rattle.thread_invocations.proofs.CalledForms.{form-fits}

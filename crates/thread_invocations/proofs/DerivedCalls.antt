@@ -32,8 +32,7 @@ use Rattle.model.specs.Kernel.Removal.{remove}
 use Rattle.model.specs.Kernel.MappingCalls.{is_mapped, root_named, unmap_frame}
 use Rattle.model.specs.Kernel.Retype.{NewObjects, any_full, is_large_enough, is_small_enough, node, object_bits, retype, type_of, with_new}
 use Rattle.model.specs.Kernel.State.{State, slot_of, with_slots}
-use Rattle.soundness.proofs.Lookups.{passes-both}
-use Rattle.soundness.proofs.Machines.{acknowledge-machine}
+use Rattle.soundness.proofs.Laws.{acknowledge-machine, passes-both}
 use Rattle.thread_lookups.specs.Found.{slots_noted}
 use Rattle.thread_lookups.proofs.Laws.{home-inside, root-own}
 use Rattle.thread_invocations.specs.Answered.{DerivesFromSome}

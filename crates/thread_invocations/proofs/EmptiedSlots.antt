@@ -10,8 +10,8 @@ use Rattle.model.specs.declared.capabilities.Cap.TheVariants.{Empty, Untyped, En
 use Rattle.model.specs.declared.capabilities.FrameMapping.{FrameMapping}
 use Rattle.model.specs.declared.rights.Rights.{Rights}
 use Rattle.model.specs.declared.slot_entries.Entry.{Entry}
-use Rattle.removals.proofs.Parents.{outside-none}
-use Rattle.typestate.proofs.RemovedOwn.{reset}
+use Rattle.removals.proofs.Laws.{outside-none}
+use Rattle.typestate.proofs.Laws.{reset}
 
 module _ (s : State) (set : SlotSet) (slot : ℕ) where
   pub capability-left : capability_at (slots_emptied s set) slot ≡ (if set slot then Empty else kept s set slot (capability_at s.slots slot))

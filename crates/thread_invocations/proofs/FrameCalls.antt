@@ -26,8 +26,8 @@ use Rattle.model.specs.Kernel.Kinds.{object_named}
 use Rattle.model.specs.Kernel.MappingCalls.{is_mapped, root_named}
 use Rattle.model.specs.Kernel.State.{State, with_slots}
 use Rattle.booting.proofs.Laws.{goes, passes}
-use Rattle.soundness.proofs.Lookups.{check-passes, passes-both, wanted-some}
-use Rattle.typestate.proofs.HeldCaps.{root-near}
+use Rattle.soundness.proofs.Laws.{check-passes, passes-both, wanted-some}
+use Rattle.typestate.proofs.Laws.{root-near}
 use Rattle.thread_lookups.specs.Found.{slots_noted}
 use Rattle.thread_invocations.specs.Changes.{ChangesOwn}
 use Rattle.thread_invocations.specs.Mirrors.{Mirrors}

@@ -34,7 +34,7 @@ use Rattle.model.specs.Kernel.Waits.{is_error, is_fault}
 use Rattle.model.specs.Machine.ProgramMemory.{RegisterFile, read}
 use Rattle.thread_moves.specs.Moving.{CallsAt}
 use Rattle.thread_moves.specs.Steps.{GoesWell, MakesCall}
-use Rattle.thread_moves.proofs.Laws.{call-goes-well, named-here, IsFine}
+use Rattle.thread_moves.proofs.Laws.{IsFine, call-goes-well, named-here}
 use Rattle.thread_invocations.specs.Invoking.{Invokes}
 use Rattle.thread_invocations.specs.Laws.{Laws}
 use Rattle.thread_invocations.specs.Performed.{MayInvoke}

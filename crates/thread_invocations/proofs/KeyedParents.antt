@@ -7,7 +7,7 @@ use Rattle.model.specs.Acceptance.NotedStates.{SlotKey}
 use Rattle.model.specs.Acceptance.ThreadRules.{reached}
 use Rattle.model.specs.Images.Described.{Numbered}
 use Rattle.model.specs.Images.Image.{Image}
-use Rattle.typestate.proofs.NamedKeys.{key-named}
+use Rattle.typestate.proofs.Laws.{key-named}
 use Rattle.thread_invocations.proofs.BothSides.{Meets}
 use Rattle.thread_invocations.proofs.ParentsAway.{IsAway}
 use Rattle.thread_invocations.proofs.OtherSlots.{other-unkeyed, unkeyed-other}

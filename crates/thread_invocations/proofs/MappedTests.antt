@@ -18,12 +18,9 @@ use Rattle.model.specs.Images.Described.{Numbered, described}
 use Rattle.model.specs.Images.Image.{Image, Thread}
 use Rattle.model.specs.Kernel.AddressSpaces.{is_page_taken, is_region_taken, maps_page, maps_region, page_size}
 use Rattle.model.specs.Kernel.State.{State, holds_some, slots_of}
-use Rattle.removals.proofs.Found.{found, found-at, found-where}
+use Rattle.removals.proofs.Laws.{found, found-at, found-where}
 use Rattle.typestate.specs.Mappings.{MappingsAreListed, is_outside, lists_page, maps_page_outside, maps_region_outside}
-use Rattle.typestate.proofs.HeldCaps.{none-among, some-taken}
-use Rattle.typestate.proofs.NamedKeys.{kept-rise, keys-rise}
-use Rattle.typestate.proofs.Rising.{RiseFrom}
-use Rattle.typestate.proofs.Standing.{noted-keeps}
+use Rattle.typestate.proofs.Laws.{RiseFrom, kept-rise, keys-rise, none-among, noted-keeps, some-taken}
 use Rattle.thread_spaces.proofs.Laws.{mappings-listed}
 use Rattle.thread_invocations.specs.Mirrors.{Mirrors}
 use Rattle.thread_invocations.proofs.TablesInBoot.{maps-in-boot}

@@ -16,7 +16,7 @@ use Rattle.model.specs.Images.Image.{Image}
 use Rattle.model.specs.Kernel.Arguments.{◌>>=◌, argument_slot, check, whole}
 use Rattle.model.specs.Kernel.State.{State}
 use Rattle.thread_lookups.specs.Found.{slots_noted}
-use Rattle.thread_lookups.proofs.Laws.{goes-noted, passes-not, capability_noted, capability-noted, own-same, HasKey, key-found, GoesSame, found-own}
+use Rattle.thread_lookups.proofs.Laws.{GoesSame, HasKey, capability-noted, capability_noted, found-own, goes-noted, key-found, own-same, passes-not}
 use Rattle.typestate.specs.Spaces.{NothingLeadsOutside, StandsApart, is_inside}
 
 -- ---- an argument, and the lookup behind it

@@ -18,12 +18,10 @@ use Rattle.model.specs.Kernel.State.{State}
 use Rattle.model.proofs.Depths.{depth-none, depth-some}
 use Rattle.thread_facts.specs.Hanging.{HangsAsListed}
 use Rattle.thread_lookups.specs.Found.{slots_noted}
-use Rattle.thread_lookups.proofs.Laws.{found-there, entry-noted, slot-noted, HasKey, key-found}
+use Rattle.thread_lookups.proofs.Laws.{HasKey, entry-noted, found-there, key-found, slot-noted}
 use Rattle.typestate.specs.SlotChanges.{boot_depth, noted_depth}
 use Rattle.typestate.specs.Spaces.{AreOwn, StandsApart}
-use Rattle.typestate.proofs.KernelDepths.{depth-is}
-use Rattle.typestate.proofs.NamedKeys.{IsNamed, key-named}
-use Rattle.typestate.proofs.Standing.{parent-key}
+use Rattle.typestate.proofs.Laws.{IsNamed, depth-is, key-named, parent-key}
 use Rattle.thread_invocations.specs.Changes.{DerivesNear}
 use Rattle.thread_invocations.specs.Mirrors.{key_above}
 use Rattle.thread_invocations.proofs.BootDepths.{depth-first, hangs-below}

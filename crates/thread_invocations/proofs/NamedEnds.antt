@@ -13,7 +13,7 @@ use Rattle.model.specs.Images.Image.{Image}
 use Rattle.model.specs.Kernel.Arguments.{◌>>=◌, destination_slot, source_slot}
 use Rattle.model.specs.Kernel.State.{State}
 use Rattle.booting.proofs.Laws.{goes}
-use Rattle.soundness.proofs.Lookups.{passes-both}
+use Rattle.soundness.proofs.Laws.{passes-both}
 use Rattle.thread_lookups.specs.Found.{slots_noted}
 use Rattle.thread_invocations.specs.Mirrors.{Mirrors}
 use Rattle.thread_invocations.proofs.NamedSlots.{IsNamedSo, cnode-inside, destination-named, named-destination, named-so, named-source, root-inside, source-named}

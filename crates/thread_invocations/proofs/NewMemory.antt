@@ -10,7 +10,7 @@ use Rattle.model.specs.Kernel.Kinds.{kind_at, kind_of}
 use Rattle.model.specs.Kernel.Retype.{NewObject, NewObjects, NewFrame, is_frame, object, object_bits, place_of_new, size_of, some_new, with_new_bytes, with_new_objects}
 use Rattle.model.specs.Kernel.State.{State, Object}
 use Rattle.soundness.specs.Unused.{IsUnused}
-use Rattle.soundness.proofs.NewPlaces.{IsLaid, next-within, some-place}
+use Rattle.soundness.proofs.Laws.{IsLaid, next-within, some-place}
 
 -- ---- numbers
 

@@ -4,7 +4,7 @@ use Rattle.std.specs.Prelude.{fold}
 use Rattle.std.specs.Option.{option_map_or}
 use Rattle.std.proofs.lemmas.Bool.{eq-eqb, false≢true}
 use Rattle.thread_facts.specs.Waiting.{NamesQueue, QueuesSo, WaitsSo}
-use Rattle.soundness.proofs.Carried.{full-near}
+use Rattle.soundness.proofs.Laws.{full-near}
 use Rattle.model.specs.declared.errors.KError.{KError}
 use Rattle.model.specs.declared.errors.KError.TheVariants.{RevokeFirst}
 use Rattle.model.specs.Acceptance.Authority.{Holds}

@@ -17,10 +17,10 @@ use Rattle.model.specs.Images.Image.{Image}
 use Rattle.model.specs.Kernel.Arguments.{◌>>=◌, argument_slot, wanted}
 use Rattle.model.specs.Kernel.Retype.{any_full, node}
 use Rattle.model.specs.Kernel.State.{State, slot_of}
-use Rattle.soundness.proofs.Lookups.{passes-both, wanted-some}
+use Rattle.soundness.proofs.Laws.{passes-both, wanted-some}
 use Rattle.typestate.specs.Spaces.{is_among}
 use Rattle.thread_lookups.specs.Found.{slots_noted}
-use Rattle.thread_lookups.proofs.Laws.{home-inside, slot-own, root-own}
+use Rattle.thread_lookups.proofs.Laws.{home-inside, root-own, slot-own}
 use Rattle.thread_invocations.specs.Mirrors.{Mirrors}
 
 -- ---- results and lists

@@ -5,7 +5,7 @@ use Rattle.std.specs.List.{list_all}
 use Rattle.std.proofs.lemmas.Bool.{and_parts}
 use Rattle.std.proofs.lemmas.Option.{none-some, same_Some}
 use Rattle.fitting.specs.Fitting.{IsFitting}
-use Rattle.kept_threads.proofs.Laws.{Each, each-contained, each-picked, IsOwnKey, key-kept, keys-own}
+use Rattle.kept_threads.proofs.Laws.{Each, IsOwnKey, each-contained, each-picked, key-kept, keys-own}
 use Rattle.model.specs.Acceptance.Authority.{IsOwnSlot}
 use Rattle.model.specs.Acceptance.NotedKernel.{key_of, keys_of, noted_after, noted_of, slot_of_key}
 use Rattle.model.specs.Acceptance.NotedStates.{NotedSlot, SlotKey}
@@ -14,7 +14,7 @@ use Rattle.model.specs.Capabilities.CapabilityWords.{IsCapability}
 use Rattle.model.specs.Capabilities.Slots.{IsFull, Slots, capability_at, is_full, parent_at}
 use Rattle.model.specs.Images.Described.{Numbered}
 use Rattle.model.specs.Images.Image.{Image, Thread}
-use Rattle.thread_lookups.proofs.Laws.{found-there, slot-noted, AreLow, HasKey, key-found, keys-low}
+use Rattle.thread_lookups.proofs.Laws.{AreLow, HasKey, found-there, key-found, keys-low, slot-noted}
 use Rattle.thread_steps.specs.Formed.{AreFormed, is_low}
 use Rattle.thread_steps.proofs.Laws.{after-low}
 use Rattle.typestate.specs.Spaces.{StandsApart}

@@ -12,10 +12,7 @@ use Rattle.model.specs.Kernel.Removal.{SlotSet, kept, loses_last_child, new_pare
 use Rattle.model.specs.Kernel.State.{State}
 use Rattle.model.specs.declared.capabilities.Cap.TheVariants.{Empty}
 use Rattle.model.specs.declared.errors.KError.{KError}
-use Rattle.typestate.proofs.Allowed.{slots_allowed}
-use Rattle.typestate.proofs.KernelDepths.{stays-there}
-use Rattle.typestate.proofs.RemovedOwn.{MayRemove, kept-is, own-same, removed-slots, reset}
-use Rattle.typestate.proofs.Standing.{noted-there}
+use Rattle.typestate.proofs.Laws.{MayRemove, kept-is, noted-there, own-same, removed-slots, reset, slots_allowed, stays-there}
 use Rattle.thread_lookups.specs.Found.{slots_noted}
 use Rattle.thread_invocations.specs.Mirrors.{Mirrors, key_above}
 use Rattle.thread_invocations.proofs.BothSides.{Meets, lost-same, new-meets}

@@ -10,7 +10,7 @@ use Rattle.model.specs.Acceptance.ThreadRules.{reached}
 use Rattle.model.specs.Capabilities.Slots.{Slots, capability_at, is_empty}
 use Rattle.model.specs.Images.Described.{Numbered}
 use Rattle.model.specs.Images.Image.{Image}
-use Rattle.kept_threads.proofs.Laws.{Each, each-so, same-picked, IsOwnKey, noted-own}
+use Rattle.kept_threads.proofs.Laws.{Each, IsOwnKey, each-so, noted-own, same-picked}
 use Rattle.thread_invocations.specs.Mirrors.{key_above}
 
 -- every slot full

@@ -10,7 +10,7 @@ use Rattle.model.specs.Capabilities.Slots.{IsFull, Slots, capability_at, is_full
 use Rattle.model.specs.Images.Described.{Numbered}
 use Rattle.model.specs.Images.Image.{Image}
 use Rattle.thread_spaces.proofs.Laws.{find-passed}
-use Rattle.thread_lookups.proofs.Laws.{slot-noted, key-found}
+use Rattle.thread_lookups.proofs.Laws.{key-found, slot-noted}
 use Rattle.typestate.specs.Spaces.{StandsApart}
 use Rattle.kept_threads.proofs.Laws.{each-contained, each-picked}
 use Rattle.thread_invocations.specs.Mirrors.{key_above}

@@ -6,8 +6,8 @@ use Rattle.std.specs.Option.{option_map_or}
 use Rattle.std.proofs.lemmas.Bool.{and_from, eq-eqb}
 use Rattle.std.proofs.lemmas.Option.{none-some, slice_get_within}
 use Rattle.fitting.specs.Fitting.{IsFitting}
-use Rattle.fitting.proofs.ImageFits.{is-fitting}
-use Rattle.booting.proofs.Laws.{are-formed, boot-slots-suffice, ReadsBoot}
+use Rattle.fitting.proofs.Laws.{is-fitting}
+use Rattle.booting.proofs.Laws.{ReadsBoot, are-formed, boot-slots-suffice}
 use Rattle.model.specs.declared.capabilities.Cap.{Cap}
 use Rattle.model.specs.declared.capabilities.Cap.TheVariants.{Empty, Untyped, Endpoint, Notification, CNode, Frame, PageTable, Tcb, RootTable, InterruptControl, InterruptHandler}
 use Rattle.model.specs.declared.capabilities.FrameMapping.{FrameMapping}
@@ -28,7 +28,7 @@ use Rattle.model.specs.Images.Places.{boot_slots, frame_copy_slot, offset_of}
 use Rattle.model.specs.Kernel.AddressSpaces.{Maps, maps_page, page_size}
 use Rattle.model.specs.Kernel.State.{State}
 use Rattle.thread_facts.specs.Standing.{AllStand}
-use Rattle.kept_threads.proofs.Laws.{each-contained, IsOwnKey, noted-own}
+use Rattle.kept_threads.proofs.Laws.{IsOwnKey, each-contained, noted-own}
 use Rattle.thread_spaces.proofs.Laws.{boot-holds, capability-shown, from-loaded}
 use Rattle.thread_starts.proofs.Laws.{contained}
 use Rattle.thread_invocations.specs.Changes.{MapsNothingElse}

@@ -12,9 +12,7 @@ use Rattle.model.specs.Images.Image.{Image, Thread}
 use Rattle.kept_threads.proofs.Laws.{Each, member-passes}
 use Rattle.thread_spaces.proofs.Laws.{key-owned}
 use Rattle.typestate.specs.Spaces.{AreOwn, StandsApart, is_own_slot}
-use Rattle.typestate.proofs.NamedKeys.{EachKey, IsNamed, each-own, kept-rise, key-named, keys-rise}
-use Rattle.typestate.proofs.Rising.{RiseFrom}
-use Rattle.typestate.proofs.Standing.{come-back-from, noted-keeps}
+use Rattle.typestate.proofs.Laws.{EachKey, IsNamed, RiseFrom, come-back-from, each-own, kept-rise, key-named, keys-rise, noted-keeps}
 
 -- a slot with a key is one of the thread's
 pub own-keyed : (image : Image) (t : Thread) (slot : ℕ) (key : SlotKey) → key_of image (reached image t) slot ≡ Some key → IsOwnSlot image t slot

@@ -29,7 +29,7 @@ use Rattle.model.specs.Kernel.State.{State, Runnable, ThreadState}
 use Rattle.model.specs.Kernel.Steps.{completed, memory_base}
 use Rattle.model.specs.declared.system_calls.SendCall.{SendCall}
 use Rattle.model.specs.declared.system_calls.SendCall.TheVariants.{Calling, Sending, Trying}
-use Rattle.soundness.proofs.Machines.{acknowledge-machine}
+use Rattle.soundness.proofs.Laws.{acknowledge-machine}
 use Rattle.thread_moves.specs.Moving.{CallsAt}
 use Rattle.thread_moves.proofs.Laws.{one-thread}
 use Rattle.thread_invocations.specs.Changes.{ChangesOwn}

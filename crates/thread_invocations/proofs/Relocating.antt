@@ -13,9 +13,9 @@ use Rattle.model.specs.Capabilities.Slots.{adopted, capability_at, empty_entry, 
 use Rattle.model.specs.Images.Described.{Numbered}
 use Rattle.model.specs.Images.Image.{Image}
 use Rattle.model.specs.Kernel.State.{State, with_slots}
-use Rattle.removals.proofs.Found.{bool-iff}
+use Rattle.removals.proofs.Laws.{bool-iff}
 use Rattle.thread_lookups.specs.Found.{slots_noted}
-use Rattle.typestate.proofs.NamedKeys.{IsNamed, key-named}
+use Rattle.typestate.proofs.Laws.{IsNamed, key-named}
 use Rattle.thread_lookups.proofs.Laws.{key-found}
 use Rattle.thread_invocations.specs.Changes.{ChangesOwn, IsOther}
 use Rattle.thread_invocations.specs.Mirrors.{Mirrors}

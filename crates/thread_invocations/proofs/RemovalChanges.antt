@@ -15,7 +15,7 @@ use Rattle.model.specs.Kernel.State.{State, Object, ThreadObject, EndpointObject
 use Rattle.model.specs.declared.capabilities.Cap.TheVariants.{Empty, Frame}
 use Rattle.model.specs.declared.capabilities.FrameMapping.{FrameMapping}
 use Rattle.model.specs.declared.rights.Rights.{Rights}
-use Rattle.typestate.proofs.RemovedOwn.{reset}
+use Rattle.typestate.proofs.Laws.{reset}
 use Rattle.thread_invocations.specs.Changes.{ChangesOwn, MapsNothingElse}
 use Rattle.thread_invocations.specs.Mirrors.{Mirrors}
 use Rattle.thread_invocations.proofs.BootNames.{code-aligned, code-held}

@@ -16,8 +16,7 @@ use Rattle.model.specs.declared.capabilities.Cap.{Cap}
 use Rattle.model.specs.declared.capabilities.Cap.TheVariants.{Empty}
 use Rattle.model.specs.declared.slot_entries.Entry.{Entry}
 use Rattle.typestate.specs.Spaces.{HeldInBoot, StandsApart}
-use Rattle.typestate.proofs.RemovedOwn.{HeldElse, MayRemove}
-use Rattle.typestate.proofs.RemovedSlots.{no-table}
+use Rattle.typestate.proofs.Laws.{HeldElse, MayRemove, no-table}
 use Rattle.thread_invocations.specs.Changes.{IsOther}
 use Rattle.thread_invocations.proofs.OtherSlots.{unkeyed-other}
 use Rattle.thread_invocations.proofs.OwnHeld.{own-root}

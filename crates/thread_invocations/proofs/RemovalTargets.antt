@@ -11,7 +11,7 @@ use Rattle.model.specs.Images.Described.{Numbered}
 use Rattle.model.specs.Images.Image.{Image}
 use Rattle.model.specs.Kernel.Arguments.{◌>>=◌, argument_slot}
 use Rattle.model.specs.Kernel.State.{State}
-use Rattle.soundness.proofs.Lookups.{passes-both}
+use Rattle.soundness.proofs.Laws.{passes-both}
 use Rattle.thread_lookups.specs.Found.{slots_noted}
 use Rattle.typestate.specs.Spaces.{is_inside}
 use Rattle.thread_invocations.specs.Mirrors.{Mirrors}

@@ -16,7 +16,7 @@ use Rattle.model.specs.Kernel.Kinds.{kind_at}
 use Rattle.model.specs.Kernel.Retype.{NewFrame, object_bits, place_of_new}
 use Rattle.model.specs.Kernel.State.{State}
 use Rattle.soundness.specs.Unused.{IsUnused}
-use Rattle.soundness.proofs.NewPlaces.{IsLaid}
+use Rattle.soundness.proofs.Laws.{IsLaid}
 use Rattle.thread_lookups.specs.Found.{slots_noted}
 use Rattle.thread_invocations.specs.Mirrors.{Mirrors}
 use Rattle.thread_invocations.proofs.CodeFrames.{code-there}

@@ -14,7 +14,7 @@ use Rattle.model.specs.Capabilities.Slots.{Slots, depth_of, recapped}
 use Rattle.model.specs.Kernel.Arguments.{check, may_have_child, wanted}
 use Rattle.model.specs.Kernel.Retype.{NewObject, NewObjects, any_full, is_large_enough, is_small_enough, node, object_bits, retype, type_of, with_new}
 use Rattle.model.specs.Kernel.State.{State, slot_of, with_slots}
-use Rattle.soundness.proofs.Lookups.{check-passes, passes-both, wanted-some}
+use Rattle.soundness.proofs.Laws.{check-passes, passes-both, wanted-some}
 
 -- what a call asks for, and where it stands
 pub record Asked (slots : Slots) (root : Cap) (slot : ℕ) (memory : UntypedMemory) (asked : RetypeCall) : Type 0 where

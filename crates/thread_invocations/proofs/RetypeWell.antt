@@ -15,8 +15,7 @@ use Rattle.model.specs.Images.Described.{Numbered}
 use Rattle.model.specs.Images.Image.{Image}
 use Rattle.model.specs.Kernel.Retype.{object_bits}
 use Rattle.model.specs.Kernel.State.{State, Object, EndpointObject, NotificationObject, ThreadObject}
-use Rattle.soundness.proofs.NewPlaces.{IsLaid, laid}
-use Rattle.soundness.proofs.UnusedMemory.{unused-free}
+use Rattle.soundness.proofs.Laws.{IsLaid, laid, unused-free}
 use Rattle.soundness.specs.Unused.{IsUnused}
 use Rattle.thread_lookups.specs.Found.{slots_noted}
 use Rattle.thread_invocations.specs.Changes.{ChangesOwn}

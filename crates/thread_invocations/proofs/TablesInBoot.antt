@@ -8,7 +8,7 @@ use Rattle.std.proofs.lemmas.Option.{slice_get-get_or}
 use Rattle.booting.specs.Loading.{all_loaded, is_moved, original_so_far}
 use Rattle.booting.proofs.Laws.{AreFormed, CountsAreLengths, ReadsBoot, TableKept, are-formed, boot-slots-suffice, counts-are, first_of_type, mapped_by, original-untyped, table-type}
 use Rattle.fitting.specs.Fitting.{IsFitting, TableFits}
-use Rattle.fitting.proofs.ImageFits.{is-fitting}
+use Rattle.fitting.proofs.Laws.{is-fitting}
 use Rattle.model.specs.declared.entries.TableEntry.{TableEntry}
 use Rattle.model.specs.Acceptance.Accepted.{IsWellFormed}
 use Rattle.model.specs.Acceptance.WellFormed.{is_untyped_type}

@@ -4,7 +4,7 @@ use Rattle.std.specs.Prelude.{Contains, flat_map, slice_get}
 use Rattle.std.specs.List.{list_any}
 use Rattle.std.proofs.lemmas.Bool.{and_parts, cases_order, false≢true}
 use Rattle.std.proofs.lemmas.Option.{none-some, same_Some}
-use Rattle.fitting.proofs.ImageFits.{is-fitting}
+use Rattle.fitting.proofs.Laws.{is-fitting}
 use Rattle.booting.proofs.Laws.{AreFormed, ThreadKept, are-formed, cnode-slot, slot-of-one}
 use Rattle.model.specs.Acceptance.Accepted.{IsWellFormed}
 use Rattle.model.specs.Acceptance.Authority.{IsOwnSlot}
@@ -15,11 +15,11 @@ use Rattle.model.specs.Images.Described.{Numbered, is_object_slot, numbered_thre
 use Rattle.model.specs.Images.Image.{Image, whole_image}
 use Rattle.thread_facts.specs.Standing.{IsApart}
 use Rattle.thread_facts.proofs.Laws.{is-listed}
-use Rattle.kept_threads.proofs.Laws.{thread-entry, member-passes}
+use Rattle.kept_threads.proofs.Laws.{member-passes, thread-entry}
 use Rattle.thread_lookups.proofs.Laws.{key-found}
 use Rattle.thread_spaces.proofs.Laws.{stands-apart}
 use Rattle.thread_starts.proofs.Laws.{any-flat, contained, contains, none-at}
-use Rattle.typestate.proofs.NamedKeys.{key-named}
+use Rattle.typestate.proofs.Laws.{key-named}
 
 -- ---- lists
 

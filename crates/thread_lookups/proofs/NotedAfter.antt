@@ -10,7 +10,7 @@ use Rattle.model.specs.Acceptance.ThreadRules.{reached}
 use Rattle.model.specs.Capabilities.Slots.{Slots, capability_at, is_full, parent_at}
 use Rattle.model.specs.Images.Image.{Image, Thread}
 use Rattle.typestate.specs.Spaces.{StandsApart}
-use Rattle.typestate.proofs.NamedKeys.{is_among}
+use Rattle.typestate.proofs.Laws.{is_among}
 use Rattle.thread_lookups.proofs.ThreadKeys.{AreLow, HasKey, key-among, key-low, keys-low}
 
 -- ---- a look-up among what a function notes at keys

@@ -10,7 +10,7 @@ use Rattle.model.specs.Capabilities.Slots.{is_within}
 use Rattle.model.specs.Images.Image.{Image, Thread}
 use Rattle.model.specs.Images.Places.{cnode_slot, offset_of}
 use Rattle.typestate.specs.Spaces.{StandsApart}
-use Rattle.typestate.proofs.NamedKeys.{is_among}
+use Rattle.typestate.proofs.Laws.{is_among}
 use Rattle.thread_spaces.proofs.Laws.{or-second}
 
 -- ---- what is found in a list of numbers

@@ -6,7 +6,7 @@ use Rattle.model.specs.declared.lookup_failures.LookupFailure.{LookupFailure}
 use Rattle.model.specs.Capabilities.Lookup.{go_on, is_cnode, lookup_within, resolve}
 use Rattle.model.specs.Capabilities.Slots.{Slots, capability_at}
 use Rattle.typestate.specs.Spaces.{is_among}
-use Rattle.typestate.proofs.Lookups.{index-below}
+use Rattle.typestate.proofs.Laws.{index-below}
 
 abbrev Found : Type 0
 Found = Result (ℕ × ℕ) LookupFailure

@@ -23,7 +23,7 @@ use Rattle.model.specs.Kernel.Soundness.{IsSound}
 use Rattle.model.specs.Kernel.State.{State, NotificationState, binding_slot, notification_at, put, NotificationObject}
 use Rattle.model.specs.Kernel.Steps.{step}
 use Rattle.model.specs.Kernel.Waits.{open_count}
-use Rattle.soundness.proofs.Rest.{notification-kind}
+use Rattle.soundness.proofs.Laws.{notification-kind}
 use Rattle.thread_moves.specs.Resting.{OthersRest}
 use Rattle.thread_moves.specs.Laws.{Laws}
 use Rattle.thread_moves.proofs.Puts.{other-label}

@@ -2,7 +2,7 @@
 use Rattle.std.proofs.Common.{ℕ, ◌≡◌, ◌∙◌, ◌+◌, ◌++◌, Option, Some, Result, Ok, List, [], ◌∷◌, sym, ap, subst}
 use Rattle.std.specs.Prelude.{Contains, slice_index}
 use Rattle.std.specs.Option.{option_map_or}
-use Rattle.soundness.proofs.Running.{current-runs}
+use Rattle.soundness.proofs.Laws.{current-runs}
 use Rattle.call_points.specs.Known.{CallsSo, IsAllowed}
 use Rattle.thread_facts.specs.Standing.{AllStand}
 use Rattle.thread_facts.proofs.Laws.{at-place}

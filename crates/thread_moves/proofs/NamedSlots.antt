@@ -29,7 +29,7 @@ use Rattle.model.specs.Kernel.Retype.{NewEndpoint, NewNotification}
 use Rattle.model.specs.Kernel.State.{State, EndpointObject, EndpointState, NotificationObject, NotificationState, ThreadState}
 use Rattle.model.specs.Kernel.Steps.{named_slot, registers_of}
 use Rattle.model.specs.Machine.ProgramMemory.{read}
-use Rattle.soundness.proofs.Rest.{endpoint-kind, notification-kind}
+use Rattle.soundness.proofs.Laws.{endpoint-kind, notification-kind}
 use Rattle.thread_lookups.specs.Found.{FindsNoted, slots_noted}
 use Rattle.thread_moves.specs.Moving.{CallsAt}
 use Rattle.thread_moves.specs.Laws.{Laws}

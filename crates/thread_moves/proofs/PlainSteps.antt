@@ -3,7 +3,7 @@ use Rattle.std.proofs.Common.{ℕ, ◌≡◌, ◌∙◌, ◌==◌, ◌+◌, ◌-
 use Rattle.std.specs.Prelude.{Contains, slice_index}
 use Rattle.std.specs.Option.{option_map_or}
 use Rattle.std.proofs.lemmas.Bool.{eqb-true, eqb-false}
-use Rattle.soundness.proofs.Running.{current-runs}
+use Rattle.soundness.proofs.Laws.{current-runs}
 use Rattle.thread_facts.specs.Standing.{AllStand, IsControlBlock}
 use Rattle.thread_facts.specs.Untouched.{IsUntouched}
 use Rattle.thread_facts.specs.Waiting.{WaitsAsAsked}

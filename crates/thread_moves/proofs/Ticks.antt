@@ -1,7 +1,7 @@
 -- A tick moves no thread: it changes the slice of one, and its place in the ready list.
 use Rattle.std.proofs.Common.{ℕ, ◌≡◌, ◌≢◌, ◌∙◌, ◌-◌, ◌++◌, inl, inr, true, false, nat_le, if◌then◌else◌, Option, Some, None, List, [], ◌∷◌, refl, sym, ap}
 use Rattle.std.specs.Option.{option_map_or}
-use Rattle.soundness.proofs.Running.{current-runs}
+use Rattle.soundness.proofs.Laws.{current-runs}
 use Rattle.thread_facts.specs.Standing.{AllStand}
 use Rattle.model.specs.declared.events.Event.{Event}
 use Rattle.model.specs.declared.events.Event.TheVariants.{Tick}

@@ -4,9 +4,9 @@ use Rattle.std.specs.Prelude.{slice_get}
 use Rattle.std.specs.Option.{option_map_or}
 use Rattle.std.proofs.lemmas.Option.{slice_get_within}
 use Rattle.fitting.specs.Fitting.{IsFitting}
-use Rattle.fitting.proofs.ImageFits.{is-fitting}
+use Rattle.fitting.proofs.Laws.{is-fitting}
 use Rattle.booting.specs.Loading.{all_loaded, loaded}
-use Rattle.booting.proofs.Laws.{AreFormed, are-formed, IsWithin, ReadsBoot, entry, reads-boot, reads-cspace, reads-listed, loaded-end, described-sound, counts-are}
+use Rattle.booting.proofs.Laws.{AreFormed, IsWithin, ReadsBoot, are-formed, counts-are, described-sound, entry, loaded-end, reads-boot, reads-cspace, reads-listed}
 use Rattle.model.specs.declared.capabilities.Cap.{Cap}
 use Rattle.model.specs.declared.capabilities.Cap.TheVariants.{Empty}
 use Rattle.model.specs.declared.entries.CapabilityEntry.{CapabilityEntry}

@@ -5,9 +5,9 @@ use Rattle.std.specs.Option.{option_map_or}
 use Rattle.std.proofs.lemmas.Bool.{eq-eqb}
 use Rattle.std.proofs.lemmas.Option.{slice_get_within}
 use Rattle.fitting.specs.Fitting.{IsFitting}
-use Rattle.fitting.proofs.ImageFits.{is-fitting}
+use Rattle.fitting.proofs.Laws.{is-fitting}
 use Rattle.booting.specs.Loading.{all_loaded}
-use Rattle.booting.proofs.Laws.{are-formed, boot-slots-suffice, ReadsBoot, listed-behind, thread-behind}
+use Rattle.booting.proofs.Laws.{ReadsBoot, are-formed, boot-slots-suffice, listed-behind, thread-behind}
 use Rattle.model.specs.declared.capabilities.Cap.TheVariants.{Empty}
 use Rattle.model.specs.declared.slot_entries.Entry.{Entry}
 use Rattle.model.specs.declared.entries.InterruptEntry.{InterruptEntry}

@@ -6,7 +6,7 @@ use Rattle.std.specs.List.{list_any, range_with_len}
 use Rattle.std.proofs.lemmas.Bool.{and_parts, eq-eqb, eqb-true, or_cases}
 use Rattle.std.proofs.lemmas.Option.{none-some, same_Some, slice_get_within}
 use Rattle.fitting.specs.Fitting.{FrameFits, IsFitting, TableFits, ThreadFits}
-use Rattle.fitting.proofs.ImageFits.{is-fitting}
+use Rattle.fitting.proofs.Laws.{is-fitting}
 use Rattle.booting.specs.Loading.{all_loaded, is_moved, original_so_far}
 use Rattle.booting.proofs.Laws.{AreFormed, CapabilityKept, CountsAreLengths, ReadsBoot, TableKept, ThreadKept, are-formed, boot-slots-suffice, counts-are, first_of_type, limited-frame, limited-table, mapped_by, offsets-apart, original-untyped, range-from}
 use Rattle.model.specs.declared.capabilities.Cap.{Cap}
@@ -28,7 +28,7 @@ use Rattle.model.specs.Kernel.AddressSpaces.{maps_page, maps_region, page_size, 
 use Rattle.model.specs.Kernel.Retype.{NewObject, NewUntyped, NewThread, NewEndpoint, NewNotification, NewCNode, NewFrame, NewPageTable, NewRootTable}
 use Rattle.model.specs.Kernel.State.{slot_numbers, slots_of}
 use Rattle.typestate.specs.Mappings.{MappingsAreListed, lists_page, lists_region, maps_page_outside, maps_region_outside}
-use Rattle.typestate.proofs.Compared.{decided}
+use Rattle.typestate.proofs.Laws.{decided}
 use Rattle.thread_spaces.specs.Given.{IsListed}
 use Rattle.thread_spaces.proofs.BootParents.{IsPassed, find-passed}
 use Rattle.thread_spaces.proofs.DescribedSlots.{boot-holds, capability-shown, from-loaded}

@@ -8,7 +8,7 @@ use Rattle.model.specs.Acceptance.NotedStates.{NotedSlot, image_slots, listed_sl
 use Rattle.model.specs.Acceptance.ThreadRules.{is_member, reached}
 use Rattle.model.specs.Images.Image.{Image, Thread, pair_key}
 use Rattle.typestate.specs.Orders.{Rise}
-use Rattle.typestate.proofs.Rising.{RiseFrom}
+use Rattle.typestate.proofs.Laws.{RiseFrom}
 use Rattle.thread_spaces.proofs.Rounds.{drop-next}
 
 abbrev pub slots_in : Image → List ℕ → List CapabilityEntry → List NotedSlot

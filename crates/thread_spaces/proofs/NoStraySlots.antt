@@ -6,7 +6,7 @@ use Rattle.std.specs.List.{list_all, list_any}
 use Rattle.std.proofs.Math.Pow.{pow_mono}
 use Rattle.std.proofs.lemmas.Bool.{and_parts, leb-false, leb-true, ltb-true, or_parts}
 use Rattle.fitting.specs.Fitting.{IsFitting}
-use Rattle.fitting.proofs.ImageFits.{is-fitting}
+use Rattle.fitting.proofs.Laws.{is-fitting}
 use Rattle.booting.proofs.Laws.{are-formed, first_of_type, has-type}
 use Rattle.model.specs.declared.capabilities.Cap.{Cap}
 use Rattle.model.specs.declared.capabilities.Cap.TheVariants.{Empty, Untyped, Endpoint, Notification, CNode, Frame, PageTable, Tcb, RootTable, InterruptControl, InterruptHandler}
@@ -28,7 +28,7 @@ use Rattle.model.specs.Kernel.AddressSpaces.{page_size, region_pages}
 use Rattle.model.specs.Kernel.Retype.{NewObject, NewUntyped, NewThread, NewEndpoint, NewNotification, NewCNode, NewFrame, NewPageTable, NewRootTable, first_capability}
 use Rattle.typestate.specs.Differences.{changed}
 use Rattle.typestate.specs.Spaces.{AreOwn, is_own_slot}
-use Rattle.typestate.proofs.Standing.{found-all, found-key}
+use Rattle.typestate.proofs.Laws.{found-all, found-key}
 use Rattle.thread_spaces.specs.Given.{IsListed, is_narrow}
 use Rattle.thread_spaces.proofs.GivenCNodes.{reached-cnode}
 use Rattle.thread_spaces.proofs.ListedCapabilities.{source-inside}

@@ -7,7 +7,7 @@ use Rattle.std.proofs.lemmas.Bool.{eq-eqb, eqb-true}
 use Rattle.std.proofs.lemmas.Bool.Decides.{eqb_tells}
 use Rattle.std.proofs.lemmas.Option.{none-some}
 use Rattle.fitting.specs.Fitting.{IsFitting, ThreadFits}
-use Rattle.fitting.proofs.ImageFits.{is-fitting}
+use Rattle.fitting.proofs.Laws.{is-fitting}
 use Rattle.booting.specs.Loading.{all_loaded, is_moved, original_so_far}
 use Rattle.booting.proofs.Laws.{AreFormed, ReadsBoot, ThreadKept, are-formed, boot-slots-suffice, first_of_type, mapped_by, original-untyped, thread-type}
 use Rattle.model.specs.declared.capabilities.Cap.{Cap}

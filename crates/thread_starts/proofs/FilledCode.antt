@@ -9,8 +9,7 @@ use Rattle.std.proofs.lemmas.List.{get_or-drop, get_or-take, get_or_past, length
 use Rattle.std.proofs.lemmas.List.Elements.{All-append, All-map}
 use Rattle.std.proofs.lemmas.Option.{none-some, same_Some}
 use Rattle.fitting.specs.Fitting.{CertificateFits, FrameFits, IsFitting}
-use Rattle.fitting.proofs.Certificates.{certificates-fit}
-use Rattle.fitting.proofs.ImageFits.{is-fitting}
+use Rattle.fitting.proofs.Laws.{certificates-fit, is-fitting}
 use Rattle.booting.proofs.Laws.{AreFormed, FrameKept, ThreadKept, any-taken, are-formed, bytes-long, contents-fit, each-all, filtered-all, flat-all, numbered-at, objects-apart}
 use Rattle.model.specs.declared.entries.FrameEntry.{FrameEntry}
 use Rattle.model.specs.declared.entries.ObjectEntry.{ObjectEntry}

@@ -5,7 +5,7 @@ use Rattle.std.specs.Option.{option_map_or}
 use Rattle.std.proofs.lemmas.Bool.{and_parts, eq-eqb, false≢true}
 use Rattle.std.proofs.lemmas.Option.{none-some, same_Some, slice_get_within}
 use Rattle.fitting.specs.Fitting.{CapabilityFits, InterruptFits, IsFitting, ThreadFits}
-use Rattle.fitting.proofs.ImageFits.{is-fitting}
+use Rattle.fitting.proofs.Laws.{is-fitting}
 use Rattle.booting.proofs.Laws.{AreFormed, CapabilityKept, ThreadKept, are-formed, boot-slots-suffice, cnode-slot, cspace-slot, described-sound, no-thread, slot-behind-boot, slot-of-one, vspace-slot}
 use Rattle.model.specs.declared.capabilities.Cap.TheVariants.{Empty}
 use Rattle.model.specs.declared.entries.CapabilityEntry.{CapabilityEntry}
@@ -21,9 +21,7 @@ use Rattle.model.specs.Images.Image.{Image, Thread, pair_key, whole_image}
 use Rattle.model.specs.Images.Places.{boot_slots, cnode_slot, offset_of, type_at}
 use Rattle.model.specs.Kernel.State.{boot_area_slots, cspace_slot, vspace_slot}
 use Rattle.typestate.specs.Spaces.{StandsApart}
-use Rattle.typestate.proofs.NamedKeys.{same-own-key}
-use Rattle.typestate.proofs.Rising.{from-first}
-use Rattle.typestate.proofs.Standing.{after-is, back-of, found-key}
+use Rattle.typestate.proofs.Laws.{after-is, back-of, found-key, from-first, same-own-key}
 use Rattle.thread_spaces.specs.Given.{IsListed}
 use Rattle.thread_spaces.proofs.Laws.{OfSections, capability-shown, each-slot, each-two, listed-shown, negated, parent-in-boot, parent-shown, slots-rise, slots_in, stands-apart}
 

@@ -6,7 +6,7 @@ use Rattle.std.specs.List.{list_any}
 use Rattle.std.proofs.lemmas.Bool.{and_parts, eq-eqb, eqb-true, cases_lt, false≢true, or_parts}
 use Rattle.std.proofs.lemmas.Option.{none-some, same_Some, slice_get_within, slice_get-get_or}
 use Rattle.fitting.specs.Fitting.{CapabilityFits, FrameFits, IsFitting, ThreadFits}
-use Rattle.fitting.proofs.ImageFits.{is-fitting}
+use Rattle.fitting.proofs.Laws.{is-fitting}
 use Rattle.booting.proofs.Laws.{AreFormed, FrameKept, ReadsBoot, are-formed, first_of_type, limited-frame, mapped_by, mapping_of, object-at, offsets-apart}
 use Rattle.model.specs.declared.capabilities.Cap.{Cap}
 use Rattle.model.specs.declared.capabilities.Cap.TheVariants.{Empty, Untyped, Endpoint, Notification, CNode, Frame, PageTable, Tcb, RootTable, InterruptControl, InterruptHandler}
@@ -30,9 +30,9 @@ use Rattle.model.specs.Images.Image.{Image, Thread, whole_image}
 use Rattle.model.specs.Images.Places.{cnode_slot, frame_copy_slot, interrupt_of, is_handler, object_at, offset_of, type_at}
 use Rattle.model.specs.Kernel.AddressSpaces.{Maps, page_size}
 use Rattle.model.specs.Kernel.Retype.{NewObject, NewUntyped, NewThread, NewEndpoint, NewNotification, NewCNode, NewFrame, NewPageTable, NewRootTable}
-use Rattle.soundness.proofs.Copies.{payload-mapping}
+use Rattle.soundness.proofs.Laws.{payload-mapping}
 use Rattle.thread_spaces.specs.Given.{IsListed}
-use Rattle.thread_spaces.proofs.Laws.{boot-holds, capability-shown, from-loaded, listed-shown, OfSections, each-slot, each-two, listed-handler, listed-object, slots_in}
+use Rattle.thread_spaces.proofs.Laws.{OfSections, boot-holds, capability-shown, each-slot, each-two, from-loaded, listed-handler, listed-object, listed-shown, slots_in}
 use Rattle.thread_starts.proofs.GivenSlots.{IsListedSlot}
 use Rattle.thread_starts.proofs.ListFacts.{contained, contains, none-at}
 

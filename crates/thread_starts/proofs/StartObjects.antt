@@ -4,8 +4,8 @@ use Rattle.std.specs.Prelude.{option_and_then, nat_le}
 use Rattle.std.specs.Option.{option_map_or}
 use Rattle.std.proofs.lemmas.Bool.{and_parts, eq-eqb, leb-true, ne_eqb}
 use Rattle.fitting.specs.Fitting.{IsFitting, ThreadFits}
-use Rattle.fitting.proofs.ImageFits.{is-fitting}
-use Rattle.booting.proofs.Laws.{first-at, offsets-apart, AreFormed, ThreadKept, are-formed}
+use Rattle.fitting.proofs.Laws.{is-fitting}
+use Rattle.booting.proofs.Laws.{AreFormed, ThreadKept, are-formed, first-at, offsets-apart}
 use Rattle.model.specs.declared.ranges.Range.{Range}
 use Rattle.model.specs.Acceptance.Accepted.{IsWellFormed}
 use Rattle.model.specs.Acceptance.NotedStates.{PointState}
@@ -18,7 +18,7 @@ use Rattle.model.specs.Images.Image.{Image, Thread, whole_image}
 use Rattle.model.specs.Images.Places.{offset_of, type_at}
 use Rattle.model.specs.Kernel.Retype.{object}
 use Rattle.model.specs.Kernel.State.{ThreadObject}
-use Rattle.ranges.proofs.WrittenRegisters.{kept_register, zero_kept}
+use Rattle.ranges.proofs.Laws.{kept_register, zero_kept}
 use Rattle.thread_spaces.specs.Given.{IsListed}
 use Rattle.thread_spaces.proofs.Laws.{find-at}
 use Rattle.thread_starts.proofs.ListFacts.{all-range}

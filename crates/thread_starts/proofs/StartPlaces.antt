@@ -7,7 +7,7 @@ use Rattle.std.proofs.lemmas.Bool.{and_parts, eq-eqb, eqb-true, cases_lt, falseâ
 use Rattle.std.proofs.lemmas.Bool.Decides.{eqb_tells}
 use Rattle.std.proofs.lemmas.Option.{none-some, same_Some, slice_get_within, slice_get-map}
 use Rattle.fitting.specs.Fitting.{FrameFits, IsFitting}
-use Rattle.fitting.proofs.ImageFits.{is-fitting}
+use Rattle.fitting.proofs.Laws.{is-fitting}
 use Rattle.booting.specs.Loading.{all_loaded}
 use Rattle.booting.proofs.Laws.{AreFormed, ReadsBoot, ThreadKept, are-formed, boot-slots-suffice, first_of_type, range-at, reads-vspace}
 use Rattle.model.specs.declared.capabilities.Cap.{Cap}
@@ -31,7 +31,7 @@ use Rattle.model.specs.Kernel.Retype.{NewObject, NewUntyped, NewThread, NewEndpo
 use Rattle.model.specs.Kernel.Scheduling.{head_of}
 use Rattle.model.specs.Kernel.State.{slot_numbers, slots_of, vspace_slot}
 use Rattle.thread_spaces.specs.Given.{IsListed}
-use Rattle.thread_spaces.proofs.Laws.{find-passed, all-within, boot-holds, capability-shown, from-loaded, original-plain, boot-room}
+use Rattle.thread_spaces.proofs.Laws.{all-within, boot-holds, boot-room, capability-shown, find-passed, from-loaded, original-plain}
 use Rattle.thread_starts.proofs.ListFacts.{all-at, contained}
 use Rattle.thread_starts.proofs.StartMaps.{maps-listed}
 

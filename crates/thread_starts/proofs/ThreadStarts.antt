@@ -3,7 +3,7 @@ use Rattle.std.proofs.Common.{ℕ, ◌≡◌, ◌∙◌, true, false, List, [], 
 use Rattle.std.specs.Prelude.{◌≤ℤ◌, Contains, int_lt}
 use Rattle.std.proofs.lemmas.Int.{ints}
 use Rattle.thread_facts.proofs.Laws.{program-kept}
-use Rattle.fitting.proofs.ImageFits.{is-fitting}
+use Rattle.fitting.proofs.Laws.{is-fitting}
 use Rattle.booting.proofs.Laws.{are-formed}
 use Rattle.model.specs.Acceptance.Accepted.{AreKept, IsWellFormed}
 use Rattle.model.specs.Acceptance.Measures.{measured}
@@ -18,7 +18,7 @@ use Rattle.model.specs.Images.Places.{cnode_slot, offset_of}
 use Rattle.model.specs.Kernel.State.{cspace_slot}
 use Rattle.model.specs.Kernel.Waits.{open_count}
 use Rattle.thread_spaces.specs.Given.{IsListed}
-use Rattle.thread_spaces.proofs.Laws.{capability-shown, listed-shown, parent-shown, root-shown, parent-in-boot}
+use Rattle.thread_spaces.proofs.Laws.{capability-shown, listed-shown, parent-in-boot, parent-shown, root-shown}
 use Rattle.thread_starts.proofs.EntryRules.{entry-kept, none-stray, numbered-thread, point-kept}
 use Rattle.thread_starts.proofs.GivenSlots.{slots-given}
 use Rattle.thread_starts.proofs.SameSlots.{slots-same}

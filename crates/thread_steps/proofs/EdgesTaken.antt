@@ -18,8 +18,7 @@ use Rattle.model.specs.Machine.Effects.{advanced, branches, effect, goes_on, is_
 use Rattle.model.specs.Machine.Instructions.{IsInstr}
 use Rattle.model.specs.Machine.ProgramMemory.{Content, RegisterFile, loaded, read, stored, write}
 use Rattle.ranges.specs.Standing.{AreWords}
-use Rattle.ranges.proofs.BranchedRegisters.{branch_kept}
-use Rattle.ranges.proofs.Written.{instruction-keeps, jump-keeps}
+use Rattle.ranges.proofs.Laws.{branch_kept, instruction-keeps, jump-keeps}
 use Rattle.thread_steps.specs.Taken.{IsPlain, MayTake, Reaches, edges_among}
 
 -- ---- where the pc stands

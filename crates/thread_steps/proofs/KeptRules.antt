@@ -4,7 +4,7 @@ use Rattle.std.specs.Prelude.{int_lt, pos, Contains}
 use Rattle.std.specs.Option.{option_map_or}
 use Rattle.std.proofs.lemmas.Bool.{and_parts, eqb-true, leb-true, ltb-true, not-false}
 use Rattle.std.proofs.lemmas.List.Elements.{All-head}
-use Rattle.thread_facts.proofs.Laws.{IsKeptRule, kept-among, state-kept, holds-where, aligned-point}
+use Rattle.thread_facts.proofs.Laws.{IsKeptRule, aligned-point, holds-where, kept-among, state-kept}
 use Rattle.model.specs.declared.refusals.Point.{Point}
 use Rattle.model.specs.declared.refusals.Refusal.TheVariants.{BadTarget, CapNotThere, ComputedJump, IllegalInstruction, MeasureNotFalling, NotMapped, OverBudget, RangeNotKept}
 use Rattle.model.specs.Acceptance.Accepted.{AreKept}

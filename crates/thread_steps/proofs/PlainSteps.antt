@@ -3,14 +3,14 @@ use Rattle.std.proofs.Common.{ℕ, zero, suc, ◌≡◌, ◌∙◌, ◌+◌, ◌
 use Rattle.std.specs.Prelude.{Contains, slice_index}
 use Rattle.std.specs.Option.{option_map_or}
 use Rattle.std.proofs.lemmas.Bool.{eq-eqb}
-use Rattle.falling.proofs.FallsIsLess.{falls-is-less}
-use Rattle.soundness.proofs.Running.{current-runs}
+use Rattle.falling.proofs.Laws.{falls-is-less}
+use Rattle.soundness.proofs.Laws.{byte-less, current-runs}
 use Rattle.model.specs.declared.events.Event.TheVariants.{Step}
 use Rattle.model.specs.declared.instructions.Access.TheVariants as accesses
 use Rattle.model.specs.declared.instructions.AccessSize.TheVariants.{Word}
 use Rattle.model.specs.declared.instructions.Exec.{Exec}
 use Rattle.model.specs.declared.instructions.Exec.TheVariants as outcomes
-use Rattle.thread_facts.proofs.Laws.{within-wider, read-less, at-place, decoded-instr}
+use Rattle.thread_facts.proofs.Laws.{at-place, decoded-instr, read-less, within-wider}
 use Rattle.model.specs.declared.instructions.Instr.{Instr}
 use Rattle.model.specs.declared.instructions.Instr.TheVariants.{Upper, Jal, Jalr, Branch, Load, Store, Immediate, Shift, Registers, Fence, Ecall, Ebreak}
 use Rattle.model.specs.declared.labels.Label.{Label}
@@ -35,7 +35,6 @@ use Rattle.model.specs.Kernel.Waits.{is_fault, open_count}
 use Rattle.model.specs.Machine.Effects.{effect}
 use Rattle.model.specs.Machine.Instructions.{IsInstr}
 use Rattle.model.specs.Machine.ProgramMemory.{Content, RegisterFile, loaded}
-use Rattle.soundness.proofs.Stepped.{byte-less}
 use Rattle.ranges.specs.Standing.{AreWords}
 use Rattle.thread_steps.specs.Points.{IsPoint, LeadsOn, ReachesNoCall}
 use Rattle.thread_steps.specs.Taken.{IsPlain, MayTake, edges_among}

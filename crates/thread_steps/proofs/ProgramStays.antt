@@ -10,7 +10,7 @@ use Rattle.model.specs.declared.capabilities.Cap.TheVariants.{Frame}
 use Rattle.model.specs.declared.entries.FrameEntry.{FrameEntry}
 use Rattle.model.specs.declared.instructions.Access.{Access}
 use Rattle.model.specs.declared.instructions.Access.TheVariants as accesses
-use Rattle.thread_facts.proofs.Laws.{IsProgramPage, NamesFrame, implied, names-frame, program-page, page-mapped}
+use Rattle.thread_facts.proofs.Laws.{IsProgramPage, NamesFrame, implied, names-frame, page-mapped, program-page}
 use Rattle.model.specs.declared.instructions.AccessSize.TheVariants.{Word}
 use Rattle.model.specs.declared.instructions.MemoryFault.{MemoryFault}
 use Rattle.model.specs.declared.rights.Rights.{Rights}

@@ -1,51 +1,52 @@
-pub mod SlotLists
-pub mod Lookups
-pub mod SlotMaps
-pub mod CalledCaps
-pub mod Words
-pub mod Forms
-pub mod MessageCalls
-pub mod Unpacked
-pub mod Rising
-pub mod Searched
-pub mod Compared
-pub mod SomeHeld
+mod SlotLists
+mod Lookups
+mod SlotMaps
+mod CalledCaps
+mod Words
+mod Forms
+mod MessageCalls
+mod Unpacked
+mod Rising
+mod Searched
+mod Compared
+mod SomeHeld
 mod TidyChanges
-pub mod OwnChanges
-pub mod Linked
-pub mod LinkedChanges
-pub mod LevelByLevel
-pub mod Descents
-pub mod ListedStrays
-pub mod UnlinkedSlots
-pub mod LogParts
-pub mod NamedKeys
-pub mod Standing
-pub mod SlotLines
-pub mod Inside
-pub mod KernelDepths
-pub mod PutPlaces
-pub mod Puts
-pub mod CopyCalls
-pub mod Allowed
-pub mod MoveCalls
-pub mod MoveRules
-pub mod RemovedOwn
-pub mod RemovedNoted
-pub mod RemovedSlots
-pub mod RemoveRules
-pub mod Decided
-pub mod OrderedChanges
-pub mod OwnKeys
-pub mod ParentLines
-pub mod StraySlots
-pub mod ChangesMake
-pub mod GivenFacts
-pub mod KeptChildren
-pub mod HeldCaps
-pub mod FrameRules
-pub mod HandlerRules
-pub mod PoolRules
-pub mod MadeSlots
-pub mod PoolPlaces
-pub mod CallsOn
+mod OwnChanges
+mod Linked
+mod LinkedChanges
+mod LevelByLevel
+mod Descents
+mod ListedStrays
+mod UnlinkedSlots
+mod LogParts
+mod NamedKeys
+mod Standing
+mod SlotLines
+mod Inside
+mod KernelDepths
+mod PutPlaces
+mod Puts
+mod CopyCalls
+mod Allowed
+mod MoveCalls
+mod MoveRules
+mod RemovedOwn
+mod RemovedNoted
+mod RemovedSlots
+mod RemoveRules
+mod Decided
+mod OrderedChanges
+mod OwnKeys
+mod ParentLines
+mod StraySlots
+mod ChangesMake
+mod GivenFacts
+mod KeptChildren
+mod HeldCaps
+mod FrameRules
+mod HandlerRules
+mod PoolRules
+mod MadeSlots
+mod PoolPlaces
+mod CallsOn
+pub mod Laws

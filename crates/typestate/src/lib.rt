@@ -13,7 +13,6 @@ mod handler_calls;
 mod holders;
 mod invocations;
 mod keys;
-mod laws;
 mod levels;
 mod lines;
 mod logs;
@@ -27,6 +26,7 @@ mod records;
 mod removal;
 mod shown;
 mod slot_changes;
+mod slot_laws;
 mod spaces;
 mod stays;
 mod strays;
@@ -40,10 +40,6 @@ pub use behind::{Behind, Written};
 pub use families::Families;
 pub use holders::allows;
 pub use keys::{NotedSlot, SlotKey};
-pub use laws::{
-    no_stray_slot_leads_outside, points_without_stray_slots_have_none, records_note_changes,
-    tidy_changes_leave_no_stray_slot, tidy_puts_leave_no_stray_slot,
-};
 pub use logs::{Part, ShownPart, SlotLog};
 pub use messages::message_call;
 pub use points::NotedSlots;
@@ -51,6 +47,10 @@ pub use records::note_record;
 pub use slot_changes::{
     Removed, SlotChange, changes_make_slots, slots_come_back, slots_decide_calls,
     slots_decide_cnode_calls,
+};
+pub use slot_laws::{
+    no_stray_slot_leads_outside, points_without_stray_slots_have_none, records_note_changes,
+    tidy_changes_leave_no_stray_slot, tidy_puts_leave_no_stray_slot,
 };
 pub use spaces::OwnSlots;
 pub use system_calls::SystemCall;

@@ -1,1 +1,2 @@
-pub mod Multiples
+mod Multiples
+pub mod Laws

@@ -18,7 +18,7 @@ use Rattle.model.specs.declared.capabilities.Cap.TheVariants.{Empty, Untyped, En
 use Rattle.objects.specs.Frames.{SameBesideFrames}
 use Rattle.objects.specs.Standing.{Standing}
 use Rattle.objects.specs.Tables.{Tables, state_of}
-use Rattle.soundness.proofs.Places.{object-inside}
+use Rattle.soundness.proofs.Laws.{object-inside}
 use Rattle.user_memory.proofs.Named.{place-outside}
 use Rattle.user_memory.proofs.Stored.{own-bytes, stored-agrees, stored-stands, stored-state}
 use Rattle.user_memory.specs.Fills.{AreWritten}

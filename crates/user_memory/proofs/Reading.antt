@@ -16,7 +16,7 @@ use Rattle.objects.specs.Tables.{Tables, state_of}
 use Rattle.user_memory.proofs.Named.{named-mapped, place-inside, place-outside, place-some}
 use Rattle.user_memory.proofs.Stored.{own-byte}
 use Rattle.user_memory.specs.Views.{IsUsable, content_under}
-use Rattle.vspace.proofs.Joins.{walk-place}
+use Rattle.vspace.proofs.Laws.{walk-place}
 
 -- ---- places
 

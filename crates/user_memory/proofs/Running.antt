@@ -2,9 +2,7 @@
 use Rattle.std.proofs.Common.{ℕ, ◌≡◌, ◌∙◌, Option, Some, None, List, refl, sym, ap, subst}
 use Rattle.std.specs.Prelude.{slice_index}
 use Rattle.std.specs.Option.{option_map_or}
-use Rattle.agreement.proofs.Agreeing.{agrees-less}
-use Rattle.agreement.proofs.Lessened.{less-same}
-use Rattle.agreement.proofs.Steps.{tables-beside}
+use Rattle.agreement.proofs.Laws.{agrees-less, less-same, tables-beside}
 use Rattle.agreement.specs.Agreement.{Agrees}
 use Rattle.model.specs.Capabilities.CapabilityKinds.{root_of}
 use Rattle.model.specs.Capabilities.Slots.{Slots, capability_at}
@@ -20,7 +18,7 @@ use Rattle.model.specs.declared.capabilities.Cap.TheVariants.{Empty, Untyped, En
 use Rattle.objects.specs.Frames.{SameBesideFrames, SameObjects}
 use Rattle.objects.specs.Standing.{Standing}
 use Rattle.objects.specs.Tables.{Tables, state_of}
-use Rattle.soundness.proofs.Carried.{full-near}
+use Rattle.soundness.proofs.Laws.{full-near}
 use Rattle.user_memory.proofs.Stored.{content-left, hidden-same, stored-agrees, stored-stands}
 use Rattle.user_memory.specs.Views.{Beside, IsUsable, beside_of, content_under}
 

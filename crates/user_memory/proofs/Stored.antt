@@ -2,18 +2,17 @@
 use Rattle.std.proofs.Common.{ℕ, ◌≡◌, ◌∙◌, false, true, Option, Some, None, IsSome, option_map, List, refl, sym, ap, subst}
 use Rattle.std.specs.Prelude.{slice_index}
 use Rattle.std.specs.Option.{option_map_or}
-use Rattle.agreement.proofs.Agreeing.{agrees-less}
-use Rattle.agreement.proofs.Lessened.{less-same}
+use Rattle.agreement.proofs.Laws.{agrees-less, less-same}
 use Rattle.agreement.specs.Agreement.{Agrees}
 use Rattle.model.specs.Capabilities.Slots.{Slots}
 use Rattle.model.specs.Kernel.AddressSpaces.{with_content}
 use Rattle.model.specs.Kernel.State.{State}
 use Rattle.model.specs.Machine.ProgramMemory.{Content}
-use Rattle.objects.proofs.Following.{byte-there, follows-frames, stands-frames}
+use Rattle.objects.proofs.Laws.{byte-there, follows-frames, stands-frames}
 use Rattle.objects.specs.Frames.{SameBesideFrames}
 use Rattle.objects.specs.Standing.{Standing}
 use Rattle.objects.specs.Tables.{Tables, state_of}
-use Rattle.vspace.proofs.AgreementSlots.{agree-beside}
+use Rattle.vspace.proofs.Laws.{agree-beside}
 use Rattle.vspace.specs.Tables.{TablesAgree}
 
 -- the byte that is there is memory's

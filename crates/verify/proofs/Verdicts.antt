@@ -11,9 +11,8 @@ use Rattle.model.specs.Images.Format.{reading}
 use Rattle.model.specs.Images.Image.{Image, whole_image}
 use Rattle.model.specs.declared.refusals.Refusal.{Refusal}
 use Rattle.model.specs.declared.refusals.Refusal.TheVariants.{OutOfMemory}
-use Rattle.image.proofs.Laws.{IsBytes}
-use Rattle.image.proofs.WholeImage.{reading-spelled}
-use Rattle.wellformed.proofs.Acceptance.{accepted-no_breach, kept-none, none-broken}
+use Rattle.image.proofs.Laws.{IsBytes, reading-spelled}
+use Rattle.wellformed.proofs.Laws.{accepted-no_breach, kept-none, none-broken}
 
 -- ---- the rules on programs, of an image that is well formed
 

@@ -1,25 +1,26 @@
-pub mod Entries
-pub mod Steps
-pub mod FrameSteps
-pub mod Mapping
-pub mod Unmapping
-pub mod Taken
-pub mod Places
-pub mod Outcomes
-pub mod Writes
-pub mod Joins
-pub mod TableSteps
-pub mod TableOutcomes
-pub mod TableRemovals
-pub mod Sweeps
-pub mod TableUnmaps
-pub mod EndedTables
-pub mod EndedRoots
-pub mod BytesBeside
-pub mod AgreementCarried
-pub mod AgreementPut
-pub mod AgreementSlots
-pub mod AgreementRemoved
-pub mod AgreementBytes
-pub mod Names
-pub mod RightsBits
+mod Entries
+mod Steps
+mod FrameSteps
+mod Mapping
+mod Unmapping
+mod Taken
+mod Places
+mod Outcomes
+mod Writes
+mod Joins
+mod TableSteps
+mod TableOutcomes
+mod TableRemovals
+mod Sweeps
+mod TableUnmaps
+mod EndedTables
+mod EndedRoots
+mod BytesBeside
+mod AgreementCarried
+mod AgreementPut
+mod AgreementSlots
+mod AgreementRemoved
+mod AgreementBytes
+mod Names
+mod RightsBits
+pub mod Laws

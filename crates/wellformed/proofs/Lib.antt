@@ -1,10 +1,11 @@
-pub mod Acceptance
-pub mod Listed
-pub mod Named
-pub mod Phases
-pub mod Places
-pub mod Reached
-pub mod RulesLeft
-pub mod Searches
-pub mod Stands
-pub mod ThreadSteps
+mod Acceptance
+mod Listed
+mod Named
+mod Phases
+mod Places
+mod Reached
+mod RulesLeft
+mod Searches
+mod Stands
+mod ThreadSteps
+pub mod Laws

@@ -2,8 +2,7 @@
 use Rattle.std.proofs.Common.{◌≡◌, ◌∙◌, None, Some, refl, sym, subst}
 use Rattle.model.specs.Capabilities.Slots.{IsDerivation, Slots}
 use Rattle.model.specs.Kernel.State.{State}
-use Rattle.removals.proofs.InSteps.{emptied-in-steps, parent-full}
-use Rattle.removals.proofs.Named.{there-taken}
+use Rattle.removals.proofs.Laws.{emptied-in-steps, parent-full, there-taken}
 use Rattle.cnode_ops.proofs.emptying.empty_slot.Goals as goal
 
 pub rewind-requires-clause-full : goal.rewind-requires-clause-full

@@ -3,7 +3,7 @@ use Rattle.std.proofs.Common.{ℕ, ◌≡◌, ◌∙◌, ◌==◌, ◌+◌, Some
 use Rattle.model.specs.Capabilities.Slots.{IsOpen, Slots, empty_entry}
 use Rattle.model.specs.Kernel.State.{State}
 use Rattle.removals.specs.Finishing.{StrayClosed, slots_from}
-use Rattle.removals.proofs.Sweeping.{IsPassed, passed-next, passed-objects, stray-empty}
+use Rattle.removals.proofs.Laws.{IsPassed, passed-next, passed-objects, stray-empty}
 use Rattle.cnode_ops.proofs.ClosedSlots.{is-zero}
 use Rattle.cnode_ops.proofs.settling.close_strays.Goals as goal
 

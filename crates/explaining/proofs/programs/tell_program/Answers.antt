@@ -9,7 +9,7 @@ use Rattle.typestate.specs.Orders.{Rise}
 use Rattle.typestate.specs.Strays.{is_stray_in}
 use Rattle.typestate.specs.Unlinked.{AreUnlinked}
 use Rattle.typestate.specs.declared.windows.Space.{Space}
-use Rattle.typestate.proofs.UnlinkedSlots.{image-unlinked}
+use Rattle.typestate.proofs.Laws.{image-unlinked}
 use Rattle.explaining.proofs.programs.tell_program.Goals as goal
 
 pub tell_point-requires : goal.tell_point-requires

@@ -4,7 +4,7 @@ use Rattle.faults.proofs.EndpointsThere.{handler-there}
 use Rattle.faults.proofs.ThreadsInside.{thread-inside}
 use Rattle.faults.proofs.raising.raise_fault.Goals as goal
 use Rattle.faults.specs.Handlers.{handler_told}
-use Rattle.ipc.proofs.Premises.{runs-there}
+use Rattle.ipc.proofs.Laws.{runs-there}
 use Rattle.objects.specs.Tables.{state_of}
 
 pub find_handler-requires : goal.find_handler-requires

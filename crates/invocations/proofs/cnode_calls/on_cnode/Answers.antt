@@ -12,8 +12,7 @@ use Rattle.model.specs.Kernel.CNodeCalls.{on_cnode}
 use Rattle.model.specs.declared.invocations.CNodeCall.{CNodeCall}
 use Rattle.model.specs.declared.invocations.CNodeCall.TheVariants.{Delete, Revoke}
 use Rattle.objects.specs.Tables.{state_of}
-use Rattle.soundness.proofs.Lookups.{passes-both}
-use Rattle.soundness.proofs.Removed.{deleted-sound, revoked-sound}
+use Rattle.soundness.proofs.Laws.{deleted-sound, passes-both, revoked-sound}
 
 pub copy-requires-clause-there : goal.copy-requires-clause-there
 copy-requires-clause-there g c =

@@ -13,8 +13,7 @@ use Rattle.model.specs.Kernel.Interrupts.{acknowledge}
 use Rattle.model.specs.Kernel.State.{State}
 use Rattle.model.specs.declared.invocations.HandlerCall.{HandlerCall}
 use Rattle.objects.specs.Tables.{state_of}
-use Rattle.soundness.proofs.Events.{acknowledge-whole}
-use Rattle.soundness.proofs.Machines.{acknowledge-machine}
+use Rattle.soundness.proofs.Laws.{acknowledge-machine, acknowledge-whole}
 
 pub ack-requires-clause-line : goal.ack-requires-clause-line
 ack-requires-clause-line g c = line-small (state_of c.kernel.inside.objects (g.S.SlotMap.slots c.kernel.inside.store) (g.S.SlotStore.memory c.kernel.inside.store)) (call_of c.args.call) c.args.line c.kernel.invariant.sound (asked g.S.SlotMap.slots g.S.SlotStore.memory (call_of c.args.call) c.kernel.view_is c.requires.call) c.requires.applies

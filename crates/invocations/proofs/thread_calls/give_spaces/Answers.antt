@@ -8,7 +8,7 @@ use Rattle.invocations.proofs.Standing.{still-whole}
 use Rattle.invocations.proofs.thread_calls.give_spaces.Goals as goal
 use Rattle.invocations.specs.Calls.{call_of}
 use Rattle.objects.specs.Tables.{state_of}
-use Rattle.soundness.proofs.CopyingCalls.{configure-whole}
+use Rattle.soundness.proofs.Laws.{configure-whole}
 use Rattle.soundness.specs.Calls.{IsCall}
 
 pub configure-requires-clause-valid : goal.configure-requires-clause-valid

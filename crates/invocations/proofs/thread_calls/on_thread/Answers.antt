@@ -11,8 +11,7 @@ use Rattle.model.specs.Kernel.State.{State}
 use Rattle.model.specs.Kernel.ThreadCalls.{on_thread, resume, set_priority, set_register, suspend}
 use Rattle.model.specs.declared.invocations.ThreadCall.{ThreadCall}
 use Rattle.objects.specs.Tables.{state_of}
-use Rattle.soundness.proofs.Machines.{resume-machine, suspend-machine}
-use Rattle.soundness.proofs.ThreadCalls.{resume-whole, suspend-whole}
+use Rattle.soundness.proofs.Laws.{resume-machine, resume-whole, suspend-machine, suspend-whole}
 use Rattle.soundness.specs.Calls.{IsCall}
 
 pub set_priority-requires-clause-there : goal.set_priority-requires-clause-there

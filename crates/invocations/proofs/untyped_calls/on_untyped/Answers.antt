@@ -8,8 +8,7 @@ use Rattle.invocations.specs.Calls.{call_of}
 use Rattle.model.specs.Kernel.Arguments.{Call}
 use Rattle.model.specs.declared.capabilities.Cap.TheVariants.{Untyped}
 use Rattle.objects.specs.Tables.{state_of}
-use Rattle.soundness.proofs.MappingCalls.{invoked-at}
-use Rattle.soundness.proofs.RetypeCalls.{retype-whole}
+use Rattle.soundness.proofs.Laws.{invoked-at, retype-whole}
 
 pub retype-requires-clause-there : goal.retype-requires-clause-there
 retype-requires-clause-there g c =

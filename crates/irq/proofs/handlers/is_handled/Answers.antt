@@ -1,6 +1,6 @@
 -- The slot where it was found, or none of them.
 use Rattle.std.proofs.Common.{length}
-use Rattle.cnode_ops.proofs.SomeSlot.{store-none}
+use Rattle.cnode_ops.proofs.Laws.{store-none}
 use Rattle.irq.proofs.Handling.{handled-at}
 use Rattle.irq.proofs.handlers.is_handled.Goals as goal
 use Rattle.model.specs.Capabilities.CapabilityKinds.{is_handler_of}

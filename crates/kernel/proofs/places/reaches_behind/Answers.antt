@@ -1,6 +1,6 @@
 -- The slot where it was found, or none of them.
 use Rattle.std.proofs.Common.{ℕ, ◌∙◌, Bool, length, sym, ap, nat_lt}
-use Rattle.cnode_ops.proofs.SomeSlot.{store-none, store-some}
+use Rattle.cnode_ops.proofs.Laws.{store-none, store-some}
 use Rattle.kernel.proofs.places.reaches_behind.Goals as goal
 use Rattle.model.specs.Capabilities.Slots.{Slots, capability_at}
 use Rattle.model.specs.Kernel.Setup.{end_of}

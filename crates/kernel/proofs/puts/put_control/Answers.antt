@@ -1,7 +1,7 @@
 -- By the law on interrupt control.
 use Rattle.kernel.proofs.puts.put_control.Goals as goal
 use Rattle.model.specs.Kernel.Setup.{put_control}
-use Rattle.soundness.proofs.Setups.{control-whole}
+use Rattle.soundness.proofs.Laws.{control-whole}
 
 pub put-requires-clause-sound : goal.put-requires-clause-sound
 unfolding put_control

@@ -4,7 +4,7 @@ use Rattle.kernel.proofs.Untypeds.{may-tested, memory-few, untyped-none, untyped
 use Rattle.kernel.proofs.puts.put_untyped.Goals as goal
 use Rattle.lifecycles.specs.Kernels.{state_in}
 use Rattle.model.specs.Kernel.Setup.{may_be_untyped}
-use Rattle.soundness.proofs.Setups.{put_untyped-whole}
+use Rattle.soundness.proofs.Laws.{put_untyped-whole}
 
 pub put-requires-clause-valid : goal.put-requires-clause-valid
 put-requires-clause-valid g c =

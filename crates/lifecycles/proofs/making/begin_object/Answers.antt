@@ -1,6 +1,6 @@
 -- The place is fit for the kind.
 use Rattle.std.proofs.Common.{◌∙◌, ◌%◌, ◌^◌, ap, subst, sym}
-use Rattle.agreement.proofs.NewStates.{may-stand}
+use Rattle.agreement.proofs.Laws.{may-stand}
 use Rattle.cnode_ops.specs.Placed.{new_type}
 use Rattle.cnode_ops.specs.declared.beginnings.NewType.{NewType}
 use Rattle.lifecycles.proofs.making.begin_object.Goals as goal

@@ -1,7 +1,7 @@
 -- The room is made by opening slots, or by zeroing a page.
 use Rattle.std.proofs.Common.{ℕ, ◌≡◌, ◌∙◌, ◌+◌, ◌*◌, ◌^◌, ◌≤◌, List, length, replicate, ap, refl, sym, subst, arith}
 use Rattle.std.proofs.lemmas.Nat.{pow-add}
-use Rattle.agreement.proofs.RoomsMade.{room-of-page}
+use Rattle.agreement.proofs.Laws.{room-of-page}
 use Rattle.agreement.specs.Rooms.{RoomMade}
 use Rattle.lifecycles.proofs.making.make_object_room.Goals as goal
 use Rattle.model.specs.Capabilities.Slots.{Slots}

@@ -1,6 +1,6 @@
 -- Room, record and capability, one after another.
 use Rattle.std.proofs.Common.{ℕ, ◌∙◌, ◌<◌, ◌^◌, Some, ap, sym, subst, arith}
-use Rattle.agreement.proofs.NewStates.{is-room, room-stands, room-state, sixteen}
+use Rattle.agreement.proofs.Laws.{is-room, room-stands, room-state, sixteen}
 use Rattle.cnode_ops.specs.Placed.{new_type}
 use Rattle.lifecycles.proofs.OneMade.{growing-made, stands-made, state-made}
 use Rattle.lifecycles.proofs.Places.{of-some, place-closed, place-free, place-near, room-depth, room-full}

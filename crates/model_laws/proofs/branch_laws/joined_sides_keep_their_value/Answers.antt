@@ -1,5 +1,5 @@
 -- What both sides keep, their intersection keeps.
-use Rattle.ranges.proofs.BranchedSides.{joined_kept}
+use Rattle.ranges.proofs.Laws.{joined_kept}
 use Rattle.model_laws.proofs.branch_laws.joined_sides_keep_their_value.Goals as goal
 
 pub returns : goal.returns

@@ -1,5 +1,5 @@
 -- Each operation, both ways.
-use Rattle.ranges.proofs.BranchedSides.{narrowed_kept}
+use Rattle.ranges.proofs.Laws.{narrowed_kept}
 use Rattle.model_laws.proofs.branch_laws.narrowed_sides_keep_their_values.Goals as goal
 
 pub returns : goal.returns

@@ -1,5 +1,5 @@
 -- Phase by phase.
-use Rattle.wellformed.proofs.Acceptance.{accepted-no_breach, no-breach_accepted}
+use Rattle.wellformed.proofs.Laws.{accepted-no_breach, no-breach_accepted}
 use Rattle.model_laws.proofs.image_laws.accepted_images_have_no_breach.Goals as goal
 
 pub returns-clause-none : goal.returns-clause-none

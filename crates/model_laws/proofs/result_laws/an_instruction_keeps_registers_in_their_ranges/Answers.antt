@@ -1,5 +1,5 @@
 -- By the cases of the instruction.
-use Rattle.ranges.proofs.Written.{instruction-keeps}
+use Rattle.ranges.proofs.Laws.{instruction-keeps}
 use Rattle.model_laws.proofs.result_laws.an_instruction_keeps_registers_in_their_ranges.Goals as goal
 
 pub returns : goal.returns

@@ -1,5 +1,5 @@
 -- By the cases of the operation.
-use Rattle.ranges.proofs.ResultsInside.{loads-in}
+use Rattle.ranges.proofs.Laws.{loads-in}
 use Rattle.model_laws.proofs.result_laws.results_of_loads_lie_in_their_ranges.Goals as goal
 
 pub returns : goal.returns

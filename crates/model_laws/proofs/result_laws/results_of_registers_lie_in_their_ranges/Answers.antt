@@ -1,5 +1,5 @@
 -- By the cases of the operation.
-use Rattle.ranges.proofs.ResultsInside.{registers-in}
+use Rattle.ranges.proofs.Laws.{registers-in}
 use Rattle.model_laws.proofs.result_laws.results_of_registers_lie_in_their_ranges.Goals as goal
 
 pub returns : goal.returns

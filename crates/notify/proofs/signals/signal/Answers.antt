@@ -1,7 +1,7 @@
 -- The first waiter wakes with the badge, or the word gets it.
 use Rattle.notify.proofs.Taken.{joined-by, woken-by}
 use Rattle.notify.proofs.signals.signal.Goals as goal
-use Rattle.objects.proofs.Frames.{objects-then}
+use Rattle.objects.proofs.Laws.{objects-then}
 use Rattle.objects.specs.Tables.{state_of}
 
 pub returns-in-Some-clause-state : goal.returns-in-Some-clause-state

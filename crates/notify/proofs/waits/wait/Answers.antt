@@ -1,5 +1,5 @@
 -- Who runs is there, and waits nowhere.
-use Rattle.ipc.proofs.Premises.{runs-nowhere, runs-there}
+use Rattle.ipc.proofs.Laws.{runs-nowhere, runs-there}
 use Rattle.notify.proofs.waits.wait.Goals as goal
 use Rattle.objects.specs.Tables.{state_of}
 

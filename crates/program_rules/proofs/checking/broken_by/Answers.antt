@@ -8,7 +8,7 @@ use Rattle.model.specs.Acceptance.NotedStates.{NotedSlot, image_slots}
 use Rattle.model.specs.Images.Image.{Image, Thread}
 use Rattle.program_rules.proofs.checking.broken_by.Goals as goal
 use Rattle.thread_spaces.specs.Given.{IsListed}
-use Rattle.typestate.proofs.UnlinkedSlots.{image-unlinked}
+use Rattle.typestate.proofs.Laws.{image-unlinked}
 use Rattle.typestate.specs.Orders.{Rise}
 use Rattle.typestate.specs.Strays.{is_stray_in}
 use Rattle.typestate.specs.Unlinked.{AreUnlinked}

@@ -1,10 +1,9 @@
 -- What is left is sound.
 use Rattle.agreement.specs.Wholeness.{IsWhole}
-use Rattle.soundness.proofs.Machines.{tick-machine}
-use Rattle.soundness.proofs.ThreadCalls.{tick-whole}
+use Rattle.soundness.proofs.Laws.{tick-machine, tick-whole}
 use Rattle.std.proofs.Common.{subst, sym}
 use Rattle.steps.proofs.events.pass_tick.Goals as goal
-use Rattle.system_calls.proofs.Kept.{kept}
+use Rattle.system_calls.proofs.Laws.{kept}
 
 pub invariant_of-kernel : goal.invariant_of-kernel
 invariant_of-kernel g c =

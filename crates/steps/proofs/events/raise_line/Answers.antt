@@ -1,10 +1,9 @@
 -- What is left is sound.
 use Rattle.agreement.specs.Wholeness.{IsWhole}
-use Rattle.soundness.proofs.Events.{raise-whole}
-use Rattle.soundness.proofs.Machines.{raise-machine}
+use Rattle.soundness.proofs.Laws.{raise-machine, raise-whole}
 use Rattle.std.proofs.Common.{subst, sym}
 use Rattle.steps.proofs.events.raise_line.Goals as goal
-use Rattle.system_calls.proofs.Kept.{kept}
+use Rattle.system_calls.proofs.Laws.{kept}
 
 pub invariant_of-kernel : goal.invariant_of-kernel
 invariant_of-kernel g c =

@@ -1,7 +1,7 @@
 -- The current thread runs.
 use Rattle.lifecycles.specs.Kernels.{state_in}
 use Rattle.model.specs.Kernel.Soundness.{IsSound}
-use Rattle.soundness.proofs.Running.{current-runs}
+use Rattle.soundness.proofs.Laws.{current-runs}
 use Rattle.std.proofs.Common.{rules, subst}
 use Rattle.steps.proofs.events.run_current.Goals as goal
 

@@ -1,10 +1,9 @@
 -- What is left is sound.
 use Rattle.agreement.specs.Wholeness.{IsWhole}
-use Rattle.soundness.proofs.Events.{fault-whole}
-use Rattle.soundness.proofs.Machines.{fault-machine}
+use Rattle.soundness.proofs.Laws.{fault-machine, fault-whole}
 use Rattle.std.proofs.Common.{rules, subst, sym}
 use Rattle.steps.proofs.failures.fail.Goals as goal
-use Rattle.system_calls.proofs.Kept.{kept}
+use Rattle.system_calls.proofs.Laws.{kept}
 
 pub invariant_of-kernel : goal.invariant_of-kernel
 invariant_of-kernel g c =

@@ -2,8 +2,7 @@
 use Rattle.agreement.specs.Wholeness.{IsWhole}
 use Rattle.model.specs.Kernel.Steps.{answered}
 use Rattle.model.specs.declared.system_calls.SendCall.TheVariants.{Calling}
-use Rattle.soundness.proofs.Machines.{answered-machine}
-use Rattle.soundness.proofs.SystemCalls.{answered-whole}
+use Rattle.soundness.proofs.Laws.{answered-machine, answered-whole}
 use Rattle.std.proofs.Common.{rules, subst, sym}
 use Rattle.system_calls.proofs.Kept.{kept, state_before}
 use Rattle.system_calls.proofs.answers.answer.Goals as goal

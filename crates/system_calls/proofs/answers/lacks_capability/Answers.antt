@@ -1,8 +1,7 @@
 -- What is left is sound.
 use Rattle.agreement.specs.Wholeness.{IsWhole}
 use Rattle.model.specs.Kernel.Steps.{lacks_capability}
-use Rattle.soundness.proofs.Machines.{fault-machine}
-use Rattle.soundness.proofs.SystemCalls.{lacks-whole}
+use Rattle.soundness.proofs.Laws.{fault-machine, lacks-whole}
 use Rattle.std.proofs.Common.{◌<◌, ◌^◌, if◌then◌else◌, Bool, true, false, arith, rules, subst, sym}
 use Rattle.system_calls.proofs.Kept.{kept, state_before}
 use Rattle.system_calls.proofs.answers.lacks_capability.Goals as goal

@@ -1,7 +1,6 @@
 -- What is left is sound.
 use Rattle.agreement.specs.Wholeness.{IsWhole}
-use Rattle.soundness.proofs.Machines.{passes-machine}
-use Rattle.soundness.proofs.ThreadCalls.{passes-whole}
+use Rattle.soundness.proofs.Laws.{passes-machine, passes-whole}
 use Rattle.std.proofs.Common.{rules, subst, sym}
 use Rattle.system_calls.proofs.Kept.{kept}
 use Rattle.system_calls.proofs.answers.pass.Goals as goal

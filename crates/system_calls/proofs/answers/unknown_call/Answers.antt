@@ -1,8 +1,7 @@
 -- What is left is sound.
 use Rattle.agreement.specs.Wholeness.{IsWhole}
 use Rattle.model.specs.Kernel.Steps.{calls_known}
-use Rattle.soundness.proofs.Machines.{fault-machine}
-use Rattle.soundness.proofs.SystemCalls.{unknown-whole}
+use Rattle.soundness.proofs.Laws.{fault-machine, unknown-whole}
 use Rattle.std.proofs.Common.{None, rules, subst, sym}
 use Rattle.system_calls.proofs.Kept.{kept, state_before}
 use Rattle.system_calls.proofs.answers.unknown_call.Goals as goal

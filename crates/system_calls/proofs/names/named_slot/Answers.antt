@@ -5,7 +5,7 @@ use Rattle.model.specs.Kernel.Steps.{named_slot}
 use Rattle.model.specs.declared.lookup_failures.LookupFailure.{LookupFailure}
 use Rattle.lifecycles.specs.Kernels.{state_in}
 use Rattle.objects.specs.Tables.{state_of}
-use Rattle.soundness.proofs.SystemCalls.{named-left}
+use Rattle.soundness.proofs.Laws.{named-left}
 use Rattle.std.proofs.Common.{ℕ, ◌≡◌, ◌≤◌, Result, Ok, Err, rules, sym}
 use Rattle.std.specs.Prelude.{IfErr}
 use Rattle.system_calls.proofs.names.named_slot.Goals as goal

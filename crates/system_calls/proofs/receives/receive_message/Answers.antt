@@ -1,7 +1,6 @@
 -- What is left is sound.
 use Rattle.agreement.specs.Wholeness.{IsWhole}
-use Rattle.soundness.proofs.Machines.{receive-machine, try_to_receive-machine}
-use Rattle.soundness.proofs.Messages.{receive-whole, try_to_receive-whole}
+use Rattle.soundness.proofs.Laws.{receive-machine, receive-whole, try_to_receive-machine, try_to_receive-whole}
 use Rattle.std.proofs.Common.{rules, subst, sym}
 use Rattle.system_calls.proofs.Kept.{kept}
 use Rattle.system_calls.proofs.receives.receive_message.Goals as goal

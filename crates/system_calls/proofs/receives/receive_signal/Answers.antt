@@ -1,7 +1,6 @@
 -- What is left is sound.
 use Rattle.agreement.specs.Wholeness.{IsWhole}
-use Rattle.soundness.proofs.Machines.{wait-machine, poll-machine}
-use Rattle.soundness.proofs.Messages.{wait-whole, poll-whole}
+use Rattle.soundness.proofs.Laws.{poll-machine, poll-whole, wait-machine, wait-whole}
 use Rattle.std.proofs.Common.{rules, subst, sym}
 use Rattle.system_calls.proofs.Kept.{kept}
 use Rattle.system_calls.proofs.receives.receive_signal.Goals as goal

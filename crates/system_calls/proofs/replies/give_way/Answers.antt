@@ -3,9 +3,8 @@ use Rattle.agreement.specs.Wholeness.{IsWhole}
 use Rattle.model.specs.Kernel.Messages.{passes}
 use Rattle.model.specs.Kernel.Scheduling.{yielded}
 use Rattle.model.specs.declared.system_calls.SystemCall.TheVariants.{Yields}
-use Rattle.objects.proofs.Frames.{objects-then}
-use Rattle.soundness.proofs.Machines.{passes-machine, then-machine, yielded-machine}
-use Rattle.soundness.proofs.SystemCalls.{called-whole}
+use Rattle.objects.proofs.Laws.{objects-then}
+use Rattle.soundness.proofs.Laws.{called-whole, passes-machine, then-machine, yielded-machine}
 use Rattle.std.proofs.Common.{rules, subst, sym}
 use Rattle.system_calls.proofs.Kept.{kept, state_before}
 use Rattle.system_calls.proofs.replies.give_way.Goals as goal

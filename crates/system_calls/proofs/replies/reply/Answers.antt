@@ -1,9 +1,7 @@
 -- A thread that replies runs on, and what is left is sound.
 use Rattle.agreement.specs.Wholeness.{IsWhole}
 use Rattle.model.specs.Kernel.State.{State}
-use Rattle.soundness.proofs.Machines.{reply-machine}
-use Rattle.soundness.proofs.Messages.{reply-whole}
-use Rattle.soundness.proofs.SystemCalls.{reply-runs}
+use Rattle.soundness.proofs.Laws.{reply-machine, reply-runs, reply-whole}
 use Rattle.soundness.specs.Running.{IsRunning}
 use Rattle.std.proofs.Common.{refl, sym, subst, rules}
 use Rattle.system_calls.proofs.Kept.{kept}

@@ -2,9 +2,7 @@
 use Rattle.agreement.specs.Wholeness.{IsWhole}
 use Rattle.model.specs.Kernel.Messages.{signal}
 use Rattle.model.specs.Kernel.State.{State, notification_at}
-use Rattle.soundness.proofs.Machines.{signal-machine}
-use Rattle.soundness.proofs.Messages.{running-object, signal-whole}
-use Rattle.soundness.proofs.SystemCalls.{signaled-object}
+use Rattle.soundness.proofs.Laws.{running-object, signal-machine, signal-whole, signaled-object}
 use Rattle.soundness.specs.Running.{IsRunning}
 use Rattle.std.proofs.Common.{refl, sym, subst, rules}
 use Rattle.system_calls.proofs.Kept.{kept, state_before}

@@ -2,9 +2,8 @@
 use Rattle.std.proofs.Common.{ℕ, ◌≡◌, ◌++◌, List, [], ◌∷◌, Some, sym, subst}
 use Rattle.std.specs.Prelude.{Contains, false}
 use Rattle.booting.proofs.Laws.{described-sound}
-use Rattle.falling.proofs.NotedTerms.{noted-named}
-use Rattle.soundness.proofs.Sizes.{instructions-keep}
-use Rattle.soundness.proofs.Stepped.{events-whole}
+use Rattle.falling.proofs.Laws.{noted-named}
+use Rattle.soundness.proofs.Laws.{events-whole, instructions-keep}
 use Rattle.model.specs.declared.events.Event.{Event}
 use Rattle.model.specs.declared.events.Event.TheVariants.{Step}
 use Rattle.model.specs.declared.labels.Label.{Label}

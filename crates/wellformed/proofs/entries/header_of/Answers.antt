@@ -2,7 +2,7 @@
 use Rattle.std.proofs.Common.{sym, subst}
 use Rattle.model.specs.declared.entries.ImageHeader.{ImageHeader}
 use Rattle.fitting.specs.Fitting.{HeaderFits}
-use Rattle.fitting.proofs.ImageFits.{is-fitting}
+use Rattle.fitting.proofs.Laws.{is-fitting}
 use Rattle.wellformed.proofs.entries.header_of.Goals as goal
 
 pub returns-clause-small : goal.returns-clause-small

@@ -1,8 +1,6 @@
 -- The mappings under a root table go, and then the object.
 use Rattle.std.proofs.Common.{◌∙◌, ap, sym, subst}
-use Rattle.agreement.proofs.Laws.{own-tables}
-use Rattle.agreement.proofs.Lessened.{Lessened, less-root}
-use Rattle.agreement.proofs.Steps.{ended-agrees, root-ended, unmapped-agrees, unmapped-state}
+use Rattle.agreement.proofs.Laws.{Lessened, ended-agrees, less-root, own-tables, root-ended, unmapped-agrees, unmapped-state}
 use Rattle.agreement.specs.Agreement.{Agrees}
 use Rattle.agreement.specs.Wholeness.{Agreed}
 use Rattle.lifecycles.proofs.kernel_objects.KernelObjectsEnds.end.Goals as goal

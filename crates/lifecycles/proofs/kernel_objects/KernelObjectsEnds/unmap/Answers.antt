@@ -1,8 +1,6 @@
 -- The mapping went from slots and tables.
 use Rattle.std.proofs.Common.{sym, subst}
-use Rattle.agreement.proofs.Laws.{own-tables}
-use Rattle.agreement.proofs.Lessened.{Lessened, less-unmapped}
-use Rattle.agreement.proofs.Steps.{unmapped-agrees, unmapped-state}
+use Rattle.agreement.proofs.Laws.{Lessened, less-unmapped, own-tables, unmapped-agrees, unmapped-state}
 use Rattle.lifecycles.proofs.kernel_objects.KernelObjectsEnds.unmap.Goals as goal
 use Rattle.model.specs.Capabilities.Slots.{Slots}
 

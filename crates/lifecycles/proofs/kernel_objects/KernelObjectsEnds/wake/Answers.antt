@@ -1,6 +1,6 @@
 -- Only what threads are of changed.
 use Rattle.std.proofs.Common.{sym, subst}
-use Rattle.agreement.proofs.Steps.{woken-agrees}
+use Rattle.agreement.proofs.Laws.{woken-agrees}
 use Rattle.agreement.specs.Agreement.{Agrees}
 use Rattle.lifecycles.proofs.kernel_objects.KernelObjectsEnds.wake.Goals as goal
 use Rattle.model.specs.Kernel.State.{State}

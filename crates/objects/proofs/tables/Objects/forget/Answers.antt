@@ -4,7 +4,7 @@ use Rattle.model.specs.Shared.Lists.{times_in}
 use Rattle.objects.proofs.InQueues.{times-gone}
 use Rattle.objects.proofs.Kept.{kept}
 use Rattle.objects.proofs.Stepping.{forget-left}
-use Rattle.queues.proofs.Contracts.{stays, still-stand}
+use Rattle.queues.proofs.Laws.{stays, still-stand}
 use Rattle.queues.specs.Queues.{queue_of}
 use Rattle.objects.proofs.tables.Objects.forget.Goals as goal
 use Rattle.objects.specs.contracts.tables.Objects.{the_view}

@@ -1,6 +1,0 @@
--- The table says where frames are.
-use Rattle.objects.proofs.Following.{byte-there}
-use Rattle.objects.proofs.laws.a_byte_is_in_memory.Goals as goal
-
-pub returns : goal.returns
-returns c = byte-there

@@ -1,6 +1,0 @@
--- Only bytes of frames changed.
-use Rattle.objects.proofs.Following.{follows-frames}
-use Rattle.objects.proofs.laws.a_state_follows_its_frames.Goals as goal
-
-pub returns : goal.returns
-returns c = follows-frames

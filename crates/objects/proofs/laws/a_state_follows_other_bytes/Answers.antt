@@ -1,6 +1,0 @@
--- No byte of a frame changed.
-use Rattle.objects.proofs.Following.{follows-kept}
-use Rattle.objects.proofs.laws.a_state_follows_other_bytes.Goals as goal
-
-pub returns : goal.returns
-returns c = follows-kept

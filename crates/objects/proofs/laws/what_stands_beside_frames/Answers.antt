@@ -1,6 +1,0 @@
--- Only bytes of frames changed.
-use Rattle.objects.proofs.Following.{stands-frames}
-use Rattle.objects.proofs.laws.what_stands_beside_frames.Goals as goal
-
-pub returns : goal.returns
-returns c = stands-frames

@@ -1,6 +1,0 @@
--- No byte of a frame or of a record changed.
-use Rattle.objects.proofs.Following.{stands-kept}
-use Rattle.objects.proofs.laws.what_stands_beside_other_bytes.Goals as goal
-
-pub returns : goal.returns
-returns c = stands-kept

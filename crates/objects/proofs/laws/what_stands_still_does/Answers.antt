@@ -1,6 +1,0 @@
--- Only bytes of open slots changed.
-use Rattle.objects.proofs.Following.{stands-still}
-use Rattle.objects.proofs.laws.what_stands_still_does.Goals as goal
-
-pub returns : goal.returns
-returns c = stands-still

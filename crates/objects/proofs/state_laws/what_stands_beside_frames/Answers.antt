@@ -1,0 +1,6 @@
+-- Only bytes of frames changed.
+use Rattle.objects.proofs.Following.{stands-frames}
+use Rattle.objects.proofs.state_laws.what_stands_beside_frames.Goals as goal
+
+pub returns : goal.returns
+returns c = stands-frames
