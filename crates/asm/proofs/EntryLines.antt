@@ -14,7 +14,7 @@ use Rattle.model.specs.Images.Format.{field, many_fit}
 use Rattle.model.specs.Images.Image.{Image, ImageContent, anything, below, between, capability_format, content_format, frame_format, interrupt_format, object_format, pair_key, size_fits, table_format, untyped_format}
 use Rattle.model.specs.Images.Listing.{untyped_line, object_line, interrupt_line, capability_line, table_line, frame_line, content_line}
 use Rattle.asm_line.specs.Listed.{Lists, untyped, object, interrupt, capability, table, frame, content, IsWord}
-use Rattle.fitting.proofs.Laws.{field-between, field-parts, many-length}
+use Rattle.format_laws.proofs.Laws.{field-between, field-parts, many-length}
 use Rattle.asm.proofs.Said.{untyped_said, object_said, interrupt_said, capability_said, table_said, frame_said, content_said}
 
 pub untyped-lists : (k : ℕ) (u : UntypedEntry) → k < 2 ^ 32 → untyped_format.fits u ≡ true → Lists (untyped_said (k, u)) (untyped_line (k, u))

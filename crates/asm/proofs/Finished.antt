@@ -11,8 +11,8 @@ use Rattle.model.specs.declared.entries.ImageHeader.{ImageHeader}
 use Rattle.model.specs.declared.entries.InterruptEntry.{InterruptEntry}
 use Rattle.model.specs.Images.Image.{Image, Thread, content_format, whole_image}
 use Rattle.model.specs.Images.Places.{is_handler, interrupt_of}
-use Rattle.fitting.specs.Fitting.{IsFitting}
-use Rattle.fitting.proofs.Laws.{is-fitting, many-length}
+use Rattle.format_laws.specs.Fitting.{IsFitting}
+use Rattle.format_laws.proofs.Laws.{is-fitting, many-length}
 use Rattle.asm.specs.declared.assembly.Memory.{Memory}
 use Rattle.asm.specs.declared.declarations.Capability.{Capability}
 use Rattle.asm.specs.declared.names.Source.{Source}

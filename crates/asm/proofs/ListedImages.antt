@@ -5,7 +5,7 @@ use Rattle.model.specs.Images.Described.{numbered}
 use Rattle.model.specs.Images.Image.{Image, capability_format, content_format, frame_format, interrupt_format, object_format, pair_key, table_format, untyped_format}
 use Rattle.model.specs.Images.Listing.{capability_line, content_line, frame_line, interrupt_line, listing_lines, memory_line, object_line, table_line, thread_lines, untyped_line}
 use Rattle.asm_line.specs.Listed.{memory}
-use Rattle.fitting.specs.Fitting.{IsFitting}
+use Rattle.format_laws.specs.Fitting.{IsFitting}
 use Rattle.asm.proofs.Said.{capability_said, content_said, frame_said, interrupt_said, listed_lines, memory_said, object_said, table_said, thread_said, untyped_said}
 use Rattle.asm.proofs.EntryLines.{capability-lists, content-lists, frame-lists, interrupt-lists, object-lists, table-lists, untyped-lists}
 use Rattle.asm.proofs.ListedSections.{AreListed, entries-listed, listed-append, numbered-listed, threads-listed}

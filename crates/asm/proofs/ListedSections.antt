@@ -12,7 +12,7 @@ use Rattle.asm_line.specs.declared.lines.Line.{Line}
 use Rattle.asm_line.specs.declared.lines.Line.TheVariants as said
 use Rattle.asm_line.specs.declared.lines.Code.TheVariants as code
 use Rattle.asm_line.specs.Listed.{Lists, thread, measure, label, word, end, IsWord}
-use Rattle.fitting.proofs.Laws.{many-length}
+use Rattle.format_laws.proofs.Laws.{many-length}
 use Rattle.asm.proofs.Said.{label_said, point_said, record_said, slot_said, thread_line_said, thread_said}
 use Rattle.asm.proofs.EntryLines.{words-fit}
 use Rattle.asm.proofs.RecordLines.{terms-fit}

@@ -7,7 +7,7 @@ use Rattle.model.specs.declared.entries.ObjectEntry.{ObjectEntry}
 use Rattle.model.specs.declared.entries.UntypedEntry.{UntypedEntry}
 use Rattle.model.specs.Images.Image.{Image, interrupt_format, object_format}
 use Rattle.model.specs.Images.Listing.{interrupt_name, object_name}
-use Rattle.fitting.specs.Fitting.{IsFitting}
+use Rattle.format_laws.specs.Fitting.{IsFitting}
 use Rattle.asm.specs.Labels.{FoundLabels}
 use Rattle.asm.proofs.Said.{untyped_said, object_said, interrupt_said}
 use Rattle.asm.specs.Sections.{is_in_order}

@@ -18,7 +18,7 @@ use Rattle.model.specs.Images.Places.{interrupt_of, is_handler}
 use Rattle.asm_line.specs.Listed.{IsWord}
 use Rattle.asm_line.specs.Lines.{all_words}
 use Rattle.asm_line.proofs.Laws.{number-decimal}
-use Rattle.fitting.specs.Fitting.{IsFitting}
+use Rattle.format_laws.specs.Fitting.{IsFitting}
 use Rattle.asm.specs.declared.declarations.Capability.{Capability}
 use Rattle.asm.specs.declared.names.Source.{Source}
 use Rattle.asm.specs.declared.names.Source.TheVariants.{Object, Handler}

@@ -10,7 +10,7 @@ use Rattle.model.specs.Images.Image.{Image, StateRecord, Thread, record_format, 
 use Rattle.model.specs.Images.Format.{many_fit}
 use Rattle.asm_line.specs.declared.lines.Line.TheVariants as line
 use Rattle.asm_line.specs.declared.lines.Code.TheVariants as code
-use Rattle.fitting.specs.Fitting.{IsFitting}
+use Rattle.format_laws.specs.Fitting.{IsFitting}
 use Rattle.asm.specs.Drafts.{Draft}
 use Rattle.asm.specs.Labels.{FoundLabels, next_number}
 use Rattle.asm.proofs.Said.{point_said, record_said}

@@ -8,8 +8,8 @@ use Rattle.model.specs.Images.Image.{Image, Thread, content_format, whole_image}
 use Rattle.model.specs.Images.Listing.{listing, listing_lines}
 use Rattle.asm_line.specs.declared.lines.Line.{Line}
 use Rattle.asm_line.specs.Listed.{Lists}
-use Rattle.fitting.specs.Fitting.{IsFitting}
-use Rattle.fitting.proofs.Laws.{is-fitting, many-length}
+use Rattle.format_laws.specs.Fitting.{IsFitting}
+use Rattle.format_laws.proofs.Laws.{is-fitting, many-length}
 use Rattle.asm.specs.Drafts.{draft_of, nothing_read}
 use Rattle.asm.specs.Labels.{FoundLabels, closed, labels_in, next_number, nothing_searched, searched_from, searched_line}
 use Rattle.asm.specs.Reading.{AreInPlace, with_lines}

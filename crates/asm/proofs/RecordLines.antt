@@ -17,8 +17,8 @@ use Rattle.asm_line.specs.declared.lines.Parent.TheVariants as parent
 use Rattle.asm_line.specs.Listed.{IsTerm, parent_said}
 use Rattle.asm_line.specs.Words.{◌>>=◌}
 use Rattle.asm_line.proofs.Laws.{next-term, terms-say}
-use Rattle.fitting.specs.Fitting.{IsFitting}
-use Rattle.fitting.proofs.Laws.{many-length}
+use Rattle.format_laws.specs.Fitting.{IsFitting}
+use Rattle.format_laws.proofs.Laws.{many-length}
 use Rattle.asm.specs.Drafts.{Draft, declared_of, names_of}
 use Rattle.asm.specs.Labels.{FoundLabels, next_number}
 use Rattle.asm.proofs.Said.{measure_said, record_said, slot_said}

@@ -6,7 +6,7 @@ use Rattle.model.specs.declared.entries.ImageHeader.{ImageHeader}
 use Rattle.model.specs.declared.refusals.Refusal.TheVariants.{Magic, Version}
 use Rattle.model.specs.Images.Format.{Format, many_fit, number_or}
 use Rattle.model.specs.Images.Image.{Image, between, capability_format, content_format, frame_format, header_format, image_with, interrupt_format, magic, object_format, pair_key, sections_format, slots_format, table_format, thread_format, untyped_format, whole_image}
-use Rattle.fitting.proofs.Laws.{field-parts}
+use Rattle.format_laws.proofs.Laws.{field-parts}
 use Rattle.asm.proofs.Orders.{least_behind, many-at}
 
 pub record SectionsFit (i : Image) : Type 0 where

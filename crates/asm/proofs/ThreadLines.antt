@@ -7,8 +7,8 @@ use Rattle.std.proofs.lemmas.List.{append_assoc, append-nil, length-append}
 use Rattle.model.specs.Images.Image.{Image, StateRecord, Thread, anything, record_format, register_format, slots_format, thread_format}
 use Rattle.model.specs.Images.Format.{field, many_fit}
 use Rattle.asm_line.specs.declared.lines.Line.TheVariants as line
-use Rattle.fitting.specs.Fitting.{IsFitting}
-use Rattle.fitting.proofs.Laws.{many-length}
+use Rattle.format_laws.specs.Fitting.{IsFitting}
+use Rattle.format_laws.proofs.Laws.{many-length}
 use Rattle.asm.specs.Drafts.{Draft, declared_of}
 use Rattle.asm.specs.Labels.{FoundLabels, is_first_on, next_number, place_named, point_of, searched_from}
 use Rattle.asm.specs.Reading.{labels_at}

@@ -19,7 +19,7 @@ use Rattle.model.specs.Images.Listing.{range_line, register_line, slot_line}
 use Rattle.image.proofs.Laws.{words-only}
 use Rattle.asm_line.specs.declared.lines.Line.TheVariants as line
 use Rattle.asm_line.specs.Listed.{Lists, range, register, slot, IsTerm, IsWord}
-use Rattle.fitting.proofs.Laws.{between-bounds, field-between, field-parts}
+use Rattle.format_laws.proofs.Laws.{between-bounds, field-between, field-parts}
 use Rattle.asm.proofs.Said.{slot_said}
 use Rattle.asm.proofs.Orders.{least_behind}
 

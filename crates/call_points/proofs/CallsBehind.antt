@@ -3,10 +3,10 @@ use Rattle.std.proofs.Common.{ℕ, ◌≡◌, ◌∙◌, ◌+◌, ◌*◌, ◌<�
 use Rattle.std.specs.Prelude.{Contains}
 use Rattle.thread_facts.proofs.Laws.{thread-entry, within-wider}
 use Rattle.call_points.specs.Behind.{LeadsBehind}
-use Rattle.falling.proofs.Laws.{falls-over, noted-named, stays-within}
-use Rattle.falling.specs.Terms.{NamesRegisters, WritesOnly}
-use Rattle.fitting.proofs.Laws.{is-fitting}
-use Rattle.fitting.specs.Fitting.{IsFitting}
+use Rattle.measure_facts.proofs.Laws.{falls-over, noted-named, stays-within}
+use Rattle.measure_facts.specs.Terms.{NamesRegisters, WritesOnly}
+use Rattle.format_laws.proofs.Laws.{is-fitting}
+use Rattle.format_laws.specs.Fitting.{IsFitting}
 use Rattle.model.specs.declared.instructions.Instr.{Instr}
 use Rattle.model.specs.declared.instructions.Instr.TheVariants.{Ecall}
 use Rattle.model.specs.Acceptance.Accepted.{IsAccepted}

@@ -9,7 +9,7 @@ use Rattle.model.specs.Acceptance.ThreadRules.{is_bad, rules_of_thread, thread_r
 use Rattle.model.specs.Images.Described.{Numbered, numbered_threads}
 use Rattle.model.specs.Images.Image.{Image}
 use Rattle.model.specs.Kernel.AddressSpaces.{page_size}
-use Rattle.booting.proofs.Laws.{not-refused}
+use Rattle.boot_laws.proofs.Laws.{not-refused}
 
 -- ---- where the program begins
 

@@ -4,7 +4,7 @@ use Rattle.std.proofs.lemmas.Bool.Decides.{eqb_tells}
 use Rattle.std.specs.List.{All, list_all}
 use Rattle.std.proofs.lemmas.Bool.{and_parts, leb-true, ltb-true}
 use Rattle.std.proofs.lemmas.List.Elements.{All-head, All-tail}
-use Rattle.falling.specs.Terms.{WritesOnly}
+use Rattle.measure_facts.specs.Terms.{WritesOnly}
 use Rattle.model.specs.declared.instructions.Register.{Register}
 use Rattle.model.specs.declared.ranges.Range.{Range}
 use Rattle.model.specs.Acceptance.CallRules.{badges, message_registers, with_all, with_answer, with_message}

@@ -1,6 +1,6 @@
 -- Where a system call that keeps the rules leads.
 use Rattle.std.specs.Prelude.{ℕ, ◌≡◌, ◌+◌, ◌<◌, ◌≤ℤ◌, ◌<ℤ◌, pos, true, false}
-use Rattle.falling.specs.Terms.{WritesOnly}
+use Rattle.measure_facts.specs.Terms.{WritesOnly}
 use Rattle.model.specs.Acceptance.CallRules.{AfterCall}
 use Rattle.model.specs.Acceptance.Measures.{measured}
 use Rattle.model.specs.Acceptance.NotedStates.{PointState}

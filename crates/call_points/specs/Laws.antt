@@ -21,7 +21,7 @@ use Rattle.model.specs.Machine.ProgramMemory.{RegisterFile, write, read}
 use Rattle.call_points.specs.Behind.{LeadsBehind}
 use Rattle.call_points.specs.Known.{CallsSo, IsAllowed, NamesSo}
 use Rattle.call_points.specs.Messages.{NeedsNothing, ReceivesBy, SendsBy}
-use Rattle.falling.specs.Terms.{WritesOnly}
+use Rattle.measure_facts.specs.Terms.{WritesOnly}
 
 -- ---- where a call leads
 

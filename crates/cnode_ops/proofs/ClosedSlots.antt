@@ -3,8 +3,8 @@ use Rattle.std.proofs.Common.{ℕ, ◌≡◌, ◌∙◌, ◌==◌, inl, inr, tru
 use Rattle.std.proofs.lemmas.Bool.Decides.{eqb_tells}
 use Rattle.model.specs.Capabilities.Slots.{IsOpen, Slots, closed, is_within}
 use Rattle.model.specs.Kernel.State.{State, with_slots}
-use Rattle.removals.specs.Finishing.{without_slot}
-use Rattle.removals.proofs.Laws.{bounds-within, within-bounds}
+use Rattle.removal_laws.specs.Finishing.{without_slot}
+use Rattle.removal_laws.proofs.Laws.{bounds-within, within-bounds}
 
 one-within : (slot y : ℕ) → is_within slot 1 y ≡ (y == slot)
 one-within slot y = elim (eqb_tells y slot) [

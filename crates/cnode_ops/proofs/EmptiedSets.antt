@@ -7,8 +7,8 @@ use Rattle.model.specs.Capabilities.Slots.{Descendant, IsDerivation, IsFull, IsO
 use Rattle.model.specs.Kernel.Removal.{SlotSet, emptied, kept_entry}
 use Rattle.model.specs.Kernel.State.{State, binding_slot, slot_numbers}
 use Rattle.model.proofs.Ancestors.{depth-child, descendant-from_test, descendant-full, full-open}
-use Rattle.removals.specs.Steps.{BindingEmptied, IsReady, SameShape, alone, bindings_from, bound, joined, left, unbound}
-use Rattle.removals.proofs.Laws.{descends-still, emptied-same, full-apart, full-was, line-left, line-taken, lines-done, not-full, open-kept, or-cases, ready-emptied, round, there-out}
+use Rattle.removal_laws.specs.Steps.{BindingEmptied, IsReady, SameShape, alone, bindings_from, bound, joined, left, unbound}
+use Rattle.removal_laws.proofs.Laws.{descends-still, emptied-same, full-apart, full-was, line-left, line-taken, lines-done, not-full, open-kept, or-cases, ready-emptied, round, there-out}
 use Rattle.cnode_ops.specs.Sets.{set_of}
 use Rattle.cnode_ops.specs.declared.sets.Removed.{Removed}
 use Rattle.cnode_ops.specs.declared.sets.Removed.TheVariants.{Below, One}

@@ -11,7 +11,7 @@ use Rattle.model.specs.Capabilities.Slots.{IsOpen, Slots, capability_at, is_empt
 use Rattle.model.specs.Kernel.Removal.{SlotSet, some_inside, some_outside, takes_last}
 use Rattle.model.specs.Kernel.State.{State}
 use Rattle.model.proofs.Ancestors.{full-open}
-use Rattle.removals.proofs.Laws.{bool-iff, both, found-at, found-where, join}
+use Rattle.removal_laws.proofs.Laws.{bool-iff, both, found-at, found-where, join}
 use Rattle.cnode_ops.specs.Lines.{is_handled_beside, takes_line}
 use Rattle.cnode_ops.specs.Refusals.{goes, some_slot, stays}
 use Rattle.cnode_ops.specs.Sets.{set_of}

@@ -18,7 +18,7 @@ use Rattle.model.specs.Kernel.Retype.{NewObject, NewUntyped, NewThread, NewEndpo
 use Rattle.model.specs.Kernel.Soundness.{IsSound}
 use Rattle.model.specs.Kernel.State.{State, Object, ThreadObject, EndpointObject, NotificationObject, CNodeObject, FrameObject, PageTableObject, RootTableObject, binding_slot, slot_numbers}
 use Rattle.model.proofs.Ancestors.{full-open}
-use Rattle.removals.proofs.Laws.{behind-boot, bool-iff, both, bounds-within, found, found-at, found-where, holder, join, within-bounds}
+use Rattle.removal_laws.proofs.Laws.{behind-boot, bool-iff, both, bounds-within, found, found-at, found-where, holder, join, within-bounds}
 use Rattle.cnode_ops.specs.Refusals.{is_left_filled, is_named_beside, refuses, some_slot, stays}
 use Rattle.cnode_ops.specs.Sets.{set_of}
 use Rattle.cnode_ops.specs.declared.sets.Removed.{Removed}

@@ -6,9 +6,9 @@ use Rattle.model.specs.Kernel.Removal.{SlotSet, emptied, remove, takes_last, wan
 use Rattle.model.specs.Kernel.Soundness.{IsSound}
 use Rattle.model.specs.Kernel.State.{State, binding_slot}
 use Rattle.model.proofs.Ancestors.{descendant-full, full-open}
-use Rattle.removals.specs.Finishing.{MaySettle, settled}
-use Rattle.removals.specs.Steps.{SameShape, bindings_from, joined}
-use Rattle.removals.proofs.Laws.{both-loops, may-settle, members-all, open-near, removed, sound-ready}
+use Rattle.removal_laws.specs.Finishing.{MaySettle, settled}
+use Rattle.removal_laws.specs.Steps.{SameShape, bindings_from, joined}
+use Rattle.removal_laws.proofs.Laws.{both-loops, may-settle, members-all, open-near, removed, sound-ready}
 use Rattle.cnode_ops.specs.Refusals.{AreNear}
 use Rattle.cnode_ops.specs.Sets.{set_of}
 use Rattle.cnode_ops.specs.declared.sets.Removed.{Removed}

@@ -5,7 +5,7 @@ use Rattle.model.specs.Capabilities.Slots.{Descendant, IsDerivation, Slots, chil
 use Rattle.model.specs.Shared.Lists.{times_in}
 use Rattle.model.proofs.Ancestors.{descendants-once, found-descends, test-from_descendant}
 use Rattle.model.proofs.Orders.{first-none}
-use Rattle.removals.specs.Steps.{IsChildless}
+use Rattle.removal_laws.specs.Steps.{IsChildless}
 
 pub none-of : (o : Option ℕ) → is_some o ≡ false → o ≡ None
 none-of None is = refl

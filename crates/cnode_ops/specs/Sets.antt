@@ -6,7 +6,7 @@ use Rattle.cnode_ops.specs.declared.sets.Removed.TheVariants.{Below, One}
 use Rattle.model.specs.Capabilities.Orders.{descendants}
 use Rattle.model.specs.Capabilities.Slots.{Slots, is_descendant, is_full}
 use Rattle.model.specs.Kernel.Removal.{SlotSet}
-use Rattle.removals.specs.Steps.{alone}
+use Rattle.removal_laws.specs.Steps.{alone}
 
 abbrev pub set_of : Slots → Removed → SlotSet
 set_of slots (One slot) = alone slot

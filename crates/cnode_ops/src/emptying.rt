@@ -6,7 +6,7 @@ ghost use Rattle.model.specs.Capabilities.Slots.{IsFull, capability_at, parent_a
 ghost use Rattle.model.specs.Kernel.Removal.{emptied};
 ghost use Rattle.model.specs.Kernel.State.{with_slots};
 ghost use Rattle.model.specs.Shared.Lists.{without};
-ghost use Rattle.removals.specs.Steps.{IfUnnamed, IsReady, IsThere, WithWatermark, alone, unmapped_at};
+ghost use Rattle.removal_laws.specs.Steps.{IfUnnamed, IsReady, IsThere, WithWatermark, alone, unmapped_at};
 
 use crate::Ends;
 use model::{Cap, Slot};

@@ -5,8 +5,8 @@ ghost use Rattle.model.specs.Capabilities.CapabilityKinds.{names_object, object_
 ghost use Rattle.model.specs.Capabilities.Slots.{IsFull, SameOutside, Slots, capability_at, closed, empty_entry, recapped, spliced};
 ghost use Rattle.model.specs.Kernel.Removal.{slot_count};
 ghost use Rattle.model.specs.Kernel.State.{State, binding_slot, with_slots};
-ghost use Rattle.removals.specs.Finishing.{woken};
-ghost use Rattle.removals.specs.Steps.{IsThere, ended, unmapped_at, unused};
+ghost use Rattle.removal_laws.specs.Finishing.{woken};
+ghost use Rattle.removal_laws.specs.Steps.{IsThere, ended, unmapped_at, unused};
 
 use model::{Cap, Slot};
 use slots::SlotStore;

@@ -6,7 +6,7 @@ ghost use Rattle.cnode_ops.specs.Sets.{set_of};
 ghost use Rattle.model.specs.Capabilities.Slots.{IsOpen};
 ghost use Rattle.model.specs.Kernel.Removal.{SlotSet, delete, emptied, remove, revoke};
 ghost use Rattle.model.specs.Kernel.Soundness.{IsSound};
-ghost use Rattle.removals.specs.Steps.{BindingEmptied, IsReady, SameShape, bindings_from, joined};
+ghost use Rattle.removal_laws.specs.Steps.{BindingEmptied, IsReady, SameShape, bindings_from, joined};
 
 use crate::Ends;
 use crate::emptying::empty_slot;

@@ -2,7 +2,7 @@
 
 ghost use Rattle.std.specs.Prelude.{◌≡◌, ◌+◌, ◌*◌, ◌≤◌, Some, length, true};
 ghost use Rattle.model.specs.Capabilities.Slots.{IsOpen, empty_entry};
-ghost use Rattle.removals.specs.Finishing.{MaySettle, StrayClosed, settled, without_strays};
+ghost use Rattle.removal_laws.specs.Finishing.{MaySettle, StrayClosed, settled, without_strays};
 
 use crate::Ends;
 use model::Slot;

@@ -4,7 +4,7 @@ use Rattle.std.specs.Prelude.{Contains, int_lt}
 use Rattle.std.specs.Option.{option_map_or}
 use Rattle.std.proofs.lemmas.Bool.{eqb-true, false≢true}
 use Rattle.std.proofs.lemmas.Int.{ints}
-use Rattle.falling.specs.Terms.{NamesRegisters}
+use Rattle.measure_facts.specs.Terms.{NamesRegisters}
 use Rattle.thread_facts.specs.Standing.{AllStand}
 use Rattle.model.specs.declared.events.Event.{Event}
 use Rattle.model.specs.declared.events.Event.TheVariants.{Irq, Step, Tick}

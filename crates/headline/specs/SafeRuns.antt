@@ -11,7 +11,7 @@ use Rattle.model.specs.Images.Places.{offset_of}
 use Rattle.model.specs.Kernel.State.{State}
 use Rattle.model.specs.Kernel.Steps.{trace}
 use Rattle.model.specs.Kernel.Waits.{KeepsBudget, is_error, is_fault}
-use Rattle.booting.specs.Standing.{StandApart}
+use Rattle.boot_laws.specs.Standing.{StandApart}
 use Rattle.headline.specs.Kept.{AllStandThroughout}
 use Rattle.thread_facts.specs.Standing.{AllStand}
 use Rattle.thread_moves.specs.Steps.{GoesWell}

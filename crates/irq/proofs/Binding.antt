@@ -1,6 +1,6 @@
 -- A line is bound to a notification, in place of what it was bound to.
 use Rattle.std.proofs.Common.{ℕ, ◌≡◌, ◌∙◌, ◌==◌, ◌<◌, ◌^◌, ◌+◌, Bool, true, false, not, nat_lt, Some, None, List, Result, Ok, Err, if◌then◌else◌, refl, sym, ap, subst}
-use Rattle.agreement.specs.Wholeness.{Agreed, IsWhole}
+use Rattle.kernel_invariant.specs.Wholeness.{Agreed, IsWhole}
 use Rattle.irq.proofs.Left.{Child, child-state, child-whole}
 use Rattle.irq.specs.Handlers.{bound_source}
 use Rattle.model.specs.Capabilities.Slots.{IsFull, SameOutside, Slots, capability_at, depth_of, empty_entry, inserted, is_empty, is_full}

@@ -2,8 +2,8 @@
 use Rattle.std.proofs.Common.{ℕ, ◌≡◌, ◌∙◌, ◌*◌, ◌/◌, ◌<◌, Bool, true, false, not, nat_le, nat_lt, Some, None, List, Result, Ok, Err, length, refl, sym, ap, arith}
 use Rattle.std.specs.List.{list_any, range_with_len}
 use Rattle.std.proofs.lemmas.Bool.{leb-true}
-use Rattle.agreement.specs.Agreement.{Agrees}
-use Rattle.agreement.specs.Wholeness.{IsWhole}
+use Rattle.kernel_invariant.specs.Agreement.{Agrees}
+use Rattle.kernel_invariant.specs.Wholeness.{IsWhole}
 use Rattle.cnode_ops.proofs.Laws.{store-some}
 use Rattle.cnode_ops.specs.Refusals.{some_slot}
 use Rattle.irq.proofs.Left.{Child, child-state, child-whole}

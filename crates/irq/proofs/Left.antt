@@ -1,7 +1,7 @@
 -- What a call on a line leaves is whole.
 use Rattle.std.proofs.Common.{ℕ, ◌≡◌, ◌∙◌, false, IsSome, List, Option, Some, None, Result, Ok, Err, OnErr, refl, sym, ap, subst}
-use Rattle.agreement.proofs.Laws.{copy-agrees, follows-law, put-closes}
-use Rattle.agreement.specs.Wholeness.{Agreed, IsWhole}
+use Rattle.kernel_invariant.proofs.Laws.{copy-agrees, follows-law, put-closes}
+use Rattle.kernel_invariant.specs.Wholeness.{Agreed, IsWhole}
 use Rattle.model.specs.Kernel.Outcomes.{GivesState}
 use Rattle.model.specs.Capabilities.CapabilityKinds.{frame_mapping}
 use Rattle.model.specs.Capabilities.CapabilityWords.{IsCapability}

@@ -1,7 +1,7 @@
 //! The calls on interrupt control, and on handlers of interrupt lines.
 
 ghost use Rattle.std.specs.Prelude.{ℕ, ◌≡◌, ◌/◌, ◌<◌, ◌≤◌, IfOk, OnErr, length};
-ghost use Rattle.agreement.specs.Wholeness.{IsWhole};
+ghost use Rattle.kernel_invariant.specs.Wholeness.{IsWhole};
 ghost use Rattle.model.specs.Kernel.Outcomes.{GivesState};
 ghost use Rattle.irq.specs.Handlers.{bound_source, handler_place, is_handled};
 ghost use Rattle.model.specs.Capabilities.CapabilityKinds.{is_handler_of};
@@ -17,8 +17,8 @@ ghost use Rattle.soundness.specs.Calls.{IsRoot};
 
 use cnode_ops::{Ends, may_have_child, remove_slot};
 use cspace::{destination_slot, source_slot};
-use lifecycles::KernelObjects;
 use model::{Cap, KError, Slot, SlotName};
+use object_lifetimes::KernelObjects;
 use slots::SlotStore;
 
 /// Whether a capability is a handler of a line.

@@ -6,8 +6,8 @@ use Rattle.std.proofs.lemmas.Bool.{cases_lt}
 use Rattle.std.proofs.lemmas.Nat.{mod-pow-add}
 use Rattle.std.proofs.lemmas.Option.{slice_get-get_or}
 use Rattle.std.proofs.Math.Pow.{pow_mono}
-use Rattle.booting.specs.Standing.{StandApart, StandsInside}
-use Rattle.fitting.specs.Fitting.{IsFitting}
+use Rattle.boot_laws.specs.Standing.{StandApart, StandsInside}
+use Rattle.format_laws.specs.Fitting.{IsFitting}
 use Rattle.model.specs.Acceptance.Accepted.{IsWellFormed}
 use Rattle.model.specs.Acceptance.WellFormed.{is_frame_type}
 use Rattle.model.specs.Capabilities.Placement.{align}

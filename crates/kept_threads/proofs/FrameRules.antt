@@ -3,9 +3,9 @@ use Rattle.std.proofs.Common.{ℕ, zero, suc, ◌≡◌, ◌+◌, ◌%◌, ◌^�
 use Rattle.std.specs.Prelude.{flat_map, slice_get}
 use Rattle.std.specs.List.{enumerate_from, range_with_len}
 use Rattle.std.proofs.lemmas.Bool.{eqb-true, not-false, or_parts}
-use Rattle.booting.specs.Standing.{StandApart}
-use Rattle.booting.proofs.Laws.{kept-before, kept-behind, not-refused}
-use Rattle.fitting.specs.Fitting.{IsFitting}
+use Rattle.boot_laws.specs.Standing.{StandApart}
+use Rattle.boot_laws.proofs.Laws.{kept-before, kept-behind, not-refused}
+use Rattle.format_laws.specs.Fitting.{IsFitting}
 use Rattle.model.specs.declared.entries.FrameEntry.{FrameEntry}
 use Rattle.model.specs.declared.entries.UntypedEntry.{UntypedEntry}
 use Rattle.model.specs.declared.refusals.Refusal.TheVariants.{BadMapping, BadObject, NoRoom, UntypedOverlap}

@@ -4,8 +4,8 @@ use Rattle.std.specs.Prelude.{Contains, slice_get}
 use Rattle.std.specs.List.{enumerate_from, list_any}
 use Rattle.std.proofs.lemmas.Bool.{cases_eq, cases_order, eq-eqb, or_parts}
 use Rattle.thread_facts.proofs.Laws.{entry-from, with_number}
-use Rattle.booting.specs.Standing.{StandApart}
-use Rattle.fitting.specs.Fitting.{IsFitting}
+use Rattle.boot_laws.specs.Standing.{StandApart}
+use Rattle.format_laws.specs.Fitting.{IsFitting}
 use Rattle.model.specs.Acceptance.Accepted.{IsWellFormed}
 use Rattle.model.specs.Acceptance.ThreadInvariants.{tcb_of}
 use Rattle.model.specs.Acceptance.ThreadRules.{is_in_use}

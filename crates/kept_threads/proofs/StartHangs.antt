@@ -3,9 +3,9 @@ use Rattle.std.proofs.Common.{ℕ, ◌≡◌, ◌∙◌, ◌+◌, ◌<◌, inl, 
 use Rattle.std.specs.Prelude.{slice_get}
 use Rattle.std.proofs.lemmas.Bool.{cases_lt, false≢true, le-leb, lt-leb}
 use Rattle.std.proofs.lemmas.Option.{none-some, same_Some, slice_get_cases}
-use Rattle.fitting.specs.Fitting.{CapabilityFits, IsFitting, ObjectFits}
-use Rattle.fitting.proofs.Laws.{is-fitting}
-use Rattle.booting.proofs.Laws.{ReadsBoot, are-formed, described-sound, listed-untyped, object-at, source-untyped}
+use Rattle.format_laws.specs.Fitting.{CapabilityFits, IsFitting, ObjectFits}
+use Rattle.format_laws.proofs.Laws.{is-fitting}
+use Rattle.boot_laws.proofs.Laws.{ReadsBoot, are-formed, described-sound, listed-untyped, object-at, source-untyped}
 use Rattle.model.specs.declared.capabilities.Cap.{Cap}
 use Rattle.model.specs.declared.entries.CapabilityEntry.{CapabilityEntry}
 use Rattle.model.specs.Acceptance.Accepted.{IsWellFormed}

@@ -2,8 +2,8 @@
 
 ghost use Rattle.kept_threads.specs.Laws.{HaveOwnBlocks, IsLong};
 
-use booting::objects_stand_inside_their_untypeds;
-use fitting::images_that_fit_keep_their_limits;
+use boot_laws::objects_stand_inside_their_untypeds;
+use format_laws::images_that_fit_keep_their_limits;
 use thread_steps::noted_points_have_their_form;
 
 /// Threads of an accepted image with one control block are one thread.

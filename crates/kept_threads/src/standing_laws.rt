@@ -2,7 +2,7 @@
 
 ghost use Rattle.kept_threads.specs.Laws.{AllStandAtTheStart, StandsOn};
 
-use booting::described_states_are_sound;
+use boot_laws::described_states_are_sound;
 use thread_starts::{threads_are_as_listed, threads_start_as_certified};
 
 /// A thread whose slots, mappings and code a change leaves alone still stands where it stood, or at another point that notes the same

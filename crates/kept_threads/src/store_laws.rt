@@ -2,8 +2,8 @@
 
 ghost use Rattle.kept_threads.specs.Laws.{StoresTouchNone};
 
-use booting::objects_stand_inside_their_untypeds;
-use fitting::images_that_fit_keep_their_limits;
+use boot_laws::objects_stand_inside_their_untypeds;
+use format_laws::images_that_fit_keep_their_limits;
 
 /// A thread that stands as certified leaves every thread alone, itself too, where it sets its registers and writes only where its
 /// stores may: no frame of code is among those.

@@ -4,9 +4,9 @@ use Rattle.std.specs.Option.{option_map_or}
 use Rattle.std.proofs.Math.Pow.{pow_mono}
 use Rattle.std.proofs.lemmas.Bool.{le-leb}
 use Rattle.std.proofs.lemmas.Nat.{pow-add}
-use Rattle.agreement.proofs.Laws.{bare-agrees}
-use Rattle.agreement.specs.Agreement.{Agrees}
-use Rattle.agreement.specs.Wholeness.{IsWhole}
+use Rattle.kernel_invariant.proofs.Laws.{bare-agrees}
+use Rattle.kernel_invariant.specs.Agreement.{Agrees}
+use Rattle.kernel_invariant.specs.Wholeness.{IsWhole}
 use Rattle.model.specs.Capabilities.Slots.{Slots, empty_entry, opened}
 use Rattle.model.specs.Kernel.Setup.{boot_area}
 use Rattle.model.specs.Kernel.Soundness.{IsSound}

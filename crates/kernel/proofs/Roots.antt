@@ -1,8 +1,8 @@
 -- A capability without a parent comes into an empty boot slot.
 use Rattle.std.proofs.Common.{ℕ, ◌≡◌, ◌∙◌, ◌^◌, ◌<◌, ◌&&◌, Bool, true, false, not, nat_lt, if◌then◌else◌, Option, Some, None, IsSome, List, refl, sym, ap, subst}
 use Rattle.std.proofs.lemmas.Bool.{and_parts, ltb-true, not-true}
-use Rattle.agreement.proofs.Laws.{follows-law, put-agrees, put-closes}
-use Rattle.agreement.specs.Wholeness.{Agreed}
+use Rattle.kernel_invariant.proofs.Laws.{follows-law, put-agrees, put-closes}
+use Rattle.kernel_invariant.specs.Wholeness.{Agreed}
 use Rattle.model.specs.Capabilities.CapabilityWords.{IsCapability}
 use Rattle.model.specs.Capabilities.Slots.{IsOpen, SameOutside, Slots, empty_entry, inserted, is_full}
 use Rattle.model.specs.Kernel.Setup.{put_in_boot_slot}

@@ -1,7 +1,7 @@
 -- No object stands behind the end of memory.
 use Rattle.std.proofs.Common.{ℕ, ◌≡◌, ◌≤◌, Some, None, List, length, refl, ap, arith, pow_pos}
 use Rattle.std.specs.Prelude.{option_map}
-use Rattle.agreement.specs.Agreement.{Agrees}
+use Rattle.kernel_invariant.specs.Agreement.{Agrees}
 use Rattle.model.specs.Kernel.Kinds.{kind_of}
 use Rattle.model.specs.Kernel.Retype.{object_bits}
 use Rattle.model.specs.Kernel.Soundness.{IsSound}

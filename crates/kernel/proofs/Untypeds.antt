@@ -3,7 +3,7 @@ use Rattle.std.proofs.Common.{ℕ, ◌≡◌, ◌∙◌, ◌+◌, ◌/◌, ◌%�
 use Rattle.std.proofs.Math.Pow.{pow_mono}
 use Rattle.std.proofs.lemmas.Bool.{and_parts, eqb-true, leb-true}
 use Rattle.std.proofs.lemmas.Nat.{pow_pos}
-use Rattle.agreement.specs.Agreement.{Agrees}
+use Rattle.kernel_invariant.specs.Agreement.{Agrees}
 use Rattle.cnode_ops.specs.Refusals.{some_slot}
 use Rattle.kernel.specs.Setups.{is_piece, reaches_behind}
 use Rattle.model.specs.Capabilities.CapabilityWords.{IsCapability}

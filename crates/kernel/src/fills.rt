@@ -2,9 +2,9 @@
 
 ghost use Rattle.std.specs.Prelude.{◌≡◌, None, Some, false, if◌then◌else◌};
 ghost use Rattle.model.specs.Kernel.Setup.{fill};
-ghost use Rattle.lifecycles.specs.Kernels.{state_in};
+ghost use Rattle.object_lifetimes.specs.Kernels.{state_in};
 
-use lifecycles::Kernel;
+use object_lifetimes::Kernel;
 use slots::SlotStore;
 
 /// Puts bytes, at most 4096, into the frame that begins at an offset, from its first byte on. Nothing changes where no

@@ -1,7 +1,7 @@
 -- An accepted image boots into the state that it describes, so no call of its loader fails.
 use Rattle.std.proofs.Common.{◌≡◌, ◌∙◌, ◌⊎◌, inl, inr, true, Ok, Err, refl, sym, ap}
 use Rattle.std.specs.Prelude.{Result}
-use Rattle.booting.proofs.Laws.{boots-well}
+use Rattle.boot_laws.proofs.Laws.{boots-well}
 use Rattle.model.specs.Acceptance.Accepted.{IsWellFormed}
 use Rattle.model.specs.declared.boot_faults.BootFault.{BootFault}
 use Rattle.model.specs.declared.boot_faults.BootFault.TheVariants.{OutOfMemory}

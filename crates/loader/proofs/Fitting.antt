@@ -8,8 +8,8 @@ use Rattle.model.specs.declared.entries.ImageHeader.{ImageHeader}
 use Rattle.model.specs.declared.refusals.Refusal.TheVariants.{Magic, Version}
 use Rattle.model.specs.Images.Format.{Format, both, field, many_fit, number, number_or}
 use Rattle.model.specs.Images.Image.{Image, ImageContent, Thread, anything, below, between, capability_format, content_format, frame_format, header_format, image_with, interrupt_format, magic, object_format, pair_key, register_format, registers_format, sections_format, size_fits, slots_format, table_format, thread_format, thread_header_format, untyped_format, whole_image, words_format}
-use Rattle.fitting.specs.Fitting.{HeaderFits}
-use Rattle.fitting.proofs.Laws.{field-between, field-parts, is-fitting, many-length}
+use Rattle.format_laws.specs.Fitting.{HeaderFits}
+use Rattle.format_laws.proofs.Laws.{field-between, field-parts, is-fitting, many-length}
 use Rattle.loader.specs.Limits.{ContentFits, IsLimited, IsSmall, ThreadFits}
 
 -- ---- lists that are gone over

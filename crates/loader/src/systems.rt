@@ -1,7 +1,7 @@
 //! Loading a whole image into a new machine, verified or not.
 
 ghost use Rattle.std.specs.Prelude.{◌≡◌, ◌+◌, ◌^◌, ◌≤◌, ◌⊎◌, IfOk, IfErr, OnOk, Ok, Err, map, true};
-ghost use Rattle.booting.specs.Standing.{StandApart};
+ghost use Rattle.boot_laws.specs.Standing.{StandApart};
 ghost use Rattle.kernel.specs.Setups.{state_in};
 ghost use Rattle.loader.specs.Filling.{ArePlaces};
 ghost use Rattle.loader.specs.Limits.{IsLimited};
@@ -20,7 +20,7 @@ use crate::boot_slots::control_slot;
 use crate::loading::Loader;
 use crate::object_places::places_of;
 use crate::untyped_places::misplaced;
-use booting::{objects_stand_inside_their_untypeds, well_formed_images_boot};
+use boot_laws::{objects_stand_inside_their_untypeds, well_formed_images_boot};
 use image::ImageRef;
 use kernel::{Setup, System};
 use model::{BootFault, ImageHeader, UntypedEntry};

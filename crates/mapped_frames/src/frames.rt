@@ -3,12 +3,12 @@
 ghost use Rattle.std.specs.Prelude.{◌≡◌, ◌==◌, ◌&&◌, Bool, IfSome, false};
 ghost use Rattle.std.specs.List.{list_any};
 ghost use Rattle.std.specs.Option.{option_map_or};
-ghost use Rattle.fitting.specs.Fitting.{FrameFits, IsFitting};
+ghost use Rattle.format_laws.specs.Fitting.{FrameFits, IsFitting};
 ghost use Rattle.model.specs.Images.Fills.{frame_at};
 ghost use Rattle.model.specs.Images.Image.{pair_key};
 ghost use Rattle.model.specs.declared.entries.FrameEntry.{FrameEntry};
 
-use fitting::images_that_fit_keep_their_limits;
+use format_laws::images_that_fit_keep_their_limits;
 use image::ImageRef;
 use model::FrameEntry;
 

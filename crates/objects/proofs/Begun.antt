@@ -21,7 +21,7 @@ use Rattle.objects.specs.Tables.{Tables, state_of}
 use Rattle.objects.specs.Threads.{new_object}
 use Rattle.objects.specs.declared.records.Kind.{Kind}
 use Rattle.objects.specs.declared.records.Kind.TheVariants as kinds
-use Rattle.removals.specs.Finishing.{is_stranded, waits_nowhere}
+use Rattle.removal_laws.specs.Finishing.{is_stranded, waits_nowhere}
 
 -- ---- threads that wake
 

@@ -12,8 +12,8 @@ use Rattle.objects.specs.declared.records.Record.{Record}
 use Rattle.objects.specs.declared.records.Record.TheVariants.{Endpoint, Notification, CNode, Frame, PageTable, RootTable}
 use Rattle.objects.specs.declared.records.Thread.{Thread}
 use Rattle.queues.specs.Queues.{queue_of}
-use Rattle.removals.proofs.Laws.{filter-all, threads-all}
-use Rattle.removals.specs.Steps.{ends_thread}
+use Rattle.removal_laws.proofs.Laws.{filter-all, threads-all}
+use Rattle.removal_laws.specs.Steps.{ends_thread}
 
 no-thread : (threads : List (Option Thread)) (waiting : List ℕ) (r : Option Record) → as_thread (option_map (object_of threads waiting) r) ≡ None
 no-thread threads waiting None = refl

@@ -15,7 +15,7 @@ use Rattle.objects.specs.Standing.{Standing}
 use Rattle.objects.specs.Tables.{Tables, state_of, thread_in, told_by}
 use Rattle.objects.specs.Threads.{status_of, thread_state}
 use Rattle.objects.specs.declared.records.Thread.{Thread}
-use Rattle.removals.specs.Finishing.{is_stranded, waits_nowhere, woken}
+use Rattle.removal_laws.specs.Finishing.{is_stranded, waits_nowhere, woken}
 
 -- ---- who is stranded
 

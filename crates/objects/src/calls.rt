@@ -12,8 +12,8 @@ ghost use Rattle.objects.specs.Frames.{IsRoom, SameBesideObjects};
 ghost use Rattle.objects.specs.Standing.{Standing};
 ghost use Rattle.objects.specs.Tables.{state_of};
 ghost use Rattle.objects.specs.Threads.{new_object};
-ghost use Rattle.removals.specs.Finishing.{woken};
-ghost use Rattle.removals.specs.Steps.{object_ended};
+ghost use Rattle.removal_laws.specs.Finishing.{woken};
+ghost use Rattle.removal_laws.specs.Steps.{object_ended};
 
 use crate::records::{Kind, Thread};
 use crate::tables::{LEAST_SIZE, Objects, record_of};

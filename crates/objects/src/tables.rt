@@ -15,8 +15,8 @@ ghost use Rattle.objects.specs.Standing.{Standing};
 ghost use Rattle.objects.specs.Tables.{is_frame, object_in, record_in, record_of, state_of, thread_in};
 ghost use Rattle.objects.specs.Threads.{status_of};
 ghost use Rattle.queues.specs.Queues.{queue_of};
-ghost use Rattle.removals.specs.Finishing.{is_stranded, waits_nowhere};
-ghost use Rattle.removals.specs.Steps.{ends_thread};
+ghost use Rattle.removal_laws.specs.Finishing.{is_stranded, waits_nowhere};
+ghost use Rattle.removal_laws.specs.Steps.{ends_thread};
 
 use crate::places::Places;
 use crate::records::{Kind, Record, Status, Thread};

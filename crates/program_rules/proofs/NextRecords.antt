@@ -3,7 +3,7 @@ use Rattle.std.proofs.Common.{ℕ, suc, ◌≡◌, ◌∙◌, ◌==◌, ◌+◌,
 use Rattle.std.specs.Iterator.{YieldsFirst}
 use Rattle.std.specs.Prelude.{find, slice_get}
 use Rattle.std.proofs.lemmas.Bool.Decides.{eqb_tells}
-use Rattle.fitting.specs.Fitting.{CertificateFits, RecordFits}
+use Rattle.format_laws.specs.Fitting.{CertificateFits, RecordFits}
 use Rattle.model.specs.Acceptance.NotedStates.{record_of}
 use Rattle.model.specs.Images.Image.{StateRecord, Thread}
 use Rattle.program_rules.specs.Left.{behind, left_of, taken}

@@ -7,7 +7,7 @@ ghost use Rattle.model.specs.Acceptance.Rules.{first_broken};
 ghost use Rattle.thread_spaces.specs.Given.{AreOffsets, IsListed};
 
 use crate::programs::Program;
-use fitting::{certificates_that_fit_keep_their_limits, images_that_fit_keep_their_limits};
+use format_laws::{certificates_that_fit_keep_their_limits, images_that_fit_keep_their_limits};
 use image::{ImageRef, ThreadRef};
 use model::Refusal;
 use std::alloc::{AllocError, Global};

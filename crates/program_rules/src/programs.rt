@@ -2,7 +2,7 @@
 
 ghost use Rattle.std.specs.Prelude.{◌≡◌, ◌+◌, ◌*◌, ◌^◌, ◌<◌, ◌≤◌, [], Some, slice_get};
 ghost use Rattle.std.specs.List.{list_any};
-ghost use Rattle.fitting.specs.Fitting.{CertificateFits};
+ghost use Rattle.format_laws.specs.Fitting.{CertificateFits};
 ghost use Rattle.model.specs.Acceptance.Accepted.{IsWellFormed};
 ghost use Rattle.model.specs.Acceptance.NotedStates.{image_slots};
 ghost use Rattle.typestate.specs.Orders.{Rise};

@@ -3,7 +3,7 @@ use Rattle.std.proofs.Common.{ℕ, zero, suc, ◌≡◌, ◌∙◌, ◌+◌, ◌
 use Rattle.model.specs.Capabilities.Slots.{Descendant, child, deeper, IsDerivation, IsFull, Slots, depth_within, parent_at}
 use Rattle.model.specs.Kernel.Removal.{SlotSet, ancestor_outside}
 use Rattle.model.proofs.Depths.{depth-le, depth-mono, depth-none, depth-some}
-use Rattle.removals.proofs.Laws.{height-up, outside-in, outside-none, outside-out, outside-stable, outside-zero}
+use Rattle.removal_laws.proofs.Laws.{height-up, outside-in, outside-none, outside-out, outside-stable, outside-zero}
 
 -- ---- ancestors
 

@@ -16,7 +16,7 @@ use Rattle.model.specs.Kernel.Removal.{SlotSet, bytes_kept, ends, ends_root, fra
 use Rattle.model.specs.Kernel.Retype.{NewObject, NewFrame, NewRootTable}
 use Rattle.model.specs.Kernel.Soundness.{Lies, apart, same, within, around, MappingsAreSound, MemoryIsSound}
 use Rattle.model.specs.Kernel.State.{State, slots_of}
-use Rattle.removals.proofs.Laws.{bool-iff, both, found-at, found-same, found-where, join, kind-names, named_as, object-kind, root-kind, slot-some}
+use Rattle.removal_laws.proofs.Laws.{bool-iff, both, found-at, found-same, found-where, join, kind-names, named_as, object-kind, root-kind, slot-some}
 use Rattle.soundness.proofs.Carried.{full-unless, held-at, held-by, some-passes, table-of}
 use Rattle.soundness.proofs.Jumps.{some-child}
 use Rattle.soundness.proofs.LeftSlots.{Removes, capability-left, child-stays, descends-left, full-was, held, kind-gone, kind-stays, kind-was, left, near, parent-left, slots-left, stays-if}

@@ -21,8 +21,8 @@ use Rattle.model.specs.Kernel.Soundness.{HasSlot, of_boot_area, of_object, IsSou
 use Rattle.model.specs.Kernel.State.{State, ThreadObject, ThreadState, boot_area_slots, slots_of}
 use Rattle.model.proofs.Ancestors.{full-open}
 use Rattle.model.proofs.SlotChanges.{capability_of, parent_of}
-use Rattle.removals.specs.Finishing.{MaySettle, has_slot, without_strays}
-use Rattle.removals.proofs.Laws.{capability-out, found-where, has-one, kept-test, kind-threads, may-settle, open-kept, open-near, or-cases, parent-out, slot-left, there-in, valid-kept}
+use Rattle.removal_laws.specs.Finishing.{MaySettle, has_slot, without_strays}
+use Rattle.removal_laws.proofs.Laws.{capability-out, found-where, has-one, kept-test, kind-threads, may-settle, open-kept, open-near, or-cases, parent-out, slot-left, there-in, valid-kept}
 use Rattle.soundness.proofs.Jumps.{depth-jumped, descends-full, descends-still, outside-above}
 use Rattle.soundness.proofs.Rest.{thread-kind}
 

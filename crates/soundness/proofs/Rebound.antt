@@ -14,7 +14,7 @@ use Rattle.model.specs.Kernel.InterruptCalls.{bind, may_be_bound}
 use Rattle.model.specs.Kernel.Removal.{SlotSet, delete, kept, remove, takes_last, with_bindings}
 use Rattle.model.specs.Kernel.Soundness.{IsSound}
 use Rattle.model.specs.Kernel.State.{State, binding_slot, with_slots}
-use Rattle.removals.proofs.Laws.{line-of, or-cases}
+use Rattle.removal_laws.proofs.Laws.{line-of, or-cases}
 use Rattle.soundness.specs.Calls.{IsCall}
 use Rattle.soundness.proofs.CNodeCalls.{room-below}
 use Rattle.soundness.proofs.CopyingCalls.{bound-sound}

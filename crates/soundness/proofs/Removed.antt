@@ -13,7 +13,7 @@ use Rattle.model.specs.Kernel.Soundness.{IsSound}
 use Rattle.model.specs.Kernel.State.{State, Object, ThreadObject, EndpointObject, NotificationObject, CNodeObject, FrameObject, PageTableObject, RootTableObject, ThreadState, as_thread, slot_numbers}
 use Rattle.std.proofs.lemmas.Bool.{eqb-true}
 use Rattle.model.proofs.Ancestors.{descendant-full, full-open}
-use Rattle.removals.proofs.Laws.{bool-iff, both, bounds-within, holder, holder-aligned, in-memory, members-all, slots-settled, sound-ready}
+use Rattle.removal_laws.proofs.Laws.{bool-iff, both, bounds-within, holder, holder-aligned, in-memory, members-all, slots-settled, sound-ready}
 use Rattle.soundness.proofs.LeftSlots.{Removes, kind-stays, left, near}
 use Rattle.soundness.proofs.LeftThreads.{calm-sound, stilled}
 use Rattle.soundness.proofs.Waking.{AreApart, all-wake, apart-filter, filter-in, in-filter, in-places, is_in, places-apart, resting}

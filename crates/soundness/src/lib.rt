@@ -8,7 +8,7 @@ mod fresh_laws;
 mod invocation_laws;
 mod mapping_laws;
 mod message_laws;
-mod removal_laws;
+mod removing_laws;
 mod retype_laws;
 mod setup_laws;
 mod step_laws;
@@ -30,7 +30,7 @@ pub use message_laws::{
     signal_keeps_soundness, try_to_receive_keeps_soundness, try_to_send_keeps_soundness,
     wait_keeps_soundness,
 };
-pub use removal_laws::{delete_keeps_soundness, removals_keep_soundness, revoke_keeps_soundness};
+pub use removing_laws::{delete_keeps_soundness, removals_keep_soundness, revoke_keeps_soundness};
 pub use retype_laws::retype_keeps_soundness;
 pub use setup_laws::{
     calls_of_the_loader_keep_soundness, filling_keeps_soundness, interrupt_control_keeps_soundness,

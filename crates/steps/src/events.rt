@@ -4,13 +4,13 @@ ghost use Rattle.std.specs.Prelude.{ℕ, ◌≡◌};
 ghost use Rattle.model.specs.Kernel.Interrupts.{raise};
 ghost use Rattle.model.specs.Kernel.Scheduling.{tick};
 ghost use Rattle.model.specs.Kernel.Steps.{ran, step};
-ghost use Rattle.lifecycles.specs.Kernels.{state_in};
+ghost use Rattle.object_lifetimes.specs.Kernels.{state_in};
 ghost use Rattle.soundness.specs.Running.{IsRunning};
 
 use crate::instructions::run;
 use irq::raise;
-use lifecycles::Kernel;
 use model::{Event, Label};
+use object_lifetimes::Kernel;
 use sched::{choose, tick};
 use slots::SlotStore;
 

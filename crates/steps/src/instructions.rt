@@ -10,12 +10,12 @@ ghost use Rattle.model.specs.Machine.Instructions.{IsInstr};
 ghost use Rattle.model.specs.Machine.ProgramMemory.{loaded};
 ghost use Rattle.model.specs.declared.instructions.Access.TheVariants.{Fetch};
 ghost use Rattle.model.specs.declared.instructions.AccessSize.TheVariants.{Word};
-ghost use Rattle.lifecycles.specs.Kernels.{state_in};
+ghost use Rattle.object_lifetimes.specs.Kernels.{state_in};
 ghost use Rattle.soundness.specs.Running.{IsRunning};
 
 use crate::failures::{miss, trap};
-use lifecycles::Kernel;
 use model::{Cause, Exec, Instr, MemoryFault, Outcome};
+use object_lifetimes::Kernel;
 use rv32_isa::decode;
 use slots::SlotStore;
 use system_calls::system_call;

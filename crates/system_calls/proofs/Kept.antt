@@ -1,8 +1,8 @@
 -- A call on objects by its definition leaves what is whole whole.
 use Rattle.std.proofs.Common.{ℕ, ◌≡◌, ◌∙◌, ◌^◌, ◌<◌, ◌≤◌, List, Some, sym, ap, subst, arith}
 use Rattle.std.proofs.Math.Pow.{pow_mono}
-use Rattle.agreement.proofs.Laws.{whole-kept}
-use Rattle.agreement.specs.Wholeness.{IsWhole}
+use Rattle.kernel_invariant.proofs.Laws.{whole-kept}
+use Rattle.kernel_invariant.specs.Wholeness.{IsWhole}
 use Rattle.model.specs.Capabilities.Slots.{Slots}
 use Rattle.model.specs.Kernel.Kinds.{kind_at}
 use Rattle.model.specs.Kernel.Retype.{NewThread}

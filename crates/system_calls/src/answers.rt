@@ -6,13 +6,13 @@ ghost use Rattle.model.specs.Kernel.Kinds.{kind_at};
 ghost use Rattle.model.specs.Kernel.Messages.{passes};
 ghost use Rattle.model.specs.Kernel.Retype.{NewThread};
 ghost use Rattle.model.specs.Kernel.Steps.{answered, calls_known, completed, lacks_capability, refused};
-ghost use Rattle.lifecycles.specs.Kernels.{state_in};
+ghost use Rattle.object_lifetimes.specs.Kernels.{state_in};
 ghost use Rattle.soundness.specs.Running.{IsRunning};
 
 use faults::raise_fault;
 use ipc::pass_with;
-use lifecycles::Kernel;
 use model::{FaultKind, KError, LookupFailure, Outcome, Register, SendCall};
+use object_lifetimes::Kernel;
 use objects::{Fault, Status};
 use slots::SlotStore;
 

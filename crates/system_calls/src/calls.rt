@@ -2,15 +2,15 @@
 
 ghost use Rattle.std.specs.Prelude.{ℕ, ◌≡◌};
 ghost use Rattle.model.specs.Kernel.Steps.{calls, system_call};
-ghost use Rattle.lifecycles.specs.Kernels.{state_in};
+ghost use Rattle.object_lifetimes.specs.Kernels.{state_in};
 ghost use Rattle.soundness.specs.Running.{IsRunning};
 
 use crate::answers::{pass, unknown_call};
 use crate::receives::receive_call;
 use crate::replies::{give_way, reply};
 use crate::send_calls::send_call;
-use lifecycles::Kernel;
 use model::{Outcome, ReceiveCall, Register, SystemCall};
+use object_lifetimes::Kernel;
 use slots::SlotStore;
 
 /// A thread makes a system call.

@@ -3,15 +3,15 @@
 ghost use Rattle.std.specs.Prelude.{ℕ, ◌≡◌};
 ghost use Rattle.model.specs.Capabilities.Slots.{IsFull, capability_at};
 ghost use Rattle.model.specs.Kernel.Steps.{invokes};
-ghost use Rattle.lifecycles.specs.Kernels.{state_in};
+ghost use Rattle.object_lifetimes.specs.Kernels.{state_in};
 ghost use Rattle.soundness.specs.Running.{IsRunning};
 
 use crate::answers::{complete, refuse};
 use crate::names::cspace_of;
-use invocations::{KernelCall, invoke};
 use ipc::Message;
-use lifecycles::Kernel;
 use model::{Cap, Outcome, Register, SendCall, Slot};
+use object_lifetimes::Kernel;
+use perform_calls::{KernelCall, invoke};
 use slots::SlotStore;
 
 /// A thread calls what its capability does, by the message in its registers.

@@ -8,11 +8,11 @@ ghost use Rattle.model.specs.Kernel.Kinds.{kind_at};
 ghost use Rattle.model.specs.Kernel.Retype.{NewThread};
 ghost use Rattle.model.specs.Kernel.State.{cspace_slot};
 ghost use Rattle.model.specs.Kernel.Steps.{cspace_of, named_slot};
-ghost use Rattle.lifecycles.specs.Kernels.{state_in};
+ghost use Rattle.object_lifetimes.specs.Kernels.{state_in};
 
 use cspace::called_slot;
-use lifecycles::Kernel;
 use model::{Cap, LookupFailure, Register, Slot};
+use object_lifetimes::Kernel;
 use slots::SlotStore;
 
 /// The root of a thread's capability space, which stands in its slot 0.

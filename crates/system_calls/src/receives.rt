@@ -5,15 +5,15 @@ ghost use Rattle.model.specs.Capabilities.Slots.{capability_at};
 ghost use Rattle.model.specs.Kernel.Kinds.{kind_at};
 ghost use Rattle.model.specs.Kernel.Retype.{NewEndpoint, NewNotification};
 ghost use Rattle.model.specs.Kernel.Steps.{receive_by, receive_call, receive_on_endpoint, receive_on_notification};
-ghost use Rattle.lifecycles.specs.Kernels.{state_in};
+ghost use Rattle.object_lifetimes.specs.Kernels.{state_in};
 ghost use Rattle.soundness.specs.Running.{IsRunning};
 
 use crate::answers::lacks_capability;
 use crate::names::named_slot;
 use ipc::{receive, try_to_receive};
-use lifecycles::Kernel;
 use model::{Cap, LookupFailure, Outcome, ReceiveCall, Slot};
 use notify::{poll, wait};
+use object_lifetimes::Kernel;
 use slots::SlotStore;
 
 /// A thread receives from an endpoint.

@@ -3,10 +3,10 @@
 ghost use Rattle.std.specs.Prelude.{ℕ, ◌≡◌};
 ghost use Rattle.model.specs.Kernel.Messages.{passes, reply};
 ghost use Rattle.model.specs.Kernel.Scheduling.{yielded};
-ghost use Rattle.lifecycles.specs.Kernels.{state_in};
+ghost use Rattle.object_lifetimes.specs.Kernels.{state_in};
 ghost use Rattle.soundness.specs.Running.{IsRunning};
 
-use lifecycles::Kernel;
+use object_lifetimes::Kernel;
 use sched::yield_now;
 use slots::SlotStore;
 

@@ -3,15 +3,15 @@
 ghost use Rattle.std.specs.Prelude.{ℕ, ◌≡◌};
 ghost use Rattle.model.specs.Capabilities.Slots.{IsFull, capability_at};
 ghost use Rattle.model.specs.Kernel.Steps.{send_by, send_call};
-ghost use Rattle.lifecycles.specs.Kernels.{state_in};
+ghost use Rattle.object_lifetimes.specs.Kernels.{state_in};
 ghost use Rattle.soundness.specs.Running.{IsRunning};
 
 use crate::answers::refuse;
 use crate::capability_calls::invoke_on;
 use crate::names::named_slot;
 use crate::sends::{send_nothing, send_on, signal_on};
-use lifecycles::Kernel;
 use model::{Cap, KError, Outcome, SendCall, Slot};
+use object_lifetimes::Kernel;
 use slots::SlotStore;
 
 /// A thread sends by what a slot holds: a message, a signal, or else a call on the capability.

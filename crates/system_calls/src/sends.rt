@@ -6,14 +6,14 @@ ghost use Rattle.model.specs.Kernel.Kinds.{kind_at};
 ghost use Rattle.model.specs.Kernel.Messages.{signal};
 ghost use Rattle.model.specs.Kernel.Retype.{NewEndpoint, NewNotification};
 ghost use Rattle.model.specs.Kernel.Steps.{send_on, sends_nothing, signal_on};
-ghost use Rattle.lifecycles.specs.Kernels.{state_in};
+ghost use Rattle.object_lifetimes.specs.Kernels.{state_in};
 ghost use Rattle.soundness.specs.Running.{IsRunning};
 
 use crate::answers::{answer, lacks_capability, pass};
 use ipc::{send, try_to_send};
-use lifecycles::Kernel;
 use model::{LookupFailure, Outcome, SendCall};
 use notify::signal;
+use object_lifetimes::Kernel;
 use objects::{Sending, Sent};
 use slots::SlotStore;
 

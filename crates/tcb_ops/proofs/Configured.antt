@@ -1,8 +1,8 @@
 -- What Configure leaves agrees as before.
 use Rattle.std.proofs.Common.{ℕ, ◌≡◌, ◌∙◌, Option, Some, None, IsSome, List, refl, sym, ap, subst, arith}
-use Rattle.agreement.proofs.Laws.{agrees-less, copy-agrees, follows-law, is-open, less-same, put-closes}
-use Rattle.agreement.specs.Agreement.{Agrees}
-use Rattle.agreement.specs.Wholeness.{Agreed}
+use Rattle.kernel_invariant.proofs.Laws.{agrees-less, copy-agrees, follows-law, is-open, less-same, put-closes}
+use Rattle.kernel_invariant.specs.Agreement.{Agrees}
+use Rattle.kernel_invariant.specs.Wholeness.{Agreed}
 use Rattle.model.proofs.SlotChanges.{capability_of, full-not-empty}
 use Rattle.model.specs.Capabilities.CapabilityKinds.{frame_mapping, root_of}
 use Rattle.model.specs.Capabilities.Slots.{SameOutside, Slots, capability_at, empty_entry}

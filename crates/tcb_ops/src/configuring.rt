@@ -1,7 +1,7 @@
 //! Giving a thread its spaces.
 
 ghost use Rattle.std.specs.Prelude.{◌≡◌, ◌+◌, ◌/◌, ◌^◌, ◌<◌, OnErr, Some};
-ghost use Rattle.agreement.specs.Agreement.{Agrees};
+ghost use Rattle.kernel_invariant.specs.Agreement.{Agrees};
 ghost use Rattle.model.specs.Kernel.Outcomes.{GivesState};
 ghost use Rattle.model.specs.Capabilities.CapabilityWords.{IsCapability};
 ghost use Rattle.model.specs.Capabilities.Slots.{SameOutside};

@@ -15,7 +15,7 @@ use Rattle.model.specs.Kernel.Scheduling.{head_of}
 use Rattle.model.specs.Kernel.Soundness.{IsSound}
 use Rattle.model.specs.Kernel.State.{State, slot_numbers}
 use Rattle.model.proofs.Ancestors.{full-open}
-use Rattle.removals.proofs.Laws.{open-near}
+use Rattle.removal_laws.proofs.Laws.{open-near}
 
 abbrev pub standing : ℕ → Rights → MappedFrame
 standing frame allowed = record { frame = frame; allowed = allowed }

@@ -8,7 +8,7 @@ use Rattle.model.specs.Images.Described.{original}
 use Rattle.model.specs.Images.Image.{Image}
 use Rattle.model.specs.Images.Places.{offset_of, type_at}
 use Rattle.model.specs.Kernel.Retype.{NewObject, NewUntyped, NewThread, NewEndpoint, NewNotification, NewCNode, NewFrame, NewPageTable, NewRootTable, first_capability}
-use Rattle.booting.proofs.Laws.{mapped_by}
+use Rattle.boot_laws.proofs.Laws.{mapped_by}
 
 pub mapped-root : (image : Image) (found : Option TableEntry) (offset : ℕ) → mapped_by image found (RootTable offset) ≡ RootTable offset
 mapped-root image None offset = refl

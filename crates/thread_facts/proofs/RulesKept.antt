@@ -12,7 +12,7 @@ use Rattle.model.specs.Images.Image.{Image}
 use Rattle.model.specs.Acceptance.NotedStates.{PointState}
 use Rattle.model.specs.Acceptance.PointRules.{entry_rules, point_rules, program_rules, rules_of_noted, rules_of_program, state_rules}
 use Rattle.model.specs.Acceptance.PointStates.{Noted, Known, noted}
-use Rattle.booting.proofs.Laws.{kept-before, kept-behind, not-refused}
+use Rattle.boot_laws.proofs.Laws.{kept-before, kept-behind, not-refused}
 
 -- ---- lists of rules
 

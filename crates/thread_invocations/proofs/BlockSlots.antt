@@ -4,8 +4,8 @@ use Rattle.std.specs.Prelude.{Contains}
 use Rattle.std.specs.List.{list_any}
 use Rattle.std.proofs.lemmas.Bool.{false≢true}
 use Rattle.std.proofs.lemmas.Option.{none-some}
-use Rattle.booting.proofs.Laws.{are-formed, cspace-slot, slot-of-one, vspace-slot}
-use Rattle.fitting.proofs.Laws.{is-fitting}
+use Rattle.boot_laws.proofs.Laws.{are-formed, cspace-slot, slot-of-one, vspace-slot}
+use Rattle.format_laws.proofs.Laws.{is-fitting}
 use Rattle.kept_threads.proofs.Laws.{thread-entry}
 use Rattle.model.specs.Acceptance.Accepted.{IsWellFormed}
 use Rattle.model.specs.Acceptance.Authority.{IsOwnSlot}

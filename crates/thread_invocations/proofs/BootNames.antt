@@ -5,10 +5,10 @@ use Rattle.std.specs.Option.{option_map_or}
 use Rattle.std.proofs.lemmas.Bool.{and_parts, eq-eqb, eqb-true}
 use Rattle.std.proofs.lemmas.List.Folds.{Any-from_list_any, list_any_at}
 use Rattle.std.proofs.lemmas.Option.{slice_get-get_or}
-use Rattle.booting.specs.Loading.{all_loaded}
-use Rattle.booting.proofs.Laws.{AreFormed, FrameKept, ReadsObjects, are-formed, cnode-type, counts-are, frame-type, loaded-end, reads-objects, stand-apart}
-use Rattle.fitting.specs.Fitting.{FrameFits, IsFitting}
-use Rattle.fitting.proofs.Laws.{is-fitting}
+use Rattle.boot_laws.specs.Loading.{all_loaded}
+use Rattle.boot_laws.proofs.Laws.{AreFormed, FrameKept, ReadsObjects, are-formed, cnode-type, counts-are, frame-type, loaded-end, reads-objects, stand-apart}
+use Rattle.format_laws.specs.Fitting.{FrameFits, IsFitting}
+use Rattle.format_laws.proofs.Laws.{is-fitting}
 use Rattle.kept_threads.proofs.Laws.{frame-aligned}
 use Rattle.model.specs.Acceptance.Accepted.{IsWellFormed}
 use Rattle.model.specs.Acceptance.NotedStates.{is_own_cnode}

@@ -5,7 +5,7 @@ use Rattle.std.specs.Option.{option_map_or}
 use Rattle.model.specs.Capabilities.Slots.{descends_within, parent_at}
 use Rattle.model.specs.Kernel.Removal.{SlotSet, ancestor_outside, is_some_slot, loses_last_child}
 use Rattle.model.specs.Kernel.State.{State}
-use Rattle.removals.proofs.Laws.{found, found-same, outside-in, outside-out, outside-zero}
+use Rattle.removal_laws.proofs.Laws.{found, found-same, outside-in, outside-out, outside-zero}
 use Rattle.thread_invocations.proofs.ParentsAway.{IsAway, StaysAway, above-away, ancestor-away, and-none, nothing-away, some-away, up-away}
 
 -- one slot that is inside, or none on either side

@@ -2,8 +2,8 @@
 use Rattle.std.proofs.Common.{ℕ, zero, suc, ◌≡◌, ◌∙◌, ◌+◌, ◌^◌, ◌<◌, if◌then◌else◌, Option, Some, None, List, refl, sym, ap, subst, arith}
 use Rattle.std.specs.Prelude.{Contains}
 use Rattle.std.specs.Option.{option_map_or}
-use Rattle.booting.proofs.Laws.{are-formed}
-use Rattle.fitting.proofs.Laws.{is-fitting}
+use Rattle.boot_laws.proofs.Laws.{are-formed}
+use Rattle.format_laws.proofs.Laws.{is-fitting}
 use Rattle.thread_facts.specs.Hanging.{HangsAsListed}
 use Rattle.thread_facts.specs.Untouched.{IsUntouched}
 use Rattle.model.proofs.Depths.{depth-none, depth-some}

@@ -3,7 +3,7 @@ use Rattle.std.proofs.Common.{ℕ, ◌≡◌, ◌∙◌, ◌+◌, ◌%◌, ◌^�
 use Rattle.std.specs.Prelude.{Contains}
 use Rattle.std.proofs.lemmas.Option.{none-some}
 use Rattle.call_points.specs.Behind.{LeadsBehind}
-use Rattle.fitting.proofs.Laws.{is-fitting}
+use Rattle.format_laws.proofs.Laws.{is-fitting}
 use Rattle.kept_threads.proofs.Laws.{IsGiven, given, program-kept, same-capability}
 use Rattle.model.specs.declared.labels.Label.{Label}
 use Rattle.model.specs.Acceptance.CallRules.{AfterCall}

@@ -1,7 +1,7 @@
 -- All threads behind a call that is completed: the thread that makes it goes on with its answer, if it gets one.
 use Rattle.std.proofs.Common.{ℕ, ◌≡◌, ◌∙◌, false, Some, List, [], ◌∷◌, ◌++◌, ◌+◌, refl, sym, ap, subst}
 use Rattle.std.specs.Prelude.{Contains}
-use Rattle.falling.specs.Terms.{WritesOnly}
+use Rattle.measure_facts.specs.Terms.{WritesOnly}
 use Rattle.thread_facts.specs.Standing.{AllStand}
 use Rattle.model.specs.declared.labels.Label.{Label}
 use Rattle.model.specs.declared.labels.Label.TheVariants.{Ran}

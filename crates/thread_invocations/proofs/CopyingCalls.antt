@@ -15,7 +15,7 @@ use Rattle.model.specs.Images.Described.{Numbered}
 use Rattle.model.specs.Images.Image.{Image}
 use Rattle.model.specs.Kernel.Arguments.{◌>>=◌, check, may_have_child}
 use Rattle.model.specs.Kernel.State.{State, with_slots}
-use Rattle.booting.proofs.Laws.{goes, passes}
+use Rattle.boot_laws.proofs.Laws.{goes, passes}
 use Rattle.soundness.proofs.Laws.{IsAlike, alike-both, check-passes, copied-alike, copied-unmapped, copies-shared, is_single, passes-both, payload-alike, payload-mapping}
 use Rattle.thread_lookups.specs.Found.{slots_noted}
 use Rattle.thread_invocations.specs.Changes.{ChangesOwn}

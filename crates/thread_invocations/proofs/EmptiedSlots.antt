@@ -10,7 +10,7 @@ use Rattle.model.specs.declared.capabilities.Cap.TheVariants.{Empty, Untyped, En
 use Rattle.model.specs.declared.capabilities.FrameMapping.{FrameMapping}
 use Rattle.model.specs.declared.rights.Rights.{Rights}
 use Rattle.model.specs.declared.slot_entries.Entry.{Entry}
-use Rattle.removals.proofs.Laws.{outside-none}
+use Rattle.removal_laws.proofs.Laws.{outside-none}
 use Rattle.typestate.proofs.Laws.{reset}
 
 module _ (s : State) (set : SlotSet) (slot : ℕ) where

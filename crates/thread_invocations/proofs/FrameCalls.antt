@@ -25,7 +25,7 @@ use Rattle.model.specs.Kernel.Arguments.{check, source_slot, wanted}
 use Rattle.model.specs.Kernel.Kinds.{object_named}
 use Rattle.model.specs.Kernel.MappingCalls.{is_mapped, root_named}
 use Rattle.model.specs.Kernel.State.{State, with_slots}
-use Rattle.booting.proofs.Laws.{goes, passes}
+use Rattle.boot_laws.proofs.Laws.{goes, passes}
 use Rattle.soundness.proofs.Laws.{check-passes, passes-both, wanted-some}
 use Rattle.typestate.proofs.Laws.{root-near}
 use Rattle.thread_lookups.specs.Found.{slots_noted}

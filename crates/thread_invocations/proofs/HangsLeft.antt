@@ -12,7 +12,7 @@ use Rattle.model.specs.Kernel.Removal.{SlotSet, ancestor_outside, emptied, kept,
 use Rattle.model.specs.Kernel.State.{State}
 use Rattle.model.specs.declared.capabilities.Cap.TheVariants.{Empty}
 use Rattle.model.specs.declared.slot_entries.Entry.{Entry}
-use Rattle.removals.proofs.Laws.{outside-found, outside-none, outside-out}
+use Rattle.removal_laws.proofs.Laws.{outside-found, outside-none, outside-out}
 use Rattle.thread_invocations.specs.Changes.{DerivesNear}
 use Rattle.thread_invocations.specs.Mirrors.{Mirrors}
 use Rattle.thread_invocations.proofs.DepthsKept.{depth-kept}

@@ -14,7 +14,7 @@ use Rattle.model.specs.Capabilities.Slots.{IsDerivation, IsFull, depth_within, e
 use Rattle.model.specs.Kernel.Removal.{SlotSet, ancestor_outside, closes, closing, emptied, is_set_back, kept_entry, remove, slots_emptied, takes_last, thread_places, wants_revoke_first, with_bindings, without_slots}
 use Rattle.model.specs.Kernel.Scheduling.{wake}
 use Rattle.model.specs.Kernel.State.{State, binding_slot}
-use Rattle.removals.proofs.Laws.{kept-test}
+use Rattle.removal_laws.proofs.Laws.{kept-test}
 use Rattle.thread_invocations.proofs.DerivedEntries.{AllHang, Hangs, closed-hangs, empty-hangs}
 
 -- who is woken has no slots of his own to change

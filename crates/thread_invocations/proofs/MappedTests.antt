@@ -18,7 +18,7 @@ use Rattle.model.specs.Images.Described.{Numbered, described}
 use Rattle.model.specs.Images.Image.{Image, Thread}
 use Rattle.model.specs.Kernel.AddressSpaces.{is_page_taken, is_region_taken, maps_page, maps_region, page_size}
 use Rattle.model.specs.Kernel.State.{State, holds_some, slots_of}
-use Rattle.removals.proofs.Laws.{found, found-at, found-where}
+use Rattle.removal_laws.proofs.Laws.{found, found-at, found-where}
 use Rattle.typestate.specs.Mappings.{MappingsAreListed, is_outside, lists_page, maps_page_outside, maps_region_outside}
 use Rattle.typestate.proofs.Laws.{RiseFrom, kept-rise, keys-rise, none-among, noted-keeps, some-taken}
 use Rattle.thread_spaces.proofs.Laws.{mappings-listed}

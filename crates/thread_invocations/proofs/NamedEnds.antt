@@ -12,7 +12,7 @@ use Rattle.model.specs.Images.Described.{Numbered}
 use Rattle.model.specs.Images.Image.{Image}
 use Rattle.model.specs.Kernel.Arguments.{◌>>=◌, destination_slot, source_slot}
 use Rattle.model.specs.Kernel.State.{State}
-use Rattle.booting.proofs.Laws.{goes}
+use Rattle.boot_laws.proofs.Laws.{goes}
 use Rattle.soundness.proofs.Laws.{passes-both}
 use Rattle.thread_lookups.specs.Found.{slots_noted}
 use Rattle.thread_invocations.specs.Mirrors.{Mirrors}

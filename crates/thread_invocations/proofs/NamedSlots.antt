@@ -16,7 +16,7 @@ use Rattle.model.specs.Images.Described.{Numbered}
 use Rattle.model.specs.Images.Image.{Image}
 use Rattle.model.specs.Kernel.Arguments.{◌>>=◌, argument_slot, check, destination_slot, may_have_child, source_slot}
 use Rattle.model.specs.Kernel.State.{State}
-use Rattle.booting.proofs.Laws.{goes, passes}
+use Rattle.boot_laws.proofs.Laws.{goes, passes}
 use Rattle.soundness.proofs.Laws.{check-passes, passes-both}
 use Rattle.typestate.specs.Spaces.{is_inside}
 use Rattle.thread_lookups.proofs.Laws.{root-own}

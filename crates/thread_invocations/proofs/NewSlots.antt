@@ -11,7 +11,7 @@ use Rattle.model.specs.Capabilities.Slots.{Slots, empty_entry, is_within, parent
 use Rattle.model.specs.Kernel.Removal.{slot_count}
 use Rattle.model.specs.Kernel.Retype.{NewObjects, first_capability, object, place_of_new, with_first_capabilities, with_new_slots}
 use Rattle.model.specs.Kernel.State.{slot_of}
-use Rattle.booting.proofs.Laws.{entry}
+use Rattle.boot_laws.proofs.Laws.{entry}
 
 -- where a slot stands: in the window, as the pool, or elsewhere
 pub data Stands (window count pool x : ℕ) : Type 0 where

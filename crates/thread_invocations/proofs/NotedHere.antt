@@ -4,7 +4,7 @@ use Rattle.std.specs.Prelude.{Contains}
 use Rattle.std.specs.List.{list_all}
 use Rattle.std.proofs.lemmas.Bool.{and_parts}
 use Rattle.std.proofs.lemmas.Option.{none-some, same_Some}
-use Rattle.fitting.specs.Fitting.{IsFitting}
+use Rattle.format_laws.specs.Fitting.{IsFitting}
 use Rattle.kept_threads.proofs.Laws.{Each, IsOwnKey, each-contained, each-picked, key-kept, keys-own}
 use Rattle.model.specs.Acceptance.Authority.{IsOwnSlot}
 use Rattle.model.specs.Acceptance.NotedKernel.{key_of, keys_of, noted_after, noted_of, slot_of_key}

@@ -5,9 +5,9 @@ use Rattle.std.specs.Prelude.{Contains}
 use Rattle.std.specs.Option.{option_map_or}
 use Rattle.std.proofs.lemmas.Bool.{and_from, eq-eqb}
 use Rattle.std.proofs.lemmas.Option.{none-some, slice_get_within}
-use Rattle.fitting.specs.Fitting.{IsFitting}
-use Rattle.fitting.proofs.Laws.{is-fitting}
-use Rattle.booting.proofs.Laws.{ReadsBoot, are-formed, boot-slots-suffice}
+use Rattle.format_laws.specs.Fitting.{IsFitting}
+use Rattle.format_laws.proofs.Laws.{is-fitting}
+use Rattle.boot_laws.proofs.Laws.{ReadsBoot, are-formed, boot-slots-suffice}
 use Rattle.model.specs.declared.capabilities.Cap.{Cap}
 use Rattle.model.specs.declared.capabilities.Cap.TheVariants.{Empty, Untyped, Endpoint, Notification, CNode, Frame, PageTable, Tcb, RootTable, InterruptControl, InterruptHandler}
 use Rattle.model.specs.declared.capabilities.FrameMapping.{FrameMapping}

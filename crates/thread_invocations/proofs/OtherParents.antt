@@ -14,7 +14,7 @@ use Rattle.model.specs.Kernel.State.{State, slots_of}
 use Rattle.model.specs.declared.capabilities.Cap.{Cap}
 use Rattle.model.specs.declared.capabilities.Cap.TheVariants.{Empty, Untyped, Endpoint, Notification, CNode, Frame, PageTable, Tcb, RootTable, InterruptControl, InterruptHandler}
 use Rattle.model.specs.declared.slot_entries.Entry.{Entry}
-use Rattle.removals.proofs.Laws.{found-where, outside-none, outside-out}
+use Rattle.removal_laws.proofs.Laws.{found-where, outside-none, outside-out}
 use Rattle.typestate.proofs.Laws.{reset}
 use Rattle.thread_invocations.specs.Mirrors.{Mirrors}
 use Rattle.thread_invocations.proofs.BootPools.{first-or-unused, marked}

@@ -3,9 +3,9 @@ use Rattle.std.proofs.Common.{ℕ, ◌≡◌, ◌∙◌, ◌==◌, ◌<◌, inl,
 use Rattle.std.specs.Prelude.{Contains, slice_get}
 use Rattle.std.specs.List.{list_any}
 use Rattle.std.proofs.lemmas.Bool.{cases_order, eq-eqb, false≢true, or_parts}
-use Rattle.booting.proofs.Laws.{AreFormed, ThreadKept, any-taken, are-formed, stand-apart}
-use Rattle.fitting.specs.Fitting.{IsFitting, ThreadFits}
-use Rattle.fitting.proofs.Laws.{is-fitting}
+use Rattle.boot_laws.proofs.Laws.{AreFormed, ThreadKept, any-taken, are-formed, stand-apart}
+use Rattle.format_laws.specs.Fitting.{IsFitting, ThreadFits}
+use Rattle.format_laws.proofs.Laws.{is-fitting}
 use Rattle.model.specs.Acceptance.Accepted.{IsAccepted}
 use Rattle.model.specs.Acceptance.ThreadInvariants.{root_table_of}
 use Rattle.model.specs.Acceptance.ThreadRules.{holds_other_root, shares_vspace}

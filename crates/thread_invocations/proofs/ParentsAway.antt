@@ -5,7 +5,7 @@ use Rattle.std.proofs.lemmas.Bool.{false≢true, ne_eqb}
 use Rattle.std.proofs.lemmas.Option.{none-some, same_Some}
 use Rattle.model.specs.Capabilities.Slots.{Slots, descends_within, parent_at}
 use Rattle.model.specs.Kernel.Removal.{SlotSet, ancestor_outside, is_some_slot}
-use Rattle.removals.proofs.Laws.{outside-in, outside-none, outside-out, outside-zero}
+use Rattle.removal_laws.proofs.Laws.{outside-in, outside-none, outside-out, outside-zero}
 
 -- no slot that is inside
 abbrev pub IsAway : SlotSet → Option ℕ → Type 0

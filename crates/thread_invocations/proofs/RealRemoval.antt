@@ -16,7 +16,7 @@ use Rattle.model.specs.Kernel.Retype.{NewObject}
 use Rattle.model.specs.Kernel.State.{State, slots_of}
 use Rattle.model.specs.declared.capabilities.Cap.{Cap}
 use Rattle.model.specs.declared.capabilities.Cap.TheVariants.{Empty}
-use Rattle.removals.proofs.Laws.{found-at, found-none, found-where}
+use Rattle.removal_laws.proofs.Laws.{found-at, found-none, found-where}
 use Rattle.typestate.proofs.Laws.{HeldElse, MayRemove, bound-empty, kept-is, own-same, reset}
 use Rattle.thread_invocations.specs.Mirrors.{Mirrors}
 use Rattle.thread_invocations.proofs.ParentsAway.{and-none}

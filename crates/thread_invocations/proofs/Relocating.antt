@@ -13,7 +13,7 @@ use Rattle.model.specs.Capabilities.Slots.{adopted, capability_at, empty_entry, 
 use Rattle.model.specs.Images.Described.{Numbered}
 use Rattle.model.specs.Images.Image.{Image}
 use Rattle.model.specs.Kernel.State.{State, with_slots}
-use Rattle.removals.proofs.Laws.{bool-iff}
+use Rattle.removal_laws.proofs.Laws.{bool-iff}
 use Rattle.thread_lookups.specs.Found.{slots_noted}
 use Rattle.typestate.proofs.Laws.{IsNamed, key-named}
 use Rattle.thread_lookups.proofs.Laws.{key-found}

@@ -1,7 +1,7 @@
 -- Retype step by step: what its checks find where it has no error, and that it has none where they find that.
 use Rattle.std.proofs.Common.{ℕ, ◌≡◌, ◌+◌, ◌^◌, ◌≤◌, ◌&&◌, true, false, not, nat_le, nat_lt, Some, Result, Ok, refl, ap}
 use Rattle.std.proofs.lemmas.Bool.{and_parts, leb-true, not-true}
-use Rattle.booting.proofs.Laws.{goes, passes}
+use Rattle.boot_laws.proofs.Laws.{goes, passes}
 use Rattle.model.specs.declared.capabilities.Cap.{Cap}
 use Rattle.model.specs.declared.capabilities.Cap.TheVariants.{Untyped}
 use Rattle.model.specs.declared.errors.KError.{KError}

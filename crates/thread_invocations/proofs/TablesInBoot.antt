@@ -5,10 +5,10 @@ use Rattle.std.specs.List.{list_any}
 use Rattle.std.proofs.lemmas.Bool.{and_from, and_parts, eq-eqb, eqb-true}
 use Rattle.std.proofs.lemmas.List.Folds.{Any-from_list_any}
 use Rattle.std.proofs.lemmas.Option.{slice_get-get_or}
-use Rattle.booting.specs.Loading.{all_loaded, is_moved, original_so_far}
-use Rattle.booting.proofs.Laws.{AreFormed, CountsAreLengths, ReadsBoot, TableKept, are-formed, boot-slots-suffice, counts-are, first_of_type, mapped_by, original-untyped, table-type}
-use Rattle.fitting.specs.Fitting.{IsFitting, TableFits}
-use Rattle.fitting.proofs.Laws.{is-fitting}
+use Rattle.boot_laws.specs.Loading.{all_loaded, is_moved, original_so_far}
+use Rattle.boot_laws.proofs.Laws.{AreFormed, CountsAreLengths, ReadsBoot, TableKept, are-formed, boot-slots-suffice, counts-are, first_of_type, mapped_by, original-untyped, table-type}
+use Rattle.format_laws.specs.Fitting.{IsFitting, TableFits}
+use Rattle.format_laws.proofs.Laws.{is-fitting}
 use Rattle.model.specs.declared.entries.TableEntry.{TableEntry}
 use Rattle.model.specs.Acceptance.Accepted.{IsWellFormed}
 use Rattle.model.specs.Acceptance.WellFormed.{is_untyped_type}

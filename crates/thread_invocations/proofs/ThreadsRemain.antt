@@ -13,7 +13,7 @@ use Rattle.model.specs.Kernel.Removal.{SlotSet, ends, is_ending_thread, objects_
 use Rattle.model.specs.Kernel.Retype.{NewThread, NewCNode}
 use Rattle.model.specs.Kernel.Scheduling.{without_threads}
 use Rattle.model.specs.Kernel.State.{State, Object, ThreadObject, EndpointObject, NotificationObject, CNodeObject, FrameObject, PageTableObject, RootTableObject, ThreadState, as_thread}
-use Rattle.removals.proofs.Laws.{threads-all}
+use Rattle.removal_laws.proofs.Laws.{threads-all}
 use Rattle.thread_invocations.specs.Mirrors.{Mirrors}
 use Rattle.thread_invocations.proofs.OwnHeld.{OwnHeld, own-held, slots_of_kind}
 use Rattle.thread_invocations.proofs.RemovalSides.{own_set}

@@ -6,7 +6,7 @@ use crate::copy_laws::{copies_go_well, mints_go_well, moves_go_well};
 use crate::frame_laws::{maps_go_well, unmaps_go_well};
 use crate::mirror_laws::threads_mirror_what_is_noted;
 use crate::parent_laws::invocations_leave_a_parent_to_each_slot;
-use crate::removal_laws::{deletes_go_well, revokes_go_well};
+use crate::removing_laws::{deletes_go_well, revokes_go_well};
 use crate::retype_laws::retypes_go_well;
 use crate::standing_laws::changed_slots_keep_all_standing;
 use soundness::an_acknowledgement_keeps_soundness;

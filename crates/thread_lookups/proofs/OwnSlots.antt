@@ -11,7 +11,7 @@ use Rattle.model.specs.Acceptance.ThreadRules.{reached}
 use Rattle.model.specs.Capabilities.Slots.{Slots, capability_at, empty_entry, is_empty, parent_at}
 use Rattle.model.specs.Images.Described.{Numbered, described}
 use Rattle.model.specs.Images.Image.{Image}
-use Rattle.removals.proofs.Laws.{empty-is}
+use Rattle.removal_laws.proofs.Laws.{empty-is}
 use Rattle.typestate.specs.Spaces.{StandsApart}
 use Rattle.thread_lookups.specs.Found.{slots_noted}
 use Rattle.thread_lookups.proofs.NotedAfter.{noted-at}

@@ -21,7 +21,7 @@ use Rattle.model.specs.Kernel.AddressSpaces.{address_limit, page_size}
 use Rattle.model.specs.Kernel.Retype.{NewObject, NewUntyped, NewThread, NewEndpoint, NewNotification, NewCNode, NewFrame, NewPageTable, NewRootTable, first_capability}
 use Rattle.typestate.specs.Spaces.{is_among}
 use Rattle.thread_spaces.proofs.Laws.{member-any, root-reached}
-use Rattle.booting.proofs.Laws.{mapped_by}
+use Rattle.boot_laws.proofs.Laws.{mapped_by}
 
 -- ---- the rules on the thread are kept
 

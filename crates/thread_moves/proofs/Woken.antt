@@ -1,7 +1,7 @@
 -- A thread that waits is woken behind its call, with registers that fit there.
 use Rattle.std.proofs.Common.{true, false, ℕ, ◌≡◌, ◌∙◌, Some, List, refl, sym, ap, subst}
 use Rattle.std.specs.Prelude.{Contains}
-use Rattle.falling.specs.Terms.{WritesOnly}
+use Rattle.measure_facts.specs.Terms.{WritesOnly}
 use Rattle.thread_facts.specs.Standing.{AllStand}
 use Rattle.thread_facts.specs.Waiting.{WaitsAsAsked, WaitsSo}
 use Rattle.model.specs.declared.labels.Label.{Label}

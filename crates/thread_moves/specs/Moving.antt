@@ -1,6 +1,6 @@
 -- How a thread of an accepted image moves on: it is left alone, or its system call waits, or passes.
 use Rattle.std.specs.Prelude.{ℕ, ◌≡◌, Contains, Some, Ok, List}
-use Rattle.falling.specs.Terms.{WritesOnly}
+use Rattle.measure_facts.specs.Terms.{WritesOnly}
 use Rattle.thread_facts.specs.Untouched.{IsUntouched}
 use Rattle.model.specs.declared.instructions.Instr.TheVariants.{Ecall}
 use Rattle.model.specs.declared.labels.Label.{Label}

@@ -4,7 +4,7 @@ use Rattle.std.specs.Prelude.{flat_map, int_lt, pos, slice_get}
 use Rattle.std.specs.List.{Contains, enumerate_from, range_with_len}
 use Rattle.std.proofs.lemmas.Bool.{not-false}
 use Rattle.std.proofs.lemmas.Option.{none-some, same_Some}
-use Rattle.booting.proofs.Laws.{kept-before, kept-behind, kept-of, not-refused, range-at}
+use Rattle.boot_laws.proofs.Laws.{kept-before, kept-behind, kept-of, not-refused, range-at}
 use Rattle.model.specs.Acceptance.Accepted.{AreKept}
 use Rattle.model.specs.Acceptance.Measures.{measured}
 use Rattle.model.specs.Acceptance.NotedStates.{PointState, are_same_slots, has_stray_slots, image_slots}

@@ -8,9 +8,9 @@ use Rattle.std.proofs.lemmas.Bool.Decides.{eqb_tells}
 use Rattle.std.proofs.lemmas.List.{get_or-drop, get_or-take, get_or_past, length-drop, length-take}
 use Rattle.std.proofs.lemmas.List.Elements.{All-append, All-map}
 use Rattle.std.proofs.lemmas.Option.{none-some, same_Some}
-use Rattle.fitting.specs.Fitting.{CertificateFits, FrameFits, IsFitting}
-use Rattle.fitting.proofs.Laws.{certificates-fit, is-fitting}
-use Rattle.booting.proofs.Laws.{AreFormed, FrameKept, ThreadKept, any-taken, are-formed, bytes-long, contents-fit, each-all, filtered-all, flat-all, numbered-at, objects-apart}
+use Rattle.format_laws.specs.Fitting.{CertificateFits, FrameFits, IsFitting}
+use Rattle.format_laws.proofs.Laws.{certificates-fit, is-fitting}
+use Rattle.boot_laws.proofs.Laws.{AreFormed, FrameKept, ThreadKept, any-taken, are-formed, bytes-long, contents-fit, each-all, filtered-all, flat-all, numbered-at, objects-apart}
 use Rattle.model.specs.declared.entries.FrameEntry.{FrameEntry}
 use Rattle.model.specs.declared.entries.ObjectEntry.{ObjectEntry}
 use Rattle.model.specs.Acceptance.Accepted.{IsWellFormed}

@@ -4,9 +4,9 @@ use Rattle.std.specs.Prelude.{slice_get}
 use Rattle.std.specs.Option.{option_map_or}
 use Rattle.std.proofs.lemmas.Bool.{and_parts, eq-eqb, false≢true}
 use Rattle.std.proofs.lemmas.Option.{none-some, same_Some, slice_get_within}
-use Rattle.fitting.specs.Fitting.{CapabilityFits, InterruptFits, IsFitting, ThreadFits}
-use Rattle.fitting.proofs.Laws.{is-fitting}
-use Rattle.booting.proofs.Laws.{AreFormed, CapabilityKept, ThreadKept, are-formed, boot-slots-suffice, cnode-slot, cspace-slot, described-sound, no-thread, slot-behind-boot, slot-of-one, vspace-slot}
+use Rattle.format_laws.specs.Fitting.{CapabilityFits, InterruptFits, IsFitting, ThreadFits}
+use Rattle.format_laws.proofs.Laws.{is-fitting}
+use Rattle.boot_laws.proofs.Laws.{AreFormed, CapabilityKept, ThreadKept, are-formed, boot-slots-suffice, cnode-slot, cspace-slot, described-sound, no-thread, slot-behind-boot, slot-of-one, vspace-slot}
 use Rattle.model.specs.declared.capabilities.Cap.TheVariants.{Empty}
 use Rattle.model.specs.declared.entries.CapabilityEntry.{CapabilityEntry}
 use Rattle.model.specs.declared.slot_entries.Entry.{Entry}

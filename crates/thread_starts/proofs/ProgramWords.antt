@@ -4,7 +4,7 @@ use Rattle.std.specs.Prelude.{slice_get, slice_index}
 use Rattle.std.proofs.lemmas.Bool.{and_parts, cases_lt}
 use Rattle.std.proofs.lemmas.List.{get_or_past}
 use Rattle.std.proofs.lemmas.Option.{slice_get-get_or}
-use Rattle.fitting.proofs.Laws.{field-parts, many-each}
+use Rattle.format_laws.proofs.Laws.{field-parts, many-each}
 use Rattle.model.specs.Images.Format.{field}
 use Rattle.model.specs.Images.Image.{Image, Thread, anything, image_with, records_format, registers_format, sections_format, slots_format, thread_format, thread_header_format, whole_image, words_format}
 

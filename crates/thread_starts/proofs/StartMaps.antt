@@ -5,9 +5,9 @@ use Rattle.std.specs.Option.{option_map_or}
 use Rattle.std.specs.List.{list_any}
 use Rattle.std.proofs.lemmas.Bool.{and_parts, eq-eqb, eqb-true, cases_lt, false≢true, or_parts}
 use Rattle.std.proofs.lemmas.Option.{none-some, same_Some, slice_get_within, slice_get-get_or}
-use Rattle.fitting.specs.Fitting.{CapabilityFits, FrameFits, IsFitting, ThreadFits}
-use Rattle.fitting.proofs.Laws.{is-fitting}
-use Rattle.booting.proofs.Laws.{AreFormed, FrameKept, ReadsBoot, are-formed, first_of_type, limited-frame, mapped_by, mapping_of, object-at, offsets-apart}
+use Rattle.format_laws.specs.Fitting.{CapabilityFits, FrameFits, IsFitting, ThreadFits}
+use Rattle.format_laws.proofs.Laws.{is-fitting}
+use Rattle.boot_laws.proofs.Laws.{AreFormed, FrameKept, ReadsBoot, are-formed, first_of_type, limited-frame, mapped_by, mapping_of, object-at, offsets-apart}
 use Rattle.model.specs.declared.capabilities.Cap.{Cap}
 use Rattle.model.specs.declared.capabilities.Cap.TheVariants.{Empty, Untyped, Endpoint, Notification, CNode, Frame, PageTable, Tcb, RootTable, InterruptControl, InterruptHandler}
 use Rattle.model.specs.declared.capabilities.FrameMapping.{FrameMapping}

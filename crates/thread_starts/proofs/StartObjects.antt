@@ -3,9 +3,9 @@ use Rattle.std.proofs.Common.{ℕ, zero, suc, ◌≡◌, ◌≢◌, ◌∙◌, �
 use Rattle.std.specs.Prelude.{option_and_then, nat_le}
 use Rattle.std.specs.Option.{option_map_or}
 use Rattle.std.proofs.lemmas.Bool.{and_parts, eq-eqb, leb-true, ne_eqb}
-use Rattle.fitting.specs.Fitting.{IsFitting, ThreadFits}
-use Rattle.fitting.proofs.Laws.{is-fitting}
-use Rattle.booting.proofs.Laws.{AreFormed, ThreadKept, are-formed, first-at, offsets-apart}
+use Rattle.format_laws.specs.Fitting.{IsFitting, ThreadFits}
+use Rattle.format_laws.proofs.Laws.{is-fitting}
+use Rattle.boot_laws.proofs.Laws.{AreFormed, ThreadKept, are-formed, first-at, offsets-apart}
 use Rattle.model.specs.declared.ranges.Range.{Range}
 use Rattle.model.specs.Acceptance.Accepted.{IsWellFormed}
 use Rattle.model.specs.Acceptance.NotedStates.{PointState}

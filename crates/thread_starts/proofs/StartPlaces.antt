@@ -6,10 +6,10 @@ use Rattle.std.specs.List.{cons_option, range_with_len}
 use Rattle.std.proofs.lemmas.Bool.{and_parts, eq-eqb, eqb-true, cases_lt, false≢true}
 use Rattle.std.proofs.lemmas.Bool.Decides.{eqb_tells}
 use Rattle.std.proofs.lemmas.Option.{none-some, same_Some, slice_get_within, slice_get-map}
-use Rattle.fitting.specs.Fitting.{FrameFits, IsFitting}
-use Rattle.fitting.proofs.Laws.{is-fitting}
-use Rattle.booting.specs.Loading.{all_loaded}
-use Rattle.booting.proofs.Laws.{AreFormed, ReadsBoot, ThreadKept, are-formed, boot-slots-suffice, first_of_type, range-at, reads-vspace}
+use Rattle.format_laws.specs.Fitting.{FrameFits, IsFitting}
+use Rattle.format_laws.proofs.Laws.{is-fitting}
+use Rattle.boot_laws.specs.Loading.{all_loaded}
+use Rattle.boot_laws.proofs.Laws.{AreFormed, ReadsBoot, ThreadKept, are-formed, boot-slots-suffice, first_of_type, range-at, reads-vspace}
 use Rattle.model.specs.declared.capabilities.Cap.{Cap}
 use Rattle.model.specs.declared.capabilities.Cap.TheVariants.{Empty, Untyped, Endpoint, Notification, CNode, Frame, PageTable, Tcb, RootTable, InterruptControl, InterruptHandler}
 use Rattle.model.specs.declared.capabilities.FrameMapping.{FrameMapping}

@@ -3,8 +3,8 @@ use Rattle.std.proofs.Common.{ℕ, ◌≡◌, ◌∙◌, true, false, List, [], 
 use Rattle.std.specs.Prelude.{◌≤ℤ◌, Contains, int_lt}
 use Rattle.std.proofs.lemmas.Int.{ints}
 use Rattle.thread_facts.proofs.Laws.{program-kept}
-use Rattle.fitting.proofs.Laws.{is-fitting}
-use Rattle.booting.proofs.Laws.{are-formed}
+use Rattle.format_laws.proofs.Laws.{is-fitting}
+use Rattle.boot_laws.proofs.Laws.{are-formed}
 use Rattle.model.specs.Acceptance.Accepted.{AreKept, IsWellFormed}
 use Rattle.model.specs.Acceptance.Measures.{measured}
 use Rattle.model.specs.Acceptance.NotedKernel.{noted_root, slot_of_key}

@@ -4,11 +4,11 @@ use Rattle.std.specs.Prelude.{Contains, slice_get}
 use Rattle.std.specs.List.{list_all}
 use Rattle.std.proofs.lemmas.Bool.{cases_eq, eqb-true, ltb-false}
 use Rattle.thread_facts.proofs.Laws.{root-original, thread-entry}
-use Rattle.fitting.specs.Fitting.{IsFitting}
-use Rattle.fitting.proofs.Laws.{is-fitting}
-use Rattle.booting.specs.Standing.{StandApart}
-use Rattle.booting.proofs.Laws.{AreFormed, are-formed, stand-apart}
-use Rattle.falling.specs.Terms.{NamesRegisters}
+use Rattle.format_laws.specs.Fitting.{IsFitting}
+use Rattle.format_laws.proofs.Laws.{is-fitting}
+use Rattle.boot_laws.specs.Standing.{StandApart}
+use Rattle.boot_laws.proofs.Laws.{AreFormed, are-formed, stand-apart}
+use Rattle.measure_facts.specs.Terms.{NamesRegisters}
 use Rattle.model.specs.Acceptance.Accepted.{IsAccepted}
 use Rattle.model.specs.Acceptance.NotedStates.{PointState}
 use Rattle.model.specs.Acceptance.PointStates.{Known, noted}

@@ -16,7 +16,7 @@ use Rattle.model.specs.Acceptance.Rules.{Rule}
 use Rattle.model.specs.Images.Described.{Numbered, numbered_threads}
 use Rattle.model.specs.Images.Image.{Image, Thread}
 use Rattle.thread_steps.specs.Points.{IsPoint, LeadsOn}
-use Rattle.booting.proofs.Laws.{not-refused}
+use Rattle.boot_laws.proofs.Laws.{not-refused}
 
 -- ---- edges
 

@@ -6,7 +6,7 @@ use Rattle.std.specs.List.{cons_option, list_all}
 use Rattle.std.proofs.Math.Pow.{pow_mono}
 use Rattle.std.proofs.lemmas.Bool.{and_parts, lt-ltb, ltb-true}
 use Rattle.std.proofs.lemmas.List.{length-set}
-use Rattle.fitting.specs.Fitting.{IsFitting}
+use Rattle.format_laws.specs.Fitting.{IsFitting}
 use Rattle.model.specs.declared.entries.CapabilityEntry.{CapabilityEntry}
 use Rattle.model.specs.declared.entries.RangeEntry.{RangeEntry}
 use Rattle.model.specs.declared.instructions.Instr.{Instr}

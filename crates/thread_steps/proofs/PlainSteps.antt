@@ -3,7 +3,7 @@ use Rattle.std.proofs.Common.{ℕ, zero, suc, ◌≡◌, ◌∙◌, ◌+◌, ◌
 use Rattle.std.specs.Prelude.{Contains, slice_index}
 use Rattle.std.specs.Option.{option_map_or}
 use Rattle.std.proofs.lemmas.Bool.{eq-eqb}
-use Rattle.falling.proofs.Laws.{falls-is-less}
+use Rattle.measure_facts.proofs.Laws.{falls-is-less}
 use Rattle.soundness.proofs.Laws.{byte-less, current-runs}
 use Rattle.model.specs.declared.events.Event.TheVariants.{Step}
 use Rattle.model.specs.declared.instructions.Access.TheVariants as accesses

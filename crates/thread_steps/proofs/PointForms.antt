@@ -4,8 +4,8 @@ use Rattle.std.specs.Prelude.{fold, slice_get}
 use Rattle.std.specs.Option.{option_map_or}
 use Rattle.std.specs.List.{list_all, list_any}
 use Rattle.std.proofs.lemmas.Bool.{and_parts, lt-ltb}
-use Rattle.fitting.specs.Fitting.{IsFitting}
-use Rattle.fitting.proofs.Laws.{field-parts, many-each}
+use Rattle.format_laws.specs.Fitting.{IsFitting}
+use Rattle.format_laws.proofs.Laws.{field-parts, many-each}
 use Rattle.model.specs.declared.capabilities.Cap.{Cap}
 use Rattle.model.specs.declared.capabilities.Cap.TheVariants.{Empty, Untyped, Endpoint, Notification, CNode, Frame, PageTable, Tcb, RootTable, InterruptControl, InterruptHandler}
 use Rattle.model.specs.declared.entries.SlotEntry.{SlotEntry}
@@ -47,7 +47,7 @@ use Rattle.model.specs.declared.system_calls.SystemCall.TheVariants.{Sends, Rece
 use Rattle.model.specs.declared.invocations.Invocation.{Invocation}
 use Rattle.thread_steps.specs.Formed.{HasForm, is_low}
 use Rattle.thread_steps.proofs.NotedForms.{AreLow, after-low, all-long, behind-long, entries-long, image-low, noted-low, with-long}
-use Rattle.booting.proofs.Laws.{find-get}
+use Rattle.boot_laws.proofs.Laws.{find-get}
 
 -- ---- branches
 

@@ -28,7 +28,7 @@ use Rattle.model.specs.Machine.Decoding.{decoded}
 use Rattle.model.specs.Machine.Effects.{effect}
 use Rattle.model.specs.Machine.Instructions.{IsInstr}
 use Rattle.model.specs.Machine.ProgramMemory.{Content, RegisterFile, read}
-use Rattle.fitting.specs.Fitting.{IsFitting}
+use Rattle.format_laws.specs.Fitting.{IsFitting}
 use Rattle.ranges.specs.Standing.{AreWords}
 use Rattle.thread_steps.specs.Formed.{AreFormed, HasForm, is_low}
 use Rattle.thread_steps.specs.Frames.{FramesAreKept}

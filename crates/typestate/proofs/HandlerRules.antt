@@ -27,7 +27,7 @@ use Rattle.model.specs.declared.invocations.SlotName.{SlotName}
 use Rattle.model.specs.declared.refusals.Point.{Point}
 use Rattle.model.specs.declared.refusals.Refusal.{Refusal}
 use Rattle.model.specs.declared.refusals.Refusal.TheVariants.{CallRefused}
-use Rattle.removals.proofs.Laws.{found-at, found-none}
+use Rattle.removal_laws.proofs.Laws.{found-at, found-none}
 use Rattle.typestate.specs.Calls.{call_on}
 use Rattle.typestate.specs.Invocations.{held_after}
 use Rattle.typestate.specs.Spaces.{AreOwn, HeldInBoot, StandsApart}

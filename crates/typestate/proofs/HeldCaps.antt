@@ -20,7 +20,7 @@ use Rattle.model.specs.Capabilities.CapabilityKinds.{root_of}
 use Rattle.model.specs.Kernel.Arguments.{◌>>=◌, argument_slot, check, wanted}
 use Rattle.model.specs.Kernel.MappingCalls.{root_named}
 use Rattle.model.specs.Kernel.State.{holds_some, slots_of}
-use Rattle.removals.proofs.Laws.{found, found-or, found-same}
+use Rattle.removal_laws.proofs.Laws.{found, found-or, found-same}
 use Rattle.typestate.specs.Mappings.{is_outside}
 use Rattle.typestate.specs.Spaces.{AreOwn, NothingLeadsOutside, StandsApart}
 use Rattle.typestate.proofs.KernelDepths.{parent-here, parent_found}

@@ -12,7 +12,7 @@ use Rattle.model.specs.Images.Image.{Image, Thread}
 use Rattle.model.specs.Kernel.Removal.{SlotSet, ancestor_outside, is_some_slot}
 use Rattle.model.specs.declared.capabilities.Cap.{Cap}
 use Rattle.model.specs.declared.capabilities.Cap.TheVariants.{Empty, Untyped, Endpoint, Notification, CNode, Frame, PageTable, Tcb, RootTable, InterruptControl, InterruptHandler}
-use Rattle.removals.proofs.Laws.{bool-iff, found, found-at, found-where, outside-in, outside-none, outside-out, outside-zero}
+use Rattle.removal_laws.proofs.Laws.{bool-iff, found, found-at, found-where, outside-in, outside-none, outside-out, outside-zero}
 use Rattle.typestate.specs.SlotChanges.{cap_left, heir, is_parent, loses_children, noted_outside, noted_parent, slot_left, what_stays}
 use Rattle.typestate.specs.Spaces.{AreOwn, StandsApart}
 use Rattle.typestate.proofs.Compared.{same-place}

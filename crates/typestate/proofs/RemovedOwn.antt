@@ -18,7 +18,7 @@ use Rattle.model.specs.declared.capabilities.Cap.TheVariants.{Empty, Untyped, En
 use Rattle.model.specs.declared.capabilities.FrameMapping.{FrameMapping}
 use Rattle.model.specs.declared.errors.KError.{KError}
 use Rattle.model.specs.declared.errors.KError.TheVariants.{RevokeFirst}
-use Rattle.removals.proofs.Laws.{found-at, found-none, found-where}
+use Rattle.removal_laws.proofs.Laws.{found-at, found-none, found-where}
 use Rattle.typestate.proofs.Allowed.{slots_allowed}
 
 -- a slot of the boot CNode, and none of these, holds such a capability

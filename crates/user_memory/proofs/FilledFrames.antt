@@ -3,7 +3,7 @@ use Rattle.std.proofs.Common.{ℕ, ◌≡◌, ◌∙◌, ◌+◌, ◌-◌, ◌%�
 use Rattle.std.specs.Prelude.{nat_le, slice_index}
 use Rattle.std.proofs.lemmas.Bool.{and_parts, leb-true}
 use Rattle.std.proofs.Math.Pow.{pow_mono}
-use Rattle.agreement.specs.Agreement.{Agrees}
+use Rattle.kernel_invariant.specs.Agreement.{Agrees}
 use Rattle.model.proofs.SlotChanges.{within-bounds}
 use Rattle.model.specs.Capabilities.CapabilityWords.{IsCapability}
 use Rattle.model.specs.Capabilities.Slots.{OutsideSlots, Slots, capability_at, is_within}

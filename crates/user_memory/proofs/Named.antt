@@ -1,8 +1,8 @@
 -- A place that an address names lies in a frame that a capability maps.
 use Rattle.std.proofs.Common.{ℕ, ◌≡◌, ◌∙◌, ◌+◌, ◌/◌, ◌%◌, ◌^◌, ◌<◌, Bool, true, false, if◌then◌else◌, Option, Some, None, IsSome, Ok, Err, List, [], ◌∷◌, length, refl, sym, ap, subst, arith}
 use Rattle.std.specs.Prelude.{filter_map, option_and_then}
-use Rattle.agreement.specs.Agreement.{Agrees}
-use Rattle.agreement.proofs.Laws.{no-slot}
+use Rattle.kernel_invariant.specs.Agreement.{Agrees}
+use Rattle.kernel_invariant.proofs.Laws.{no-slot}
 use Rattle.model.specs.Capabilities.CapabilityWords.{IsCapability}
 use Rattle.model.specs.Capabilities.Slots.{OutsideSlots, Slots, capability_at}
 use Rattle.model.specs.Kernel.AddressSpaces.{MappedFrame, allows, mapped, page_of, page_size, place_in, place_under}

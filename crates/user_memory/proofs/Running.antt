@@ -2,8 +2,8 @@
 use Rattle.std.proofs.Common.{ℕ, ◌≡◌, ◌∙◌, Option, Some, None, List, refl, sym, ap, subst}
 use Rattle.std.specs.Prelude.{slice_index}
 use Rattle.std.specs.Option.{option_map_or}
-use Rattle.agreement.proofs.Laws.{agrees-less, less-same, tables-beside}
-use Rattle.agreement.specs.Agreement.{Agrees}
+use Rattle.kernel_invariant.proofs.Laws.{agrees-less, less-same, tables-beside}
+use Rattle.kernel_invariant.specs.Agreement.{Agrees}
 use Rattle.model.specs.Capabilities.CapabilityKinds.{root_of}
 use Rattle.model.specs.Capabilities.Slots.{Slots, capability_at}
 use Rattle.model.specs.Kernel.AddressSpaces.{vspace_of, with_content}

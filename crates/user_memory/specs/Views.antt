@@ -2,7 +2,7 @@
 -- seL4 Reference Manual, "Address Spaces and Virtual Memory".
 use Rattle.std.specs.Prelude.{ℕ, ◌≡◌, IsSome, Option, Some, None, List, length, option_and_then, slice_index}
 use Rattle.std.specs.Option.{option_map_or}
-use Rattle.agreement.specs.Agreement.{Agrees}
+use Rattle.kernel_invariant.specs.Agreement.{Agrees}
 use Rattle.model.specs.Capabilities.Slots.{Slots, capability_at}
 use Rattle.model.specs.Kernel.AddressSpaces.{place_under}
 use Rattle.model.specs.Kernel.Kinds.{frame_around}

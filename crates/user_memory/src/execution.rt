@@ -1,7 +1,7 @@
 //! The next instruction of a thread, and what it does.
 
 ghost use Rattle.std.specs.Prelude.{◌≡◌, ◌≢◌, Some};
-ghost use Rattle.agreement.specs.Agreement.{Agrees};
+ghost use Rattle.kernel_invariant.specs.Agreement.{Agrees};
 ghost use Rattle.model.specs.Kernel.AddressSpaces.{content_of, with_content};
 ghost use Rattle.model.specs.Kernel.Kinds.{kind_at};
 ghost use Rattle.model.specs.Kernel.Messages.{with_registers};

@@ -1,7 +1,7 @@
 //! Bytes that a frame starts with. seL4 Reference Manual, "System Bootstrapping".
 
 ghost use Rattle.std.specs.Prelude.{◌≡◌, ◌+◌, ◌^◌, ◌≤◌, ◌&&◌, None, Some, false, if◌then◌else◌, length, nat_le};
-ghost use Rattle.agreement.specs.Agreement.{Agrees};
+ghost use Rattle.kernel_invariant.specs.Agreement.{Agrees};
 ghost use Rattle.model.specs.Capabilities.Slots.{OutsideSlots};
 ghost use Rattle.model.specs.Kernel.AddressSpaces.{page_size};
 ghost use Rattle.model.specs.Kernel.Setup.{fill, is_frame_object};

@@ -7,7 +7,7 @@ use Rattle.model.specs.declared.capabilities.Cap.{Cap}
 use Rattle.model.specs.declared.capabilities.Cap.TheVariants.{Untyped}
 use Rattle.model.proofs.Ancestors.{full-open}
 use Rattle.model.proofs.SlotChanges.{capability_of}
-use Rattle.removals.specs.Steps.{unused}
+use Rattle.removal_laws.specs.Steps.{unused}
 use Rattle.vspace.specs.Agreement.{IsWithoutTables}
 use Rattle.vspace.specs.Tables.{TablesAgree}
 use Rattle.vspace.proofs.AgreementCarried.{open-some}

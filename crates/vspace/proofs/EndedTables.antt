@@ -15,7 +15,7 @@ use Rattle.model.specs.declared.rights.Rights.{Rights}
 use Rattle.model.specs.declared.slot_entries.Entry.{Entry}
 use Rattle.model.proofs.SlotChanges.{capability_of, entry-other, entry-same, parent_of}
 use Rattle.vspace.specs.Endings.{Ended, GoesWith, IsMappedIn, Loses, NoneUnder, ended_at, is_ending, unmapped_entry}
-use Rattle.removals.specs.Steps.{slots_unmapped}
+use Rattle.removal_laws.specs.Steps.{slots_unmapped}
 use Rattle.vspace.specs.Tables.{MapsTable, TablesAgree}
 use Rattle.vspace.proofs.FrameSteps.{region_or_zero, root_or_zero}
 use Rattle.vspace.proofs.Unmapping.{table-one}

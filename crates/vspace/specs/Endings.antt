@@ -5,7 +5,7 @@ use Rattle.model.specs.Capabilities.Slots.{Slots, capability_at}
 use Rattle.model.specs.declared.capabilities.Cap.{Cap}
 use Rattle.model.specs.declared.capabilities.Cap.TheVariants.{Frame, PageTable}
 use Rattle.model.specs.declared.slot_entries.Entry.{Entry}
-use Rattle.removals.specs.Steps.{slots_unmapped}
+use Rattle.removal_laws.specs.Steps.{slots_unmapped}
 use Rattle.vspace.specs.Tables.{MapsFrame, MapsTable}
 
 -- a mapping in a region goes with the table at an offset: that is its root table, or the page table of its region

@@ -7,7 +7,7 @@ ghost use Rattle.model.specs.Capabilities.CapabilityWords.{IsCapability};
 ghost use Rattle.model.specs.Capabilities.Slots.{IsFull, IsOpen, SameOutside, Slots, capability_at, closed, empty_entry, inserted, opened, recapped, relocated, spliced};
 ghost use Rattle.model.specs.declared.capabilities.Cap.{Cap};
 ghost use Rattle.model.specs.declared.capabilities.Cap.TheVariants.{Empty};
-ghost use Rattle.removals.specs.Steps.{unused};
+ghost use Rattle.removal_laws.specs.Steps.{unused};
 ghost use Rattle.vspace.specs.Agreement.{IsOutsideTables, IsWithoutTables, MayBePut, SameInTables};
 ghost use Rattle.vspace.specs.Tables.{TablesAgree};
 

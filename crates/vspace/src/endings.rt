@@ -3,7 +3,7 @@
 ghost use Rattle.std.specs.Prelude.{ℕ, ◌≡◌, false};
 ghost use Rattle.model.specs.Capabilities.CapabilityKinds.{names_object};
 ghost use Rattle.model.specs.Capabilities.Slots.{capability_at};
-ghost use Rattle.removals.specs.Steps.{without_root};
+ghost use Rattle.removal_laws.specs.Steps.{without_root};
 ghost use Rattle.vspace.specs.Endings.{Ended, NoneUnder, ended_at, is_ending};
 ghost use Rattle.vspace.specs.Kept.{SameBesideTables};
 ghost use Rattle.vspace.specs.Tables.{TablesAgree};

@@ -8,7 +8,7 @@ ghost use Rattle.model.specs.Kernel.State.{with_slots};
 ghost use Rattle.model.specs.Capabilities.Slots.{capability_at};
 ghost use Rattle.model.specs.Kernel.State.{State};
 ghost use Rattle.model.specs.Machine.Sv32.{table_word};
-ghost use Rattle.removals.specs.Steps.{slots_unmapped};
+ghost use Rattle.removal_laws.specs.Steps.{slots_unmapped};
 ghost use Rattle.vspace.specs.Kept.{SameBesideTables};
 ghost use Rattle.vspace.specs.TableAnswers.{GivesTableMapped, RegionAnswer, TableMappingAnswer, region_named};
 ghost use Rattle.vspace.specs.Tables.{Holds, TablesAgree};

@@ -5,7 +5,7 @@ ghost use Rattle.model.specs.Kernel.Arguments.{Call};
 ghost use Rattle.model.specs.Kernel.State.{with_slots};
 ghost use Rattle.model.specs.Capabilities.Slots.{capability_at};
 ghost use Rattle.model.specs.Kernel.State.{State};
-ghost use Rattle.removals.specs.Steps.{unmapped_at};
+ghost use Rattle.removal_laws.specs.Steps.{unmapped_at};
 ghost use Rattle.vspace.specs.Regions.{without_mapping};
 ghost use Rattle.vspace.specs.Kept.{SameBesideTables};
 ghost use Rattle.vspace.specs.Tables.{TablesAgree};

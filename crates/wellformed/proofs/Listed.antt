@@ -9,7 +9,7 @@ use Rattle.std.proofs.lemmas.Option.{get_or_from_slice_get, slice_get_within}
 use Rattle.model.specs.declared.entries.CapabilityEntry.{CapabilityEntry}
 use Rattle.model.specs.Acceptance.ThreadRules.{is_member}
 use Rattle.model.specs.Images.Image.{Image, pair_key}
-use Rattle.fitting.specs.Fitting.{IsFitting}
+use Rattle.format_laws.specs.Fitting.{IsFitting}
 use Rattle.wellformed.specs.Keys.{AreListedIn, IsPlaceOf, capability_keys}
 use Rattle.wellformed.proofs.Named.{any-here}
 use Rattle.wellformed.proofs.Places.{any-no, key-at}

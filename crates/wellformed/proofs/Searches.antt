@@ -8,7 +8,7 @@ use Rattle.model.specs.Acceptance.WellFormed.{is_covered}
 use Rattle.model.specs.Images.Fills.{frame_at}
 use Rattle.model.specs.Images.Image.{Image, pair_key}
 use Rattle.model.specs.Kernel.AddressSpaces.{region_size}
-use Rattle.fitting.specs.Fitting.{IsFitting}
+use Rattle.format_laws.specs.Fitting.{IsFitting}
 use Rattle.wellformed.specs.Keys.{DoRise, IsPlaceOf, frame_keys, table_keys}
 use Rattle.wellformed.proofs.Named.{any-here}
 use Rattle.wellformed.proofs.Places.{IsWithinKeys, any-no, before-place, find-first, find-no, keys-rise, none-behind, none-from}

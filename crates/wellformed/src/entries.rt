@@ -1,7 +1,7 @@
 //! Entries of an image, with what is known of them since the image fits its format.
 
 ghost use Rattle.std.specs.Prelude.{◌≡◌, ◌<◌, Some, length, slice_get};
-ghost use Rattle.fitting.specs.Fitting.{HeaderFits, IsFitting, ObjectFits, UntypedFits};
+ghost use Rattle.format_laws.specs.Fitting.{HeaderFits, IsFitting, ObjectFits, UntypedFits};
 ghost use Rattle.image.specs.Sections.{HasCounts};
 
 use image::ImageRef;

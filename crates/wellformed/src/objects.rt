@@ -9,7 +9,7 @@ ghost use Rattle.model.specs.Images.Described.{numbered};
 ghost use Rattle.model.specs.Capabilities.Placement.{place_of_object, placement};
 ghost use Rattle.model.specs.Images.Places.{bits_of, untyped_at};
 ghost use Rattle.model.specs.Kernel.State.{boot_area_end};
-ghost use Rattle.fitting.specs.Fitting.{HeaderFits, ObjectFits, UntypedFits};
+ghost use Rattle.format_laws.specs.Fitting.{HeaderFits, ObjectFits, UntypedFits};
 ghost use Rattle.wellformed.specs.Answering.{Answers};
 
 use crate::entries::{header_of, object_of, untyped_of};

@@ -2,7 +2,7 @@
 use Rattle.std.proofs.Common.{◌≡◌, ◌∙◌, None, Some, refl, sym, subst}
 use Rattle.model.specs.Capabilities.Slots.{IsDerivation, Slots}
 use Rattle.model.specs.Kernel.State.{State}
-use Rattle.removals.proofs.Laws.{emptied-in-steps, parent-full, there-taken}
+use Rattle.removal_laws.proofs.Laws.{emptied-in-steps, parent-full, there-taken}
 use Rattle.cnode_ops.proofs.emptying.empty_slot.Goals as goal
 
 pub rewind-requires-clause-full : goal.rewind-requires-clause-full

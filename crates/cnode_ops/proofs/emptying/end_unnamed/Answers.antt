@@ -2,7 +2,7 @@
 use Rattle.std.proofs.Common.{ℕ, ◌≡◌, ◌∙◌, false, sym, subst}
 use Rattle.model.specs.Capabilities.CapabilityKinds.{names_object}
 use Rattle.model.specs.Capabilities.Slots.{Slots, capability_at}
-use Rattle.removals.specs.Steps.{ends}
+use Rattle.removal_laws.specs.Steps.{ends}
 use Rattle.cnode_ops.proofs.emptying.end_unnamed.Goals as goal
 
 pub returns-clause-state : goal.returns-clause-state

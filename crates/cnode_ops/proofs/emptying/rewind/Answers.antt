@@ -1,7 +1,7 @@
 -- By the first descendant.
 use Rattle.std.proofs.Common.{◌∙◌, refl, sym, ap, subst}
 use Rattle.model.specs.Capabilities.Slots.{Slots, recapped}
-use Rattle.removals.specs.Steps.{still, reset, unused}
+use Rattle.removal_laws.specs.Steps.{still, reset, unused}
 use Rattle.cnode_ops.proofs.Watermarks.{child-found, childless, none-of, some-of}
 use Rattle.cnode_ops.proofs.emptying.rewind.Goals as goal
 

@@ -9,7 +9,7 @@ use Rattle.model.proofs.Ancestors.{full-open}
 use Rattle.model.specs.Capabilities.CapabilityKinds.{is_handler_of}
 use Rattle.model.specs.Capabilities.Orders.{next_in}
 use Rattle.model.specs.Capabilities.Slots.{IsFull, Slots, capability_at, is_full}
-use Rattle.removals.proofs.Laws.{both}
+use Rattle.removal_laws.proofs.Laws.{both}
 
 abbrev passes : Slots → Removed → ℕ → ℕ → Bool
 passes slots set line slot = is_handler_of line (capability_at slots slot) && stays slots set slot

@@ -10,7 +10,7 @@ use Rattle.cnode_ops.proofs.refusals.wants_revoke_first.Goals as goal
 use Rattle.model.proofs.Ancestors.{full-open}
 use Rattle.model.specs.Capabilities.Orders.{next_in}
 use Rattle.model.specs.Capabilities.Slots.{Slots, capability_at, is_full}
-use Rattle.removals.proofs.Laws.{both, join}
+use Rattle.removal_laws.proofs.Laws.{both, join}
 
 abbrev filled : Slots → ℕ → Removed → ℕ → Bool
 filled slots size set slot = is_left_filled slots size set (capability_at slots slot)

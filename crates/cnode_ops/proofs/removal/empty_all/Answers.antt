@@ -4,7 +4,7 @@ use Rattle.cnode_ops.specs.Sets.{set_of}
 use Rattle.model.specs.Capabilities.Slots.{IsFull, IsOpen, Slots}
 use Rattle.model.specs.Kernel.Removal.{emptied}
 use Rattle.model.specs.Kernel.State.{State}
-use Rattle.removals.specs.Steps.{alone, joined}
+use Rattle.removal_laws.specs.Steps.{alone, joined}
 use Rattle.cnode_ops.proofs.EmptiedSets.{IsLeftOf, fewer-full, full_count, left-done, left-next}
 use Rattle.cnode_ops.proofs.removal.empty_all.Goals as goal
 

@@ -1,7 +1,7 @@
 -- One line after another.
 use Rattle.std.proofs.Common.{ℕ, Bool, false, slice_index_or, subst, arith}
 use Rattle.model.specs.Kernel.State.{State}
-use Rattle.removals.specs.Steps.{BindingEmptied}
+use Rattle.removal_laws.specs.Steps.{BindingEmptied}
 use Rattle.cnode_ops.proofs.EmptiedSets.{line-emptied, lines-gone}
 use Rattle.cnode_ops.proofs.removal.empty_bindings.Goals as goal
 

@@ -4,7 +4,7 @@ use Rattle.cnode_ops.specs.Sets.{set_of}
 use Rattle.model.specs.Capabilities.Slots.{Slots}
 use Rattle.model.specs.Kernel.Removal.{remove}
 use Rattle.model.specs.Kernel.State.{State}
-use Rattle.removals.proofs.Laws.{refused, sound-ready}
+use Rattle.removal_laws.proofs.Laws.{refused, sound-ready}
 use Rattle.cnode_ops.proofs.RemovedSets.{LoopsRan, loops-may-settle, loops-remove, near-open}
 use Rattle.cnode_ops.proofs.removal.remove.Goals as goal
 

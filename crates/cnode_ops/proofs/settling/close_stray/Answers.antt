@@ -2,7 +2,7 @@
 use Rattle.std.proofs.Common.{◌≡◌, ◌∙◌, None, sym, ap}
 use Rattle.model.specs.Capabilities.Slots.{Slots}
 use Rattle.model.specs.Kernel.State.{State}
-use Rattle.removals.specs.Finishing.{stray_closed}
+use Rattle.removal_laws.specs.Finishing.{stray_closed}
 use Rattle.cnode_ops.proofs.ClosedSlots.{none-closed, not-open, one-closed, stays-closed}
 use Rattle.cnode_ops.proofs.settling.close_stray.Goals as goal
 

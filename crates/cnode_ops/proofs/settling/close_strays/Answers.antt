@@ -2,8 +2,8 @@
 use Rattle.std.proofs.Common.{ℕ, ◌≡◌, ◌∙◌, ◌==◌, ◌+◌, Some, refl, sym, ap, subst}
 use Rattle.model.specs.Capabilities.Slots.{IsOpen, Slots, empty_entry}
 use Rattle.model.specs.Kernel.State.{State}
-use Rattle.removals.specs.Finishing.{StrayClosed, slots_from}
-use Rattle.removals.proofs.Laws.{IsPassed, passed-next, passed-objects, stray-empty}
+use Rattle.removal_laws.specs.Finishing.{StrayClosed, slots_from}
+use Rattle.removal_laws.proofs.Laws.{IsPassed, passed-next, passed-objects, stray-empty}
 use Rattle.cnode_ops.proofs.ClosedSlots.{is-zero}
 use Rattle.cnode_ops.proofs.settling.close_strays.Goals as goal
 

@@ -1,7 +1,7 @@
 -- All below a slot is done.
 use Rattle.std.proofs.Common.{◌-◌}
 use Rattle.model.specs.Kernel.State.{State}
-use Rattle.removals.proofs.Laws.{IsPassed}
+use Rattle.removal_laws.proofs.Laws.{IsPassed}
 use Rattle.cnode_ops.proofs.settling.close_strays.Given as goal
 
 abbrev pub invariant-slots : goal.invariant-slots

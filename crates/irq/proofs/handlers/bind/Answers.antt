@@ -3,7 +3,7 @@ use Rattle.std.proofs.Common.{◌∙◌, ◌<◌, Some, ap}
 use Rattle.std.proofs.lemmas.Result.{err_from_is_err_and}
 use Rattle.irq.proofs.Binding.{bind-kept, bind-left, bind-refused, bind-whole, slot-empty, source-full, source-room}
 use Rattle.irq.proofs.handlers.bind.Goals as goal
-use Rattle.lifecycles.proofs.Laws.{of-some}
+use Rattle.object_lifetimes.proofs.Laws.{of-some}
 use Rattle.model.specs.Capabilities.Slots.{IsFull, depth_of, inserted}
 use Rattle.model.specs.declared.capabilities.Cap.{Cap}
 

@@ -1,6 +1,6 @@
 -- What is left is whole.
 use Rattle.std.proofs.Common.{arith, rules, subst, sym}
-use Rattle.agreement.specs.Wholeness.{IsWhole}
+use Rattle.kernel_invariant.specs.Wholeness.{IsWhole}
 use Rattle.kernel.proofs.Filled.{all-small, filled}
 use Rattle.kernel.proofs.fills.fill_frame.Goals as goal
 

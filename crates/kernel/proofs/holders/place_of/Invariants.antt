@@ -2,7 +2,7 @@
 use Rattle.std.proofs.Common.{ℕ, ◌*◌, ◌-◌, ◌<◌, ◌≤◌}
 use Rattle.kernel.proofs.holders.place_of.Given as goal
 use Rattle.kernel.specs.Setups.{slots_of_holder}
-use Rattle.lifecycles.specs.Kernels.{state_in}
+use Rattle.object_lifetimes.specs.Kernels.{state_in}
 
 abbrev pub invariant-slots : goal.invariant-slots
 invariant-slots g l =

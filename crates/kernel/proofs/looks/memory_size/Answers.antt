@@ -2,7 +2,7 @@
 use Rattle.std.proofs.Common.{ℕ, ◌≡◌, ◌∙◌, ◌≤◌, None, List, length, ap, subst}
 use Rattle.kernel.proofs.Sizes.{none-behind}
 use Rattle.kernel.proofs.looks.memory_size.Goals as goal
-use Rattle.lifecycles.specs.Kernels.{state_in}
+use Rattle.object_lifetimes.specs.Kernels.{state_in}
 
 pub returns-clause-inside : goal.returns-clause-inside
 returns-clause-inside g c place behind =

@@ -2,7 +2,7 @@
 use Rattle.std.proofs.Common.{◌∙◌, ◌^◌, ℕ, Bool, Some, None, if◌then◌else◌, sym, ap, subst}
 use Rattle.kernel.proofs.Roots.{put-empty, put-passed, put-refused, root-agrees, root-state}
 use Rattle.kernel.proofs.puts.put.Goals as goal
-use Rattle.lifecycles.specs.Kernels.{state_in}
+use Rattle.object_lifetimes.specs.Kernels.{state_in}
 use Rattle.model.specs.Capabilities.Slots.{Slots, inserted}
 use Rattle.model.specs.Kernel.Setup.{put_in_boot_slot}
 use Rattle.model.specs.Kernel.Soundness.{IsSound}

@@ -2,7 +2,7 @@
 use Rattle.std.proofs.Common.{◌≡◌, ◌∙◌, ◌+◌, ◌*◌, ◌^◌, ◌<◌, ◌≤◌, Some, List, [], sym, ap, subst}
 use Rattle.std.specs.List.{list_any}
 use Rattle.std.specs.Prelude.{slice_get}
-use Rattle.fitting.specs.Fitting.{CertificateFits}
+use Rattle.format_laws.specs.Fitting.{CertificateFits}
 use Rattle.model.specs.Acceptance.Accepted.{IsWellFormed}
 use Rattle.model.specs.Acceptance.NotedStates.{NotedSlot, image_slots}
 use Rattle.model.specs.Images.Image.{Image, Thread}

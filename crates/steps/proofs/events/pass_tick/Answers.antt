@@ -1,5 +1,5 @@
 -- What is left is sound.
-use Rattle.agreement.specs.Wholeness.{IsWhole}
+use Rattle.kernel_invariant.specs.Wholeness.{IsWhole}
 use Rattle.soundness.proofs.Laws.{tick-machine, tick-whole}
 use Rattle.std.proofs.Common.{subst, sym}
 use Rattle.steps.proofs.events.pass_tick.Goals as goal

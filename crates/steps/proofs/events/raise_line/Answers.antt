@@ -1,5 +1,5 @@
 -- What is left is sound.
-use Rattle.agreement.specs.Wholeness.{IsWhole}
+use Rattle.kernel_invariant.specs.Wholeness.{IsWhole}
 use Rattle.soundness.proofs.Laws.{raise-machine, raise-whole}
 use Rattle.std.proofs.Common.{subst, sym}
 use Rattle.steps.proofs.events.raise_line.Goals as goal

@@ -1,5 +1,5 @@
 -- What is left is sound.
-use Rattle.agreement.specs.Wholeness.{IsWhole}
+use Rattle.kernel_invariant.specs.Wholeness.{IsWhole}
 use Rattle.model.specs.Kernel.Steps.{answered}
 use Rattle.model.specs.declared.system_calls.SendCall.TheVariants.{Calling}
 use Rattle.soundness.proofs.Laws.{answered-machine, answered-whole}

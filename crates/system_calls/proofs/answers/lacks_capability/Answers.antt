@@ -1,5 +1,5 @@
 -- What is left is sound.
-use Rattle.agreement.specs.Wholeness.{IsWhole}
+use Rattle.kernel_invariant.specs.Wholeness.{IsWhole}
 use Rattle.model.specs.Kernel.Steps.{lacks_capability}
 use Rattle.soundness.proofs.Laws.{fault-machine, lacks-whole}
 use Rattle.std.proofs.Common.{◌<◌, ◌^◌, if◌then◌else◌, Bool, true, false, arith, rules, subst, sym}

@@ -1,5 +1,5 @@
 -- What is left is sound.
-use Rattle.agreement.specs.Wholeness.{IsWhole}
+use Rattle.kernel_invariant.specs.Wholeness.{IsWhole}
 use Rattle.model.specs.Kernel.Steps.{calls_known}
 use Rattle.soundness.proofs.Laws.{fault-machine, unknown-whole}
 use Rattle.std.proofs.Common.{None, rules, subst, sym}

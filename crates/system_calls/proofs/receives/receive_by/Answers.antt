@@ -1,5 +1,5 @@
 -- What a capability names is there.
-use Rattle.lifecycles.specs.Kernels.{state_in}
+use Rattle.object_lifetimes.specs.Kernels.{state_in}
 use Rattle.model.specs.Kernel.Kinds.{kind_at, object_named}
 use Rattle.model.specs.Kernel.Retype.{NewEndpoint, NewNotification}
 use Rattle.objects.specs.Tables.{state_of}

@@ -1,5 +1,5 @@
 -- What is left is sound.
-use Rattle.agreement.specs.Wholeness.{IsWhole}
+use Rattle.kernel_invariant.specs.Wholeness.{IsWhole}
 use Rattle.model.specs.Kernel.Messages.{passes}
 use Rattle.model.specs.Kernel.Scheduling.{yielded}
 use Rattle.model.specs.declared.system_calls.SystemCall.TheVariants.{Yields}

@@ -1,5 +1,5 @@
 -- A thread that replies runs on, and what is left is sound.
-use Rattle.agreement.specs.Wholeness.{IsWhole}
+use Rattle.kernel_invariant.specs.Wholeness.{IsWhole}
 use Rattle.model.specs.Kernel.State.{State}
 use Rattle.soundness.proofs.Laws.{reply-machine, reply-runs, reply-whole}
 use Rattle.soundness.specs.Running.{IsRunning}

@@ -1,5 +1,5 @@
 -- What a capability names is there, and its badge is short.
-use Rattle.lifecycles.specs.Kernels.{state_in}
+use Rattle.object_lifetimes.specs.Kernels.{state_in}
 use Rattle.model.specs.Capabilities.CapabilityWords.{IsCapability}
 use Rattle.model.specs.Kernel.Kinds.{kind_at, object_named}
 use Rattle.model.specs.Kernel.Retype.{NewEndpoint, NewNotification}

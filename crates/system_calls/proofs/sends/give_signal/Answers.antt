@@ -1,5 +1,5 @@
 -- A thread that signals runs on, and what is left is sound.
-use Rattle.agreement.specs.Wholeness.{IsWhole}
+use Rattle.kernel_invariant.specs.Wholeness.{IsWhole}
 use Rattle.model.specs.Kernel.Messages.{signal}
 use Rattle.model.specs.Kernel.State.{State, notification_at}
 use Rattle.soundness.proofs.Laws.{running-object, signal-machine, signal-whole, signaled-object}

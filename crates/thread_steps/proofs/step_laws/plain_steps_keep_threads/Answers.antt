@@ -1,8 +1,8 @@
 -- The thread stands at a point whose rules are kept, and takes one of its edges.
 use Rattle.std.proofs.Common.{ℕ, ◌≡◌, ◌++◌, List, [], ◌∷◌, Some, sym, subst}
 use Rattle.std.specs.Prelude.{Contains, false}
-use Rattle.booting.proofs.Laws.{described-sound}
-use Rattle.falling.proofs.Laws.{noted-named}
+use Rattle.boot_laws.proofs.Laws.{described-sound}
+use Rattle.measure_facts.proofs.Laws.{noted-named}
 use Rattle.soundness.proofs.Laws.{events-whole, instructions-keep}
 use Rattle.model.specs.declared.events.Event.{Event}
 use Rattle.model.specs.declared.events.Event.TheVariants.{Step}

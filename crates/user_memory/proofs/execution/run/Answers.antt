@@ -1,6 +1,6 @@
 -- A sound state has usable memory, and an instruction changes what its memory says.
 use Rattle.std.proofs.Common.{rules, ◌≡◌, ◌∙◌, ap, sym}
-use Rattle.agreement.specs.Agreement.{Agrees}
+use Rattle.kernel_invariant.specs.Agreement.{Agrees}
 use Rattle.model.specs.Kernel.AddressSpaces.{content_of, with_content}
 use Rattle.model.specs.Machine.Effects.{effect}
 use Rattle.objects.specs.Standing.{Standing}

@@ -1,6 +1,6 @@
 -- A frame is filled from its beginning on.
 use Rattle.std.proofs.Common.{◌∙◌, Some, ap, length, subst, sym}
-use Rattle.agreement.specs.Agreement.{Agrees}
+use Rattle.kernel_invariant.specs.Agreement.{Agrees}
 use Rattle.model.specs.Capabilities.Slots.{Slots}
 use Rattle.objects.specs.Standing.{Standing}
 use Rattle.objects.specs.Tables.{state_of}

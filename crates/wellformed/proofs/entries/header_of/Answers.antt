@@ -1,8 +1,8 @@
 -- What fits its format keeps to its limits.
 use Rattle.std.proofs.Common.{sym, subst}
 use Rattle.model.specs.declared.entries.ImageHeader.{ImageHeader}
-use Rattle.fitting.specs.Fitting.{HeaderFits}
-use Rattle.fitting.proofs.Laws.{is-fitting}
+use Rattle.format_laws.specs.Fitting.{HeaderFits}
+use Rattle.format_laws.proofs.Laws.{is-fitting}
 use Rattle.wellformed.proofs.entries.header_of.Goals as goal
 
 pub returns-clause-small : goal.returns-clause-small

@@ -5,7 +5,7 @@ use Rattle.objects.proofs.Frames.{beside-objects, kind-left, moved-to, records-t
 use Rattle.objects.proofs.tables.Objects.end.Goals as goal
 use Rattle.objects.specs.Changes.{vacated}
 use Rattle.objects.specs.Tables.{state_of}
-use Rattle.removals.specs.Steps.{ends_thread}
+use Rattle.removal_laws.specs.Steps.{ends_thread}
 
 pub returns-clause-state : goal.returns-clause-state
 returns-clause-state g c = c.vacate.ensures.state ∙ ap (λ (s : State). vacated s c.args.offset) c.forget_at.ensures.state

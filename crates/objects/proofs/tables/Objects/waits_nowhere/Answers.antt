@@ -3,7 +3,7 @@ use Rattle.std.proofs.Common.{◌∙◌, not, ap, sym}
 use Rattle.objects.proofs.tables.Objects.waits_nowhere.Goals as goal
 use Rattle.objects.specs.Tables.{state_of, told_by}
 use Rattle.objects.specs.Threads.{status_of}
-use Rattle.removals.specs.Finishing.{waits_nowhere}
+use Rattle.removal_laws.specs.Finishing.{waits_nowhere}
 
 pub returns-in-Blocked : goal.returns-in-Blocked
 unfolding state_of told_by

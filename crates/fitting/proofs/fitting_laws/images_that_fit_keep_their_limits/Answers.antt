@@ -1,6 +1,0 @@
--- By the format's own tests.
-use Rattle.fitting.proofs.ImageFits.{is-fitting}
-use Rattle.fitting.proofs.fitting_laws.images_that_fit_keep_their_limits.Goals as goal
-
-pub returns : goal.returns
-returns c = is-fitting

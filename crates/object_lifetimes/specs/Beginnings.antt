@@ -1,0 +1,37 @@
+-- What begins, and how far the making of several objects has come.
+use Rattle.std.specs.Prelude.{ℕ, ◌≡◌, ◌+◌, ◌*◌, ◌%◌, ◌^◌, ◌<◌, ◌≤◌, true, Some, List}
+use Rattle.kernel_invariant.specs.Growing.{Growing}
+use Rattle.cnode_ops.specs.declared.beginnings.NewType.{NewType}
+use Rattle.cnode_ops.specs.declared.beginnings.NewType.TheVariants as types
+use Rattle.model.specs.Capabilities.Slots.{IsDerivation, IsFull, depth_of, empty_entry}
+use Rattle.model.specs.Kernel.Retype.{NewObjects, is_large_enough, is_small_enough, place_of_new, size_of, with_new}
+use Rattle.model.specs.Kernel.State.{State}
+use Rattle.model.specs.declared.capabilities.Cap.{Cap}
+use Rattle.model.specs.declared.capabilities.Cap.TheVariants.{Untyped}
+use Rattle.objects.specs.Changes.{begun}
+
+-- untyped memory is no object
+abbrev pub with_begun : State → List ℕ → NewType → ℕ → State
+with_begun s memory (types.Untyped bits) place = s
+with_begun s memory (types.Object kind) place = begun s memory kind place
+
+-- untyped memory may be used up to a watermark
+abbrev pub MayUse : Cap → ℕ → Type 0
+MayUse (Untyped offset bits used) watermark = watermark ≤ 2 ^ bits
+MayUse _ watermark = ⊥
+
+-- each object stands at a multiple of its size, in memory of 2^24 bytes
+pub record AreLaid (new : NewObjects) : Type 0 where
+  pub aligned : new.first % size_of new ≡ 0
+  pub near : new.first + new.count * size_of new ≤ 2 ^ 24
+  pub large : is_large_enough new.kind ≡ true
+  pub small : is_small_enough new.kind ≡ true
+
+-- so many of the objects were made in the state before, and there is room for the rest of them
+pub record AreMade (before now : State) (memory : List ℕ) (new : NewObjects) (window parent count : ℕ) : Type 0 where
+  pub state : now ≡ with_new before (record { kind = new.kind; first = new.first; count = count }) window parent
+  pub growing : Growing now memory (place_of_new new count) (new.first + new.count * size_of new)
+  pub rest : (i : ℕ) → count ≤ i → i < new.count → now.slots (window + i) ≡ Some empty_entry
+  pub derivation : IsDerivation now.slots
+  pub full : IsFull now.slots parent
+  pub room : depth_of now.slots parent < 255

@@ -1,0 +1,66 @@
+-- The capabilities of a call are capabilities, and the CNodes among them have open slots.
+use Rattle.std.proofs.Common.{ℕ, ◌≡◌, None, ◌-◌, ◌+◌, ◌/◌, ◌%◌, ◌^◌, ◌<◌, ◌≤◌, List, refl, sym, subst, arith}
+use Rattle.std.proofs.Math.Nat.{zero-mod}
+use Rattle.std.proofs.lemmas.Nat.{pow_pos}
+use Rattle.kernel_invariant.specs.Wholeness.{IsWhole}
+use Rattle.cnode_ops.proofs.Laws.{boot-open, sound-nodes}
+use Rattle.cnode_ops.specs.Nodes.{CNodesAreOpen, HasOpenSlots}
+use Rattle.model.specs.Capabilities.CapabilityWords.{IsCapability}
+use Rattle.model.specs.Capabilities.CapabilityKinds.{cnode_of}
+use Rattle.model.specs.Capabilities.Slots.{Slots, capability_at}
+use Rattle.model.specs.Kernel.Arguments.{Call}
+use Rattle.model.specs.Kernel.Soundness.{IsSound}
+use Rattle.model.specs.Kernel.State.{State}
+use Rattle.model.specs.declared.capabilities.Cap.{Cap}
+use Rattle.model.specs.declared.capabilities.Cap.TheVariants.{CNode, InterruptHandler}
+use Rattle.objects.specs.Tables.{Tables, state_of}
+use Rattle.soundness.proofs.Laws.{IsAt, invoked-at, invoked-root}
+use Rattle.soundness.specs.Calls.{IsCall, IsRoot, of_slot, of_loader}
+
+boot-valid : (radix : ℕ) → 1 ≤ radix → radix ≤ 14 → IsCapability (CNode 0 radix (32 - radix))
+boot-valid radix least most =
+    let size : ℕ = (32 - radix) % 2 ^ 5 in
+    let some = pow_pos size in
+    let none : (32 - radix) / 2 ^ 5 ≡ 0 = omega (arith, least) in
+    ((zero-mod (2 ^ (radix + 4)), omega arith), least, most, (omega arith, omega (arith, none, some), omega (arith, least, most)))
+
+pub root-valid : (s : State) (root : Cap) → IsSound s → IsRoot s root → IsCapability root
+root-valid s root sound (of_slot slot is) = subst IsCapability is (sound.slots.derivation.valid slot)
+root-valid s root sound (of_loader is) = subst IsCapability (sym is) (boot-valid s.boot_radix sound.shape.least_radix sound.shape.most_radix)
+
+root-open : (s : State) (root : Cap) → IsSound s → IsRoot s root → HasOpenSlots s.slots root
+root-open s root sound (of_slot slot is) = subst (λ (c : Cap). HasOpenSlots s.slots c) is ((sound-nodes s sound).nodes slot)
+root-open s root sound (of_loader is) = subst (λ (c : Cap). HasOpenSlots s.slots c) (sym is) (boot-open s sound (32 - s.boot_radix))
+
+-- what the functions below ask of a call
+pub record MayCall (slots : Slots) (call : Call) : Type 0 where
+  pub root : IsCapability call.root
+  pub invoked : IsCapability call.capability
+  pub there : HasOpenSlots slots call.root
+  pub node : HasOpenSlots slots call.capability
+  pub nodes : CNodesAreOpen slots
+
+pub may-call : (o : Tables) (slots : Slots) (memory : List ℕ) (call : Call) → IsWhole o slots memory → IsCall (state_of o slots memory) call → MayCall slots call
+unfolding state_of
+may-call o slots memory call whole is_call =
+    let s : State = state_of o slots memory in
+    let invoked = invoked-root s call is_call.invoked in
+    record {
+      root = root-valid s call.root whole.sound is_call.root;
+      invoked = root-valid s call.capability whole.sound invoked;
+      there = root-open s call.root whole.sound is_call.root;
+      node = root-open s call.capability whole.sound invoked;
+      nodes = sound-nodes s whole.sound;
+    }
+
+-- what is no CNode stands in the slot of the call
+pub held-at : (o : Tables) (slots : Slots) (memory : List ℕ) (call : Call) (c : Cap) → IsCall (state_of o slots memory) call → call.capability ≡ c → cnode_of c ≡ None
+    → capability_at slots call.slot ≡ c
+unfolding state_of
+held-at o slots memory call c is_call is none = IsAt.at (invoked-at (state_of o slots memory) call c is_call.invoked is none)
+
+-- a handler's line is one of 64
+pub line-small : (s : State) (call : Call) (line : ℕ) → IsSound s → IsCall s call → call.capability ≡ InterruptHandler line → line < 64
+line-small s call line sound is_call is =
+    let at = invoked-at s call (InterruptHandler line) is_call.invoked is refl in
+    let valid : IsCapability (InterruptHandler line) = subst IsCapability at.at (sound.slots.derivation.valid call.slot) in valid

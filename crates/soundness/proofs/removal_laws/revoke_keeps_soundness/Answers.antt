@@ -1,6 +1,0 @@
--- Descendants are full, so their slots are open.
-use Rattle.soundness.proofs.Removed.{revoked-sound}
-use Rattle.soundness.proofs.removal_laws.revoke_keeps_soundness.Goals as goal
-
-pub returns : goal.returns
-returns c = revoked-sound
