@@ -1,8 +1,8 @@
 #!/usr/bin/env python3
 """What the gate asks of the texts of all crates before it proves anything: layout, names, links and edits. At the top of the repository.
 
-Also that no crate imports more lines of another's proofs than proof_imports.txt has for it: a law crate is used through its one public
-module of proofs, `Laws`, and a crate with code through its contracts. And that none but `objects` sees which form its tables have.
+Also that no crate imports another's proofs but through its one public module of them, `Laws` (those of `model` are on the definitions,
+and for all), and that none but `objects` sees which form its tables have.
 """
 import os
 import re
@@ -12,38 +12,21 @@ sys.path.insert(0, os.path.dirname(os.path.realpath(__file__)))
 sys.dont_write_bytecode = True
 from libraries import RT  # noqa: E402
 
-ALLOWED = os.path.join(os.path.dirname(os.path.realpath(__file__)), "proof_imports.txt")
 IMPORT = re.compile(r"^(?:ghost )?(?:pub )?use Rattle\.(\w+)\.proofs\.(?!Laws\b)", re.M)
-
-
 FORM = re.compile(r"\bTables::told_by\b|use Rattle\.objects\.specs\.(?:Rights\.|Tables\.(?!\{(?:Tables|state_of)(?:, (?:Tables|state_of))*\}))")
 
 
-def allowed_imports():
-    """The lines that each crate may have; a crate that is not listed may have none."""
-    with open(ALLOWED, encoding="utf-8") as lines:
-        return {crate: int(count) for crate, count in (line.split() for line in lines)}
-
-
-def proof_imports(crate, others):
-    """How many lines of the crate import proofs of one of the others past its module of laws."""
-    found = 0
-    for file in RT.rtlib.files_of(crate.folder):
-        if file.endswith((".rt", ".antt")):
-            with open(file, encoding="utf-8") as text:
-                found += sum(name in others for name in IMPORT.findall(text.read()))
+def proofs_seen(crates):
+    """The crates that import others' proofs past their modules of laws; each file is printed."""
+    names, found = {it.name for it in crates} - {"model"}, []
+    for crate in crates:
+        for file in RT.rtlib.files_of(crate.folder):
+            if file.endswith((".rt", ".antt")):
+                with open(file, encoding="utf-8") as text:
+                    if (names - {crate.name}).intersection(IMPORT.findall(text.read())):
+                        print(f"{file}: imports another crate's proofs past its module of laws")
+                        found.append(crate.name)
     return found
-
-
-def miscounted(crates):
-    """The crates with another number of such lines than is allowed; each is printed. Fewer are told too, so that the number only falls."""
-    allowed = allowed_imports()
-    names = {it.name for it in crates} - {"model"}  # the lemmas of `model` are on the definitions, and for all
-    found = {it.name: proof_imports(it, names - {it.name}) for it in crates}
-    other = [name for name in sorted(found) if found[name] != allowed.get(name, 0)]
-    for name in other:
-        print(f"{name}: imports {found[name]} lines of others' proofs, and {allowed.get(name, 0)} are allowed (fewer: lower proof_imports.txt)")
-    return other
 
 
 def forms_seen(crates):
@@ -82,7 +65,7 @@ def refusals(crate, crates):
 def main():
     RT.rtlib.Crate = RT.Crate
     crates = RT.rtlib.crates_below(os.getcwd())
-    refused = [it.name for it in crates if refusals(it, crates)] + miscounted(crates) + forms_seen(crates)
+    refused = [it.name for it in crates if refusals(it, crates)] + proofs_seen(crates) + forms_seen(crates)
     print("refused: " + " ".join(refused) if refused else "all texts are as the gate asks")
     return 1 if refused else 0
 
