@@ -5,6 +5,7 @@ use Rattle.model.specs.Acceptance.Accepted.{IsWellFormed}
 use Rattle.model.specs.Acceptance.NotedStates.{NotedSlot, image_slots}
 use Rattle.thread_spaces.specs.Given.{IsListed}
 use Rattle.typestate.specs.Orders.{Rise}
+use Rattle.typestate.specs.Spaces.{IsSpace}
 use Rattle.typestate.specs.Strays.{is_stray_in}
 use Rattle.typestate.specs.Unlinked.{AreUnlinked}
 use Rattle.typestate.specs.declared.windows.Space.{Space}
@@ -12,6 +13,7 @@ use Rattle.typestate.specs.declared.windows.Space.{Space}
 pub record IsGiven (space : Space) (slots : List NotedSlot) (lists_stray : Bool) : Type 0 where
   pub formed : IsWellFormed space.image.now
   pub listed : IsListed space.image.now space.thread.now
+  pub is : IsSpace space
   pub slots_are : slots ≡ image_slots space.image.now space.thread.now
   pub rising : Rise slots
   pub unlinked : AreUnlinked slots

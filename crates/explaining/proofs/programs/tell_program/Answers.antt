@@ -24,6 +24,7 @@ tell_point-requires c =
     record {
       formed = subst (λ (i : Image). IsWellFormed i) image-is c.requires.formed;
       listed = subst (λ (i : Image). IsListed i space.thread.now) image-is (subst (λ (u : Thread). IsListed image u) thread-is listed);
+      is = c.given_space-space.ensures.space;
       slots_are = noted ∙ ap (λ (i : Image). image_slots i t) image-is ∙ ap (λ (u : Thread). image_slots space.image.now u) thread-is;
       rising = subst (λ (l : List NotedSlot). Rise l) (sym c.deref-7.ensures.value) c.in_ok-slots.ensures.rise;
       unlinked = subst (λ (l : List NotedSlot). AreUnlinked l) (sym noted) (image-unlinked image t);
