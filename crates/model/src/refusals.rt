@@ -1,9 +1,11 @@
 //! Why an image is refused.
 
 ghost use Rattle.std.specs.Prelude.{◌≡◌};
+ghost use Rattle.model.specs.declared.refusals.Refusal.{Refusal};
 ghost use Rattle.model.specs.Shared.Refusals.{refusal_number, refusal_name, refusal_items};
 
 use crate::KError;
+use std::alloc::{AllocError, AllocFailed};
 
 /// A point of a thread's program: the thread's number in the image and the number of the word in its
 /// program, both from 0.
@@ -170,5 +172,21 @@ impl Refusal {
             | Refusal::CallRefused(at, _)
             | Refusal::PoolLost(at) => (u64::from(at.thread), u64::from(at.point)),
         }
+    }
+}
+
+impl From<AllocError> for Refusal {
+    ghost from_gives = { λ _ refusal. refusal ≡ Refusal.OutOfMemory };
+
+    fn from(_refused: AllocError) -> Refusal {
+        Refusal::OutOfMemory
+    }
+}
+
+impl<T: Drop> From<AllocFailed<T>> for Refusal {
+    ghost from_gives = { λ _ refusal. refusal ≡ Refusal.OutOfMemory };
+
+    fn from(_refused: AllocFailed<T>) -> Refusal {
+        Refusal::OutOfMemory
     }
 }
