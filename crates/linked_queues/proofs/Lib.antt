@@ -1,3 +1,4 @@
+mod EndingQueues
 mod Frames
 mod LeavingQueues
 mod LinkSteps

@@ -104,3 +104,19 @@ pub fn pop<S: SlotStore, L: Layout>(layout: &L, store: &mut S, queue: u32) -> Op
     leave(layout, store, thread);
     Some(thread)
 }
+
+/// Takes all threads out of a queue.
+pub fn end<S: SlotStore, L: Layout>(layout: &L, store: &mut S, queue: u32)
+    requires laid { AreLaidOut (L.places layout.now) (S.slots store.old) (length (S.memory store.old)) }
+    requires stands { QueuesStand (L.places layout.now) (S.memory store.old) }
+    ensures queues { (other : ℕ) → queue_of (L.places layout.now) (S.memory store.new) other
+        ≡ put (queue_of (L.places layout.now) (S.memory store.old)) queue [] other }
+    ensures stands { QueuesStand (L.places layout.now) (S.memory store.new) }
+    ensures slots { S.slots store.new ≡ S.slots store.old }
+    ensures bytes { SameBesideWaiting (L.places layout.now) (queue_of (L.places layout.now) (S.memory store.old)) (S.memory store.old) (S.memory store.new) }
+    ensures order { S.order store.new ≡ S.order store.old }
+{
+    'threads: while let Some(thread) = first(layout, store, queue) {
+        leave(layout, store, thread);
+    }
+}
