@@ -2,5 +2,8 @@ mod EndingQueues
 mod Frames
 mod LeavingQueues
 mod LinkSteps
+mod Marks
 mod MemoryWrites
+mod Nobody
+mod ReadySteps
 mod Standings

@@ -1,3 +1,4 @@
 pub mod Layout
 pub mod Queues
+pub mod Ready
 pub mod Words

@@ -4,7 +4,9 @@
 
 mod layout;
 mod linking;
+mod ready;
 pub mod waiting;
 mod words;
 
 pub use layout::Layout;
+pub use ready::ReadyList;

@@ -3,9 +3,10 @@
 ghost use Rattle.std.specs.Prelude.{ℕ, ◌≡◌, Some, length};
 ghost use Rattle.std.specs.Option.{ForSome};
 ghost use Rattle.links.specs.Threaded.{end_without, first_joined};
-ghost use Rattle.linked_queues.specs.Layout.{IsThreadAt};
-ghost use Rattle.linked_queues.specs.Words.{base_of, link_at, linked_last, taken_out};
+ghost use Rattle.linked_queues.specs.Layout.{AreLaidOut, IsThreadAt};
+ghost use Rattle.linked_queues.specs.Words.{base_of, link_at, link_in, linked_last, taken_out};
 
+use crate::layout::Layout;
 use crate::words::{Ends, LinkWords, link, put_link, put_link_at, word_of};
 use slots::SlotStore;
 
@@ -15,6 +16,23 @@ const QUEUE: u32 = 0;
 const NEXT: u32 = 1;
 
 const PREVIOUS: u32 = 2;
+
+/// The queue in which a thread stands, if it stands in one.
+pub(crate) fn queue_of_thread<S: SlotStore, L: Layout>(
+    layout: &L,
+    store: &S,
+    links: LinkWords,
+    thread: u32,
+) -> Option<u32>
+    requires { AreLaidOut (L.places layout.now) (S.slots store.now) (length (S.memory store.now)) }
+    ensures { result ≡ link_in (base_of links) (L.places layout.now).threads (S.memory store.now) 0 thread }
+{
+    if layout.is_thread(thread) {
+        link(store, links, thread, QUEUE)
+    } else {
+        None
+    }
+}
 
 /// Links a thread behind the last one of a queue, and answers the ends that the queue then has.
 pub(crate) fn link_last<S: SlotStore>(
