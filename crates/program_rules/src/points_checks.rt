@@ -125,6 +125,7 @@ impl Program<'_, '_> {
             image: self.slots,
             changes: &[],
             families: None,
+            pages: None,
         };
         let kept = points.kept[entry as usize];
         let shown = kept.shown(self.alloc, &points.log)?;

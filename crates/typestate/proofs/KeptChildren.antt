@@ -1,5 +1,5 @@
 -- What stays a child of a slot is a child already, or was derived from what goes.
-use Rattle.std.proofs.Common.{ℕ, suc, ◌≡◌, ◌∙◌, ◌==◌, ◌||◌, ◌&&◌, Bool, true, false, not, is_some, if◌then◌else◌, Option, Some, None, option_and_then, List, [], ◌∷◌, refl, sym, ap, subst}
+use Rattle.std.proofs.Common.{ℕ, ◌≡◌, ◌∙◌, ◌==◌, ◌||◌, ◌&&◌, Bool, true, false, not, is_some, if◌then◌else◌, Option, Some, None, option_and_then, List, [], ◌∷◌, refl, sym, ap, subst}
 use Rattle.std.specs.List.{filter, list_any}
 use Rattle.std.specs.Option.{option_map_or}
 use Rattle.std.proofs.lemmas.Bool.{eq-eqb, eqb-true}
@@ -14,7 +14,6 @@ use Rattle.typestate.specs.SlotChanges.{heir, is_parent, is_removed, noted_outsi
 use Rattle.typestate.specs.declared.points.NotedSlots.{NotedSlots}
 use Rattle.typestate.specs.declared.slot_changes.Removed.{Removed}
 use Rattle.typestate.specs.declared.slot_changes.Removed.TheVariants.{One, Below}
-use Rattle.typestate.proofs.Compared.{same-place}
 use Rattle.typestate.proofs.LevelByLevel.{listed-goes}
 use Rattle.typestate.proofs.SomeHeld.{held-any}
 use Rattle.typestate.proofs.Standing.{found-key}

@@ -14,6 +14,7 @@ mod TidyChanges
 mod OwnChanges
 mod Linked
 mod LinkedChanges
+mod PagedChanges
 mod LevelByLevel
 mod Descents
 mod ListedStrays

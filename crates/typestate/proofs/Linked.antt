@@ -71,6 +71,35 @@ found-number (d ∷ rest) n c is = elim (number_of d.key == n) as (λ b. number_
   | false ↦ λ _ later. found-number rest n c later
 ] refl is
 
+abbrev named : ℕ → ℕ × ℕ → Bool
+named m q = q.0 == m
+
+abbrev has_number : ℕ → ℕ × ℕ → Bool
+has_number n q = q.1 == n
+
+-- a link is one of those from its number
+pub from-here : (m : ℕ) (links : List (ℕ × ℕ)) (n : ℕ) → list_any (λ (q : ℕ × ℕ). is_eq (link_cmp (m, n) q)) links ≡ true → list_any (has_number n) (filter (named m) links) ≡ true
+from-here m [] n some = some
+from-here m (q ∷ rest) n some = elim (eqb_tells q.0 m) [
+  | inl same ↦
+      subst (λ b. list_any (has_number n) (if b then q ∷ filter (named m) rest else filter (named m) rest) ≡ true) (sym same.0)
+      (first-or (is_eq (link_cmp (m, n) q)) (q.1 == n) (list_any (λ (r : ℕ × ℕ). is_eq (link_cmp (m, n) r)) rest) (list_any (has_number n) (filter (named m) rest)) (equal-both m n q.0 q.1) (from-here m rest n) some)
+  | inr other ↦
+      subst (λ b. list_any (has_number n) (if b then q ∷ filter (named m) rest else filter (named m) rest) ≡ true) (sym other.0)
+      (from-here m rest n (ap (λ b. b || list_any (λ (r : ℕ × ℕ). is_eq (link_cmp (m, n) r)) rest) (sym (apart m n q.0 q.1 other.1)) ∙ some))
+]
+  where
+    first-or : (a b c d : Bool) → (a ≡ true → b ≡ true) → (c ≡ true → d ≡ true) → (a || c) ≡ true → (b || d) ≡ true
+    first-or true b c d one other some = ap (λ x. x || d) (one refl)
+    first-or false true c d one other some = refl
+    first-or false false c d one other some = other some
+
+    equal-both : (a b c d : ℕ) → is_eq (ordering_then (nat_cmp a c) (nat_cmp b d)) ≡ true → (d == b) ≡ true
+    equal-both a b c d is = grind (arith, nat_tests)
+
+    apart : (a b c d : ℕ) → (c ≡ a → ⊥) → is_eq (ordering_then (nat_cmp a c) (nat_cmp b d)) ≡ false
+    apart a b c d other = grind (arith, nat_tests)
+
 module _ (changes : List NotedSlot) (parent : SlotKey) where
   abbrev m : ℕ
   m = number_of parent
@@ -78,14 +107,8 @@ module _ (changes : List NotedSlot) (parent : SlotKey) where
   abbrev test : NotedSlot → Bool
   test c = has_parent parent (left_by c)
 
-  abbrev named : ℕ × ℕ → Bool
-  named q = q.0 == m
-
   abbrev child : ℕ × ℕ → Option NotedSlot
   child q = child_at changes parent q.1
-
-  abbrev has_number : ℕ → ℕ × ℕ → Bool
-  has_number n q = q.1 == n
 
   abbrev cons : Option NotedSlot → List NotedSlot → List NotedSlot
   cons None l = l
@@ -126,29 +149,6 @@ module _ (changes : List NotedSlot) (parent : SlotKey) where
       passes None c is = absurd (let clash : None ≡ Some c = is in cc)
       passes (Some d) c is = elim (test d) as (λ b. (if b then Some d else None) ≡ Some c → Some d ≡ Some c) [ true ↦ λ same. same | false ↦ λ clash. absurd (let no : None ≡ Some c = clash in cc) ] is
 
-  -- a link is one of those from the slot
-  from-here : (links : List (ℕ × ℕ)) (n : ℕ) → list_any (λ (q : ℕ × ℕ). is_eq (link_cmp (m, n) q)) links ≡ true → list_any (has_number n) (filter named links) ≡ true
-  from-here [] n some = some
-  from-here (q ∷ rest) n some = elim (eqb_tells q.0 m) [
-    | inl same ↦
-        subst (λ b. list_any (has_number n) (if b then q ∷ filter named rest else filter named rest) ≡ true) (sym same.0)
-        (first-or (is_eq (link_cmp (m, n) q)) (q.1 == n) (list_any (λ (r : ℕ × ℕ). is_eq (link_cmp (m, n) r)) rest) (list_any (has_number n) (filter named rest)) (equal-both m n q.0 q.1) (from-here rest n) some)
-    | inr other ↦
-        subst (λ b. list_any (has_number n) (if b then q ∷ filter named rest else filter named rest) ≡ true) (sym other.0)
-        (from-here rest n (ap (λ b. b || list_any (λ (r : ℕ × ℕ). is_eq (link_cmp (m, n) r)) rest) (sym (apart m n q.0 q.1 other.1)) ∙ some))
-  ]
-    where
-      first-or : (a b c d : Bool) → (a ≡ true → b ≡ true) → (c ≡ true → d ≡ true) → (a || c) ≡ true → (b || d) ≡ true
-      first-or true b c d one other some = ap (λ x. x || d) (one refl)
-      first-or false true c d one other some = refl
-      first-or false false c d one other some = other some
-
-      equal-both : (a b c d : ℕ) → is_eq (ordering_then (nat_cmp a c) (nat_cmp b d)) ≡ true → (d == b) ≡ true
-      equal-both a b c d is = grind (arith, nat_tests)
-
-      apart : (a b c d : ℕ) → (c ≡ a → ⊥) → is_eq (ordering_then (nat_cmp a c) (nat_cmp b d)) ≡ false
-      apart a b c d other = grind (arith, nat_tests)
-
   -- links rise from a number on
   abbrev AllFrom : ℕ → List (ℕ × ℕ) → Type 0
   AllFrom least [] = Unit {0}
@@ -167,21 +167,21 @@ module _ (changes : List NotedSlot) (parent : SlotKey) where
     | Some d ↦ elim (test d) as (λ b. (if b then Some d else None) ≡ Some c → Some d ≡ Some c) [ true ↦ λ same. same | false ↦ λ clash. absurd (let no : None ≡ Some c = clash in cc) ]
   ] is)
 
-  children-rise : (links : List (ℕ × ℕ)) (least : ℕ) → IsStrictlySortedBy link_cmp links → AllFrom least links → RiseFrom least (filter_map child (filter named links))
+  children-rise : (links : List (ℕ × ℕ)) (least : ℕ) → IsStrictlySortedBy link_cmp links → AllFrom least links → RiseFrom least (filter_map child (filter (named m) links))
   unfolding IsStrictlySortedBy
   children-rise [] least sorted from = tt
   children-rise (q ∷ rest) least sorted from = elim (eqb_tells q.0 m) [
     | inl same ↦
-        subst (λ b. RiseFrom least (filter_map child (if b then q ∷ filter named rest else filter named rest))) (sym same.0)
-        (elim (child q) as (λ o. child q ≡ o → RiseFrom least (cons o (filter_map child (filter named rest)))) [
+        subst (λ b. RiseFrom least (filter_map child (if b then q ∷ filter (named m) rest else filter (named m) rest))) (sym same.0)
+        (elim (child q) as (λ o. child q ≡ o → RiseFrom least (cons o (filter_map child (filter (named m) rest)))) [
           | None ↦ λ _. children-rise rest least sorted.1 from.1
           | Some c ↦ λ is.
               let number = child-number q c is in (
                 omega (arith, number, from.0 same.1),
-                subst (λ k. RiseFrom (k + 1) (filter_map child (filter named rest))) (sym number) (children-rise rest (q.1 + 1) sorted.1 (all-behind q rest same.1 sorted.0)),
+                subst (λ k. RiseFrom (k + 1) (filter_map child (filter (named m) rest))) (sym number) (children-rise rest (q.1 + 1) sorted.1 (all-behind q rest same.1 sorted.0)),
               )
         ] refl)
-    | inr other ↦ subst (λ b. RiseFrom least (filter_map child (if b then q ∷ filter named rest else filter named rest))) (sym other.0) (children-rise rest least sorted.1 from.1)
+    | inr other ↦ subst (λ b. RiseFrom least (filter_map child (if b then q ∷ filter (named m) rest else filter (named m) rest))) (sym other.0) (children-rise rest least sorted.1 from.1)
   ]
 
   all-from-zero : (links : List (ℕ × ℕ)) → AllFrom 0 links
@@ -189,10 +189,10 @@ module _ (changes : List NotedSlot) (parent : SlotKey) where
   all-from-zero (q ∷ rest) = (λ _. omega arith, all-from-zero rest)
 
   -- the children by their links are the changes that leave children
-  pub linked-children : (links : List (ℕ × ℕ)) → Rise changes → AreLinked changes links → IsStrictlySortedBy link_cmp links → filter_map child (filter named links) ≡ children_of changes parent
+  pub linked-children : (links : List (ℕ × ℕ)) → Rise changes → AreLinked changes links → IsStrictlySortedBy link_cmp links → filter_map child (filter (named m) links) ≡ children_of changes parent
   linked-children links rises linked sorted =
       let first = from-first changes rises in
-      looks-equal (filter_map child (filter named links)) (children_of changes parent) 0 0 (children-rise links 0 sorted (all-from-zero links)) (filter-rises test changes 0 first)
+      looks-equal (filter_map child (filter (named m) links)) (children_of changes parent) 0 0 (children-rise links 0 sorted (all-from-zero links)) (filter-rises test changes 0 first)
       (λ key. same-at (number_of key) ∙ sym (filter-found test changes 0 (number_of key) first))
     where
       all-or : (b : Bool) (o : Option NotedSlot) → (is_some o ≡ true → b ≡ true) → (if b then o else None) ≡ o
@@ -204,9 +204,9 @@ module _ (changes : List NotedSlot) (parent : SlotKey) where
       passes-child None is = is
       passes-child (Some c) is = elim (test c) as (λ b. is_some (if b then Some c else None) ≡ true → b ≡ true) [ true ↦ λ _. refl | false ↦ λ clash. clash ] is
 
-      same-at : (n : ℕ) → found (filter_map child (filter named links)) n ≡ kept test (found changes n)
-      same-at n = some-found (filter named links) n ∙ all-or (list_any (has_number n) (filter named links)) (kept test (found changes n))
-          (λ some. from-here links n (linked m n (passes-child (found changes n) some)))
+      same-at : (n : ℕ) → found (filter_map child (filter (named m) links)) n ≡ kept test (found changes n)
+      same-at n = some-found (filter (named m) links) n ∙ all-or (list_any (has_number n) (filter (named m) links)) (kept test (found changes n))
+          (λ some. from-here m links n (linked m n (passes-child (found changes n) some)))
 
 -- without links there are no children
 pub unlinked-children : (changes : List NotedSlot) (parent : SlotKey) → Rise changes → AreLinked changes [] → children_of changes parent ≡ []

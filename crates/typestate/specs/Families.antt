@@ -1,5 +1,5 @@
 -- Changes by what their slots were derived from.
-use Rattle.std.specs.Prelude.{ℕ, ◌≡◌, ◌==◌, Bool, true, false, if◌then◌else◌, Option, Some, None, option_and_then, List, [], ◌∷◌}
+use Rattle.std.specs.Prelude.{ℕ, ◌≡◌, ◌==◌, Bool, true, false, if◌then◌else◌, Option, Some, None, option_and_then, List}
 use Rattle.std.specs.List.{filter, find, list_any}
 use Rattle.std.specs.Option.{option_map_or}
 use Rattle.std.specs.Ordering.{nat_cmp, ordering_then, is_eq}
@@ -33,10 +33,14 @@ link_cmp a b = ordering_then (nat_cmp a.0 b.0) (nat_cmp a.1 b.1)
 abbrev pub has_link : List (ℕ × ℕ) → ℕ → ℕ → Bool
 has_link links parent child = list_any (λ (q : ℕ × ℕ). is_eq (link_cmp (parent, child) q)) links
 
+-- each change that passes a test with a number has its link from there
+abbrev pub AreNamed : (ℕ → NotedSlot → Bool) → List NotedSlot → List (ℕ × ℕ) → Type 0
+AreNamed test changes links =
+    (from slot : ℕ) → option_map_or (test from) (found changes slot) false ≡ true → has_link links from slot ≡ true
+
 -- each child has its link
 abbrev pub AreLinked : List NotedSlot → List (ℕ × ℕ) → Type 0
-AreLinked changes links =
-    (parent child : ℕ) → option_map_or (λ c. is_child_of parent (left_by c)) (found changes child) false ≡ true → has_link links parent child ≡ true
+AreLinked changes links = AreNamed (λ parent c. is_child_of parent (left_by c)) changes links
 
 -- what a change leaves has its link
 abbrev pub HasLink : List (ℕ × ℕ) → NotedSlot → Type 0

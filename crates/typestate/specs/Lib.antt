@@ -1,6 +1,7 @@
 pub mod Left
 pub mod Orders
 pub mod Families
+pub mod Pages
 pub mod Unlinked
 pub mod Differences
 pub mod Calls

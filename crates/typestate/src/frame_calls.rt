@@ -14,12 +14,13 @@ ghost use Rattle.model.specs.Kernel.MappingCalls.{root_named};
 ghost use Rattle.model.specs.declared.invocations.FrameCall.TheVariants.{MapFrame, UnmapFrame};
 ghost use Rattle.model.specs.declared.invocations.Invocation.TheVariants.{OnFrame};
 ghost use Rattle.typestate.specs.Differences.{left_by, slots_of};
+ghost use Rattle.typestate.specs.Families.{found};
 ghost use Rattle.typestate.specs.Invocations.{IsCallOn, held_after, mapped_at, mapping_made, with_root};
 ghost use Rattle.typestate.specs.Mappings.{lists_page, lists_region};
 ghost use Rattle.typestate.specs.SlotChanges.{left_or_refused};
 ghost use Rattle.typestate.specs.declared.slot_changes.SlotChange.TheVariants.{Puts};
 
-use crate::noted::left;
+use crate::noted::{left, numbered};
 use crate::{NotedSlot, NotedSlots, SlotChange, Space, ThreadSlots};
 use model::{
     Cap, FrameCall, FrameEntry, FrameMapping, KError, Point, Refusal, Rights, SlotName, TableEntry,
@@ -115,22 +116,38 @@ fn takes(held: Option<NotedSlot>, root: u32, page: u32) -> bool
     }
 }
 
-/// Whether what one of these changes leaves maps a page under the root table at an offset.
-fn one_takes(changes: &[NotedSlot], root: u32, page: u32) -> bool
-    ensures { result ≡ list_any (λ c. option_map_or (λ s. maps_page root page s.capability) (left_by c) false) changes.now }
-{
-    changes
-        .iter()
-        .any(|change| takes(left(*change), root, page))
-}
-
 impl NotedSlots<'_> {
+    /// Whether what the change to the slot of a number leaves maps a page under the root table at an offset.
+    fn takes_at(&self, number: u64, root: u32, page: u32) -> bool
+        ensures { result ≡ option_map_or (λ c. option_map_or (λ s. maps_page root page s.capability) (left_by c) false) (found self.now.changes.now number) false }
+    {
+        match numbered(self.changes, number) {
+            Some(change) => takes(left(change), root, page),
+            None => false,
+        }
+    }
+
+    /// Whether what one of the changes leaves maps a page under the root table at an offset.
+    fn one_takes(&self, root: u32, page: u32) -> bool
+        ensures { result ≡ list_any (λ c. option_map_or (λ s. maps_page root page s.capability) (left_by c) false) self.now.changes.now }
+    {
+        let Some(pages) = self.pages else {
+            return false;
+        };
+        for slot in pages.at(page) {
+            if self.takes_at(slot.1, root, page) {
+                return true;
+            }
+        }
+        false
+    }
+
     /// Whether a frame capability in the slots maps a page, under the root table at an offset. Those that the image
     /// lists map none.
     fn takes_page(&self, root: u32, page: u32) -> bool
         ensures { result ≡ list_any (λ s. maps_page root page s.capability) (slots_of self.now) }
     {
-        one_takes(self.changes, root, page)
+        self.one_takes(root, page)
     }
 }
 

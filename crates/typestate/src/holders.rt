@@ -7,8 +7,9 @@ ghost use Rattle.std.specs.Option.{option_map_or};
 ghost use Rattle.model.specs.Acceptance.PointRules.{holds_for};
 ghost use Rattle.model.specs.Kernel.AddressSpaces.{allows};
 ghost use Rattle.typestate.specs.Differences.{left_by, slots_of};
+ghost use Rattle.typestate.specs.Families.{found};
 
-use crate::noted::left;
+use crate::noted::{left, numbered};
 use crate::{NotedSlot, NotedSlots};
 use model::{Access, Cap, Rights};
 
@@ -46,21 +47,37 @@ fn holds(held: Option<NotedSlot>, access: Access, root: u32, page: u32) -> bool
     }
 }
 
-/// Whether what one of these changes leaves maps a page under a root table for an access.
-fn one_holds(changes: &[NotedSlot], access: Access, root: u32, page: u32) -> bool
-    ensures { result ≡ list_any (λ c. option_map_or (holds_for access root page) (left_by c) false) changes.now }
-{
-    changes
-        .iter()
-        .any(|change| holds(left(*change), access, root, page))
-}
-
 impl NotedSlots<'_> {
+    /// Whether what the change to the slot of a number leaves maps a page under a root table for an access.
+    fn holds_at(&self, number: u64, access: Access, root: u32, page: u32) -> bool
+        ensures { result ≡ option_map_or (λ c. option_map_or (holds_for access root page) (left_by c) false) (found self.now.changes.now number) false }
+    {
+        match numbered(self.changes, number) {
+            Some(change) => holds(left(change), access, root, page),
+            None => false,
+        }
+    }
+
+    /// Whether what one of the changes leaves maps a page under a root table for an access.
+    fn one_holds(&self, access: Access, root: u32, page: u32) -> bool
+        ensures { result ≡ list_any (λ c. option_map_or (holds_for access root page) (left_by c) false) self.now.changes.now }
+    {
+        let Some(pages) = self.pages else {
+            return false;
+        };
+        for slot in pages.at(page) {
+            if self.holds_at(slot.1, access, root, page) {
+                return true;
+            }
+        }
+        false
+    }
+
     /// Whether a frame capability in the slots maps a page for an access, under the root table at this offset. Those that
     /// the image lists map none.
     pub fn maps(&self, access: Access, root: u32, page: u32) -> bool
         ensures { result ≡ list_any (holds_for access root page) (slots_of self.now) }
     {
-        one_holds(self.changes, access, root, page)
+        self.one_holds(access, root, page)
     }
 }

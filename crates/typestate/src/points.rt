@@ -4,9 +4,10 @@ ghost use Rattle.std.specs.Prelude.{[]};
 ghost use Rattle.std.specs.Option.{option_map_or};
 ghost use Rattle.typestate.specs.Families.{AreLinked};
 ghost use Rattle.typestate.specs.Orders.{Rise};
+ghost use Rattle.typestate.specs.Pages.{ArePaged};
 ghost use Rattle.typestate.specs.Unlinked.{AreUnlinked};
 
-use crate::{Families, NotedSlot};
+use crate::{Families, MappedPages, NotedSlot};
 
 /// The full slots of a thread's CNodes at a point: those that the image lists, with changes made. The keys of both rise. What the
 /// image lists has no parents and no mappings: only changes bring them.
@@ -17,8 +18,11 @@ pub struct NotedSlots<'s> {
     pub changes: &'s [NotedSlot],
     /// The changes by what their slots were derived from: none where no change brings a parent.
     pub families: Option<&'s Families>,
+    /// The changes by the pages that their slots map: none where no change brings a mapping.
+    pub pages: Option<&'s MappedPages>,
     ghost rising: { Rise image.now },
     ghost ordered: { Rise changes.now },
     ghost unlinked: { AreUnlinked image.now },
     ghost linked: { AreLinked changes.now (option_map_or (λ f. f.now.links.keys) families []) },
+    ghost paged: { ArePaged changes.now (option_map_or (λ p. p.now.slots.keys) pages []) },
 }

@@ -1,4 +1,4 @@
-//! Changes by their slots, and by what these were derived from.
+//! Changes by their slots, by what these were derived from, and by the pages that they map.
 
 ghost use Rattle.std.specs.Prelude.{◌≡◌, [], IfErr, IfOk, Some, List, if◌then◌else◌};
 ghost use Rattle.model.specs.Acceptance.NotedStates.{NotedSlot, SlotKey, is_same_key, slot_at};
@@ -7,15 +7,17 @@ ghost use Rattle.typestate.specs.Orders.{Rise};
 ghost use Rattle.typestate.specs.Unlinked.{AreUnlinked};
 
 use crate::noted::listed;
-use crate::{Families, NotedSlot, NotedSlots};
+use crate::{Families, MappedPages, NotedSlot, NotedSlots};
 use std::alloc::{AllocError, Global};
 use std::marker::Model;
 
-/// Changes whose keys rise, each found by its slot and by what that was derived from. A clause sees their list.
+/// Changes whose keys rise, each found by its slot, by what that was derived from, and by the page that it maps. A clause sees
+/// their list.
 #[derive(Drop)]
 pub struct ShownChanges {
     changes: Vec<NotedSlot>,
     families: Families,
+    pages: MappedPages,
 }
 
 /// Puts a change among changes whose keys rise, in place of one to the same slot. Memory may be refused.
@@ -36,12 +38,13 @@ impl Model for ShownChanges {
     ghost use Rattle.std.specs.Prelude.{List};
     ghost use Rattle.model.specs.Acceptance.NotedStates.{NotedSlot};
     ghost use Rattle.typestate.specs.Families.{AreLinked};
+    ghost use Rattle.typestate.specs.Pages.{ArePaged};
 
     ghost Value = { List NotedSlot };
 
     ghost view = { λ shown. shown.changes.items };
 
-    ghost invariant = { λ shown. AreLinked shown.changes.items shown.families.links.keys };
+    ghost invariant = { λ shown. AreLinked shown.changes.items shown.families.links.keys × ArePaged shown.changes.items shown.pages.slots.keys };
 }
 
 impl ShownChanges {
@@ -52,6 +55,7 @@ impl ShownChanges {
         ShownChanges {
             changes: Vec::new(alloc),
             families: Families::new(alloc),
+            pages: MappedPages::new(alloc),
         }
     }
 
@@ -63,9 +67,11 @@ impl ShownChanges {
     {
         let before = listed(&self.changes, change.key);
         self.families.add(change)?;
+        self.pages.add(change)?;
         put(&mut self.changes, change)?;
         if let Some(before) = before {
             self.families.replace(before, change);
+            self.pages.replace(before, change);
         }
         Ok(())
     }
@@ -94,6 +100,7 @@ impl ShownChanges {
             image,
             changes: &self.changes,
             families: Some(&self.families),
+            pages: Some(&self.pages),
         }
     }
 }

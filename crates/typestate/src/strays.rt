@@ -126,6 +126,7 @@ impl Space<'_, '_> {
             image: &[],
             changes: &[],
             families: None,
+            pages: None,
         };
         for slot in listed {
             if self.is_stray(&none, *slot) {

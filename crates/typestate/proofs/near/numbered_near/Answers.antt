@@ -1,5 +1,5 @@
 -- Right before the place, or by the order of the keys.
-use Rattle.std.proofs.Common.{rules, ℕ, ◌≡◌, ◌∙◌, Some, Ok, Err, sym, ap}
+use Rattle.std.proofs.Common.{rules, ◌∙◌, Some, Ok, Err, sym, ap}
 use Rattle.std.proofs.lemmas.List.Sorted.{answers_always}
 use Rattle.model.specs.Acceptance.NotedStates.{NotedSlot, number_of}
 use Rattle.typestate.proofs.Searched.{numbered-here, searched-number}

@@ -1,5 +1,5 @@
 -- The link that goes is another one.
-use Rattle.std.proofs.Common.{ℕ, ◌≡◌, ◌∙◌, Option, Some, sym, ap}
+use Rattle.std.proofs.Common.{◌≡◌, ◌∙◌, Option, Some, sym, ap}
 use Rattle.model.specs.Acceptance.NotedStates.{NotedSlot, SlotKey, is_same_parent, number_of}
 use Rattle.typestate.specs.Families.{parent_left}
 use Rattle.typestate.proofs.LinkedChanges.{other-child, other-parent, parents-apart}
