@@ -12,6 +12,7 @@ mod RefusedLaw
 mod RetypeSteps
 mod SomeSlot
 mod Values
+mod Unsettling
 mod Watermarks
 mod EmptiedSets
 mod ClosedSlots

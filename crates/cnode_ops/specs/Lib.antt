@@ -7,3 +7,4 @@ pub mod Refusals
 pub mod Results
 pub mod RetypeChecks
 pub mod Sets
+pub mod Unsettled
