@@ -10,7 +10,7 @@ use Rattle.model.specs.declared.slot_entries.Entry.{Entry}
 use Rattle.model.proofs.SlotChanges.{capability_of}
 use Rattle.vspace.specs.Endings.{unmapped_entry}
 use Rattle.vspace.specs.Kept.{IsNamedTable, NamesTable, SameBesideTables}
-use Rattle.vspace.proofs.EndedTables.{EndedBelow}
+use Rattle.vspace.proofs.EndedTables.{EndedSoFar}
 use Rattle.vspace.proofs.Sweeps.{Swept}
 use Rattle.vspace.proofs.Names.{names-unmapped}
 
@@ -65,17 +65,17 @@ names-ended : (held : Option Entry) (table : ℕ) → NamesTable (capability_of 
 names-ended None table named = named
 names-ended (Some held) table named = names-unmapped held.capability table named
 
-pub fewer-ended : (old now : Slots) (offset number : ℕ) → EndedBelow old now offset number → Fewer old now
-fewer-ended old now offset number ended = record {
-  closed = λ y none. elim (ended y) [
-    | inl lost ↦ lost.1 ∙ ap (option_map unmapped_entry) none
-    | inr kept ↦ kept.1 ∙ none
+pub fewer-ended : (order : List ℕ) (old now : Slots) (offset : ℕ) (at : Option ℕ) → EndedSoFar order old now offset at → Fewer old now
+fewer-ended order old now offset at so_far = record {
+  closed = λ y none. elim (so_far.each y) [
+    | inl lost ↦ lost ∙ ap (option_map unmapped_entry) none
+    | inr kept ↦ kept ∙ none
   ];
   named = λ table names. (
     names.0,
-    elim (ended names.0) [
-      | inl lost ↦ names-ended (old names.0) table (subst (λ (held : Option Entry). NamesTable (capability_of held) table) lost.1 names.1)
-      | inr kept ↦ subst (λ (held : Option Entry). NamesTable (capability_of held) table) kept.1 names.1
+    elim (so_far.each names.0) [
+      | inl lost ↦ names-ended (old names.0) table (subst (λ (held : Option Entry). NamesTable (capability_of held) table) lost names.1)
+      | inr kept ↦ subst (λ (held : Option Entry). NamesTable (capability_of held) table) kept names.1
     ],
   );
 }

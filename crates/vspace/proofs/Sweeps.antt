@@ -1,19 +1,20 @@
 -- What becomes of the slots when the frames of a region are unmapped one after another, in the store's order.
-use Rattle.std.proofs.Common.{ℕ, ◌≡◌, ◌≢◌, ◌∙◌, ◌+◌, ◌<◌, ◌≤◌, ◌⊎◌, inl, inr, Bool, true, false, not, if◌then◌else◌, Option, Some, None, List, [], ◌∷◌, length, option_map, refl, sym, ap, subst, arith}
+use Rattle.std.proofs.Common.{ℕ, ◌≡◌, ◌≢◌, ◌∙◌, ◌≤◌, ◌⊎◌, inl, inr, Bool, true, false, not, if◌then◌else◌, Option, Some, None, List, option_map, refl, sym, ap, subst, arith}
 use Rattle.std.proofs.lemmas.Bool.{eq-eqb, ne_eqb}
 use Rattle.std.proofs.lemmas.Bool.Decides.{eqb_tells}
 use Rattle.model.specs.Capabilities.CapabilityKinds.{unmapped}
 use Rattle.model.specs.Capabilities.Orders.{IsOrderOf, next_in}
-use Rattle.model.specs.Capabilities.Slots.{IsFull, Slots, is_empty, is_full}
+use Rattle.model.specs.Capabilities.Slots.{IsFull, Slots, is_empty}
 use Rattle.model.specs.Kernel.MappingCalls.{lies_in_region, without_region, without_table}
 use Rattle.model.specs.Shared.Lists.{times_in}
 use Rattle.model.specs.declared.capabilities.Cap.{Cap}
 use Rattle.model.specs.declared.capabilities.Cap.TheVariants.{Empty, Untyped, Endpoint, Notification, CNode, Frame, PageTable, Tcb, RootTable, InterruptControl, InterruptHandler}
 use Rattle.model.specs.declared.capabilities.TableMapping.{TableMapping}
 use Rattle.model.specs.declared.slot_entries.Entry.{Entry}
-use Rattle.model.proofs.Orders.{after-behind, behind, behind-step, behind_slot, first-none, first-some, times-behind, times-first}
+use Rattle.model.proofs.Orders.{behind}
 use Rattle.model.proofs.SlotChanges.{capability_of}
 use Rattle.vspace.specs.Regions.{cleared_at}
+use Rattle.vspace.proofs.FullSlots.{absent-empty, next-full, next-left, next-passed, none-left, others-left, unmapped-full}
 
 -- slots that stand behind one are as they were, and the others without the region, if the order is one of the full slots
 pub record Swept (order : List ℕ) (old now : Slots) (m : TableMapping) (at : Option ℕ) : Type 0 where
@@ -44,36 +45,11 @@ empty-without m (Some held) empty =
     sym (ap (λ b. Some (record held { capability = if b then unmapped held.capability else held.capability })) (empty-outside m held.capability empty))
 
 -- what loses its mapping is full still
-unmapped-full : (c : Cap) → not (is_empty (unmapped c)) ≡ not (is_empty c)
-unmapped-full Empty = refl
-unmapped-full (Untyped f b w) = refl
-unmapped-full (Endpoint f r b) = refl
-unmapped-full (Notification f r b) = refl
-unmapped-full (CNode f radix g) = refl
-unmapped-full (Frame f r o) = refl
-unmapped-full (PageTable f o) = refl
-unmapped-full (Tcb f) = refl
-unmapped-full (RootTable f) = refl
-unmapped-full InterruptControl = refl
-unmapped-full (InterruptHandler line) = refl
-
 without-full : (m : TableMapping) (held : Option Entry) → not (is_empty (capability_of (option_map (without_table m) held))) ≡ not (is_empty (capability_of held))
 without-full m None = refl
 without-full m (Some held) = elim (lies_in_region m held.capability) as (λ b. not (is_empty (if b then unmapped held.capability else held.capability)) ≡ not (is_empty held.capability)) [
   | true ↦ unmapped-full held.capability
   | false ↦ refl
-]
-
--- no slot stands behind itself
-behind-own : (order : List ℕ) (slot : ℕ) → times_in order slot ≤ 1 → times_in (behind_slot order slot) slot ≡ 0
-behind-own [] slot once = refl
-behind-own (s ∷ rest) slot once = elim (eqb_tells s slot) [
-  | inl here ↦
-      ap (λ (b : Bool). times_in (if b then rest else behind_slot rest slot) slot) here.0
-      ∙ omega (arith, once, ap (λ (b : Bool). if b then times_in rest slot + 1 else times_in rest slot) here.0)
-  | inr other ↦
-      ap (λ (b : Bool). times_in (if b then rest else behind_slot rest slot) slot) other.0
-      ∙ behind-own rest slot (omega (arith, once, ap (λ (b : Bool). if b then times_in rest slot + 1 else times_in rest slot) other.0))
 ]
 
 -- ---- one slot after another
@@ -83,47 +59,15 @@ swept-first order old m = record {
   full = λ slot is. absurd (let clash : None ≡ Some slot = is in cc);
   each = λ y. inr refl;
   left = λ y _. refl;
-  done = λ lists y none. empty-without m (old y) (elim (is_full old y) as (λ b. is_full old y ≡ b → b ≡ false) [
-    | true ↦ λ full. absurd (omega (arith, none, lists y ∙ ap (λ b. if b then 1 else 0) full))
-    | false ↦ λ _. refl
-  ] refl);
+  done = λ lists y none. empty-without m (old y) (absent-empty order old lists y none);
 }
 
 module _ (order : List ℕ) (old now : Slots) (m : TableMapping) (at : Option ℕ) (lists : IsOrderOf order now) (swept : Swept order old now m at) where
-  once : (y : ℕ) → times_in order y ≤ 1
-  once y = omega (arith, lists y, elim (is_full now y) as (λ b. (if b then 1 else 0) ≤ 1) [ true ↦ omega arith | false ↦ omega arith ])
-
   module _ (slot : ℕ) (is : Some slot ≡ next_in order at) where
-    rest : List ℕ
-    rest = (first-some (behind order at) slot (sym (after-behind order at) ∙ sym is)).0
-
-    next-is : behind order at ≡ slot ∷ rest
-    unfolding rest
-    next-is = (first-some (behind order at) slot (sym (after-behind order at) ∙ sym is)).1
-
-    rest-is : behind order (Some slot) ≡ rest
-    rest-is = behind-step order at slot rest once next-is
-
-    found-full : IsFull now slot
-    found-full = elim (is_full now slot) as (λ b. is_full now slot ≡ b → b ≡ true) [
-      | true ↦ λ _. refl
-      | false ↦ λ none. absurd (omega (arith, times-behind order at slot rest next-is, lists slot ∙ ap (λ b. if b then 1 else 0) none))
-    ] refl
-
-    -- each step leaves fewer
-    pub swept-fewer : length (behind order (Some slot)) < length (behind order at)
-    swept-fewer = omega (arith, ap length rest-is, ap length next-is)
-
-    here-left : 1 ≤ times_in (behind order at) slot
-    here-left = omega (arith, ap (λ (l : List ℕ). times_in l slot) next-is, times-first slot rest)
-
-    other-times : (y : ℕ) → slot ≢ y → times_in (behind order (Some slot)) y ≡ times_in (behind order at) y
-    other-times y other = ap (λ (l : List ℕ). times_in l y) rest-is ∙ sym (ap (λ (l : List ℕ). times_in l y) next-is ∙ ap (λ (b : Bool). if b then times_in rest y + 1 else times_in rest y) (ne_eqb slot y other))
-
     -- the slot that was looked at
     next-here : (next : Slots) → ((y : ℕ) → next y ≡ cleared_at now slot m y) → next slot ≡ without_region old m slot
     next-here next step =
-        step slot ∙ ap (λ (b : Bool). if b then without_region now m slot else now slot) (eq-eqb slot slot refl) ∙ ap (option_map (without_table m)) (swept.left slot here-left)
+        step slot ∙ ap (λ (b : Bool). if b then without_region now m slot else now slot) (eq-eqb slot slot refl) ∙ ap (option_map (without_table m)) (swept.left slot (next-left order now lists at slot is))
 
     next-other : (next : Slots) → ((y : ℕ) → next y ≡ cleared_at now slot m y) → (y : ℕ) → slot ≢ y → next y ≡ now y
     next-other next step y other = step y ∙ ap (λ (b : Bool). if b then without_region now m y else now y) (ne_eqb y slot (λ same. other (sym same)))
@@ -131,7 +75,7 @@ module _ (order : List ℕ) (old now : Slots) (m : TableMapping) (at : Option �
     pub swept-next : (next : Slots) → ((y : ℕ) → next y ≡ cleared_at now slot m y) → Swept order old next m (Some slot)
     swept-next next step = record {
       full = λ other same. subst (λ (n : ℕ). IsFull next n) (let here : slot ≡ other = cc in here)
-          (ap (λ (held : Option Entry). not (is_empty (capability_of held))) (next-here next step ∙ sym (ap (option_map (without_table m)) (swept.left slot here-left))) ∙ without-full m (now slot) ∙ found-full);
+          (ap (λ (held : Option Entry). not (is_empty (capability_of held))) (next-here next step ∙ sym (ap (option_map (without_table m)) (swept.left slot (next-left order now lists at slot is)))) ∙ without-full m (now slot) ∙ next-full order now lists at slot is);
       each = λ y. elim (eqb_tells slot y) [
         | inl here ↦ inl (subst (λ (n : ℕ). next n ≡ without_region old m n) here.1 (next-here next step))
         | inr other ↦ elim (swept.each y) [
@@ -140,15 +84,15 @@ module _ (order : List ℕ) (old now : Slots) (m : TableMapping) (at : Option �
         ]
       ];
       left = λ y stands. elim (eqb_tells slot y) [
-        | inl here ↦ absurd (omega (arith, stands, ap (times_in (behind order (Some slot))) (sym here.1), behind-own order slot (once slot)))
-        | inr other ↦ next-other next step y other.1 ∙ swept.left y (omega (arith, stands, other-times y other.1))
+        | inl here ↦ absurd (omega (arith, stands, ap (times_in (behind order (Some slot))) (sym here.1), next-passed order now lists at slot is))
+        | inr other ↦ next-other next step y other.1 ∙ swept.left y (omega (arith, stands, others-left order now lists at slot is y other.1))
       ];
       done = λ _ y none. elim (eqb_tells slot y) [
         | inl here ↦ subst (λ (n : ℕ). next n ≡ without_region old m n) here.1 (next-here next step)
-        | inr other ↦ next-other next step y other.1 ∙ swept.done lists y (sym (other-times y other.1) ∙ none)
+        | inr other ↦ next-other next step y other.1 ∙ swept.done lists y (sym (others-left order now lists at slot is y other.1) ∙ none)
       ];
     }
 
   -- where none is left all is done
   pub swept-all : None ≡ next_in order at → (y : ℕ) → now y ≡ without_region old m y
-  swept-all is y = swept.done lists y (ap (λ (l : List ℕ). times_in l y) (first-none (behind order at) (sym (after-behind order at) ∙ sym is)))
+  swept-all is y = swept.done lists y (none-left order at is y)

@@ -3,7 +3,8 @@ use Rattle.std.proofs.Common.{◌∙◌, ◌<◌, List, ℕ, Some, length, refl,
 use Rattle.model.proofs.Orders.{behind}
 use Rattle.model.specs.Capabilities.Slots.{Slots}
 use Rattle.vspace.proofs.BytesBeside.{beside-same, beside-then, fewer-swept}
-use Rattle.vspace.proofs.Sweeps.{Swept, swept-all, swept-fewer, swept-first, swept-next}
+use Rattle.vspace.proofs.FullSlots.{fewer-left}
+use Rattle.vspace.proofs.Sweeps.{Swept, swept-all, swept-first, swept-next}
 use Rattle.vspace.proofs.regions.clear_region.Goals as goal
 
 pub slots-init : goal.slots-init
@@ -19,7 +20,7 @@ slots-smaller g c =
     let old : Slots = g.S.SlotMap.slots c.args.store.now in
     let now : Slots = g.S.SlotMap.slots c.slots.store in
     subst (λ (order : List ℕ). length (behind order (Some c.in-Some.slot)) < length (behind (g.S.SlotStore.order c.slots.store) c.slots.at)) (sym c.clear_frame.ensures.order)
-    (swept-fewer (g.S.SlotStore.order c.slots.store) old now c.args.region c.slots.at c.next_full.ensures.lists c.slots.invariant.swept c.in-Some.slot (sym c.in-Some.is ∙ c.next_full.ensures.next))
+    (fewer-left (g.S.SlotStore.order c.slots.store) now c.next_full.ensures.lists c.slots.at c.in-Some.slot (sym c.in-Some.is ∙ c.next_full.ensures.next))
 
 pub slots-preserved : goal.slots-preserved
 slots-preserved g c =
