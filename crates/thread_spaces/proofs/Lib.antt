@@ -1,4 +1,5 @@
 mod Rounds
+mod Awaited
 mod GivenCNodes
 mod WindowLists
 mod PlaceSteps

@@ -1,51 +1,15 @@
 -- Rounds over the listed capabilities: each finds CNodes behind those that are found, and what finds none is the last.
-use Rattle.std.proofs.Common.{ℕ, zero, suc, ◌≡◌, ◌∙◌, ◌+◌, ◌-◌, ◌<◌, ◌≤◌, ◌⊎◌, inl, inr, ◌&&◌, ◌||◌, drop, take, Bool, true, false, not, if◌then◌else◌, Some, None, List, [], ◌∷◌, ◌++◌, length, refl, sym, ap, subst, arith, length-append}
+use Rattle.std.proofs.Common.{ℕ, zero, suc, ◌≡◌, ◌∙◌, ◌+◌, ◌-◌, ◌<◌, ◌≤◌, ◌⊎◌, inl, inr, ◌&&◌, ◌||◌, drop, Bool, true, false, not, if◌then◌else◌, Some, None, List, [], ◌∷◌, ◌++◌, length, refl, sym, ap, subst, arith}
 use Rattle.std.specs.Prelude.{fold, is_some, nat_eq, slice_get}
 use Rattle.std.proofs.lemmas.Option.{none-some, same_Some}
 use Rattle.std.proofs.lemmas.Bool.{eq-eqb, eqb-true, or_cases, or_left, or_right}
-use Rattle.std.proofs.lemmas.List.Sums.{fold-append}
 use Rattle.model.specs.declared.entries.CapabilityEntry.{CapabilityEntry}
 use Rattle.model.specs.Acceptance.ThreadRules.{is_cnode_source, is_member, reached, reached_within, with_named}
 use Rattle.model.specs.Acceptance.WellFormed.{radix_of}
 use Rattle.model.specs.Images.Image.{Image, Thread}
 use Rattle.model.specs.Images.Places.{is_handler, type_at}
-use Rattle.thread_spaces.specs.Reaching.{IsPartOf, LeadOn}
-
--- ---- what is found stays, and stands in front
-
-record IsGrown (found after : List ℕ) : Type 0 where
-  pub longer : length found ≤ length after
-  pub same : length after ≡ length found → after ≡ found
-
-grown-none : (found : List ℕ) → IsGrown found found
-grown-none found = record { longer = omega arith; same = λ _. refl }
 
 module _ (image : Image) where
-  grown-one : (found : List ℕ) (c : CapabilityEntry) → IsGrown found (with_named image found c)
-  grown-one found c =
-      elim (is_member c.cnode found && is_cnode_source image c.source && not (is_member c.source found)) as (λ b. IsGrown found (if b then found ++ c.source ∷ [] else found)) [
-        | true ↦
-            let long = length-append found (c.source ∷ []) in
-            record { longer = omega (arith, long); same = λ is. absurd (omega (arith, long, is)) }
-        | false ↦ grown-none found
-      ]
-
-  grown-all : (capabilities : List CapabilityEntry) (found : List ℕ) → IsGrown found (fold (with_named image) found capabilities)
-  grown-all [] found = grown-none found
-  grown-all (c ∷ rest) found =
-      let one = grown-one found c in
-      let more = grown-all rest (with_named image found c) in
-      record {
-        longer = omega (arith, one.longer, more.longer);
-        same = λ is.
-            let first = one.same (omega (arith, one.longer, more.longer, is)) in
-            more.same (omega (arith, one.longer, more.longer, is)) ∙ first;
-      }
-
-  -- a round that finds none changes nothing
-  pub none-found : (found after : List ℕ) → after ≡ fold (with_named image) found image.capabilities → length after ≡ length found → fold (with_named image) found image.capabilities ≡ found
-  none-found found after is same = (grown-all image.capabilities found).same (ap (λ (xs : List ℕ). length xs) (sym is) ∙ same)
-
   pub last-round : (rounds : ℕ) (found : List ℕ) → fold (with_named image) found image.capabilities ≡ found → reached_within rounds image found ≡ found
   unfolding reached_within
   last-round zero found same = refl
@@ -67,7 +31,7 @@ module _ (image : Image) where
   abbrev AreCNodes : List ℕ → Type 0
   AreCNodes found = (number : ℕ) → is_member number found ≡ true → IsRadixed number
 
-  member-cases : (number : ℕ) (found : List ℕ) (more : ℕ) → is_member number (found ++ more ∷ []) ≡ true → (is_member number found ≡ true) ⊎ (number ≡ more)
+  pub member-cases : (number : ℕ) (found : List ℕ) (more : ℕ) → is_member number (found ++ more ∷ []) ≡ true → (is_member number found ≡ true) ⊎ (number ≡ more)
   member-cases number [] more is = elim (or_cases (nat_eq number more) false is) [
     | inl same ↦ inr (eqb-true number more same)
     | inr none ↦ absurd (let clash : false ≡ true = none in cc)
@@ -140,20 +104,14 @@ member-last [] y = or_left (nat_eq y y) false (eq-eqb y y refl)
 member-last (x ∷ xs) y = or_right (nat_eq y x) (is_member y (xs ++ y ∷ [])) (member-last xs y)
 
 module _ (image : Image) where
-  pub part-one : (found : List ℕ) (c : CapabilityEntry) → IsPartOf found (with_named image found c)
+  pub part-one : (found : List ℕ) (c : CapabilityEntry) (n : ℕ) → is_member n found ≡ true → is_member n (with_named image found c) ≡ true
   part-one found c n there =
       elim (is_member c.cnode found && is_cnode_source image c.source && not (is_member c.source found)) as (λ b. is_member n (if b then found ++ c.source ∷ [] else found) ≡ true) [
         | true ↦ member-with found c.source n there
         | false ↦ there
       ]
 
-  pub part-all : (entries : List CapabilityEntry) (found : List ℕ) → IsPartOf found (fold (with_named image) found entries)
-  part-all [] found n there = there
-  part-all (c ∷ rest) found n there = part-all rest (with_named image found c) n (part-one found c n there)
-
-  -- ---- capabilities that lead on
-
-  named-puts : (found : List ℕ) (c : CapabilityEntry) → is_member c.cnode found ≡ true → is_cnode_source image c.source ≡ true → is_member c.source (with_named image found c) ≡ true
+  pub named-puts : (found : List ℕ) (c : CapabilityEntry) → is_member c.cnode found ≡ true → is_cnode_source image c.source ≡ true → is_member c.source (with_named image found c) ≡ true
   named-puts found c there leads =
       ap (λ b. is_member c.source (if b && is_cnode_source image c.source && not (is_member c.source found) then found ++ c.source ∷ [] else found)) there
       ∙ ap (λ b. is_member c.source (if true && b && not (is_member c.source found) then found ++ c.source ∷ [] else found)) leads
@@ -162,65 +120,12 @@ module _ (image : Image) where
         | false ↦ λ _. member-last found c.source
       ] refl
 
-  -- what was followed once leads to nothing more
-  idle : (found more : List ℕ) (c : CapabilityEntry) → is_member c.cnode found ≡ true → IsPartOf (with_named image found c) more → with_named image more c ≡ more
-  idle found more c there part =
-      elim (is_cnode_source image c.source) as (λ b. is_cnode_source image c.source ≡ b → (if is_member c.cnode more && b && not (is_member c.source more) then more ++ c.source ∷ [] else more) ≡ more) [
-        | true ↦ λ leads. ap (λ b. if is_member c.cnode more && true && not b then more ++ c.source ∷ [] else more) (part c.source (named-puts found c there leads)) ∙ never (is_member c.cnode more) true false refl
-        | false ↦ λ _. never (is_member c.cnode more) false (not (is_member c.source more)) refl
-      ] refl
-    where
-      never : (a b d : Bool) → (b && d) ≡ false → (if a && b && d then more ++ c.source ∷ [] else more) ≡ more
-      never true true false is = refl
-      never true true true is = absurd (let clash : true ≡ false = is in cc)
-      never true false d is = refl
-      never false b d is = refl
-
-  outside : (found : List ℕ) (c : CapabilityEntry) → is_member c.cnode found ≡ false → with_named image found c ≡ found
-  outside found c none = ap (λ b. if b && is_cnode_source image c.source && not (is_member c.source found) then found ++ c.source ∷ [] else found) none
-
-  -- what does not stand in a CNode that is found may lead on behind it, and all else does not
-  pub one-rest : (i : ℕ) (found after : List ℕ) (entries rest left : List CapabilityEntry) (c : CapabilityEntry)
-      → ((more : List ℕ) → fold (with_named image) more (take (i + 1) entries) ≡ with_named image (fold (with_named image) more (take i entries)) c)
-      → after ≡ with_named image found c → left ≡ (if is_member c.cnode found then rest else rest ++ c ∷ [])
-      → LeadOn image found (take i entries) rest → LeadOn image after (take (i + 1) entries) left
-  one-rest i found after entries rest left c next after_is left_is lead more part =
-      let all : IsPartOf (with_named image found c) more = λ n there. part n (ap (λ (l : List ℕ). is_member n l) after_is ∙ there) in
-      next more
-      ∙ ap (λ (f : List ℕ). with_named image f c) (lead more (λ n there. all n (part-one found c n there)))
-      ∙ by_test (is_member c.cnode found) refl all
-    where
-      by_test : (b : Bool) → is_member c.cnode found ≡ b → IsPartOf (with_named image found c) more → with_named image (fold (with_named image) more rest) c ≡ fold (with_named image) more left
-      by_test true is all =
-          idle found (fold (with_named image) more rest) c is (λ n there. part-all rest more n (all n there))
-          ∙ ap (fold (with_named image) more) (sym (left_is ∙ ap (λ b. if b then rest else rest ++ c ∷ []) is))
-      by_test false is all =
-          sym (fold-append (with_named image) more rest (c ∷ []))
-          ∙ ap (fold (with_named image) more) (sym (left_is ∙ ap (λ b. if b then rest else rest ++ c ∷ []) is))
-
-  -- ---- rounds over them
-
-  pub whole-round : (found after : List ℕ) (entries : List CapabilityEntry) → LeadOn image found image.capabilities entries → after ≡ fold (with_named image) found entries
-      → after ≡ fold (with_named image) found image.capabilities
-  whole-round found after entries lead is = is ∙ sym (lead found (λ n there. there))
-
-  pub next-rest : (found after : List ℕ) (entries rest : List CapabilityEntry) → LeadOn image found image.capabilities entries → after ≡ fold (with_named image) found entries
-      → LeadOn image after entries rest → LeadOn image after image.capabilities rest
-  next-rest found after entries rest lead is left more part =
-      lead more (λ n there. part n (ap (λ (l : List ℕ). is_member n l) is ∙ part-all entries found n there)) ∙ left more part
-
 -- ---- step by step
 
 pub drop-next : {A : Type 0} (xs : List A) (n : ℕ) (x : A) → slice_get xs n ≡ Some x → drop n xs ≡ x ∷ drop (n + 1) xs
 drop-next [] n x at = absurd (none-some x at)
 drop-next (y ∷ ys) zero x at = ap (λ z. z ∷ ys) (same_Some y x at)
 drop-next (y ∷ ys) (suc n) x at = drop-next ys n x at ∙ ap (λ (m : ℕ). x ∷ drop m (y ∷ ys)) (let next : suc (n + 1) ≡ suc n + 1 = omega arith in next)
-
-pub take-next : {A : Type 0} (xs : List A) (n : ℕ) (x : A) → slice_get xs n ≡ Some x → take (n + 1) xs ≡ take n xs ++ x ∷ []
-take-next [] n x at = absurd (none-some x at)
-take-next (y ∷ ys) zero x at = ap (λ z. z ∷ []) (same_Some y x at)
-take-next (y ∷ ys) (suc n) x at =
-    ap (λ (m : ℕ). take m (y ∷ ys)) (let next : suc n + 1 ≡ suc (n + 1) = omega arith in next) ∙ ap (λ l. y ∷ l) (take-next ys n x at)
 
 module _ (image : Image) (t : Thread) where
   abbrev pub IsLeft : ℕ → List ℕ → Type 0
@@ -240,10 +145,8 @@ module _ (image : Image) (t : Thread) where
       ap (reached_within (length image.capabilities - (i + 1)) image) is ∙ sym (one-round image (length image.capabilities - (i + 1)) found)
       ∙ ap (λ (n : ℕ). reached_within n image found) (sym more) ∙ left
 
-  pub round-last : (i : ℕ) (found after : List ℕ) → after ≡ fold (with_named image) found image.capabilities → length after ≡ length found → IsLeft i found → after ≡ reached image t
-  round-last i found after is same left =
-      let fixed = none-found image found after is same in
-      is ∙ fixed ∙ sym (last-round image (length image.capabilities - i) found fixed) ∙ left
+  pub round-last : (i : ℕ) (found : List ℕ) → fold (with_named image) found image.capabilities ≡ found → IsLeft i found → found ≡ reached image t
+  round-last i found fixed left = sym (last-round image (length image.capabilities - i) found fixed) ∙ left
 
   pub rounds-end : (i : ℕ) (found : List ℕ) → length image.capabilities ≤ i → IsLeft i found → found ≡ reached image t
   rounds-end i found most left =

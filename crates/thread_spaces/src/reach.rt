@@ -1,78 +1,133 @@
 //! The CNodes that an image gives a thread, in the order in which they are found.
 
-ghost use Rattle.std.specs.Prelude.{◌≡◌, [], ◌∷◌, ◌++◌, IfErr, IfOk, OnOk, fold, if◌then◌else◌};
+ghost use Rattle.std.specs.Prelude.{ℕ, ◌≡◌, ◌==◌, ◌<◌, ◌||◌, [], true, IfErr, IfOk, OnOk, Some, fold, length, slice_get};
+ghost use Rattle.model.specs.declared.entries.CapabilityEntry.{CapabilityEntry};
 ghost use Rattle.model.specs.declared.refusals.Refusal.TheVariants.{OutOfMemory};
-ghost use Rattle.model.specs.Acceptance.ThreadRules.{is_member, reached, with_named};
-ghost use Rattle.thread_spaces.specs.Reaching.{LeadOn};
+ghost use Rattle.model.specs.Acceptance.ThreadRules.{is_cnode_source, reached, with_named};
+ghost use Rattle.thread_spaces.specs.Reaching.{AwaitsListed, AwaitsMore, Begins, Follows, IsWithin, awaits, is_among};
 
 use image::{ImageRef, ThreadRef};
-use model::{CapabilityEntry, Refusal};
+use model::Refusal;
 use std::alloc::Global;
-use wellformed::{NumberSet, capability_of, header_of, is_cnode_source};
+use std::collections::btree_set::BTreeSet;
+use wellformed::{NumberSet, capability_of, header_of, is_cnode_source, listed_in};
 
-/// Puts a capability behind others. Memory may be refused.
-fn keep(entries: &mut Vec<CapabilityEntry>, entry: CapabilityEntry) -> Result<(), Refusal>
-    ensures kept { OnOk result (entries.new.items ≡ entries.old.items ++ entry ∷ []) }
+/// A round over the capabilities of an image, by their numbers: the place that it has come to, those from there on that may lead
+/// to another CNode, and those before it that may do so in the next round.
+#[derive(Drop)]
+struct Round {
+    place: u32,
+    ahead: BTreeSet<u32>,
+    passed: BTreeSet<u32>,
+}
+
+/// Puts a number among others. Memory may be refused.
+fn put(numbers: &mut BTreeSet<u32>, number: u32) -> Result<(), Refusal>
+    ensures put { OnOk result ((n : ℕ) → is_among numbers.new.keys n ≡ (number == n || is_among numbers.old.keys n)) }
     ensures memory { IfErr result (λ refusal. refusal ≡ OutOfMemory) }
 {
-    if entries.push(entry).is_err() {
+    if numbers.insert(number).is_err() {
         return Err(Refusal::OutOfMemory);
     }
     Ok(())
 }
 
-/// All capabilities of an image.
-fn all_listed(alloc: Global, image: &ImageRef<'_>) -> Result<Vec<CapabilityEntry>, Refusal>
-    ensures all { IfOk result (λ all. all.items ≡ image.now.capabilities) }
-    ensures memory { IfErr result (λ refusal. refusal ≡ OutOfMemory) }
-{
-    let mut all = Vec::new(alloc);
-    for number in 0..header_of(image).capabilities {
-        keep(&mut all, capability_of(image, number))?;
+impl Round {
+    /// A round that follows none so far.
+    fn new(alloc: Global) -> Round
+        ensures place { result.place ≡ 0 }
+        ensures ahead { result.ahead.keys ≡ [] }
+        ensures passed { result.passed.keys ≡ [] }
+    {
+        Round {
+            place: 0,
+            ahead: BTreeSet::new(alloc),
+            passed: BTreeSet::new(alloc),
+        }
     }
-    Ok(all)
+
+    /// Awaits a capability, if it leads to a CNode. Memory may be refused.
+    fn await_one(&mut self, image: &ImageRef<'_>, number: u32) -> Result<(), Refusal>
+        requires number { number < length image.now.capabilities }
+        requires within { IsWithin image.now self.old }
+        ensures within { OnOk result (IsWithin image.now self.new) }
+        ensures more { OnOk result (AwaitsMore self.old self.new) }
+        ensures one { OnOk result ((c : CapabilityEntry) → slice_get image.now.capabilities number ≡ Some c → is_cnode_source image.now c.source ≡ true → awaits self.new number ≡ true) }
+        ensures memory { IfErr result (λ refusal. refusal ≡ OutOfMemory) }
+    {
+        if !is_cnode_source(image, capability_of(image, number).source) {
+            return Ok(());
+        }
+        if number < self.place {
+            put(&mut self.passed, number)
+        } else {
+            put(&mut self.ahead, number)
+        }
+    }
+
+    /// Awaits the capabilities of a CNode that lead to CNodes. Memory may be refused.
+    fn await_listed(&mut self, image: &ImageRef<'_>, cnode: u32) -> Result<(), Refusal>
+        requires within { IsWithin image.now self.old }
+        ensures within { OnOk result (IsWithin image.now self.new) }
+        ensures more { OnOk result (AwaitsMore self.old self.new) }
+        ensures listed { OnOk result (AwaitsListed image.now cnode self.new) }
+        ensures memory { IfErr result (λ refusal. refusal ≡ OutOfMemory) }
+    {
+        let listed = listed_in(image, cnode);
+        for number in listed.first..listed.end {
+            self.await_one(image, number)?;
+        }
+        Ok(())
+    }
+
+    /// Follows a capability: one CNode more, whose capabilities are awaited, if it stands in one that is found and leads to one
+    /// that is not. Memory may be refused.
+    fn follow(
+        &mut self,
+        image: &ImageRef<'_>,
+        number: u32,
+        found: &mut NumberSet,
+    ) -> Result<(), Refusal>
+        requires number { number < length image.now.capabilities }
+        requires within { IsWithin image.now self.old }
+        ensures within { OnOk result (IsWithin image.now self.new) }
+        ensures more { OnOk result (AwaitsMore self.old self.new) }
+        ensures found { OnOk result (Follows image.now number found.old found.new self.new) }
+        ensures memory { IfErr result (λ refusal. refusal ≡ OutOfMemory) }
+    {
+        let entry = capability_of(image, number);
+        if !found.contains(entry.cnode)
+            || !is_cnode_source(image, entry.source)
+            || found.contains(entry.source)
+        {
+            return Ok(());
+        }
+        found.insert(entry.source)?;
+        self.await_listed(image, entry.source)
+    }
+
+    /// Goes round to the end, and answers the next round. Memory may be refused.
+    fn go(mut self, image: &ImageRef<'_>, found: &mut NumberSet) -> Result<Round, Refusal>
+        requires { Begins image.now found.old self }
+        ensures found { OnOk result (found.new ≡ fold (with_named image.now) found.old image.now.capabilities) }
+        ensures next { IfOk result (λ next. Begins image.now found.new next) }
+        ensures memory { IfErr result (λ refusal. refusal ≡ OutOfMemory) }
+    {
+        let _ = header_of(image);
+        'round: while let Some(number) = self.ahead.pop_first() {
+            self.place = number + 1;
+            self.follow(image, number, found)?;
+        }
+        Ok(Round {
+            place: 0,
+            ahead: self.passed,
+            passed: self.ahead,
+        })
+    }
 }
 
-/// One CNode more, if the capability stands in one that is found and leads to one that is not. One that stands in none that is
-/// found is put among the rest.
-fn follow(
-    image: &ImageRef<'_>,
-    entry: CapabilityEntry,
-    found: &mut NumberSet,
-    rest: &mut Vec<CapabilityEntry>,
-) -> Result<(), Refusal>
-    ensures found { OnOk result (found.new ≡ with_named image.now found.old entry) }
-    ensures rest { OnOk result (rest.new.items ≡ (if is_member entry.cnode found.old then rest.old.items else rest.old.items ++ entry ∷ [])) }
-    ensures memory { IfErr result (λ refusal. refusal ≡ OutOfMemory) }
-{
-    if !found.contains(entry.cnode) {
-        return keep(rest, entry);
-    }
-    if is_cnode_source(image, entry.source) {
-        return found.insert(entry.source);
-    }
-    Ok(())
-}
-
-/// One round over capabilities. The rest are those that may lead on behind it.
-fn follow_all(
-    image: &ImageRef<'_>,
-    entries: &[CapabilityEntry],
-    found: &mut NumberSet,
-    rest: &mut Vec<CapabilityEntry>,
-) -> Result<(), Refusal>
-    requires { rest.old.items ≡ [] }
-    ensures found { OnOk result (found.new ≡ fold (with_named image.now) found.old entries.now) }
-    ensures rest { OnOk result (LeadOn image.now found.new entries.now rest.new.items) }
-    ensures memory { IfErr result (λ refusal. refusal ≡ OutOfMemory) }
-{
-    for entry in entries {
-        follow(image, *entry, found, rest)?;
-    }
-    Ok(())
-}
-
-/// The CNodes that a thread reaches. A round over the capabilities that may lead on finds more, and one that finds none is the last.
+/// The CNodes that a thread reaches. A round over the capabilities that may lead on finds more, until there are none. Each CNode's
+/// are looked up once, when it is found.
 pub fn reached_of(
     alloc: Global,
     image: &ImageRef<'_>,
@@ -81,17 +136,16 @@ pub fn reached_of(
     ensures found { IfOk result (λ found. found ≡ reached image.now thread.now) }
     ensures memory { IfErr result (λ refusal. refusal ≡ OutOfMemory) }
 {
+    let root = thread.header().cnode;
     let mut found = NumberSet::new(alloc);
-    found.insert(thread.header().cnode)?;
-    let mut entries = all_listed(alloc, image)?;
+    found.insert(root)?;
+    let mut round = Round::new(alloc);
+    round.await_listed(image, root)?;
     'rounds: for _ in 0..header_of(image).capabilities {
-        let before = found.len();
-        let mut rest = Vec::new(alloc);
-        follow_all(image, &entries, &mut found, &mut rest)?;
-        if found.len() == before {
+        if round.ahead.is_empty() {
             return Ok(found);
         }
-        entries = rest;
+        round = round.go(image, &mut found)?;
     }
     Ok(found)
 }

@@ -116,15 +116,15 @@ fn cnode_place(image: &ImageRef<'_>, cnode: u32) -> u32
 
 /// Where the capabilities of a CNode stand.
 #[derive(Clone, Copy, Drop)]
-pub(crate) struct Listed {
+pub struct CapabilityRange {
     /// The first of them.
-    pub(crate) first: u32,
+    pub first: u32,
     /// The one behind the last.
-    pub(crate) end: u32,
+    pub end: u32,
 }
 
-/// Where the capabilities of a CNode stand.
-pub(crate) fn listed_in(image: &ImageRef<'_>, cnode: u32) -> Listed
+/// Where the capabilities of a CNode stand: they rise by CNode, so it halves those that are left.
+pub fn listed_in(image: &ImageRef<'_>, cnode: u32) -> CapabilityRange
     ensures { AreListedIn cnode image.now.capabilities result.first result.end }
 {
     let header = header_of(image);
@@ -133,7 +133,7 @@ pub(crate) fn listed_in(image: &ImageRef<'_>, cnode: u32) -> Listed
         Some(next) => cnode_place(image, next),
         None => header.capabilities,
     };
-    Listed { first, end }
+    CapabilityRange { first, end }
 }
 
 /// The place of an address under a root table among those of the tables.

@@ -13,6 +13,7 @@ mod threads;
 mod whole;
 
 pub use entries::{capability_of, header_of, object_of, untyped_of};
+pub use keys::{CapabilityRange, listed_in};
 pub use model::Refusal;
 pub use number_sets::NumberSet;
 pub use object_types::{bits_of, is_cnode_source, object_at, power, radix_of};

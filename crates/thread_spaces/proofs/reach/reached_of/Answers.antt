@@ -1,40 +1,33 @@
 -- One round more.
-use Rattle.std.proofs.Common.{◌∙◌, List, sym, ap, subst, arith}
-use Rattle.std.specs.Prelude.{fold}
-use Rattle.model.specs.declared.entries.CapabilityEntry.{CapabilityEntry}
+use Rattle.std.proofs.Common.{ap, arith}
+use Rattle.std.proofs.lemmas.List.{nil_from_length}
 use Rattle.model.specs.declared.entries.ImageHeader.{ImageHeader}
 use Rattle.model.specs.declared.entries.ThreadHeader.{ThreadHeader}
-use Rattle.model.specs.Acceptance.ThreadRules.{with_named}
-use Rattle.thread_spaces.specs.Reaching.{LeadOn}
-use Rattle.thread_spaces.proofs.Rounds.{next-rest, round-first, round-last, round-next, rounds-end, whole-round}
+use Rattle.thread_spaces.proofs.Awaited.{first-begins, none-more}
+use Rattle.thread_spaces.proofs.Rounds.{round-first, round-last, round-next, rounds-end}
 use Rattle.thread_spaces.proofs.reach.reached_of.Goals as goal
 
 pub rounds-init : goal.rounds-init
-rounds-init c = (
-  round-first c.args.image.now c.args.thread.now c.header.result.cnode c.new-found.result c.insert.new.self (ap (λ (h : ThreadHeader). h.cnode) c.header.ensures) c.new-found.ensures c.in_ok-insert.ensures.put,
-  λ more part. ap (fold (with_named c.args.image.now) more) (sym c.in_ok-entries.ensures.all),
-)
+rounds-init c =
+    let root = c.header-root.result.cnode in
+    let put = c.in_ok-insert.ensures.put in
+    let awaits = c.in_ok-await_listed.ensures in (
+      round-first c.args.image.now c.args.thread.now root c.new-found.result c.insert.new.self (ap (λ (h : ThreadHeader). h.cnode) c.header-root.ensures) c.new-found.ensures put,
+      first-begins c.args.image.now root c.new-found.result c.insert.new.self c.new-round.result c.await_listed.new.self c.new-found.ensures put c.new-round.ensures.place awaits.more awaits.within awaits.listed,
+    )
+
+pub returns-then-is_empty-clause-found : goal.returns-then-is_empty-clause-found
+returns-then-is_empty-clause-found c =
+    let left = c.rounds.invariant in
+    round-last c.args.image.now c.args.thread.now c.rounds.counter c.rounds.found (none-more c.args.image.now c.rounds.found c.rounds.round (nil_from_length c.rounds.round.ahead.keys (c.is_empty.ensures.0 c.if-is_empty.true)) left.1) left.0
 
 pub rounds-preserved : goal.rounds-preserved
 rounds-preserved c =
-    let image = c.args.image.now in
-    let count = ap (λ (h : ImageHeader). h.capabilities) c.header_of-end.ensures.value in
-    let found = c.rounds.found in
-    let after = c.follow_all.new.found in
-    let entries = c.rounds.entries.items in
-    let is = c.in_ok-follow_all.ensures.found ∙ ap (fold (with_named image) found) c.deref.ensures.value in (
-      round-next image c.args.thread.now c.rounds.counter found after (omega (arith, c.rounds-test.true, count, c.header_of-end.ensures.counts.capabilities))
-          (whole-round image found after entries c.rounds.invariant.1 is) c.rounds.invariant.0,
-      next-rest image found after entries c.follow_all.new.rest.items c.rounds.invariant.1 is
-          (subst (λ (l : List CapabilityEntry). LeadOn image after l c.follow_all.new.rest.items) c.deref.ensures.value c.in_ok-follow_all.ensures.rest),
+    let count = ap (λ (h : ImageHeader). h.capabilities) c.header_of-end.ensures.value in (
+      round-next c.args.image.now c.args.thread.now c.rounds.counter c.rounds.found c.go.new.found (omega (arith, c.rounds-test.true, count, c.header_of-end.ensures.counts.capabilities))
+          c.in_ok-round.ensures.found c.rounds.invariant.0,
+      c.in_ok-round.ensures.next,
     )
-
-pub returns-then-len-before-clause-found : goal.returns-then-len-before-clause-found
-returns-then-len-before-clause-found c =
-    round-last c.args.image.now c.args.thread.now c.rounds.counter c.rounds.found c.follow_all.new.found
-    (whole-round c.args.image.now c.rounds.found c.follow_all.new.found c.rounds.entries.items c.rounds.invariant.1
-    (c.in_ok-follow_all.ensures.found ∙ ap (fold (with_named c.args.image.now) c.rounds.found) c.deref.ensures.value))
-    (sym c.len.ensures ∙ c.if-len-before.true ∙ c.len-before.ensures) c.rounds.invariant.0
 
 pub returns-clause-found : goal.returns-clause-found
 returns-clause-found c =
