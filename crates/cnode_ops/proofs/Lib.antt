@@ -13,6 +13,7 @@ mod RetypeSteps
 mod SomeSlot
 mod Values
 mod Unsettling
+mod Waiters
 mod Watermarks
 mod EmptiedSets
 mod ClosedSlots

@@ -1,18 +1,19 @@
 -- What is left to settle, from one step of a removal to the next.
-use Rattle.std.proofs.Common.{ℕ, suc, ◌≡◌, ◌≢◌, ◌∙◌, ◌==◌, ◌+◌, ◌*◌, ◌-◌, ◌/◌, ◌^◌, ◌<◌, ◌≤◌, ◌&&◌, ◌||◌, inl, inr, Bool, true, false, not, nat_lt, if◌then◌else◌, Option, Some, None, is_some, option_map, max, min, refl, sym, ap, subst, arith}
+use Rattle.std.proofs.Common.{ℕ, suc, ◌≡◌, ◌≢◌, ◌∙◌, ◌==◌, ◌+◌, ◌*◌, ◌-◌, ◌/◌, ◌^◌, ◌<◌, ◌≤◌, ◌&&◌, ◌||◌, inl, inr, Bool, true, false, not, nat_lt, if◌then◌else◌, Option, Some, None, is_some, option_map, [], max, min, refl, sym, ap, subst, arith}
 use Rattle.std.specs.Option.{option_map_or}
 use Rattle.std.specs.List.{list_any}
 use Rattle.std.proofs.Math.Bool.{and-false, or-true}
 use Rattle.std.proofs.Math.Pow.{pow_mono}
 use Rattle.std.proofs.lemmas.Bool.{le-leb}
 use Rattle.std.proofs.lemmas.Bool.Decides.{eqb_tells, leb_tells}
-use Rattle.cnode_ops.specs.Unsettled.{Covers, Notes, ObjectsLie, nothing, with_slots_of}
+use Rattle.cnode_ops.specs.Unsettled.{Covers, Notes, ObjectsLie, nothing, with_slots_of, with_waiting}
+use Rattle.cnode_ops.proofs.Waiters.{waiters-after, waiters-first}
 use Rattle.cnode_ops.specs.declared.settling.Unsettled.{Unsettled}
 use Rattle.model.specs.Capabilities.CapabilityKinds.{names_object, object_of}
 use Rattle.model.specs.Capabilities.Slots.{IsOpen, Slots, capability_at}
 use Rattle.model.specs.Kernel.Removal.{SlotSet, emptied, ends, ends_filled, is_ending_thread, is_slot_of, slot_count, some_outside}
 use Rattle.model.specs.Kernel.Scheduling.{without_threads}
-use Rattle.model.specs.Kernel.Soundness.{HasSlot, IsSound, of_boot_area, of_object}
+use Rattle.model.specs.Kernel.Soundness.{HasSlot, IsSound, of_boot_area, of_object, waiting_at}
 use Rattle.model.specs.Kernel.State.{State, Object, ThreadObject, EndpointObject, NotificationObject, CNodeObject, FrameObject, PageTableObject, RootTableObject, boot_area_slots, slots_of, with_slots}
 use Rattle.model.specs.declared.capabilities.Cap.{Cap}
 use Rattle.model.specs.declared.slot_entries.Entry.{Entry}
@@ -35,6 +36,7 @@ notes-slots s t left now is = subst (λ (u : State). Notes s left u left) (sym i
     reach = covers.reach;
     boot = covers.boot;
     inside = covers.inside;
+    waiters = record { queued = covers.waiters.queued; awake = covers.waiters.awake };
   };
 })
 
@@ -134,19 +136,21 @@ module _ (s : State) (offset : ℕ) (slots_now : Slots) where
     | false ↦ λ _. refl
   ] refl
 
-  covers-none : (slots : Slots) (left : Unsettled) → slot_count (s.objects offset) ≡ 0 → Covers slots s left → Covers slots after left
-  covers-none slots left none covers = record {
+  covers-none : (slots : Slots) (left : Unsettled) (waits : Bool) → (waits ≡ false → waiting_at (s.objects offset) ≡ []) → slot_count (s.objects offset) ≡ 0 → Covers slots s left
+      → Covers slots after (with_waiting left waits)
+  covers-none slots left waits nobody_waits none covers = record {
     lie = lie-after covers.lie;
     strays = λ slot opens is. covers.strays slot opens (has-still covers.lie none slot is);
     reach = λ n less. omega (arith, covers.reach n less, at-most n);
     boot = covers.boot;
     inside = covers.inside;
+    waiters = waiters-after s offset slots_now left.waited waits nobody_waits covers.waiters;
   }
 
   -- and one with slots leaves these as strays
-  covers-more : (slots : Slots) (left : Unsettled) (first count : ℕ) → offset ≡ 16 * first → slots_from s first ≡ count → count ≢ 0 → Covers slots s left
-      → Covers slots after (record { first = min left.first first; end = max left.end (first + count) })
-  covers-more slots left first count place is some covers =
+  covers-more : (slots : Slots) (left : Unsettled) (waits : Bool) (first count : ℕ) → (waits ≡ false → waiting_at (s.objects offset) ≡ []) → offset ≡ 16 * first → slots_from s first ≡ count
+      → count ≢ 0 → Covers slots s left → Covers slots after (with_waiting (record left { first = min left.first first; end = max left.end (first + count) }) waits)
+  covers-more slots left waits first count nobody_waits place is some covers =
       let there : slots_from s first ≢ 0 = λ none. some (sym is ∙ none) in
       record {
         lie = lie-after covers.lie;
@@ -169,6 +173,7 @@ module _ (s : State) (offset : ℕ) (slots_now : Slots) where
         ];
         boot = omega (arith, covers.boot, covers.lie.boot first there);
         inside = omega (arith, covers.inside, covers.lie.inside first there, is);
+        waiters = waiters-after s offset slots_now left.waited waits nobody_waits covers.waiters;
       }
 
 -- where an object starts that has slots
@@ -187,33 +192,33 @@ noted-fits s offset count lie is low = elim (eqb_tells count 0) [
       omega (arith, fits, same, size)
 ]
 
-notes-after : (s : State) (offset count : ℕ) (slots_now : Slots) (left : Unsettled) → slot_count (s.objects offset) ≡ count
-    → Notes s left (with_slots (object_ended s offset) slots_now) (with_slots_of left (offset / 16) count)
-notes-after s offset count slots_now left is = record {
+notes-after : (s : State) (offset count : ℕ) (waits : Bool) (slots_now : Slots) (left : Unsettled) → slot_count (s.objects offset) ≡ count → (waits ≡ false → waiting_at (s.objects offset) ≡ [])
+    → Notes s left (with_slots (object_ended s offset) slots_now) (with_waiting (with_slots_of left (offset / 16) count) waits)
+notes-after s offset count waits slots_now left is nobody_waits = record {
   lie = lie-after s offset slots_now;
   covered = λ slots covers. elim (eqb_tells count 0) [
     | inl none ↦
         subst (λ (l : Unsettled). Covers slots (with_slots (object_ended s offset) slots_now) l)
-        (sym (ap (λ b. if b then left else record { first = min left.first (offset / 16); end = max left.end (offset / 16 + count) }) none.0))
-        (covers-none s offset slots_now slots left (is ∙ none.1) covers)
+        (sym (ap (λ b. with_waiting (if b then left else record left { first = min left.first (offset / 16); end = max left.end (offset / 16 + count) }) waits) none.0))
+        (covers-none s offset slots_now slots left waits nobody_waits (is ∙ none.1) covers)
     | inr some ↦
         let place = place-of s offset count covers.lie is some.1 in
         subst (λ (l : Unsettled). Covers slots (with_slots (object_ended s offset) slots_now) l)
-        (sym (ap (λ b. if b then left else record { first = min left.first (offset / 16); end = max left.end (offset / 16 + count) }) some.0))
-        (covers-more s offset slots_now slots left (offset / 16) count place (ap (λ (o : ℕ). slot_count (s.objects o)) (sym place) ∙ is) some.1 covers)
+        (sym (ap (λ b. with_waiting (if b then left else record left { first = min left.first (offset / 16); end = max left.end (offset / 16 + count) }) waits) some.0))
+        (covers-more s offset slots_now slots left waits (offset / 16) count nobody_waits place (ap (λ (o : ℕ). slot_count (s.objects o)) (sym place) ∙ is) some.1 covers)
   ];
 }
 
 -- what `end` leaves
-pub notes-ended : (s t : State) (removed : Cap) (offset count : ℕ) (left new : Unsettled) → object_of removed ≡ Some offset → count ≡ slot_count (s.objects offset)
-    → t ≡ ended s removed → new ≡ with_slots_of left (offset / 16) count → Notes s left t new
-notes-ended s t removed offset count left new object is ends noted =
+pub notes-ended : (s t : State) (removed : Cap) (offset count : ℕ) (waits : Bool) (left new : Unsettled) → object_of removed ≡ Some offset → count ≡ slot_count (s.objects offset)
+    → (waits ≡ false → waiting_at (s.objects offset) ≡ []) → t ≡ ended s removed → new ≡ with_waiting (with_slots_of left (offset / 16) count) waits → Notes s left t new
+notes-ended s t removed offset count waits left new object is nobody_waits ends noted =
     let whole : t ≡ with_slots (object_ended s offset) (slots_ended removed s.slots) =
     ends ∙ ap (λ (o : Option ℕ). option_map_or (λ other. with_slots (object_ended s other) (slots_ended removed s.slots)) o s) object
     in
     subst (λ (u : State). Notes s left u new) (sym whole)
     (subst (λ (l : Unsettled). Notes s left (with_slots (object_ended s offset) (slots_ended removed s.slots)) l) (sym noted)
-    (notes-after s offset count (slots_ended removed s.slots) left (sym is)))
+    (notes-after s offset count waits (slots_ended removed s.slots) left (sym is) nobody_waits))
 
 -- ---- at the start
 
@@ -271,6 +276,7 @@ module _ (s : State) (sound : IsSound s) where
         let last = open-near s sound (boot_area_slots s.boot_radix - 1) ((sound.slots.there (boot_area_slots s.boot_radix - 1)).1 (of_boot_area (omega arith))) in
         omega (arith, last, is);
     inside = omega arith;
+    waiters = waiters-first s sound;
   }
 
 -- ---- at the end
@@ -344,4 +350,5 @@ covers-now s slots now left opens covers = record {
   reach = covers.reach;
   boot = covers.boot;
   inside = covers.inside;
+  waiters = covers.waiters;
 }

@@ -114,8 +114,9 @@ fn end_unnamed<S: SlotStore, E: Ends>(
         return left;
     }
     let own = ends.slots_of(store, offset);
+    let waited = ends.is_waited_at(store, offset);
     ends.end(store, removed);
-    left.with_slots_of(offset / 16, own)
+    left.with_slots_of(offset / 16, own).with_waiting(waited)
 }
 
 /// Untyped memory in a slot is unused again, if nothing is derived from it any more.

@@ -1,7 +1,7 @@
 //! What is left to do once all slots of a removal are empty.
 
 ghost use Rattle.std.specs.Prelude.{◌≡◌, ◌+◌, ◌*◌, ◌^◌, ◌<◌, ◌≤◌, Some, length, true};
-ghost use Rattle.cnode_ops.specs.Unsettled.{Covers, nothing, with_slots_of};
+ghost use Rattle.cnode_ops.specs.Unsettled.{Covers, nothing, with_slots_of, with_waiting};
 ghost use Rattle.model.specs.Capabilities.Slots.{IsOpen, empty_entry};
 ghost use Rattle.removal_laws.specs.Finishing.{MaySettle, StrayClosed, settled, without_strays};
 
@@ -9,11 +9,13 @@ use crate::Ends;
 use model::Slot;
 use slots::SlotStore;
 
-/// What the objects that ended leave to settle: slots of theirs are open from `first` on and before `end`.
+/// What the objects that ended leave to settle: slots of theirs are open from `first` on and before `end`, and threads
+/// may wait at one.
 #[derive(Clone, Copy)]
 pub struct Unsettled {
     first: u32,
     end: u32,
+    waited: bool,
 }
 
 impl Unsettled {
@@ -24,6 +26,7 @@ impl Unsettled {
         Unsettled {
             first: count,
             end: 0,
+            waited: false,
         }
     }
 
@@ -38,6 +41,17 @@ impl Unsettled {
         Unsettled {
             first: self.first.min(first),
             end: self.end.max(first + count),
+            ..self
+        }
+    }
+
+    /// An object ended as well at which threads waited, if they did.
+    pub(crate) fn with_waiting(self, waited: bool) -> Self
+        ensures { result ≡ with_waiting self waited }
+    {
+        Unsettled {
+            waited: self.waited || waited,
+            ..self
         }
     }
 }
@@ -86,5 +100,7 @@ pub(crate) fn settle<S: SlotStore, E: Ends>(store: &mut S, ends: &mut E, left: U
     ensures agree { E.Agree ends.new (S.slots store.new) (S.memory store.new) }
 {
     close_strays(store, ends, left);
-    ends.wake(store);
+    if left.waited {
+        ends.wake(store);
+    }
 }

@@ -1,8 +1,9 @@
 -- No slot names the object.
-use Rattle.std.proofs.Common.{ℕ, ◌≡◌, ◌∙◌, rules, false, sym, subst}
+use Rattle.std.proofs.Common.{ℕ, ◌≡◌, ◌∙◌, rules, false, sym, ap, subst}
 use Rattle.model.specs.Capabilities.CapabilityKinds.{names_object}
 use Rattle.model.specs.Capabilities.Slots.{Slots, capability_at}
 use Rattle.removal_laws.specs.Steps.{ends}
+use Rattle.cnode_ops.specs.Unsettled.{with_waiting}
 use Rattle.cnode_ops.proofs.Unsettling.{noted-fits, notes-ended}
 use Rattle.cnode_ops.proofs.emptying.end_unnamed.Goals as goal
 
@@ -18,5 +19,5 @@ with_slots_of-requires g c = noted-fits _ c.in-Some.offset c.slots_of-own.result
 
 pub returns-clause-noted : goal.returns-clause-noted
 returns-clause-noted g c =
-    notes-ended _ _ c.args.removed c.in-Some.offset c.slots_of-own.result c.args.left _ (sym c.object_of.ensures ∙ c.in-Some.is)
-    c.slots_of-own.ensures c.end.ensures.state c.with_slots_of.ensures
+    notes-ended _ _ c.args.removed c.in-Some.offset c.slots_of-own.result c.is_waited_at-waited.result c.args.left _ (sym c.object_of.ensures ∙ c.in-Some.is)
+    c.slots_of-own.ensures c.is_waited_at-waited.ensures.0 c.end.ensures.state (c.with_waiting.ensures ∙ ap (λ l. with_waiting l c.is_waited_at-waited.result) c.with_slots_of.ensures)
