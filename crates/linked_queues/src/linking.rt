@@ -50,10 +50,10 @@ pub(crate) fn link_last<S: SlotStore>(
     ensures order { S.order store.new ≡ S.order store.old }
     ensures size { length (S.memory store.new) ≡ length (S.memory store.old) }
 {
-    put_link(store, links, thread, QUEUE, queue);
+    put_link(store, links, thread, QUEUE, word_of(Some(queue)));
     put_link(store, links, thread, NEXT, 0);
     put_link(store, links, thread, PREVIOUS, word_of(ends.last));
-    put_link_at(store, links, ends.last, NEXT, thread);
+    put_link_at(store, links, ends.last, NEXT, word_of(Some(thread)));
     Ends {
         first: Some(ends.first.unwrap_or(thread)),
         last: Some(thread),
