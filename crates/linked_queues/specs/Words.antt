@@ -79,3 +79,7 @@ taken_out base memory thread =
     let after = link_at base memory thread 1 in
     let before = link_at base memory thread 2 in
     with_link_at base (with_link_at base (with_link base memory thread 0 0) before 1 (word_of after)) after 2 (word_of before)
+
+-- a thread that stands in no queue and is not ready
+abbrev pub without_links : List ℕ → ℕ → List ℕ
+without_links memory thread = with_link 256 (with_link 244 memory thread 0 0) thread 0 0
