@@ -1,6 +1,8 @@
+mod Changing
 mod EndingQueues
 mod Frames
 mod LeavingQueues
+pub mod Laws
 mod LinkSteps
 mod Marks
 mod MemoryWrites

@@ -1,7 +1,7 @@
 -- What pushing and leaving make of those that are ready.
-use Rattle.std.proofs.Common.{ℕ, zero, suc, ◌≡◌, ◌∙◌, ◌+◌, ◌-◌, ◌^◌, ◌<◌, ◌≤◌, inl, inr, true, false, if◌then◌else◌, Option, Some, None, List, [], ◌∷◌, ◌++◌, length, slice_set, refl, sym, ap, subst, arith}
+use Rattle.std.proofs.Common.{ℕ, suc, ◌≡◌, ◌∙◌, ◌+◌, ◌^◌, ◌<◌, ◌≤◌, inl, inr, true, false, if◌then◌else◌, Option, Some, None, List, [], ◌∷◌, ◌++◌, length, slice_set, refl, sym, ap, subst, arith}
 use Rattle.std.proofs.lemmas.Bool.Decides.{eqb_tells}
-use Rattle.std.proofs.lemmas.Bool.{cases_lt, eq-eqb, ne_eqb}
+use Rattle.std.proofs.lemmas.Bool.{cases_lt}
 use Rattle.std.proofs.lemmas.List.{get_or-set_other, get_or-set_same, get_or_past}
 use Rattle.model.specs.Capabilities.Slots.{Slots}
 use Rattle.model.specs.Kernel.State.{put}
@@ -11,7 +11,7 @@ use Rattle.preorder.specs.Chains.{put_at}
 use Rattle.links.specs.Threaded.{AreLinked, Threaded, end_without, first_joined, left, linked, listed, pushed}
 use Rattle.links.proofs.Laws.{leaving, named_stand, pushing, put-here, put-off, unowned}
 use Rattle.linked_queues.specs.Layout.{AreLaidOut, Places}
-use Rattle.linked_queues.specs.Ready.{ReadyStands, SameBesideReady, ends_of, first_ready, last_ready, nobody, ready_in, ready_of}
+use Rattle.linked_queues.specs.Ready.{ReadyStands, SameBesideReady, ends_of, nobody, ready_in, ready_of}
 use Rattle.linked_queues.specs.Words.{link_at, linked_last, taken_out}
 use Rattle.linked_queues.specs.declared.words.Ends.{Ends}
 use Rattle.linked_queues.proofs.Frames.{off-last, off-out, size-last, size-out}
@@ -23,67 +23,52 @@ use Rattle.linked_queues.proofs.Standings.{in-place, linked-thread, threaded}
 -- ---- the ends of a priority
 
 pub first-set : (ends : List Ends) (priority : ℕ) (e : Ends) → priority < length ends
-    → (queue : ℕ) → first_ready (slice_set ends priority e) queue ≡ put (first_ready ends) (suc priority) e.first queue
-first-set ends priority e low zero = sym (put-off (first_ready ends) (suc priority) e.first zero (λ same. absurd (omega (arith, same))))
-first-set ends priority e low (suc other) = elim (eqb_tells other priority) [
+    → (other : ℕ) → (ends_of (slice_set ends priority e) other).first ≡ put (λ n. (ends_of ends n).first) priority e.first other
+first-set ends priority e low other = elim (eqb_tells other priority) [
   | inl here ↦
       ap (λ n. (ends_of (slice_set ends priority e) n).first) here.1
       ∙ ap (λ (x : Ends). x.first) (get_or-set_same ends priority e nobody low)
-      ∙ sym (ap (λ b. if b then e.first else first_ready ends (suc other)) (eq-eqb (suc other) (suc priority) (ap suc here.1)))
+      ∙ sym (ap (λ b. if b then e.first else (ends_of ends other).first) here.0)
   | inr off ↦
       ap (λ (x : Ends). x.first) (get_or-set_other ends priority other e nobody off.1)
-      ∙ sym (put-off (first_ready ends) (suc priority) e.first (suc other) (λ same. off.1 (omega (arith, same))))
+      ∙ sym (put-off (λ n. (ends_of ends n).first) priority e.first other off.1)
 ]
 
 pub last-set : (ends : List Ends) (priority : ℕ) (e : Ends) → priority < length ends
-    → (queue : ℕ) → last_ready (slice_set ends priority e) queue ≡ put (last_ready ends) (suc priority) e.last queue
-last-set ends priority e low zero = sym (put-off (last_ready ends) (suc priority) e.last zero (λ same. absurd (omega (arith, same))))
-last-set ends priority e low (suc other) = elim (eqb_tells other priority) [
+    → (other : ℕ) → (ends_of (slice_set ends priority e) other).last ≡ put (λ n. (ends_of ends n).last) priority e.last other
+last-set ends priority e low other = elim (eqb_tells other priority) [
   | inl here ↦
       ap (λ n. (ends_of (slice_set ends priority e) n).last) here.1
       ∙ ap (λ (x : Ends). x.last) (get_or-set_same ends priority e nobody low)
-      ∙ sym (ap (λ b. if b then e.last else last_ready ends (suc other)) (eq-eqb (suc other) (suc priority) (ap suc here.1)))
+      ∙ sym (ap (λ b. if b then e.last else (ends_of ends other).last) here.0)
   | inr off ↦
       ap (λ (x : Ends). x.last) (get_or-set_other ends priority other e nobody off.1)
-      ∙ sym (put-off (last_ready ends) (suc priority) e.last (suc other) (λ same. off.1 (omega (arith, same))))
-]
-
-put-suc : (f : ℕ → List ℕ) (place : ℕ) (value : List ℕ) (other : ℕ) → put f (suc place) value (suc other) ≡ put (λ n. f (suc n)) place value other
-put-suc f place value other = elim (eqb_tells other place) [
-  | inl here ↦
-      ap (λ b. if b then value else f (suc other)) (eq-eqb (suc other) (suc place) (ap suc here.1))
-      ∙ sym (ap (λ b. if b then value else f (suc other)) here.0)
-  | inr off ↦
-      ap (λ b. if b then value else f (suc other)) (ne_eqb (suc other) (suc place) (λ same. off.1 (omega (arith, same))))
-      ∙ sym (ap (λ b. if b then value else f (suc other)) off.0)
+      ∙ sym (put-off (λ n. (ends_of ends n).last) priority e.last other off.1)
 ]
 
 -- ---- who has which number
 
-pub ready-is : (places : Places) (ends : List Ends) (m : List ℕ) (priority : ℕ) → ready_of places ends m priority ≡ listed (ready_in places ends m) (length m) (suc priority)
+pub ready-is : (places : Places) (ends : List Ends) (m : List ℕ) (priority : ℕ) → ready_of places ends m priority ≡ listed (ready_in places ends m) (length m) priority
 unfolding ready_of
 ready-is places ends m priority = refl
 
--- a thread that is ready has one more than a priority as its number
-pub numbered : (places : Places) (ends : List Ends) (m : List ℕ) (thread number : ℕ) → ReadyStands places ends m → (ready_in places ends m).owner thread ≡ Some number
-    → (number ≡ suc (number - 1)) × (number - 1 < length ends)
-numbered places ends m thread number stands owned =
-    let w = ready_in places ends m in
-    let some = stands.linked.queues.stands number thread owned in
-    let empty : (n : ℕ) → w.first n ≡ None → times_in (listed w (length m) n) thread ≡ 0 = λ n none. ap (λ o. times_in (linked w.next (suc (length m)) o) thread) none in
-    elim number as (λ n. 0 < times_in (listed w (length m) n) thread → (n ≡ suc (n - 1)) × (n - 1 < length ends)) [
-      | zero ↦ λ there. absurd (omega (arith, there, empty zero refl))
-      | suc priority ↦ λ there. elim (cases_lt priority (length ends)) [
-        | inl inside ↦ (omega arith, omega (arith, inside))
-        | inr past ↦ absurd (omega (arith, there, empty (suc priority) (ap (λ (e : Ends). e.first) (get_or_past ends priority nobody past))))
-      ]
-    ] some
+-- a thread is ready at a priority that the table has
+pub numbered : (places : Places) (ends : List Ends) (m : List ℕ) (thread priority : ℕ) → ReadyStands places ends m → (ready_in places ends m).owner thread ≡ Some priority
+    → priority < length ends
+numbered places ends m thread priority stands owned = elim (cases_lt priority (length ends)) [
+  | inl inside ↦ inside
+  | inr past ↦
+      let w = ready_in places ends m in
+      let empty : times_in (listed w (length m) priority) thread ≡ 0 =
+      ap (λ (e : Ends). times_in (linked w.next (suc (length m)) e.first) thread) (get_or_past ends priority nobody past) in
+      absurd (omega (arith, stands.linked.queues.stands priority thread owned, empty))
+]
 
 pub idle-ready : (places : Places) (ends : List Ends) (m : List ℕ) (thread : ℕ) → ReadyStands places ends m → (ready_in places ends m).owner thread ≡ None
     → (other : ℕ) → ready_of places ends m other ≡ without thread (ready_of places ends m other)
 unfolding ready_of
 idle-ready places ends m thread stands none other =
-    sym (without-absent thread (listed (ready_in places ends m) (length m) (suc other)) (unowned.out (ready_in places ends m) (length m) thread stands.linked none (suc other)))
+    sym (without-absent thread (listed (ready_in places ends m) (length m) other) (unowned.out (ready_in places ends m) (length m) thread stands.linked none other))
 
 -- no thread is there
 pub none-ready : (places : Places) (ends : List Ends) (m : List ℕ) → ((priority : ℕ) → ends_of ends priority ≡ nobody) → (priority : ℕ) → ready_of places ends m priority ≡ []
@@ -95,8 +80,7 @@ pub nobody-ready : (places : Places) (ends : List Ends) (m : List ℕ) → ((off
 nobody-ready places ends m free none = record {
   linked = nobody-linked (ready_in places ends m) (length m)
       (λ thread. ap (λ b. if b then link_at 256 m thread 0 else None) (free thread))
-      (λ queue. elim queue as (λ q. first_ready ends q ≡ None) [ zero ↦ refl | suc priority ↦ ap (λ (e : Ends). e.first) (none priority) ])
-      (λ queue. elim queue as (λ q. last_ready ends q ≡ None) [ zero ↦ refl | suc priority ↦ ap (λ (e : Ends). e.last) (none priority) ]);
+      (λ priority. ap (λ (e : Ends). e.first) (none priority)) (λ priority. ap (λ (e : Ends). e.last) (none priority));
 }
 
 -- ---- what changes
@@ -108,10 +92,10 @@ stands-as places ends old new w is size known = record {
 }
 
 ready-as : (places : Places) (ends : List Ends) (old new : List ℕ) (w : Threaded) → ready_in places ends new ≡ w → length new ≡ length old
-    → (other : ℕ) → ready_of places ends new other ≡ listed w (length old) (suc other)
+    → (other : ℕ) → ready_of places ends new other ≡ listed w (length old) other
 unfolding ready_of
 ready-as places ends old new w is size other =
-    ap (λ n. listed (ready_in places ends new) n (suc other)) size ∙ ap (λ (v : Threaded). listed v (length old) (suc other)) is
+    ap (λ n. listed (ready_in places ends new) n other) size ∙ ap (λ (v : Threaded). listed v (length old) other) is
 
 -- what pushing and leaving write
 abbrev pub joined_ends : List Ends → ℕ → ℕ → List Ends
@@ -126,14 +110,12 @@ joined-ends inside ends now number priority thread behind same is linked-so set-
     ∙ ap (λ n. joined_ends ends n thread) is
 
 abbrev pub joined_memory : List Ends → List ℕ → ℕ → ℕ → List ℕ
-joined_memory ends m priority thread = linked_last 256 m (ends_of ends priority).last (suc priority) thread
+joined_memory ends m priority thread = linked_last 256 m (ends_of ends priority).last priority thread
 
 pub joined-memory : (inside ends : List Ends) (m now : List ℕ) (number priority thread : ℕ) → inside ≡ ends → number ≡ priority
-    → now ≡ linked_last 256 m (ends_of inside number).last (number + 1) thread → now ≡ joined_memory ends m priority thread
+    → now ≡ linked_last 256 m (ends_of inside number).last number thread → now ≡ joined_memory ends m priority thread
 joined-memory inside ends m now number priority thread same is linked-so =
-    let one : number + 1 ≡ suc number = omega arith in
-    linked-so ∙ ap (λ (l : List Ends). linked_last 256 m (ends_of l number).last (number + 1) thread) same
-    ∙ ap (λ q. linked_last 256 m (ends_of ends number).last q thread) one ∙ ap (λ n. joined_memory ends m n thread) is
+    linked-so ∙ ap (λ (l : List Ends). linked_last 256 m (ends_of l number).last number thread) same ∙ ap (λ n. joined_memory ends m n thread) is
 
 abbrev pub fewer_ends : List Ends → List ℕ → ℕ → ℕ → List Ends
 fewer_ends ends m priority thread =
@@ -168,8 +150,8 @@ module _ (places : Places) (slots : Slots) (ends : List Ends) (m : List ℕ) (la
   near : thread + 512 ≤ length m
   near = (laid.threads thread there).within
 
-  ready-thread : (o : Option ℕ) → ((x : ℕ) → o ≡ Some x → w.owner x ≡ Some (suc priority)) → AreThreads places.threads o
-  ready-thread o owned x is = linked-thread 256 places.threads m 0 x (suc priority) (owned x is)
+  ready-thread : (o : Option ℕ) → ((x : ℕ) → o ≡ Some x → w.owner x ≡ Some priority) → AreThreads places.threads o
+  ready-thread o owned x is = linked-thread 256 places.threads m 0 x priority (owned x is)
 
   inside : (o : Option ℕ) → AreThreads places.threads o → (x : ℕ) → o ≡ Some x → x + 512 ≤ length m
   inside o are x is = (laid.threads x (are x is)).within
@@ -185,59 +167,55 @@ module _ (places : Places) (slots : Slots) (ends : List Ends) (m : List ℕ) (la
   abbrev longer : List ℕ
   longer = joined_memory ends m priority thread
 
-  last-owned : (x : ℕ) → before.last ≡ Some x → w.owner x ≡ Some (suc priority)
-  last-owned x same = named_stand.last w (length m) (suc priority) x stands.linked same
+  last-owned : (x : ℕ) → before.last ≡ Some x → w.owner x ≡ Some priority
+  last-owned x same = named_stand.last w (length m) priority x stands.linked same
 
   pub last-ready : AreThreads places.threads before.last
   last-ready = ready-thread before.last last-owned
 
   size-longer : length longer ≡ length m
-  size-longer = size-last 256 m before.last (suc priority) thread near (inside before.last last-ready) (omega arith)
+  size-longer = size-last 256 m before.last priority thread near (inside before.last last-ready) (omega arith)
 
-  joined-is : priority < 2 ^ 31 → ready_in places joined longer ≡ pushed w (suc priority) thread
+  joined-is : priority < 2 ^ 31 → ready_in places joined longer ≡ pushed w priority thread
   joined-is fits =
-      let links = links-joined 256 places.threads m spaces thread there (omega arith) before.last (suc priority) last-ready (λ same. absurd (omega (arith, same))) (omega (arith, fits)) in
+      let links = links-joined 256 places.threads m spaces thread there (omega arith) before.last priority last-ready (omega (arith, fits)) in
       λ i. threaded (links i)
       (λ x. first-set ends priority (record { first = first_joined before.first thread; last = Some thread }) low x i)
       (λ x. last-set ends priority (record { first = first_joined before.first thread; last = Some thread }) low x i)
 
   unready : ((other : ℕ) → times_in (ready_of places ends m other) thread ≡ 0) → w.owner thread ≡ None
-  unready apart = unowned.none w (length m) thread stands.linked (λ queue. out queue) where
-    out : (queue : ℕ) → times_in (listed w (length m) queue) thread ≡ 0
-    out zero = refl
-    out (suc other) = ap (λ l. times_in l thread) (sym (ready-is places ends m other)) ∙ apart other
+  unready apart = unowned.none w (length m) thread stands.linked (λ other. ap (λ l. times_in l thread) (sym (ready-is places ends m other)) ∙ apart other)
 
   module _ (fits : priority < 2 ^ 31) (apart : (other : ℕ) → times_in (ready_of places ends m other) thread ≡ 0) where
     pub push-stands : ReadyStands places joined longer
-    push-stands = stands-as places joined m longer (pushed w (suc priority) thread) (joined-is fits) size-longer
-        (pushing.linked w (length m) (suc priority) thread stands.linked (unready apart) (omega (arith, near)))
+    push-stands = stands-as places joined m longer (pushed w priority thread) (joined-is fits) size-longer
+        (pushing.linked w (length m) priority thread stands.linked (unready apart) (omega (arith, near)))
 
     pub push-ready : (other : ℕ) → ready_of places joined longer other ≡ put (ready_of places ends m) priority (ready_of places ends m priority ++ thread ∷ []) other
     unfolding ready_of
-    push-ready other = ready-as places joined m longer (pushed w (suc priority) thread) (joined-is fits) size-longer other
-        ∙ pushing.queues w (length m) (suc priority) thread stands.linked (unready apart) (omega (arith, near)) (suc other)
-        ∙ put-suc (listed w (length m)) priority (listed w (length m) (suc priority) ++ thread ∷ []) other
+    push-ready other = ready-as places joined m longer (pushed w priority thread) (joined-is fits) size-longer other
+        ∙ pushing.queues w (length m) priority thread stands.linked (unready apart) (omega (arith, near)) other
 
-    in-new : (x : ℕ) → (pushed w (suc priority) thread).owner x ≡ Some (suc priority) → 0 < times_in (ready_of places joined longer priority) x
+    in-new : (x : ℕ) → (pushed w priority thread).owner x ≡ Some priority → 0 < times_in (ready_of places joined longer priority) x
     in-new x owned =
-        let there' : 0 < times_in (listed (ready_in places joined longer) (length longer) (suc priority)) x =
-        push-stands.linked.queues.stands (suc priority) x (ap (λ (v : Threaded). v.owner x) (joined-is fits) ∙ owned) in
+        let there' : 0 < times_in (listed (ready_in places joined longer) (length longer) priority) x =
+        push-stands.linked.queues.stands priority x (ap (λ (v : Threaded). v.owner x) (joined-is fits) ∙ owned) in
         subst (λ (l : List ℕ). 0 < times_in l x) (sym (ready-is places joined longer priority)) there'
 
     own-in : 0 < times_in (ready_of places joined longer priority) thread
-    own-in = in-new thread (put-here w.owner thread (Some (suc priority)))
+    own-in = in-new thread (put-here w.owner thread (Some priority))
 
     last-in : (x : ℕ) → before.last ≡ Some x → 0 < times_in (ready_of places joined longer priority) x
     last-in x same = in-new x (elim (eqb_tells x thread) [
-      | inl here ↦ ap (λ b. if b then Some (suc priority) else w.owner x) here.0
-      | inr off ↦ put-off w.owner thread (Some (suc priority)) x off.1 ∙ last-owned x same
+      | inl here ↦ ap (λ b. if b then Some priority else w.owner x) here.0
+      | inr off ↦ put-off w.owner thread (Some priority) x off.1 ∙ last-owned x same
     ])
 
     pub push-bytes : SameBesideReady (ready_of places joined longer) m longer
     push-bytes = record {
       size = size-longer;
       bytes = λ place off.
-          off-last 256 m before.last (suc priority) thread place near (inside before.last last-ready) (omega arith) (off priority thread own-in)
+          off-last 256 m before.last priority thread place near (inside before.last last-ready) (omega arith) (off priority thread own-in)
           (λ t same. off priority t (last-in t same));
     }
 
@@ -255,18 +233,18 @@ module _ (places : Places) (slots : Slots) (ends : List Ends) (m : List ℕ) (la
   abbrev fewer : List Ends
   fewer = fewer_ends ends m priority thread
 
-  module _ (owned : w.owner thread ≡ Some (suc priority)) where
+  module _ (owned : w.owner thread ≡ Some priority) where
     next-is : w.next thread ≡ next
     next-is = link-there 256 places.threads m spaces thread there (omega arith) 1
 
     previous-is : w.previous thread ≡ previous
     previous-is = link-there 256 places.threads m spaces thread there (omega arith) 2
 
-    next-owned : (x : ℕ) → next ≡ Some x → w.owner x ≡ Some (suc priority)
-    next-owned x same = named_stand.next w (length m) (suc priority) thread x stands.linked owned (next-is ∙ same)
+    next-owned : (x : ℕ) → next ≡ Some x → w.owner x ≡ Some priority
+    next-owned x same = named_stand.next w (length m) priority thread x stands.linked owned (next-is ∙ same)
 
-    previous-owned : (x : ℕ) → previous ≡ Some x → w.owner x ≡ Some (suc priority)
-    previous-owned x same = named_stand.previous w (length m) (suc priority) thread x stands.linked owned (previous-is ∙ same)
+    previous-owned : (x : ℕ) → previous ≡ Some x → w.owner x ≡ Some priority
+    previous-owned x same = named_stand.previous w (length m) priority thread x stands.linked owned (previous-is ∙ same)
 
     pub next-thread : AreThreads places.threads next
     next-thread = ready-thread next next-owned
@@ -277,7 +255,7 @@ module _ (places : Places) (slots : Slots) (ends : List Ends) (m : List ℕ) (la
     size-shorter : length shorter ≡ length m
     size-shorter = size-out 256 m thread near (inside next next-thread) (inside previous previous-thread) (omega arith)
 
-    fewer-is : ready_in places fewer shorter ≡ left w (suc priority) thread
+    fewer-is : ready_in places fewer shorter ≡ left w priority thread
     fewer-is =
         let links = links-out 256 places.threads m spaces thread there (omega arith) next-thread previous-thread in
         let next-is' = sym next-is in
@@ -289,20 +267,20 @@ module _ (places : Places) (slots : Slots) (ends : List Ends) (m : List ℕ) (la
           owner = put w.owner thread None;
           next = put_at w.next (w.previous thread) (w.next thread);
           previous = put_at w.previous (w.next thread) (w.previous thread);
-          first = put w.first (suc priority) (end_without (previous-is' i) (next-is' i) before.first);
-          last = put w.last (suc priority) (end_without (next-is' i) (previous-is' i) before.last);
+          first = put w.first priority (end_without (previous-is' i) (next-is' i) before.first);
+          last = put w.last priority (end_without (next-is' i) (previous-is' i) before.last);
         })
 
     pub leave-stands : ReadyStands places fewer shorter
-    leave-stands = stands-as places fewer m shorter (left w (suc priority) thread) fewer-is size-shorter (leaving.linked w (length m) (suc priority) thread stands.linked owned)
+    leave-stands = stands-as places fewer m shorter (left w priority thread) fewer-is size-shorter (leaving.linked w (length m) priority thread stands.linked owned)
 
     pub leave-ready : (other : ℕ) → ready_of places fewer shorter other ≡ without thread (ready_of places ends m other)
     unfolding ready_of
-    leave-ready other = ready-as places fewer m shorter (left w (suc priority) thread) fewer-is size-shorter other
-        ∙ leaving.queues w (length m) (suc priority) thread stands.linked owned (suc other)
+    leave-ready other = ready-as places fewer m shorter (left w priority thread) fewer-is size-shorter other
+        ∙ leaving.queues w (length m) priority thread stands.linked owned other
 
-    in-old : (x : ℕ) → w.owner x ≡ Some (suc priority) → 0 < times_in (ready_of places ends m priority) x
-    in-old x known = subst (λ (l : List ℕ). 0 < times_in l x) (sym (ready-is places ends m priority)) (stands.linked.queues.stands (suc priority) x known)
+    in-old : (x : ℕ) → w.owner x ≡ Some priority → 0 < times_in (ready_of places ends m priority) x
+    in-old x known = subst (λ (l : List ℕ). 0 < times_in l x) (sym (ready-is places ends m priority)) (stands.linked.queues.stands priority x known)
 
     pub leave-bytes : SameBesideReady (ready_of places ends m) m shorter
     leave-bytes = record {

@@ -1,3 +1,4 @@
+pub mod Laws
 pub mod Layout
 pub mod Queues
 pub mod Ready

@@ -1,9 +1,8 @@
 -- Those that are ready to run, as callers see them.
-use Rattle.std.specs.Prelude.{ℕ, zero, suc, ◌≡◌, ◌==◌, ◌/◌, ◌%◌, ◌<◌, Bool, true, false, Option, Some, None, is_some, List, length, slice_index, slice_index_or}
+use Rattle.std.specs.Prelude.{ℕ, ◌≡◌, ◌==◌, ◌/◌, ◌%◌, ◌<◌, Bool, true, false, Option, Some, None, is_some, List, length, slice_index, slice_index_or}
 use Rattle.std.specs.Int.{bit_at}
 use Rattle.model.specs.Shared.Lists.{times_in}
 use Rattle.links.specs.Threaded.{AreLinked, Threaded, listed}
-use Rattle.preorder.specs.Chains.{Links}
 use Rattle.linked_queues.specs.Layout.{Places}
 use Rattle.linked_queues.specs.Queues.{IsLinkByte}
 use Rattle.linked_queues.specs.Words.{link_in}
@@ -16,28 +15,19 @@ nobody = record { first = None; last = None }
 abbrev pub ends_of : List Ends → ℕ → Ends
 ends_of ends priority = slice_index_or ends priority nobody
 
--- in links, the queue of a priority has one more than it as its number
-abbrev pub first_ready : List Ends → Links
-first_ready ends zero = None
-first_ready ends (suc priority) = (ends_of ends priority).first
-
-abbrev pub last_ready : List Ends → Links
-last_ready ends zero = None
-last_ready ends (suc priority) = (ends_of ends priority).last
-
 -- what the bytes, and the ends beside them, say of those that are ready
 abbrev pub ready_in : Places → List Ends → List ℕ → Threaded
 ready_in places ends memory = record {
   owner = link_in 256 places.threads memory 0;
   next = link_in 256 places.threads memory 1;
   previous = link_in 256 places.threads memory 2;
-  first = first_ready ends;
-  last = last_ready ends;
+  first = λ priority. (ends_of ends priority).first;
+  last = λ priority. (ends_of ends priority).last;
 }
 
 -- the threads that are ready at a priority
 unfoldable pub ready_of : Places → List Ends → List ℕ → ℕ → List ℕ
-ready_of places ends memory priority = listed (ready_in places ends memory) (length memory) (suc priority)
+ready_of places ends memory priority = listed (ready_in places ends memory) (length memory) priority
 
 -- what each call that changes the list relies on and leaves true: the links are well formed
 pub record ReadyStands (places : Places) (ends : List Ends) (memory : List ℕ) : Type 0 where

@@ -1,13 +1,13 @@
 //! Threads linked in both directions, with the first and the last one of their queue at hand.
 
-ghost use Rattle.std.specs.Prelude.{ℕ, ◌≡◌, Some, length};
+ghost use Rattle.std.specs.Prelude.{ℕ, ◌≡◌, None, Some, length};
 ghost use Rattle.std.specs.Option.{ForSome};
 ghost use Rattle.links.specs.Threaded.{end_without, first_joined};
-ghost use Rattle.linked_queues.specs.Layout.{AreLaidOut, IsThreadAt};
-ghost use Rattle.linked_queues.specs.Words.{base_of, link_at, link_in, linked_last, taken_out};
+ghost use Rattle.linked_queues.specs.Layout.{AreLaidOut, IsHeadAt, IsThreadAt};
+ghost use Rattle.linked_queues.specs.Words.{base_of, link_at, link_in, linked_last, taken_out, with_ends, without_links};
 
 use crate::layout::Layout;
-use crate::words::{Ends, LinkWords, link, put_link, put_link_at, word_of};
+use crate::words::{Ends, LinkWords, link, put_ends, put_link, put_link_at, word_of};
 use slots::SlotStore;
 
 /// The words of a thread's links, by their numbers.
@@ -50,10 +50,10 @@ pub(crate) fn link_last<S: SlotStore>(
     ensures order { S.order store.new ≡ S.order store.old }
     ensures size { length (S.memory store.new) ≡ length (S.memory store.old) }
 {
-    put_link(store, links, thread, QUEUE, queue);
+    put_link(store, links, thread, QUEUE, word_of(Some(queue)));
     put_link(store, links, thread, NEXT, 0);
     put_link(store, links, thread, PREVIOUS, word_of(ends.last));
-    put_link_at(store, links, ends.last, NEXT, thread);
+    put_link_at(store, links, ends.last, NEXT, word_of(Some(thread)));
     Ends {
         first: Some(ends.first.unwrap_or(thread)),
         last: Some(thread),
@@ -93,4 +93,29 @@ fn end_without(towards: Option<u32>, away: Option<u32>, end: Option<u32>) -> Opt
         None => away,
         Some(_) => end,
     }
+}
+
+/// A thread begins that stands in no queue and is not ready.
+pub fn begin_thread<S: SlotStore>(store: &mut S, thread: u32)
+    requires { IsThreadAt (S.slots store.old) (length (S.memory store.old)) thread }
+    ensures bytes { S.memory store.new ≡ without_links (S.memory store.old) thread }
+    ensures slots { S.slots store.new ≡ S.slots store.old }
+    ensures order { S.order store.new ≡ S.order store.old }
+{
+    put_link(store, LinkWords::Waiting, thread, QUEUE, 0);
+    put_link(store, LinkWords::Ready, thread, QUEUE, 0);
+}
+
+/// An object begins at which nobody waits.
+pub fn begin_head<S: SlotStore>(store: &mut S, head: u32)
+    requires { IsHeadAt (S.slots store.old) (length (S.memory store.old)) head }
+    ensures bytes { S.memory store.new ≡ with_ends (S.memory store.old) head (record { first = None; last = None }) }
+    ensures slots { S.slots store.new ≡ S.slots store.old }
+    ensures order { S.order store.new ≡ S.order store.old }
+{
+    let nobody = Ends {
+        first: None,
+        last: None,
+    };
+    put_ends(store, head, nobody);
 }

@@ -1,5 +1,5 @@
-//! Those that are ready to run. Each thread keeps one more than the priority at which it is ready, the next and the
-//! previous thread at 256, 260 and 264 of its own bytes.
+//! Those that are ready to run. Each thread keeps the priority at which it is ready, the next and the previous thread
+//! at 256, 260 and 264 of its own bytes.
 
 ghost use Rattle.std.specs.Prelude.{ℕ, ◌≡◌, ◌≢◌, ◌==◌, ◌<◌, ◌*◌, ◌+◌, [], ◌∷◌, ◌++◌, List, Some, true, false, is_some, length, replicate, slice_set};
 ghost use Rattle.std.specs.Int.{bit_at};
@@ -83,7 +83,7 @@ impl ReadyList {
     {
         let priority = u32::from(priority);
         let before = self.ends[priority as usize];
-        let behind = link_last(store, LinkWords::Ready, before, priority + 1, thread);
+        let behind = link_last(store, LinkWords::Ready, before, priority, thread);
         self.put(priority, behind);
     }
 
@@ -98,10 +98,9 @@ impl ReadyList {
         ensures bytes { SameBesideReady (ready_of (L.places layout.now) self.old (S.memory store.old)) (S.memory store.old) (S.memory store.new) }
         ensures order { S.order store.new ≡ S.order store.old }
     {
-        let Some(number) = queue_of_thread(layout, store, LinkWords::Ready, thread) else {
+        let Some(priority) = queue_of_thread(layout, store, LinkWords::Ready, thread) else {
             return;
         };
-        let priority = number - 1;
         let before = self.ends[priority as usize];
         let behind = unlink(store, LinkWords::Ready, before, thread);
         self.put(priority, behind);
