@@ -17,6 +17,7 @@ mod Waiters
 mod Watermarks
 mod EmptiedSets
 mod ClosedSlots
+mod CountedSlots
 mod RemovedLists
 mod RemovedSets
 pub mod Laws

@@ -36,9 +36,6 @@ next-none n test none next slot less = elim (eqb_tells slot n) [
   | inr other ↦ none slot (omega (arith, less, other.1))
 ]
 
-pub from-zero : (n : ℕ) → 0 + n ≡ n
-from-zero n = omega arith
-
 -- of all slots of a store, one was found
 pub store-some : (count bytes slot : ℕ) (test : ℕ → Bool) → 16 * count ≡ bytes → slot < count → test slot ≡ true
     → true ≡ some_slot 0 (bytes / 16) test

@@ -8,3 +8,4 @@ pub mod Results
 pub mod RetypeChecks
 pub mod Sets
 pub mod Unsettled
+pub mod Counted
