@@ -35,13 +35,17 @@ fn is_handler_of(capability: Cap, line: u32) -> bool
 fn is_handled<S: SlotStore>(store: &S, line: u32) -> bool
     ensures { result ≡ is_handled (S.slots store.now) (length (S.memory store.now) / 16) line }
 {
-    let count = store.count();
-    'slots: for number in 0..count {
-        if is_handler_of(store.capability(Slot::new(number)), line) {
+    let mut at = None;
+    'slots: loop {
+        let Some(slot) = store.next_full(at) else {
+            return false;
+        };
+        prove!(slot.number() < store.count());
+        if is_handler_of(store.capability(slot), line) {
             return true;
         }
+        at = Some(slot);
     }
-    false
 }
 
 /// The empty slot of this name, for a handler of a line below the slot of interrupt control. Errors are
