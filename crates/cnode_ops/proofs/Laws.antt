@@ -1,3 +1,4 @@
 -- What the crates above use of these proofs.
+pub use Rattle.cnode_ops.proofs.FullSlots.{AreBehind, before-first, behind-first, behind-next, fewer-behind, found-member, last-found, none-passes, passes-full}
 pub use Rattle.cnode_ops.proofs.OpenNodes.{boot-open, sound-nodes}
-pub use Rattle.cnode_ops.proofs.SomeSlot.{store-none, store-some}
+pub use Rattle.cnode_ops.proofs.SomeSlot.{some-none, store-some}

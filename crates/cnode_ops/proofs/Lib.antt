@@ -12,9 +12,12 @@ mod RefusedLaw
 mod RetypeSteps
 mod SomeSlot
 mod Values
+mod Unsettling
+mod Waiters
 mod Watermarks
 mod EmptiedSets
 mod ClosedSlots
+mod CountedSlots
 mod RemovedLists
 mod RemovedSets
 pub mod Laws

@@ -1,16 +1,14 @@
 -- The full slots of a set, listed.
-use Rattle.std.proofs.Common.{ℕ, ◌≡◌, ◌∙◌, ◌==◌, ◌+◌, ◌&&◌, inl, inr, Bool, true, false, if◌then◌else◌, Option, Some, None, List, [], ◌∷◌, refl, sym, ap, arith}
+use Rattle.std.proofs.Common.{ℕ, ◌≡◌, ◌∙◌, ◌&&◌, true, false, if◌then◌else◌, List, refl, sym, ap}
 use Rattle.std.proofs.Math.Bool.{and-false}
-use Rattle.std.proofs.lemmas.Bool.{and_parts, eq-eqb}
-use Rattle.std.proofs.lemmas.Bool.Decides.{eqb_tells}
-use Rattle.model.specs.Capabilities.Orders.{IsOrderOf, first_of, next_in}
+use Rattle.std.proofs.lemmas.Bool.{and_parts}
+use Rattle.model.specs.Capabilities.Orders.{IsOrderOf}
 use Rattle.model.specs.Capabilities.Slots.{IsDerivation, IsFull, Slots, is_descendant, is_full}
-use Rattle.model.specs.Shared.Lists.{times_in}
 use Rattle.model.proofs.Ancestors.{descendant-full, descendants-once}
 use Rattle.cnode_ops.specs.Listed.{Lists}
 use Rattle.cnode_ops.specs.Refusals.{goes}
 use Rattle.cnode_ops.specs.Sets.{listed_in}
-use Rattle.cnode_ops.specs.declared.sets.Removed.TheVariants.{Below, One}
+use Rattle.cnode_ops.specs.declared.sets.Removed.TheVariants.{Below}
 
 -- all that is derived from a slot
 pub below-listed : (slots : Slots) (order : List ℕ) (root : ℕ) → IsDerivation slots → IsOrderOf order slots → Lists (listed_in order slots (Below root)) (goes slots (Below root))

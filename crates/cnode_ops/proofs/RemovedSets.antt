@@ -1,14 +1,17 @@
 -- What a removal's loops leave, of a state and slots that are kept apart.
-use Rattle.std.proofs.Common.{ℕ, ◌≡◌, ◌∙◌, ◌^◌, ◌<◌, List, Bool, false, true, slice_index_or, Ok, length, sym, ap, subst, arith}
+use Rattle.std.proofs.Common.{ℕ, ◌≡◌, ◌∙◌, ◌*◌, ◌^◌, ◌<◌, List, Bool, false, true, is_some, Some, None, option_map, slice_index_or, Ok, length, refl, sym, ap, subst, arith}
+use Rattle.cnode_ops.proofs.Unsettling.{covers-first, covers-now}
+use Rattle.cnode_ops.specs.Unsettled.{Covers, Notes, nothing}
+use Rattle.cnode_ops.specs.declared.settling.Unsettled.{Unsettled}
 use Rattle.model.specs.Capabilities.CapabilityKinds.{is_handler_of}
 use Rattle.model.specs.Capabilities.Slots.{IsDerivation, IsOpen, Slots, is_descendant}
-use Rattle.model.specs.Kernel.Removal.{SlotSet, emptied, remove, takes_last, wants_revoke_first, with_bindings}
+use Rattle.model.specs.Kernel.Removal.{SlotSet, emptied, kept_entry, remove, takes_last, wants_revoke_first, with_bindings}
 use Rattle.model.specs.Kernel.Soundness.{IsSound}
 use Rattle.model.specs.Kernel.State.{State, binding_slot}
 use Rattle.model.proofs.Ancestors.{descendant-full, full-open}
 use Rattle.removal_laws.specs.Finishing.{MaySettle, settled}
 use Rattle.removal_laws.specs.Steps.{SameShape, bindings_from, joined}
-use Rattle.removal_laws.proofs.Laws.{both-loops, may-settle, members-all, open-near, removed, sound-ready}
+use Rattle.removal_laws.proofs.Laws.{both-loops, may-settle, members-all, open-near, removed, sound-ready, there-out}
 use Rattle.cnode_ops.specs.Refusals.{AreNear}
 use Rattle.cnode_ops.specs.Sets.{set_of}
 use Rattle.cnode_ops.specs.declared.sets.Removed.{Removed}
@@ -23,6 +26,16 @@ pub record LoopsRan (w one two : State) (slots : Slots) (set : Removed) (lines :
   pub last : (line : ℕ) → line < 64 → slice_index_or lines line false ≡ takes_last w (set_of w.slots set) (is_handler_of line)
   pub bound : emptied one (bindings_from one (λ line. slice_index_or lines line false) 0) ≡ two
   pub kept_first : wants_revoke_first w (with_bindings w (set_of w.slots set)) ≡ false
+
+-- emptying opens no slot
+open-was : (s : State) (all : SlotSet) (y : ℕ) → ((slot : ℕ) → all slot ≡ true → IsOpen s.slots slot) → IsOpen (emptied s all).slots y → IsOpen s.slots y
+open-was s all y opens is = elim (all y) as (λ b. all y ≡ b → IsOpen s.slots y) [
+  | true ↦ λ member. opens y member
+  | false ↦ λ out. elim (s.slots y) as (λ o. s.slots y ≡ o → IsOpen s.slots y) [
+    | None ↦ λ none. absurd (let clash : false ≡ true = sym (ap is_some (there-out s all y out ∙ ap (option_map (kept_entry s all y)) none)) ∙ is in cc)
+    | Some h ↦ λ some. ap is_some some
+  ] refl
+] refl
 
 module _ (w one two : State) (slots : Slots) (set : Removed) (lines : List Bool) (ran : LoopsRan w one two slots set lines) where
   same : slots ≡ w.slots
@@ -43,6 +56,22 @@ module _ (w one two : State) (slots : Slots) (set : Removed) (lines : List Bool)
   loops-may-settle =
       subst (λ (t : State). MaySettle t) (sym left)
       (may-settle w ran.sound (with_bindings w (set_of w.slots set)) (members-all w (set_of w.slots set) members_open lines_open) ran.kept_first)
+
+  -- what was open before
+  was-open : (slot : ℕ) → IsOpen two.slots slot → IsOpen slots slot
+  was-open slot opens =
+      let all = with_bindings w (set_of w.slots set) in
+      let here : IsOpen w.slots slot =
+      open-was w all slot (members-all w (set_of w.slots set) members_open lines_open) (subst (λ (t : State). IsOpen t.slots slot) left opens)
+      in
+      subst (λ (n : Slots). IsOpen n slot) ran.has here
+
+  pub loops-cover : (now : Slots) (count : ℕ) (none some last : Unsettled) → two.slots ≡ now → 16 * count ≡ 2 ^ w.memory_bits → none ≡ nothing count
+      → Notes w none one some → Notes one some two last → Covers now two last
+  loops-cover now count none some last is size none_is first second =
+      covers-now two slots now last (λ slot opens. was-open slot (subst (λ (n : Slots). IsOpen n slot) (sym is) opens))
+      (second.covered slots (first.covered slots
+      (subst (λ (l : Unsettled). Covers slots w l) (sym none_is) (covers-first w ran.sound slots count ran.has (omega (arith, size))))))
 
   pub loops-remove : (last : State) → last ≡ settled two → remove w (set_of slots set) ≡ Ok last
   loops-remove last is =

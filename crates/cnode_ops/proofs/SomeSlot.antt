@@ -36,16 +36,8 @@ next-none n test none next slot less = elim (eqb_tells slot n) [
   | inr other ↦ none slot (omega (arith, less, other.1))
 ]
 
-pub from-zero : (n : ℕ) → 0 + n ≡ n
-from-zero n = omega arith
-
--- of all slots of a store, one was found, or none
+-- of all slots of a store, one was found
 pub store-some : (count bytes slot : ℕ) (test : ℕ → Bool) → 16 * count ≡ bytes → slot < count → test slot ≡ true
     → true ≡ some_slot 0 (bytes / 16) test
 store-some count bytes slot test many less passes =
     sym (some-at 0 (bytes / 16) slot test (omega arith) (omega (arith, many, less)) passes)
-
-pub store-none : (count bytes n : ℕ) (test : ℕ → Bool) → 16 * count ≡ bytes → count ≤ n → ((slot : ℕ) → slot < n → test slot ≡ false)
-    → false ≡ some_slot 0 (bytes / 16) test
-store-none count bytes n test many all none =
-    sym (some-none 0 (bytes / 16) test (λ i less. ap test (from-zero i) ∙ none i (omega (arith, less, many, all))))

@@ -1,10 +1,6 @@
 -- Copies name what their source names.
-use Rattle.std.proofs.Common.{ℕ, ◌≡◌, ◌∙◌, subst, ◌^◌, ◌<◌, Bool, true, false, not, Result, Ok, refl, sym, ap, arith}
-use Rattle.std.specs.Prelude.{bit_and, nat_lt}
-use Rattle.std.proofs.lemmas.Bool.Decides.{nat_tests}
-use Rattle.std.proofs.lemmas.Nat.{and_assoc, and_comm, and_le_l}
-use Rattle.model.specs.Capabilities.CapabilityKinds.{badge_fits, carries_messages, copied, guard_fits, is_badged, is_guard_word, may_be_copied, with_payload}
-use Rattle.model.specs.Capabilities.CapabilityWords.{AreEndpointRights, IsCapability, IsGuardWord}
+use Rattle.std.proofs.Common.{ℕ, ◌≡◌, ◌∙◌, Bool, true, false, not, Result, Ok, refl}
+use Rattle.model.specs.Capabilities.CapabilityKinds.{badge_fits, carries_messages, copied, guard_fits, is_badged, may_be_copied, with_payload}
 use Rattle.model.specs.Kernel.Arguments.{◌>>=◌, check}
 use Rattle.model.specs.declared.capabilities.Cap.{Cap}
 use Rattle.model.specs.declared.capabilities.Cap.TheVariants.{Empty, Untyped, Endpoint, Notification, CNode, Frame, PageTable, Tcb, RootTable, InterruptControl, InterruptHandler}

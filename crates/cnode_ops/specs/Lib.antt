@@ -7,3 +7,5 @@ pub mod Refusals
 pub mod Results
 pub mod RetypeChecks
 pub mod Sets
+pub mod Unsettled
+pub mod Counted

@@ -1,5 +1,5 @@
 -- What the calls on CNodes answer: as their definitions say of every state with these slots.
-use Rattle.std.specs.Prelude.{ℕ, ◌≡◌, Result, Ok, Err}
+use Rattle.std.specs.Prelude.{ℕ, ◌≡◌, Result}
 use Rattle.model.specs.Kernel.Outcomes.{Gives}
 use Rattle.model.specs.Capabilities.Slots.{Slots}
 use Rattle.model.specs.Kernel.Arguments.{Call}

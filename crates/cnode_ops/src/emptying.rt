@@ -1,6 +1,7 @@
 //! Emptying one slot of a removal, with all that goes with its capability.
 
 ghost use Rattle.std.specs.Prelude.{ℕ, ◌≡◌, true, false};
+ghost use Rattle.cnode_ops.specs.Unsettled.{Notes, ObjectsLie};
 ghost use Rattle.model.specs.Capabilities.CapabilityKinds.{names_object, object_of};
 ghost use Rattle.model.specs.Capabilities.Slots.{IsFull, capability_at, parent_at, spliced};
 ghost use Rattle.model.specs.Kernel.Removal.{emptied};
@@ -9,6 +10,7 @@ ghost use Rattle.model.specs.Shared.Lists.{without};
 ghost use Rattle.removal_laws.specs.Steps.{IfUnnamed, IsReady, IsThere, WithWatermark, alone, unmapped_at};
 
 use crate::Ends;
+use crate::settling::Unsettled;
 use model::{Cap, Slot};
 use slots::SlotStore;
 
@@ -87,26 +89,34 @@ fn take_out<S: SlotStore, E: Ends>(store: &mut S, ends: &mut E, slot: Slot) -> (
 }
 
 /// Ends the object that a removed capability named, if no other names it. `parent` is the slot that it was derived from.
+/// What is left to settle is so much more then.
 fn end_unnamed<S: SlotStore, E: Ends>(
     store: &mut S,
     ends: &mut E,
+    left: Unsettled,
     removed: Cap,
     parent: &Option<Slot>,
-)
+) -> Unsettled
     requires agree { E.Agree ends.old (S.slots store.old) (S.memory store.old) }
     requires there { IsThere (E.state ends.old (S.slots store.old) (S.memory store.old)) removed }
+    requires lie { ObjectsLie (E.state ends.old (S.slots store.old) (S.memory store.old)) }
     ensures state { IfUnnamed (E.state ends.old (S.slots store.old) (S.memory store.old)) removed
         (E.state ends.new (S.slots store.new) (S.memory store.new)) }
+    ensures noted { Notes (E.state ends.old (S.slots store.old) (S.memory store.old)) left
+        (E.state ends.new (S.slots store.new) (S.memory store.new)) result }
     ensures order { S.order store.new ≡ S.order store.old }
     ensures agree { E.Agree ends.new (S.slots store.new) (S.memory store.new) }
 {
     let Some(offset) = object_of(removed) else {
-        return;
+        return left;
     };
     if is_named_still(store, parent, offset) {
-        return;
+        return left;
     }
+    let own = ends.slots_of(store, offset);
+    let waited = ends.is_waited_at(store, offset);
     ends.end(store, removed);
+    left.with_slots_of(offset / 16, own).with_waiting(waited)
 }
 
 /// Untyped memory in a slot is unused again, if nothing is derived from it any more.
@@ -135,19 +145,29 @@ fn rewind<S: SlotStore, E: Ends>(store: &mut S, ends: &E, parent: Slot)
 
 /// Empties a full slot, with all that goes with its capability alone: its mapping and what is mapped in
 /// it, the object of which it was the last capability, and the watermark of the untyped memory that it
-/// was the last to be derived from. Its children become children of its parent.
-pub(crate) fn empty_slot<S: SlotStore, E: Ends>(store: &mut S, ends: &mut E, slot: Slot)
+/// was the last to be derived from. Its children become children of its parent. What is left to settle is more by the
+/// object that ended.
+pub(crate) fn empty_slot<S: SlotStore, E: Ends>(
+    store: &mut S,
+    ends: &mut E,
+    left: Unsettled,
+    slot: Slot,
+) -> Unsettled
     requires full { IsFull (S.slots store.old) slot }
     requires agree { E.Agree ends.old (S.slots store.old) (S.memory store.old) }
     requires ready { IsReady (E.state ends.old (S.slots store.old) (S.memory store.old)) }
+    requires lie { ObjectsLie (E.state ends.old (S.slots store.old) (S.memory store.old)) }
     ensures state { E.state ends.new (S.slots store.new) (S.memory store.new)
         ≡ emptied (E.state ends.old (S.slots store.old) (S.memory store.old)) (alone slot) }
+    ensures noted { Notes (E.state ends.old (S.slots store.old) (S.memory store.old)) left
+        (E.state ends.new (S.slots store.new) (S.memory store.new)) result }
     ensures order { S.order store.new ≡ without slot (S.order store.old) }
     ensures agree { E.Agree ends.new (S.slots store.new) (S.memory store.new) }
 {
     let (removed, parent) = take_out(store, ends, slot);
-    end_unnamed(store, ends, removed, &parent);
+    let left = end_unnamed(store, ends, left, removed, &parent);
     if let Some(parent) = parent {
         rewind(store, ends, parent);
     }
+    left
 }

@@ -1,9 +1,10 @@
 //! What a removal tells those that keep objects and mappings.
 
-ghost use Rattle.std.specs.Prelude.{ℕ, ◌≡◌, ◌^◌, ◌<◌, List, None, Some, false, length};
+ghost use Rattle.std.specs.Prelude.{ℕ, ◌≡◌, ◌^◌, ◌<◌, ◌↔◌, [], List, None, Some, false, length};
 ghost use Rattle.model.specs.Capabilities.CapabilityKinds.{names_object, object_of, unmapped};
 ghost use Rattle.model.specs.Capabilities.Slots.{IsFull, SameOutside, Slots, capability_at, closed, empty_entry, recapped, spliced};
 ghost use Rattle.model.specs.Kernel.Removal.{slot_count};
+ghost use Rattle.model.specs.Kernel.Soundness.{waiting_at};
 ghost use Rattle.model.specs.Kernel.State.{State, binding_slot, with_slots};
 ghost use Rattle.removal_laws.specs.Finishing.{woken};
 ghost use Rattle.removal_laws.specs.Steps.{IsThere, ended, unmapped_at, unused};
@@ -49,6 +50,10 @@ pub trait Ends {
     /// How many slots the object has that starts at an offset: none, where there is no object.
     fn slots_of<S: SlotStore>(&self, store: &S, offset: u32) -> u32
         ensures { result ≡ slot_count ((state self.now (S.slots store.now) (S.memory store.now)).objects offset) };
+
+    /// Whether a thread waits at the object that starts at an offset.
+    fn is_waited_at<S: SlotStore>(&self, store: &S, offset: u32) -> bool
+        ensures { (result ≡ false) ↔ (waiting_at ((state self.now (S.slots store.now) (S.memory store.now)).objects offset) ≡ []) };
 
     /// Threads that wait at objects that are gone stand at their call again and run, in rising order of
     /// their addresses.

@@ -2,10 +2,11 @@
 //! that still holds capabilities.
 
 ghost use Rattle.std.specs.Prelude.{ℕ, ◌≡◌, ◌+◌, ◌/◌, ◌^◌, ◌≤◌, ◌&&◌, not, length};
-ghost use Rattle.cnode_ops.specs.Refusals.{AreNear, is_left_filled, is_named_beside, slots_named, some_slot, stays};
+ghost use Rattle.cnode_ops.specs.Counted.{times_where};
+ghost use Rattle.cnode_ops.specs.Refusals.{AreNear, goes, is_left_filled, is_named_beside, slots_named, stays};
 ghost use Rattle.model.specs.Capabilities.CapabilityKinds.{names_object};
 ghost use Rattle.model.specs.Capabilities.CapabilityWords.{IsCapability};
-ghost use Rattle.model.specs.Capabilities.Slots.{capability_at};
+ghost use Rattle.model.specs.Capabilities.Slots.{capability_at, is_full, is_within};
 ghost use Rattle.model.specs.Kernel.Removal.{wants_revoke_first, with_bindings};
 ghost use Rattle.model.specs.Kernel.Soundness.{IsSound};
 ghost use Rattle.model.specs.Kernel.State.{State};
@@ -47,17 +48,40 @@ fn is_named_beside<S: SlotStore>(store: &S, set: &Removed, offset: u32) -> bool
     }
 }
 
-/// Whether one of so many slots from `first` on is full and stays.
-fn is_filled_beside<S: SlotStore>(store: &S, set: &Removed, first: u32, count: u32) -> bool
+/// How many of so many slots from `first` on are full.
+fn count_full<S: SlotStore>(store: &S, first: u32, count: u32) -> u32
     requires { first + count ≤ 2 ^ 20 }
-    ensures { result ≡ some_slot first count (stays (S.slots store.now) set.now) }
+    ensures { result ≡ times_where first count (is_full (S.slots store.now)) }
 {
+    let mut full = 0;
     'slots: for index in 0..count {
-        if stays(store, set, Slot::new(first + index)) {
-            return true;
-        }
+        full += u32::from(is_taken(store, Slot::new(first + index)));
     }
-    false
+    full
+}
+
+/// Whether a slot is one of so many from `first` on.
+fn is_between(slot: Slot, first: u32, count: u32) -> bool
+    requires { first + count ≤ 2 ^ 20 }
+    ensures { result ≡ is_within first count slot }
+{
+    first <= slot.number() && slot.number() < first + count
+}
+
+/// How many of so many slots from `first` on go.
+fn count_going<S: SlotStore>(store: &S, set: &Removed, first: u32, count: u32) -> u32
+    requires { first + count ≤ 2 ^ 20 }
+    ensures { result ≡ times_where first count (goes (S.slots store.now) set.now) }
+{
+    let mut going = 0;
+    let mut at = None;
+    'slots: loop {
+        let Some(slot) = next_removed(store, set, at) else {
+            return going;
+        };
+        going += u32::from(is_between(slot, first, count));
+        at = Some(slot);
+    }
 }
 
 /// How many slots the object has that a capability names.
@@ -82,8 +106,15 @@ fn is_left_filled<S: SlotStore>(store: &S, set: &Removed, capability: Cap) -> bo
     let Some(offset) = object_of(capability) else {
         return false;
     };
-    is_filled_beside(store, set, offset / 16, slots_named(capability))
-        && !is_named_beside(store, set, offset)
+    let (first, count) = (offset / 16, slots_named(capability));
+    let full = count_full(store, first, count);
+    if full == 0 {
+        return false;
+    }
+    if is_named_beside(store, set, offset) {
+        return false;
+    }
+    count_going(store, set, first, count) < full
 }
 
 /// Whether these slots may not go yet: with them would go the last capability to a CNode or a thread that

@@ -3,6 +3,7 @@
 ghost use Rattle.std.specs.Prelude.{ℕ, ◌≡◌, ◌<◌, OnErr, true, false, slice_index_or};
 ghost use Rattle.model.specs.Kernel.Outcomes.{GivesState};
 ghost use Rattle.cnode_ops.specs.Sets.{set_of};
+ghost use Rattle.cnode_ops.specs.Unsettled.{Notes, ObjectsLie};
 ghost use Rattle.model.specs.Capabilities.Slots.{IsOpen};
 ghost use Rattle.model.specs.Kernel.Removal.{SlotSet, delete, emptied, remove, revoke};
 ghost use Rattle.model.specs.Kernel.Soundness.{IsSound};
@@ -13,58 +14,89 @@ use crate::emptying::empty_slot;
 use crate::lines::lines_taken;
 use crate::refusals::wants_revoke_first;
 use crate::sets::{Removed, first_removed};
-use crate::settling::settle;
+use crate::settling::{Unsettled, settle};
 use model::{KError, Slot};
 use slots::{SlotStore, is_taken};
 
 /// Empties all slots of a set, one after another: what is left to empty, with others beside the set, is
-/// these others.
-fn empty_all<S: SlotStore, E: Ends>(store: &mut S, ends: &mut E, set: &Removed)
+/// these others. What is left to settle is more by the objects that ended.
+fn empty_all<S: SlotStore, E: Ends>(
+    store: &mut S,
+    ends: &mut E,
+    left: Unsettled,
+    set: &Removed,
+) -> Unsettled
     requires agree { E.Agree ends.old (S.slots store.old) (S.memory store.old) }
     requires ready { IsReady (E.state ends.old (S.slots store.old) (S.memory store.old)) }
+    requires lie { ObjectsLie (E.state ends.old (S.slots store.old) (S.memory store.old)) }
     requires members { (slot : ℕ) → set_of (S.slots store.old) set.now slot ≡ true → IsOpen (S.slots store.old) slot }
     ensures taken { (more : SlotSet) → ((slot : ℕ) → more slot ≡ true → IsOpen (S.slots store.old) slot)
         → emptied (E.state ends.old (S.slots store.old) (S.memory store.old)) (joined (set_of (S.slots store.old) set.now) more)
         ≡ emptied (E.state ends.new (S.slots store.new) (S.memory store.new)) more }
+    ensures noted { Notes (E.state ends.old (S.slots store.old) (S.memory store.old)) left
+        (E.state ends.new (S.slots store.new) (S.memory store.new)) result }
     ensures shape { SameShape (E.state ends.old (S.slots store.old) (S.memory store.old)) (E.state ends.new (S.slots store.new) (S.memory store.new)) }
     ensures agree { E.Agree ends.new (S.slots store.new) (S.memory store.new) }
     ensures ready { IsReady (E.state ends.new (S.slots store.new) (S.memory store.new)) }
 {
+    let mut left = left;
     'slots: while let Some(slot) = first_removed(store, set) {
-        empty_slot(store, ends, slot);
+        left = empty_slot(store, ends, left, slot);
     }
+    left
 }
 
 /// Empties the binding of a line, if it is taken along and there is one.
-fn empty_binding<S: SlotStore, E: Ends>(store: &mut S, ends: &mut E, line: u8, taken: bool)
+fn empty_binding<S: SlotStore, E: Ends>(
+    store: &mut S,
+    ends: &mut E,
+    left: Unsettled,
+    line: u8,
+    taken: bool,
+) -> Unsettled
     requires few { line < 64 }
     requires agree { E.Agree ends.old (S.slots store.old) (S.memory store.old) }
     requires ready { IsReady (E.state ends.old (S.slots store.old) (S.memory store.old)) }
+    requires lie { ObjectsLie (E.state ends.old (S.slots store.old) (S.memory store.old)) }
     ensures state { BindingEmptied (E.state ends.old (S.slots store.old) (S.memory store.old)) line taken
         (E.state ends.new (S.slots store.new) (S.memory store.new)) }
+    ensures noted { Notes (E.state ends.old (S.slots store.old) (S.memory store.old)) left
+        (E.state ends.new (S.slots store.new) (S.memory store.new)) result }
     ensures agree { E.Agree ends.new (S.slots store.new) (S.memory store.new) }
 {
     if !taken {
-        return;
+        return left;
     }
     let slot = ends.binding(line);
     if is_taken(store, slot) {
-        empty_slot(store, ends, slot);
+        empty_slot(store, ends, left, slot)
+    } else {
+        left
     }
 }
 
 /// Empties the bindings of some lines, one after another.
-fn empty_bindings<S: SlotStore, E: Ends>(store: &mut S, ends: &mut E, lines: &[bool; 64])
+fn empty_bindings<S: SlotStore, E: Ends>(
+    store: &mut S,
+    ends: &mut E,
+    left: Unsettled,
+    lines: &[bool; 64],
+) -> Unsettled
     requires agree { E.Agree ends.old (S.slots store.old) (S.memory store.old) }
     requires ready { IsReady (E.state ends.old (S.slots store.old) (S.memory store.old)) }
+    requires lie { ObjectsLie (E.state ends.old (S.slots store.old) (S.memory store.old)) }
     ensures state { emptied (E.state ends.old (S.slots store.old) (S.memory store.old))
         (bindings_from (E.state ends.old (S.slots store.old) (S.memory store.old)) (λ line. slice_index_or lines.now line false) 0)
         ≡ E.state ends.new (S.slots store.new) (S.memory store.new) }
+    ensures noted { Notes (E.state ends.old (S.slots store.old) (S.memory store.old)) left
+        (E.state ends.new (S.slots store.new) (S.memory store.new)) result }
     ensures agree { E.Agree ends.new (S.slots store.new) (S.memory store.new) }
 {
+    let mut left = left;
     'lines: for line in 0..64u8 {
-        empty_binding(store, ends, line, lines[usize::from(line)]);
+        left = empty_binding(store, ends, left, line, lines[usize::from(line)]);
     }
+    left
 }
 
 /// Takes a set of slots away at once, with the bindings of the lines whose last handler goes. It is
@@ -84,9 +116,10 @@ fn remove<S: SlotStore, E: Ends>(store: &mut S, ends: &mut E, set: Removed) -> R
         return Err(KError::RevokeFirst);
     }
     let lines = lines_taken(store, set);
-    empty_all(store, ends, &set);
-    empty_bindings(store, ends, &lines);
-    settle(store, ends);
+    let left = Unsettled::nothing(store.count());
+    let left = empty_all(store, ends, left, &set);
+    let left = empty_bindings(store, ends, left, &lines);
+    settle(store, ends, left);
     Ok(())
 }
 

@@ -52,28 +52,28 @@ off-ends m head ends place within off =
 pub size-last : (base : ℕ) (m : List ℕ) (last : Option ℕ) (queue thread : ℕ) → thread + 512 ≤ length m → ((t : ℕ) → last ≡ Some t → t + 512 ≤ length m) → base ≤ 256
     → length (linked_last base m last queue thread) ≡ length m
 size-last base m last queue thread within behind most =
-    let one = with_link base m thread 0 queue in
+    let one = with_link base m thread 0 (word_of (Some queue)) in
     let two = with_link base one thread 1 0 in
     let three = with_link base two thread 2 (word_of last) in
-    let size = size-link base m thread 0 queue within most (omega arith) in
+    let size = size-link base m thread 0 (word_of (Some queue)) within most (omega arith) in
     let size' = size-link base one thread 1 0 (omega (arith, within, size)) most (omega arith) ∙ size in
     let size'' = size-link base two thread 2 (word_of last) (omega (arith, within, size')) most (omega arith) ∙ size' in
-    size-link_at base three last 1 thread (λ t is. omega (arith, behind t is, size'')) most (omega arith) ∙ size''
+    size-link_at base three last 1 (word_of (Some thread)) (λ t is. omega (arith, behind t is, size'')) most (omega arith) ∙ size''
 
 pub off-last : (base : ℕ) (m : List ℕ) (last : Option ℕ) (queue thread place : ℕ) → thread + 512 ≤ length m → ((t : ℕ) → last ≡ Some t → t + 512 ≤ length m) → base ≤ 256
     → (IsLinkByte base thread place → ⊥) → ((t : ℕ) → last ≡ Some t → IsLinkByte base t place → ⊥)
     → slice_index (linked_last base m last queue thread) place ≡ slice_index m place
 off-last base m last queue thread place within behind most off off' =
-    let one = with_link base m thread 0 queue in
+    let one = with_link base m thread 0 (word_of (Some queue)) in
     let two = with_link base one thread 1 0 in
     let three = with_link base two thread 2 (word_of last) in
-    let size = size-link base m thread 0 queue within most (omega arith) in
+    let size = size-link base m thread 0 (word_of (Some queue)) within most (omega arith) in
     let size' = size-link base one thread 1 0 (omega (arith, within, size)) most (omega arith) ∙ size in
     let size'' = size-link base two thread 2 (word_of last) (omega (arith, within, size')) most (omega arith) ∙ size' in
-    off-link_at base three last 1 thread place (λ t is. omega (arith, behind t is, size'')) most (omega arith) off'
+    off-link_at base three last 1 (word_of (Some thread)) place (λ t is. omega (arith, behind t is, size'')) most (omega arith) off'
     ∙ off-link base two thread 2 (word_of last) place (omega (arith, within, size')) most (omega arith) off
     ∙ off-link base one thread 1 0 place (omega (arith, within, size)) most (omega arith) off
-    ∙ off-link base m thread 0 queue place within most (omega arith) off
+    ∙ off-link base m thread 0 (word_of (Some queue)) place within most (omega arith) off
 
 pub size-out : (base : ℕ) (m : List ℕ) (thread : ℕ) → thread + 512 ≤ length m → ((t : ℕ) → link_at base m thread 1 ≡ Some t → t + 512 ≤ length m)
     → ((t : ℕ) → link_at base m thread 2 ≡ Some t → t + 512 ≤ length m) → base ≤ 256 → length (taken_out base m thread) ≡ length m

@@ -119,7 +119,7 @@ module _ (places : Places) (slots : Slots) (m : List ℕ) (laid : AreLaidOut pla
       let small : length mid ≤ 2 ^ 24 = omega (arith, few, size-mid) in
       let firsts-thread = ends-threads places.threads before after (end_at m head 0) after-thread first-thread in
       let lasts-thread = ends-threads places.threads after before (end_at m head 1) before-thread last-thread in
-      let links = ends-links places slots mid laid-mid small queue head is ends firsts-thread lasts-thread 244 (omega arith)
+      let links = ends-links places slots mid laid-mid small queue head is ends firsts-thread lasts-thread 244 (omega arith) (omega arith)
       ∙ links-out 244 places.threads m spaces thread there (omega arith) after-thread before-thread in
       let firsts : (x : ℕ) → end_in places.heads end 0 x ≡ put w.first queue ends.first x = λ x.
       ends-first places slots mid laid-mid small queue head is ends firsts-thread lasts-thread x

@@ -1,5 +1,11 @@
+mod Changing
+mod EndingQueues
 mod Frames
 mod LeavingQueues
+pub mod Laws
 mod LinkSteps
+mod Marks
 mod MemoryWrites
+mod Nobody
+mod ReadySteps
 mod Standings

@@ -1,5 +1,5 @@
 -- What writes make of the links of all threads, and of the ends of all queues.
-use Rattle.std.proofs.Common.{ℕ, ◌≡◌, ◌≢◌, ◌∙◌, ◌+◌, ◌*◌, ◌%◌, ◌^◌, ◌<◌, ◌≤◌, ◌⊎◌, inl, inr, Bool, true, false, if◌then◌else◌, Option, Some, None, List, length, slice_index, refl, sym, ap, arith}
+use Rattle.std.proofs.Common.{ℕ, ◌≡◌, ◌≢◌, ◌∙◌, ◌+◌, ◌-◌, ◌*◌, ◌%◌, ◌^◌, ◌<◌, ◌≤◌, ◌⊎◌, inl, inr, Bool, true, false, if◌then◌else◌, Option, Some, None, List, length, slice_index, refl, sym, ap, arith}
 use Rattle.std.proofs.lemmas.Bool.Decides.{eqb_tells}
 use Rattle.std.proofs.lemmas.Bool.{cases_lt, ne_eqb}
 use Rattle.model.proofs.BytesLemmas.{length-written, slice_index-written_before, slice_index-written_behind, word_at-same, word_at-written, word_at-written_before, word_at-written_behind}
@@ -26,19 +26,26 @@ byte-beside m at word place inside apart = elim apart [
   | inr behind ↦ slice_index-written_behind m at (word_bytes word) place (omega (arith, inside)) (omega (arith, behind))
 ]
 
-pub somebody-back : (o : Option ℕ) → ((x : ℕ) → o ≡ Some x → x ≢ 0) → somebody (word_of o) ≡ o
-somebody-back None some = refl
-somebody-back (Some x) some = ap (λ b. if b then None else Some x) (ne_eqb x 0 (some x refl))
+pub somebody-there : (x : ℕ) → x < 2 ^ 32 - 1 → somebody (word_of (Some x)) ≡ Some x
+somebody-there x few =
+    let same : (x + 1) % 2 ^ 32 ≡ x + 1 = omega (arith, few) in
+    ap somebody same
+    ∙ ap (λ b. if b then None else Some (x + 1 - 1)) (ne_eqb (x + 1) 0 (λ same. absurd (omega (arith, same))))
+    ∙ ap Some (omega arith)
 
-pub somebody-there : (x : ℕ) → x ≢ 0 → somebody x ≡ Some x
-somebody-there x some = ap (λ b. if b then None else Some x) (ne_eqb x 0 some)
+pub somebody-back : (o : Option ℕ) → ((x : ℕ) → o ≡ Some x → x < 2 ^ 32 - 1) → somebody (word_of o) ≡ o
+somebody-back None few = refl
+somebody-back (Some x) few = somebody-there x (few x refl)
+
+pub fits-word : (o : Option ℕ) → word_of o < 2 ^ 32
+fits-word None = omega arith
+fits-word (Some x) = omega arith
 
 -- ---- the links of threads
 
--- threads stand in memory of this size, each at a multiple of its own, and none at 0
+-- threads stand in memory of this size, each at a multiple of its own
 pub record AreInPlace (threads : ℕ → Bool) (size : ℕ) : Type 0 where
   pub few : size ≤ 2 ^ 24
-  pub some : (thread : ℕ) → threads thread ≡ true → thread ≢ 0
   pub aligned : (thread : ℕ) → threads thread ≡ true → thread % 512 ≡ 0
   pub within : (thread : ℕ) → threads thread ≡ true → thread + 512 ≤ size
 

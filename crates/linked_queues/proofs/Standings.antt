@@ -15,13 +15,12 @@ use Rattle.linked_queues.specs.Queues.{QueuesStand, SameBesideWaiting, queue_of,
 use Rattle.linked_queues.specs.Words.{LinksIn, end_at, end_in, end_of, ends_at, link_at, link_in, linked_last, links_in, somebody, with_end, with_ends, word_of}
 use Rattle.linked_queues.specs.declared.words.Ends.{Ends}
 use Rattle.linked_queues.proofs.Frames.{off-ends, off-last, size-ends, size-last}
-use Rattle.linked_queues.proofs.LinkSteps.{AreThreads, back-word, fits-word, links-joined}
-use Rattle.linked_queues.proofs.MemoryWrites.{AreInPlace, end-stays, links-stay, size-word, word-beside}
+use Rattle.linked_queues.proofs.LinkSteps.{AreThreads, back-word, links-joined}
+use Rattle.linked_queues.proofs.MemoryWrites.{AreInPlace, end-stays, fits-word, links-stay, size-word, word-beside}
 
 pub in-place : (places : Places) (slots : Slots) (size : ℕ) → AreLaidOut places slots size → size ≤ 2 ^ 24 → AreInPlace places.threads size
 in-place places slots size laid few = record {
   few = few;
-  some = laid.some;
   aligned = laid.aligned;
   within = λ thread is. (laid.threads thread is).within;
 }
@@ -57,12 +56,12 @@ module _ (places : Places) (slots : Slots) (m : List ℕ) (laid : AreLaidOut pla
   own-first : end_at new head 0 ≡ ends.first
   own-first =
       ap somebody (word-beside one (head + 4 * 1) (word_of ends.last) (head + 4 * 0) (omega (arith, within, size-one)) (inl (omega arith))
-      ∙ word_at-written m (head + 4 * 0) (word_of ends.first) (omega (arith, within)) (fits-word places.threads (length m) ends.first spots named))
+      ∙ word_at-written m (head + 4 * 0) (word_of ends.first) (omega (arith, within)) (fits-word ends.first))
       ∙ back-word places.threads (length m) ends.first spots named
 
   own-last : end_at new head 1 ≡ ends.last
   own-last =
-      ap somebody (word_at-written one (head + 4 * 1) (word_of ends.last) (omega (arith, within, size-one)) (fits-word places.threads (length m) ends.last spots named'))
+      ap somebody (word_at-written one (head + 4 * 1) (word_of ends.last) (omega (arith, within, size-one)) (fits-word ends.last))
       ∙ back-word places.threads (length m) ends.last spots named'
 
   other-end : (k x : ℕ) → k < 2 → x ≢ queue → end_in places.heads new k x ≡ end_in places.heads m k x
@@ -88,10 +87,10 @@ module _ (places : Places) (slots : Slots) (m : List ℕ) (laid : AreLaidOut pla
     | inr off ↦ other-end 1 x (omega arith) off.1 ∙ sym (put-off (end_in places.heads m 1) queue ends.last x off.1)
   ]
 
-  pub ends-links : (base : ℕ) → base ≤ 256 → links_in base places.threads new ≡ links_in base places.threads m
-  ends-links base most = links-stay base places.threads m new (λ thread place there from below.
+  pub ends-links : (base : ℕ) → 244 ≤ base → base ≤ 256 → links_in base places.threads new ≡ links_in base places.threads m
+  ends-links base least most = links-stay base places.threads m new (λ thread place there from below.
       off-ends m head ends place within (λ held. elim (laid.beside queue head thread is there) [
-        | inl before ↦ absurd (omega (arith, before, from, held.1))
+        | inl before ↦ absurd (omega (arith, before, from, held.1, least))
         | inr behind ↦ absurd (omega (arith, behind, below, held.0, most))
       ]))
 
@@ -161,7 +160,7 @@ push-memory m link now head queue thread before behind read linked-so ends-so wr
 
 module _ (places : Places) (slots : Slots) (m : List ℕ) (laid : AreLaidOut places slots (length m)) (stands : QueuesStand places m)
     (queue head thread : ℕ) (is : places.heads queue ≡ Some head) (there : places.threads thread ≡ true)
-    (apart : (other : ℕ) → times_in (queue_of places m other) thread ≡ 0) (fits : queue < 2 ^ 32) where
+    (apart : (other : ℕ) → times_in (queue_of places m other) thread ≡ 0) where
   abbrev w : Threaded
   w = waiting_in places m
 
@@ -241,8 +240,8 @@ module _ (places : Places) (slots : Slots) (m : List ℕ) (laid : AreLaidOut pla
 
   pub pushed-is : waiting_in places end ≡ pushed w queue thread
   pushed-is =
-      let links = ends-links places slots mid laid-mid (omega (arith, few, size-mid)) queue head is ends joined-thread own-thread 244 (omega arith)
-      ∙ links-joined 244 places.threads m spaces thread there (omega arith) last queue last-thread (laid.named queue head is) fits in
+      let links = ends-links places slots mid laid-mid (omega (arith, few, size-mid)) queue head is ends joined-thread own-thread 244 (omega arith) (omega arith)
+      ∙ links-joined 244 places.threads m spaces thread there (omega arith) last queue last-thread (omega (arith, laid.named queue head is, few)) in
       let firsts : (x : ℕ) → end_in places.heads end 0 x ≡ put w.first queue (first_joined first thread) x = λ x.
       ends-first places slots mid laid-mid (omega (arith, few, size-mid)) queue head is ends joined-thread own-thread x
       ∙ ap (λ o. if x == queue then first_joined first thread else o) (end-mid 0 x (omega arith)) in

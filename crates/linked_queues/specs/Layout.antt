@@ -1,5 +1,5 @@
 -- What stands where in memory, as far as queues ask.
-use Rattle.std.specs.Prelude.{ℕ, ◌≡◌, ◌≢◌, ◌+◌, ◌%◌, ◌^◌, ◌≤◌, ◌⊎◌, Bool, true, Option, Some}
+use Rattle.std.specs.Prelude.{ℕ, ◌≡◌, ◌≢◌, ◌+◌, ◌%◌, ◌^◌, ◌<◌, ◌≤◌, ◌⊎◌, Bool, true, Option, Some}
 use Rattle.model.specs.Capabilities.Slots.{OutsideSlots, Slots}
 
 pub record Places : Type 0 where
@@ -20,14 +20,13 @@ pub record IsHeadAt (slots : Slots) (size head : ℕ) : Type 0 where
   pub within : head + 8 ≤ size
   pub outside : OutsideSlots slots head 8
 
--- threads, and the objects at which they wait, stand apart from each other in memory of this size; none of them stands at 0
+-- the links of threads, and what objects keep of those that wait at them, stand apart from each other in memory of this size
 pub record AreLaidOut (places : Places) (slots : Slots) (size : ℕ) : Type 0 where
-  pub some : (thread : ℕ) → places.threads thread ≡ true → thread ≢ 0
   pub aligned : (thread : ℕ) → places.threads thread ≡ true → thread % 512 ≡ 0
   pub threads : (thread : ℕ) → places.threads thread ≡ true → IsThreadAt slots size thread
-  pub named : (queue head : ℕ) → places.heads queue ≡ Some head → queue ≢ 0
+  pub named : (queue head : ℕ) → places.heads queue ≡ Some head → queue < size
   pub heads : (queue head : ℕ) → places.heads queue ≡ Some head → IsHeadAt slots size head
   pub apart : (queue head other place : ℕ) → places.heads queue ≡ Some head → places.heads other ≡ Some place → other ≢ queue
       → (head + 8 ≤ place) ⊎ (place + 8 ≤ head)
   pub beside : (queue head thread : ℕ) → places.heads queue ≡ Some head → places.threads thread ≡ true
-      → (head + 8 ≤ thread) ⊎ (thread + 512 ≤ head)
+      → (head + 8 ≤ thread + 244) ⊎ (thread + 268 ≤ head)

@@ -1,5 +1,5 @@
--- The links of a thread in three words of its 512 bytes, and the first and the last thread of a queue; 0 is nobody.
-use Rattle.std.specs.Prelude.{ℕ, ◌==◌, ◌+◌, ◌*◌, Bool, Option, Some, None, List, if◌then◌else◌}
+-- The links of a thread in three words of its 512 bytes, and the first and the last thread of a queue. A word is one more than what it names; 0 is nobody.
+use Rattle.std.specs.Prelude.{ℕ, ◌==◌, ◌+◌, ◌-◌, ◌*◌, ◌%◌, ◌^◌, Bool, Option, Some, None, List, if◌then◌else◌}
 use Rattle.model.specs.Shared.Bytes.{word_at, word_bytes, written}
 use Rattle.preorder.specs.Chains.{Links}
 use Rattle.linked_queues.specs.declared.words.Ends.{Ends}
@@ -12,11 +12,11 @@ base_of link_words.Waiting = 244
 base_of link_words.Ready = 256
 
 abbrev pub somebody : ℕ → Option ℕ
-somebody word = if word == 0 then None else Some word
+somebody word = if word == 0 then None else Some (word - 1)
 
 abbrev pub word_of : Option ℕ → ℕ
 word_of None = 0
-word_of (Some thread) = thread
+word_of (Some offset) = (offset + 1) % 2 ^ 32
 
 -- word 0 is the queue that a thread stands in, word 1 the next thread and word 2 the previous one
 abbrev pub link_at : ℕ → List ℕ → ℕ → ℕ → Option ℕ
@@ -71,7 +71,7 @@ with_ends memory head ends = with_end (with_end memory head 0 (word_of ends.firs
 -- a thread linked behind the last one of a queue
 abbrev pub linked_last : ℕ → List ℕ → Option ℕ → ℕ → ℕ → List ℕ
 linked_last base memory last queue thread =
-    with_link_at base (with_link base (with_link base (with_link base memory thread 0 queue) thread 1 0) thread 2 (word_of last)) last 1 thread
+    with_link_at base (with_link base (with_link base (with_link base memory thread 0 (word_of (Some queue))) thread 1 0) thread 2 (word_of last)) last 1 (word_of (Some thread))
 
 -- a thread taken out from between its neighbours
 abbrev pub taken_out : ℕ → List ℕ → ℕ → List ℕ
@@ -79,3 +79,7 @@ taken_out base memory thread =
     let after = link_at base memory thread 1 in
     let before = link_at base memory thread 2 in
     with_link_at base (with_link_at base (with_link base memory thread 0 0) before 1 (word_of after)) after 2 (word_of before)
+
+-- a thread that stands in no queue and is not ready
+abbrev pub without_links : List ℕ → ℕ → List ℕ
+without_links memory thread = with_link 256 (with_link 244 memory thread 0 0) thread 0 0

@@ -4,7 +4,12 @@
 
 mod layout;
 mod linking;
+mod queue_laws;
+mod ready;
 pub mod waiting;
 mod words;
 
 pub use layout::Layout;
+pub use linking::{begin_head, begin_thread};
+pub use queue_laws::{kinds_stand_apart, ready_stays, waiting_stays};
+pub use ready::ReadyList;

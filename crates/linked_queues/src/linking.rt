@@ -1,12 +1,13 @@
 //! Threads linked in both directions, with the first and the last one of their queue at hand.
 
-ghost use Rattle.std.specs.Prelude.{ℕ, ◌≡◌, Some, length};
+ghost use Rattle.std.specs.Prelude.{ℕ, ◌≡◌, None, Some, length};
 ghost use Rattle.std.specs.Option.{ForSome};
 ghost use Rattle.links.specs.Threaded.{end_without, first_joined};
-ghost use Rattle.linked_queues.specs.Layout.{IsThreadAt};
-ghost use Rattle.linked_queues.specs.Words.{base_of, link_at, linked_last, taken_out};
+ghost use Rattle.linked_queues.specs.Layout.{AreLaidOut, IsHeadAt, IsThreadAt};
+ghost use Rattle.linked_queues.specs.Words.{base_of, link_at, link_in, linked_last, taken_out, with_ends, without_links};
 
-use crate::words::{Ends, LinkWords, link, put_link, put_link_at, word_of};
+use crate::layout::Layout;
+use crate::words::{Ends, LinkWords, link, put_ends, put_link, put_link_at, word_of};
 use slots::SlotStore;
 
 /// The words of a thread's links, by their numbers.
@@ -15,6 +16,23 @@ const QUEUE: u32 = 0;
 const NEXT: u32 = 1;
 
 const PREVIOUS: u32 = 2;
+
+/// The queue in which a thread stands, if it stands in one.
+pub(crate) fn queue_of_thread<S: SlotStore, L: Layout>(
+    layout: &L,
+    store: &S,
+    links: LinkWords,
+    thread: u32,
+) -> Option<u32>
+    requires { AreLaidOut (L.places layout.now) (S.slots store.now) (length (S.memory store.now)) }
+    ensures { result ≡ link_in (base_of links) (L.places layout.now).threads (S.memory store.now) 0 thread }
+{
+    if layout.is_thread(thread) {
+        link(store, links, thread, QUEUE)
+    } else {
+        None
+    }
+}
 
 /// Links a thread behind the last one of a queue, and answers the ends that the queue then has.
 pub(crate) fn link_last<S: SlotStore>(
@@ -32,10 +50,10 @@ pub(crate) fn link_last<S: SlotStore>(
     ensures order { S.order store.new ≡ S.order store.old }
     ensures size { length (S.memory store.new) ≡ length (S.memory store.old) }
 {
-    put_link(store, links, thread, QUEUE, queue);
+    put_link(store, links, thread, QUEUE, word_of(Some(queue)));
     put_link(store, links, thread, NEXT, 0);
     put_link(store, links, thread, PREVIOUS, word_of(ends.last));
-    put_link_at(store, links, ends.last, NEXT, thread);
+    put_link_at(store, links, ends.last, NEXT, word_of(Some(thread)));
     Ends {
         first: Some(ends.first.unwrap_or(thread)),
         last: Some(thread),
@@ -75,4 +93,29 @@ fn end_without(towards: Option<u32>, away: Option<u32>, end: Option<u32>) -> Opt
         None => away,
         Some(_) => end,
     }
+}
+
+/// A thread begins that stands in no queue and is not ready.
+pub fn begin_thread<S: SlotStore>(store: &mut S, thread: u32)
+    requires { IsThreadAt (S.slots store.old) (length (S.memory store.old)) thread }
+    ensures bytes { S.memory store.new ≡ without_links (S.memory store.old) thread }
+    ensures slots { S.slots store.new ≡ S.slots store.old }
+    ensures order { S.order store.new ≡ S.order store.old }
+{
+    put_link(store, LinkWords::Waiting, thread, QUEUE, 0);
+    put_link(store, LinkWords::Ready, thread, QUEUE, 0);
+}
+
+/// An object begins at which nobody waits.
+pub fn begin_head<S: SlotStore>(store: &mut S, head: u32)
+    requires { IsHeadAt (S.slots store.old) (length (S.memory store.old)) head }
+    ensures bytes { S.memory store.new ≡ with_ends (S.memory store.old) head (record { first = None; last = None }) }
+    ensures slots { S.slots store.new ≡ S.slots store.old }
+    ensures order { S.order store.new ≡ S.order store.old }
+{
+    let nobody = Ends {
+        first: None,
+        last: None,
+    };
+    put_ends(store, head, nobody);
 }

@@ -7,24 +7,11 @@ ghost use Rattle.model.specs.Kernel.State.{put};
 ghost use Rattle.model.specs.Shared.Lists.{times_in, without};
 ghost use Rattle.linked_queues.specs.Layout.{AreLaidOut};
 ghost use Rattle.linked_queues.specs.Queues.{QueuesStand, SameBesideWaiting, queue_of};
-ghost use Rattle.linked_queues.specs.Words.{link_in};
 
 use crate::layout::Layout;
-use crate::linking::{link_last, unlink};
-use crate::words::{LinkWords, link, put_ends, read_ends};
+use crate::linking::{link_last, queue_of_thread, unlink};
+use crate::words::{LinkWords, put_ends, read_ends};
 use slots::SlotStore;
-
-/// The queue in which a thread stands, if it stands in one.
-fn queue_of_thread<S: SlotStore, L: Layout>(layout: &L, store: &S, thread: u32) -> Option<u32>
-    requires { AreLaidOut (L.places layout.now) (S.slots store.now) (length (S.memory store.now)) }
-    ensures { result ≡ link_in 244 (L.places layout.now).threads (S.memory store.now) 0 thread }
-{
-    if layout.is_thread(thread) {
-        link(store, LinkWords::Waiting, thread, 0)
-    } else {
-        None
-    }
-}
 
 /// Whether a thread stands in a queue.
 pub fn is_queued<S: SlotStore, L: Layout>(layout: &L, store: &S, thread: u32) -> bool
@@ -32,7 +19,7 @@ pub fn is_queued<S: SlotStore, L: Layout>(layout: &L, store: &S, thread: u32) ->
     requires stands { QueuesStand (L.places layout.now) (S.memory store.now) }
     ensures { (result ≡ false) ↔ ((queue : ℕ) → times_in (queue_of (L.places layout.now) (S.memory store.now) queue) thread ≡ 0) }
 {
-    queue_of_thread(layout, store, thread).is_some()
+    queue_of_thread(layout, store, LinkWords::Waiting, thread).is_some()
 }
 
 /// The first thread of a queue.
@@ -78,7 +65,7 @@ pub fn leave<S: SlotStore, L: Layout>(layout: &L, store: &mut S, thread: u32)
     ensures bytes { SameBesideWaiting (L.places layout.now) (queue_of (L.places layout.now) (S.memory store.old)) (S.memory store.old) (S.memory store.new) }
     ensures order { S.order store.new ≡ S.order store.old }
 {
-    let Some(queue) = queue_of_thread(layout, store, thread) else {
+    let Some(queue) = queue_of_thread(layout, store, LinkWords::Waiting, thread) else {
         return;
     };
     if let Some(head) = layout.head(queue) {
@@ -103,4 +90,20 @@ pub fn pop<S: SlotStore, L: Layout>(layout: &L, store: &mut S, queue: u32) -> Op
     let thread = first(layout, store, queue)?;
     leave(layout, store, thread);
     Some(thread)
+}
+
+/// Takes all threads out of a queue.
+pub fn end<S: SlotStore, L: Layout>(layout: &L, store: &mut S, queue: u32)
+    requires laid { AreLaidOut (L.places layout.now) (S.slots store.old) (length (S.memory store.old)) }
+    requires stands { QueuesStand (L.places layout.now) (S.memory store.old) }
+    ensures queues { (other : ℕ) → queue_of (L.places layout.now) (S.memory store.new) other
+        ≡ put (queue_of (L.places layout.now) (S.memory store.old)) queue [] other }
+    ensures stands { QueuesStand (L.places layout.now) (S.memory store.new) }
+    ensures slots { S.slots store.new ≡ S.slots store.old }
+    ensures bytes { SameBesideWaiting (L.places layout.now) (queue_of (L.places layout.now) (S.memory store.old)) (S.memory store.old) (S.memory store.new) }
+    ensures order { S.order store.new ≡ S.order store.old }
+{
+    'threads: while let Some(thread) = first(layout, store, queue) {
+        leave(layout, store, thread);
+    }
 }

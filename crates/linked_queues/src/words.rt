@@ -1,4 +1,4 @@
-//! The words of links in memory; 0 is nobody.
+//! The words of links in memory: one more than the offset or the number that they name; 0 is nobody.
 
 ghost use Rattle.std.specs.Prelude.{ℕ, ◌≡◌, ◌+◌, ◌*◌, ◌<◌, ◌≤◌, Some, length};
 ghost use Rattle.std.specs.Option.{ForSome};
@@ -39,15 +39,15 @@ impl LinkWords {
 fn somebody(word: u32) -> Option<u32>
     ensures { result ≡ somebody word }
 {
-    if word == 0 { None } else { Some(word) }
+    if word == 0 { None } else { Some(word - 1) }
 }
 
-/// The word that names a thread.
-pub(crate) fn word_of(thread: Option<u32>) -> u32
-    ensures { result ≡ word_of thread }
+/// The word that names a thread or a queue. Offsets lie in memory, so nothing wraps.
+pub(crate) fn word_of(named: Option<u32>) -> u32
+    ensures { result ≡ word_of named }
 {
-    match thread {
-        Some(offset) => offset,
+    match named {
+        Some(offset) => offset.wrapping_add(1),
         None => 0,
     }
 }

@@ -1,11 +1,12 @@
 -- The laws of this crate as lemmas, for crates above.
 use Rattle.std.proofs.Common.{ℕ, ◌≡◌, ◌∙◌, ◌<◌, inl, inr, if◌then◌else◌, Some, None, sym, ap, subst}
 use Rattle.std.proofs.lemmas.Bool.Decides.{eqb_tells}
-use Rattle.links.specs.Laws.{FirstIsDropped, LeavingTakesOut, NamedStandThere, NoOwnerNoQueue, PushingJoins}
-use Rattle.links.specs.Threaded.{AreLinked, Threaded, left, listed, pushed}
+use Rattle.links.specs.Laws.{FirstIsDropped, LeavingTakesOut, NamedStandThere, NoOwnerNoQueue, OnlyOwnedCount, PushingJoins}
+use Rattle.links.specs.Threaded.{AreLinked, SameQueues, Threaded, left, listed, pushed}
 use Rattle.links.proofs.Chains.{put-off}
 use Rattle.links.proofs.Joining.{more, pushed-as}
 use Rattle.links.proofs.Leaving.{left-as, less}
+use Rattle.links.proofs.Keeping.{same-as}
 use Rattle.links.proofs.Listing.{dropped, first-named, found, last-named, linked-as, next-named, none-as, out-as, previous-named}
 pub use Rattle.links.proofs.Chains.{put-here, put-off, put_at-here, put_at-off}
 
@@ -53,4 +54,13 @@ named_stand = record {
   last = λ w size queue thread known is. last-named w (listed w size) queue thread known.queues is;
   next = λ w size queue thread other known is named. next-named w (listed w size) queue thread other known.queues is named;
   previous = λ w size queue thread other known is named. previous-named w (listed w size) queue thread other known.queues is named;
+}
+
+near-same : (w v : Threaded) (size : ℕ) → AreLinked w size → SameQueues w v → (queue thread : ℕ) → v.owner thread ≡ Some queue → thread < size
+near-same w v size known same queue thread is = known.near queue thread (sym (same.owner thread) ∙ is)
+
+pub only_owned : OnlyOwnedCount
+only_owned = record {
+  linked = λ w v size known same. linked-as v (listed w size) size (same-as w v (listed w size) known.queues same) (near-same w v size known same);
+  queues = λ w v size known same. found v (listed w size) size (same-as w v (listed w size) known.queues same) (near-same w v size known same);
 }

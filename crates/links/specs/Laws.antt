@@ -3,7 +3,7 @@ use Rattle.std.specs.Prelude.{ℕ, ◌≡◌, ◌<◌, Some, None, [], ◌∷◌
 use Rattle.model.specs.Kernel.Scheduling.{head_of}
 use Rattle.model.specs.Kernel.State.{put}
 use Rattle.model.specs.Shared.Lists.{times_in, without}
-use Rattle.links.specs.Threaded.{AreLinked, Threaded, left, listed, pushed}
+use Rattle.links.specs.Threaded.{AreLinked, SameQueues, Threaded, left, listed, pushed}
 
 -- a thread that stands in no queue is put behind the last one of a queue
 pub record PushingJoins : Type 0 where
@@ -33,3 +33,8 @@ pub record NamedStandThere : Type 0 where
   pub last : (w : Threaded) (size queue thread : ℕ) → AreLinked w size → w.last queue ≡ Some thread → w.owner thread ≡ Some queue
   pub next : (w : Threaded) (size queue thread other : ℕ) → AreLinked w size → w.owner thread ≡ Some queue → w.next thread ≡ Some other → w.owner other ≡ Some queue
   pub previous : (w : Threaded) (size queue thread other : ℕ) → AreLinked w size → w.owner thread ≡ Some queue → w.previous thread ≡ Some other → w.owner other ≡ Some queue
+
+-- the links of those who stand in no queue do not matter
+pub record OnlyOwnedCount : Type 0 where
+  pub linked : (w v : Threaded) (size : ℕ) → AreLinked w size → SameQueues w v → AreLinked v size
+  pub queues : (w v : Threaded) (size : ℕ) → AreLinked w size → SameQueues w v → (queue : ℕ) → listed v size queue ≡ listed w size queue

@@ -43,6 +43,14 @@ pub record AreLinked (w : Threaded) (size : ℕ) : Type 0 where
   pub queues : AreLinkedAs w (listed w size)
   pub near : (queue thread : ℕ) → w.owner thread ≡ Some queue → thread < size
 
+-- the same threads stand in queues, linked in the same way
+pub record SameQueues (w v : Threaded) : Type 0 where
+  pub owner : (thread : ℕ) → v.owner thread ≡ w.owner thread
+  pub next : (queue thread : ℕ) → w.owner thread ≡ Some queue → v.next thread ≡ w.next thread
+  pub previous : (queue thread : ℕ) → w.owner thread ≡ Some queue → v.previous thread ≡ w.previous thread
+  pub first : (queue : ℕ) → v.first queue ≡ w.first queue
+  pub last : (queue : ℕ) → v.last queue ≡ w.last queue
+
 -- ---- changes
 
 -- the first of a queue, if another thread stands behind it

@@ -1,6 +1,6 @@
 //! Laws on threads that come to stand in queues, and leave them.
 
-ghost use Rattle.links.specs.Laws.{FirstIsDropped, LeavingTakesOut, NamedStandThere, NoOwnerNoQueue, PushingJoins};
+ghost use Rattle.links.specs.Laws.{FirstIsDropped, LeavingTakesOut, NamedStandThere, NoOwnerNoQueue, OnlyOwnedCount, PushingJoins};
 
 /// A thread that is linked behind the last one of a queue stands behind all others of it, and no other queue changes.
 pub fn pushing_joins()
@@ -25,4 +25,9 @@ pub fn a_first_thread_is_dropped()
 /// Whoever is named by the links of a queue stands in it.
 pub fn whoever_is_named_stands_there()
     ensures { NamedStandThere }
+{}
+
+/// The links of those who stand in no queue do not matter.
+pub fn only_links_of_queues_count()
+    ensures { OnlyOwnedCount }
 {}

@@ -65,6 +65,10 @@ impl Ends for KernelObjects {
         self.objects.slots_of(store, offset)
     }
 
+    fn is_waited_at<S: SlotStore>(&self, store: &S, offset: u32) -> bool {
+        self.objects.is_waited_at(store, offset)
+    }
+
     fn wake<S: SlotStore>(&mut self, store: &mut S) {
         self.objects.wake_stranded(store);
     }

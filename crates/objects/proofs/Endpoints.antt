@@ -1,5 +1,5 @@
 -- Endpoints and notifications that are there, with those that wait.
-use Rattle.std.proofs.Common.{ℕ, ◌≡◌, ◌∙◌, inl, inr, true, false, if◌then◌else◌, Option, Some, None, is_some, option_map, List, [], ◌∷◌, drop, refl, sym, ap}
+use Rattle.std.proofs.Common.{ℕ, ◌≡◌, ◌∙◌, ◌&&◌, ◌↔◌, inl, inr, Bool, true, false, if◌then◌else◌, Option, Some, None, is_some, option_map, List, [], ◌∷◌, ◌++◌, drop, length, length-append, map, refl, sym, ap, arith}
 use Rattle.std.specs.Prelude.{slice_index}
 use Rattle.std.specs.Option.{option_map_or}
 use Rattle.std.proofs.lemmas.Bool.Decides.{eqb_tells}
@@ -7,12 +7,13 @@ use Rattle.model.specs.Capabilities.Slots.{Slots}
 use Rattle.model.specs.Kernel.Kinds.{frame_around, kind_at, kind_of}
 use Rattle.model.specs.Kernel.Retype.{NewEndpoint, NewNotification}
 use Rattle.model.specs.Kernel.Scheduling.{head_of}
-use Rattle.model.specs.Kernel.State.{CNodeObject, EndpointObject, EndpointState, FrameObject, NotificationObject, NotificationState, Object, PageTableObject, RootTableObject, State, ThreadObject, as_endpoint, as_notification, endpoint_at, new_endpoint, new_notification, notification_at, put, with_object}
+use Rattle.model.specs.Kernel.Soundness.{waiting_at}
+use Rattle.model.specs.Kernel.State.{CNodeObject, EndpointObject, EndpointState, FrameObject, NotificationObject, NotificationState, Object, PageTableObject, RootTableObject, State, ThreadObject, Sender, as_endpoint, as_notification, endpoint_at, new_endpoint, new_notification, notification_at, put, with_object}
 use Rattle.objects.proofs.Kept.{put-here, put-there}
 use Rattle.objects.proofs.Serving.{first-receives, first-sends}
 use Rattle.objects.specs.Tables.{Tables, is_frame, kind_in, object_from, object_in, object_of, receivers_in, record_in, senders_in, sending_in, state_of, thread_in, told_by}
 use Rattle.objects.specs.Threads.{sender_of}
-use Rattle.objects.specs.Waiting.{IsOneSided, changed_at, with_word}
+use Rattle.objects.specs.Waiting.{IsOneSided, changed_at, has_waiting, with_word}
 use Rattle.objects.specs.declared.records.Record.{Record}
 use Rattle.objects.specs.declared.records.Record.TheVariants.{Endpoint, Notification, CNode, Frame, PageTable, RootTable}
 use Rattle.objects.specs.declared.records.Sending.{Sending}
@@ -165,6 +166,39 @@ module _ (o : Tables) (notification : ℕ) (slots : Slots) (memory : List ℕ) (
 
   pub waiter-first : (thread : ℕ) → head_of queue ≡ Some thread → n.waiters ≡ thread ∷ drop 1 n.waiters
   waiter-first thread first = again n.waiters thread _ (waiters-in ∙ head-rest queue thread first)
+
+-- ---- whether someone waits
+
+someone-waits : (threads : List (Option Thread)) (thread : ℕ) (rest : List ℕ) → map (λ (sender : Sender). sender.thread) (senders_in threads (thread ∷ rest)) ++ receivers_in threads (thread ∷ rest) ≡ [] → ⊥
+someone-waits threads thread rest none = elim (sending_in threads thread) as (λ o. sending_in threads thread ≡ o → ⊥) [
+  | Some sending ↦ λ sends.
+      let first = ap length (ap (λ (l : List Sender). map (λ (sender : Sender). sender.thread) l ++ receivers_in threads (thread ∷ rest)) (sym (first-sends (sending_in threads) thread rest sending sends)) ∙ none) in
+      omega (arith, first)
+  | None ↦ λ receives.
+      let first = ap length (ap (λ (l : List ℕ). map (λ (sender : Sender). sender.thread) (senders_in threads (thread ∷ rest)) ++ l) (sym (first-receives (sending_in threads) thread rest receives)) ∙ none) in
+      let both = length-append (map (λ (sender : Sender). sender.thread) (senders_in threads (thread ∷ rest))) (thread ∷ receivers_in threads rest) in
+      omega (arith, first, both)
+] refl
+
+waited-from : (threads : List (Option Thread)) (waiting : List ℕ) (t : Option Thread) (r : Option Record)
+    → ((has_waiting (option_map kind_of (object_from t (option_map (object_of threads []) r))) && is_some (head_of waiting)) ≡ false) ↔ (waiting_at (object_from t (option_map (object_of threads waiting) r)) ≡ [])
+waited-from threads waiting (Some t) r = (λ _. refl, λ _. refl)
+waited-from threads waiting None None = (λ _. refl, λ _. refl)
+waited-from threads [] None (Some Endpoint) = (λ _. refl, λ _. refl)
+waited-from threads (thread ∷ rest) None (Some Endpoint) = (λ is. absurd (let clash : true ≡ false = is in cc), λ none. absurd (someone-waits threads thread rest none))
+waited-from threads [] None (Some (Notification word)) = (λ _. refl, λ _. refl)
+waited-from threads (thread ∷ rest) None (Some (Notification word)) = (λ is. absurd (let clash : true ≡ false = is in cc), λ none. absurd (let clash : thread ∷ rest ≡ [] = none in cc))
+waited-from threads waiting None (Some (CNode radix)) = (λ _. refl, λ _. refl)
+waited-from threads waiting None (Some Frame) = (λ _. refl, λ _. refl)
+waited-from threads waiting None (Some PageTable) = (λ _. refl, λ _. refl)
+waited-from threads waiting None (Some RootTable) = (λ _. refl, λ _. refl)
+
+pub waited-in : (o : Tables) (slots : Slots) (memory : List ℕ) (offset : ℕ) (waited : Bool) → waited ≡ (has_waiting (kind_in o offset) && is_some (head_of (queue_of o.waiting memory offset)))
+    → (waited ≡ false) ↔ (waiting_at ((state_of o slots memory).objects offset) ≡ [])
+unfolding state_of told_by
+waited-in o slots memory offset waited is =
+    let same = waited-from o.threads (queue_of o.waiting memory offset) (thread_in o.threads offset) (record_in o.records offset) in
+    (λ none. same.0 (sym is ∙ none), λ none. is ∙ same.1 none)
 
 -- ---- another word
 

@@ -1,9 +1,10 @@
 //! The calls on those that wait at endpoints and notifications, which are lent the store beside which the
 //! objects stand.
 
-ghost use Rattle.std.specs.Prelude.{ℕ, ◌≡◌, [], Some};
+ghost use Rattle.std.specs.Prelude.{ℕ, ◌≡◌, ◌↔◌, [], Some, false};
 ghost use Rattle.model.specs.Kernel.Kinds.{kind_at};
 ghost use Rattle.model.specs.Kernel.Retype.{NewEndpoint, NewNotification, NewThread};
+ghost use Rattle.model.specs.Kernel.Soundness.{waiting_at};
 ghost use Rattle.model.specs.Kernel.State.{endpoint_at, notification_at};
 ghost use Rattle.objects.specs.Frames.{SameObjects};
 ghost use Rattle.objects.specs.Standing.{Standing};
@@ -139,6 +140,14 @@ impl Objects {
         };
         self.serve(store, notification, thread);
         Some(thread)
+    }
+
+    /// Whether a thread waits at the object at an offset.
+    #[tactic(auto, unfolding(crate::specs::Tables::state_of, crate::specs::Tables::told_by))]
+    pub fn is_waited_at<S: SlotStore>(&self, store: &S, offset: u32) -> bool
+        ensures { (result ≡ false) ↔ (waiting_at ((state_of self.now (S.slots store.now) (S.memory store.now)).objects offset) ≡ []) }
+    {
+        self.has_queue(offset) && self.first_waiting(store, offset).is_some()
     }
 
     /// The word of a notification, or 0 where none is.

@@ -12,8 +12,9 @@ ghost use Rattle.model.specs.Shared.Lists.{times_in};
 ghost use Rattle.objects.specs.Changes.{vacated};
 ghost use Rattle.objects.specs.Frames.{SameBesideRecords};
 ghost use Rattle.objects.specs.Standing.{Standing};
-ghost use Rattle.objects.specs.Tables.{is_frame, object_in, record_in, record_of, state_of, thread_in};
+ghost use Rattle.objects.specs.Tables.{is_frame, kind_in, object_in, record_in, record_of, state_of, thread_in};
 ghost use Rattle.objects.specs.Threads.{status_of};
+ghost use Rattle.objects.specs.Waiting.{has_waiting};
 ghost use Rattle.queues.specs.Queues.{queue_of};
 ghost use Rattle.removal_laws.specs.Finishing.{is_stranded, waits_nowhere};
 ghost use Rattle.removal_laws.specs.Steps.{ends_thread};
@@ -162,6 +163,17 @@ impl Objects {
     {
         self.thread_at(offset).is_none()
             && matches!(self.records.get(LEAST_SIZE, offset), Some(Record::Frame))
+    }
+
+    /// Whether threads may wait at the object at an offset.
+    pub(crate) fn has_queue(&self, offset: u32) -> bool
+        ensures { result ≡ has_waiting (kind_in self.now offset) }
+    {
+        self.thread_at(offset).is_none()
+            && matches!(
+                self.records.get(LEAST_SIZE, offset),
+                Some(Record::Endpoint | Record::Notification { .. })
+            )
     }
 
     /// Whether a place stands in a frame.

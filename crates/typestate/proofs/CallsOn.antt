@@ -1,5 +1,5 @@
 -- What is decoded of a capability is a call on it.
-use Rattle.std.proofs.Common.{ℕ, ◌≡◌, ◌==◌, Bool, true, false, nat_le, if◌then◌else◌, Option, Some, None, Result, Ok, Err, List, length, refl, subst}
+use Rattle.std.proofs.Common.{ℕ, ◌≡◌, ◌==◌, Bool, true, false, nat_le, if◌then◌else◌, Option, Some, None, Result, Ok, Err, List, length, refl, sym, ap, subst}
 use Rattle.model.specs.declared.capabilities.Cap.{Cap}
 use Rattle.model.specs.declared.capabilities.Cap.TheVariants.{Empty, Untyped, Endpoint, Notification, CNode, Frame, PageTable, Tcb, RootTable, InterruptControl, InterruptHandler}
 use Rattle.model.specs.declared.errors.KError.{KError}
@@ -8,10 +8,12 @@ use Rattle.model.specs.declared.invocations.Invocation.{Invocation}
 use Rattle.std.specs.Prelude.{IfOk}
 use Rattle.model.specs.declared.invocations.CNodeCall.{CNodeCall}
 use Rattle.model.specs.declared.invocations.CNodeCall.TheVariants.{Copy, Mint, Move, Mutate, Delete, Revoke}
-use Rattle.model.specs.declared.invocations.Invocation.TheVariants.{OnThread, OnCNode, OnTable, OnControl}
+use Rattle.model.specs.declared.invocations.Invocation.TheVariants.{OnUntyped, OnThread, OnCNode, OnTable, OnControl}
+use Rattle.model.specs.declared.invocations.RetypeCall.{RetypeCall}
 use Rattle.model.specs.declared.invocations.SlotName.{SlotName}
 use Rattle.model.specs.declared.invocations.TableCall.{TableCall}
 use Rattle.model.specs.declared.invocations.ThreadCall.{ThreadCall}
+use Rattle.model.specs.declared.invocations.UntypedMemory.{UntypedMemory}
 use Rattle.model.specs.declared.refusals.Point.{Point}
 use Rattle.model.specs.Acceptance.NotedStates.{NotedSlot, is_foreign}
 use Rattle.model.specs.Images.Image.{Image, Thread}
@@ -77,6 +79,21 @@ from-form c true (Some form) count words call makes is =
 pub decoded-on : (c : Cap) (label extra : ℕ) (words : List ℕ) (call : Invocation) → decode c label extra words ≡ Ok call → IsCallOn c call
 unfolding decode
 decoded-on c label extra words call is = from-form c (extra == 0) (form_of c label) (length words) words call (forms-on c label) is
+
+-- ---- a call on a pool
+
+pub pool-is : (c : Cap) (memory : UntypedMemory) (call : RetypeCall) → IsCallOn c (OnUntyped memory call) → c ≡ Untyped memory.offset memory.bits memory.watermark
+pool-is (Untyped offset bits watermark) memory call is = ap (λ (m : UntypedMemory). Untyped m.offset m.bits m.watermark) (sym is)
+pool-is Empty memory call is = absurd is
+pool-is (Endpoint _ _ _) memory call is = absurd is
+pool-is (Notification _ _ _) memory call is = absurd is
+pool-is (CNode _ _ _) memory call is = absurd is
+pool-is (Frame _ _ _) memory call is = absurd is
+pool-is (PageTable _ _) memory call is = absurd is
+pool-is (Tcb _) memory call is = absurd is
+pool-is (RootTable _) memory call is = absurd is
+pool-is InterruptControl memory call is = absurd is
+pool-is (InterruptHandler _) memory call is = absurd is
 
 -- ---- calls that no program makes
 

@@ -15,8 +15,8 @@ use Rattle.model.specs.declared.invocations.SlotName.{SlotName}
 use Rattle.model.specs.declared.lookup_failures.LookupFailure.{LookupFailure}
 use Rattle.typestate.specs.declared.window.Window.{Window}
 use Rattle.typestate.specs.CNodeCalls.{NamesSlot}
-use Rattle.typestate.specs.Spaces.{AreWindows, NothingLeadsOutside, is_among, key_in, own_slots, with_held}
-use Rattle.typestate.proofs.Lookups.{AgreeInside, IsIndexIn, argument-same, index-below}
+use Rattle.typestate.specs.Spaces.{AreWindows, NothingLeadsOutside, is_among, key_in, own_slots}
+use Rattle.typestate.proofs.Lookups.{AgreeInside, IsIndexIn, argument-same, index-below, with_held}
 use Rattle.typestate.proofs.SlotMaps.{held_at, keys-same, noted-holds, own-key, slots-agree}
 
 -- a slot of a CNode that is the thread's

@@ -7,7 +7,7 @@ use Rattle.model.specs.declared.errors.KError.{KError}
 use Rattle.model.specs.declared.errors.KError.TheVariants.{FailedLookup, RangeError}
 use Rattle.model.specs.declared.invocations.SlotName.{SlotName}
 use Rattle.model.specs.Kernel.Arguments.{◌>>=◌, argument_slot, check, whole}
-use Rattle.typestate.specs.Spaces.{is_among, with_held}
+use Rattle.typestate.specs.Spaces.{is_among}
 use Rattle.model.specs.declared.capabilities.Cap.{Cap}
 use Rattle.model.specs.declared.capabilities.Cap.TheVariants.{Empty, Untyped, Endpoint, Notification, CNode, Frame, PageTable, Tcb, RootTable, InterruptControl, InterruptHandler}
 use Rattle.model.specs.declared.lookup_failures.LookupFailure.{LookupFailure}
@@ -107,6 +107,11 @@ called-slot-same s t own agree root address mine =
     (called-same s t (lookup s root address 32) goes.finds ∙ ap (called t) goes.result, called-finds s t (lookup s root address 32) goes.finds)
 
 -- ---- a slot that an argument names
+
+-- with the capability in it
+abbrev pub with_held : Slots → Result ℕ KError → Result (ℕ × Cap) KError
+with_held slots (Ok slot) = Ok (slot, capability_at slots slot)
+with_held slots (Err error) = Err error
 
 whole-held : (s t : Slots) (found : Result (ℕ × ℕ) LookupFailure) → FindsSame s t found → with_held s (whole found) ≡ with_held t (whole found)
 whole-held s t (Ok found) same =

@@ -1,16 +1,14 @@
 -- The slots of a thread's CNodes by the kernel's numbers, from the places of the CNodes.
-use Rattle.std.specs.Prelude.{ℕ, ◌≡◌, ◌-◌, ◌^◌, ◌&&◌, Bool, true, false, not, Option, None, option_map, Result, Ok, Err, List, find}
+use Rattle.std.specs.Prelude.{ℕ, ◌≡◌, ◌-◌, ◌^◌, ◌&&◌, Bool, true, false, not, Option, None, option_map, List, find}
 use Rattle.std.specs.Option.{option_map_or}
 use Rattle.std.specs.List.{list_all, list_any}
-use Rattle.model.specs.declared.capabilities.Cap.{Cap}
 use Rattle.model.specs.declared.capabilities.Cap.TheVariants.{Empty}
-use Rattle.model.specs.declared.errors.KError.{KError}
 use Rattle.model.specs.declared.slot_entries.Entry.{Entry}
 use Rattle.model.specs.Acceptance.NotedKernel.{noted_root}
 use Rattle.model.specs.Acceptance.NotedStates.{NotedSlot, SlotKey, is_foreign, is_own, slot_at}
 use Rattle.model.specs.Acceptance.ThreadRules.{reached}
 use Rattle.model.specs.Capabilities.CapabilityWords.{IsCapability}
-use Rattle.model.specs.Capabilities.Slots.{Slots, capability_at, is_empty, is_within}
+use Rattle.model.specs.Capabilities.Slots.{Slots, is_empty, is_within}
 use Rattle.model.specs.Images.Image.{Image, Thread}
 use Rattle.model.specs.Images.Places.{offset_of}
 use Rattle.model.specs.Kernel.State.{slot_of}
@@ -51,11 +49,6 @@ pub record IsSpace (space : Space) : Type 0 where
 -- no slot holds what leads outside of the thread's CNodes
 abbrev pub NothingLeadsOutside : Image → Thread → List NotedSlot → Type 0
 NothingLeadsOutside image t slots = list_any (λ s. is_foreign image t (reached image t) s.capability) slots ≡ false
-
--- a slot that an argument names, and the capability in it
-abbrev pub with_held : Slots → Result ℕ KError → Result (ℕ × Cap) KError
-with_held slots (Ok slot) = Ok (slot, capability_at slots slot)
-with_held slots (Err error) = Err error
 
 -- a full slot of the thread's CNodes, and what it was derived from is one too, or none of them
 abbrev pub is_own_slot : Image → List ℕ → NotedSlot → Bool

@@ -12,12 +12,6 @@ ghost use Rattle.typestate.specs.declared.behind.Written.TheVariants.{Nothing};
 use model::{Range, Register};
 use ranges::Bounds;
 
-/// The capability of a call, and the badge that a receiver gets.
-pub(crate) const A0: Register = Register(10);
-
-/// The info word of a message.
-pub(crate) const A1: Register = Register(11);
-
 /// Any badge, or any word of a notification.
 pub(crate) const BADGES: Range = Range {
     low: 0,
@@ -54,8 +48,8 @@ pub(crate) fn with_message(bounds: &Bounds, badge: Range) -> Bounds
     ensures { result ≡ with_message bounds.now badge }
 {
     let mut bounds = *bounds;
-    bounds.set(A0, badge);
-    bounds.set(A1, Range::FULL);
+    bounds.set(Register::A0, badge);
+    bounds.set(Register::A1, Range::FULL);
     bounds.set(Register(12), Range::FULL);
     bounds.set(Register(13), Range::FULL);
     bounds.set(Register(14), Range::FULL);
@@ -72,8 +66,8 @@ pub(crate) fn with_answer(bounds: &Bounds) -> Bounds
     ensures { result ≡ with_answer bounds.now }
 {
     let mut bounds = *bounds;
-    bounds.set(A0, Range::single(0));
-    bounds.set(A1, Range::single(0));
+    bounds.set(Register::A0, Range::single(0));
+    bounds.set(Register::A1, Range::single(0));
     bounds
 }
 

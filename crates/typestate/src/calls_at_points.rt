@@ -10,6 +10,7 @@ ghost use Rattle.typestate.specs.Invocations.{HoldsFull};
 ghost use Rattle.typestate.specs.Strays.{IsTidyBehind};
 ghost use Rattle.typestate.specs.Spaces.{own_slots};
 
+use crate::held_slots::HeldSlot;
 use crate::{Behind, NotedSlot, SystemCall, ThreadSlots, message_call};
 use model::{Cap, Point, Refusal};
 use ranges::Bounds;
@@ -37,8 +38,12 @@ impl ThreadSlots<'_, '_, '_> {
             Ok(call) => call,
             Err(refusal) => return Ok(Err(refusal)),
         };
-        let held = self.held(slot);
-        match self.invoked(at, held, call, made)? {
+        let found = self.held(slot);
+        let held = HeldSlot {
+            own: *self,
+            held: &found,
+        };
+        match held.invoked(at, call, made)? {
             Ok(is_tidy) => Ok(Ok(Behind::called(bounds, answers, is_tidy))),
             Err(refusal) => Ok(Err(refusal)),
         }

@@ -1,7 +1,7 @@
 //! Calls on CNodes at a point: the slots that they name, the kernel's checks, and what they leave of the slots.
 //! seL4 Reference Manual, "Capability-based Access Control", seL4_CNode.
 
-ghost use Rattle.std.specs.Prelude.{ℕ, ◌≡◌, true, false, Err, IfOk};
+ghost use Rattle.std.specs.Prelude.{ℕ, ◌≡◌, false, Err, IfOk};
 ghost use Rattle.model.specs.Acceptance.CallRules.{may_travel};
 ghost use Rattle.model.specs.Acceptance.NotedKernel.{noted_slots};
 ghost use Rattle.model.specs.Capabilities.CapabilityKinds.{is_untyped};
@@ -15,8 +15,9 @@ ghost use Rattle.model.specs.declared.invocations.SlotName.{SlotName};
 ghost use Rattle.typestate.specs.CNodeCalls.{AreEnds, NamesEnds, NamesSlot, allowed_slots, cnode_after, ends_of, with_child};
 ghost use Rattle.typestate.specs.Differences.{slots_of};
 ghost use Rattle.typestate.specs.SlotChanges.{left_or_refused};
-ghost use Rattle.typestate.specs.Spaces.{AreOwn, StandsApart, is_inside};
+ghost use Rattle.typestate.specs.Spaces.{AreOwn, StandsApart};
 
+use crate::roots::OwnRoot;
 use crate::spaces::key_in;
 use crate::{NotedSlot, NotedSlots, OwnSlots, Removed, SlotChange, SlotKey, ThreadSlots};
 use cap_copies::{copy_of, minted_copy_of};
@@ -85,45 +86,41 @@ fn put_copy(
     }))
 }
 
-impl ThreadSlots<'_, '_, '_> {
-    /// The slot of this name under a CNode of the thread, with the capability in it, or the kernel's error.
-    pub(crate) fn named(&self, root: Cap, name: SlotName) -> Result<(SlotKey, Cap), KError>
-        requires root { is_inside self.now.space.image.now self.now.space.thread.now root ≡ true }
-        requires valid { IsCapability root }
-        ensures value { let all = noted_slots self.now.space.image.now self.now.space.thread.now (slots_of self.now.slots) in
-            NamesSlot self.now.space.image.now self.now.space.thread.now all (argument_slot all root name) result }
+impl OwnRoot<'_, '_, '_> {
+    /// The slot of this name under the root, with the capability in it, or the kernel's error.
+    fn named(&self, name: SlotName) -> Result<(SlotKey, Cap), KError>
+        ensures value { let all = noted_slots self.now.own.space.image.now self.now.own.space.thread.now (slots_of self.now.own.slots) in
+            NamesSlot self.now.own.space.image.now self.now.own.space.thread.now all (argument_slot all self.now.root name) result }
         ensures valid { IfOk result (λ found. IsCapability found.1) }
     {
         let own = OwnSlots {
-            windows: self.space.windows,
-            slots: self.slots,
+            windows: self.own.space.windows,
+            slots: self.own.slots,
         };
-        let slot = match argument_slot(&own, root, name) {
+        let slot = match argument_slot(&own, self.root, name) {
             Ok(slot) => slot,
             Err(error) => return Err(error),
         };
-        match key_in(self.space.windows, slot.number()) {
-            Some(key) => Ok((key, self.slots.capability(key))),
+        match key_in(self.own.space.windows, slot.number()) {
+            Some(key) => Ok((key, self.own.slots.capability(key))),
             None => unreachable!(),
         }
     }
 
     /// The empty slot and the full one that a call names, or the kernel's error.
-    fn ends(&self, capability: Cap, destination: SlotName, source: SlotName) -> Result<Ends, KError>
-        requires root { is_inside self.now.space.image.now self.now.space.thread.now capability ≡ true }
-        requires valid { IsCapability capability }
-        ensures value { let all = noted_slots self.now.space.image.now self.now.space.thread.now (slots_of self.now.slots) in
-            NamesEnds self.now.space.image.now self.now.space.thread.now all self.now.space.root source (ends_of all capability self.now.space.root destination source) result }
+    fn ends(&self, destination: SlotName, source: SlotName) -> Result<Ends, KError>
+        ensures value { let all = noted_slots self.now.own.space.image.now self.now.own.space.thread.now (slots_of self.now.own.slots) in
+            NamesEnds self.now.own.space.image.now self.now.own.space.thread.now all self.now.own.space.root source (ends_of all self.now.root self.now.own.space.root destination source) result }
         ensures valid { IfOk result (λ ends. IsCapability ends.held) }
     {
-        let (to, there) = match self.named(capability, destination) {
+        let (to, there) = match self.named(destination) {
             Ok(found) => found,
             Err(error) => return Err(error),
         };
         if !is_vacant(there) {
             return Err(KError::DeleteFirst);
         }
-        let (from, held) = match self.named(self.space.root, source) {
+        let (from, held) = match self.own.named(source) {
             Ok(found) => found,
             Err(error) => return Err(error),
         };
@@ -137,42 +134,36 @@ impl ThreadSlots<'_, '_, '_> {
     fn copy(
         &self,
         at: Point,
-        capability: Cap,
         destination: SlotName,
         source: SlotName,
         rights_word: u32,
     ) -> Result<SlotChange, Refusal>
-        requires root { is_inside self.now.space.image.now self.now.space.thread.now capability ≡ true }
-        requires valid { IsCapability capability }
-        ensures { cnode_after self.now.space.image.now self.now.space.thread.now at (slots_of self.now.slots) capability (calls.Copy destination source rights_word) ≡ left_or_refused (slots_of self.now.slots) result }
+        ensures { cnode_after self.now.own.space.image.now self.now.own.space.thread.now at (slots_of self.now.own.slots) self.now.root (calls.Copy destination source rights_word) ≡ left_or_refused (slots_of self.now.own.slots) result }
     {
-        let ends = match self.ends(capability, destination, source) {
+        let ends = match self.ends(destination, source) {
             Ok(ends) => ends,
             Err(error) => return Err(Refusal::CallRefused(at, error)),
         };
-        put_copy(&self.slots, at, ends, copy_of(ends.held, rights_word))
+        put_copy(&self.own.slots, at, ends, copy_of(ends.held, rights_word))
     }
 
     /// Mint: a copy with a badge or a guard word.
     fn mint(
         &self,
         at: Point,
-        capability: Cap,
         destination: SlotName,
         source: SlotName,
         rights_word: u32,
         payload: u32,
     ) -> Result<SlotChange, Refusal>
-        requires root { is_inside self.now.space.image.now self.now.space.thread.now capability ≡ true }
-        requires valid { IsCapability capability }
-        ensures { cnode_after self.now.space.image.now self.now.space.thread.now at (slots_of self.now.slots) capability (calls.Mint destination source rights_word payload) ≡ left_or_refused (slots_of self.now.slots) result }
+        ensures { cnode_after self.now.own.space.image.now self.now.own.space.thread.now at (slots_of self.now.own.slots) self.now.root (calls.Mint destination source rights_word payload) ≡ left_or_refused (slots_of self.now.own.slots) result }
     {
-        let ends = match self.ends(capability, destination, source) {
+        let ends = match self.ends(destination, source) {
             Ok(ends) => ends,
             Err(error) => return Err(Refusal::CallRefused(at, error)),
         };
         put_copy(
-            &self.slots,
+            &self.own.slots,
             at,
             ends,
             minted_copy_of(ends.held, rights_word, payload),
@@ -183,15 +174,12 @@ impl ThreadSlots<'_, '_, '_> {
     fn moves(
         &self,
         at: Point,
-        capability: Cap,
         destination: SlotName,
         source: SlotName,
     ) -> Result<SlotChange, Refusal>
-        requires root { is_inside self.now.space.image.now self.now.space.thread.now capability ≡ true }
-        requires valid { IsCapability capability }
-        ensures { cnode_after self.now.space.image.now self.now.space.thread.now at (slots_of self.now.slots) capability (calls.Move destination source) ≡ left_or_refused (slots_of self.now.slots) result }
+        ensures { cnode_after self.now.own.space.image.now self.now.own.space.thread.now at (slots_of self.now.own.slots) self.now.root (calls.Move destination source) ≡ left_or_refused (slots_of self.now.own.slots) result }
     {
-        let ends = match self.ends(capability, destination, source) {
+        let ends = match self.ends(destination, source) {
             Ok(ends) => ends,
             Err(error) => return Err(Refusal::CallRefused(at, error)),
         };
@@ -206,30 +194,26 @@ impl ThreadSlots<'_, '_, '_> {
             to: NotedSlot {
                 key: ends.to,
                 capability: ends.held,
-                parent: self.slots.parent(ends.from),
+                parent: self.own.slots.parent(ends.from),
             },
         })
     }
 
     /// Mutate, which is none of a program's calls: the kernel's errors come first.
-    fn mutate(&self, at: Point, capability: Cap, destination: SlotName, source: SlotName) -> Refusal
-        requires root { is_inside self.now.space.image.now self.now.space.thread.now capability ≡ true }
-        requires valid { IsCapability capability }
-        ensures { (payload : ℕ) → cnode_after self.now.space.image.now self.now.space.thread.now at (slots_of self.now.slots) capability (calls.Mutate destination source payload) ≡ Err result }
+    fn mutate(&self, at: Point, destination: SlotName, source: SlotName) -> Refusal
+        ensures { (payload : ℕ) → cnode_after self.now.own.space.image.now self.now.own.space.thread.now at (slots_of self.now.own.slots) self.now.root (calls.Mutate destination source payload) ≡ Err result }
     {
-        match self.ends(capability, destination, source) {
+        match self.ends(destination, source) {
             Ok(_) => Refusal::CallRefused(at, KError::IllegalOperation),
             Err(error) => Refusal::CallRefused(at, error),
         }
     }
 
     /// Delete: a program may not lose its pools. Nothing happens to an empty slot.
-    fn delete(&self, at: Point, capability: Cap, name: SlotName) -> Result<SlotChange, Refusal>
-        requires root { is_inside self.now.space.image.now self.now.space.thread.now capability ≡ true }
-        requires valid { IsCapability capability }
-        ensures { cnode_after self.now.space.image.now self.now.space.thread.now at (slots_of self.now.slots) capability (calls.Delete name) ≡ left_or_refused (slots_of self.now.slots) result }
+    fn delete(&self, at: Point, name: SlotName) -> Result<SlotChange, Refusal>
+        ensures { cnode_after self.now.own.space.image.now self.now.own.space.thread.now at (slots_of self.now.own.slots) self.now.root (calls.Delete name) ≡ left_or_refused (slots_of self.now.own.slots) result }
     {
-        let (key, held) = match self.named(capability, name) {
+        let (key, held) = match self.named(name) {
             Ok(found) => found,
             Err(error) => return Err(Refusal::CallRefused(at, error)),
         };
@@ -243,53 +227,59 @@ impl ThreadSlots<'_, '_, '_> {
     }
 
     /// Revoke: what descends from a slot goes.
-    fn revoke(&self, at: Point, capability: Cap, name: SlotName) -> Result<SlotChange, Refusal>
-        requires root { is_inside self.now.space.image.now self.now.space.thread.now capability ≡ true }
-        requires valid { IsCapability capability }
-        ensures { cnode_after self.now.space.image.now self.now.space.thread.now at (slots_of self.now.slots) capability (calls.Revoke name) ≡ left_or_refused (slots_of self.now.slots) result }
+    fn revoke(&self, at: Point, name: SlotName) -> Result<SlotChange, Refusal>
+        ensures { cnode_after self.now.own.space.image.now self.now.own.space.thread.now at (slots_of self.now.own.slots) self.now.root (calls.Revoke name) ≡ left_or_refused (slots_of self.now.own.slots) result }
     {
-        let (key, _) = match self.named(capability, name) {
+        let (key, _) = match self.named(name) {
             Ok(found) => found,
             Err(error) => return Err(Refusal::CallRefused(at, error)),
         };
         Ok(SlotChange::Removes(Removed::Below(key)))
     }
 
-    /// What a call on a CNode of the thread leaves of the slots, or why it is refused: the kernel's error comes first, then
+    /// What a call on the CNode of the root leaves of the slots, or why it is refused: the kernel's error comes first, then
     /// that a pool is lost, and then that a program may not move or copy what its source holds.
-    pub fn cnode_call(
-        &self,
-        at: Point,
-        capability: Cap,
-        call: CNodeCall,
-    ) -> Result<SlotChange, Refusal>
-        requires root { is_inside self.now.space.image.now self.now.space.thread.now capability ≡ true }
-        requires valid { IsCapability capability }
-        ensures { cnode_after self.now.space.image.now self.now.space.thread.now at (slots_of self.now.slots) capability call ≡ left_or_refused (slots_of self.now.slots) result }
+    pub(crate) fn cnode_call(&self, at: Point, call: CNodeCall) -> Result<SlotChange, Refusal>
+        ensures { cnode_after self.now.own.space.image.now self.now.own.space.thread.now at (slots_of self.now.own.slots) self.now.root call ≡ left_or_refused (slots_of self.now.own.slots) result }
     {
         match call {
             CNodeCall::Copy {
                 destination,
                 source,
                 rights,
-            } => self.copy(at, capability, destination, source, rights),
+            } => self.copy(at, destination, source, rights),
             CNodeCall::Mint {
                 destination,
                 source,
                 rights,
                 payload,
-            } => self.mint(at, capability, destination, source, rights, payload),
+            } => self.mint(at, destination, source, rights, payload),
             CNodeCall::Move {
                 destination,
                 source,
-            } => self.moves(at, capability, destination, source),
+            } => self.moves(at, destination, source),
             CNodeCall::Mutate {
                 destination,
                 source,
                 ..
-            } => Err(self.mutate(at, capability, destination, source)),
-            CNodeCall::Delete { slot } => self.delete(at, capability, slot),
-            CNodeCall::Revoke { slot } => self.revoke(at, capability, slot),
+            } => Err(self.mutate(at, destination, source)),
+            CNodeCall::Delete { slot } => self.delete(at, slot),
+            CNodeCall::Revoke { slot } => self.revoke(at, slot),
         }
+    }
+}
+
+impl ThreadSlots<'_, '_, '_> {
+    /// The slot of this name under the root of the thread's capability space, with the capability in it, or the kernel's error.
+    pub(crate) fn named(&self, name: SlotName) -> Result<(SlotKey, Cap), KError>
+        ensures value { let all = noted_slots self.now.space.image.now self.now.space.thread.now (slots_of self.now.slots) in
+            NamesSlot self.now.space.image.now self.now.space.thread.now all (argument_slot all self.now.space.root name) result }
+        ensures valid { IfOk result (λ found. IsCapability found.1) }
+    {
+        let root = OwnRoot {
+            own: *self,
+            root: self.space.root,
+        };
+        root.named(name)
     }
 }

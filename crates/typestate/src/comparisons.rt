@@ -3,21 +3,18 @@
 ghost use Rattle.std.specs.Prelude.{◌≡◌};
 ghost use Rattle.model.specs.Acceptance.NotedStates.{are_same_slots, is_same_parent, is_same_slot};
 ghost use Rattle.model.specs.Capabilities.CapabilityFields.{same_words};
-ghost use Rattle.model.specs.Capabilities.CapabilityWords.{IsCapability, words_of};
+ghost use Rattle.model.specs.Capabilities.CapabilityWords.{words_of};
 ghost use Rattle.typestate.specs.Differences.{are_same_at, is_same_held, slots_of};
 
 use crate::{NotedSlot, NotedSlots, SlotKey};
 use capwords::pack;
-use model::Cap;
 
-/// Whether two capabilities have the same words.
-fn are_same(a: Cap, b: Cap) -> bool
-    requires first { IsCapability a }
-    requires second { IsCapability b }
-    ensures { result ≡ same_words (words_of a) (words_of b) }
+/// Whether two slots hold capabilities with the same words.
+fn have_same_words(a: NotedSlot, b: NotedSlot) -> bool
+    ensures { result ≡ same_words (words_of a.capability) (words_of b.capability) }
 {
-    let [a_head, a_word] = pack(a);
-    let [b_head, b_word] = pack(b);
+    let [a_head, a_word] = pack(a.capability);
+    let [b_head, b_word] = pack(b.capability);
     a_head == b_head && a_word == b_word
 }
 
@@ -36,9 +33,7 @@ pub(crate) fn is_same_parent(a: Option<SlotKey>, b: Option<SlotKey>) -> bool
 fn is_same_slot(a: NotedSlot, b: NotedSlot) -> bool
     ensures { result ≡ is_same_slot a b }
 {
-    a.key.is_same(b.key)
-        && are_same(a.capability, b.capability)
-        && is_same_parent(a.parent, b.parent)
+    a.key.is_same(b.key) && have_same_words(a, b) && is_same_parent(a.parent, b.parent)
 }
 
 /// Whether two look-ups give the same.

@@ -5,7 +5,6 @@ ghost use Rattle.std.specs.Prelude.{◌≡◌, ◌==◌, ◌||◌, ◌/◌, ◌%
 ghost use Rattle.std.specs.List.{list_any};
 ghost use Rattle.std.specs.Option.{option_map_or};
 ghost use Rattle.model.specs.Acceptance.NotedKernel.{noted_kernel, noted_root, noted_slots};
-ghost use Rattle.model.specs.Acceptance.NotedStates.{slot_at};
 ghost use Rattle.model.specs.Capabilities.CapabilityKinds.{frame_mapping, with_frame_mapping};
 ghost use Rattle.model.specs.Capabilities.CapabilityWords.{AreMappingRights, IsCapability, IsFrameMapping, IsPlace};
 ghost use Rattle.model.specs.Kernel.AddressSpaces.{is_page_taken, is_region_taken, maps_page};
@@ -19,6 +18,7 @@ ghost use Rattle.typestate.specs.Mappings.{lists_page, lists_region};
 ghost use Rattle.typestate.specs.SlotChanges.{left_or_refused};
 ghost use Rattle.typestate.specs.declared.slot_changes.SlotChange.TheVariants.{Puts};
 
+use crate::held_slots::HeldSlot;
 use crate::noted::{left, numbered};
 use crate::{NotedSlot, NotedSlots, SlotChange, Space, ThreadSlots};
 use model::{Cap, FrameCall, FrameMapping, KError, Point, Refusal, Rights, SlotName};
@@ -174,7 +174,7 @@ impl ThreadSlots<'_, '_, '_> {
         ensures value { root_named (noted_slots self.now.space.image.now self.now.space.thread.now (slots_of self.now.slots)) (noted_root self.now.space.image.now self.now.space.thread.now) name ≡ with_root self.now.space.table result }
         ensures placed { IfOk result (λ _. IsPlace self.now.space.table 12) }
     {
-        let (_, held) = match self.named(self.space.root, name) {
+        let (_, held) = match self.named(name) {
             Ok(found) => found,
             Err(error) => return Err(error),
         };
@@ -234,23 +234,27 @@ impl ThreadSlots<'_, '_, '_> {
         };
         self.mapping_at(mapping_rights(held, rights), page)
     }
+}
 
-    /// Map of the frame whose capability a slot holds: no program may make what it can execute.
+impl HeldSlot<'_, '_, '_, '_> {
+    /// Map of the frame whose capability the slot holds: no program may make what it can execute.
     fn map(
         &self,
         at: Point,
-        held: NotedSlot,
         allowed: Rights,
         root: SlotName,
         address: u32,
         rights: u32,
     ) -> Result<SlotChange, Refusal>
-        requires held { slot_at (slots_of self.now.slots) held.key ≡ Some held }
-        requires frame { IsCallOn held.capability (OnFrame allowed (MapFrame root address rights)) }
-        ensures { held_after self.now.space.image.now self.now.space.thread.now at (slots_of self.now.slots) held (OnFrame allowed (MapFrame root address rights)) ≡ left_or_refused (slots_of self.now.slots) result }
+        requires { IsCallOn self.now.held.now.capability (OnFrame allowed (MapFrame root address rights)) }
+        ensures { held_after self.now.own.space.image.now self.now.own.space.thread.now at (slots_of self.now.own.slots) self.now.held.now (OnFrame allowed (MapFrame root address rights)) ≡ left_or_refused (slots_of self.now.own.slots) result }
     {
+        let held = *self.held;
         let mapping = mapping_of(held.capability);
-        match self.mapping_for(mapping, allowed, root, address, rights) {
+        match self
+            .own
+            .mapping_for(mapping, allowed, root, address, rights)
+        {
             Err(error) => Err(Refusal::CallRefused(at, error)),
             Ok(mapping) => {
                 if !is_data(rights) {
@@ -261,25 +265,26 @@ impl ThreadSlots<'_, '_, '_> {
         }
     }
 
-    /// Map and Unmap of the frame whose capability a slot holds, with these rights.
+    /// Map and Unmap of the frame whose capability the slot holds, with these rights.
     pub(crate) fn frame_call(
         &self,
         at: Point,
-        held: NotedSlot,
         allowed: Rights,
         call: FrameCall,
     ) -> Result<SlotChange, Refusal>
-        requires held { slot_at (slots_of self.now.slots) held.key ≡ Some held }
-        requires frame { IsCallOn held.capability (OnFrame allowed call) }
-        ensures { held_after self.now.space.image.now self.now.space.thread.now at (slots_of self.now.slots) held (OnFrame allowed call) ≡ left_or_refused (slots_of self.now.slots) result }
+        requires { IsCallOn self.now.held.now.capability (OnFrame allowed call) }
+        ensures { held_after self.now.own.space.image.now self.now.own.space.thread.now at (slots_of self.now.own.slots) self.now.held.now (OnFrame allowed call) ≡ left_or_refused (slots_of self.now.own.slots) result }
     {
         match call {
             FrameCall::MapFrame {
                 root,
                 address,
                 rights,
-            } => self.map(at, held, allowed, root, address, rights),
-            FrameCall::UnmapFrame => Ok(recapped(held, with_mapping(held.capability, None))),
+            } => self.map(at, allowed, root, address, rights),
+            FrameCall::UnmapFrame => {
+                let held = *self.held;
+                Ok(recapped(held, with_mapping(held.capability, None)))
+            }
         }
     }
 }

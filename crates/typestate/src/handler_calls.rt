@@ -30,7 +30,7 @@ impl ThreadSlots<'_, '_, '_> {
         requires line { line < 64 }
         ensures { (held : NotedSlot) → held_after self.now.space.image.now self.now.space.thread.now at (slots_of self.now.slots) held (OnHandler line (SetNotification name)) ≡ Err result }
     {
-        let (_, source) = match self.named(self.space.root, name) {
+        let (_, source) = match self.named(name) {
             Ok(found) => found,
             Err(error) => return Refusal::CallRefused(at, error),
         };

@@ -10,6 +10,9 @@ ghost use Rattle.typestate.specs.SlotChanges.{left_or_refused};
 ghost use Rattle.typestate.specs.Strays.{IsTidyCall};
 ghost use Rattle.typestate.specs.Spaces.{own_slots};
 
+use crate::held_slots::HeldSlot;
+use crate::pools::Pool;
+use crate::roots::OwnRoot;
 use crate::spaces::key_in;
 use crate::{NotedSlot, SlotChange, ThreadSlots, tidy_changes_leave_no_stray_slot};
 use model::{Invocation, Point, Refusal};
@@ -38,7 +41,7 @@ impl ThreadSlots<'_, '_, '_> {
     }
 
     /// The full slot of the thread's that has a number.
-    pub fn held(&self, slot: u32) -> NotedSlot
+    pub(crate) fn held(&self, slot: u32) -> NotedSlot
         requires full { IsFull (own_slots self.now.space.windows.now (slots_of self.now.slots)) slot }
         ensures place { slot_of_key self.now.space.image.now result.key ≡ slot }
         ensures held { slot_at (slots_of self.now.slots) result.key ≡ Some result }
@@ -52,41 +55,51 @@ impl ThreadSlots<'_, '_, '_> {
         };
         held
     }
+}
 
-    /// What a call leaves of the slots on what one of them holds: the slots that it changes are put into the list, which is
-    /// empty, and the answer is whether they are known to leave no stray slot where there was none. The kernel's error comes first, then that a pool is lost, and then that a program may make no such call. Memory
-    /// may be refused.
-    pub fn invoked(
+impl HeldSlot<'_, '_, '_, '_> {
+    /// What a call on what the slot holds leaves of the slots: those that it changes are put into the list, which is empty, and
+    /// the answer is whether they are known to leave no stray slot where there was none. The kernel's error comes first, then
+    /// that a pool is lost, and then that a program may make no such call. Memory may be refused.
+    pub(crate) fn invoked(
         &self,
         at: Point,
-        held: NotedSlot,
         call: Invocation,
         made: &mut Vec<NotedSlot>,
     ) -> Result<Result<bool, Refusal>, AllocError>
-        requires held { slot_at (slots_of self.now.slots) held.key ≡ Some held }
-        requires fits { IsCallOn held.capability call }
+        requires fits { IsCallOn self.now.held.now.capability call }
         requires none { made.old.items ≡ [] }
-        ensures tidy { IfOk result (IsTidyCall self.now.space.image.now self.now.space.thread.now (slots_of self.now.slots) made.new.items) }
-        ensures made { IfOk result (λ done. held_after self.now.space.image.now self.now.space.thread.now at (slots_of self.now.slots) held call ≡ made_or_refused (slots_of self.now.slots) made.new.items done) }
+        ensures tidy { IfOk result (IsTidyCall self.now.own.space.image.now self.now.own.space.thread.now (slots_of self.now.own.slots) made.new.items) }
+        ensures made { IfOk result (λ done. held_after self.now.own.space.image.now self.now.own.space.thread.now at (slots_of self.now.own.slots) self.now.held.now call ≡ made_or_refused (slots_of self.now.own.slots) made.new.items done) }
     {
+        let held = *self.held;
         match call {
             Invocation::OnUntyped { memory, call } => {
-                self.pool_call(at, held, memory, call, made)
+                let pool = Pool {
+                    own: self.own,
+                    held: self.held,
+                    memory,
+                };
+                pool.retype(at, call, made)
             }
             Invocation::OnCNode { call } => {
-                let left = self.cnode_call(at, held.capability, call);
-                self.note_left(left, made)
+                let root = OwnRoot {
+                    own: self.own,
+                    root: held.capability,
+                };
+                let left = root.cnode_call(at, call);
+                self.own.note_left(left, made)
             }
             Invocation::OnFrame {
                 held: allowed,
                 call,
             } => {
-                let left = self.frame_call(at, held, allowed, call);
-                self.note_left(left, made)
+                let left = self.frame_call(at, allowed, call);
+                self.own.note_left(left, made)
             }
             Invocation::OnHandler { line, call } => {
-                let left = self.handler_call(at, line, call);
-                self.note_left(left, made)
+                let left = self.own.handler_call(at, line, call);
+                self.own.note_left(left, made)
             }
             // No thread has such a capability: it is a stray one.
             Invocation::OnThread { .. }

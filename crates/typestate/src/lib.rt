@@ -1,7 +1,6 @@
 //! What a certificate notes of the slots of a thread's CNodes at a point of its program, and what a system call leaves of it.
 #![tactic(auto)]
 
-mod arguments;
 mod behind;
 mod calls_at_points;
 mod change_lists;
@@ -10,6 +9,7 @@ mod comparisons;
 mod families;
 mod frame_calls;
 mod handler_calls;
+mod held_slots;
 mod holders;
 mod invocations;
 mod keys;
@@ -19,16 +19,21 @@ mod logs;
 mod mapped_pages;
 mod messages;
 mod near;
+mod new_objects;
 mod noted;
 mod plain_calls;
 mod points;
 mod pool_calls;
+mod pools;
 mod records;
 mod removal;
+mod roots;
 mod shown;
 mod slot_changes;
 mod slot_laws;
+mod slot_runs;
 mod spaces;
+mod staying;
 mod stays;
 mod strays;
 mod system_calls;

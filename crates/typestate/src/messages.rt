@@ -14,7 +14,6 @@ ghost use Rattle.typestate.specs.Calls.{known_with};
 ghost use Rattle.typestate.specs.Invocations.{IsCallOn};
 ghost use Rattle.typestate.specs.Messages.{are_words, called_with, count_of};
 
-use crate::behind::A1;
 use crate::system_calls::known;
 use invoke::{decode_call, listed_words};
 use model::{Cap, Invocation, KError, Point, Refusal, Register};
@@ -82,7 +81,7 @@ pub fn message_call(at: Point, bounds: &Bounds, capability: Cap) -> Result<Invoc
         → invocation image t at (known_with bounds.now slots measure) call answers ≡ called_with image t at (known_with bounds.now slots measure) call answers result }
     ensures fits { IfOk result (IsCallOn capability) }
 {
-    let info = match known(at, bounds, A1) {
+    let info = match known(at, bounds, Register::A1) {
         Ok(info) => info,
         Err(refusal) => return Err(refusal),
     };

@@ -7,7 +7,7 @@ ghost use Rattle.model.specs.Acceptance.NotedStates.{NotedSlot};
 ghost use Rattle.typestate.specs.Calls.{known_with, told};
 
 use crate::behind::{BADGES, Behind, Written, with_answer, with_message};
-use model::{Cap, Point, Range, Refusal, Rights, SendCall};
+use model::{Cap, Point, Range, Refusal, Register, Rights, SendCall};
 use ranges::Bounds;
 
 /// What a receive leaves, or that the capability is none to receive by.
@@ -28,7 +28,7 @@ pub(crate) fn receive_rule(
         }),
         Cap::Notification { rights, .. } if rights.may_read() => {
             let mut bounds = *bounds;
-            bounds.set(crate::behind::A0, BADGES);
+            bounds.set(Register::A0, BADGES);
             Ok(Behind {
                 bounds,
                 is_wait,

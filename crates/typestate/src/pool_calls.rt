@@ -20,9 +20,11 @@ ghost use Rattle.typestate.specs.Pools.{IsOwnWindow, Makes, NamesNode, PlaceAnsw
 ghost use Rattle.typestate.specs.Spaces.{is_inside};
 ghost use Rattle.typestate.specs.Strays.{IsTidyCall, is_at};
 
-use crate::{
-    NotedSlot, NotedSlots, SlotKey, Space, ThreadSlots, Window, tidy_puts_leave_no_stray_slot,
-};
+use crate::new_objects::NewObjects;
+use crate::pools::Pool;
+use crate::roots::OwnRoot;
+use crate::slot_runs::SlotRun;
+use crate::{NotedSlot, NotedSlots, SlotKey, ThreadSlots, Window, tidy_puts_leave_no_stray_slot};
 use model::{Cap, KError, Point, Refusal, RetypeCall, Rights, SlotName, UntypedMemory};
 use std::alloc::AllocError;
 use untyped::place;
@@ -125,12 +127,15 @@ fn bits_asked(kind: u32, size: u32) -> Result<u8, KError>
     }
 }
 
-/// Whether a CNode has so many slots from an index on, and some are asked, 256 at the most.
-fn fits_node(radix: u8, index: u32, count: u32) -> bool
-    requires { radix ≤ 14 }
-    ensures { result ≡ fits_node radix index count }
-{
-    1 <= count && count <= 256 && u64::from(index) + u64::from(count) <= 1u64 << radix
+impl Window {
+    /// Whether the CNode has so many slots from an index on, and some are asked, 256 at the most.
+    fn fits(&self, index: u32, count: u32) -> bool
+        ensures { result ≡ fits_node self.now.radix index count }
+    {
+        1 <= count
+            && count <= 256
+            && u64::from(index) + u64::from(count) <= u64::from(self.slot_count())
+    }
 }
 
 /// The CNode of an offset and a radix.
@@ -145,63 +150,39 @@ fn window_at(windows: &[Window], offset: u32, radix: u8) -> Option<Window>
     None
 }
 
-/// The slot with the first capability to the new object of a number, of those that stand one behind another.
-fn made_slot(new: Makeable, offset: u32, i: u32, first: SlotKey, pool: SlotKey) -> NotedSlot
-    requires few { i < 256 }
-    requires place { IsPlace (offset + i * 2 ^ object_bits (new_of new)) (object_bits (new_of new)) }
-    requires index { first.index + i < 2 ^ 32 }
-    ensures { result ≡ slot_made first pool (new_of new) offset i }
-{
-    NotedSlot {
-        key: SlotKey {
-            cnode: first.cnode,
-            index: first.index + i,
-        },
-        capability: new.first_capability(offset + i * new.size()),
-        parent: Some(pool),
+impl NewObjects {
+    /// The slot with the first capability to the object of a number.
+    fn made_slot(&self, i: u32) -> NotedSlot
+        requires { i < self.now.slots.count }
+        ensures { result ≡ slot_made self.now.slots.first self.now.pool (new_of self.now.kind) self.now.offset i }
+    {
+        NotedSlot {
+            key: self.slots.key(i),
+            capability: self
+                .kind
+                .first_capability(self.offset + i * self.kind.size()),
+            parent: Some(self.pool),
+        }
     }
-}
 
-/// Appends slots with the first capabilities to new objects, one behind another from a slot on.
-fn note_made(
-    new: Makeable,
-    offset: u32,
-    count: u32,
-    first: SlotKey,
-    pool: SlotKey,
-    made: &mut Vec<NotedSlot>,
-) -> Result<(), AllocError>
-    requires few { count ≤ 256 }
-    requires places { (i : ℕ) → i < count → IsPlace (offset + i * 2 ^ object_bits (new_of new)) (object_bits (new_of new)) }
-    requires indices { first.index + count < 2 ^ 32 }
-    ensures { IfOk result (λ _. made.new.items ≡ made.old.items ++ slots_made first pool (new_of new) offset count) }
-{
-    for i in 0..count {
-        made.push(made_slot(new, offset, i, first, pool))?;
+    /// Appends the slots with the first capabilities to all of them. Memory may be refused.
+    fn note(&self, made: &mut Vec<NotedSlot>) -> Result<(), AllocError>
+        ensures { IfOk result (λ _. made.new.items ≡ made.old.items ++ slots_made self.now.slots.first self.now.pool (new_of self.now.kind) self.now.offset self.now.slots.count) }
+    {
+        for i in 0..self.slots.count {
+            made.push(self.made_slot(i))?;
+        }
+        Ok(())
     }
-    Ok(())
 }
 
 impl NotedSlots<'_> {
-    /// Whether the slot so far behind another one of its CNode is full.
-    fn is_full_at(&self, first: SlotKey, i: u32) -> bool
-        requires { first.index + i < 2 ^ 32 }
-        ensures { result ≡ is_some (slot_at (slots_of self.now) (record { cnode = first.cnode; index = first.index + i })) }
+    /// Whether one of some slots of a CNode is full.
+    fn is_any_full(&self, run: &SlotRun) -> bool
+        ensures { result ≡ some_full (slots_of self.now) run.now.first run.now.count }
     {
-        let key = SlotKey {
-            cnode: first.cnode,
-            index: first.index + i,
-        };
-        self.at(key).is_some()
-    }
-
-    /// Whether one of some slots of a CNode, from one on, is full.
-    fn is_any_full(&self, first: SlotKey, count: u32) -> bool
-        requires { first.index + count < 2 ^ 32 }
-        ensures { result ≡ some_full (slots_of self.now) first count }
-    {
-        for i in 0..count {
-            if self.is_full_at(first, i) {
+        for i in 0..run.count {
+            if self.at(run.key(i)).is_some() {
                 return true;
             }
         }
@@ -209,16 +190,15 @@ impl NotedSlots<'_> {
     }
 }
 
-impl Space<'_, '_> {
-    /// The CNode of a capability that leads to one of the thread's.
-    fn own_window(&self, capability: Cap) -> Result<Window, KError>
-        requires inside { is_inside self.now.image.now self.now.thread.now capability ≡ true }
-        ensures { NamesNode self.now.image.now self.now.thread.now (wanted (cnode_of capability) FailedLookup) result }
+impl OwnRoot<'_, '_, '_> {
+    /// The CNode of the root, if it is one.
+    fn window(&self) -> Result<Window, KError>
+        ensures { NamesNode self.now.own.space.image.now self.now.own.space.thread.now (wanted (cnode_of self.now.root) FailedLookup) result }
     {
-        let Cap::CNode { offset, radix, .. } = capability else {
+        let Cap::CNode { offset, radix, .. } = self.root else {
             return Err(KError::FailedLookup);
         };
-        match window_at(self.windows, offset, radix) {
+        match window_at(self.own.space.windows, offset, radix) {
             Some(window) => Ok(window),
             None => unreachable!(),
         }
@@ -231,81 +211,75 @@ impl ThreadSlots<'_, '_, '_> {
         ensures { NamesNode self.now.space.image.now self.now.space.thread.now (node (noted_slots self.now.space.image.now self.now.space.thread.now (slots_of self.now.slots)) (noted_root self.now.space.image.now self.now.space.thread.now) name) result }
     {
         if name.depth == 0 {
-            return self.space.own_window(self.space.root);
+            let root = OwnRoot {
+                own: *self,
+                root: self.space.root,
+            };
+            return root.window();
         }
-        let (_, held) = match self.named(self.space.root, name) {
+        let (_, held) = match self.named(name) {
             Ok(found) => found,
             Err(error) => return Err(error),
         };
-        self.space.own_window(held)
-    }
-
-    /// Whether one of some slots of a CNode of the thread's is full.
-    fn is_taken(&self, window: Window, index: u32, count: u32) -> bool
-        requires mine { IsOwnWindow self.now.space.image.now self.now.space.thread.now window }
-        requires fits { fits_node window.radix index count ≡ true }
-        ensures { result ≡ any_full (noted_slots self.now.space.image.now self.now.space.thread.now (slots_of self.now.slots)) (slot_of window.offset index) count }
-    {
-        let first = SlotKey {
-            cnode: window.cnode,
-            index,
+        let root = OwnRoot {
+            own: *self,
+            root: held,
         };
-        self.slots.is_any_full(first, count)
+        root.window()
     }
+}
 
-    /// Where new objects stand in a pool, and its watermark behind them, or the kernel's error.
+impl Pool<'_, '_, '_, '_> {
+    /// Where new objects stand in the pool, and its watermark behind them, or the kernel's error.
     fn room_in(
         &self,
-        held: SlotKey,
-        memory: UntypedMemory,
         window: Window,
         bits: u8,
         index: u32,
         count: u32,
     ) -> Result<(u32, u32), KError>
-        requires mine { IsOwnWindow self.now.space.image.now self.now.space.thread.now window }
+        requires mine { IsOwnWindow self.now.own.space.image.now self.now.own.space.thread.now window }
         requires bits { bits ≤ 24 }
-        requires size { memory.bits ≤ 24 }
-        requires used { memory.watermark ≤ 2 ^ memory.bits }
-        ensures { result ≡ room_in self.now.space.image.now self.now.space.thread.now (slots_of self.now.slots) held memory window bits index count }
+        ensures { result ≡ room_in self.now.own.space.image.now self.now.own.space.thread.now (slots_of self.now.own.slots) self.now.held.now.key self.now.memory window bits index count }
     {
-        if !fits_node(window.radix, index, count) {
+        if !window.fits(index, count) {
             return Err(KError::RangeError);
         }
-        if self.is_taken(window, index, count) {
+        let run = SlotRun {
+            first: SlotKey {
+                cnode: window.cnode,
+                index,
+            },
+            count,
+        };
+        if self.own.slots.is_any_full(&run) {
             return Err(KError::DeleteFirst);
         }
-        if !self.slots.may_have_child(held) {
+        let held = self.held;
+        if !self.own.slots.may_have_child(held.key) {
             return Err(KError::IllegalOperation);
         }
-        match place(memory.bits, memory.watermark, bits, count) {
+        match place(self.memory.bits, self.memory.watermark, bits, count) {
             Ok(placed) => Ok(placed),
             Err(_) => Err(KError::NotEnoughMemory),
         }
     }
 
-    /// The checks of Retype, in the kernel's order, on the pool in the slot of a key.
-    fn new_place(
-        &self,
-        held: SlotKey,
-        memory: UntypedMemory,
-        call: RetypeCall,
-    ) -> Result<NewPlace, KError>
-        requires mine { is_own self.now.space.image.now (reached self.now.space.image.now self.now.space.thread.now) held ≡ true }
-        requires valid { IsCapability (Untyped memory.offset memory.bits memory.watermark) }
-        ensures { PlaceAnswer self.now.space.image.now self.now.space.thread.now (slots_of self.now.slots) held memory call result }
+    /// The checks of Retype, in the kernel's order.
+    fn new_place(&self, call: RetypeCall) -> Result<NewPlace, KError>
+        ensures { PlaceAnswer self.now.own.space.image.now self.now.own.space.thread.now (slots_of self.now.own.slots) self.now.held.now.key self.now.memory call result }
     {
         let bits = match bits_asked(call.kind, call.size) {
             Ok(bits) => bits,
             Err(error) => return Err(error),
         };
-        let window = match self.node(call.node) {
+        let window = match self.own.node(call.node) {
             Ok(window) => window,
             Err(error) => return Err(error),
         };
-        match self.room_in(held, memory, window, bits, call.index, call.count) {
+        match self.room_in(window, bits, call.index, call.count) {
             Ok((place, watermark)) => Ok(NewPlace {
-                offset: memory.offset + place,
+                offset: self.memory.offset + place,
                 watermark,
                 slot: SlotKey {
                     cnode: window.cnode,
@@ -316,40 +290,46 @@ impl ThreadSlots<'_, '_, '_> {
         }
     }
 
-    /// Retype of the pool that a slot holds: the slots that it changes are put into the list, which is empty. Memory may be
-    /// refused.
-    pub(crate) fn pool_call(
+    /// Retype: the slots that it changes are put into the list, which is empty, and the answer is whether they are known to
+    /// leave no stray slot where there was none. Memory may be refused.
+    pub(crate) fn retype(
         &self,
         at: Point,
-        held: NotedSlot,
-        memory: UntypedMemory,
         call: RetypeCall,
         made: &mut Vec<NotedSlot>,
     ) -> Result<Result<bool, Refusal>, AllocError>
-        requires held { slot_at (slots_of self.now.slots) held.key ≡ Some held }
-        requires pool { held.capability ≡ Untyped memory.offset memory.bits memory.watermark }
         requires none { made.old.items ≡ [] }
-        ensures tidy { IfOk result (IsTidyCall self.now.space.image.now self.now.space.thread.now (slots_of self.now.slots) made.new.items) }
-        ensures made { IfOk result (λ done. held_after self.now.space.image.now self.now.space.thread.now at (slots_of self.now.slots) held (OnUntyped memory call) ≡ made_or_refused (slots_of self.now.slots) made.new.items done) }
+        ensures tidy { IfOk result (IsTidyCall self.now.own.space.image.now self.now.own.space.thread.now (slots_of self.now.own.slots) made.new.items) }
+        ensures made { IfOk result (λ done. held_after self.now.own.space.image.now self.now.own.space.thread.now at (slots_of self.now.own.slots) self.now.held.now (OnUntyped self.now.memory call) ≡ made_or_refused (slots_of self.now.own.slots) made.new.items done) }
     {
         tidy_puts_leave_no_stray_slot();
-        let new = match self.new_place(held.key, memory, call) {
+        let new = match self.new_place(call) {
             Ok(new) => new,
             Err(error) => return Ok(Err(Refusal::CallRefused(at, error))),
         };
         let Some(kind) = type_made(call.kind) else {
             return Ok(Err(Refusal::CallRefused(at, KError::IllegalOperation)));
         };
+        let held = *self.held;
         made.push(NotedSlot {
             key: held.key,
             capability: Cap::Untyped {
-                offset: memory.offset,
-                bits: memory.bits,
+                offset: self.memory.offset,
+                bits: self.memory.bits,
                 watermark: new.watermark,
             },
             parent: held.parent,
         })?;
-        note_made(kind, new.offset, call.count, new.slot, held.key, made)?;
-        Ok(Ok(self.space.are_tidy_puts(&self.slots, made)))
+        let objects = NewObjects {
+            kind,
+            offset: new.offset,
+            slots: SlotRun {
+                first: new.slot,
+                count: call.count,
+            },
+            pool: held.key,
+        };
+        objects.note(made)?;
+        Ok(Ok(self.own.space.are_tidy_puts(&self.own.slots, made)))
     }
 }

@@ -15,22 +15,21 @@ pub struct OwnSlots<'s> {
     pub slots: NotedSlots<'s>,
 }
 
-/// How many slots a CNode of this radix has.
-pub(crate) fn slots_of_radix(radix: u8) -> u32
-    requires { radix ≤ 14 }
-    ensures value { result ≡ 2 ^ radix }
-    ensures few { result ≤ 2 ^ 14 }
-{
-    1 << radix
-}
-
 impl Window {
+    /// How many slots the CNode has.
+    pub(crate) fn slot_count(&self) -> u32
+        ensures value { result ≡ 2 ^ self.now.radix }
+        ensures few { result ≤ 2 ^ 14 }
+    {
+        1 << self.radix
+    }
+
     /// Whether a slot stands in the CNode.
     fn has(&self, slot: u32) -> bool
         ensures { result ≡ stands_within slot self.now }
     {
         let first = self.offset / 16;
-        first <= slot && slot < first + slots_of_radix(self.radix)
+        first <= slot && slot < first + self.slot_count()
     }
 
     /// The key of a slot that stands in the CNode.

@@ -15,6 +15,7 @@ ghost use Rattle.typestate.specs.SlotChanges.{cap_left, is_parent, loses_childre
 use crate::change_lists::{emptied, is_parent};
 use crate::noted::{left, listed};
 use crate::removal::Removal;
+use crate::staying::Staying;
 use crate::{NotedSlot, Removed, SlotKey};
 use model::Cap;
 use std::alloc::AllocError;
@@ -146,32 +147,6 @@ impl Removal<'_, '_> {
         }
     }
 
-    /// Whether a child of the slot of this key, which stays, goes, and none is left.
-    #[tactic(auto, unfolding(crate::specs::ChangeLists::kept_child))]
-    fn loses_children(&self, key: SlotKey) -> bool
-        requires stays { gone_by self.now key ≡ false }
-        ensures { result ≡ loses_children (gone_by self.now) (slots_of self.now.slots) key }
-    {
-        self.may_lose(key) && self.has_lost(key) && !self.has_kept(key)
-    }
-
-    /// The capability that is left in a slot: a pool that loses its last child is unused again.
-    fn cap_left(&self, key: SlotKey, capability: Cap) -> Cap
-        requires stays { gone_by self.now key ≡ false }
-        requires valid { IsCapability capability }
-        ensures value { result ≡ cap_left (gone_by self.now) (slots_of self.now.slots) key capability }
-        ensures valid { IsCapability result }
-    {
-        match capability {
-            Cap::Untyped { offset, bits, .. } if self.loses_children(key) => Cap::Untyped {
-                offset,
-                bits,
-                watermark: 0,
-            },
-            other => other,
-        }
-    }
-
     /// Whether what a slot was derived from goes.
     fn is_orphan(&self, parent: Option<SlotKey>) -> bool
         ensures { result ≡ option_map_or (gone_by self.now) parent false }
@@ -188,16 +163,44 @@ impl Removal<'_, '_> {
     {
         self.is_orphan(slot.parent) || matches!(slot.capability, Cap::Untyped { .. })
     }
+}
 
-    /// What becomes of a slot that stays.
-    fn slot_left(&self, slot: NotedSlot) -> NotedSlot
-        requires stays { gone_by self.now slot.key ≡ false }
-        ensures { result ≡ slot_left (gone_by self.now) (slots_of self.now.slots) slot }
+impl Staying<'_, '_, '_> {
+    /// Whether a child of the slot goes, and none is left.
+    #[tactic(auto, unfolding(crate::specs::ChangeLists::kept_child))]
+    fn loses_children(&self) -> bool
+        ensures { result ≡ loses_children (gone_by self.now.removal.now) (slots_of self.now.removal.now.slots) self.now.slot.now.key }
     {
+        let slot = self.slot;
+        let key = slot.key;
+        self.removal.may_lose(key) && self.removal.has_lost(key) && !self.removal.has_kept(key)
+    }
+
+    /// The capability that is left in the slot: a pool that loses its last child is unused again.
+    fn cap_left(&self) -> Cap
+        ensures value { result ≡ cap_left (gone_by self.now.removal.now) (slots_of self.now.removal.now.slots) self.now.slot.now.key self.now.slot.now.capability }
+        ensures valid { IsCapability result }
+    {
+        let slot = self.slot;
+        match slot.capability {
+            Cap::Untyped { offset, bits, .. } if self.loses_children() => Cap::Untyped {
+                offset,
+                bits,
+                watermark: 0,
+            },
+            other => other,
+        }
+    }
+
+    /// What becomes of the slot.
+    fn left(&self) -> NotedSlot
+        ensures { result ≡ slot_left (gone_by self.now.removal.now) (slots_of self.now.removal.now.slots) self.now.slot.now }
+    {
+        let slot = *self.slot;
         NotedSlot {
             key: slot.key,
-            capability: self.cap_left(slot.key, slot.capability),
-            parent: self.outside(slot.parent),
+            capability: self.cap_left(),
+            parent: self.removal.outside(slot.parent),
         }
     }
 }
@@ -210,7 +213,11 @@ impl Removal<'_, '_> {
         if self.goes(slot.key) {
             made.push(emptied(slot.key))?;
         } else if self.may_change(slot) {
-            made.push(self.slot_left(slot))?;
+            let staying = Staying {
+                removal: self,
+                slot: &slot,
+            };
+            made.push(staying.left())?;
         }
         Ok(())
     }

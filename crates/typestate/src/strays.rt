@@ -7,7 +7,6 @@ ghost use Rattle.typestate.specs.Differences.{slots_of};
 ghost use Rattle.typestate.specs.Strays.{cnodes_of, has_key, is_at, NoneStray, is_stray_at, is_stray_in, is_unfit};
 
 use crate::records::key_of;
-use crate::spaces::slots_of_radix;
 use crate::{NotedSlot, NotedSlots, SlotKey, Space, Window};
 use image::RecordRef;
 use model::Cap;
@@ -17,7 +16,7 @@ impl Window {
     fn has_key(&self, key: SlotKey) -> bool
         ensures { result ≡ has_key key self.now }
     {
-        key.cnode == self.cnode && key.index < slots_of_radix(self.radix)
+        key.cnode == self.cnode && key.index < self.slot_count()
     }
 
     /// Whether this is the CNode of an offset and a radix.

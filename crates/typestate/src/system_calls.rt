@@ -15,7 +15,7 @@ ghost use Rattle.typestate.specs.Differences.{slots_of};
 ghost use Rattle.typestate.specs.Invocations.{CalledOf, HoldsFull};
 ghost use Rattle.typestate.specs.Spaces.{own_slots};
 
-use crate::behind::{A0, Behind};
+use crate::behind::Behind;
 use crate::plain_calls::{receive_rule, sends_message, sends_signal};
 use crate::{OwnSlots, ThreadSlots};
 use cspace::called_slot;
@@ -119,7 +119,7 @@ impl ThreadSlots<'_, '_, '_> {
         ensures value { (measure : Measure) → result ≡ found_call at (known_with bounds.now (slots_of self.now.slots) measure) (own_slots self.now.space.windows.now (slots_of self.now.slots)) self.now.space.root }
         ensures held { IfOk result (λ found. HoldsFull (own_slots self.now.space.windows.now (slots_of self.now.slots)) found.0 found.1) }
     {
-        let address = match known(at, bounds, A0) {
+        let address = match known(at, bounds, Register::A0) {
             Ok(address) => address,
             Err(refusal) => return Err(refusal),
         };

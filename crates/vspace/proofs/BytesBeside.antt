@@ -1,18 +1,16 @@
 -- The bytes beside slots and tables stay, one change after another.
-use Rattle.std.proofs.Common.{◌≡◌, ◌∙◌, ℕ, ◌+◌, ◌/◌, ◌<◌, inl, inr, true, false, Option, Some, None, List, refl, sym, ap, subst, arith}
-use Rattle.std.specs.Prelude.{if◌then◌else◌, nat_lt}
-use Rattle.std.specs.Option.{is_some, option_map}
+use Rattle.std.proofs.Common.{◌≡◌, ◌∙◌, ℕ, ◌/◌, inl, inr, true, false, Option, Some, None, List, refl, ap, subst}
+use Rattle.std.specs.Prelude.{if◌then◌else◌}
+use Rattle.std.specs.Option.{option_map}
 use Rattle.model.specs.Capabilities.CapabilityKinds.{unmapped}
 use Rattle.model.specs.Kernel.MappingCalls.{lies_in_region, without_region, without_table}
-use Rattle.model.specs.Capabilities.Slots.{IsOpen, Slots, capability_at}
+use Rattle.model.specs.Capabilities.Slots.{Slots}
 use Rattle.model.specs.declared.capabilities.TableMapping.{TableMapping}
 use Rattle.model.specs.declared.slot_entries.Entry.{Entry}
 use Rattle.model.proofs.SlotChanges.{capability_of}
 use Rattle.vspace.specs.Endings.{unmapped_entry}
 use Rattle.vspace.specs.Kept.{IsNamedTable, NamesTable, SameBesideTables}
-use Rattle.vspace.proofs.EndedTables.{EndedBelow}
-use Rattle.vspace.specs.Regions.{cleared_at}
-use Rattle.std.proofs.lemmas.Bool.Decides.{nat_tests}
+use Rattle.vspace.proofs.EndedTables.{EndedSoFar}
 use Rattle.vspace.proofs.Sweeps.{Swept}
 use Rattle.vspace.proofs.Names.{names-unmapped}
 
@@ -48,58 +46,36 @@ fewer-region old now m cleared = record {
   named = λ table names. (names.0, names-less m (old names.0) table (subst (λ (held : Option Entry). NamesTable (capability_of held) table) (cleared names.0) names.1));
 }
 
-pub fewer-swept : (old now : Slots) (m : TableMapping) (number : ℕ) → Swept old now m number → Fewer old now
-fewer-swept old now m number swept = record {
-  closed = λ y none. swept y ∙ elim (nat_lt y number) as (λ b. (if b then without_region old m y else old y) ≡ None) [
-    | true ↦ ap (option_map (without_table m)) none
-    | false ↦ none
+pub fewer-swept : (order : List ℕ) (old now : Slots) (m : TableMapping) (at : Option ℕ) → Swept order old now m at → Fewer old now
+fewer-swept order old now m at swept = record {
+  closed = λ y none. elim (swept.each y) [
+    | inl less ↦ less ∙ ap (option_map (without_table m)) none
+    | inr same ↦ same ∙ none
   ];
   named = λ table names. (
     names.0,
-    elim (nat_lt names.0 number) as (λ b. NamesTable (capability_of (if b then without_region old m names.0 else old names.0)) table → NamesTable (capability_at old names.0) table) [
-      | true ↦ λ is. names-less m (old names.0) table is
-      | false ↦ λ is. is
-    ] (subst (λ (held : Option Entry). NamesTable (capability_of held) table) (swept names.0) names.1),
+    elim (swept.each names.0) [
+      | inl less ↦ names-less m (old names.0) table (subst (λ (held : Option Entry). NamesTable (capability_of held) table) less names.1)
+      | inr same ↦ subst (λ (held : Option Entry). NamesTable (capability_of held) table) same names.1
+    ],
   );
 }
-
--- one slot more is without the region
-pub swept-next : (old now next : Slots) (m : TableMapping) (slot number : ℕ) → Swept old now m number → slot ≡ number → ((y : ℕ) → next y ≡ cleared_at now slot m y) → Swept old next m (number + 1)
-swept-next old now next m slot number swept here step = λ y.
-    let before = swept y in
-    let after = step y in
-    grind (arith, nat_tests)
-
--- all open slots have been swept
-pub swept-all : (old now : Slots) (m : TableMapping) (number : ℕ) → Swept old now m number → ((y : ℕ) → IsOpen old y → y < number) → (y : ℕ) → now y ≡ without_region old m y
-swept-all old now m number swept below y =
-    elim (old y) as (λ o. old y ≡ o → now y ≡ without_region old m y) [
-      | None ↦ λ none.
-          swept y ∙ elim (nat_lt y number) as (λ b. (if b then without_region old m y else old y) ≡ without_region old m y) [
-            | true ↦ refl
-            | false ↦ none ∙ sym (ap (option_map (without_table m)) none)
-          ]
-      | Some held ↦ λ some.
-          let less : y < number = below y (ap is_some some) in
-          let before = swept y in
-          grind (arith, nat_tests)
-    ] refl
 
 names-ended : (held : Option Entry) (table : ℕ) → NamesTable (capability_of (option_map unmapped_entry held)) table → NamesTable (capability_of held) table
 names-ended None table named = named
 names-ended (Some held) table named = names-unmapped held.capability table named
 
-pub fewer-ended : (old now : Slots) (offset number : ℕ) → EndedBelow old now offset number → Fewer old now
-fewer-ended old now offset number ended = record {
-  closed = λ y none. elim (ended y) [
-    | inl lost ↦ lost.1 ∙ ap (option_map unmapped_entry) none
-    | inr kept ↦ kept.1 ∙ none
+pub fewer-ended : (order : List ℕ) (old now : Slots) (offset : ℕ) (at : Option ℕ) → EndedSoFar order old now offset at → Fewer old now
+fewer-ended order old now offset at so_far = record {
+  closed = λ y none. elim (so_far.each y) [
+    | inl lost ↦ lost ∙ ap (option_map unmapped_entry) none
+    | inr kept ↦ kept ∙ none
   ];
   named = λ table names. (
     names.0,
-    elim (ended names.0) [
-      | inl lost ↦ names-ended (old names.0) table (subst (λ (held : Option Entry). NamesTable (capability_of held) table) lost.1 names.1)
-      | inr kept ↦ subst (λ (held : Option Entry). NamesTable (capability_of held) table) kept.1 names.1
+    elim (so_far.each names.0) [
+      | inl lost ↦ names-ended (old names.0) table (subst (λ (held : Option Entry). NamesTable (capability_of held) table) lost names.1)
+      | inr kept ↦ subst (λ (held : Option Entry). NamesTable (capability_of held) table) kept names.1
     ],
   );
 }

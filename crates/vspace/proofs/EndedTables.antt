@@ -1,11 +1,12 @@
 -- Unmapping the page tables that go with an ended table, one after another, leaves what the definition says.
-use Rattle.std.proofs.Common.{◌≡◌, ◌≢◌, ◌∙◌, ℕ, ◌+◌, ◌/◌, ◌^◌, ◌<◌, ◌⊎◌, inl, inr, Bool, true, false, not, Option, Some, None, List, refl, sym, ap, subst, arith}
+use Rattle.std.proofs.Common.{◌≡◌, ◌≢◌, ◌∙◌, ℕ, ◌==◌, ◌/◌, ◌^◌, ◌⊎◌, inl, inr, Bool, true, false, not, Option, Some, None, List, refl, sym, ap, subst}
 use Rattle.std.specs.Prelude.{if◌then◌else◌}
 use Rattle.std.specs.Option.{option_map}
 use Rattle.std.proofs.lemmas.Bool.{eq-eqb}
 use Rattle.std.proofs.lemmas.Bool.Decides.{eqb_tells}
 use Rattle.model.specs.Capabilities.CapabilityKinds.{frame_mapping, table_mapping, unmapped}
 use Rattle.model.specs.Kernel.MappingCalls.{lies_in_region, without_region, without_table}
+use Rattle.model.specs.Capabilities.Orders.{IsOrderOf}
 use Rattle.model.specs.Capabilities.Slots.{IsFull, Slots, capability_at, is_empty, parent_at, recapped}
 use Rattle.model.specs.declared.capabilities.Cap.{Cap}
 use Rattle.model.specs.declared.capabilities.Cap.TheVariants.{Empty, Untyped, Endpoint, Notification, CNode, Frame, PageTable, Tcb, RootTable, InterruptControl, InterruptHandler}
@@ -13,6 +14,8 @@ use Rattle.model.specs.declared.capabilities.FrameMapping.{FrameMapping}
 use Rattle.model.specs.declared.capabilities.TableMapping.{TableMapping}
 use Rattle.model.specs.declared.rights.Rights.{Rights}
 use Rattle.model.specs.declared.slot_entries.Entry.{Entry}
+use Rattle.model.specs.Shared.Lists.{times_in}
+use Rattle.model.proofs.Orders.{behind}
 use Rattle.model.proofs.SlotChanges.{capability_of, entry-other, entry-same, parent_of}
 use Rattle.vspace.specs.Endings.{Ended, GoesWith, IsMappedIn, Loses, NoneUnder, ended_at, is_ending, unmapped_entry}
 use Rattle.removal_laws.specs.Steps.{slots_unmapped}
@@ -20,17 +23,34 @@ use Rattle.vspace.specs.Tables.{MapsTable, TablesAgree}
 use Rattle.vspace.proofs.FrameSteps.{region_or_zero, root_or_zero}
 use Rattle.vspace.proofs.Unmapping.{table-one}
 
--- the regions whose page tables go and stand in slots below a number
-pub record GoesBefore (slots : Slots) (offset number root region : ℕ) : Type 0 where
+-- the regions whose page tables go and stand in slots that were looked at
+pub record GoesBefore (slots : Slots) (offset : ℕ) (done : ℕ → Bool) (root region : ℕ) : Type 0 where
   pub slot : ℕ
-  pub below : slot < number
+  pub looked : done slot ≡ true
   pub table : ℕ
   pub held : capability_at slots slot ≡ PageTable table (Some (record { root = root; region = region }))
   pub goes : (root ≡ offset) ⊎ (table ≡ offset)
 
--- the slots once the page tables in those below a number have been looked at
-abbrev pub EndedBelow : Slots → Slots → ℕ → ℕ → Type 0
-EndedBelow old now offset number = (y : ℕ) → Loses (GoesBefore old offset number) old y (now y)
+-- the slots once the page tables in those that were looked at have gone
+abbrev pub EndedBefore : Slots → Slots → ℕ → (ℕ → Bool) → Type 0
+EndedBefore old now offset done = (y : ℕ) → Loses (GoesBefore old offset done) old y (now y)
+
+-- one slot more was looked at
+pub record OneMore (done more : ℕ → Bool) (n : ℕ) : Type 0 where
+  pub fresh : done n ≡ false
+  pub here : more n ≡ true
+  pub kept : (y : ℕ) → done y ≡ true → more y ≡ true
+  pub others : (y : ℕ) → y ≢ n → more y ≡ true → done y ≡ true
+
+-- in the store's order: those that do not stand behind a slot
+abbrev pub passed : List ℕ → Option ℕ → ℕ → Bool
+passed order at y = times_in (behind order at) y == 0
+
+-- how far the loop has come, if the order is one of the full slots
+pub record EndedSoFar (order : List ℕ) (old now : Slots) (offset : ℕ) (at : Option ℕ) : Type 0 where
+  pub full : (slot : ℕ) → at ≡ Some slot → IsFull now slot
+  pub each : (y : ℕ) → (now y ≡ option_map unmapped_entry (old y)) ⊎ (now y ≡ old y)
+  pub ended : IsOrderOf order now → EndedBefore old now offset (passed order at)
 
 -- ---- capabilities
 
@@ -185,11 +205,6 @@ without-unmapped m held =
 
 -- ---- one slot after another
 
-nowhere : (slots : Slots) (offset : ℕ) (c : Cap) → IsMappedIn (GoesBefore slots offset 0) c → ⊥
-nowhere slots offset (Frame f r (Some m)) is = absurd (omega (arith, is.below))
-nowhere slots offset (PageTable t (Some m)) is = absurd (omega (arith, is.below))
-nowhere slots offset _ is = is
-
 module _ (old : Slots) (memory : List ℕ) (agree : TablesAgree old memory) (offset : ℕ) where
   -- one page table for a region
   one-slot : (a b t u : ℕ) (m n : TableMapping) → capability_at old a ≡ PageTable t (Some m) → capability_at old b ≡ PageTable u (Some n) → m.root ≡ n.root → m.region ≡ n.region → a ≡ b
@@ -197,170 +212,165 @@ module _ (old : Slots) (memory : List ℕ) (agree : TablesAgree old memory) (off
       let same = table-one old memory agree a b t u m n ha hb root region in
       agree.one_table a b u (Some m) (Some n) (ha ∙ ap (λ (v : ℕ). PageTable v (Some m)) same) hb
 
-  -- a page table's own slot has not been looked at before
-  not-before : (n t : ℕ) (m : TableMapping) → capability_at old n ≡ PageTable t (Some m) → GoesBefore old offset n m.root m.region → ⊥
-  not-before n t m held before =
-      let same = one-slot before.slot n before.table t _ m before.held held refl refl in
-      absurd (omega (arith, before.below, same))
+  module _ (done more : ℕ → Bool) (n : ℕ) (one_more : OneMore done more n) where
+    -- a page table's own slot has not been looked at before
+    not-before : (t : ℕ) (m : TableMapping) → capability_at old n ≡ PageTable t (Some m) → GoesBefore old offset done m.root m.region → ⊥
+    not-before t m held before =
+        let same : before.slot ≡ n = one-slot before.slot n before.table t _ m before.held held refl refl in
+        let clash : true ≡ false = sym before.looked ∙ ap done same ∙ one_more.fresh in
+        cc
 
-  not-lost : (n t : ℕ) (m : TableMapping) → capability_at old n ≡ PageTable t (Some m) → IsMappedIn (GoesBefore old offset n) (capability_at old n) → ⊥
-  not-lost n t m held is =
-      not-before n t m held (subst (λ (c : Cap). IsMappedIn (GoesBefore old offset n) c) held is)
+    not-lost : (t : ℕ) (m : TableMapping) → capability_at old n ≡ PageTable t (Some m) → IsMappedIn (GoesBefore old offset done) (capability_at old n) → ⊥
+    not-lost t m held is =
+        not-before t m held (subst (λ (c : Cap). IsMappedIn (GoesBefore old offset done) c) held is)
 
-  before-more : (n root region : ℕ) → GoesBefore old offset n root region → GoesBefore old offset (n + 1) root region
-  before-more n root region before = record {
-    slot = before.slot;
-    below = omega (arith, before.below);
-    table = before.table;
-    held = before.held;
-    goes = before.goes;
-  }
-
-  -- the one more
-  before-split : (n root region : ℕ) → GoesBefore old offset (n + 1) root region
-      → GoesBefore old offset n root region ⊎ ((table : ℕ) × (capability_at old n ≡ PageTable table (Some (record { root = root; region = region }))) × ((root ≡ offset) ⊎ (table ≡ offset)))
-  before-split n root region before = elim (eqb_tells before.slot n) [
-    | inl same ↦ inr (before.table, sym (ap (capability_at old) same.1) ∙ before.held, before.goes)
-    | inr other ↦ inl (record {
+    before-more : (root region : ℕ) → GoesBefore old offset done root region → GoesBefore old offset more root region
+    before-more root region before = record {
       slot = before.slot;
-      below = omega (arith, before.below, other.1);
+      looked = one_more.kept before.slot before.looked;
       table = before.table;
       held = before.held;
       goes = before.goes;
-    })
-  ]
+    }
 
-  module _ (now : Slots) (n : ℕ) (ended : EndedBelow old now offset n) where
-    -- a page table that is mapped has not been touched
-    table-untouched : (t : ℕ) (m : TableMapping) → capability_at old n ≡ PageTable t (Some m) → now n ≡ old n
-    table-untouched t m held = elim (ended n) [
-      | inl lost ↦ absurd (not-lost n t m held lost.0)
-      | inr kept ↦ kept.1
+    -- the one more
+    before-split : (root region : ℕ) → GoesBefore old offset more root region
+        → GoesBefore old offset done root region ⊎ ((table : ℕ) × (capability_at old n ≡ PageTable table (Some (record { root = root; region = region }))) × ((root ≡ offset) ⊎ (table ≡ offset)))
+    before-split root region before = elim (eqb_tells before.slot n) [
+      | inl same ↦ inr (before.table, sym (ap (capability_at old) same.1) ∙ before.held, before.goes)
+      | inr other ↦ inl (record {
+        slot = before.slot;
+        looked = one_more.others before.slot other.1 before.looked;
+        table = before.table;
+        held = before.held;
+        goes = before.goes;
+      })
     ]
 
-    table-before : (t : ℕ) (m : TableMapping) → capability_at now n ≡ PageTable t (Some m) → capability_at old n ≡ PageTable t (Some m)
-    table-before t m held = elim (ended n) [
-      | inl lost ↦ absurd (not_table (now n) (old n) t m lost.1 held)
-      | inr kept ↦ sym (ap capability_of kept.1) ∙ held
-    ]
-
-    -- nothing goes at this slot
-    skipped : (Going offset (capability_at now n) → ⊥) → EndedBelow old now offset (n + 1)
-    skipped none = λ y.
-        loses-same (GoesBefore old offset n) (GoesBefore old offset (n + 1)) (before-more n) (λ root region before.
-        elim (before-split n root region before) [
-          | inl earlier ↦ earlier
-          | inr here ↦ absurd (
-              none (
-                here.0,
-                record { root = root; region = region },
-                ap capability_of (table-untouched here.0 _ here.1) ∙ here.1,
-                here.2,
-              ))
-        ]) old y (now y) (ended y)
-
-    module _ (t : ℕ) (m : TableMapping) (held : capability_at old n ≡ PageTable t (Some m)) (goes : (m.root ≡ offset) ⊎ (t ≡ offset)) where
-      goes-now : GoesBefore old offset (n + 1) m.root m.region
-      goes-now = record {
-        slot = n;
-        below = omega arith;
-        table = t;
-        held = held;
-        goes = goes;
-      }
-
-      -- at the slot itself
-      here-lost : Loses (GoesBefore old offset (n + 1)) old n (without_region (recapped now n (PageTable t None)) m n)
-      here-lost = inl (
-        subst (λ (c : Cap). IsMappedIn (GoesBefore old offset (n + 1)) c) (sym held) goes-now,
-        ap (option_map (without_table m)) (entry-same now n (Some (record { capability = PageTable t None; parent = parent_at now n })))
-            ∙ ap (λ (p : Option ℕ). Some (record { capability = PageTable t None; parent = p })) (ap parent_of (table-untouched t m held))
-            ∙ sym (table-entry (old n) t (Some m) held),
-      )
-
-      -- what does not stand in the region is lost only if it was before
-      lost-before : (y : ℕ) (c : Cap) → y ≢ n → capability_at old y ≡ c → lies_in_region m c ≡ false → IsMappedIn (GoesBefore old offset (n + 1)) c → IsMappedIn (GoesBefore old offset n) c
-      lost-before y (Frame f r (Some k)) other at outside is = elim (before-split n k.root (k.page / 2 ^ 10) is) [
-        | inl earlier ↦ earlier
-        | inr here ↦
-            let e : PageTable t (Some m) ≡ PageTable here.0 (Some (record { root = k.root; region = k.page / 2 ^ 10 })) = sym held ∙ here.1 in
-            let mapping : Some m ≡ Some (record { root = k.root; region = k.page / 2 ^ 10 }) = cc in
-            let inside = stands-here m f r k (sym (ap root_or_zero mapping)) (sym (ap region_or_zero mapping)) in
-            absurd (cc)
+    module _ (now : Slots) (ended : EndedBefore old now offset done) where
+      -- a page table that is mapped has not been touched
+      table-untouched : (t : ℕ) (m : TableMapping) → capability_at old n ≡ PageTable t (Some m) → now n ≡ old n
+      table-untouched t m held = elim (ended n) [
+        | inl lost ↦ absurd (not-lost t m held lost.0)
+        | inr kept ↦ kept.1
       ]
-      lost-before y (PageTable u (Some k)) other at outside is = elim (before-split n k.root k.region is) [
-        | inl earlier ↦ earlier
-        | inr here ↦ absurd (other (one-slot y n u here.0 k _ at here.1 refl refl))
-      ]
-      lost-before y _ other at outside is = absurd is
 
-      -- at another slot
-      other-lost : (y : ℕ) → y ≢ n → Loses (GoesBefore old offset (n + 1)) old y (option_map (without_table m) (now y))
-      other-lost y other = elim (ended y) [
-        | inl lost ↦ inl (
-          mapped-more (GoesBefore old offset n) (GoesBefore old offset (n + 1)) (before-more n) (capability_at old y) lost.0,
-          ap (option_map (without_table m)) lost.1 ∙ without-unmapped m (old y),
+      table-before : (t : ℕ) (m : TableMapping) → capability_at now n ≡ PageTable t (Some m) → capability_at old n ≡ PageTable t (Some m)
+      table-before t m held = elim (ended n) [
+        | inl lost ↦ absurd (not_table (now n) (old n) t m lost.1 held)
+        | inr kept ↦ sym (ap capability_of kept.1) ∙ held
+      ]
+
+      -- nothing goes at this slot
+      skipped : (Going offset (capability_at now n) → ⊥) → EndedBefore old now offset more
+      skipped none = λ y.
+          loses-same (GoesBefore old offset done) (GoesBefore old offset more) before-more (λ root region before.
+          elim (before-split root region before) [
+            | inl earlier ↦ earlier
+            | inr here ↦ absurd (
+                none (
+                  here.0,
+                  record { root = root; region = region },
+                  ap capability_of (table-untouched here.0 _ here.1) ∙ here.1,
+                  here.2,
+                ))
+          ]) old y (now y) (ended y)
+
+      module _ (t : ℕ) (m : TableMapping) (held : capability_at old n ≡ PageTable t (Some m)) (goes : (m.root ≡ offset) ⊎ (t ≡ offset)) where
+        goes-now : GoesBefore old offset more m.root m.region
+        goes-now = record {
+          slot = n;
+          looked = one_more.here;
+          table = t;
+          held = held;
+          goes = goes;
+        }
+
+        -- at the slot itself
+        here-lost : Loses (GoesBefore old offset more) old n (without_region (recapped now n (PageTable t None)) m n)
+        here-lost = inl (
+          subst (λ (c : Cap). IsMappedIn (GoesBefore old offset more) c) (sym held) goes-now,
+          ap (option_map (without_table m)) (entry-same now n (Some (record { capability = PageTable t None; parent = parent_at now n })))
+              ∙ ap (λ (p : Option ℕ). Some (record { capability = PageTable t None; parent = p })) (ap parent_of (table-untouched t m held))
+              ∙ sym (table-entry (old n) t (Some m) held),
         )
-        | inr kept ↦
-            let after = ap (option_map (without_table m)) kept.1 in
-            elim (lies_in_region m (capability_at old y)) as (λ b. lies_in_region m (capability_at old y) ≡ b → Loses (GoesBefore old offset (n + 1)) old y (option_map (without_table m) (now y))) [
-              | true ↦ λ inside. inl (
-                stands-mapped (GoesBefore old offset (n + 1)) m (capability_at old y) inside goes-now,
-                after ∙ without-inside m (old y) inside,
-              )
-              | false ↦ λ outside. inr (
-                λ is. kept.0 (lost-before y (capability_at old y) other refl outside is),
-                after ∙ without-outside m (old y) outside,
-              )
-            ] refl
+
+        -- what does not stand in the region is lost only if it was before
+        lost-before : (y : ℕ) (c : Cap) → y ≢ n → capability_at old y ≡ c → lies_in_region m c ≡ false → IsMappedIn (GoesBefore old offset more) c → IsMappedIn (GoesBefore old offset done) c
+        lost-before y (Frame f r (Some k)) other at outside is = elim (before-split k.root (k.page / 2 ^ 10) is) [
+          | inl earlier ↦ earlier
+          | inr here ↦
+              let e : PageTable t (Some m) ≡ PageTable here.0 (Some (record { root = k.root; region = k.page / 2 ^ 10 })) = sym held ∙ here.1 in
+              let mapping : Some m ≡ Some (record { root = k.root; region = k.page / 2 ^ 10 }) = cc in
+              let inside = stands-here m f r k (sym (ap root_or_zero mapping)) (sym (ap region_or_zero mapping)) in
+              absurd (cc)
+        ]
+        lost-before y (PageTable u (Some k)) other at outside is = elim (before-split k.root k.region is) [
+          | inl earlier ↦ earlier
+          | inr here ↦ absurd (other (one-slot y n u here.0 k _ at here.1 refl refl))
+        ]
+        lost-before y _ other at outside is = absurd is
+
+        -- at another slot
+        other-lost : (y : ℕ) → y ≢ n → Loses (GoesBefore old offset more) old y (option_map (without_table m) (now y))
+        other-lost y other = elim (ended y) [
+          | inl lost ↦ inl (
+            mapped-more (GoesBefore old offset done) (GoesBefore old offset more) before-more (capability_at old y) lost.0,
+            ap (option_map (without_table m)) lost.1 ∙ without-unmapped m (old y),
+          )
+          | inr kept ↦
+              let after = ap (option_map (without_table m)) kept.1 in
+              elim (lies_in_region m (capability_at old y)) as (λ b. lies_in_region m (capability_at old y) ≡ b → Loses (GoesBefore old offset more) old y (option_map (without_table m) (now y))) [
+                | true ↦ λ inside. inl (
+                  stands-mapped (GoesBefore old offset more) m (capability_at old y) inside goes-now,
+                  after ∙ without-inside m (old y) inside,
+                )
+                | false ↦ λ outside. inr (
+                  λ is. kept.0 (lost-before y (capability_at old y) other refl outside is),
+                  after ∙ without-outside m (old y) outside,
+                )
+              ] refl
+        ]
+
+        taken : (y : ℕ) → Loses (GoesBefore old offset more) old y (without_region (recapped now n (PageTable t None)) m y)
+        taken y = elim (eqb_tells y n) [
+          | inl same ↦ subst (λ (k : ℕ). Loses (GoesBefore old offset more) old k (without_region (recapped now n (PageTable t None)) m k)) (sym same.1) here-lost
+          | inr other ↦
+              let apart = ap (option_map (without_table m)) (entry-other now n (Some (record { capability = PageTable t None; parent = parent_at now n })) y other.1) in
+              subst (λ (e : Option Entry). Loses (GoesBefore old offset more) old y e) (sym apart) (other-lost y other.1)
+        ]
+
+      -- the next slot has been looked at
+      pub ended-next : (next : Slots) → ((y : ℕ) → next y ≡ ended_at now n offset y) → EndedBefore old next offset more
+      ended-next next step = λ y. elim (ending-cases offset (capability_at now n)) [
+        | inl going ↦
+            let t = going.1.0 in
+            let m = going.1.1 in
+            let held = table-before t m going.1.2 in
+            let opened : next y ≡ slots_unmapped now n (capability_at now n) y = step y ∙ ap (λ (b : Bool). (if b then slots_unmapped now n (capability_at now n) else now) y) going.0 in
+            let is : next y ≡ without_region (recapped now n (PageTable t None)) m y = opened ∙ ap (λ (c : Cap). slots_unmapped now n c y) going.1.2 in
+            subst (λ (e : Option Entry). Loses (GoesBefore old offset more) old y e) (sym is) (taken t m held going.1.3 y)
+        | inr none ↦
+            let is : next y ≡ now y = step y ∙ ap (λ (b : Bool). (if b then slots_unmapped now n (capability_at now n) else now) y) none.0 in
+            subst (λ (e : Option Entry). Loses (GoesBefore old offset more) old y e) (sym is) (skipped none.1 y)
       ]
-
-      taken : (y : ℕ) → Loses (GoesBefore old offset (n + 1)) old y (without_region (recapped now n (PageTable t None)) m y)
-      taken y = elim (eqb_tells y n) [
-        | inl same ↦ subst (λ (k : ℕ). Loses (GoesBefore old offset (n + 1)) old k (without_region (recapped now n (PageTable t None)) m k)) (sym same.1) here-lost
-        | inr other ↦
-            let apart = ap (option_map (without_table m)) (entry-other now n (Some (record { capability = PageTable t None; parent = parent_at now n })) y other.1) in
-            subst (λ (e : Option Entry). Loses (GoesBefore old offset (n + 1)) old y e) (sym apart) (other-lost y other.1)
-      ]
-
-    -- the next slot has been looked at
-    pub ended-next : (next : Slots) → ((y : ℕ) → next y ≡ ended_at now n offset y) → EndedBelow old next offset (n + 1)
-    ended-next next step = λ y. elim (ending-cases offset (capability_at now n)) [
-      | inl going ↦
-          let t = going.1.0 in
-          let m = going.1.1 in
-          let held = table-before t m going.1.2 in
-          let opened : next y ≡ slots_unmapped now n (capability_at now n) y = step y ∙ ap (λ (b : Bool). (if b then slots_unmapped now n (capability_at now n) else now) y) going.0 in
-          let is : next y ≡ without_region (recapped now n (PageTable t None)) m y = opened ∙ ap (λ (c : Cap). slots_unmapped now n c y) going.1.2 in
-          subst (λ (e : Option Entry). Loses (GoesBefore old offset (n + 1)) old y e) (sym is) (taken t m held going.1.3 y)
-      | inr none ↦
-          let is : next y ≡ now y = step y ∙ ap (λ (b : Bool). (if b then slots_unmapped now n (capability_at now n) else now) y) none.0 in
-          subst (λ (e : Option Entry). Loses (GoesBefore old offset (n + 1)) old y e) (sym is) (skipped none.1 y)
-    ]
-
-  -- nothing has been looked at
-  pub ended-none : EndedBelow old old offset 0
-  ended-none = λ y. inr (
-    λ is. nowhere old offset (capability_at old y) is,
-    refl,
-  )
 
   -- ---- the whole
 
   table-full : (y t : ℕ) (o : Option TableMapping) → capability_at old y ≡ PageTable t o → IsFull old y
   table-full y t o held = ap (λ (c : Cap). not (is_empty c)) held
 
-  module _ (count : ℕ) (within : (slot : ℕ) → IsFull old slot → slot < count) where
-    with-table : (root region t : ℕ) (maps : MapsTable old root region t) → (root ≡ offset) ⊎ (t ≡ offset) → GoesBefore old offset count root region
+  module _ (done : ℕ → Bool) (all : (slot : ℕ) → IsFull old slot → done slot ≡ true) where
+    with-table : (root region t : ℕ) (maps : MapsTable old root region t) → (root ≡ offset) ⊎ (t ≡ offset) → GoesBefore old offset done root region
     with-table root region t maps goes = record {
       slot = maps.slot;
-      below = within maps.slot (table-full maps.slot t _ maps.held);
+      looked = all maps.slot (table-full maps.slot t _ maps.held);
       table = t;
       held = maps.held;
       goes = goes;
     }
 
-    goes-before : (y : ℕ) (c : Cap) → capability_at old y ≡ c → IsMappedIn (GoesWith old offset) c → IsMappedIn (GoesBefore old offset count) c
+    goes-before : (y : ℕ) (c : Cap) → capability_at old y ≡ c → IsMappedIn (GoesWith old offset) c → IsMappedIn (GoesBefore old offset done) c
     goes-before y (Frame f r (Some m)) held is = elim is [
       | inl root ↦
           let leaf = agree.leaves y f r m held in
@@ -373,7 +383,7 @@ module _ (old : Slots) (memory : List ℕ) (agree : TablesAgree old memory) (off
     ]
     goes-before y _ held is = absurd is
 
-    before-goes : (root region : ℕ) → GoesBefore old offset count root region → GoesWith old offset root region
+    before-goes : (root region : ℕ) → GoesBefore old offset done root region → GoesWith old offset root region
     before-goes root region before = elim (before.goes) [
       | inl under ↦ inl under
       | inr here ↦ inr (record {
@@ -382,9 +392,9 @@ module _ (old : Slots) (memory : List ℕ) (agree : TablesAgree old memory) (off
       })
     ]
 
-    pub ended-all : (now : Slots) → EndedBelow old now offset count → (y : ℕ) → Ended old offset y (now y)
+    pub ended-all : (now : Slots) → EndedBefore old now offset done → (y : ℕ) → Ended old offset y (now y)
     ended-all now ended y = elim (ended y) [
-      | inl lost ↦ inl (mapped-more (GoesBefore old offset count) (GoesWith old offset) before-goes (capability_at old y) lost.0, lost.1)
+      | inl lost ↦ inl (mapped-more (GoesBefore old offset done) (GoesWith old offset) before-goes (capability_at old y) lost.0, lost.1)
       | inr kept ↦ inr (λ is. kept.0 (goes-before y (capability_at old y) refl is), kept.1)
     ]
 

@@ -14,6 +14,8 @@ mod TableRemovals
 mod Sweeps
 mod TableUnmaps
 mod EndedTables
+mod EndedInOrder
+mod FullSlots
 mod EndedRoots
 mod BytesBeside
 mod AgreementCarried

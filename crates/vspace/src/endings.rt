@@ -66,8 +66,12 @@ pub fn end_tables<S: SlotStore>(store: &mut S, offset: u32)
     ensures order { S.order store.new ≡ S.order store.old }
     ensures agree { TablesAgree (S.slots store.new) (S.memory store.new) }
 {
-    let count = store.count();
-    'slots: for number in 0..count {
-        end_table(store, Slot::new(number), offset);
+    let mut at = None;
+    'slots: loop {
+        let Some(slot) = store.next_full(at) else {
+            return;
+        };
+        end_table(store, slot, offset);
+        at = Some(slot);
     }
 }

@@ -53,7 +53,7 @@ fn clear_frame<S: SlotStore>(store: &mut S, slot: Slot, region: TableMapping)
     unmap_frame(store, frame);
 }
 
-/// Unmaps all frames of a region. Each slot of memory is looked at.
+/// Unmaps all frames of a region. Each full slot is looked at.
 pub(crate) fn clear_region<S: SlotStore>(store: &mut S, region: TableMapping)
     requires agree { TablesAgree (S.slots store.old) (S.memory store.old) }
     ensures slots { (y : ℕ) → S.slots store.new y ≡ without_region (S.slots store.old) region y }
@@ -61,8 +61,12 @@ pub(crate) fn clear_region<S: SlotStore>(store: &mut S, region: TableMapping)
     ensures order { S.order store.new ≡ S.order store.old }
     ensures agree { TablesAgree (S.slots store.new) (S.memory store.new) }
 {
-    let count = store.count();
-    'slots: for number in 0..count {
-        clear_frame(store, Slot::new(number), region);
+    let mut at = None;
+    'slots: loop {
+        let Some(slot) = store.next_full(at) else {
+            return;
+        };
+        clear_frame(store, slot, region);
+        at = Some(slot);
     }
 }

@@ -1,2 +1,3 @@
-pub mod Emptied
-pub mod Walks
+mod Kept
+mod Walks
+pub mod Laws

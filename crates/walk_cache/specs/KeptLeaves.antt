@@ -26,6 +26,12 @@ abbrev pub with_leaf : List (Option TlbEntry) → ℕ → ℕ → Option ℕ →
 with_leaf entries root page None = entries
 with_leaf entries root page (Some leaf) = slice_set entries (page % 64) (Some (record { root = root; page = page; leaf = leaf }))
 
+-- an entry keeps the leaf that is found for a page
+pub record IsLeafMore (root page : ℕ) (found : Option ℕ) (kept : TlbEntry) : Type 0 where
+  pub at_root : kept.root ≡ root
+  pub at_page : kept.page ≡ page
+  pub finds : found ≡ Some kept.leaf
+
 -- the four bytes from a place on are the same
 abbrev pub IsSameWord : List ℕ → List ℕ → ℕ → Type 0
 IsSameWord old new at = (place : ℕ) → at ≤ place → place < at + 4 → slice_index new place ≡ slice_index old place

@@ -1,12 +1,13 @@
 -- The laws of this crate on the leaves that are kept.
-use Rattle.std.specs.Prelude.{ℕ, ◌≡◌, Option, Some, List}
-use Rattle.walk_cache.specs.KeptLeaves.{AreAmong, AreSameEntries, Leaves, leaf_of, with_leaf}
+use Rattle.std.specs.Prelude.{ℕ, ◌≡◌, ◌⊎◌, Option, Some, None, List, slice_index_or}
+use Rattle.walk_cache.specs.KeptLeaves.{AreSameEntries, IsLeafMore, leaf_of, with_leaf}
 use Rattle.walk_cache.specs.declared.caches.TlbEntry.{TlbEntry}
 
--- what is kept more stands among leaves, if it does by itself
-abbrev pub KeptLeavesStay : Type 0
-KeptLeavesStay = (leaves : Leaves) (entries : List (Option TlbEntry)) (root page : ℕ) (found : Option ℕ) → AreAmong leaves entries
-    → ((leaf : ℕ) → found ≡ Some leaf → leaves root page ≡ Some leaf) → AreAmong leaves (with_leaf entries root page found)
+-- once the leaf of a page is kept, what is kept was kept before or is that leaf
+abbrev pub OneLeafMoreIsKept : Type 0
+OneLeafMoreIsKept = (entries : List (Option TlbEntry)) (root page : ℕ) (found : Option ℕ) (place : ℕ) (kept : TlbEntry)
+    → slice_index_or (with_leaf entries root page found) place None ≡ Some kept
+    → (slice_index_or entries place None ≡ Some kept) ⊎ IsLeafMore root page found kept
 
 -- a change of memory that leaves the two entries of a page leaves its leaf
 abbrev pub LeavesStayWhereEntriesDo : Type 0

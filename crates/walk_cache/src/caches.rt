@@ -109,39 +109,48 @@ impl Tlb {
         }
     }
 
-    /// Keeps an entry in the place of its page.
-    fn keep(&mut self, kept: TlbEntry)
+    /// Puts an entry into the place of its page.
+    fn put(&mut self, kept: TlbEntry)
         ensures { self.new ≡ slice_set self.old (kept.page % 64) (Some kept) }
     {
         self.entries[(kept.page % PLACES) as usize] = Some(kept);
     }
 
+    /// Keeps the leaf of the page of an address, if it has one under the root table at the offset `root`. Asks that
+    /// what is kept stands in memory.
+    pub fn keep(&mut self, memory: &Mem, root: u32, address: u32)
+        requires { AreAmong (leaf_of memory.now) self.old }
+        ensures kept { self.new ≡ with_leaf self.old root (address / 2 ^ 12) (leaf_of memory.now root (address / 2 ^ 12)) }
+        ensures among { AreAmong (leaf_of memory.now) self.new }
+    {
+        let page = address >> PAGE_BITS;
+        if self.find(root, page).is_some() {
+            return;
+        }
+        if let Some(leaf) = leaf_of(memory, root, page) {
+            self.put(TlbEntry {
+                root,
+                page,
+                leaf: leaf.0,
+            });
+        }
+    }
+
     /// The offset in memory of the byte that a virtual address names for an access, under the root table at the offset
     /// `root`, as [`sv32::walk`] has it. Asks that what is kept stands in memory.
     pub fn walk(
-        &mut self,
+        &self,
         memory: &Mem,
         root: u32,
         address: u32,
         access: Access,
     ) -> Result<u32, PageFault>
-        requires { AreAmong (leaf_of memory.now) self.old }
-        ensures value { result ≡ ok_or (walk memory.now root address access) page_fault }
-        ensures kept { self.new ≡ with_leaf self.old root (address / 2 ^ 12) (leaf_of memory.now root (address / 2 ^ 12)) }
-        ensures among { AreAmong (leaf_of memory.now) self.new }
+        requires { AreAmong (leaf_of memory.now) self.now }
+        ensures { result ≡ ok_or (walk memory.now root address access) page_fault }
     {
-        let page = address >> PAGE_BITS;
-        if let Some(kept) = self.find(root, page) {
-            return place_in(memory, Pte(kept.leaf), address, access).ok_or(PageFault);
+        match self.find(root, address >> PAGE_BITS) {
+            Some(kept) => place_in(memory, Pte(kept.leaf), address, access).ok_or(PageFault),
+            None => sv32::walk(memory, root, address, access),
         }
-        if let Some(leaf) = leaf_of(memory, root, page) {
-            self.keep(TlbEntry {
-                root,
-                page,
-                leaf: leaf.0,
-            });
-            return place_in(memory, leaf, address, access).ok_or(PageFault);
-        }
-        sv32::walk(memory, root, address, access)
     }
 }

@@ -1,10 +1,10 @@
 //! Laws on the leaves that are kept. Each is the contract of a function that does nothing.
 
-ghost use Rattle.walk_cache.specs.Laws.{KeptLeavesStay, LeavesStayWhereEntriesDo};
+ghost use Rattle.walk_cache.specs.Laws.{LeavesStayWhereEntriesDo, OneLeafMoreIsKept};
 
-/// What a walk keeps more is among any leaves that its own leaf is among.
-pub fn kept_leaves_stay()
-    ensures { KeptLeavesStay }
+/// Once the leaf of a page is kept, what is kept was kept before or is that leaf.
+pub fn one_leaf_more_is_kept()
+    ensures { OneLeafMoreIsKept }
 {}
 
 /// The leaf of a page is the same where the bytes of its two entries are.

@@ -6,4 +6,4 @@ mod caches;
 mod leaves;
 
 pub use caches::{Tlb, TlbEntry};
-pub use leaves::{kept_leaves_stay, leaves_stay_where_entries_do};
+pub use leaves::{leaves_stay_where_entries_do, one_leaf_more_is_kept};

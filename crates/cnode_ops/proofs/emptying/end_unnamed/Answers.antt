@@ -1,8 +1,10 @@
 -- No slot names the object.
-use Rattle.std.proofs.Common.{ℕ, ◌≡◌, ◌∙◌, false, sym, subst}
+use Rattle.std.proofs.Common.{ℕ, ◌≡◌, ◌∙◌, rules, false, sym, ap, subst}
 use Rattle.model.specs.Capabilities.CapabilityKinds.{names_object}
 use Rattle.model.specs.Capabilities.Slots.{Slots, capability_at}
 use Rattle.removal_laws.specs.Steps.{ends}
+use Rattle.cnode_ops.specs.Unsettled.{with_waiting}
+use Rattle.cnode_ops.proofs.Unsettling.{noted-fits, notes-ended}
 use Rattle.cnode_ops.proofs.emptying.end_unnamed.Goals as goal
 
 pub returns-clause-state : goal.returns-clause-state
@@ -11,3 +13,11 @@ returns-clause-state g c =
     ends c.in-Some.offset (sym c.object_of.ensures ∙ c.in-Some.is)
     (subst (λ (t : Slots). (slot : ℕ) → names_object c.in-Some.offset (capability_at t slot) ≡ false) (sym has) (c.is_named_still.ensures.none c.if-is_named_still.false))
     c.end.ensures.state
+
+pub with_slots_of-requires : goal.with_slots_of-requires
+with_slots_of-requires g c = noted-fits _ c.in-Some.offset c.slots_of-own.result c.requires.lie (sym c.slots_of-own.ensures) (search rules)
+
+pub returns-clause-noted : goal.returns-clause-noted
+returns-clause-noted g c =
+    notes-ended _ _ c.args.removed c.in-Some.offset c.slots_of-own.result c.is_waited_at-waited.result c.args.left _ (sym c.object_of.ensures ∙ c.in-Some.is)
+    c.slots_of-own.ensures c.is_waited_at-waited.ensures.0 c.end.ensures.state (c.with_waiting.ensures ∙ ap (λ l. with_waiting l c.is_waited_at-waited.result) c.with_slots_of.ensures)

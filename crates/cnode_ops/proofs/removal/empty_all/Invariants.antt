@@ -1,5 +1,6 @@
 -- What is left of the set, and fewer full slots each time.
 use Rattle.model.specs.Kernel.State.{State}
+use Rattle.cnode_ops.specs.Unsettled.{Notes}
 use Rattle.cnode_ops.proofs.EmptiedSets.{IsLeftOf, full_count}
 use Rattle.cnode_ops.proofs.removal.empty_all.Given as goal
 
@@ -9,6 +10,7 @@ invariant-slots g l =
     let now : State = g.E.Ends.state l.ends (g.S.SlotMap.slots l.store) (g.S.SlotStore.memory l.store) in
     record {
       left : IsLeftOf before now l.set;
+      noted : Notes before l.fn.left now l.left;
       agree : g.E.Ends.Agree l.ends (g.S.SlotMap.slots l.store) (g.S.SlotStore.memory l.store);
     }
 

@@ -1,6 +1,7 @@
 -- The bindings of the lines from this one on are left.
 use Rattle.std.proofs.Common.{false, slice_index_or}
 use Rattle.model.specs.Kernel.State.{State}
+use Rattle.cnode_ops.specs.Unsettled.{Notes}
 use Rattle.cnode_ops.proofs.EmptiedSets.{LinesLeft}
 use Rattle.cnode_ops.proofs.removal.empty_bindings.Given as goal
 
@@ -10,5 +11,6 @@ invariant-lines g l =
     let now : State = g.E.Ends.state l.ends (g.S.SlotMap.slots l.store) (g.S.SlotStore.memory l.store) in
     record {
       left : LinesLeft before now (λ line. slice_index_or l.lines line false) l.line;
+      noted : Notes before l.fn.left now l.left;
       agree : g.E.Ends.Agree l.ends (g.S.SlotMap.slots l.store) (g.S.SlotStore.memory l.store);
     }

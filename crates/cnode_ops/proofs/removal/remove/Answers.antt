@@ -5,7 +5,8 @@ use Rattle.model.specs.Capabilities.Slots.{Slots}
 use Rattle.model.specs.Kernel.Removal.{remove}
 use Rattle.model.specs.Kernel.State.{State}
 use Rattle.removal_laws.proofs.Laws.{refused, sound-ready}
-use Rattle.cnode_ops.proofs.RemovedSets.{LoopsRan, loops-may-settle, loops-remove, near-open}
+use Rattle.cnode_ops.proofs.Unsettling.{sound-lie}
+use Rattle.cnode_ops.proofs.RemovedSets.{LoopsRan, loops-cover, loops-may-settle, loops-remove, near-open}
 use Rattle.cnode_ops.proofs.removal.remove.Goals as goal
 
 pub wants_revoke_first-requires : goal.wants_revoke_first-requires
@@ -24,45 +25,72 @@ returns-then-wants_revoke_first-clause-outcome g c =
     let wants = sym (c.wants_revoke_first.ensures w has c.requires.sound (g.met.E.Ends.of_memory _ _ _ c.requires.agree)) ∙ c.if-wants_revoke_first.true in
     ap (λ (n : Slots). remove w (set_of n c.args.set)) (sym has) ∙ refused w (set_of w.slots c.args.set) wants
 
-pub empty_all-requires-clause-ready : goal.empty_all-requires-clause-ready
-empty_all-requires-clause-ready g c = sound-ready _ c.requires.sound
+pub empty_all-left-requires-clause-ready : goal.empty_all-left-requires-clause-ready
+empty_all-left-requires-clause-ready g c = sound-ready _ c.requires.sound
+
+pub empty_all-left-requires-clause-lie : goal.empty_all-left-requires-clause-lie
+empty_all-left-requires-clause-lie g c = sound-lie _ c.requires.sound
+
+pub empty_bindings-left-requires-clause-lie : goal.empty_bindings-left-requires-clause-lie
+empty_bindings-left-requires-clause-lie g c = c.empty_all-left.ensures.noted.lie (sound-lie _ c.requires.sound)
 
 pub settle-requires-clause-may : goal.settle-requires-clause-may
 settle-requires-clause-may g c =
     let slots : Slots = g.S.SlotMap.slots c.args.store.now in
     let w : State = g.E.Ends.state c.args.ends.now slots (g.S.SlotStore.memory c.args.store.now) in
-    let one : State = g.E.Ends.state c.empty_all.new.ends (g.S.SlotMap.slots c.empty_all.new.store) (g.S.SlotStore.memory c.empty_all.new.store) in
-    let two : State = g.E.Ends.state c.empty_bindings.new.ends (g.S.SlotMap.slots c.empty_bindings.new.store) (g.S.SlotStore.memory c.empty_bindings.new.store) in
+    let one : State = g.E.Ends.state c.empty_all-left.new.ends (g.S.SlotMap.slots c.empty_all-left.new.store) (g.S.SlotStore.memory c.empty_all-left.new.store) in
+    let two : State = g.E.Ends.state c.empty_bindings-left.new.ends (g.S.SlotMap.slots c.empty_bindings-left.new.store) (g.S.SlotStore.memory c.empty_bindings-left.new.store) in
     let has : w.slots ≡ slots = g.met.E.Ends.of_slots _ _ _ in
     let size : 2 ^ w.memory_bits ≡ length (g.S.SlotStore.memory c.args.store.now) = g.met.E.Ends.of_memory _ _ _ c.requires.agree in
     let ran : LoopsRan w one two slots c.args.set c.lines_taken-lines.result = record {
       has = has;
       sound = c.requires.sound;
       members = c.requires.members;
-      shape = c.empty_all.ensures.shape;
-      taken = c.empty_all.ensures.taken;
+      shape = c.empty_all-left.ensures.shape;
+      taken = c.empty_all-left.ensures.taken;
       last = c.lines_taken-lines.ensures w has size;
-      bound = c.empty_bindings.ensures.state;
+      bound = c.empty_bindings-left.ensures.state;
       kept_first = sym (c.wants_revoke_first.ensures w has c.requires.sound size) ∙ c.if-wants_revoke_first.false;
     } in
     loops-may-settle w one two slots c.args.set c.lines_taken-lines.result ran
+
+pub settle-requires-clause-covered : goal.settle-requires-clause-covered
+settle-requires-clause-covered g c =
+    let slots : Slots = g.S.SlotMap.slots c.args.store.now in
+    let w : State = g.E.Ends.state c.args.ends.now slots (g.S.SlotStore.memory c.args.store.now) in
+    let one : State = g.E.Ends.state c.empty_all-left.new.ends (g.S.SlotMap.slots c.empty_all-left.new.store) (g.S.SlotStore.memory c.empty_all-left.new.store) in
+    let two : State = g.E.Ends.state c.empty_bindings-left.new.ends (g.S.SlotMap.slots c.empty_bindings-left.new.store) (g.S.SlotStore.memory c.empty_bindings-left.new.store) in
+    let has : w.slots ≡ slots = g.met.E.Ends.of_slots _ _ _ in
+    let size : 2 ^ w.memory_bits ≡ length (g.S.SlotStore.memory c.args.store.now) = g.met.E.Ends.of_memory _ _ _ c.requires.agree in
+    let ran : LoopsRan w one two slots c.args.set c.lines_taken-lines.result = record {
+      has = has;
+      sound = c.requires.sound;
+      members = c.requires.members;
+      shape = c.empty_all-left.ensures.shape;
+      taken = c.empty_all-left.ensures.taken;
+      last = c.lines_taken-lines.ensures w has size;
+      bound = c.empty_bindings-left.ensures.state;
+      kept_first = sym (c.wants_revoke_first.ensures w has c.requires.sound size) ∙ c.if-wants_revoke_first.false;
+    } in
+    loops-cover w one two slots c.args.set c.lines_taken-lines.result ran (g.S.SlotMap.slots c.empty_bindings-left.new.store) c.count.result c.nothing-left.result c.empty_all-left.result
+    c.empty_bindings-left.result (g.met.E.Ends.of_slots _ _ _) (c.count.ensures.value ∙ sym size) c.nothing-left.ensures c.empty_all-left.ensures.noted c.empty_bindings-left.ensures.noted
 
 pub returns-clause-outcome : goal.returns-clause-outcome
 returns-clause-outcome g c =
     let slots : Slots = g.S.SlotMap.slots c.args.store.now in
     let w : State = g.E.Ends.state c.args.ends.now slots (g.S.SlotStore.memory c.args.store.now) in
-    let one : State = g.E.Ends.state c.empty_all.new.ends (g.S.SlotMap.slots c.empty_all.new.store) (g.S.SlotStore.memory c.empty_all.new.store) in
-    let two : State = g.E.Ends.state c.empty_bindings.new.ends (g.S.SlotMap.slots c.empty_bindings.new.store) (g.S.SlotStore.memory c.empty_bindings.new.store) in
+    let one : State = g.E.Ends.state c.empty_all-left.new.ends (g.S.SlotMap.slots c.empty_all-left.new.store) (g.S.SlotStore.memory c.empty_all-left.new.store) in
+    let two : State = g.E.Ends.state c.empty_bindings-left.new.ends (g.S.SlotMap.slots c.empty_bindings-left.new.store) (g.S.SlotStore.memory c.empty_bindings-left.new.store) in
     let has : w.slots ≡ slots = g.met.E.Ends.of_slots _ _ _ in
     let size : 2 ^ w.memory_bits ≡ length (g.S.SlotStore.memory c.args.store.now) = g.met.E.Ends.of_memory _ _ _ c.requires.agree in
     let ran : LoopsRan w one two slots c.args.set c.lines_taken-lines.result = record {
       has = has;
       sound = c.requires.sound;
       members = c.requires.members;
-      shape = c.empty_all.ensures.shape;
-      taken = c.empty_all.ensures.taken;
+      shape = c.empty_all-left.ensures.shape;
+      taken = c.empty_all-left.ensures.taken;
       last = c.lines_taken-lines.ensures w has size;
-      bound = c.empty_bindings.ensures.state;
+      bound = c.empty_bindings-left.ensures.state;
       kept_first = sym (c.wants_revoke_first.ensures w has c.requires.sound size) ∙ c.if-wants_revoke_first.false;
     } in
     loops-remove w one two slots c.args.set c.lines_taken-lines.result ran _ c.settle.ensures.state

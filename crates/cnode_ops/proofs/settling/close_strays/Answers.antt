@@ -1,11 +1,26 @@
 -- Step by step.
 use Rattle.std.proofs.Common.{ℕ, ◌≡◌, ◌∙◌, ◌==◌, ◌+◌, Some, refl, sym, ap, subst}
+use Rattle.cnode_ops.specs.Unsettled.{Covers}
 use Rattle.model.specs.Capabilities.Slots.{IsOpen, Slots, empty_entry}
 use Rattle.model.specs.Kernel.State.{State}
 use Rattle.removal_laws.specs.Finishing.{StrayClosed, slots_from}
 use Rattle.removal_laws.proofs.Laws.{IsPassed, passed-next, passed-objects, stray-empty}
 use Rattle.cnode_ops.proofs.ClosedSlots.{is-zero}
+use Rattle.cnode_ops.proofs.Unsettling.{passed-covered, passed-end, passed-near}
 use Rattle.cnode_ops.proofs.settling.close_strays.Goals as goal
+
+pub new-requires : goal.new-requires
+new-requires g c =
+    let before : State = g.E.Ends.state c.args.ends.now (g.S.SlotMap.slots c.args.store.now) (g.S.SlotStore.memory c.args.store.now) in
+    (passed-near before c.args.left (subst (λ (n : Slots). Covers n before c.args.left) (sym (g.met.E.Ends.of_slots _ _ _)) c.requires.covered) c.slots.at c.slots-test.true).1
+
+pub slots-init : goal.slots-init
+slots-init g c =
+    let before : State = g.E.Ends.state c.args.ends.now (g.S.SlotMap.slots c.args.store.now) (g.S.SlotStore.memory c.args.store.now) in
+    record {
+      passed = passed-covered before c.args.left (subst (λ (n : Slots). Covers n before c.args.left) (sym (g.met.E.Ends.of_slots _ _ _)) c.requires.covered) c.requires.may;
+      agree = c.requires.agree;
+    }
 
 pub close_stray-requires-clause-empty : goal.close_stray-requires-clause-empty
 close_stray-requires-clause-empty g c = λ stray opens.
@@ -33,3 +48,8 @@ slots-preserved g c =
       passed = subst (λ (n : ℕ). IsPassed before after (c.slots.at + n)) (sym c.max-at.ensures) (passed-next before now after c.slots.at own (own == 0) passed own_is refl state);
       agree = c.close_stray.ensures.agree;
     }
+
+pub returns-clause-state : goal.returns-clause-state
+returns-clause-state g c =
+    let before : State = g.E.Ends.state c.args.ends.now (g.S.SlotMap.slots c.args.store.now) (g.S.SlotStore.memory c.args.store.now) in
+    passed-end before c.args.left (subst (λ (n : Slots). Covers n before c.args.left) (sym (g.met.E.Ends.of_slots _ _ _)) c.requires.covered) _ c.slots.at c.slots.invariant.passed c.slots-test.false

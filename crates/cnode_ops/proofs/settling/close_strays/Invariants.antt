@@ -14,4 +14,4 @@ invariant-slots g l =
     }
 
 abbrev pub decreases-slots : goal.decreases-slots
-decreases-slots g l = l.count - l.at
+decreases-slots g l = l.left.end - l.at

@@ -1,14 +1,18 @@
--- The page tables in the slots below the number have been looked at.
-use Rattle.std.proofs.Common.{◌≡◌}
+-- The page tables in the slots up to the last one have been looked at, and fewer are left each time.
+use Rattle.std.proofs.Common.{◌≡◌, length}
+use Rattle.model.proofs.Orders.{behind}
 use Rattle.vspace.specs.Kept.{SameBesideTables}
 use Rattle.vspace.specs.Tables.{TablesAgree}
-use Rattle.vspace.proofs.EndedTables.{EndedBelow}
+use Rattle.vspace.proofs.EndedTables.{EndedSoFar}
 use Rattle.vspace.proofs.endings.end_tables.Given as goal
 
 abbrev pub invariant-slots : goal.invariant-slots
 invariant-slots g l = record {
-  ended : EndedBelow (g.S.SlotMap.slots l.initial.store) (g.S.SlotMap.slots l.store) l.offset l.number;
+  ended : EndedSoFar (g.S.SlotStore.order l.store) (g.S.SlotMap.slots l.initial.store) (g.S.SlotMap.slots l.store) l.offset l.at;
   bytes : SameBesideTables (g.S.SlotMap.slots l.initial.store) (g.S.SlotStore.memory l.initial.store) (g.S.SlotStore.memory l.store);
   order : g.S.SlotStore.order l.store ≡ g.S.SlotStore.order l.initial.store;
   agree : TablesAgree (g.S.SlotMap.slots l.store) (g.S.SlotStore.memory l.store);
 }
+
+abbrev pub decreases-slots : goal.decreases-slots
+decreases-slots g l = length (behind (g.S.SlotStore.order l.store) l.at)

@@ -1,5 +1,6 @@
--- The slots below the number are without the region.
-use Rattle.std.proofs.Common.{◌≡◌}
+-- Who stands behind the slot that was looked at last is left, and fewer each time.
+use Rattle.std.proofs.Common.{◌≡◌, length}
+use Rattle.model.proofs.Orders.{behind}
 use Rattle.vspace.specs.Kept.{SameBesideTables}
 use Rattle.vspace.specs.Tables.{TablesAgree}
 use Rattle.vspace.proofs.Sweeps.{Swept}
@@ -7,8 +8,11 @@ use Rattle.vspace.proofs.regions.clear_region.Given as goal
 
 abbrev pub invariant-slots : goal.invariant-slots
 invariant-slots g l = record {
-  swept : Swept (g.S.SlotMap.slots l.initial.store) (g.S.SlotMap.slots l.store) l.region l.number;
+  swept : Swept (g.S.SlotStore.order l.store) (g.S.SlotMap.slots l.initial.store) (g.S.SlotMap.slots l.store) l.region l.at;
   bytes : SameBesideTables (g.S.SlotMap.slots l.initial.store) (g.S.SlotStore.memory l.initial.store) (g.S.SlotStore.memory l.store);
   order : g.S.SlotStore.order l.store ≡ g.S.SlotStore.order l.initial.store;
   agree : TablesAgree (g.S.SlotMap.slots l.store) (g.S.SlotStore.memory l.store);
 }
+
+abbrev pub decreases-slots : goal.decreases-slots
+decreases-slots g l = length (behind (g.S.SlotStore.order l.store) l.at)

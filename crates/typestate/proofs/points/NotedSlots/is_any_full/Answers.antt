@@ -1,7 +1,7 @@
 -- None so far is full, and so the rest decides.
-use Rattle.std.proofs.Common.{ℕ, suc, ◌≡◌, ◌∙◌, ◌+◌, ◌-◌, ◌<◌, ◌||◌, ◌∷◌, Bool, true, is_some, sym, ap, arith}
+use Rattle.std.proofs.Common.{ℕ, suc, ◌≡◌, ◌∙◌, ◌+◌, ◌-◌, ◌<◌, ◌||◌, ◌∷◌, Bool, true, Option, is_some, sym, ap, arith}
 use Rattle.std.specs.List.{list_any, range_with_len}
-use Rattle.model.specs.Acceptance.NotedStates.{slot_at}
+use Rattle.model.specs.Acceptance.NotedStates.{NotedSlot, SlotKey, slot_at}
 use Rattle.typestate.specs.Differences.{slots_of}
 use Rattle.typestate.proofs.points.NotedSlots.is_any_full.Goals as goal
 
@@ -10,18 +10,18 @@ range-next a n less = ap (range_with_len a) (let one : n - a ≡ suc (n - (a + 1
 
 pub loop-i-preserved : goal.loop-i-preserved
 loop-i-preserved c =
-    let f : ℕ → Bool = λ i. is_some (slot_at (slots_of c.args.self.now) (record { cnode = c.args.first.cnode; index = c.args.first.index + i })) in
+    let f : ℕ → Bool = λ i. is_some (slot_at (slots_of c.args.self.now) (record { cnode = c.args.run.now.first.cnode; index = c.args.run.now.first.index + i })) in
     let i = c.loop-i.i in
     record {
       within = omega (arith, c.loop-i-test.true);
-      left = ap (λ b. b || list_any f (range_with_len (i + 1) (c.args.count - (i + 1)))) (sym c.if-is_full_at.false ∙ c.is_full_at.ensures)
-          ∙ ap (list_any f) (sym (range-next i c.args.count c.loop-i-test.true)) ∙ c.loop-i.invariant.left;
+      left = ap (λ b. b || list_any f (range_with_len (i + 1) (c.args.run.now.count - (i + 1)))) (sym c.if-is_some.false ∙ c.is_some.ensures ∙ ap (λ (o : Option NotedSlot). is_some o) c.at.ensures ∙ ap (λ (k : SlotKey). is_some (slot_at (slots_of c.args.self.now) k)) c.key.ensures)
+          ∙ ap (list_any f) (sym (range-next i c.args.run.now.count c.loop-i-test.true)) ∙ c.loop-i.invariant.left;
     }
 
-pub returns-then-is_full_at : goal.returns-then-is_full_at
-returns-then-is_full_at c =
-    let f : ℕ → Bool = λ i. is_some (slot_at (slots_of c.args.self.now) (record { cnode = c.args.first.cnode; index = c.args.first.index + i })) in
+pub returns-then-is_some : goal.returns-then-is_some
+returns-then-is_some c =
+    let f : ℕ → Bool = λ i. is_some (slot_at (slots_of c.args.self.now) (record { cnode = c.args.run.now.first.cnode; index = c.args.run.now.first.index + i })) in
     let i = c.loop-i.i in
-    let full : f i ≡ true = sym c.is_full_at.ensures ∙ c.if-is_full_at.true in
-    sym (ap (λ b. b || list_any f (range_with_len (i + 1) (c.args.count - (i + 1)))) full)
-    ∙ ap (list_any f) (sym (range-next i c.args.count c.loop-i-test.true)) ∙ c.loop-i.invariant.left
+    let full : f i ≡ true = sym (c.is_some.ensures ∙ ap (λ (o : Option NotedSlot). is_some o) c.at.ensures ∙ ap (λ (k : SlotKey). is_some (slot_at (slots_of c.args.self.now) k)) c.key.ensures) ∙ c.if-is_some.true in
+    sym (ap (λ b. b || list_any f (range_with_len (i + 1) (c.args.run.now.count - (i + 1)))) full)
+    ∙ ap (list_any f) (sym (range-next i c.args.run.now.count c.loop-i-test.true)) ∙ c.loop-i.invariant.left

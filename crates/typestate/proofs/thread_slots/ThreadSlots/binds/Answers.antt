@@ -4,7 +4,7 @@ use Rattle.model.specs.declared.capabilities.Cap.{Cap}
 use Rattle.model.specs.Acceptance.NotedKernel.{noted_slots}
 use Rattle.model.specs.Kernel.Arguments.{argument_slot}
 use Rattle.typestate.specs.Differences.{slots_of}
-use Rattle.typestate.proofs.GivenFacts.{apart-of, space-of}
+use Rattle.typestate.proofs.GivenFacts.{apart-of}
 use Rattle.typestate.proofs.HandlerRules.{bind-never, bind-refused, bind-unbound, bind-vacant}
 use Rattle.typestate.proofs.Inside.{named-err, named-ok}
 use Rattle.typestate.proofs.thread_slots.ThreadSlots.binds.Goals as goal
@@ -44,6 +44,3 @@ returns c = λ held.
     let all = noted_slots image t slots in
     let x = named-ok image t all (argument_slot all c.args.self.now.space.root c.args.name) c.in-Ok.found.0 c.in-Ok.found.1 c.in-Ok.ensures.value in
     bind-never image t c.args.at slots held (apart-of c.args.self.now.space) c.args.line c.args.name x.0 (ap (λ (root : Cap). argument_slot all root c.args.name) (sym c.args.self.now.space.rooted) ∙ x.1) c.in-Ok.found.1 x.3 (sym c.if-is_vacant.ensures) (sym c.if-not-may_be_bound.ensures)
-
-pub named-requires-clause-valid : goal.named-requires-clause-valid
-named-requires-clause-valid c = (space-of c.args.self.now.space).valid

@@ -7,7 +7,6 @@ use Rattle.model.specs.Capabilities.CapabilityWords.{IsCapability, IsPlace}
 use Rattle.model.specs.Kernel.Arguments.{argument_slot}
 use Rattle.model.specs.Kernel.MappingCalls.{root_named}
 use Rattle.typestate.specs.Differences.{slots_of}
-use Rattle.typestate.proofs.GivenFacts.{space-of}
 use Rattle.typestate.proofs.HeldCaps.{root-found}
 use Rattle.typestate.proofs.Inside.{named-ok}
 use Rattle.typestate.proofs.thread_slots.ThreadSlots.names_root.Goals as goal
@@ -32,6 +31,3 @@ returns-in-RootTable-clause-placed c =
     let x = named-ok image t all (argument_slot all c.args.self.now.space.root c.args.name) c.in-Ok.found.0 c.in-Ok.found.1 c.in-Ok.ensures.value in
     let found = root-found image t slots c.args.self.now.space.root c.args.name x.0 c.in-RootTable.offset c.in-Ok.found.0 c.in-Ok.found.1 c.args.self.now.inside x.1 x.2 x.3 c.in-RootTable.is in
     subst (λ n. IsPlace n 12) (found.1 ∙ sym c.args.self.now.space.mapped) (subst IsCapability c.in-RootTable.is c.in-Ok.ensures.valid)
-
-pub named-requires-clause-valid : goal.named-requires-clause-valid
-named-requires-clause-valid c = (space-of c.args.self.now.space).valid

@@ -1,5 +1,5 @@
 -- Nothing is kept.
-use Rattle.walk_cache.proofs.Emptied.{among_emptied}
+use Rattle.walk_cache.proofs.Kept.{among_emptied}
 use Rattle.walk_cache.proofs.caches.Tlb.new.Goals as goal
 
 pub returns-clause-among : goal.returns-clause-among

@@ -6,8 +6,8 @@ use Rattle.walk_cache.specs.KeptLeaves.{leaf_of}
 use Rattle.walk_cache.proofs.Walks.{walk_leaf}
 use Rattle.walk_cache.proofs.caches.Tlb.walk.Goals as goal
 
-pub returns-in-Some-clause-value : goal.returns-in-Some-clause-value
-returns-in-Some-clause-value c =
+pub returns-in-Some : goal.returns-in-Some
+returns-in-Some c =
     let kept = c.in-Some.kept in
     let is = c.in-Some.is in
     let page = c.args.address / 2 ^ 12 in
@@ -17,10 +17,3 @@ returns-in-Some-clause-value c =
     ∙ c.requires.each (page % 64) kept (c.find.ensures.kept kept is) in
     c.ok_or.ensures.value
     ∙ ap (λ o. ok_or o page_fault) (c.place_in.ensures ∙ sym (walk_leaf c.args.memory.now c.args.root c.args.address kept.leaf c.args.access found))
-
-pub returns-in-Some-leaf_of-clause-value : goal.returns-in-Some-leaf_of-clause-value
-returns-in-Some-leaf_of-clause-value c =
-    let found : leaf_of c.args.memory.now c.args.root (c.args.address / 2 ^ 12) ≡ Some c.in-Some-leaf_of.leaf.0 = sym c.in-Some-leaf_of.ensures in
-    c.ok_or-in-Some-leaf_of.ensures.value
-    ∙ ap (λ o. ok_or o page_fault)
-    (c.place_in-in-Some-leaf_of.ensures ∙ sym (walk_leaf c.args.memory.now c.args.root c.args.address c.in-Some-leaf_of.leaf.0 c.args.access found))

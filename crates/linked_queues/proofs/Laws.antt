@@ -1,0 +1,2 @@
+-- What the crates above use of these proofs.
+pub use Rattle.linked_queues.proofs.Changing.{kinds_apart, ready_stays, waiting_stays}

@@ -1,0 +1,18 @@
+//! What stays of queues where something else changes. Each law is the contract of a function that does nothing.
+
+ghost use Rattle.linked_queues.specs.Laws.{KindsApart, ReadyStays, WaitingStays};
+
+/// Those that wait still do, where neither the bytes of their links nor the objects change.
+pub fn waiting_stays()
+    ensures { WaitingStays }
+{}
+
+/// Those that are ready still are, where neither the bytes of their links nor the threads change.
+pub fn ready_stays()
+    ensures { ReadyStays }
+{}
+
+/// Who waits changes beside who is ready, and threads alone stand in queues, of objects that may have such.
+pub fn kinds_stand_apart()
+    ensures { KindsApart }
+{}
