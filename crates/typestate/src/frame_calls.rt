@@ -7,7 +7,6 @@ ghost use Rattle.std.specs.Option.{option_map_or};
 ghost use Rattle.model.specs.Acceptance.NotedKernel.{noted_kernel, noted_root, noted_slots};
 ghost use Rattle.model.specs.Capabilities.CapabilityKinds.{frame_mapping, with_frame_mapping};
 ghost use Rattle.model.specs.Capabilities.CapabilityWords.{AreMappingRights, IsCapability, IsFrameMapping, IsPlace};
-ghost use Rattle.model.specs.Images.Image.{Thread};
 ghost use Rattle.model.specs.Kernel.AddressSpaces.{is_page_taken, is_region_taken, maps_page};
 ghost use Rattle.model.specs.Kernel.MappingCalls.{root_named};
 ghost use Rattle.model.specs.declared.invocations.FrameCall.TheVariants.{MapFrame, UnmapFrame};
@@ -22,30 +21,12 @@ ghost use Rattle.typestate.specs.declared.slot_changes.SlotChange.TheVariants.{P
 use crate::held_slots::HeldSlot;
 use crate::noted::{left, numbered};
 use crate::{NotedSlot, NotedSlots, SlotChange, Space, ThreadSlots};
-use model::{
-    Cap, FrameCall, FrameEntry, FrameMapping, KError, Point, Refusal, Rights, SlotName, TableEntry,
-};
+use model::{Cap, FrameCall, FrameMapping, KError, Point, Refusal, Rights, SlotName};
 use vspace::{mapping_rights, may_be_mapped, page_named};
-
-/// Bytes of a page.
-const PAGE_SIZE: u32 = 0x1000;
+use wellformed::{lists_page, lists_region};
 
 /// Pages of a region, which one page table maps.
 const REGION_PAGES: u32 = 0x400;
-
-/// Whether an entry maps a page table for a region under a root table.
-fn maps_region(entry: TableEntry, root: u32, region: u32) -> bool
-    ensures { (t : Thread) → t.header.root ≡ root → result ≡ lists_region t region entry }
-{
-    entry.root == root && entry.address / PAGE_SIZE / REGION_PAGES == region
-}
-
-/// Whether an entry maps a frame at a page under a root table.
-fn maps_frame(entry: FrameEntry, root: u32, page: u32) -> bool
-    ensures { (t : Thread) → t.header.root ≡ root → result ≡ lists_page t page entry }
-{
-    entry.root == root && entry.address / PAGE_SIZE == page
-}
 
 /// Whether a capability maps a page under the root table at an offset.
 fn maps_page(capability: Cap, root: u32, page: u32) -> bool
@@ -154,32 +135,25 @@ impl NotedSlots<'_> {
 impl Space<'_, '_> {
     /// Whether the image maps a page table for a region under the thread's root table.
     fn lists_region(&self, region: u32) -> bool
+        requires { region < 2 ^ 10 }
         ensures { result ≡ list_any (lists_region self.now.thread.now region) self.now.image.now.tables }
     {
-        for entry in self.image.tables() {
-            if maps_region(entry, self.thread.header().root, region) {
-                return true;
-            }
-        }
-        false
+        lists_region(self.image, self.thread.header().root, region)
     }
 
     /// Whether the image maps a frame at a page under the thread's root table.
     fn lists_page(&self, page: u32) -> bool
+        requires { page < 2 ^ 20 }
         ensures { result ≡ list_any (lists_page self.now.thread.now page) self.now.image.now.frames }
     {
-        for entry in self.image.frames() {
-            if maps_frame(entry, self.thread.header().root, page) {
-                return true;
-            }
-        }
-        false
+        lists_page(self.image, self.thread.header().root, page)
     }
 }
 
 impl ThreadSlots<'_, '_, '_> {
     /// Whether a region of the thread's address space has a page table. No program can map or unmap one.
     fn is_region_taken(&self, region: u32) -> bool
+        requires { region < 2 ^ 10 }
         ensures { result ≡ is_region_taken (noted_kernel self.now.space.image.now self.now.space.thread.now (slots_of self.now.slots)) self.now.space.table region }
     {
         self.space.lists_region(region)
@@ -187,6 +161,7 @@ impl ThreadSlots<'_, '_, '_> {
 
     /// Whether a frame is mapped at a page of the thread's address space.
     fn is_page_taken(&self, page: u32) -> bool
+        requires { page < 2 ^ 20 }
         ensures { result ≡ is_page_taken (noted_kernel self.now.space.image.now self.now.space.thread.now (slots_of self.now.slots)) self.now.space.table page }
     {
         let listed = self.space.lists_page(page);

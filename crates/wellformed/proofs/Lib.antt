@@ -6,6 +6,7 @@ mod Places
 mod Reached
 mod RulesLeft
 mod Searches
+mod RegionSearches
 mod Stands
 mod ThreadSteps
 pub mod Laws

@@ -40,7 +40,7 @@ abbrev pub covers : FrameEntry → TableEntry → Bool
 covers e t = t.root == e.root && (t.address / region_size == e.address / region_size)
 
 module _ (image : Image) (fits : IsFitting image) where
-  tables-rise : DoRise (table_keys image)
+  pub tables-rise : DoRise (table_keys image)
   tables-rise = keys-rise table_key image.tables fits.regions_rise
 
   within-region : (e : FrameEntry) → e.address < 2 ^ 32
@@ -84,7 +84,7 @@ same-root r s a b less small low high = elim (cases_eq r s) [
 ]
 
 module _ (image : Image) (fits : IsFitting image) where
-  frames-rise : DoRise (frame_keys image)
+  pub frames-rise : DoRise (frame_keys image)
   frames-rise = keys-rise frame_key image.frames fits.pages_rise
 
   at-address : (root address : ℕ) → address < 2 ^ 32

@@ -25,7 +25,7 @@ pub(crate) const ADDRESS_LIMIT: u32 = 0x8000_0000;
 pub(crate) const PAGE: u32 = 0x1000;
 
 /// The bytes that a page table maps.
-const REGION: u32 = 0x40_0000;
+pub(crate) const REGION: u32 = 0x40_0000;
 
 /// Whether a virtual address is a multiple of a size.
 fn is_address(address: u32, size: u32) -> bool
