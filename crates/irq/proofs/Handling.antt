@@ -1,5 +1,5 @@
 -- A new handler of a line, and where it goes.
-use Rattle.std.proofs.Common.{ℕ, ◌≡◌, ◌∙◌, ◌*◌, ◌/◌, ◌<◌, Bool, true, false, not, nat_le, nat_lt, Some, None, List, Result, Ok, Err, length, refl, sym, ap, arith}
+use Rattle.std.proofs.Common.{ℕ, ◌≡◌, ◌∙◌, ◌/◌, ◌<◌, Bool, true, false, not, nat_le, nat_lt, Some, None, List, Result, Ok, Err, length, refl, sym, ap, arith}
 use Rattle.std.specs.List.{list_any, range_with_len}
 use Rattle.std.proofs.lemmas.Bool.{leb-true}
 use Rattle.kernel_invariant.specs.Agreement.{Agrees}

@@ -4,7 +4,7 @@ use Rattle.cnode_ops.proofs.Laws.{before-first, behind-first, behind-next, fewer
 use Rattle.irq.proofs.handlers.is_handled.Goals as goal
 use Rattle.model.specs.Capabilities.CapabilityKinds.{is_handler_of}
 use Rattle.model.specs.Capabilities.Orders.{next_in}
-use Rattle.model.specs.Capabilities.Slots.{IsFull, IsOpen, Slots, capability_at, is_full}
+use Rattle.model.specs.Capabilities.Slots.{IsFull, Slots, capability_at, is_full}
 use Rattle.model.proofs.Ancestors.{full-open}
 
 abbrev passes : Slots → ℕ → ℕ → Bool
