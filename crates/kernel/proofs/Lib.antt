@@ -1,4 +1,3 @@
-pub mod Filled
 pub mod Fresh
 pub mod HeldSlots
 pub mod Roots

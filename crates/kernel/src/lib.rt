@@ -3,7 +3,6 @@
 #![tactic(auto)]
 
 mod boot_calls;
-mod fills;
 mod holders;
 mod looks;
 mod machine;

@@ -10,7 +10,6 @@ ghost use Rattle.model.specs.Kernel.State.{as_thread};
 ghost use Rattle.model.specs.Kernel.Steps.{step};
 
 use crate::boot_calls::make_call;
-use crate::fills::fill_frame;
 use crate::holders::{LINES, look_at};
 use crate::looks::{byte_at, memory_size, register_of};
 use crate::puts::{put_control, put_untyped};
@@ -21,6 +20,7 @@ use objects::Objects;
 use slots::SlotStore;
 use std::alloc::{AllocError, Global};
 use std::marker::Model;
+use user_memory::fill;
 
 /// All that the kernel keeps, which is always whole: the state that it stands for is sound, and page tables and
 /// capabilities, slots and the bytes of frames agree. It is looked at by threads, slots and bytes.
@@ -88,7 +88,7 @@ impl Machine {
     pub(crate) fn fill(&mut self, offset: u32, bytes: &[u8]) -> bool
         ensures { GivesIf (fill (state_in self.old) offset bytes.now) result self.old self.new }
     {
-        fill_frame(&mut self.kernel, offset, bytes)
+        fill(&mut self.kernel, offset, bytes)
     }
 
     /// Makes a call on what an address among the boot slots names.

@@ -1,15 +1,9 @@
 //! One instruction of the thread that runs.
 
-ghost use Rattle.std.specs.Prelude.{ℕ, ◌≡◌, ◌≢◌, Some};
-ghost use Rattle.model.specs.Kernel.AddressSpaces.{content_of, with_content};
-ghost use Rattle.model.specs.Kernel.Messages.{with_registers};
-ghost use Rattle.model.specs.Kernel.Steps.{executes, registers_of, runs, runs_decoded};
+ghost use Rattle.std.specs.Prelude.{ℕ, ◌≡◌};
+ghost use Rattle.model.specs.Kernel.Steps.{executes, runs, runs_decoded};
 ghost use Rattle.model.specs.Machine.Decoding.{decoded};
-ghost use Rattle.model.specs.Machine.Effects.{effect};
 ghost use Rattle.model.specs.Machine.Instructions.{IsInstr};
-ghost use Rattle.model.specs.Machine.ProgramMemory.{loaded};
-ghost use Rattle.model.specs.declared.instructions.Access.TheVariants.{Fetch};
-ghost use Rattle.model.specs.declared.instructions.AccessSize.TheVariants.{Word};
 ghost use Rattle.object_lifetimes.specs.Kernels.{state_in};
 ghost use Rattle.soundness.specs.Running.{IsRunning};
 
@@ -21,26 +15,6 @@ use slots::SlotStore;
 use system_calls::system_call;
 use user_memory::fetch;
 
-/// The registers and the memory of the thread that runs change as an instruction says. Where the answer is not `Next`,
-/// nothing does.
-fn perform<S: SlotStore>(kernel: &mut Kernel<S>, thread: u32, instruction: Instr) -> Exec
-    requires runs { IsRunning (state_in S.slots S.memory kernel.old) thread }
-    requires instruction { IsInstr instruction }
-    ensures outcome { result ≡ (effect (registers_of (state_in S.slots S.memory kernel.old) thread)
-        (content_of (state_in S.slots S.memory kernel.old) thread) instruction).exec }
-    ensures state { let s = state_in S.slots S.memory kernel.old in
-        let after = effect (registers_of s thread) (content_of s thread) instruction in
-        state_in S.slots S.memory kernel.new ≡ with_content (with_registers s thread after.registers) after.content }
-    ensures unchanged { result ≢ Exec.Next → state_in S.slots S.memory kernel.new ≡ state_in S.slots S.memory kernel.old }
-{
-    user_memory::execute(
-        &mut kernel.store,
-        &mut kernel.objects.objects,
-        thread,
-        instruction,
-    )
-}
-
 /// The thread that runs executes an instruction.
 fn execute<S: SlotStore>(kernel: &mut Kernel<S>, thread: u32, instruction: Instr) -> Outcome
     requires runs { IsRunning (state_in S.slots S.memory kernel.old) thread }
@@ -49,7 +23,7 @@ fn execute<S: SlotStore>(kernel: &mut Kernel<S>, thread: u32, instruction: Instr
         ≡ (executes (state_in S.slots S.memory kernel.old) thread instruction).0 }
     ensures outcome { result ≡ (executes (state_in S.slots S.memory kernel.old) thread instruction).1 }
 {
-    match perform(kernel, thread, instruction) {
+    match user_memory::execute(kernel, thread, instruction) {
         Exec::Next => Outcome::Plain,
         Exec::Ecall => system_call(kernel, thread),
         Exec::Trap(cause) => trap(kernel, thread, cause),
@@ -73,14 +47,6 @@ fn execute_word<S: SlotStore>(kernel: &mut Kernel<S>, thread: u32, word: u32) ->
     }
 }
 
-/// The word at the pc of a thread, or the fault of reading it.
-fn next_word<S: SlotStore>(kernel: &Kernel<S>, thread: u32) -> Result<u32, MemoryFault>
-    ensures { result ≡ loaded (content_of (state_in S.slots S.memory kernel.now) thread) Fetch Word
-        (registers_of (state_in S.slots S.memory kernel.now) thread).pc }
-{
-    fetch(&kernel.store, &kernel.objects.objects, thread)
-}
-
 /// The thread that runs executes the instruction at its pc.
 #[tactic(auto, unfolding(model::specs::Kernel::Steps::runs))]
 pub(crate) fn run<S: SlotStore>(kernel: &mut Kernel<S>, thread: u32) -> Outcome
@@ -89,7 +55,7 @@ pub(crate) fn run<S: SlotStore>(kernel: &mut Kernel<S>, thread: u32) -> Outcome
         ≡ (runs (state_in S.slots S.memory kernel.old) thread).0 }
     ensures outcome { result ≡ (runs (state_in S.slots S.memory kernel.old) thread).1 }
 {
-    match next_word(kernel, thread) {
+    match fetch(kernel, thread) {
         Ok(word) => execute_word(kernel, thread, word),
         Err(fault) => miss(kernel, thread, fault),
     }

@@ -1,3 +1,5 @@
+pub mod Executed
+pub mod Filled
 pub mod FilledFrames
 pub mod Named
 pub mod Reading

@@ -4,22 +4,23 @@ use Rattle.std.specs.Prelude.{slice_index}
 use Rattle.std.specs.Option.{option_map_or}
 use Rattle.kernel_invariant.proofs.Laws.{agrees-less, less-same, tables-beside}
 use Rattle.kernel_invariant.specs.Agreement.{Agrees}
+use Rattle.kernel_invariant.specs.Wholeness.{IsWhole}
 use Rattle.model.specs.Capabilities.CapabilityKinds.{root_of}
 use Rattle.model.specs.Capabilities.Slots.{Slots, capability_at}
 use Rattle.model.specs.Kernel.AddressSpaces.{vspace_of, with_content}
 use Rattle.model.specs.Kernel.Kinds.{kind_at, object_named}
 use Rattle.model.specs.Kernel.Messages.{with_registers}
 use Rattle.model.specs.Kernel.Retype.{NewFrame}
-use Rattle.model.specs.Kernel.Soundness.{IsSound}
 use Rattle.model.specs.Kernel.State.{State, vspace_slot}
 use Rattle.model.specs.Machine.ProgramMemory.{Content, RegisterFile}
 use Rattle.model.specs.declared.capabilities.Cap.{Cap}
 use Rattle.model.specs.declared.capabilities.Cap.TheVariants.{Empty, Untyped, Endpoint, Notification, CNode, Frame, PageTable, Tcb, RootTable, InterruptControl, InterruptHandler}
+use Rattle.object_lifetimes.specs.Kernels.{Parts, state_in}
 use Rattle.objects.specs.Frames.{SameBesideFrames, SameObjects}
 use Rattle.objects.specs.Standing.{Standing}
 use Rattle.objects.specs.Tables.{Tables, state_of}
 use Rattle.soundness.proofs.Laws.{full-near}
-use Rattle.user_memory.proofs.Stored.{content-left, hidden-same, stored-agrees, stored-stands}
+use Rattle.user_memory.proofs.Stored.{content-left, hidden-same}
 use Rattle.user_memory.specs.Views.{Beside, IsUsable, beside_of, content_under}
 
 -- ---- before
@@ -37,18 +38,35 @@ root-held (Tcb _) table is = absurd (let clash : None ≡ Some table = is in cc)
 root-held InterruptControl table is = absurd (let clash : None ≡ Some table = is in cc)
 root-held (InterruptHandler _) table is = absurd (let clash : None ≡ Some table = is in cc)
 
-pub usable-first : (s : State) (memory : List ℕ) (thread : ℕ) (root : Option ℕ) → Agrees s memory → IsSound s → root ≡ vspace_of s thread → IsUsable s memory root
-usable-first s memory thread root agrees sound of_thread = record {
-  agrees = agrees;
-  near = full-near s sound.shape sound.slots sound.memory;
-  rooted = λ table is. (vspace_slot thread, root-held (capability_at s.slots (vspace_slot thread)) table (sym of_thread ∙ is));
-  framed = λ slot frame place r m held around.
-      (sound.memory.bytes place).1 (ap (kind_at s) around ∙ sound.memory.named slot NewFrame frame (ap object_named held));
-}
+pub usable-first : (o : Tables) (slots : Slots) (memory : List ℕ) (thread : ℕ) (root : Option ℕ) → IsWhole o slots memory
+    → root ≡ root_of (capability_at slots (vspace_slot thread)) → IsUsable (state_of o slots memory) memory root
+unfolding state_of
+usable-first o slots memory thread root whole of_thread =
+    let sound = whole.sound in
+    record {
+      agrees = whole.agrees;
+      near = full-near (state_of o slots memory) sound.shape sound.slots sound.memory;
+      rooted = λ table is. (vspace_slot thread, root-held (capability_at slots (vspace_slot thread)) table (sym of_thread ∙ is));
+      framed = λ slot frame place r m held around.
+          (sound.memory.bytes place).1 (ap (kind_at (state_of o slots memory)) around ∙ sound.memory.named slot NewFrame frame (ap object_named held));
+    }
+
+-- what is known inside is known of the kernel
+pub usable-kernel : {S : Type 0} (slots : S → Slots) (memory : S → List ℕ) (thread : ℕ) (root : Option ℕ) {parts kernel : Parts S} → parts ≡ kernel
+    → IsWhole parts.tables (slots parts.store) (memory parts.store) → root ≡ root_of (capability_at (slots parts.store) (vspace_slot thread))
+    → ∥ IsUsable (state_in slots memory kernel) (memory kernel.store) root ∥₁
+usable-kernel slots memory thread root {parts} is whole of_thread =
+    subst (λ k. ∥ IsUsable (state_in slots memory k) (memory k.store) root ∥₁) is
+    ∣ usable-first parts.tables (slots parts.store) (memory parts.store) thread root whole of_thread ∣₁
+
+pub root-kernel : {S : Type 0} (slots : S → Slots) (memory : S → List ℕ) (thread : ℕ) (root : Option ℕ) {parts kernel : Parts S} → parts ≡ kernel
+    → root ≡ root_of (capability_at (slots parts.store) (vspace_slot thread)) → root ≡ vspace_of (state_in slots memory kernel) thread
+unfolding state_of
+root-kernel slots memory thread root is of_thread = of_thread ∙ ap (λ k. root_of (capability_at (slots k.store) (vspace_slot thread))) is
 
 -- ---- afterwards
 
--- in the words of a view that was lent the store
+-- in the words of a view that was lent the kernel
 module _ (o now : Tables) (slots after : Slots) (old new : List ℕ) (root left : Option ℕ) (store gone : ℕ)
     (kept : beside_of now after new left gone ≡ beside_of o slots old root store) where
   objects-kept : now ≡ o
@@ -60,9 +78,6 @@ module _ (o now : Tables) (slots after : Slots) (old new : List ℕ) (root left 
   same-state : state_of now after new ≡ state_of o slots new
   same-state = ap (λ (x : Tables). state_of x after new) objects-kept ∙ ap (λ (n : Slots). state_of o n new) slots-kept
 
-  own-state : state_of o after new ≡ state_of o slots new
-  own-state = ap (λ (n : Slots). state_of o n new) slots-kept
-
   module _ (stood : Standing o slots old) where
     same-frames : SameBesideFrames (state_of o slots old) old new
     same-frames = record {
@@ -71,17 +86,11 @@ module _ (o now : Tables) (slots after : Slots) (old new : List ℕ) (root left 
           (λ place. sym (ap (λ (x : State). option_map_or (λ _. None) (x.bytes place) (Some (slice_index new place))) same-state) ∙ ap (λ (b : Beside). b.bytes place) kept);
     }
 
-    pub state-left : (content : Content) → content_under (state_of now after new) left ≡ content → state_of o after new ≡ with_content (state_of o slots old) content
-    state-left content sees = own-state ∙ content-left o slots old new stood same-frames content
+    pub state-left : (content : Content) → content_under (state_of now after new) left ≡ content → state_of now after new ≡ with_content (state_of o slots old) content
+    state-left content sees = same-state ∙ content-left o slots old new stood same-frames content
         (λ place. sym (ap (λ (c : Content). c.byte place) sees) ∙ ap (λ (x : State). option_map_or (λ byte. byte) (x.bytes place) 0) same-state)
 
-    pub agrees-left : Agrees (state_of o slots old) old → Agrees (state_of o after new) new
-    agrees-left agrees = subst (λ (x : State). Agrees x new) (sym own-state) (stored-agrees o slots old new stood same-frames agrees)
-
-    pub stands-left : Standing o after new
-    stands-left = subst (λ (n : Slots). Standing o n new) (sym slots-kept) (stored-stands o slots old new stood same-frames)
-
--- what the store is once the view is gone
+-- what the kernel is once the view is gone
 pub in-the-end : {W : Type 0} (claim : W → Type 0) (last seen : W) (store gone : ℕ) → (store ≡ gone → last ≡ seen) → store ≡ gone → claim seen → claim last
 in-the-end claim last seen store gone given same is = subst claim (sym (given same)) is
 

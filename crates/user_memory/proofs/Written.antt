@@ -1,19 +1,22 @@
 -- A byte that is written into a frame: what the program sees, and what stays.
-use Rattle.std.proofs.Common.{ℕ, ◌≡◌, ◌∙◌, ◌==◌, ◌+◌, ◌<◌, inl, inr, Bool, true, false, if◌then◌else◌, Option, Some, None, IsSome, option_map, List, [], ◌∷◌, length, refl, sym, ap, subst, arith}
+use Rattle.std.proofs.Common.{ℕ, ◌≡◌, ◌∙◌, ◌==◌, ◌+◌, ◌^◌, ◌<◌, inl, inr, Bool, true, false, if◌then◌else◌, Option, Some, None, IsSome, option_map, List, [], ◌∷◌, length, refl, sym, ap, subst, arith}
 use Rattle.std.specs.Prelude.{slice_index}
 use Rattle.std.specs.Option.{option_map_or}
 use Rattle.std.proofs.lemmas.Bool.{cases_lt}
 use Rattle.std.proofs.lemmas.Bool.Decides.{eqb_tells}
 use Rattle.kernel_invariant.specs.Agreement.{Agrees}
+use Rattle.kernel_invariant.specs.Wholeness.{IsWhole}
 use Rattle.model.proofs.BytesLemmas.{length-written, slice_index-written_before, slice_index-written_behind, slice_index-written_inside}
 use Rattle.model.specs.Capabilities.Slots.{Slots}
+use Rattle.model.specs.Kernel.Soundness.{IsSound}
 use Rattle.model.specs.Kernel.State.{State}
 use Rattle.model.specs.Machine.ProgramMemory.{put_byte}
 use Rattle.model.specs.Shared.Bytes.{written}
 use Rattle.objects.specs.Frames.{SameBesideFrames}
 use Rattle.objects.specs.Standing.{Standing}
 use Rattle.objects.specs.Tables.{Tables, state_of}
-use Rattle.user_memory.proofs.Stored.{own-bytes, stored-agrees, stored-stands, stored-state}
+use Rattle.soundness.proofs.Laws.{byte-less, content-whole}
+use Rattle.user_memory.proofs.Stored.{content-left, own-bytes, stored-agrees, stored-stands, stored-state}
 use Rattle.user_memory.specs.Views.{IsUsable, beside_of, content_under}
 
 -- ---- one byte more
@@ -116,8 +119,24 @@ module _ (o : Tables) (slots : Slots) (memory : List ℕ) (place value : ℕ) (s
   some-still None now is = is
 
   -- and what a program relies on
-  pub stands-still : Standing o slots new
-  stands-still = stored-stands o slots memory new stood same-frames
+  small-if : (c : Bool) (old : ℕ) → value < 2 ^ 8 → old < 2 ^ 8 → (if c then value else old) < 2 ^ 8
+  small-if true old less small = less
+  small-if false old less small = small
+
+  sound-still : IsSound before → value < 2 ^ 8 → IsSound (state_of o slots new)
+  sound-still sound less =
+      let content = content_under (state_of o slots new) None in
+      let small : (other : ℕ) → content.byte other < 2 ^ 8 = λ other.
+      subst (λ (n : ℕ). n < 2 ^ 8) (sym (ap (λ (t : State). option_map_or (λ byte. byte) (t.bytes other) 0) after-is ∙ byte-seen other))
+      (small-if (other == place) (option_map_or (λ byte. byte) (before.bytes other) 0) less (byte-less before sound other (before.bytes other) refl)) in
+      subst IsSound (sym (content-left o slots memory new stood same-frames content (λ other. refl))) (content-whole before content sound small)
+
+  pub whole-still : IsWhole o slots memory → value < 2 ^ 8 → IsWhole o slots new
+  whole-still whole less = record {
+    sound = sound-still whole.sound less;
+    agrees = stored-agrees o slots memory new stood same-frames whole.agrees;
+    stands = stored-stands o slots memory new stood same-frames;
+  }
 
   pub usable-still : (root : Option ℕ) → IsUsable before memory root → IsUsable (state_of o slots new) new root
   usable-still root usable =

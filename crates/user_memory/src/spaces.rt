@@ -3,32 +3,32 @@
 ghost use Rattle.std.specs.Prelude.{◌≡◌, ◌%◌};
 ghost use Rattle.model.specs.declared.instructions.AccessSize.TheVariants.{Word};
 ghost use Rattle.model.specs.Machine.ProgramMemory.{IsNamed, loaded, place_at};
-ghost use Rattle.objects.specs.Tables.{state_of};
+ghost use Rattle.object_lifetimes.specs.Kernels.{state_in};
 ghost use Rattle.user_memory.specs.Views.{IsUsable, content_under};
 
 use model::{Access, MemoryFault};
-use objects::Objects;
+use object_lifetimes::Kernel;
 use slots::SlotStore;
 use sv32::walk;
 
 /// The address space under a root table. Without one no address has a place.
 #[derive(Drop)]
 pub(crate) struct Space<'a, S: SlotStore> {
-    pub(crate) store: &'a S,
-    pub(crate) objects: &'a Objects,
+    pub(crate) kernel: &'a Kernel<S>,
     pub(crate) root: Option<u32>,
-    ghost usable: { ∥ IsUsable (state_of objects.now (S.slots store.now) (S.memory store.now)) (S.memory store.now) root ∥₁ },
+    ghost usable: { ∥ IsUsable (state_in S.slots S.memory kernel.now) (S.memory kernel.now.store) root ∥₁ },
 }
 
 impl<S: SlotStore> Space<'_, S> {
     /// The place in memory that an address names for an access.
     pub(crate) fn place(&self, address: u32, access: Access) -> Result<u32, MemoryFault>
-        ensures { result ≡ place_at (content_under (state_of self.now.objects.now (S.slots self.now.store.now) (S.memory self.now.store.now)) self.now.root) access address }
+        ensures { result ≡ place_at (content_under (state_in S.slots S.memory self.now.kernel.now) self.now.root) access address }
     {
         let Some(root) = self.root else {
             return Err(MemoryFault { address, access });
         };
-        match walk(self.store.mem(), root, address, access) {
+        let kernel = self.kernel;
+        match walk(kernel.store.mem(), root, address, access) {
             Ok(place) => Ok(place),
             Err(_) => Err(MemoryFault { address, access }),
         }
@@ -36,26 +36,28 @@ impl<S: SlotStore> Space<'_, S> {
 
     /// The byte in a place that some address names.
     pub(crate) fn byte(&self, place: u32) -> u8
-        requires { IsNamed (content_under (state_of self.now.objects.now (S.slots self.now.store.now) (S.memory self.now.store.now)) self.now.root) place }
-        ensures { result ≡ (content_under (state_of self.now.objects.now (S.slots self.now.store.now) (S.memory self.now.store.now)) self.now.root).byte place }
+        requires { IsNamed (content_under (state_in S.slots S.memory self.now.kernel.now) self.now.root) place }
+        ensures { result ≡ (content_under (state_in S.slots S.memory self.now.kernel.now) self.now.root).byte place }
     {
-        self.store.mem().read8(place)
+        let kernel = self.kernel;
+        kernel.store.mem().read8(place)
     }
 
     /// The word at a multiple of 4, which lies in one page.
     pub(crate) fn aligned_word(&self, address: u32, access: Access) -> Result<u32, MemoryFault>
         requires { address % 4 ≡ 0 }
-        ensures { result ≡ loaded (content_under (state_of self.now.objects.now (S.slots self.now.store.now) (S.memory self.now.store.now)) self.now.root) access Word address }
+        ensures { result ≡ loaded (content_under (state_in S.slots S.memory self.now.kernel.now) self.now.root) access Word address }
     {
+        let kernel = self.kernel;
         match self.place(address, access) {
-            Ok(place) => Ok(self.store.mem().read32(place)),
+            Ok(place) => Ok(kernel.store.mem().read32(place)),
             Err(fault) => Err(fault),
         }
     }
 
     /// The word at an address, whose bytes may lie in two pages.
     pub(crate) fn word(&self, address: u32, access: Access) -> Result<u32, MemoryFault>
-        ensures { result ≡ loaded (content_under (state_of self.now.objects.now (S.slots self.now.store.now) (S.memory self.now.store.now)) self.now.root) access Word address }
+        ensures { result ≡ loaded (content_under (state_in S.slots S.memory self.now.kernel.now) self.now.root) access Word address }
     {
         let first = self.place(address, access)?;
         let next = address.wrapping_add(1);

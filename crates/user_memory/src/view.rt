@@ -1,47 +1,42 @@
 //! Memory as the instructions of a thread see it.
 
 ghost use Rattle.std.specs.Prelude.{◌≡◌};
-ghost use Rattle.objects.specs.Standing.{Standing};
-ghost use Rattle.objects.specs.Tables.{state_of};
+ghost use Rattle.object_lifetimes.specs.Kernels.{state_in};
 ghost use Rattle.user_memory.specs.Views.{Beside, IsUsable, beside_of, content_under};
 
 use crate::spaces::Space;
 use model::{Access, AccessSize, MemoryFault};
-use objects::Objects;
+use object_lifetimes::Kernel;
 use rv32_exec::View;
 use slots::SlotStore;
 
-/// Memory under a root table, or none, with the store that its bytes stand in.
+/// Memory under a root table, or none, with the kernel that its bytes stand in.
 #[derive(Drop)]
-pub(crate) struct UserMemory<'s, 'o, S: SlotStore> {
-    pub(crate) store: &'s mut S,
-    pub(crate) objects: &'o Objects,
+pub(crate) struct UserMemory<'k, S: SlotStore> {
+    pub(crate) kernel: &'k mut Kernel<S>,
     pub(crate) root: Option<u32>,
-    ghost usable: { ∥ IsUsable (state_of objects.now (S.slots store.now) (S.memory store.now)) (S.memory store.now) root ∥₁ },
-    ghost stands: { Standing objects.now (S.slots store.now) (S.memory store.now) },
+    ghost usable: { ∥ IsUsable (state_in S.slots S.memory kernel.now) (S.memory kernel.now.store) root ∥₁ },
 }
 
-impl<S: SlotStore> UserMemory<'_, '_, S> {
+impl<S: SlotStore> UserMemory<'_, S> {
     /// The same memory, for reading.
     fn space(&self) -> Space<'_, S>
-        ensures store { result.store.now ≡ self.now.store.now }
-        ensures objects { result.objects.now ≡ self.now.objects.now }
+        ensures kernel { result.kernel.now ≡ self.now.kernel.now }
         ensures root { result.root ≡ self.now.root }
     {
         Space {
-            store: self.store,
-            objects: self.objects,
+            kernel: self.kernel,
             root: self.root,
         }
     }
 }
 
-impl<S: SlotStore> View for UserMemory<'_, '_, S> {
-    ghost content = { λ view. content_under (state_of view.objects.now (S.slots view.store.now) (S.memory view.store.now)) view.root };
+impl<S: SlotStore> View for UserMemory<'_, S> {
+    ghost content = { λ view. content_under (state_in S.slots S.memory view.kernel.now) view.root };
 
     ghost Rest = { Beside };
 
-    ghost rest = { λ view. beside_of view.objects.now (S.slots view.store.now) (S.memory view.store.now) view.root view.store.ghost_name };
+    ghost rest = { λ view. beside_of view.kernel.now.tables (S.slots view.kernel.now.store) (S.memory view.kernel.now.store) view.root view.kernel.ghost_name };
 
     fn place(&self, address: u32, access: Access) -> Result<u32, MemoryFault> {
         self.space().place(address, access)
@@ -61,6 +56,7 @@ impl<S: SlotStore> View for UserMemory<'_, '_, S> {
     }
 
     fn set_byte(&mut self, place: u32, value: u8) {
-        self.store.write8(place, value);
+        let kernel = &mut *self.kernel;
+        kernel.store.write8(place, value);
     }
 }

@@ -1,40 +1,65 @@
 -- A byte is written where the program may, in a frame: tables and slots stay.
+use Rattle.std.proofs.Common.{◌≡◌, arith, subst, sym}
+use Rattle.model.specs.Machine.ProgramMemory.{IsNamed, put_byte}
+use Rattle.object_lifetimes.specs.Kernels.{state_in}
 use Rattle.objects.specs.Tables.{state_of}
 use Rattle.user_memory.proofs.Reading.{named-inside}
-use Rattle.user_memory.proofs.Writing.{content-after, may-outside, rest-after, stands-after, usable-after}
+use Rattle.user_memory.proofs.Writing.{content-after, may-outside, rest-after, usable-after, whole-after}
 use Rattle.user_memory.proofs.view.UserMemoryView.set_byte.Goals as goal
+use Rattle.user_memory.specs.Views.{IsUsable, beside_of, content_under}
 
 pub write8-requires-clause-within : goal.write8-requires-clause-within
 write8-requires-clause-within g c =
     let view = c.args.self.now in
-    named-inside (state_of view.objects.now (g.S.SlotMap.slots view.store.now) (g.S.SlotStore.memory view.store.now)) (g.S.SlotStore.memory view.store.now)
-    view.root view.usable c.args.place c.requires
+    let usable = subst (λ k. ∥ IsUsable (state_in g.S.SlotMap.slots g.S.SlotStore.memory k) (g.S.SlotStore.memory k.store) view.root ∥₁) (sym c.kernel.view_is) view.usable in
+    let named = subst (λ k. IsNamed (content_under (state_in g.S.SlotMap.slots g.S.SlotStore.memory k) view.root) c.args.place) (sym c.kernel.view_is) c.requires in
+    named-inside (state_of c.kernel.inside.objects (g.S.SlotMap.slots c.kernel.inside.store) (g.S.SlotStore.memory c.kernel.inside.store)) (g.S.SlotStore.memory c.kernel.inside.store)
+    view.root usable c.args.place named
 
 pub write8-requires-clause-outside : goal.write8-requires-clause-outside
 write8-requires-clause-outside g c =
     let view = c.args.self.now in
-    may-outside view.objects.now (g.S.SlotMap.slots view.store.now) (g.S.SlotStore.memory view.store.now) view.root c.args.place c.args.value view.usable c.requires view.stands
+    let usable = subst (λ k. ∥ IsUsable (state_in g.S.SlotMap.slots g.S.SlotStore.memory k) (g.S.SlotStore.memory k.store) view.root ∥₁) (sym c.kernel.view_is) view.usable in
+    let named = subst (λ k. IsNamed (content_under (state_in g.S.SlotMap.slots g.S.SlotStore.memory k) view.root) c.args.place) (sym c.kernel.view_is) c.requires in
+    may-outside c.kernel.inside.objects (g.S.SlotMap.slots c.kernel.inside.store) (g.S.SlotStore.memory c.kernel.inside.store) view.root c.args.place c.args.value usable named
+    c.kernel.invariant.stands
+
+pub invariant_of-kernel : goal.invariant_of-kernel
+invariant_of-kernel g c =
+    let view = c.args.self.now in
+    let usable = subst (λ k. ∥ IsUsable (state_in g.S.SlotMap.slots g.S.SlotStore.memory k) (g.S.SlotStore.memory k.store) view.root ∥₁) (sym c.kernel.view_is) view.usable in
+    let named = subst (λ k. IsNamed (content_under (state_in g.S.SlotMap.slots g.S.SlotStore.memory k) view.root) c.args.place) (sym c.kernel.view_is) c.requires in
+    whole-after c.kernel.inside.objects (g.S.SlotMap.slots c.kernel.inside.store) (g.S.SlotStore.memory c.kernel.inside.store) view.root c.args.place c.args.value usable named
+    c.kernel.invariant.stands (g.S.SlotMap.slots c.write8.new.self) (g.S.SlotStore.memory c.write8.new.self) c.write8.ensures.slots c.write8.ensures.bytes
+    c.kernel.invariant (omega (arith, c.ranges.value.fits))
 
 pub invariant_of-self : goal.invariant_of-self
 invariant_of-self g c =
     let view = c.args.self.now in
+    let usable = subst (λ k. ∥ IsUsable (state_in g.S.SlotMap.slots g.S.SlotStore.memory k) (g.S.SlotStore.memory k.store) view.root ∥₁) (sym c.kernel.view_is) view.usable in
+    let named = subst (λ k. IsNamed (content_under (state_in g.S.SlotMap.slots g.S.SlotStore.memory k) view.root) c.args.place) (sym c.kernel.view_is) c.requires in
     record {
       usable =
-          usable-after view.objects.now (g.S.SlotMap.slots view.store.now) (g.S.SlotStore.memory view.store.now) view.root c.args.place c.args.value view.usable c.requires view.stands
-          (g.S.SlotMap.slots c.write8.new.self) (g.S.SlotStore.memory c.write8.new.self) c.write8.ensures.slots c.write8.ensures.bytes;
-      stands =
-          stands-after view.objects.now (g.S.SlotMap.slots view.store.now) (g.S.SlotStore.memory view.store.now) view.root c.args.place c.args.value view.usable c.requires view.stands
-          (g.S.SlotMap.slots c.write8.new.self) (g.S.SlotStore.memory c.write8.new.self) c.write8.ensures.slots c.write8.ensures.bytes;
+          usable-after c.kernel.inside.objects (g.S.SlotMap.slots c.kernel.inside.store) (g.S.SlotStore.memory c.kernel.inside.store) view.root c.args.place c.args.value usable named
+          c.kernel.invariant.stands (g.S.SlotMap.slots c.write8.new.self) (g.S.SlotStore.memory c.write8.new.self) c.write8.ensures.slots c.write8.ensures.bytes;
     }
 
 pub returns-clause-content : goal.returns-clause-content
 returns-clause-content g c =
     let view = c.args.self.now in
-    content-after view.objects.now (g.S.SlotMap.slots view.store.now) (g.S.SlotStore.memory view.store.now) view.root c.args.place c.args.value view.usable c.requires view.stands
-    (g.S.SlotMap.slots c.write8.new.self) (g.S.SlotStore.memory c.write8.new.self) c.write8.ensures.slots c.write8.ensures.bytes
+    let usable = subst (λ k. ∥ IsUsable (state_in g.S.SlotMap.slots g.S.SlotStore.memory k) (g.S.SlotStore.memory k.store) view.root ∥₁) (sym c.kernel.view_is) view.usable in
+    let named = subst (λ k. IsNamed (content_under (state_in g.S.SlotMap.slots g.S.SlotStore.memory k) view.root) c.args.place) (sym c.kernel.view_is) c.requires in
+    subst (λ k. content_under (state_of c.kernel.inside.objects (g.S.SlotMap.slots c.write8.new.self) (g.S.SlotStore.memory c.write8.new.self)) view.root
+    ≡ put_byte (content_under (state_in g.S.SlotMap.slots g.S.SlotStore.memory k) view.root) c.args.place c.args.value) c.kernel.view_is
+    (content-after c.kernel.inside.objects (g.S.SlotMap.slots c.kernel.inside.store) (g.S.SlotStore.memory c.kernel.inside.store) view.root c.args.place c.args.value usable named
+    c.kernel.invariant.stands (g.S.SlotMap.slots c.write8.new.self) (g.S.SlotStore.memory c.write8.new.self) c.write8.ensures.slots c.write8.ensures.bytes)
 
 pub returns-clause-rest : goal.returns-clause-rest
 returns-clause-rest g c =
     let view = c.args.self.now in
-    rest-after view.objects.now (g.S.SlotMap.slots view.store.now) (g.S.SlotStore.memory view.store.now) view.root c.args.place c.args.value view.usable c.requires view.stands
-    (g.S.SlotMap.slots c.write8.new.self) (g.S.SlotStore.memory c.write8.new.self) c.write8.ensures.slots c.write8.ensures.bytes view.store.ghost_name
+    let usable = subst (λ k. ∥ IsUsable (state_in g.S.SlotMap.slots g.S.SlotStore.memory k) (g.S.SlotStore.memory k.store) view.root ∥₁) (sym c.kernel.view_is) view.usable in
+    let named = subst (λ k. IsNamed (content_under (state_in g.S.SlotMap.slots g.S.SlotStore.memory k) view.root) c.args.place) (sym c.kernel.view_is) c.requires in
+    subst (λ k. beside_of c.kernel.inside.objects (g.S.SlotMap.slots c.write8.new.self) (g.S.SlotStore.memory c.write8.new.self) view.root view.kernel.ghost_name
+    ≡ beside_of k.tables (g.S.SlotMap.slots k.store) (g.S.SlotStore.memory k.store) view.root view.kernel.ghost_name) c.kernel.view_is
+    (rest-after c.kernel.inside.objects (g.S.SlotMap.slots c.kernel.inside.store) (g.S.SlotStore.memory c.kernel.inside.store) view.root c.args.place c.args.value usable named
+    c.kernel.invariant.stands (g.S.SlotMap.slots c.write8.new.self) (g.S.SlotStore.memory c.write8.new.self) c.write8.ensures.slots c.write8.ensures.bytes view.kernel.ghost_name)

@@ -1,9 +1,10 @@
 -- What an instruction leaves.
-use Rattle.std.proofs.Common.{ℕ, ℤ, pos, ◌≤ℤ◌, ◌^◌, ◌<◌, refl, arith}
+use Rattle.std.proofs.Common.{ℕ, ℤ, pos, ◌≡◌, ◌≤ℤ◌, ◌^◌, ◌<◌, Some, refl, arith}
 use Rattle.std.proofs.lemmas.Int.{ints}
 use Rattle.model.specs.declared.instructions.Instr.{Instr}
 use Rattle.model.specs.declared.instructions.Instr.TheVariants.{Upper, Jal, Jalr, Branch, Load, Store, Immediate, Shift, Registers, Fence, Ecall, Ebreak}
 use Rattle.model.specs.Kernel.AddressSpaces.{content_of, with_content}
+use Rattle.model.specs.Kernel.Kinds.{kind_at}
 use Rattle.model.specs.Kernel.Messages.{with_registers}
 use Rattle.model.specs.Kernel.Soundness.{IsSound}
 use Rattle.model.specs.Kernel.State.{State, thread_at}
@@ -11,7 +12,7 @@ use Rattle.model.specs.Kernel.Steps.{registers_of}
 use Rattle.model.specs.Machine.Effects.{Effect, effect}
 use Rattle.model.specs.Machine.Instructions.{IsInstr, word_of}
 use Rattle.soundness.proofs.Laws.{Fits, byte-less, content-whole, effect-sound, fine-of, registers-of, registers-whole}
-use Rattle.soundness.specs.Running.{IsRunning}
+use Rattle.model.specs.Kernel.Retype.{NewThread}
 
 -- ---- instructions fit
 
@@ -40,9 +41,9 @@ module _ (s : State) (thread : ℕ) (i : Instr) where
   abbrev pub goes-to : State
   goes-to = with_content (with_registers s thread effect-on.registers) effect-on.content
 
-  pub goes-sound : IsSound s → IsRunning s thread → IsInstr i → IsSound goes-to
-  goes-sound sound running is =
+  pub goes-sound : IsSound s → kind_at s thread ≡ Some NewThread → IsInstr i → IsSound goes-to
+  goes-sound sound there is =
       let left =
-      effect-sound (registers_of s thread) (content_of s thread) (registers-of (thread_at s thread) (fine-of s sound thread running.kind))
+      effect-sound (registers_of s thread) (content_of s thread) (registers-of (thread_at s thread) (fine-of s sound thread there))
       (λ place. byte-less s sound place (s.bytes place) refl) i (instruction-fits i is) in
-      content-whole (with_registers s thread effect-on.registers) effect-on.content (registers-whole s sound thread running.kind effect-on.registers left.registers) left.bytes
+      content-whole (with_registers s thread effect-on.registers) effect-on.content (registers-whole s sound thread there effect-on.registers left.registers) left.bytes
