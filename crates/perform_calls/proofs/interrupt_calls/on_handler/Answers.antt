@@ -2,8 +2,8 @@
 use Rattle.std.proofs.Common.{◌≡◌, Ok, ap, refl, subst, sym}
 use Rattle.kernel_invariant.specs.Wholeness.{IsWhole}
 use Rattle.model.specs.Kernel.Outcomes.{GivesState}
-use Rattle.perform_calls.proofs.Lent.{asked, given, state_before}
-use Rattle.perform_calls.proofs.ObjectSteps.{kept-whole}
+use Rattle.object_lifetimes.proofs.Laws.{kept, state_before}
+use Rattle.perform_calls.proofs.Lent.{asked, given}
 use Rattle.perform_calls.proofs.Roots.{line-small}
 use Rattle.perform_calls.proofs.interrupt_calls.on_handler.Goals as goal
 use Rattle.perform_calls.specs.Calls.{call_of}
@@ -39,8 +39,8 @@ pub invariant_of-kernel : goal.invariant_of-kernel
 invariant_of-kernel g c =
     let whole = subst (λ k. IsWhole k.objects (g.S.SlotMap.slots k.store) (g.S.SlotStore.memory k.store)) (sym c.kernel-inside.view_is) c.kernel.invariant in
     let s = state_before whole in
-    kept-whole g.S.SlotMap.slots g.S.SlotStore.memory _ c.ack.new.objects _ c.ack.new.store (acknowledge s c.args.line) whole c.ack.ensures.state
-    (record { sound = acknowledge-whole s c.args.line whole.sound; bits = (acknowledge-machine s c.args.line).memory_bits }) c.ack.ensures.slots c.ack.ensures.bytes c.ack.ensures.stands
+    kept _ _ _ _ _ _ (acknowledge s c.args.line) whole c.ack.ensures.state (acknowledge-whole s c.args.line whole.sound) (acknowledge-machine s c.args.line)
+    c.ack.ensures.bytes c.ack.ensures.stands
 
 pub returns-in-SetNotification-clause-outcome : goal.returns-in-SetNotification-clause-outcome
 returns-in-SetNotification-clause-outcome g c =
