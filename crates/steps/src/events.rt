@@ -1,7 +1,6 @@
 //! What each event does.
 
 ghost use Rattle.std.specs.Prelude.{ℕ, ◌≡◌};
-ghost use Rattle.model.specs.Kernel.Interrupts.{raise};
 ghost use Rattle.model.specs.Kernel.Scheduling.{tick};
 ghost use Rattle.model.specs.Kernel.Steps.{ran, step};
 ghost use Rattle.object_lifetimes.specs.Kernels.{state_in};
@@ -55,14 +54,6 @@ fn pass_tick<S: SlotStore>(kernel: &mut Kernel<S>)
     tick(&mut kernel.store, &mut kernel.objects.objects);
 }
 
-/// An interrupt is raised on a line. Lines above 63 do nothing.
-fn raise_line<S: SlotStore>(kernel: &mut Kernel<S>, line: u8)
-    ensures state { state_in S.slots S.memory kernel.new
-        ≡ raise (state_in S.slots S.memory kernel.old) line }
-{
-    raise(&mut kernel.store, &mut kernel.objects.objects, line);
-}
-
 /// What an event does: the current thread goes on by an instruction, a tick passes, or an interrupt is raised.
 #[tactic(auto, unfolding(model::specs::Kernel::Steps::step))]
 pub fn step<S: WalkStore>(kernel: &mut Kernel<S>, event: Event) -> Label
@@ -77,7 +68,7 @@ pub fn step<S: WalkStore>(kernel: &mut Kernel<S>, event: Event) -> Label
             Label::Ticked
         }
         Event::Irq(line) => {
-            raise_line(kernel, line);
+            raise(kernel, line);
             Label::Raised(line)
         }
     }
