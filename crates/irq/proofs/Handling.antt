@@ -7,9 +7,8 @@ use Rattle.kernel_invariant.specs.Wholeness.{IsWhole}
 use Rattle.cnode_ops.specs.Refusals.{some_slot}
 use Rattle.irq.proofs.Left.{Child, child-state, child-whole}
 use Rattle.irq.specs.Handlers.{handler_place, is_handled}
-use Rattle.model.proofs.Ancestors.{full-open}
 use Rattle.model.specs.Capabilities.CapabilityKinds.{is_handler_of}
-use Rattle.model.specs.Capabilities.Slots.{IsFull, IsOpen, SameOutside, Slots, capability_at, depth_of, empty_entry, inserted, is_empty}
+use Rattle.model.specs.Capabilities.Slots.{IsFull, SameOutside, Slots, capability_at, depth_of, empty_entry, inserted, is_empty}
 use Rattle.model.specs.Kernel.Arguments.{◌>>=◌, Call, check, destination_slot, may_have_child}
 use Rattle.model.specs.Kernel.InterruptCalls.{get_handler}
 use Rattle.model.specs.Kernel.Kinds.{object_named}
@@ -37,11 +36,8 @@ checks-first true true (Ok place) true next = refl
 
 -- ---- interrupt control stands in a full slot
 
-pub control-full : (slots : Slots) (slot : ℕ) → capability_at slots slot ≡ InterruptControl → IsFull slots slot
+control-full : (slots : Slots) (slot : ℕ) → capability_at slots slot ≡ InterruptControl → IsFull slots slot
 control-full slots slot is = ap (λ (c : Cap). not (is_empty c)) is
-
-pub control-open : (slots : Slots) (slot : ℕ) → capability_at slots slot ≡ InterruptControl → IsOpen slots slot
-control-open slots slot is = full-open slots slot (control-full slots slot is)
 
 module _ (o : Tables) (slots : Slots) (memory : List ℕ) (root : Cap) (slot line : ℕ) (name : SlotName) where
   abbrev s : State
