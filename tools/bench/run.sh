@@ -56,6 +56,9 @@ for bits in 19 20 22; do
         fi
     done
 done
+if command -v valgrind >/dev/null; then
+    "$here/revoke_instructions.sh" "$copy/crates/revoke_bench/out/revoke_bench"
+fi
 for case in count memory calls lines crowd; do
     for bits in 16 24; do
         echo "10 million events of the kernel, $case, memory of 2^$bits bytes:"

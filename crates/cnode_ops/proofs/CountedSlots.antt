@@ -13,6 +13,7 @@ use Rattle.cnode_ops.specs.declared.sets.Removed.{Removed}
 use Rattle.cnode_ops.proofs.SomeSlot.{some-at, some-where}
 use Rattle.model.specs.Capabilities.CapabilityKinds.{object_of}
 use Rattle.model.specs.Capabilities.Orders.{next_in}
+use Rattle.model.specs.Kernel.Retype.{any_full}
 use Rattle.model.specs.declared.capabilities.Cap.{Cap}
 use Rattle.model.specs.Shared.Lists.{times_in}
 use Rattle.model.proofs.Orders.{after-behind, behind, behind-step, first-none, first-some}
@@ -119,10 +120,12 @@ left-filled slots size set capability offset count object is =
     ∙ ap (λ (n : ℕ). some_slot (offset / 16) n (stays slots set) && not (is_named_beside slots size set offset)) (sym is)
 
 -- where none is full none stays
-pub none-filled : (slots : Slots) (set : Removed) (first n full : ℕ) → full ≡ times_where first n (is_full slots) → full ≡ 0 → some_slot first n (stays slots set) ≡ false
-none-filled slots set first n full full_is none =
-    filled-beside slots set first n (times_where first n (goes slots set)) full full_is refl
-    ∙ elim (leb_tells (suc (times_where first n (goes slots set))) full) [ inl low ↦ absurd (omega (arith, low.1, none)) | inr high ↦ high.0 ]
+pub none-filled : (slots : Slots) (set : Removed) (first n : ℕ) → any_full slots first n ≡ false → some_slot first n (stays slots set) ≡ false
+unfolding some_slot
+none-filled slots set first n none =
+    let full : times_where first n (is_full slots) ≡ 0 = times-some first n (is_full slots) none in
+    filled-beside slots set first n (times_where first n (goes slots set)) (times_where first n (is_full slots)) refl refl
+    ∙ elim (leb_tells (suc (times_where first n (goes slots set))) (times_where first n (is_full slots))) [ inl low ↦ absurd (omega (arith, low.1, full)) | inr high ↦ high.0 ]
 
 -- ---- those of a list
 

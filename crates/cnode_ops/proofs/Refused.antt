@@ -30,3 +30,20 @@ named-near Empty o valid is = absurd (let clash : Some o ≡ None = is in cc)
 named-near (Untyped f b w) o valid is = absurd (let clash : Some o ≡ None = is in cc)
 named-near InterruptControl o valid is = absurd (let clash : Some o ≡ None = is in cc)
 named-near (InterruptHandler line) o valid is = absurd (let clash : Some o ≡ None = is in cc)
+
+first-below : (o p : ℕ) → Some o ≡ Some p → o < 2 ^ 24 → p / 16 < 1048576
+first-below o p is less = let e = named-offset o p is in omega (arith, e, less)
+
+-- and so does the first of them, if there are any or not
+pub named-first : (c : Cap) (o : ℕ) → IsCapability c → Some o ≡ object_of c → o / 16 < 1048576
+named-first (CNode f radix g) o valid is = let some = pow_pos radix in omega (arith, some, named-near (CNode f radix g) o valid is)
+named-first (Tcb f) o valid is = omega (arith, named-near (Tcb f) o valid is)
+named-first (Endpoint f r b) o valid is = first-below f o (sym is) valid.0.1
+named-first (Notification f r b) o valid is = first-below f o (sym is) valid.0.1
+named-first (Frame f r m) o valid is = first-below f o (sym is) valid.0.1
+named-first (PageTable f m) o valid is = first-below f o (sym is) valid.0.1
+named-first (RootTable f) o valid is = first-below f o (sym is) valid.1
+named-first Empty o valid is = absurd (let clash : Some o ≡ None = is in cc)
+named-first (Untyped f b w) o valid is = absurd (let clash : Some o ≡ None = is in cc)
+named-first InterruptControl o valid is = absurd (let clash : Some o ≡ None = is in cc)
+named-first (InterruptHandler line) o valid is = absurd (let clash : Some o ≡ None = is in cc)

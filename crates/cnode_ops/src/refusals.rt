@@ -14,6 +14,7 @@ ghost use Rattle.cnode_ops.specs.Sets.{set_of};
 
 use crate::emptying::object_of;
 use crate::sets::{Removed, is_removed, next_removed};
+use crate::windows::any_full;
 use model::{Cap, Slot};
 use slots::{SlotStore, is_taken};
 
@@ -107,14 +108,13 @@ fn is_left_filled<S: SlotStore>(store: &S, set: &Removed, capability: Cap) -> bo
         return false;
     };
     let (first, count) = (offset / 16, slots_named(capability));
-    let full = count_full(store, first, count);
-    if full == 0 {
+    if !any_full(store, Slot::new(first), count) {
         return false;
     }
     if is_named_beside(store, set, offset) {
         return false;
     }
-    count_going(store, set, first, count) < full
+    count_going(store, set, first, count) < count_full(store, first, count)
 }
 
 /// Whether these slots may not go yet: with them would go the last capability to a CNode or a thread that

@@ -45,7 +45,7 @@ fn has_slots(radix: u8, index: u32, count: u32) -> bool
 }
 
 /// Whether one of so many slots from `first` on is full.
-fn any_full<S: SlotStore>(store: &S, first: Slot, count: u32) -> bool
+pub(crate) fn any_full<S: SlotStore>(store: &S, first: Slot, count: u32) -> bool
     requires { first + count ≤ 2 ^ 20 }
     ensures { result ≡ any_full (S.slots store.now) first count }
 {

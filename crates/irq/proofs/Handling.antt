@@ -1,10 +1,9 @@
 -- A new handler of a line, and where it goes.
-use Rattle.std.proofs.Common.{ℕ, ◌≡◌, ◌∙◌, ◌*◌, ◌/◌, ◌<◌, Bool, true, false, not, nat_le, nat_lt, Some, None, List, Result, Ok, Err, length, refl, sym, ap, arith}
+use Rattle.std.proofs.Common.{ℕ, ◌≡◌, ◌∙◌, ◌/◌, ◌<◌, Bool, true, false, not, nat_le, nat_lt, Some, None, List, Result, Ok, Err, length, refl, sym, ap, arith}
 use Rattle.std.specs.List.{list_any, range_with_len}
 use Rattle.std.proofs.lemmas.Bool.{leb-true}
 use Rattle.kernel_invariant.specs.Agreement.{Agrees}
 use Rattle.kernel_invariant.specs.Wholeness.{IsWhole}
-use Rattle.cnode_ops.proofs.Laws.{store-some}
 use Rattle.cnode_ops.specs.Refusals.{some_slot}
 use Rattle.irq.proofs.Left.{Child, child-state, child-whole}
 use Rattle.irq.specs.Handlers.{handler_place, is_handled}
@@ -35,14 +34,6 @@ checks-first true false destination room next = refl
 checks-first true true (Err e) room next = refl
 checks-first true true (Ok place) false next = refl
 checks-first true true (Ok place) true next = refl
-
--- ---- slots that hold a handler of the line
-
-pub handled-at : (slots : Slots) (count bytes slot number line : ℕ) (capability : Cap) (found : Bool) → 16 * count ≡ bytes → number < count → slot ≡ number
-    → capability ≡ capability_at slots slot → found ≡ is_handler_of line capability → found ≡ true → true ≡ is_handled slots (bytes / 16) line
-handled-at slots count bytes slot number line capability found many less here is tells passes =
-    store-some count bytes number (λ at. is_handler_of line (capability_at slots at)) many less
-    (ap (λ (at : ℕ). is_handler_of line (capability_at slots at)) (sym here) ∙ ap (is_handler_of line) (sym is) ∙ sym tells ∙ passes)
 
 -- ---- interrupt control stands in a full slot
 

@@ -1,7 +1,6 @@
 //! The calls on interrupt control, and on handlers of interrupt lines.
 
 ghost use Rattle.std.specs.Prelude.{ℕ, ◌≡◌, ◌/◌, ◌<◌, ◌≤◌, IfOk, OnErr, length};
-ghost use Rattle.kernel_invariant.specs.Wholeness.{IsWhole};
 ghost use Rattle.model.specs.Kernel.Outcomes.{GivesState};
 ghost use Rattle.irq.specs.Handlers.{bound_source, handler_place, is_handled};
 ghost use Rattle.model.specs.Capabilities.CapabilityKinds.{is_handler_of};
@@ -10,15 +9,16 @@ ghost use Rattle.model.specs.Capabilities.Slots.{IsOpen, capability_at};
 ghost use Rattle.model.specs.Kernel.Arguments.{Call};
 ghost use Rattle.model.specs.Kernel.InterruptCalls.{bind, get_handler, may_be_bound};
 ghost use Rattle.model.specs.Kernel.Removal.{delete};
+ghost use Rattle.model.specs.Kernel.Soundness.{IsSound};
 ghost use Rattle.model.specs.Kernel.State.{binding_slot};
 ghost use Rattle.model.specs.declared.capabilities.Cap.TheVariants.{InterruptControl};
-ghost use Rattle.objects.specs.Tables.{state_of};
+ghost use Rattle.object_lifetimes.specs.Kernels.{state_in};
 ghost use Rattle.soundness.specs.Calls.{IsRoot};
 
 use cnode_ops::{Ends, may_have_child, remove_slot};
 use cspace::{destination_slot, source_slot};
 use model::{Cap, KError, Slot, SlotName};
-use object_lifetimes::KernelObjects;
+use object_lifetimes::Kernel;
 use slots::SlotStore;
 
 /// Whether a capability is a handler of a line.
@@ -35,13 +35,17 @@ fn is_handler_of(capability: Cap, line: u32) -> bool
 fn is_handled<S: SlotStore>(store: &S, line: u32) -> bool
     ensures { result ≡ is_handled (S.slots store.now) (length (S.memory store.now) / 16) line }
 {
-    let count = store.count();
-    'slots: for number in 0..count {
-        if is_handler_of(store.capability(Slot::new(number)), line) {
+    let mut at = None;
+    'slots: loop {
+        let Some(slot) = store.next_full(at) else {
+            return false;
+        };
+        prove!(slot.number() < store.count());
+        if is_handler_of(store.capability(slot), line) {
             return true;
         }
+        at = Some(slot);
     }
-    false
 }
 
 /// The empty slot of this name, for a handler of a line below the slot of interrupt control. Errors are
@@ -77,26 +81,22 @@ fn handler_place<S: SlotStore>(
 ///
 /// seL4 Reference Manual, seL4_IRQControl_Get.
 pub fn get_handler<S: SlotStore>(
-    store: &mut S,
-    kernel: &mut KernelObjects,
+    kernel: &mut Kernel<S>,
     root: Cap,
     slot: Slot,
     line: u32,
     destination: SlotName,
 ) -> Result<(), KError>
-    requires whole { IsWhole kernel.old (S.slots store.old) (S.memory store.old) }
-    requires root { IsRoot (state_of kernel.old (S.slots store.old) (S.memory store.old)) root }
-    requires held { capability_at (S.slots store.old) slot ≡ InterruptControl }
+    requires root { IsRoot (state_in S.slots S.memory kernel.old) root }
+    requires held { capability_at (S.slots kernel.old.store) slot ≡ InterruptControl }
     ensures outcome { (call : Call) → call.root ≡ root → call.slot ≡ slot
-        → GivesState (get_handler (state_of kernel.old (S.slots store.old) (S.memory store.old)) call line destination) result
-        (state_of kernel.new (S.slots store.new) (S.memory store.new)) }
-    ensures unchanged { OnErr result (store.new ≡ store.old) }
-    ensures same { OnErr result (kernel.new ≡ kernel.old) }
-    ensures whole { IsWhole kernel.new (S.slots store.new) (S.memory store.new) }
+        → GivesState (get_handler (state_in S.slots S.memory kernel.old) call line destination) result
+        (state_in S.slots S.memory kernel.new) }
+    ensures unchanged { OnErr result (kernel.new ≡ kernel.old) }
 {
-    let place = handler_place(store, root, slot, line, destination)?;
+    let place = handler_place(&kernel.store, root, slot, line, destination)?;
     let handler = Cap::InterruptHandler { line: line as u8 };
-    store.insert(place, handler, Some(slot));
+    kernel.store.insert(place, handler, Some(slot));
     Ok(())
 }
 
@@ -132,27 +132,23 @@ fn bound_source<S: SlotStore>(store: &S, root: Cap, name: SlotName) -> Result<Sl
 ///
 /// seL4 Reference Manual, seL4_IRQHandler_SetNotification.
 pub fn bind<S: SlotStore>(
-    store: &mut S,
-    kernel: &mut KernelObjects,
+    kernel: &mut Kernel<S>,
     root: Cap,
     line: u8,
     notification: SlotName,
 ) -> Result<(), KError>
-    requires line { line < 64 }
-    requires whole { IsWhole kernel.old (S.slots store.old) (S.memory store.old) }
-    requires root { IsRoot (state_of kernel.old (S.slots store.old) (S.memory store.old)) root }
+    requires line { IsSound (state_in S.slots S.memory kernel.old) → line < 64 }
+    requires root { IsRoot (state_in S.slots S.memory kernel.old) root }
     ensures outcome { (call : Call) → call.root ≡ root
-        → GivesState (bind (state_of kernel.old (S.slots store.old) (S.memory store.old)) call line notification) result
-        (state_of kernel.new (S.slots store.new) (S.memory store.new)) }
-    ensures unchanged { OnErr result (store.new ≡ store.old) }
-    ensures same { OnErr result (kernel.new ≡ kernel.old) }
-    ensures whole { IsWhole kernel.new (S.slots store.new) (S.memory store.new) }
+        → GivesState (bind (state_in S.slots S.memory kernel.old) call line notification) result
+        (state_in S.slots S.memory kernel.new) }
+    ensures unchanged { OnErr result (kernel.new ≡ kernel.old) }
 {
-    let source = bound_source(store, root, notification)?;
-    let capability = store.capability(source);
-    let binding = kernel.binding(line);
-    remove_slot(store, kernel, binding)?;
-    store.insert(binding, capability, Some(source));
+    let source = bound_source(&kernel.store, root, notification)?;
+    let capability = kernel.store.capability(source);
+    let binding = kernel.objects.binding(line);
+    remove_slot(&mut kernel.store, &mut kernel.objects, binding)?;
+    kernel.store.insert(binding, capability, Some(source));
     Ok(())
 }
 
@@ -160,19 +156,12 @@ pub fn bind<S: SlotStore>(
 /// [`remove_slot`]; nothing changes then.
 ///
 /// seL4 Reference Manual, seL4_IRQHandler_Clear.
-pub fn clear<S: SlotStore>(
-    store: &mut S,
-    kernel: &mut KernelObjects,
-    line: u8,
-) -> Result<(), KError>
-    requires line { line < 64 }
-    requires whole { IsWhole kernel.old (S.slots store.old) (S.memory store.old) }
-    ensures outcome { GivesState (delete (state_of kernel.old (S.slots store.old) (S.memory store.old)) (binding_slot (state_of kernel.old (S.slots store.old) (S.memory store.old)) line)) result
-        (state_of kernel.new (S.slots store.new) (S.memory store.new)) }
-    ensures unchanged { OnErr result (store.new ≡ store.old) }
-    ensures same { OnErr result (kernel.new ≡ kernel.old) }
-    ensures whole { IsWhole kernel.new (S.slots store.new) (S.memory store.new) }
+pub fn clear<S: SlotStore>(kernel: &mut Kernel<S>, line: u8) -> Result<(), KError>
+    requires line { IsSound (state_in S.slots S.memory kernel.old) → line < 64 }
+    ensures outcome { GivesState (delete (state_in S.slots S.memory kernel.old) (binding_slot (state_in S.slots S.memory kernel.old) line)) result
+        (state_in S.slots S.memory kernel.new) }
+    ensures unchanged { OnErr result (kernel.new ≡ kernel.old) }
 {
-    let binding = kernel.binding(line);
-    remove_slot(store, kernel, binding)
+    let binding = kernel.objects.binding(line);
+    remove_slot(&mut kernel.store, &mut kernel.objects, binding)
 }

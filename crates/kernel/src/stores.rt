@@ -3,10 +3,11 @@
 ghost use Rattle.std.specs.Prelude.{ℕ, ◌≡◌, ◌^◌, ◌≤◌, IfOk, None, replicate};
 ghost use Rattle.kernel.specs.Stores.{bytes_of, slots_of};
 
+use cached_slots::CachedSlots;
 use packed_slots::PackedSlots;
 use std::alloc::{AllocError, Global};
 
-pub(crate) type Store = PackedSlots;
+pub(crate) type Store = CachedSlots<PackedSlots>;
 
 /// Memory of 2^`bits` bytes, all zero, and no open slot.
 pub(crate) fn empty_store(alloc: Global, bits: u32) -> Result<Store, AllocError>
@@ -15,5 +16,6 @@ pub(crate) fn empty_store(alloc: Global, bits: u32) -> Result<Store, AllocError>
     ensures bytes { IfOk result (λ store. bytes_of store ≡ replicate (2 ^ bits) 0) }
     ensures slots { IfOk result (λ store. (s : ℕ) → slots_of store s ≡ None) }
 {
-    PackedSlots::new(alloc, bits)
+    let store = PackedSlots::new(alloc, bits)?;
+    Ok(CachedSlots::new(store))
 }

@@ -1,3 +1,4 @@
+mod Kept
 mod Marked
 mod OneAfterAnother
 mod OneMade

@@ -1,18 +1,12 @@
 -- A kernel and its parts: what is asked of the one is known of the other, and what the other gives is given.
 use Rattle.std.proofs.Common.{◌≡◌, ℕ, List, Result, sym, subst}
-use Rattle.kernel_invariant.specs.Wholeness.{IsWhole}
 use Rattle.model.specs.Kernel.Outcomes.{GivesState}
 use Rattle.object_lifetimes.specs.Kernels.{Parts, state_in}
 use Rattle.model.specs.Capabilities.Slots.{Slots}
 use Rattle.model.specs.Kernel.Arguments.{Call}
 use Rattle.model.specs.Kernel.State.{State}
 use Rattle.model.specs.declared.errors.KError.{KError}
-use Rattle.objects.specs.Tables.{Tables, state_of}
 use Rattle.soundness.specs.Calls.{IsCall}
-
--- the state that is sound there
-abbrev pub state_before : {o : Tables} {slots : Slots} {memory : List ℕ} → IsWhole o slots memory → State
-state_before {o} {slots} {memory} whole = state_of o slots memory
 
 pub asked : {S : Type 0} (slots : S → Slots) (memory : S → List ℕ) (call : Call) {parts kernel : Parts S} → parts ≡ kernel → IsCall (state_in slots memory kernel) call
     → IsCall (state_in slots memory parts) call

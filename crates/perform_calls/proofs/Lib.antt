@@ -3,7 +3,6 @@ mod Decoding
 mod Guarded
 mod Lent
 mod MappedTables
-mod ObjectSteps
 mod Roots
 mod Standing
 pub mod Laws

@@ -12,10 +12,11 @@ use Rattle.model.specs.Kernel.Arguments.{Call}
 use Rattle.model.specs.Kernel.Soundness.{IsSound}
 use Rattle.model.specs.Kernel.State.{State}
 use Rattle.model.specs.declared.capabilities.Cap.{Cap}
-use Rattle.model.specs.declared.capabilities.Cap.TheVariants.{CNode, InterruptHandler}
+use Rattle.model.specs.declared.capabilities.Cap.TheVariants.{CNode, InterruptHandler, Tcb}
 use Rattle.objects.specs.Tables.{Tables, state_of}
 use Rattle.soundness.proofs.Laws.{IsAt, invoked-at, invoked-root}
 use Rattle.soundness.specs.Calls.{IsCall, IsRoot, of_slot, of_loader}
+use Rattle.vspace.specs.Tables.{Holds}
 
 boot-valid : (radix : ℕ) → 1 ≤ radix → radix ≤ 14 → IsCapability (CNode 0 radix (32 - radix))
 boot-valid radix least most =
@@ -58,6 +59,10 @@ pub held-at : (o : Tables) (slots : Slots) (memory : List ℕ) (call : Call) (c 
     → capability_at slots call.slot ≡ c
 unfolding state_of
 held-at o slots memory call c is_call is none = IsAt.at (invoked-at (state_of o slots memory) call c is_call.invoked is none)
+
+-- so does the capability of a thread that is called
+pub thread-held : (s : State) (call : Call) (thread : ℕ) → IsCall s call → call.capability ≡ Tcb thread → Holds s.slots (Tcb thread)
+thread-held s call thread is_call is = (call.slot, IsAt.at (invoked-at s call (Tcb thread) is_call.invoked is refl))
 
 -- a handler's line is one of 64
 pub line-small : (s : State) (call : Call) (line : ℕ) → IsSound s → IsCall s call → call.capability ≡ InterruptHandler line → line < 64

@@ -29,14 +29,7 @@ pub(crate) fn on_control<S: SlotStore>(
         (state_in S.slots S.memory kernel.new) }
     ensures unchanged { OnErr result (kernel.new ≡ kernel.old) }
 {
-    get_handler(
-        &mut kernel.store,
-        &mut kernel.objects,
-        call.root,
-        call.slot,
-        line,
-        destination,
-    )
+    get_handler(kernel, call.root, call.slot, line, destination)
 }
 
 /// Acknowledges an interrupt, or changes what a line signals.
@@ -56,18 +49,12 @@ pub(crate) fn on_handler<S: SlotStore>(
 {
     match asked {
         HandlerCall::Acknowledge => {
-            ack(&mut kernel.store, &mut kernel.objects.objects, line);
+            ack(kernel, line);
             Ok(())
         }
         HandlerCall::SetNotification { notification } => {
-            bind(
-                &mut kernel.store,
-                &mut kernel.objects,
-                call.root,
-                line,
-                notification,
-            )
+            bind(kernel, call.root, line, notification)
         }
-        HandlerCall::Clear => clear(&mut kernel.store, &mut kernel.objects, line),
+        HandlerCall::Clear => clear(kernel, line),
     }
 }

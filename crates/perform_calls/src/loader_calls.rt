@@ -10,11 +10,10 @@ ghost use Rattle.object_lifetimes.specs.Kernels.{state_in};
 ghost use Rattle.soundness.specs.Calls.{IsCall};
 
 use crate::KernelCall;
-use crate::thread_calls::give_spaces;
 use model::{Cap, KError, SlotName};
 use object_lifetimes::Kernel;
 use slots::SlotStore;
-use tcb_ops::Spaces;
+use tcb_ops::{Spaces, configure};
 
 /// The thread that a capability names.
 fn thread_of(capability: Cap) -> Option<u32>
@@ -75,5 +74,5 @@ pub fn configure_with_guard<S: SlotStore>(
         return Err(KError::TruncatedMessage);
     }
     let spaces = spaces_of(words);
-    give_spaces(kernel, call, thread, spaces)
+    configure(kernel, call.root, thread, spaces)
 }

@@ -4,38 +4,15 @@ ghost use Rattle.std.specs.Prelude.{◌≡◌, OnErr};
 ghost use Rattle.model.specs.Kernel.Outcomes.{GivesState};
 ghost use Rattle.perform_calls.specs.Calls.{AppliesTo, call_of};
 ghost use Rattle.model.specs.Kernel.Invocations.{perform};
-ghost use Rattle.model.specs.Kernel.ThreadCalls.{configure};
 ghost use Rattle.model.specs.declared.invocations.Invocation.TheVariants.{OnThread};
 ghost use Rattle.object_lifetimes.specs.Kernels.{state_in};
 ghost use Rattle.soundness.specs.Calls.{IsCall};
 
 use crate::KernelCall;
-use model::{Cap, KError, ThreadCall};
+use model::{KError, ThreadCall};
 use object_lifetimes::Kernel;
 use slots::SlotStore;
 use tcb_ops::{Spaces, configure, resume, set_priority, set_register, suspend};
-
-/// Gives a thread its spaces, as [`configure`] does.
-pub(crate) fn give_spaces<S: SlotStore>(
-    kernel: &mut Kernel<S>,
-    call: KernelCall,
-    thread: u32,
-    spaces: Spaces,
-) -> Result<(), KError>
-    requires call { IsCall (state_in S.slots S.memory kernel.old) (call_of call) }
-    requires applies { call.capability ≡ Cap.Tcb thread }
-    ensures outcome { GivesState (configure (state_in S.slots S.memory kernel.old) call.root thread spaces.guard spaces.fault_address spaces.cspace spaces.vspace) result
-        (state_in S.slots S.memory kernel.new) }
-    ensures unchanged { OnErr result (kernel.new ≡ kernel.old) }
-{
-    configure(
-        &mut kernel.store,
-        &mut kernel.objects.objects,
-        call.root,
-        thread,
-        spaces,
-    )
-}
 
 /// Gives a thread its spaces, its priority or a register, lets it run, or stops it.
 ///
@@ -64,30 +41,18 @@ pub(crate) fn on_thread<S: SlotStore>(
                 vspace,
                 fault_address,
             };
-            give_spaces(kernel, call, thread, spaces)
+            configure(kernel, call.root, thread, spaces)
         }
-        ThreadCall::SetPriority { priority } => set_priority(
-            &mut kernel.store,
-            &mut kernel.objects.objects,
-            thread,
-            priority,
-        ),
+        ThreadCall::SetPriority { priority } => set_priority(kernel, thread, priority),
         ThreadCall::SetRegister { index, value } => {
-            set_register(
-                &mut kernel.store,
-                &mut kernel.objects.objects,
-                call.caller,
-                thread,
-                index,
-                value,
-            )
+            set_register(kernel, call.caller, thread, index, value)
         }
         ThreadCall::Resume => {
-            resume(&mut kernel.store, &mut kernel.objects.objects, thread);
+            resume(kernel, thread);
             Ok(())
         }
         ThreadCall::Suspend => {
-            suspend(&mut kernel.store, &mut kernel.objects.objects, thread);
+            suspend(kernel, thread);
             Ok(())
         }
     }

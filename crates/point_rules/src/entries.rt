@@ -2,6 +2,7 @@
 
 ghost use Rattle.std.specs.Prelude.{ℕ, ◌≡◌, ◌<◌, ◌+◌, int_lt, pos, slice_index, slice_index_or};
 ghost use Rattle.std.specs.List.{list_all, range_with_len};
+ghost use Rattle.std.specs.Result.{result_err};
 ghost use Rattle.measure.specs.Measures.{measure_of};
 ghost use Rattle.model.specs.Acceptance.Measures.{measured};
 ghost use Rattle.model.specs.Acceptance.NotedStates.{image_slots};
@@ -71,27 +72,27 @@ fn exceeds(measure: &Measure, words: &[u32; 32], budget: u64) -> bool
     value_at(measure, words) > i128::from(budget)
 }
 
-/// What a thread breaks of the state of its entry, the first of: it starts within the ranges (`RangeNotKept`), with these slots
-/// (`CapNotThere`), and within its budget (`OverBudget`).
+/// Whether a thread may start in the state of its entry. An `Err` names the first rule that it breaks: it starts within the
+/// ranges (`RangeNotKept`), with these slots (`CapNotThere`), and within its budget (`OverBudget`).
 pub fn entered(
     thread: &ThreadRef<'_>,
     at: Point,
     start: &NotedSlots<'_>,
     state: &PointState<'_>,
-) -> Option<Refusal>
+) -> Result<(), Refusal>
     requires { state.now.slots.image.now ≡ start.now.image.now }
     ensures { (image : Image) (t : Numbered) → t.thread ≡ thread.now → at ≡ point_of t t.thread.header.entry → slots_of start.now ≡ image_slots image t.thread
-        → result ≡ first_broken (entry_rules image t (Known (state_of state.now))) }
+        → result_err result ≡ first_broken (entry_rules image t (Known (state_of state.now))) }
 {
     let words = start_values(thread);
     if !start_within(&words, &state.bounds) {
-        return Some(Refusal::RangeNotKept(at));
+        return Err(Refusal::RangeNotKept(at));
     }
     if !state.slots.is_same(start) {
-        return Some(Refusal::CapNotThere(at));
+        return Err(Refusal::CapNotThere(at));
     }
     if exceeds(&state.measure, &words, thread.header().budget) {
-        return Some(Refusal::OverBudget(at));
+        return Err(Refusal::OverBudget(at));
     }
-    None
+    Ok(())
 }

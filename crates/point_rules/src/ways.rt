@@ -1,6 +1,7 @@
 //! The ways on from a point.
 
 ghost use Rattle.std.specs.Prelude.{ℕ, ◌≡◌, ◌↔◌, IsTrue, true};
+ghost use Rattle.std.specs.Result.{result_err};
 ghost use Rattle.measure.specs.Measures.{measure_of};
 ghost use Rattle.model.specs.Acceptance.NotedStates.{are_same_slots};
 ghost use Rattle.model.specs.Acceptance.PointRules.{are_ranges_within, edge_rules, kept_at};
@@ -44,9 +45,9 @@ fn are_within(bounds: &Bounds, others: &Bounds) -> bool
     bounds.is_within(others)
 }
 
-/// What a way on breaks of the point with a state that it leads to, the first of: the ranges are kept (`RangeNotKept`), the
-/// slots are the same (`CapNotThere`), and the measure falls (`MeasureNotFalling`), or is within the budget behind a wait
-/// (`OverBudget`).
+/// Whether a way on keeps the point with a state that it leads to. An `Err` names the first rule that it breaks: the ranges
+/// are kept (`RangeNotKept`), the slots are the same (`CapNotThere`), and the measure falls (`MeasureNotFalling`), or is
+/// within the budget behind a wait (`OverBudget`).
 pub fn kept_at<S: Step>(
     budget: u64,
     at: Point,
@@ -54,29 +55,29 @@ pub fn kept_at<S: Step>(
     way: &Way<'_>,
     step: &S,
     target: &PointState<'_>,
-) -> Option<Refusal>
+) -> Result<(), Refusal>
     requires image { target.now.slots.image.now ≡ way.now.slots.image.now }
     requires kept { way.now.keeps_slots ≡ true → slots_of target.now.slots ≡ slots_of way.now.slots }
-    ensures { (t : Thread) (address : ℕ) → t.header.budget ≡ budget → result ≡ first_broken (kept_at t at (measure_of measure.now) (edge_of address (S.value_of step.now) way.now) (state_of target.now)) }
+    ensures { (t : Thread) (address : ℕ) → t.header.budget ≡ budget → result_err result ≡ first_broken (kept_at t at (measure_of measure.now) (edge_of address (S.value_of step.now) way.now) (state_of target.now)) }
 {
     if !are_within(way.behind, &target.bounds) {
-        return Some(Refusal::RangeNotKept(at));
+        return Err(Refusal::RangeNotKept(at));
     }
     if !way.leaves(&target.slots) {
-        return Some(Refusal::CapNotThere(at));
+        return Err(Refusal::CapNotThere(at));
     }
     if way.is_wait {
         if !stays_below(budget, &target.measure, step, way.before, way.behind) {
-            return Some(Refusal::OverBudget(at));
+            return Err(Refusal::OverBudget(at));
         }
     } else if !falls(measure, &target.measure, step, way.before, way.behind) {
-        return Some(Refusal::MeasureNotFalling(at));
+        return Err(Refusal::MeasureNotFalling(at));
     }
-    None
+    Ok(())
 }
 
-/// What a way on breaks that leads to a point of which this is noted: it has a state (`BadTarget`, or `MeasureNotFalling`
-/// where it lacks only a measure), and the way keeps that.
+/// Whether a way on keeps a point of which this is noted. An `Err` names the first rule that it breaks: the point has a state
+/// (`BadTarget`, or `MeasureNotFalling` where it lacks only a measure), and the way keeps that.
 pub fn leads_to<S: Step>(
     budget: u64,
     at: Point,
@@ -84,14 +85,14 @@ pub fn leads_to<S: Step>(
     way: &Way<'_>,
     step: &S,
     target: &Noted<'_>,
-) -> Option<Refusal>
+) -> Result<(), Refusal>
     requires image { HasImage way.now.slots.image.now target.now }
     requires kept { way.now.keeps_slots ≡ true → HasSlots (slots_of way.now.slots) target.now }
-    ensures { (t : Thread) (address : ℕ) → t.header.budget ≡ budget → result ≡ first_broken (edge_rules t at (measure_of measure.now) (edge_of address (S.value_of step.now) way.now) (noted_of target.now)) }
+    ensures { (t : Thread) (address : ℕ) → t.header.budget ≡ budget → result_err result ≡ first_broken (edge_rules t at (measure_of measure.now) (edge_of address (S.value_of step.now) way.now) (noted_of target.now)) }
 {
     match target {
-        Noted::Missing => Some(Refusal::BadTarget(at)),
-        Noted::Unmeasured => Some(Refusal::MeasureNotFalling(at)),
+        Noted::Missing => Err(Refusal::BadTarget(at)),
+        Noted::Unmeasured => Err(Refusal::MeasureNotFalling(at)),
         Noted::Known(state) => kept_at(budget, at, measure, way, step, state),
     }
 }

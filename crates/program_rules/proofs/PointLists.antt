@@ -1,5 +1,5 @@
 -- The first broken rule of the points of a program, one after another.
-use Rattle.std.proofs.Common.{ℕ, zero, suc, ◌≡◌, ◌∙◌, ◌+◌, ◌-◌, ◌<◌, ◌++◌, true, false, Option, Some, None, is_some, List, [], ◌∷◌, refl, sym, ap, arith}
+use Rattle.std.proofs.Common.{ℕ, zero, suc, ◌≡◌, ◌∙◌, ◌+◌, ◌-◌, ◌<◌, ◌++◌, inl, inr, Option, Some, None, Err, List, [], ◌∷◌, refl, sym, ap, arith}
 use Rattle.std.specs.List.{range_with_len}
 use Rattle.std.specs.Option.{option_or}
 use Rattle.std.specs.Prelude.{flat_map}
@@ -14,6 +14,7 @@ use Rattle.model.specs.declared.refusals.Point.{Point}
 use Rattle.model.specs.declared.refusals.Refusal.{Refusal}
 use Rattle.program_rules.proofs.FirstBroken.{first-both}
 use Rattle.program_rules.specs.PointChecks.{later_rules, own_rules}
+use Rattle.wellformed.specs.Answering.{Answers}
 
 -- its own rules come before those on its call and its ways
 pub state-first : (image : Image) (t : Numbered) (point : ℕ) (s : PointState) (instr : Option Instr) → instruction_at t.thread point ≡ instr
@@ -63,7 +64,7 @@ module _ (f : ℕ → List Rule) (point : ℕ) (none : first_broken (flat_map f 
       ∙ ap (λ (n : ℕ). first_broken (flat_map f (n ∷ []))) here ∙ first-both (f point) [] ∙ ap (λ (o : Option Refusal). option_or o None) kept
 
   -- the first that is broken is one of this point
-  pub broken-here : (words : ℕ) (refusal : Refusal) → point < words → first_broken (f point) ≡ Some refusal → first_broken (flat_map f (range_with_len 0 words)) ≡ Some refusal
+  broken-here : (words : ℕ) (refusal : Refusal) → point < words → first_broken (f point) ≡ Some refusal → first_broken (flat_map f (range_with_len 0 words)) ≡ Some refusal
   broken-here words refusal less broken =
       let rest = words - point - 1 in
       let count : words ≡ point + suc rest = omega (arith, less) in
@@ -80,20 +81,13 @@ module _ (f : ℕ → List Rule) (point : ℕ) (none : first_broken (flat_map f 
 pub at-entry : (t : Numbered) (entry : ℕ) (at : Point) → entry ≡ t.thread.header.entry → at ≡ point_of t entry → at ≡ point_of t t.thread.header.entry
 at-entry t entry at same told = told ∙ ap (point_of t) same
 
--- ---- what a test of the outcome says
+-- ---- the points
 
-pub none-of : (o : Option Refusal) → is_some o ≡ false → o ≡ None
-none-of None is = refl
-none-of (Some refusal) is = absurd (let clash : true ≡ false = is in cc)
-
-pub or-some : (o other : Option Refusal) → is_some o ≡ true → option_or o other ≡ o
-or-some None other is = absurd (let clash : false ≡ true = is in cc)
-or-some (Some refusal) other is = refl
-
-pub broken-any : (f : ℕ → List Rule) (point words : ℕ) (o : Option Refusal) → first_broken (flat_map f (range_with_len 0 point)) ≡ None → point < words
-    → o ≡ first_broken (f point) → is_some o ≡ true → o ≡ first_broken (flat_map f (range_with_len 0 words))
-broken-any f point words None none less is some = absurd (let clash : false ≡ true = some in cc)
-broken-any f point words (Some refusal) none less is some = sym (broken-here f point none words refusal less (sym is))
+-- a rule of this point is broken, or memory is refused
+pub refused-here : (f : ℕ → List Rule) (point words : ℕ) (refusal : Refusal) → first_broken (flat_map f (range_with_len 0 point)) ≡ None → point < words
+    → Answers (first_broken (f point)) (Err refusal) → Answers (first_broken (flat_map f (range_with_len 0 words))) (Err refusal)
+refused-here f point words refusal none less (inl memory) = inl memory
+refused-here f point words refusal none less (inr broken) = inr (broken-here f point none words refusal less broken)
 
 -- the entry comes before the points
 pub program-first : (image : Image) (t : Numbered) → first_broken (rules_of_program image t)

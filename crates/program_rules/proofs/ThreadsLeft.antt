@@ -1,5 +1,5 @@
 -- The rules on the programs of the threads that are left.
-use Rattle.std.proofs.Common.{ℕ, suc, ◌≡◌, ◌∙◌, ◌+◌, inl, inr, true, false, Some, None, is_some, Option, List, [], ◌∷◌, add-one, drop, drop-cons, get_or, length, map, sym, ap, arith}
+use Rattle.std.proofs.Common.{ℕ, suc, ◌≡◌, ◌∙◌, ◌+◌, inl, inr, Some, None, Option, Err, List, [], ◌∷◌, add-one, drop, drop-cons, get_or, length, map, sym, ap, subst, arith}
 use Rattle.std.specs.Prelude.{flat_map, slice_get}
 use Rattle.std.specs.Option.{option_or}
 use Rattle.std.specs.List.{enumerate_from}
@@ -11,7 +11,8 @@ use Rattle.model.specs.Acceptance.Rules.{Rule, first_broken}
 use Rattle.model.specs.Images.Described.{Numbered}
 use Rattle.model.specs.Images.Image.{Image, Thread}
 use Rattle.model.specs.declared.refusals.Refusal.{Refusal}
-use Rattle.program_rules.proofs.FirstBroken.{first-both}
+use Rattle.program_rules.proofs.FirstBroken.{first-both, refused-first}
+use Rattle.wellformed.specs.Answering.{Answers}
 
 abbrev pub rules_from : Image → ℕ → List Thread → List Rule
 rules_from image n threads = flat_map (rules_of_program image) (map (λ (t : ℕ × Thread). let u : Numbered = record { number = t.0; thread = t.1 } in u) (enumerate_from n threads))
@@ -23,16 +24,14 @@ module _ (image : Image) (n : ℕ) (t : Thread) (rest : List Thread) where
   abbrev later : Option Refusal
   later = first_broken (rules_from image (n + 1) rest)
 
-  parted : (total broken : Option Refusal) → broken ≡ first_broken own → first_broken (rules_from image n (t ∷ rest)) ≡ total → option_or broken later ≡ total
-  parted total broken is so = ap (λ o. option_or o later) is ∙ sym (first-both own (rules_from image (n + 1) rest)) ∙ so
+  parted : (total : Option Refusal) → first_broken (rules_from image n (t ∷ rest)) ≡ total → option_or (first_broken own) later ≡ total
+  parted total so = sym (first-both own (rules_from image (n + 1) rest)) ∙ so
 
-  pub next-kept : (total broken : Option Refusal) → is_some broken ≡ false → broken ≡ first_broken own → first_broken (rules_from image n (t ∷ rest)) ≡ total → later ≡ total
-  next-kept total (Some refusal) none is so = absurd (let clash : true ≡ false = none in cc)
-  next-kept total None none is so = parted total None is so
+  pub next-kept : (total : Option Refusal) → first_broken own ≡ None → first_broken (rules_from image n (t ∷ rest)) ≡ total → later ≡ total
+  next-kept total kept so = ap (λ o. option_or o later) (sym kept) ∙ parted total so
 
-  pub one-broken : (total broken : Option Refusal) → is_some broken ≡ true → broken ≡ first_broken own → first_broken (rules_from image n (t ∷ rest)) ≡ total → broken ≡ total
-  one-broken total None some is so = absurd (let clash : false ≡ true = some in cc)
-  one-broken total (Some refusal) some is so = parted total (Some refusal) is so
+  pub one-refused : (total : Option Refusal) (refusal : Refusal) → Answers (first_broken own) (Err refusal) → first_broken (rules_from image n (t ∷ rest)) ≡ total → Answers total (Err refusal)
+  one-refused total refusal answers so = subst (λ (o : Option Refusal). Answers o (Err refusal)) (parted total so) (refused-first (first_broken own) later refusal answers)
 
 -- the thread at hand, and those behind it
 pub head-of : {A : Type 0} (n : ℕ) (xs ys : List A) (x : A) → drop n xs ≡ x ∷ ys → (slice_get xs n ≡ Some x) × (drop (n + 1) xs ≡ ys)

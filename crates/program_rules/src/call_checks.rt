@@ -15,6 +15,7 @@ ghost use Rattle.program_rules.specs.declared.kept.Kept.TheVariants as kept;
 ghost use Rattle.typestate.specs.Calls.{behind_with};
 ghost use Rattle.typestate.specs.Differences.{changed};
 ghost use Rattle.typestate.specs.Logs.{KeepsParts, Shows, part_of};
+ghost use Rattle.wellformed.specs.Answering.{Answers};
 
 use crate::kept::Known;
 use crate::points::Points;
@@ -23,12 +24,11 @@ use image::RecordRef;
 use measure::AfterCall;
 use model::Refusal;
 use point_rules::{Way, registers_of};
-use std::alloc::AllocError;
 use typestate::{Behind, NotedSlot, Part, ShownPart};
 
 impl Program<'_, '_> {
-    /// What the way on behind a system call breaks that leaves this, and the slots of a part of the log, which is shown. Memory may
-    /// be refused.
+    /// Whether the way on behind a system call that leaves this, and the slots of a part of the log, which is shown, keeps its rules:
+    /// an `Err` names the first that it breaks, or says that memory was refused.
     fn way_behind<'n>(
         &'n self,
         points: &Points,
@@ -37,13 +37,13 @@ impl Program<'_, '_> {
         known: &'n Known,
         behind: &'n Behind,
         part: Part,
-    ) -> Result<Option<Refusal>, AllocError>
+    ) -> Result<(), Refusal>
         requires read { IsRead self.now.space.image.now (thread_of self.now) self.now.slots.now points.now.log points.now.kept.items }
         requires within { point < self.now.space.thread.now.header.words }
         requires shown { Shows points.now.log part shown.now }
-        ensures { IfOk result (λ broken. broken ≡ first_broken (edge_rules self.now.space.thread.now (point_of (thread_of self.now) point) (measure_of known.now.measure)
+        ensures { Answers (first_broken (edge_rules self.now.space.thread.now (point_of (thread_of self.now) point) (measure_of known.now.measure)
             (call_edge (address_of self.now.space.thread.now point) known.now.bounds (behind_with (changed self.now.slots.now (part_of points.now.log part)) behind.now))
-            (noted_at self.now.space.image.now (thread_of self.now) (address_of self.now.space.thread.now point + 4)))) }
+            (noted_at self.now.space.image.now (thread_of self.now) (address_of self.now.space.thread.now point + 4)))) result }
     {
         let way = Way {
             before: &known.bounds,
@@ -60,7 +60,7 @@ impl Program<'_, '_> {
         self.way_to(points, shown, part, at, &known.measure, &way, &step, next)
     }
 
-    /// What the way on behind a system call breaks that leaves this, and makes these changes of slots. Memory may be refused.
+    /// Whether the way on behind a system call that leaves this, and makes these changes of slots, keeps its rules.
     fn behind_rules(
         &self,
         points: &mut Points,
@@ -68,13 +68,13 @@ impl Program<'_, '_> {
         known: &Known,
         behind: &Behind,
         made: &[NotedSlot],
-    ) -> Result<Option<Refusal>, AllocError>
+    ) -> Result<(), Refusal>
         requires read { IsRead self.now.space.image.now (thread_of self.now) self.now.slots.now points.old.log points.old.kept.items }
         requires within { point < self.now.space.thread.now.header.words }
         requires sound { IsSound points.old.log point (kept.Known known.now) }
-        ensures broken { IfOk result (λ broken. broken ≡ first_broken (edge_rules self.now.space.thread.now (point_of (thread_of self.now) point) (measure_of known.now.measure)
+        ensures broken { Answers (first_broken (edge_rules self.now.space.thread.now (point_of (thread_of self.now) point) (measure_of known.now.measure)
             (call_edge (address_of self.now.space.thread.now point) known.now.bounds (behind_with (changed (changed self.now.slots.now (part_of points.old.log known.now.part)) made.now) behind.now))
-            (noted_at self.now.space.image.now (thread_of self.now) (address_of self.now.space.thread.now point + 4)))) }
+            (noted_at self.now.space.image.now (thread_of self.now) (address_of self.now.space.thread.now point + 4)))) result }
         ensures read { IfOk result (λ _. IsRead self.now.space.image.now (thread_of self.now) self.now.slots.now points.new.log points.new.kept.items) }
         ensures others { IfOk result (λ _. KeepsParts points.old.log points.new.log) }
     {
@@ -84,8 +84,8 @@ impl Program<'_, '_> {
         self.way_behind(points, &shown, point, known, behind, part)
     }
 
-    /// What the system call at a point breaks: it is refused, or its way on is. It is not looked at again where the next point has the
-    /// state that it leaves. Memory may be refused.
+    /// Whether the system call at a point is accepted, and keeps the rules on its way on. It is not looked at again where the next point
+    /// has the state that it leaves.
     pub(crate) fn call_rules(
         &self,
         points: &mut Points,
@@ -94,7 +94,7 @@ impl Program<'_, '_> {
         noted: Option<&RecordRef<'_>>,
         is_next_noted: bool,
         known: &Known,
-    ) -> Result<Option<Refusal>, AllocError>
+    ) -> Result<(), Refusal>
         requires read { IsRead self.now.space.image.now (thread_of self.now) self.now.slots.now points.old.log points.old.kept.items }
         requires within { point < self.now.space.thread.now.header.words }
         requires is { instruction_at self.now.space.thread.now point ≡ Some Ecall }
@@ -104,12 +104,12 @@ impl Program<'_, '_> {
         requires sound { IsSound points.old.log point (kept.Known known.now) }
         requires shown { Shows points.old.log known.now.part shown.now }
         requires clean { IsCleanIn self.now.space.image.now self.now.space.thread.now self.now.slots.now points.old.log (kept.Known known.now) }
-        ensures broken { IfOk result (λ broken. broken ≡ first_broken (later_rules self.now.space.image.now (thread_of self.now) point (state_by self.now.slots.now points.old.log known.now) (Some Ecall))) }
+        ensures broken { Answers (first_broken (later_rules self.now.space.image.now (thread_of self.now) point (state_by self.now.slots.now points.old.log known.now) (Some Ecall))) result }
         ensures read { IfOk result (λ _. IsRead self.now.space.image.now (thread_of self.now) self.now.slots.now points.new.log points.new.kept.items) }
         ensures others { IfOk result (λ _. KeepsParts points.old.log points.new.log) }
     {
         if self.leaves_next(points, point, is_next_noted) {
-            return Ok(None);
+            return Ok(());
         }
         let mut made = Vec::new(self.alloc);
         let slots = shown.slots(self.slots);
@@ -121,8 +121,8 @@ impl Program<'_, '_> {
             known.is_clean,
             &mut made,
         )? {
-            None => Ok(None),
-            Some(Err(refusal)) => Ok(Some(refusal)),
+            None => Ok(()),
+            Some(Err(refusal)) => Err(refusal),
             Some(Ok(behind)) => self.behind_rules(points, point, known, &behind, &made),
         }
     }

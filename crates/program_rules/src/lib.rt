@@ -15,4 +15,4 @@ mod records;
 mod space_rules;
 mod ways;
 
-pub use checking::broken;
+pub use checking::check_programs;

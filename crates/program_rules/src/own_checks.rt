@@ -1,6 +1,7 @@
 //! The rules at a point with a state, up to its system call and its ways on.
 
 ghost use Rattle.std.specs.Prelude.{◌≡◌, ◌<◌, IfSome, Option, Some, option_map, true};
+ghost use Rattle.std.specs.Result.{result_err};
 ghost use Rattle.measure.specs.Measures.{measure_of};
 ghost use Rattle.model.specs.Acceptance.Measures.{Measure as NotedMeasure};
 ghost use Rattle.model.specs.Acceptance.NotedStates.{record_of};
@@ -69,9 +70,10 @@ impl Program<'_, '_> {
         }
     }
 
-    /// What a point with this state and these slots breaks by itself, the first of: its word is an instruction
-    /// (`IllegalInstruction`), and no jump to an address in a register (`ComputedJump`); no slot is one that the thread may not have
-    /// (`CapNotThere`); the measure is at least 1 (`MeasureNotFalling`); and it loads and stores only where it may (`NotMapped`).
+    /// Whether a point with this state and these slots keeps its rules by itself. An `Err` names the first that it breaks: its word
+    /// is an instruction (`IllegalInstruction`), and no jump to an address in a register (`ComputedJump`); no slot is one that the
+    /// thread may not have (`CapNotThere`); the measure is at least 1 (`MeasureNotFalling`); and it loads and stores only where it
+    /// may (`NotMapped`).
     pub(crate) fn own_rules(
         &self,
         point: u32,
@@ -79,29 +81,29 @@ impl Program<'_, '_> {
         noted: Option<&RecordRef<'_>>,
         known: &Known,
         slots: &NotedSlots<'_>,
-    ) -> Option<Refusal>
+    ) -> Result<(), Refusal>
         requires instr { IfSome instr IsInstr }
         requires noted { option_map (λ r. r.now) noted ≡ record_of self.now.space.thread.now point }
         requires image { slots.now.image.now ≡ self.now.slots.now }
         requires clean { known.now.is_clean ≡ true → NoneStray self.now.space.image.now self.now.space.thread.now (slots_of slots.now) }
-        ensures { result ≡ first_broken (own_rules self.now.space.image.now (thread_of self.now) point (known_with known.now.bounds (slots_of slots.now) (measure_of known.now.measure)) instr) }
+        ensures { result_err result ≡ first_broken (own_rules self.now.space.image.now (thread_of self.now) point (known_with known.now.bounds (slots_of slots.now) (measure_of known.now.measure)) instr) }
     {
         let at = self.at(point);
         if is_illegal(instr) {
-            return Some(Refusal::IllegalInstruction(at));
+            return Err(Refusal::IllegalInstruction(at));
         }
         if is_computed_jump(instr) {
-            return Some(Refusal::ComputedJump(at));
+            return Err(Refusal::ComputedJump(at));
         }
         if self.has_stray_slots(point, noted, slots, known.is_clean) {
-            return Some(Refusal::CapNotThere(at));
+            return Err(Refusal::CapNotThere(at));
         }
         if least(&known.measure, &known.bounds) < 1 {
-            return Some(Refusal::MeasureNotFalling(at));
+            return Err(Refusal::MeasureNotFalling(at));
         }
         if self.is_unmapped(instr, &known.bounds, slots) {
-            return Some(Refusal::NotMapped(at));
+            return Err(Refusal::NotMapped(at));
         }
-        None
+        Ok(())
     }
 }

@@ -11,6 +11,7 @@ ghost use Rattle.program_rules.specs.Kept.{IsCleanIn, IsRead, IsSound, state_by}
 ghost use Rattle.program_rules.specs.Programs.{thread_of};
 ghost use Rattle.program_rules.specs.declared.kept.Kept.TheVariants as kept;
 ghost use Rattle.typestate.specs.Logs.{KeepsParts, Shows, ShowsSome};
+ghost use Rattle.wellformed.specs.Answering.{Answers};
 
 use crate::kept::{Kept, Known};
 use crate::notes::RecordsLeft;
@@ -20,11 +21,10 @@ use image::RecordRef;
 use model::{Instr, Refusal};
 use point_rules::{Noted, entered};
 use rv32_isa::decode;
-use std::alloc::AllocError;
 use typestate::{NotedSlots, ShownPart};
 
 impl Program<'_, '_> {
-    /// What a point with this state breaks first. Memory may be refused.
+    /// The rules on a point with this state: an `Err` names the first that it breaks, or says that memory was refused.
     #[tactic(auto, unfolding(model::specs::Acceptance::PointRules::state_rules))]
     fn state_rules(
         &self,
@@ -34,7 +34,7 @@ impl Program<'_, '_> {
         noted: Option<&RecordRef<'_>>,
         is_next_noted: bool,
         known: &Known,
-    ) -> Result<Option<Refusal>, AllocError>
+    ) -> Result<(), Refusal>
         requires read { IsRead self.now.space.image.now (thread_of self.now) self.now.slots.now points.old.log points.old.kept.items }
         requires within { point < self.now.space.thread.now.header.words }
         requires noted { option_map (λ r. r.now) noted ≡ record_of self.now.space.thread.now point }
@@ -43,26 +43,23 @@ impl Program<'_, '_> {
         requires sound { IsSound points.old.log point (kept.Known known.now) }
         requires part { Shows points.old.log known.now.part shown.now }
         requires clean { IsCleanIn self.now.space.image.now self.now.space.thread.now self.now.slots.now points.old.log (kept.Known known.now) }
-        ensures broken { IfOk result (λ broken. broken ≡ first_broken (state_rules self.now.space.image.now (thread_of self.now) point (state_by self.now.slots.now points.old.log known.now))) }
+        ensures broken { Answers (first_broken (state_rules self.now.space.image.now (thread_of self.now) point (state_by self.now.slots.now points.old.log known.now))) result }
         ensures read { IfOk result (λ _. IsRead self.now.space.image.now (thread_of self.now) self.now.slots.now points.new.log points.new.kept.items) }
         ensures others { IfOk result (λ _. KeepsParts points.old.log points.new.log) }
     {
         let instr = decode(self.space.thread.word(point));
         let slots = shown.slots(self.slots);
-        if let Some(refusal) = self.own_rules(point, instr, noted, known, &slots) {
-            return Ok(Some(refusal));
-        }
+        self.own_rules(point, instr, noted, known, &slots)?;
         match instr {
             Some(Instr::Ecall) => {
                 self.call_rules(points, shown, point, noted, is_next_noted, known)
             }
             Some(instr) => self.ways_rules(points, shown, point, instr, known, is_next_noted),
-            None => Ok(None),
+            None => Ok(()),
         }
     }
 
-    /// What a point breaks first: one without a state breaks nothing. Its part is shown for that, in place of another one. Memory
-    /// may be refused.
+    /// The rules on a point: one without a state breaks none. Its part is shown for that, in place of another one.
     #[tactic(auto, unfolding(model::specs::Acceptance::PointRules::point_rules))]
     fn point_rules(
         &self,
@@ -71,13 +68,13 @@ impl Program<'_, '_> {
         point: u32,
         noted: Option<&RecordRef<'_>>,
         is_next_noted: bool,
-    ) -> Result<Option<Refusal>, AllocError>
+    ) -> Result<(), Refusal>
         requires read { IsRead self.now.space.image.now (thread_of self.now) self.now.slots.now points.old.log points.old.kept.items }
         requires within { point < self.now.space.thread.now.header.words }
         requires noted { option_map (λ r. r.now) noted ≡ record_of self.now.space.thread.now point }
         requires next { is_next_noted ≡ false → record_of self.now.space.thread.now (point + 1) ≡ None }
         requires some { ShowsSome points.old.log shown.old }
-        ensures broken { IfOk result (λ broken. broken ≡ first_broken (point_rules self.now.space.image.now (thread_of self.now) point)) }
+        ensures broken { Answers (first_broken (point_rules self.now.space.image.now (thread_of self.now) point)) result }
         ensures read { IfOk result (λ _. IsRead self.now.space.image.now (thread_of self.now) self.now.slots.now points.new.log points.new.kept.items) }
         ensures shown { IfOk result (λ _. ShowsSome points.new.log shown.new) }
     {
@@ -86,39 +83,30 @@ impl Program<'_, '_> {
                 points.log.show(shown, known.part)?;
                 self.state_rules(points, shown, point, noted, is_next_noted, &known)
             }
-            Kept::Missing | Kept::Unmeasured => Ok(None),
+            Kept::Missing | Kept::Unmeasured => Ok(()),
         }
     }
 
-    /// What the points break first, in their order. Memory may be refused.
-    fn points_rules(&self, points: &mut Points) -> Result<Option<Refusal>, AllocError>
+    /// The rules on all points, in their order.
+    fn points_rules(&self, points: &mut Points) -> Result<(), Refusal>
         requires read { IsRead self.now.space.image.now (thread_of self.now) self.now.slots.now points.old.log points.old.kept.items }
-        ensures { IfOk result (λ broken. broken ≡ first_broken (flat_map (point_rules self.now.space.image.now (thread_of self.now)) (range_with_len 0 self.now.space.thread.now.header.words))) }
+        ensures { Answers (first_broken (flat_map (point_rules self.now.space.image.now (thread_of self.now)) (range_with_len 0 self.now.space.thread.now.header.words))) result }
     {
         let mut records = RecordsLeft::of(self.space.thread);
         let mut shown = ShownPart::new(self.alloc);
         'rules: for point in 0..self.space.thread.word_count() {
             let noted = records.take(point);
             let is_next_noted = records.is_next(point + 1);
-            let broken = self.point_rules(
-                points,
-                &mut shown,
-                point,
-                noted.as_ref(),
-                is_next_noted,
-            )?;
-            if broken.is_some() {
-                return Ok(broken);
-            }
+            self.point_rules(points, &mut shown, point, noted.as_ref(), is_next_noted)?;
         }
-        Ok(None)
+        Ok(())
     }
 
-    /// What the thread breaks of the state of its entry. Memory may be refused.
-    fn entry_rules(&self, points: &Points) -> Result<Option<Refusal>, AllocError>
+    /// The rules on the state of the thread's entry.
+    fn entry_rules(&self, points: &Points) -> Result<(), Refusal>
         requires read { IsRead self.now.space.image.now (thread_of self.now) self.now.slots.now points.now.log points.now.kept.items }
-        ensures { IfOk result (λ broken. broken ≡ first_broken (entry_rules self.now.space.image.now (thread_of self.now)
-            (noted self.now.space.image.now (thread_of self.now) self.now.space.thread.now.header.entry))) }
+        ensures { Answers (first_broken (entry_rules self.now.space.image.now (thread_of self.now)
+            (noted self.now.space.image.now (thread_of self.now) self.now.space.thread.now.header.entry))) result }
     {
         let entry = self.space.thread.header().entry;
         let start = NotedSlots {
@@ -130,22 +118,18 @@ impl Program<'_, '_> {
         let kept = points.kept[entry as usize];
         let shown = kept.shown(self.alloc, &points.log)?;
         match kept.noted(self.slots, &shown) {
-            Noted::Known(state) => Ok(entered(self.space.thread, self.at(entry), &start, &state)),
-            Noted::Missing | Noted::Unmeasured => Ok(Some(Refusal::RangeNotKept(self.at(entry)))),
+            Noted::Known(state) => entered(self.space.thread, self.at(entry), &start, &state),
+            Noted::Missing | Noted::Unmeasured => Err(Refusal::RangeNotKept(self.at(entry))),
         }
     }
 
-    /// What the program breaks first of the rules on programs: at its entry, and then at its points in their order. Memory may be
-    /// refused.
+    /// The rules on the program: at its entry, and then at its points in their order.
     #[tactic(auto, unfolding(model::specs::Acceptance::PointRules::rules_of_program))]
-    pub(crate) fn broken(&self) -> Result<Option<Refusal>, AllocError>
-        ensures { IfOk result (λ broken. broken ≡ first_broken (rules_of_program self.now.space.image.now (thread_of self.now))) }
+    pub(crate) fn check(&self) -> Result<(), Refusal>
+        ensures { Answers (first_broken (rules_of_program self.now.space.image.now (thread_of self.now))) result }
     {
         let mut points = Points::of(self)?;
-        let broken = self.entry_rules(&points)?;
-        if broken.is_some() {
-            return Ok(broken);
-        }
+        self.entry_rules(&points)?;
         self.points_rules(&mut points)
     }
 }

@@ -1,6 +1,7 @@
 //! The ways on from a point with a state.
 
 ghost use Rattle.std.specs.Prelude.{ℕ, ◌≡◌, ◌+◌, ◌<◌, ◌≢◌, IfOk, IfSome, List, None, Option, Some, false, option_map, true, if◌then◌else◌};
+ghost use Rattle.std.specs.Result.{result_err};
 ghost use Rattle.measure.specs.Measures.{measure_of};
 ghost use Rattle.model.specs.Acceptance.Edges.{Edge as RuleEdge, after};
 ghost use Rattle.model.specs.Acceptance.NotedStates.{NotedSlot, PointState as State, record_of};
@@ -20,6 +21,7 @@ ghost use Rattle.ranges.specs.Edges.{way_of};
 ghost use Rattle.typestate.specs.Differences.{changed, slots_of};
 ghost use Rattle.typestate.specs.Logs.{Shows};
 ghost use Rattle.typestate.specs.Orders.{Rise};
+ghost use Rattle.wellformed.specs.Answering.{Answers};
 
 use crate::kept::{Kept, Known};
 use crate::points::Points;
@@ -28,7 +30,6 @@ use measure::{AfterInstruction, Measure, Step};
 use model::{Instr, Point, Refusal};
 use point_rules::{Way, kept_at, leads_to, left_calls_are_kept, left_states_are_kept};
 use ranges::{Bounds, Edge, after};
-use std::alloc::AllocError;
 use typestate::{Part, ShownPart};
 
 /// The ranges before an instruction, for the values that come this way: a branch leaves only some of them.
@@ -79,7 +80,7 @@ impl Program<'_, '_> {
         }
     }
 
-    /// What a way on breaks that leads from this part's slots to a point with the same part: they are not looked at.
+    /// Whether a way on that leads from this part's slots to a point with the same part keeps its rules: the slots are not looked at.
     fn way_within<S: Step>(
         &self,
         shown: &ShownPart,
@@ -88,12 +89,12 @@ impl Program<'_, '_> {
         way: &Way<'_>,
         step: &S,
         known: &Known,
-    ) -> Option<Refusal>
+    ) -> Result<(), Refusal>
         requires image { way.now.slots.image.now ≡ self.now.slots.now }
         requires shown { Rise shown.now.changes }
         requires slots { slots_of way.now.slots ≡ changed self.now.slots.now shown.now.changes }
         ensures { (log : List NotedSlot) (t : Thread) (a : ℕ) → Shows log known.now.part shown.now → t.header.budget ≡ self.now.space.thread.now.header.budget
-            → result ≡ first_broken (edge_rules t at (measure_of measure.now) (edge_of a (S.value_of step.now) way.now) (states.Known (state_by self.now.slots.now log known.now))) }
+            → result_err result ≡ first_broken (edge_rules t at (measure_of measure.now) (edge_of a (S.value_of step.now) way.now) (states.Known (state_by self.now.slots.now log known.now))) }
     {
         let state = known.state(self.slots, shown);
         let way = Way {
@@ -113,7 +114,8 @@ impl Program<'_, '_> {
         )
     }
 
-    /// What a way on breaks that leads from the slots of this part to an address. Memory may be refused.
+    /// Whether a way on that leads from the slots of this part to an address keeps its rules. An `Err` names the first that it breaks, or
+    /// says that memory was refused.
     pub(crate) fn way_to<S: Step>(
         &self,
         points: &Points,
@@ -124,36 +126,36 @@ impl Program<'_, '_> {
         way: &Way<'_>,
         step: &S,
         address: u32,
-    ) -> Result<Option<Refusal>, AllocError>
+    ) -> Result<(), Refusal>
         requires read { IsRead self.now.space.image.now (thread_of self.now) self.now.slots.now points.now.log points.now.kept.items }
         requires image { way.now.slots.image.now ≡ self.now.slots.now }
         requires plain { way.now.keeps_slots ≡ false }
         requires shown { Shows points.now.log part shown.now }
         requires slots { slots_of way.now.slots ≡ changed self.now.slots.now shown.now.changes }
         ensures { (t : Thread) (a : ℕ) → t.header.budget ≡ self.now.space.thread.now.header.budget
-            → IfOk result (λ broken. broken ≡ first_broken (edge_rules t at (measure_of measure.now) (edge_of a (S.value_of step.now) way.now) (noted_at self.now.space.image.now (thread_of self.now) address))) }
+            → Answers (first_broken (edge_rules t at (measure_of measure.now) (edge_of a (S.value_of step.now) way.now) (noted_at self.now.space.image.now (thread_of self.now) address))) result }
     {
         let kept = self.kept_at(points, address);
         match kept {
             Kept::Known(known) if known.part.is_same(part) => {
-                Ok(self.way_within(shown, at, measure, way, step, &known))
+                self.way_within(shown, at, measure, way, step, &known)
             }
             _ => {
                 let there = kept.shown(self.alloc, &points.log)?;
                 let target = kept.noted(self.slots, &there);
-                Ok(leads_to(
+                leads_to(
                     self.space.thread.header().budget,
                     at,
                     measure,
                     way,
                     step,
                     &target,
-                ))
+                )
             }
         }
     }
 
-    /// What a way on from an instruction at a point breaks, whose part is shown. Memory may be refused.
+    /// The same of a way on from an instruction at a point, whose part is shown.
     fn way_rules(
         &self,
         points: &Points,
@@ -162,12 +164,12 @@ impl Program<'_, '_> {
         instr: Instr,
         known: &Known,
         way: &Edge,
-    ) -> Result<Option<Refusal>, AllocError>
+    ) -> Result<(), Refusal>
         requires read { IsRead self.now.space.image.now (thread_of self.now) self.now.slots.now points.now.log points.now.kept.items }
         requires instr { IsInstr instr }
         requires shown { Shows points.now.log known.now.part shown.now }
         ensures { (edge : RuleEdge) → way_of edge ≡ way.now → edge.before ≡ (if is_branch instr then edge.ranges else known.now.bounds)
-            → IfOk result (λ broken. broken ≡ first_broken (way_rules self.now.space.image.now (thread_of self.now) point (state_by self.now.slots.now points.now.log known.now) instr (Some edge))) }
+            → Answers (first_broken (way_rules self.now.space.image.now (thread_of self.now) point (state_by self.now.slots.now points.now.log known.now) instr (Some edge))) result }
     {
         let found = Way {
             before: before(instr, &known.bounds, way),
@@ -199,16 +201,16 @@ impl Program<'_, '_> {
         instr: Instr,
         known: &Known,
         way: &Option<Edge>,
-    ) -> Result<Option<Refusal>, AllocError>
+    ) -> Result<(), Refusal>
         requires read { IsRead self.now.space.image.now (thread_of self.now) self.now.slots.now points.now.log points.now.kept.items }
         requires instr { IsInstr instr }
         requires shown { Shows points.now.log known.now.part shown.now }
         ensures { (edge : Option RuleEdge) → option_map way_of edge ≡ way.now → IsBefore instr known.now.bounds edge
-            → IfOk result (λ broken. broken ≡ first_broken (way_rules self.now.space.image.now (thread_of self.now) point (state_by self.now.slots.now points.now.log known.now) instr edge)) }
+            → Answers (first_broken (way_rules self.now.space.image.now (thread_of self.now) point (state_by self.now.slots.now points.now.log known.now) instr edge)) result }
     {
         match way {
             Some(way) => self.way_rules(points, shown, point, instr, known, way),
-            None => Ok(None),
+            None => Ok(()),
         }
     }
 
@@ -236,7 +238,7 @@ impl Program<'_, '_> {
         }
     }
 
-    /// What the taken way on from an instruction breaks. Memory may be refused.
+    /// The rules on the taken way on from an instruction.
     fn taken_rules(
         &self,
         points: &Points,
@@ -244,21 +246,21 @@ impl Program<'_, '_> {
         point: u32,
         instr: Instr,
         known: &Known,
-    ) -> Result<Option<Refusal>, AllocError>
+    ) -> Result<(), Refusal>
         requires read { IsRead self.now.space.image.now (thread_of self.now) self.now.slots.now points.now.log points.now.kept.items }
         requires within { point < self.now.space.thread.now.header.words }
         requires instr { IsInstr instr }
         requires shown { Shows points.now.log known.now.part shown.now }
-        ensures { IfOk result (λ broken. broken ≡ first_broken (way_rules self.now.space.image.now (thread_of self.now) point (state_by self.now.slots.now points.now.log known.now) instr (after (address_of self.now.space.thread.now point) instr known.now.bounds).taken)) }
+        ensures { Answers (first_broken (way_rules self.now.space.image.now (thread_of self.now) point (state_by self.now.slots.now points.now.log known.now) instr (after (address_of self.now.space.thread.now point) instr known.now.bounds).taken)) result }
     {
         if takes_no_way(instr) {
-            return Ok(None);
+            return Ok(());
         }
         let ways = after(self.address(point), instr, &known.bounds);
         self.option_rules(points, shown, point, instr, known, &ways.taken)
     }
 
-    /// What the ways on from an instruction break that is no system call, the taken one first. Memory may be refused.
+    /// The rules on the ways on from an instruction that is no system call, the taken one first.
     pub(crate) fn ways_rules(
         &self,
         points: &Points,
@@ -267,7 +269,7 @@ impl Program<'_, '_> {
         instr: Instr,
         known: &Known,
         is_next_noted: bool,
-    ) -> Result<Option<Refusal>, AllocError>
+    ) -> Result<(), Refusal>
         requires read { IsRead self.now.space.image.now (thread_of self.now) self.now.slots.now points.now.log points.now.kept.items }
         requires within { point < self.now.space.thread.now.header.words }
         requires next { is_next_noted ≡ false → record_of self.now.space.thread.now (point + 1) ≡ None }
@@ -276,15 +278,13 @@ impl Program<'_, '_> {
         requires is { instruction_at self.now.space.thread.now point ≡ Some instr }
         requires plain { instr ≢ Ecall }
         requires shown { Shows points.now.log known.now.part shown.now }
-        ensures { IfOk result (λ broken. broken ≡ first_broken (rules_on_edges self.now.space.image.now (thread_of self.now) point (state_by self.now.slots.now points.now.log known.now))) }
+        ensures { Answers (first_broken (rules_on_edges self.now.space.image.now (thread_of self.now) point (state_by self.now.slots.now points.now.log known.now))) result }
     {
         if self.leaves_next(points, point, is_next_noted) {
             return self.taken_rules(points, shown, point, instr, known);
         }
         let ways = after(self.address(point), instr, &known.bounds);
-        match self.option_rules(points, shown, point, instr, known, &ways.taken)? {
-            Some(refusal) => Ok(Some(refusal)),
-            None => self.option_rules(points, shown, point, instr, known, &ways.fall_through),
-        }
+        self.option_rules(points, shown, point, instr, known, &ways.taken)?;
+        self.option_rules(points, shown, point, instr, known, &ways.fall_through)
     }
 }

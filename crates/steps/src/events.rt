@@ -1,13 +1,13 @@
 //! What each event does.
 
 ghost use Rattle.std.specs.Prelude.{ℕ, ◌≡◌};
-ghost use Rattle.model.specs.Kernel.Interrupts.{raise};
 ghost use Rattle.model.specs.Kernel.Scheduling.{tick};
 ghost use Rattle.model.specs.Kernel.Steps.{ran, step};
 ghost use Rattle.object_lifetimes.specs.Kernels.{state_in};
 ghost use Rattle.soundness.specs.Running.{IsRunning};
 
 use crate::instructions::run;
+use cached_slots::WalkStore;
 use irq::raise;
 use model::{Event, Label};
 use object_lifetimes::Kernel;
@@ -18,7 +18,7 @@ use slots::SlotStore;
 const MEMORY_BASE: u32 = 0x8000_0000;
 
 /// The thread that runs goes on by an instruction.
-fn run_thread<S: SlotStore>(kernel: &mut Kernel<S>, thread: u32) -> Label
+fn run_thread<S: WalkStore>(kernel: &mut Kernel<S>, thread: u32) -> Label
     requires runs { IsRunning (state_in S.slots S.memory kernel.old) thread }
     ensures state { state_in S.slots S.memory kernel.new
         ≡ (ran (state_in S.slots S.memory kernel.old) thread).0 }
@@ -35,7 +35,7 @@ fn run_thread<S: SlotStore>(kernel: &mut Kernel<S>, thread: u32) -> Label
 
 /// The current thread goes on by an instruction, if there is one.
 #[tactic(auto, unfolding(model::specs::Kernel::Steps::step))]
-fn run_current<S: SlotStore>(kernel: &mut Kernel<S>) -> Label
+fn run_current<S: WalkStore>(kernel: &mut Kernel<S>) -> Label
     ensures state { state_in S.slots S.memory kernel.new
         ≡ (step (state_in S.slots S.memory kernel.old) Event.Step).0 }
     ensures label { result ≡ (step (state_in S.slots S.memory kernel.old) Event.Step).1 }
@@ -54,17 +54,9 @@ fn pass_tick<S: SlotStore>(kernel: &mut Kernel<S>)
     tick(&mut kernel.store, &mut kernel.objects.objects);
 }
 
-/// An interrupt is raised on a line. Lines above 63 do nothing.
-fn raise_line<S: SlotStore>(kernel: &mut Kernel<S>, line: u8)
-    ensures state { state_in S.slots S.memory kernel.new
-        ≡ raise (state_in S.slots S.memory kernel.old) line }
-{
-    raise(&mut kernel.store, &mut kernel.objects.objects, line);
-}
-
 /// What an event does: the current thread goes on by an instruction, a tick passes, or an interrupt is raised.
 #[tactic(auto, unfolding(model::specs::Kernel::Steps::step))]
-pub fn step<S: SlotStore>(kernel: &mut Kernel<S>, event: Event) -> Label
+pub fn step<S: WalkStore>(kernel: &mut Kernel<S>, event: Event) -> Label
     ensures state { state_in S.slots S.memory kernel.new
         ≡ (step (state_in S.slots S.memory kernel.old) event).0 }
     ensures label { result ≡ (step (state_in S.slots S.memory kernel.old) event).1 }
@@ -76,7 +68,7 @@ pub fn step<S: SlotStore>(kernel: &mut Kernel<S>, event: Event) -> Label
             Label::Ticked
         }
         Event::Irq(line) => {
-            raise_line(kernel, line);
+            raise(kernel, line);
             Label::Raised(line)
         }
     }

@@ -8,15 +8,15 @@ ghost use Rattle.object_lifetimes.specs.Kernels.{state_in};
 ghost use Rattle.soundness.specs.Running.{IsRunning};
 
 use crate::failures::{miss, trap};
+use cached_slots::WalkStore;
 use model::{Cause, Exec, Instr, MemoryFault, Outcome};
 use object_lifetimes::Kernel;
 use rv32_isa::decode;
-use slots::SlotStore;
 use system_calls::system_call;
 use user_memory::fetch;
 
 /// The thread that runs executes an instruction.
-fn execute<S: SlotStore>(kernel: &mut Kernel<S>, thread: u32, instruction: Instr) -> Outcome
+fn execute<S: WalkStore>(kernel: &mut Kernel<S>, thread: u32, instruction: Instr) -> Outcome
     requires runs { IsRunning (state_in S.slots S.memory kernel.old) thread }
     requires instruction { IsInstr instruction }
     ensures state { state_in S.slots S.memory kernel.new
@@ -35,7 +35,7 @@ fn execute<S: SlotStore>(kernel: &mut Kernel<S>, thread: u32, instruction: Instr
 }
 
 /// The thread that runs executes a word, if that is an instruction.
-fn execute_word<S: SlotStore>(kernel: &mut Kernel<S>, thread: u32, word: u32) -> Outcome
+fn execute_word<S: WalkStore>(kernel: &mut Kernel<S>, thread: u32, word: u32) -> Outcome
     requires runs { IsRunning (state_in S.slots S.memory kernel.old) thread }
     ensures state { state_in S.slots S.memory kernel.new
         ≡ (runs_decoded (state_in S.slots S.memory kernel.old) thread (decoded word)).0 }
@@ -49,7 +49,7 @@ fn execute_word<S: SlotStore>(kernel: &mut Kernel<S>, thread: u32, word: u32) ->
 
 /// The thread that runs executes the instruction at its pc.
 #[tactic(auto, unfolding(model::specs::Kernel::Steps::runs))]
-pub(crate) fn run<S: SlotStore>(kernel: &mut Kernel<S>, thread: u32) -> Outcome
+pub(crate) fn run<S: WalkStore>(kernel: &mut Kernel<S>, thread: u32) -> Outcome
     requires runs { IsRunning (state_in S.slots S.memory kernel.old) thread }
     ensures state { state_in S.slots S.memory kernel.new
         ≡ (runs (state_in S.slots S.memory kernel.old) thread).0 }

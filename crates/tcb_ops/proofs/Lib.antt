@@ -1,4 +1,5 @@
 pub mod Checks
 pub mod Configured
+pub mod Passed
 pub mod Putting
 pub mod ThreadsNear

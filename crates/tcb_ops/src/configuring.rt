@@ -1,21 +1,17 @@
 //! Giving a thread its spaces.
 
-ghost use Rattle.std.specs.Prelude.{◌≡◌, ◌+◌, ◌/◌, ◌^◌, ◌<◌, OnErr, Some};
-ghost use Rattle.kernel_invariant.specs.Agreement.{Agrees};
+ghost use Rattle.std.specs.Prelude.{◌≡◌, ◌+◌, ◌/◌, ◌^◌, ◌<◌, OnErr};
 ghost use Rattle.model.specs.Kernel.Outcomes.{GivesState};
-ghost use Rattle.model.specs.Capabilities.CapabilityWords.{IsCapability};
 ghost use Rattle.model.specs.Capabilities.Slots.{SameOutside};
-ghost use Rattle.model.specs.Kernel.Kinds.{kind_at};
-ghost use Rattle.model.specs.Kernel.Retype.{NewThread};
-ghost use Rattle.model.specs.Kernel.Soundness.{IsSound};
 ghost use Rattle.model.specs.Kernel.ThreadCalls.{configure};
-ghost use Rattle.objects.specs.Standing.{Standing};
-ghost use Rattle.objects.specs.Tables.{state_of};
+ghost use Rattle.object_lifetimes.specs.Kernels.{state_in};
+ghost use Rattle.soundness.specs.Calls.{IsRoot};
 ghost use Rattle.tcb_ops.specs.Configuring.{MayConfigure, spaces_put};
+ghost use Rattle.vspace.specs.Tables.{Holds};
 
 use crate::spaces::{Sources, Spaces, named_sources, with_guard};
 use model::{Cap, KError, Slot};
-use objects::Objects;
+use object_lifetimes::Kernel;
 use slots::SlotStore;
 
 /// Puts copies of the sources into the two slots of a thread, the CNode's with a guard word if one is
@@ -44,27 +40,23 @@ fn put_spaces<S: SlotStore>(store: &mut S, thread: u32, guard: Option<u32>, from
 ///
 /// seL4 Reference Manual, seL4_TCB_Configure.
 pub fn configure<S: SlotStore>(
-    store: &mut S,
-    objects: &mut Objects,
+    kernel: &mut Kernel<S>,
     root: Cap,
     thread: u32,
     spaces: Spaces,
 ) -> Result<(), KError>
-    requires valid { IsCapability root }
-    requires there { kind_at (state_of objects.old (S.slots store.old) (S.memory store.old)) thread ≡ Some NewThread }
-    requires agree { Agrees (state_of objects.old (S.slots store.old) (S.memory store.old)) (S.memory store.old) }
-    requires sound { IsSound (state_of objects.old (S.slots store.old) (S.memory store.old)) }
-    requires stands { Standing objects.old (S.slots store.old) (S.memory store.old) }
+    requires root { IsRoot (state_in S.slots S.memory kernel.old) root }
+    requires held { Holds (S.slots kernel.old.store) (Cap.Tcb thread) }
     ensures outcome { GivesState
-        (configure (state_of objects.old (S.slots store.old) (S.memory store.old)) root thread spaces.guard spaces.fault_address spaces.cspace spaces.vspace)
-        result (state_of objects.new (S.slots store.new) (S.memory store.new)) }
-    ensures unchanged { OnErr result (store.new ≡ store.old) }
-    ensures same { OnErr result (objects.new ≡ objects.old) }
-    ensures agree { Agrees (state_of objects.new (S.slots store.new) (S.memory store.new)) (S.memory store.new) }
-    ensures stands { Standing objects.new (S.slots store.new) (S.memory store.new) }
+        (configure (state_in S.slots S.memory kernel.old) root thread spaces.guard spaces.fault_address spaces.cspace spaces.vspace)
+        result (state_in S.slots S.memory kernel.new) }
+    ensures unchanged { OnErr result (kernel.new ≡ kernel.old) }
 {
-    let from = named_sources(store, root, thread, spaces)?;
-    put_spaces(store, thread, spaces.guard, from);
-    objects.set_fault_address(store, thread, spaces.fault_address);
+    let from = named_sources(&kernel.store, root, thread, spaces)?;
+    put_spaces(&mut kernel.store, thread, spaces.guard, from);
+    kernel
+        .objects
+        .objects
+        .set_fault_address(&mut kernel.store, thread, spaces.fault_address);
     Ok(())
 }

@@ -1,18 +1,16 @@
 //! Priorities and registers of threads, and threads that stop and go on.
 
-ghost use Rattle.std.specs.Prelude.{ℕ, ◌≡◌, ◌==◌, ◌≤◌, OnErr, Some, if◌then◌else◌};
+ghost use Rattle.std.specs.Prelude.{ℕ, ◌≡◌, ◌==◌, ◌≤◌, OnErr, if◌then◌else◌};
 ghost use Rattle.model.specs.Kernel.Outcomes.{GivesState};
-ghost use Rattle.model.specs.Kernel.Kinds.{kind_at};
 ghost use Rattle.model.specs.Kernel.Messages.{register};
-ghost use Rattle.model.specs.Kernel.Retype.{NewThread};
 ghost use Rattle.model.specs.Kernel.ThreadCalls.{resume, set_priority, set_register, suspend};
 ghost use Rattle.model.specs.Machine.ProgramMemory.{write};
-ghost use Rattle.objects.specs.Frames.{SameObjects};
-ghost use Rattle.objects.specs.Standing.{Standing};
-ghost use Rattle.objects.specs.Tables.{state_of};
+ghost use Rattle.object_lifetimes.specs.Kernels.{SameBeside, state_in};
+ghost use Rattle.vspace.specs.Tables.{Holds};
 
-use model::{KError, Register};
-use objects::{Objects, Status};
+use model::{Cap, KError, Register};
+use object_lifetimes::Kernel;
+use objects::Status;
 use rv32_exec::Regs;
 use slots::SlotStore;
 
@@ -21,25 +19,22 @@ use slots::SlotStore;
 ///
 /// seL4 Reference Manual, seL4_TCB_SetPriority.
 pub fn set_priority<S: SlotStore>(
-    store: &mut S,
-    objects: &mut Objects,
+    kernel: &mut Kernel<S>,
     thread: u32,
     priority: u32,
 ) -> Result<(), KError>
-    requires there { kind_at (state_of objects.old (S.slots store.old) (S.memory store.old)) thread ≡ Some NewThread }
-    requires stands { Standing objects.old (S.slots store.old) (S.memory store.old) }
-    ensures outcome { GivesState (set_priority (state_of objects.old (S.slots store.old) (S.memory store.old)) thread priority) result (state_of objects.new (S.slots store.new) (S.memory store.new)) }
-    ensures unchanged { OnErr result (store.new ≡ store.old) }
-    ensures same { OnErr result (objects.new ≡ objects.old) }
-    ensures slots { S.slots store.new ≡ S.slots store.old }
-    ensures bytes { SameObjects (state_of objects.old (S.slots store.old) (S.memory store.old)) (state_of objects.new (S.slots store.new) (S.memory store.new)) (S.memory store.old) (S.memory store.new) }
-    ensures order { S.order store.new ≡ S.order store.old }
-    ensures stands { Standing objects.new (S.slots store.new) (S.memory store.new) }
+    requires held { Holds (S.slots kernel.old.store) (Cap.Tcb thread) }
+    ensures outcome { GivesState (set_priority (state_in S.slots S.memory kernel.old) thread priority) result (state_in S.slots S.memory kernel.new) }
+    ensures unchanged { OnErr result (kernel.new ≡ kernel.old) }
+    ensures beside { SameBeside S.slots S.memory S.order kernel.old kernel.new }
 {
     if priority > 255 {
         return Err(KError::RangeError);
     }
-    objects.set_priority(store, thread, priority as u8);
+    kernel
+        .objects
+        .objects
+        .set_priority(&mut kernel.store, thread, priority as u8);
     Ok(())
 }
 
@@ -63,22 +58,16 @@ fn with_register(registers: Regs, index: u32, value: u32) -> Regs
 ///
 /// seL4 Reference Manual, seL4_TCB_WriteRegisters.
 pub fn set_register<S: SlotStore>(
-    store: &mut S,
-    objects: &mut Objects,
+    kernel: &mut Kernel<S>,
     caller: Option<u32>,
     thread: u32,
     index: u32,
     value: u32,
 ) -> Result<(), KError>
-    requires there { kind_at (state_of objects.old (S.slots store.old) (S.memory store.old)) thread ≡ Some NewThread }
-    requires stands { Standing objects.old (S.slots store.old) (S.memory store.old) }
-    ensures outcome { GivesState (set_register (state_of objects.old (S.slots store.old) (S.memory store.old)) caller thread index value) result (state_of objects.new (S.slots store.new) (S.memory store.new)) }
-    ensures unchanged { OnErr result (store.new ≡ store.old) }
-    ensures same { OnErr result (objects.new ≡ objects.old) }
-    ensures slots { S.slots store.new ≡ S.slots store.old }
-    ensures bytes { SameObjects (state_of objects.old (S.slots store.old) (S.memory store.old)) (state_of objects.new (S.slots store.new) (S.memory store.new)) (S.memory store.old) (S.memory store.new) }
-    ensures order { S.order store.new ≡ S.order store.old }
-    ensures stands { Standing objects.new (S.slots store.new) (S.memory store.new) }
+    requires held { Holds (S.slots kernel.old.store) (Cap.Tcb thread) }
+    ensures outcome { GivesState (set_register (state_in S.slots S.memory kernel.old) caller thread index value) result (state_in S.slots S.memory kernel.new) }
+    ensures unchanged { OnErr result (kernel.new ≡ kernel.old) }
+    ensures beside { SameBeside S.slots S.memory S.order kernel.old kernel.new }
 {
     if caller == Some(thread) {
         return Err(KError::IllegalOperation);
@@ -89,29 +78,29 @@ pub fn set_register<S: SlotStore>(
     if index == 0 && value % 4 != 0 {
         return Err(KError::AlignmentError);
     }
-    let registers = objects.registers(store, thread);
-    objects.set_registers(store, thread, with_register(registers, index, value));
+    let registers = kernel.objects.objects.registers(&kernel.store, thread);
+    kernel.objects.objects.set_registers(
+        &mut kernel.store,
+        thread,
+        with_register(registers, index, value),
+    );
     Ok(())
 }
 
 /// A thread that does not run leaves what it waits for, and runs again from its pc.
 ///
 /// seL4 Reference Manual, seL4_TCB_Resume.
-pub fn resume<S: SlotStore>(store: &mut S, objects: &mut Objects, thread: u32)
-    requires there { kind_at (state_of objects.old (S.slots store.old) (S.memory store.old)) thread ≡ Some NewThread }
-    requires stands { Standing objects.old (S.slots store.old) (S.memory store.old) }
-    ensures state { state_of objects.new (S.slots store.new) (S.memory store.new)
-        ≡ resume (state_of objects.old (S.slots store.old) (S.memory store.old)) thread }
-    ensures slots { S.slots store.new ≡ S.slots store.old }
-    ensures bytes { SameObjects (state_of objects.old (S.slots store.old) (S.memory store.old)) (state_of objects.new (S.slots store.new) (S.memory store.new)) (S.memory store.old) (S.memory store.new) }
-    ensures order { S.order store.new ≡ S.order store.old }
-    ensures stands { Standing objects.new (S.slots store.new) (S.memory store.new) }
+pub fn resume<S: SlotStore>(kernel: &mut Kernel<S>, thread: u32)
+    requires held { Holds (S.slots kernel.old.store) (Cap.Tcb thread) }
+    ensures state { state_in S.slots S.memory kernel.new
+        ≡ resume (state_in S.slots S.memory kernel.old) thread }
+    ensures beside { SameBeside S.slots S.memory S.order kernel.old kernel.new }
 {
-    match objects.status(store, thread) {
+    match kernel.objects.objects.status(&kernel.store, thread) {
         Status::Runnable => {}
         Status::Inactive | Status::Blocked { .. } | Status::AwaitsReply | Status::AwaitsHandler => {
-            objects.leave(store, thread);
-            objects.wake(store, thread);
+            kernel.objects.objects.leave(&mut kernel.store, thread);
+            kernel.objects.objects.wake(&mut kernel.store, thread);
         }
     }
 }
@@ -119,16 +108,15 @@ pub fn resume<S: SlotStore>(store: &mut S, objects: &mut Objects, thread: u32)
 /// A thread leaves what it waits for, and runs no more until it is resumed.
 ///
 /// seL4 Reference Manual, seL4_TCB_Suspend.
-pub fn suspend<S: SlotStore>(store: &mut S, objects: &mut Objects, thread: u32)
-    requires there { kind_at (state_of objects.old (S.slots store.old) (S.memory store.old)) thread ≡ Some NewThread }
-    requires stands { Standing objects.old (S.slots store.old) (S.memory store.old) }
-    ensures state { state_of objects.new (S.slots store.new) (S.memory store.new)
-        ≡ suspend (state_of objects.old (S.slots store.old) (S.memory store.old)) thread }
-    ensures slots { S.slots store.new ≡ S.slots store.old }
-    ensures bytes { SameObjects (state_of objects.old (S.slots store.old) (S.memory store.old)) (state_of objects.new (S.slots store.new) (S.memory store.new)) (S.memory store.old) (S.memory store.new) }
-    ensures order { S.order store.new ≡ S.order store.old }
-    ensures stands { Standing objects.new (S.slots store.new) (S.memory store.new) }
+pub fn suspend<S: SlotStore>(kernel: &mut Kernel<S>, thread: u32)
+    requires held { Holds (S.slots kernel.old.store) (Cap.Tcb thread) }
+    ensures state { state_in S.slots S.memory kernel.new
+        ≡ suspend (state_in S.slots S.memory kernel.old) thread }
+    ensures beside { SameBeside S.slots S.memory S.order kernel.old kernel.new }
 {
-    objects.leave(store, thread);
-    objects.block(store, thread, Status::Inactive);
+    kernel.objects.objects.leave(&mut kernel.store, thread);
+    kernel
+        .objects
+        .objects
+        .block(&mut kernel.store, thread, Status::Inactive);
 }

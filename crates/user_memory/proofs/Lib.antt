@@ -1,6 +1,7 @@
 pub mod Executed
 pub mod Filled
 pub mod FilledFrames
+pub mod Leaves
 pub mod Named
 pub mod Reading
 pub mod Running

@@ -64,6 +64,20 @@ pub root-kernel : {S : Type 0} (slots : S → Slots) (memory : S → List ℕ) (
 unfolding state_of
 root-kernel slots memory thread root is of_thread = of_thread ∙ ap (λ k. root_of (capability_at (slots k.store) (vspace_slot thread))) is
 
+-- the same once its store has kept a leaf, and is what it was
+abbrev parts_of : {S : Type 0} → S → Tables → Parts S
+parts_of store tables = record { store = store; tables = tables }
+
+pub kept-parts : {S : Type 0} {new store : S} {tables : Tables} {kernel : Parts S} → new ≡ store → parts_of store tables ≡ kernel → parts_of new tables ≡ kernel
+kept-parts {tables = tables} same is = ap (λ s. parts_of s tables) same ∙ is
+
+pub usable-kept : {S : Type 0} (slots : S → Slots) (memory : S → List ℕ) (thread : ℕ) (root : Option ℕ) {new store : S} {tables : Tables} → new ≡ store
+    → IsWhole tables (slots store) (memory store) → root ≡ root_of (capability_at (slots store) (vspace_slot thread))
+    → ∥ IsUsable (state_in slots memory (parts_of new tables)) (memory new) root ∥₁
+usable-kept slots memory thread root {store = store} {tables = tables} same whole of_thread =
+    subst (λ s. ∥ IsUsable (state_in slots memory (parts_of s tables)) (memory s) root ∥₁) (sym same)
+    ∣ usable-first tables (slots store) (memory store) thread root whole of_thread ∣₁
+
 -- ---- afterwards
 
 -- in the words of a view that was lent the kernel

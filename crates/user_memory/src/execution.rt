@@ -13,22 +13,25 @@ ghost use Rattle.model.specs.declared.instructions.Access.TheVariants.{Fetch};
 ghost use Rattle.model.specs.declared.instructions.AccessSize.TheVariants.{Word};
 ghost use Rattle.object_lifetimes.specs.Kernels.{state_in};
 
+use crate::keeping::{keep_page, keep_reached};
 use crate::roots::root_of;
 use crate::spaces::Space;
 use crate::view::UserMemory;
+use cached_slots::WalkStore;
 use model::{Access, Exec, Instr, MemoryFault};
 use object_lifetimes::Kernel;
 use rv32_exec::{Regs, exec};
-use slots::SlotStore;
 
 /// The word that a thread runs next, at its program counter; the first byte of it that the thread may not
-/// run is a fault.
-pub fn fetch<S: SlotStore>(kernel: &Kernel<S>, thread: u32) -> Result<u32, MemoryFault>
-    ensures { result ≡ loaded (content_of (state_in S.slots S.memory kernel.now) thread) Fetch Word
-        (registers_of (state_in S.slots S.memory kernel.now) thread).pc }
+/// run is a fault. The leaf of its page is kept, which changes nothing else.
+pub fn fetch<S: WalkStore>(kernel: &mut Kernel<S>, thread: u32) -> Result<u32, MemoryFault>
+    ensures value { result ≡ loaded (content_of (state_in S.slots S.memory kernel.old) thread) Fetch Word
+        (registers_of (state_in S.slots S.memory kernel.old) thread).pc }
+    ensures unchanged { kernel.new ≡ kernel.old }
 {
     let address = kernel.pc(thread);
     let root = root_of(&kernel.store, thread);
+    keep_page(&mut kernel.store, root, address);
     let space = Space { kernel, root };
     if address % 4 == 0 {
         space.aligned_word(address, Access::Fetch)
@@ -38,7 +41,7 @@ pub fn fetch<S: SlotStore>(kernel: &Kernel<S>, thread: u32) -> Result<u32, Memor
 }
 
 /// Runs an instruction over the memory of a thread.
-fn run<S: SlotStore>(
+fn run<S: WalkStore>(
     kernel: &mut Kernel<S>,
     thread: u32,
     registers: &mut Regs,
@@ -52,13 +55,14 @@ fn run<S: SlotStore>(
         (effect registers.old (content_of (state_in S.slots S.memory kernel.old) thread) instruction).content }
 {
     let root = root_of(&kernel.store, thread);
+    keep_reached(&mut kernel.store, root, registers, instruction);
     let mut memory = UserMemory { kernel, root };
     exec(registers, instruction, &mut memory)
 }
 
 /// Runs an instruction of a thread: its registers change, and the bytes of its frames. Where the answer is
 /// not `Next`, nothing does.
-pub fn execute<S: SlotStore>(kernel: &mut Kernel<S>, thread: u32, instruction: Instr) -> Exec
+pub fn execute<S: WalkStore>(kernel: &mut Kernel<S>, thread: u32, instruction: Instr) -> Exec
     requires instruction { IsInstr instruction }
     requires there { kind_at (state_in S.slots S.memory kernel.old) thread ≡ Some NewThread }
     ensures outcome { result ≡ (effect (registers_of (state_in S.slots S.memory kernel.old) thread)

@@ -5,6 +5,7 @@
 
 mod execution;
 mod filling;
+mod keeping;
 mod roots;
 mod spaces;
 mod view;

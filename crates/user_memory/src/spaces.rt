@@ -6,20 +6,19 @@ ghost use Rattle.model.specs.Machine.ProgramMemory.{IsNamed, loaded, place_at};
 ghost use Rattle.object_lifetimes.specs.Kernels.{state_in};
 ghost use Rattle.user_memory.specs.Views.{IsUsable, content_under};
 
+use cached_slots::WalkStore;
 use model::{Access, MemoryFault};
 use object_lifetimes::Kernel;
-use slots::SlotStore;
-use sv32::walk;
 
 /// The address space under a root table. Without one no address has a place.
 #[derive(Drop)]
-pub(crate) struct Space<'a, S: SlotStore> {
+pub(crate) struct Space<'a, S: WalkStore> {
     pub(crate) kernel: &'a Kernel<S>,
     pub(crate) root: Option<u32>,
     ghost usable: { ∥ IsUsable (state_in S.slots S.memory kernel.now) (S.memory kernel.now.store) root ∥₁ },
 }
 
-impl<S: SlotStore> Space<'_, S> {
+impl<S: WalkStore> Space<'_, S> {
     /// The place in memory that an address names for an access.
     pub(crate) fn place(&self, address: u32, access: Access) -> Result<u32, MemoryFault>
         ensures { result ≡ place_at (content_under (state_in S.slots S.memory self.now.kernel.now) self.now.root) access address }
@@ -28,7 +27,7 @@ impl<S: SlotStore> Space<'_, S> {
             return Err(MemoryFault { address, access });
         };
         let kernel = self.kernel;
-        match walk(kernel.store.mem(), root, address, access) {
+        match kernel.store.walk(root, address, access) {
             Ok(place) => Ok(place),
             Err(_) => Err(MemoryFault { address, access }),
         }

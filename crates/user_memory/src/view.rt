@@ -5,20 +5,20 @@ ghost use Rattle.object_lifetimes.specs.Kernels.{state_in};
 ghost use Rattle.user_memory.specs.Views.{Beside, IsUsable, beside_of, content_under};
 
 use crate::spaces::Space;
+use cached_slots::WalkStore;
 use model::{Access, AccessSize, MemoryFault};
 use object_lifetimes::Kernel;
 use rv32_exec::View;
-use slots::SlotStore;
 
 /// Memory under a root table, or none, with the kernel that its bytes stand in.
 #[derive(Drop)]
-pub(crate) struct UserMemory<'k, S: SlotStore> {
+pub(crate) struct UserMemory<'k, S: WalkStore> {
     pub(crate) kernel: &'k mut Kernel<S>,
     pub(crate) root: Option<u32>,
     ghost usable: { ∥ IsUsable (state_in S.slots S.memory kernel.now) (S.memory kernel.now.store) root ∥₁ },
 }
 
-impl<S: SlotStore> UserMemory<'_, S> {
+impl<S: WalkStore> UserMemory<'_, S> {
     /// The same memory, for reading.
     fn space(&self) -> Space<'_, S>
         ensures kernel { result.kernel.now ≡ self.now.kernel.now }
@@ -31,7 +31,7 @@ impl<S: SlotStore> UserMemory<'_, S> {
     }
 }
 
-impl<S: SlotStore> View for UserMemory<'_, S> {
+impl<S: WalkStore> View for UserMemory<'_, S> {
     ghost content = { λ view. content_under (state_in S.slots S.memory view.kernel.now) view.root };
 
     ghost Rest = { Beside };

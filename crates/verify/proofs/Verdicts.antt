@@ -1,6 +1,6 @@
 -- From the rules on an image to the verdict on its bytes.
 use Rattle.std.proofs.Common.{ℕ, ◌≡◌, ◌∙◌, ◌⊎◌, inl, inr, Some, None, Option, Result, Ok, Err, List, sym, ap, subst}
-use Rattle.std.specs.Prelude.{IfErr}
+use Rattle.std.specs.Prelude.{IfErr, OnOk}
 use Rattle.std.specs.Option.{option_or}
 use Rattle.model.specs.Acceptance.Accepted.{AreKept, IsAccepted, IsWellFormed, breach_of, first_breach, first_in, phases}
 use Rattle.model.specs.Acceptance.PointRules.{program_rules}
@@ -12,6 +12,7 @@ use Rattle.model.specs.Images.Image.{Image, whole_image}
 use Rattle.model.specs.declared.refusals.Refusal.{Refusal}
 use Rattle.model.specs.declared.refusals.Refusal.TheVariants.{OutOfMemory}
 use Rattle.image.proofs.Laws.{IsBytes, reading-spelled}
+use Rattle.wellformed.specs.Answering.{Answers}
 use Rattle.wellformed.proofs.Laws.{accepted-no_breach, kept-none, none-broken}
 
 -- ---- the rules on programs, of an image that is well formed
@@ -20,14 +21,21 @@ last-or : (o : Option Refusal) (refusal : Refusal) → o ≡ Some refusal → op
 last-or None refusal is = is
 last-or (Some other) refusal is = is
 
-pub breach-of-programs : (image : Image) (refusal : Refusal) → IsWellFormed image → Some refusal ≡ first_broken (program_rules image) → first_in (phases image) ≡ Some refusal
+breach-of-programs : (image : Image) (refusal : Refusal) → IsWellFormed image → first_broken (program_rules image) ≡ Some refusal → first_in (phases image) ≡ Some refusal
 unfolding first_in
 breach-of-programs image refusal formed is =
     rw (kept-none (object_rules image) formed.objects, kept-none (capability_rules image) formed.capabilities, kept-none (mapping_rules image) formed.mappings, kept-none (thread_rules image) formed.threads)
-    (last-or (first_broken (program_rules image)) refusal (sym is))
+    (last-or (first_broken (program_rules image)) refusal is)
 
-pub programs-kept : (image : Image) → None ≡ first_broken (program_rules image) → AreKept (program_rules image)
-programs-kept image is = none-broken (program_rules image) (sym is)
+pub programs-kept : (image : Image) (result : Result (Unit {0}) Refusal) → Answers (first_broken (program_rules image)) result → OnOk result (AreKept (program_rules image))
+programs-kept image (Ok x) kept = none-broken (program_rules image) kept
+programs-kept image (Err refusal) answers = tt
+
+pub programs-told : (image : Image) (result : Result (Unit {0}) Refusal) → IsWellFormed image → Answers (first_broken (program_rules image)) result
+    → IfErr result (λ refusal. (refusal ≡ OutOfMemory) ⊎ (first_in (phases image) ≡ Some refusal))
+programs-told image (Ok x) formed kept = tt
+programs-told image (Err refusal) formed (inl memory) = inl memory
+programs-told image (Err refusal) formed (inr broken) = inr (breach-of-programs image refusal formed broken)
 
 -- ---- the bytes
 

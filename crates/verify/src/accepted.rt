@@ -12,6 +12,7 @@ use headline::events_keep_all_standing;
 use image::{ImageRef, read};
 use kept_threads::all_stand_at_the_start;
 use model::Refusal;
+use program_rules::check_programs;
 use std::alloc::Global;
 use std::marker::Model;
 use thread_starts::threads_start_as_certified;
@@ -91,9 +92,5 @@ fn check(alloc: Global, image: &ImageRef<'_>) -> Result<(), Refusal>
     ensures refused { IfErr result (λ refusal. (refusal ≡ OutOfMemory) ⊎ (first_in (phases image.now) ≡ Some refusal)) }
 {
     well_formed(alloc, image)?;
-    match program_rules::broken(alloc, image) {
-        Ok(None) => Ok(()),
-        Ok(Some(refusal)) => Err(refusal),
-        Err(_) => Err(Refusal::OutOfMemory),
-    }
+    check_programs(alloc, image)
 }

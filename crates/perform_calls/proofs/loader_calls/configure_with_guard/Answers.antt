@@ -1,7 +1,9 @@
 -- The checks, and then Configure with the sixth word.
 use Rattle.std.proofs.Common.{◌∙◌, Result, subst, sym}
 use Rattle.model.specs.Kernel.Outcomes.{GivesState}
+use Rattle.objects.specs.Tables.{state_of}
 use Rattle.perform_calls.proofs.Guarded.{guarded-long, guarded-none, guarded-short, tcb-of}
+use Rattle.perform_calls.proofs.Roots.{thread-held}
 use Rattle.perform_calls.proofs.loader_calls.configure_with_guard.Goals as goal
 use Rattle.perform_calls.specs.Calls.{call_of}
 use Rattle.model.specs.Kernel.State.{State}
@@ -14,8 +16,14 @@ returns-in_default-clause-outcome g c = guarded-none (state_in g.S.SlotMap.slots
 pub returns-then-words-lt6-clause-outcome : goal.returns-then-words-lt6-clause-outcome
 returns-then-words-lt6-clause-outcome g c = guarded-short (state_in g.S.SlotMap.slots g.S.SlotStore.memory c.args.kernel.now) (call_of c.args.call) c.args.words.now c.thread_of.result c.in-Some.thread c.thread_of.ensures c.in-Some.is c.if-words-lt6.true
 
-pub give_spaces-requires-clause-applies : goal.give_spaces-requires-clause-applies
-give_spaces-requires-clause-applies g c = tcb-of c.args.call.capability c.in-Some.thread (sym c.thread_of.ensures ∙ c.in-Some.is)
+pub configure-requires-clause-root : goal.configure-requires-clause-root
+configure-requires-clause-root g c = c.requires.call.root
+
+pub configure-requires-clause-held : goal.configure-requires-clause-held
+unfolding state_of
+configure-requires-clause-held g c =
+    thread-held (state_in g.S.SlotMap.slots g.S.SlotStore.memory c.args.kernel.now) (call_of c.args.call) c.in-Some.thread c.requires.call
+    (tcb-of c.args.call.capability c.in-Some.thread (sym c.thread_of.ensures ∙ c.in-Some.is))
 
 pub returns-clause-outcome : goal.returns-clause-outcome
 returns-clause-outcome g c =
@@ -24,9 +32,9 @@ returns-clause-outcome g c =
     let thread = c.in-Some.thread in
     let k = c.spaces_of-spaces.result in
     let e = c.spaces_of-spaces.ensures in
-    let t : State = state_in g.S.SlotMap.slots g.S.SlotStore.memory c.give_spaces.new.kernel in
+    let t : State = state_in g.S.SlotMap.slots g.S.SlotStore.memory c.configure.new.kernel in
     let same = guarded-long s call c.args.words.now c.thread_of.result thread c.thread_of.ensures c.in-Some.is c.if-words-lt6.false k.guard k.fault_address k.cspace k.vspace
     e.guard e.fault_address e.cspace e.vspace
     in
-    subst (λ (d : Result State KError). GivesState d c.give_spaces.result t) (sym same)
-    c.give_spaces.ensures.outcome
+    subst (λ (d : Result State KError). GivesState d c.configure.result t) (sym same)
+    c.configure.ensures.outcome

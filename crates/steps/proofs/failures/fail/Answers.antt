@@ -3,7 +3,7 @@ use Rattle.kernel_invariant.specs.Wholeness.{IsWhole}
 use Rattle.soundness.proofs.Laws.{fault-machine, fault-whole}
 use Rattle.std.proofs.Common.{rules, subst, sym}
 use Rattle.steps.proofs.failures.fail.Goals as goal
-use Rattle.system_calls.proofs.Laws.{kept}
+use Rattle.object_lifetimes.proofs.Laws.{kept}
 
 pub invariant_of-kernel : goal.invariant_of-kernel
 invariant_of-kernel g c =

@@ -4,7 +4,7 @@ use Rattle.model.specs.Kernel.Steps.{answered}
 use Rattle.model.specs.declared.system_calls.SendCall.TheVariants.{Calling}
 use Rattle.soundness.proofs.Laws.{answered-machine, answered-whole}
 use Rattle.std.proofs.Common.{rules, subst, sym}
-use Rattle.system_calls.proofs.Kept.{kept, state_before}
+use Rattle.object_lifetimes.proofs.Laws.{kept, state_before}
 use Rattle.system_calls.proofs.answers.answer.Goals as goal
 
 pub invariant_of-kernel : goal.invariant_of-kernel

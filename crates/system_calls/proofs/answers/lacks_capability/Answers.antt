@@ -3,7 +3,7 @@ use Rattle.kernel_invariant.specs.Wholeness.{IsWhole}
 use Rattle.model.specs.Kernel.Steps.{lacks_capability}
 use Rattle.soundness.proofs.Laws.{fault-machine, lacks-whole}
 use Rattle.std.proofs.Common.{◌<◌, ◌^◌, if◌then◌else◌, Bool, true, false, arith, rules, subst, sym}
-use Rattle.system_calls.proofs.Kept.{kept, state_before}
+use Rattle.object_lifetimes.proofs.Laws.{kept, state_before}
 use Rattle.system_calls.proofs.answers.lacks_capability.Goals as goal
 
 small : (b : Bool) → (if b then 1 else 0) < 2 ^ 32

@@ -3,7 +3,7 @@ use Rattle.kernel_invariant.specs.Wholeness.{IsWhole}
 use Rattle.model.specs.Kernel.Steps.{calls_known}
 use Rattle.soundness.proofs.Laws.{fault-machine, unknown-whole}
 use Rattle.std.proofs.Common.{None, rules, subst, sym}
-use Rattle.system_calls.proofs.Kept.{kept, state_before}
+use Rattle.object_lifetimes.proofs.Laws.{kept, state_before}
 use Rattle.system_calls.proofs.answers.unknown_call.Goals as goal
 
 pub invariant_of-kernel : goal.invariant_of-kernel

@@ -6,7 +6,7 @@ use Rattle.model.specs.Kernel.State.{cspace_slot}
 use Rattle.model.specs.Kernel.Steps.{cspace_of}
 use Rattle.objects.specs.Tables.{state_of}
 use Rattle.std.proofs.Common.{ℕ, ◌≡◌, ◌∙◌, ap, arith, subst}
-use Rattle.system_calls.proofs.Kept.{thread-near}
+use Rattle.system_calls.proofs.ThreadsNear.{thread-near}
 use Rattle.system_calls.proofs.names.cspace_of.Goals as goal
 
 pub new-requires : goal.new-requires

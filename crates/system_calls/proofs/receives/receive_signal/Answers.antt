@@ -2,7 +2,7 @@
 use Rattle.kernel_invariant.specs.Wholeness.{IsWhole}
 use Rattle.soundness.proofs.Laws.{poll-machine, poll-whole, wait-machine, wait-whole}
 use Rattle.std.proofs.Common.{rules, subst, sym}
-use Rattle.system_calls.proofs.Kept.{kept}
+use Rattle.object_lifetimes.proofs.Laws.{kept}
 use Rattle.system_calls.proofs.receives.receive_signal.Goals as goal
 
 pub invariant_of-kernel : goal.invariant_of-kernel

@@ -6,7 +6,7 @@ use Rattle.model.specs.declared.system_calls.SystemCall.TheVariants.{Yields}
 use Rattle.objects.proofs.Laws.{objects-then}
 use Rattle.soundness.proofs.Laws.{called-whole, passes-machine, then-machine, yielded-machine}
 use Rattle.std.proofs.Common.{rules, subst, sym}
-use Rattle.system_calls.proofs.Kept.{kept, state_before}
+use Rattle.object_lifetimes.proofs.Laws.{kept, state_before}
 use Rattle.system_calls.proofs.replies.give_way.Goals as goal
 
 pub invariant_of-kernel : goal.invariant_of-kernel

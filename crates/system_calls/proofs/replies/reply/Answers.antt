@@ -4,7 +4,7 @@ use Rattle.model.specs.Kernel.State.{State}
 use Rattle.soundness.proofs.Laws.{reply-machine, reply-runs, reply-whole}
 use Rattle.soundness.specs.Running.{IsRunning}
 use Rattle.std.proofs.Common.{refl, sym, subst, rules}
-use Rattle.system_calls.proofs.Kept.{kept}
+use Rattle.object_lifetimes.proofs.Laws.{kept}
 use Rattle.system_calls.proofs.replies.reply.Goals as goal
 
 pub invariant_of-kernel : goal.invariant_of-kernel

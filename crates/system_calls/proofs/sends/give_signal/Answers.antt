@@ -5,7 +5,7 @@ use Rattle.model.specs.Kernel.State.{State, notification_at}
 use Rattle.soundness.proofs.Laws.{running-object, signal-machine, signal-whole, signaled-object}
 use Rattle.soundness.specs.Running.{IsRunning}
 use Rattle.std.proofs.Common.{refl, sym, subst, rules}
-use Rattle.system_calls.proofs.Kept.{kept, state_before}
+use Rattle.object_lifetimes.proofs.Laws.{kept, state_before}
 use Rattle.system_calls.proofs.sends.give_signal.Goals as goal
 
 pub invariant_of-kernel : goal.invariant_of-kernel

@@ -5,7 +5,7 @@ use Rattle.model.specs.Kernel.Steps.{send_on, sender}
 use Rattle.model.specs.declared.system_calls.SendCall.TheVariants.{Calling, Sending, Trying}
 use Rattle.soundness.proofs.Laws.{send-machine, sent_on-whole, try_to_send-machine}
 use Rattle.std.proofs.Common.{rules, subst, sym}
-use Rattle.system_calls.proofs.Kept.{kept, state_before}
+use Rattle.object_lifetimes.proofs.Laws.{kept, state_before}
 use Rattle.system_calls.proofs.sends.send_on.Goals as goal
 
 pub invariant_of-kernel : goal.invariant_of-kernel

@@ -1,32 +1,46 @@
--- A kernel has usable memory.
+-- A kernel has usable memory, and to keep a leaf changes nothing.
 use Rattle.std.proofs.Common.{ℕ, ◌∙◌, ap}
 use Rattle.model.specs.Kernel.AddressSpaces.{content_of}
 use Rattle.model.specs.Machine.ProgramMemory.{loaded}
 use Rattle.model.specs.declared.instructions.Access.TheVariants.{Fetch}
 use Rattle.model.specs.declared.instructions.AccessSize.TheVariants.{Word}
 use Rattle.object_lifetimes.specs.Kernels.{state_in}
-use Rattle.user_memory.proofs.Running.{root-kernel, usable-kernel}
+use Rattle.user_memory.proofs.Leaves.{kernel-leaves}
+use Rattle.user_memory.proofs.Running.{kept-parts, root-kernel, usable-kept, usable-kernel}
 use Rattle.user_memory.specs.Views.{content_under}
 use Rattle.user_memory.proofs.execution.fetch.Goals as goal
 
+pub keep_page-requires : goal.keep_page-requires
+keep_page-requires g c = λ table is.
+    let slots = g.S.SlotMap.slots in
+    let memory = g.S.SlotStore.memory in
+    kernel-leaves slots memory c.root_of-root.result table c.kernel.view_is
+    (usable-kernel slots memory c.args.thread c.root_of-root.result c.kernel.view_is c.kernel.invariant c.root_of-root.ensures) is
+
 pub invariant_of-space : goal.invariant_of-space
 invariant_of-space g c =
-    record { usable = usable-kernel g.S.SlotMap.slots g.S.SlotStore.memory c.args.thread c.root_of-root.result c.kernel.view_is c.kernel.invariant c.root_of-root.ensures }
+    record { usable = usable-kept g.S.SlotMap.slots g.S.SlotStore.memory c.args.thread c.root_of-root.result c.keep_page.ensures c.kernel.invariant c.root_of-root.ensures }
 
 pub invariant_of-space-else-address-eq0 : goal.invariant_of-space-else-address-eq0
 invariant_of-space-else-address-eq0 g c =
-    record { usable = usable-kernel g.S.SlotMap.slots g.S.SlotStore.memory c.args.thread c.root_of-root.result c.kernel.view_is c.kernel.invariant c.root_of-root.ensures }
+    record { usable = usable-kept g.S.SlotMap.slots g.S.SlotStore.memory c.args.thread c.root_of-root.result c.keep_page.ensures c.kernel.invariant c.root_of-root.ensures }
 
-pub returns-then-address-eq0 : goal.returns-then-address-eq0
-returns-then-address-eq0 g c =
+pub returns-then-address-eq0-clause-value : goal.returns-then-address-eq0-clause-value
+returns-then-address-eq0-clause-value g c =
     let s = state_in g.S.SlotMap.slots g.S.SlotStore.memory c.args.kernel.now in
     let own = root-kernel g.S.SlotMap.slots g.S.SlotStore.memory c.args.thread c.root_of-root.result c.kernel.view_is c.root_of-root.ensures in
-    c.aligned_word.ensures ∙ ap (λ root. loaded (content_under s root) Fetch Word c.pc-address.result) own
+    c.aligned_word.ensures
+    ∙ ap (λ k. loaded (content_under (state_in g.S.SlotMap.slots g.S.SlotStore.memory k) c.root_of-root.result) Fetch Word c.pc-address.result)
+    (kept-parts c.keep_page.ensures c.kernel.view_is)
+    ∙ ap (λ root. loaded (content_under s root) Fetch Word c.pc-address.result) own
     ∙ ap (λ (address : ℕ). loaded (content_of s c.args.thread) Fetch Word address) c.pc-address.ensures
 
-pub returns-else-address-eq0 : goal.returns-else-address-eq0
-returns-else-address-eq0 g c =
+pub returns-else-address-eq0-clause-value : goal.returns-else-address-eq0-clause-value
+returns-else-address-eq0-clause-value g c =
     let s = state_in g.S.SlotMap.slots g.S.SlotStore.memory c.args.kernel.now in
     let own = root-kernel g.S.SlotMap.slots g.S.SlotStore.memory c.args.thread c.root_of-root.result c.kernel.view_is c.root_of-root.ensures in
-    c.word.ensures ∙ ap (λ root. loaded (content_under s root) Fetch Word c.pc-address.result) own
+    c.word.ensures
+    ∙ ap (λ k. loaded (content_under (state_in g.S.SlotMap.slots g.S.SlotStore.memory k) c.root_of-root.result) Fetch Word c.pc-address.result)
+    (kept-parts c.keep_page.ensures c.kernel.view_is)
+    ∙ ap (λ root. loaded (content_under s root) Fetch Word c.pc-address.result) own
     ∙ ap (λ (address : ℕ). loaded (content_of s c.args.thread) Fetch Word address) c.pc-address.ensures

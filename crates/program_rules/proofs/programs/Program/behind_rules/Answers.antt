@@ -1,5 +1,5 @@
 -- A log that grows keeps what is noted.
-use Rattle.std.proofs.Common.{◌≡◌, ◌+◌, Option, IfOk, List, ap, subst}
+use Rattle.std.proofs.Common.{◌+◌, Option, List, ap, subst}
 use Rattle.measure.specs.Measures.{measure_of}
 use Rattle.model.specs.Acceptance.NotedStates.{NotedSlot}
 use Rattle.model.specs.Acceptance.PointRules.{call_edge, edge_rules, noted_at}
@@ -13,6 +13,7 @@ use Rattle.program_rules.specs.Kept.{IsRead}
 use Rattle.program_rules.specs.Programs.{thread_of}
 use Rattle.typestate.specs.Calls.{behind_with}
 use Rattle.typestate.specs.Logs.{KeepsParts}
+use Rattle.wellformed.specs.Answering.{Answers}
 
 pub way_behind-requires-clause-read : goal.way_behind-requires-clause-read
 way_behind-requires-clause-read c =
@@ -36,7 +37,7 @@ returns-clause-broken c =
     let t = thread_of c.args.self.now in
     let address = address_of c.args.self.now.space.thread.now c.args.point in
     let slots = c.args.self.now.slots.now in
-    subst (λ (x : Option Refusal). IfOk c.way_behind.result (λ b. b ≡ x))
+    subst (λ (x : Option Refusal). Answers x c.way_behind.result)
     (ap (λ (all : List NotedSlot). first_broken (edge_rules t.thread (point_of t c.args.point) (measure_of c.args.known.now.measure)
     (call_edge address c.args.known.now.bounds (behind_with all c.args.behind.now)) (noted_at image t (address + 4))))
     (c.in_ok-part.ensures.same slots c.args.self.now.rising))

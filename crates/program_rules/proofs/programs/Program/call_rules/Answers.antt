@@ -1,5 +1,5 @@
 -- By what the call leaves.
-use Rattle.std.proofs.Common.{◌≡◌, ◌∙◌, ◌+◌, Option, Some, None, option_map, IfOk, Ok, List, sym, ap, subst}
+use Rattle.std.proofs.Common.{◌∙◌, ◌+◌, Option, Some, None, option_map, Ok, List, sym, ap, subst}
 use Rattle.measure.specs.Measures.{measure_of}
 use Rattle.model.specs.Acceptance.NotedStates.{NotedSlot}
 use Rattle.model.specs.Acceptance.PointRules.{call_edge, edge_rules, noted_at}
@@ -15,10 +15,11 @@ use Rattle.typestate.specs.Calls.{left_with}
 use Rattle.typestate.specs.Calls.{behind_with}
 use Rattle.typestate.specs.Differences.{changed, slots_of}
 use Rattle.typestate.specs.Logs.{part_of}
+use Rattle.wellformed.specs.Answering.{Answers}
 
 pub returns-then-leaves_next-clause-broken : goal.returns-then-leaves_next-clause-broken
 returns-then-leaves_next-clause-broken c =
-    sym (c.leaves_next.ensures.call (state_by c.args.self.now.slots.now c.args.points.now.log c.args.known.now) c.if-leaves_next.true c.requires.known c.requires.is)
+    c.leaves_next.ensures.call (state_by c.args.self.now.slots.now c.args.points.now.log c.args.known.now) c.if-leaves_next.true c.requires.known c.requires.is
 
 pub returns-in-None-clause-broken : goal.returns-in-None-clause-broken
 returns-in-None-clause-broken c =
@@ -26,10 +27,10 @@ returns-in-None-clause-broken c =
     let t = thread_of c.args.self.now in
     let m = measure_of c.args.known.now.measure in
     let all = changed c.args.self.now.slots.now (part_of c.args.points.now.log c.args.known.now.part) in
-    sym (call-told image t c.args.point (state_by c.args.self.now.slots.now c.args.points.now.log c.args.known.now) None
+    call-told image t c.args.point (state_by c.args.self.now.slots.now c.args.points.now.log c.args.known.now) None
     c.requires.is
     (call-any image t c.args.point c.args.known.now.bounds m (slots_of c.slots-slots.result) all c.called.new.made.items c.in_ok-called.field-0 (c.slots-slots.ensures.slots ∙ c.requires.shown.same c.args.self.now.slots.now c.args.self.now.rising) (c.in_ok-called.ensures.left m)
-    ∙ ap (option_map (left_with all c.called.new.made.items)) c.in-None.is))
+    ∙ ap (option_map (left_with all c.called.new.made.items)) c.in-None.is)
 
 pub returns-clause-broken : goal.returns-clause-broken
 returns-clause-broken c =
@@ -43,7 +44,7 @@ returns-clause-broken c =
     let by : List NotedSlot → Option Refusal = λ changes.
     first_broken (edge_rules t.thread (point_of t c.args.point) m (call_edge (address_of t.thread c.args.point) bounds (behind_with (changed all changes) b))
     (noted_at image t (address_of t.thread c.args.point + 4))) in
-    subst (λ (x : Option Refusal). IfOk c.behind_rules.result (λ broken. broken ≡ x))
+    subst (λ (x : Option Refusal). Answers x c.behind_rules.result)
     (ap by c.deref.ensures.value
     ∙ sym (call-told image t c.args.point (state_by c.args.self.now.slots.now c.args.points.now.log c.args.known.now) (Some (Ok (behind_with (changed all made) b)))
     c.requires.is

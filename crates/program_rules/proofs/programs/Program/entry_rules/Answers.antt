@@ -7,6 +7,7 @@ use Rattle.model.specs.declared.refusals.Point.{Point}
 use Rattle.model.specs.declared.refusals.Refusal.TheVariants.{RangeNotKept}
 use Rattle.point_rules.specs.Points.{noted_of}
 use Rattle.program_rules.proofs.EachPoint.{has-part, kept-at}
+use Rattle.program_rules.proofs.Outcomes.{told}
 use Rattle.program_rules.proofs.PointLists.{at-entry}
 use Rattle.program_rules.proofs.programs.Program.entry_rules.Goals as goal
 use Rattle.program_rules.specs.Programs.{thread_of}
@@ -28,8 +29,8 @@ returns-in-Known c =
     let entry = ap (λ h. h.entry) c.header-entry.ensures in
     let within : c.header-entry.result.entry < length c.args.points.now.kept.items = omega (arith, count, entry, c.args.self.now.entry) in
     let is = kept-at image t c.args.self.now.slots.now c.args.points.now.log c.args.points.now.kept.items c.header-entry.result.entry c.index.result.now c.requires.read.noted within c.index.ensures in
-    c.entered.ensures image t refl (at-entry t c.header-entry.result.entry c.at.result entry c.at.ensures) c.args.self.now.listed
-    ∙ ap (λ (n : Noted). first_broken (entry_rules image t n)) (ap noted_of (sym c.in-Known.is) ∙ c.noted.ensures.noted c.args.points.now.log c.in_ok-shown.ensures.own ∙ is.same ∙ ap (noted image t) entry)
+    told _ c.entered.result (c.entered.ensures image t refl (at-entry t c.header-entry.result.entry c.at.result entry c.at.ensures) c.args.self.now.listed
+    ∙ ap (λ (n : Noted). first_broken (entry_rules image t n)) (ap noted_of (sym c.in-Known.is) ∙ c.noted.ensures.noted c.args.points.now.log c.in_ok-shown.ensures.own ∙ is.same ∙ ap (noted image t) entry))
 
 pub returns : goal.returns
 returns c =
@@ -42,6 +43,6 @@ returns c =
     let at = at-entry t c.header-entry.result.entry c.at-in-Missing.result entry c.at-in-Missing.ensures in
     let same = c.noted.ensures.noted c.args.points.now.log c.in_ok-shown.ensures.own ∙ is.same ∙ ap (noted image t) entry in
     elim c.in-Missing.is [
-      | inl missing ↦ ap (λ (p : Point). Some (RangeNotKept p)) at ∙ ap (λ (n : Noted). first_broken (entry_rules image t n)) (ap noted_of (sym missing) ∙ same)
-      | inr unmeasured ↦ ap (λ (p : Point). Some (RangeNotKept p)) at ∙ ap (λ (n : Noted). first_broken (entry_rules image t n)) (ap noted_of (sym unmeasured) ∙ same)
+      | inl missing ↦ inr (sym (ap (λ (p : Point). Some (RangeNotKept p)) at ∙ ap (λ (n : Noted). first_broken (entry_rules image t n)) (ap noted_of (sym missing) ∙ same)))
+      | inr unmeasured ↦ inr (sym (ap (λ (p : Point). Some (RangeNotKept p)) at ∙ ap (λ (n : Noted). first_broken (entry_rules image t n)) (ap noted_of (sym unmeasured) ∙ same)))
     ]

@@ -1,5 +1,5 @@
 -- By what is kept of the point.
-use Rattle.std.proofs.Common.{◌≡◌, ◌∙◌, ◌<◌, inl, inr, Option, IfOk, length, sym, ap, subst, arith}
+use Rattle.std.proofs.Common.{◌≡◌, ◌∙◌, ◌<◌, inl, inr, Option, length, sym, ap, subst, arith}
 use Rattle.model.specs.Acceptance.PointStates.{Known, Missing, Unmeasured, noted}
 use Rattle.model.specs.declared.refusals.Refusal.{Refusal}
 use Rattle.program_rules.proofs.EachPoint.{kept-at}
@@ -11,6 +11,7 @@ use Rattle.program_rules.specs.Kept.{IsCleanIn, IsSound, noted_by, state_by}
 use Rattle.program_rules.specs.Programs.{thread_of}
 use Rattle.program_rules.specs.declared.kept.Kept.{Kept}
 use Rattle.typestate.specs.Logs.{KeepsParts, ShowsSome}
+use Rattle.wellformed.specs.Answering.{Answers}
 
 pub state_rules-requires-clause-sound : goal.state_rules-requires-clause-sound
 state_rules-requires-clause-sound c =
@@ -38,7 +39,7 @@ returns-in_ok-show-in-Known-clause-broken c =
     let is = kept-at image t c.args.self.now.slots.now c.args.points.now.log c.args.points.now.kept.items c.args.point c.index.result.now c.requires.read.noted within c.index.ensures in
     let known : Known (state_by c.args.self.now.slots.now c.args.points.now.log c.in-Known.known) ≡ noted image t c.args.point =
     ap (noted_by c.args.self.now.slots.now c.args.points.now.log) (sym c.in-Known.is) ∙ is.same in
-    subst (λ (x : Option Refusal). IfOk c.state_rules.result (λ broken. broken ≡ x))
+    subst (λ (x : Option Refusal). Answers x c.state_rules.result)
     (noted-rules image t c.args.point (Known (state_by c.args.self.now.slots.now c.args.points.now.log c.in-Known.known)) known) c.state_rules.ensures.broken
 
 pub returns-in-Missing : goal.returns-in-Missing
@@ -50,8 +51,8 @@ returns-in-Missing c =
     let is = kept-at image t c.args.self.now.slots.now c.args.points.now.log c.args.points.now.kept.items c.args.point c.index.result.now c.requires.read.noted within c.index.ensures in
     record {
       broken = elim c.in-Missing.is [
-        | inl missing ↦ noted-rules image t c.args.point Missing (ap (noted_by c.args.self.now.slots.now c.args.points.now.log) (sym missing) ∙ is.same)
-        | inr unmeasured ↦ noted-rules image t c.args.point Unmeasured (ap (noted_by c.args.self.now.slots.now c.args.points.now.log) (sym unmeasured) ∙ is.same)
+        | inl missing ↦ sym (noted-rules image t c.args.point Missing (ap (noted_by c.args.self.now.slots.now c.args.points.now.log) (sym missing) ∙ is.same))
+        | inr unmeasured ↦ sym (noted-rules image t c.args.point Unmeasured (ap (noted_by c.args.self.now.slots.now c.args.points.now.log) (sym unmeasured) ∙ is.same))
       ];
       read = c.requires.read;
       shown = c.requires.some;

@@ -3,7 +3,8 @@ use Rattle.std.proofs.Common.{◌∙◌, ◌+◌, is_some, List, ap, refl, sym, 
 use Rattle.model.specs.Acceptance.PointRules.{point_rules}
 use Rattle.model.specs.Images.Image.{StateRecord}
 use Rattle.program_rules.proofs.NextRecords.{AreLeft, all-left, next-record, no-record}
-use Rattle.program_rules.proofs.PointLists.{broken-any, none-of, one-more-kept}
+use Rattle.program_rules.proofs.Outcomes.{passed-on}
+use Rattle.program_rules.proofs.PointLists.{one-more-kept, refused-here}
 use Rattle.program_rules.proofs.programs.Program.points_rules.Goals as goal
 use Rattle.program_rules.specs.Left.{behind, taken}
 use Rattle.program_rules.specs.Programs.{thread_of}
@@ -17,20 +18,21 @@ pub point_rules-requires-clause-noted : goal.point_rules-requires-clause-noted
 point_rules-requires-clause-noted c =
     c.as_ref.ensures.value ∙ c.take-noted.ensures.record ∙ sym (next-record c.args.self.now.space.thread.now c.rules.point c.rules.records c.rules.invariant.1).0
 
-pub returns-then-is_some : goal.returns-then-is_some
-returns-then-is_some c =
-    broken-any (point_rules c.args.self.now.space.image.now (thread_of c.args.self.now)) c.rules.point c.args.self.now.space.thread.now.header.words
-    c.in_ok-broken.broken c.rules.invariant.2 (omega (arith, c.rules-test.true, c.word_count-point-end.ensures.value)) c.in_ok-broken.ensures.broken (sym c.is_some.ensures ∙ c.if-is_some.true)
+pub returns-in_err-point_rules : goal.returns-in_err-point_rules
+returns-in_err-point_rules c =
+    passed-on _ c.from_residual.result c.in_err-point_rules.field-0.0 c.from_residual.ensures.1
+    (refused-here (point_rules c.args.self.now.space.image.now (thread_of c.args.self.now)) c.rules.point c.args.self.now.space.thread.now.header.words
+    c.in_err-point_rules.field-0.0 c.rules.invariant.2 (omega (arith, c.rules-test.true, c.word_count-point-end.ensures.value)) c.in_err-point_rules.ensures.broken)
 
 pub rules-preserved : goal.rules-preserved
 rules-preserved c =
     let image = c.args.self.now.space.image.now in
     let t = thread_of c.args.self.now in
     let own = c.args.self.now.space.thread.now in (
-      c.in_ok-broken.ensures.read,
+      c.in_ok-point_rules.ensures.read,
       subst (λ (rs : List StateRecord). AreLeft own (c.rules.point + 1) rs) (sym c.take-noted.ensures.left) (next-record own c.rules.point c.rules.records c.rules.invariant.1).1,
-      one-more-kept (point_rules image t) c.rules.point c.rules.invariant.2 (sym c.in_ok-broken.ensures.broken ∙ none-of c.in_ok-broken.broken (sym c.is_some.ensures ∙ c.if-is_some.false)),
-      c.in_ok-broken.ensures.shown,
+      one-more-kept (point_rules image t) c.rules.point c.rules.invariant.2 c.in_ok-point_rules.ensures.broken,
+      c.in_ok-point_rules.ensures.shown,
     )
 
 pub point_rules-requires-clause-next : goal.point_rules-requires-clause-next

@@ -1,5 +1,5 @@
 -- The edge of the code is that of the rules.
-use Rattle.std.proofs.Common.{ℕ, ◌≡◌, ◌∙◌, ◌+◌, Option, IfOk, List, refl, ap, subst}
+use Rattle.std.proofs.Common.{ℕ, ◌≡◌, ◌∙◌, ◌+◌, Option, List, refl, ap, subst}
 use Rattle.measure.specs.Measures.{measure_of}
 use Rattle.model.specs.Acceptance.Measures.{call_form}
 use Rattle.model.specs.Acceptance.NotedStates.{NotedSlot}
@@ -11,6 +11,7 @@ use Rattle.model.specs.declared.refusals.Point.{Point}
 use Rattle.model.specs.declared.refusals.Refusal.{Refusal}
 use Rattle.program_rules.proofs.programs.Program.way_behind.Goals as goal
 use Rattle.program_rules.specs.Programs.{thread_of}
+use Rattle.wellformed.specs.Answering.{Answers}
 
 pub returns : goal.returns
 returns c =
@@ -24,6 +25,6 @@ returns c =
     first_broken (edge_rules t.thread at (measure_of c.args.known.now.measure) (edge all written) (noted_at image t n)) in
     let at : c.at-at.result ≡ point_of t c.args.point = c.at-at.ensures in
     let same = c.slots.ensures.slots ∙ c.requires.shown.same c.args.self.now.slots.now c.args.self.now.rising in
-    subst (λ (x : Option Refusal). IfOk c.way_to.result (λ b. b ≡ x))
+    subst (λ (x : Option Refusal). Answers x c.way_to.result)
     (λ i. broken (at i) (same i) (c.registers_of.ensures i) (ap (λ (n : ℕ). n + 4) c.address-next.ensures i))
     (c.way_to.ensures t.thread next refl)

@@ -1,5 +1,5 @@
 -- The way of the code is that of the rules.
-use Rattle.std.proofs.Common.{◌≡◌, ◌∙◌, if◌then◌else◌, Option, IfOk, List, refl, sym, ap, subst}
+use Rattle.std.proofs.Common.{◌≡◌, ◌∙◌, if◌then◌else◌, Option, List, refl, sym, ap, subst}
 use Rattle.measure.specs.Measures.{measure_of}
 use Rattle.measure.specs.Steps.{value_behind}
 use Rattle.model.specs.Acceptance.Measures.{behind_form}
@@ -15,6 +15,7 @@ use Rattle.program_rules.specs.PointChecks.{is_branch}
 use Rattle.program_rules.specs.Programs.{thread_of}
 use Rattle.ranges.specs.declared.edges.Edge.{Edge as Way}
 use Rattle.typestate.specs.Differences.{slots_of}
+use Rattle.wellformed.specs.Answering.{Answers}
 
 pub returns : goal.returns
 returns c = λ edge is before.
@@ -28,7 +29,7 @@ returns c = λ edge is before.
     let target : c.args.way.now.target ≡ edge.target = ap (λ (w : Way). w.target) (sym is) in
     let first : c.before-2.result.now ≡ edge.before = c.before-2.ensures ∙ ap (λ (r : List Range). if is_branch instr then r else bounds) ranges ∙ sym before in
     let at : c.at-at.result ≡ point_of t c.args.point = c.at-at.ensures in
-    subst (λ (x : Option Refusal). IfOk c.way_to.result (λ b. b ≡ x))
+    subst (λ (x : Option Refusal). Answers x c.way_to.result)
     (same-rules t.thread c.at-at.result (point_of t c.args.point) m edge.target c.before-2.result.now edge.before c.args.way.now.bounds edge.ranges
     slots (value_behind c.new-step.result) (behind_form instr edge.before edge.ranges) (noted_at image t c.args.way.now.target) (noted_at image t edge.target)
     at first ranges (λ k. c.new-step.ensures k ∙ (λ i. behind_form instr (first i) (ranges i) k)) (ap (noted_at image t) target)

@@ -3,7 +3,7 @@ use Rattle.std.proofs.Common.{◌≡◌, drop}
 use Rattle.model.specs.Acceptance.PointRules.{program_rules}
 use Rattle.model.specs.Acceptance.Rules.{first_broken}
 use Rattle.program_rules.proofs.ThreadsLeft.{rules_from}
-use Rattle.program_rules.proofs.checking.broken.Given as goal
+use Rattle.program_rules.proofs.checking.check_programs.Given as goal
 
 abbrev pub invariant-threads : goal.invariant-threads
 invariant-threads l = record {

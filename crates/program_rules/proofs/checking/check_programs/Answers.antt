@@ -4,8 +4,9 @@ use Rattle.std.proofs.lemmas.Option.{slice_get_within}
 use Rattle.model.specs.Acceptance.PointRules.{program_rules}
 use Rattle.model.specs.Acceptance.Rules.{first_broken}
 use Rattle.model.specs.Images.Image.{Thread}
-use Rattle.program_rules.proofs.ThreadsLeft.{head-of, next-kept, one-broken, rules_from}
-use Rattle.program_rules.proofs.checking.broken.Goals as goal
+use Rattle.program_rules.proofs.Outcomes.{passed-on}
+use Rattle.program_rules.proofs.ThreadsLeft.{head-of, next-kept, one-refused, rules_from}
+use Rattle.program_rules.proofs.checking.check_programs.Goals as goal
 
 pub threads-init : goal.threads-init
 unfolding program_rules
@@ -16,15 +17,16 @@ threads-init c =
       left = ap (λ (ts : List Thread). first_broken (rules_from c.args.image.now 0 ts)) same;
     }
 
-pub broken_by-requires-clause-listed : goal.broken_by-requires-clause-listed
-broken_by-requires-clause-listed c =
+pub check_program-requires-clause-listed : goal.check_program-requires-clause-listed
+check_program-requires-clause-listed c =
     (head-of c.threads.number c.args.image.now.threads c.next.new.self c.in-Some.thread (c.threads.invariant.rest ∙ c.in-Some.ensures.steps)).0
 
-pub returns-then-is_some : goal.returns-then-is_some
-returns-then-is_some c =
-    one-broken c.args.image.now c.threads.number c.in-Some.thread c.next.new.self (first_broken (program_rules c.args.image.now)) c.in_ok-broken.broken
-    (sym c.is_some.ensures ∙ c.if-is_some.true) c.in_ok-broken.ensures
-    (ap (λ (ts : List Thread). first_broken (rules_from c.args.image.now c.threads.number ts)) (sym c.in-Some.ensures.steps) ∙ c.threads.invariant.left)
+pub returns-in_err-check_program : goal.returns-in_err-check_program
+returns-in_err-check_program c =
+    let refusal = c.in_err-check_program.field-0.0 in
+    passed-on _ c.from_residual-in_err-check_program.result refusal c.from_residual-in_err-check_program.ensures.1
+    (one-refused c.args.image.now c.threads.number c.in-Some.thread c.next.new.self (first_broken (program_rules c.args.image.now)) refusal c.in_err-check_program.ensures
+    (ap (λ (ts : List Thread). first_broken (rules_from c.args.image.now c.threads.number ts)) (sym c.in-Some.ensures.steps) ∙ c.threads.invariant.left))
 
 pub overflow_add-number : goal.overflow_add-number
 overflow_add-number c =
@@ -40,7 +42,6 @@ threads-preserved c =
     let here = head-of c.threads.number c.args.image.now.threads c.next.new.self c.in-Some.thread (c.threads.invariant.rest ∙ c.in-Some.ensures.steps) in
     record {
       rest = here.1;
-      left = next-kept c.args.image.now c.threads.number c.in-Some.thread c.next.new.self (first_broken (program_rules c.args.image.now)) c.in_ok-broken.broken
-          (sym c.is_some.ensures ∙ c.if-is_some.false) c.in_ok-broken.ensures
+      left = next-kept c.args.image.now c.threads.number c.in-Some.thread c.next.new.self (first_broken (program_rules c.args.image.now)) c.in_ok-check_program.ensures
           (ap (λ (ts : List Thread). first_broken (rules_from c.args.image.now c.threads.number ts)) (sym c.in-Some.ensures.steps) ∙ c.threads.invariant.left);
     }

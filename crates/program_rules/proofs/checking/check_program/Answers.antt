@@ -6,7 +6,7 @@ use Rattle.format_laws.specs.Fitting.{CertificateFits}
 use Rattle.model.specs.Acceptance.Accepted.{IsWellFormed}
 use Rattle.model.specs.Acceptance.NotedStates.{NotedSlot, image_slots}
 use Rattle.model.specs.Images.Image.{Image, Thread}
-use Rattle.program_rules.proofs.checking.broken_by.Goals as goal
+use Rattle.program_rules.proofs.checking.check_program.Goals as goal
 use Rattle.thread_spaces.specs.Given.{IsListed}
 use Rattle.typestate.proofs.Laws.{image-unlinked}
 use Rattle.typestate.specs.Orders.{Rise}

@@ -1,0 +1,47 @@
+-- The thread is there, and what is left is whole.
+use Rattle.std.proofs.Common.{◌∙◌, rules, subst, sym}
+use Rattle.kernel_invariant.specs.Wholeness.{IsWhole}
+use Rattle.model.specs.declared.capabilities.Cap.TheVariants.{Tcb}
+use Rattle.object_lifetimes.proofs.Laws.{kept}
+use Rattle.vspace.specs.Tables.{Holds}
+use Rattle.object_lifetimes.specs.Kernels.{state_in}
+use Rattle.objects.proofs.Laws.{objects-then}
+use Rattle.objects.specs.Frames.{SameObjects}
+use Rattle.objects.specs.Tables.{state_of}
+use Rattle.soundness.proofs.Laws.{resume-machine, resume-whole}
+use Rattle.tcb_ops.proofs.ThreadsNear.{held-inside, thread-there}
+use Rattle.tcb_ops.proofs.threads.resume.Goals as goal
+
+pub leave-requires : goal.leave-requires
+leave-requires g c =
+    let whole = subst (λ k. IsWhole k.objects (g.S.SlotMap.slots k.store) (g.S.SlotStore.memory k.store)) (sym c.kernel-inside.view_is) c.kernel.invariant in
+    let held = subst (λ k. Holds (g.S.SlotMap.slots k.store) (Tcb c.args.thread)) (sym c.kernel-inside.view_is)
+    (held-inside g.S.SlotMap.slots c.args.thread c.kernel.view_is c.requires.held) in
+    let there = thread-there _ _ _ c.args.thread whole held in
+    record { there = there; stands = whole.stands }
+
+pub wake-requires : goal.wake-requires
+wake-requires g c =
+    let whole = subst (λ k. IsWhole k.objects (g.S.SlotMap.slots k.store) (g.S.SlotStore.memory k.store)) (sym c.kernel-inside.view_is) c.kernel.invariant in
+    let held = subst (λ k. Holds (g.S.SlotMap.slots k.store) (Tcb c.args.thread)) (sym c.kernel-inside.view_is)
+    (held-inside g.S.SlotMap.slots c.args.thread c.kernel.view_is c.requires.held) in
+    let there = thread-there _ _ _ c.args.thread whole held in
+    record { there = c.leave.ensures.bytes.kinds c.args.thread ∙ there; stands = c.leave.ensures.stands }
+
+pub invariant_of-kernel : goal.invariant_of-kernel
+invariant_of-kernel g c =
+    let whole = subst (λ k. IsWhole k.objects (g.S.SlotMap.slots k.store) (g.S.SlotStore.memory k.store)) (sym c.kernel-inside.view_is) c.kernel.invariant in
+    let held = subst (λ k. Holds (g.S.SlotMap.slots k.store) (Tcb c.args.thread)) (sym c.kernel-inside.view_is)
+    (held-inside g.S.SlotMap.slots c.args.thread c.kernel.view_is c.requires.held) in
+    let there = thread-there _ _ _ c.args.thread whole held in
+    kept _ _ _ _ _ _ _ whole (search rules) (resume-whole _ whole.sound c.args.thread there) (resume-machine _ c.args.thread)
+    (objects-then _ _ _ _ _ _ c.leave.ensures.bytes c.wake.ensures.bytes) c.wake.ensures.stands
+
+pub returns-in-Inactive : goal.returns-in-Inactive
+returns-in-Inactive g c =
+    let t = c.wake.new in
+    let now = state_of t.self (g.S.SlotMap.slots t.store) (g.S.SlotStore.memory t.store) in
+    let bytes = subst (λ k. SameObjects (state_in g.S.SlotMap.slots g.S.SlotStore.memory k) now (g.S.SlotStore.memory k.store) (g.S.SlotStore.memory t.store)) c.kernel.view_is
+    (subst (λ k. SameObjects (state_of k.objects (g.S.SlotMap.slots k.store) (g.S.SlotStore.memory k.store)) now (g.S.SlotStore.memory k.store) (g.S.SlotStore.memory t.store))
+    c.kernel-inside.view_is (objects-then _ _ _ _ _ _ c.leave.ensures.bytes c.wake.ensures.bytes)) in
+    record { state = search rules; beside = record { order = search rules; bytes = bytes } }
