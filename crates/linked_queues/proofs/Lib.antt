@@ -1,3 +1,4 @@
+mod Beginnings
 mod Changing
 mod EndingQueues
 mod Frames

@@ -1,11 +1,11 @@
 -- The laws of this crate on what stays of queues, where other bytes change, and where threads and objects come and go that stand in no queue.
-use Rattle.std.specs.Prelude.{ℕ, ◌≡◌, ◌<◌, ◌⊎◌, Bool, true, Option, Some, None, List, length, slice_index}
+use Rattle.std.specs.Prelude.{ℕ, ◌≡◌, ◌+◌, ◌<◌, ◌≤◌, ◌⊎◌, Bool, true, false, Option, Some, None, List, [], length, slice_index}
 use Rattle.model.specs.Capabilities.Slots.{Slots}
 use Rattle.model.specs.Shared.Lists.{times_in}
 use Rattle.linked_queues.specs.Layout.{AreLaidOut, Places}
 use Rattle.linked_queues.specs.Queues.{IsHeadByte, IsLinkByte, QueuesStand, SameBesideWaiting, queue_of}
-use Rattle.linked_queues.specs.Ready.{ReadyStands, SameBesideReady, ready_of}
-use Rattle.linked_queues.specs.Words.{end_in, link_in}
+use Rattle.linked_queues.specs.Ready.{ReadyStands, SameBesideReady, nobody, ready_of}
+use Rattle.linked_queues.specs.Words.{end_at, end_in, link_at, link_in, with_ends, without_links}
 use Rattle.linked_queues.specs.declared.words.Ends.{Ends}
 
 -- a thread is as it was, with the bytes of its links, or it stands in no queue before and after
@@ -62,3 +62,26 @@ pub record KindsApart : Type 0 where
   pub waited : (p : Places) (memory : List ℕ) → QueuesStand p memory → (queue thread : ℕ) → 0 < times_in (queue_of p memory queue) thread
       → (head : ℕ) × (p.heads queue ≡ Some head)
   pub runners : (p : Places) (ends : List Ends) (memory : List ℕ) → ReadyStands p ends memory → AreThreadsIn p (ready_of p ends memory)
+
+-- who stands in no queue has no links there, and where nobody waits, the object names nobody
+pub record NobodyNamed : Type 0 where
+  pub idle : (p : Places) (memory : List ℕ) (thread : ℕ) → QueuesStand p memory → ((queue : ℕ) → times_in (queue_of p memory queue) thread ≡ 0)
+      → link_in 244 p.threads memory 0 thread ≡ None
+  pub unready : (p : Places) (ends : List Ends) (memory : List ℕ) (thread : ℕ) → ReadyStands p ends memory
+      → ((priority : ℕ) → times_in (ready_of p ends memory priority) thread ≡ 0) → link_in 256 p.threads memory 0 thread ≡ None
+  pub empty : (p : Places) (memory : List ℕ) (queue : ℕ) → QueuesStand p memory → queue_of p memory queue ≡ [] → (k : ℕ) → k < 2 → end_in p.heads memory k queue ≡ None
+
+-- a thread, or an object at which threads may wait, begins with nobody named
+pub record BeginsEmpty : Type 0 where
+  pub size : (memory : List ℕ) (thread : ℕ) → thread + 512 ≤ length memory → length (without_links memory thread) ≡ length memory
+  pub waits : (memory : List ℕ) (thread : ℕ) → thread + 512 ≤ length memory → link_at 244 (without_links memory thread) thread 0 ≡ None
+  pub ready : (memory : List ℕ) (thread : ℕ) → thread + 512 ≤ length memory → link_at 256 (without_links memory thread) thread 0 ≡ None
+  pub bytes : (memory : List ℕ) (thread place : ℕ) → thread + 512 ≤ length memory → (IsLinkByte 244 thread place → ⊥) → (IsLinkByte 256 thread place → ⊥)
+      → slice_index (without_links memory thread) place ≡ slice_index memory place
+  pub head_size : (memory : List ℕ) (head : ℕ) → head + 8 ≤ length memory → length (with_ends memory head nobody) ≡ length memory
+  pub head : (memory : List ℕ) (head k : ℕ) → head + 8 ≤ length memory → k < 2 → end_at (with_ends memory head nobody) head k ≡ None
+  pub head_bytes : (memory : List ℕ) (head place : ℕ) → head + 8 ≤ length memory → (IsHeadByte head place → ⊥)
+      → slice_index (with_ends memory head nobody) place ≡ slice_index memory place
+  -- and before anything begins, nobody is there
+  pub none : (p : Places) (memory : List ℕ) → ((offset : ℕ) → p.threads offset ≡ false) → ((offset : ℕ) → p.heads offset ≡ None) → QueuesStand p memory
+  pub no_queue : (p : Places) (memory : List ℕ) → ((offset : ℕ) → p.heads offset ≡ None) → (queue : ℕ) → queue_of p memory queue ≡ []

@@ -11,5 +11,7 @@ mod words;
 
 pub use layout::Layout;
 pub use linking::{begin_head, begin_thread};
-pub use queue_laws::{kinds_stand_apart, ready_stays, waiting_stays};
+pub use queue_laws::{
+    kinds_stand_apart, nobody_is_named, objects_begin_empty, ready_stays, waiting_stays,
+};
 pub use ready::ReadyList;
