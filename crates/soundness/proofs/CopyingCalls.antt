@@ -17,11 +17,11 @@ use Rattle.model.specs.Kernel.Retype.{NewThread}
 use Rattle.model.specs.Kernel.Soundness.{IsSound, ThreadIsSound}
 use Rattle.model.specs.Kernel.State.{State, ThreadObject, ThreadState, binding_slot, cspace_slot, holds_some, thread_at, vspace_slot, with_slots, with_thread}
 use Rattle.model.specs.Kernel.ThreadCalls.{configure, given_guard_fits, with_guard}
-use Rattle.soundness.specs.Calls.{IsCall, IsInvoked, IsRoot, held, boot}
+use Rattle.soundness.specs.Calls.{IsCall, IsInvoked, held, boot}
 use Rattle.soundness.proofs.CNodeCalls.{room-below}
 use Rattle.soundness.proofs.Copies.{IsAlike, IsQuiet, alike-same, bindable, cnode-quiet, no-badge, payload-alike, payload-cnode, payload-mapping, payload-valid, root-quiet}
 use Rattle.soundness.proofs.Inserted.{Inserts, empty-open, inserted-depth, inserted-other, inserted-sound}
-use Rattle.soundness.proofs.Lookups.{check-passes, destination-plain, passes-both, source-plain, wanted-some}
+use Rattle.soundness.proofs.Lookups.{check-passes, destination-plain, passes-both, source-full, wanted-some}
 use Rattle.soundness.proofs.Places.{StandsIn, cspace-may_hold, line-may_hold, line-open, may-still, own-slot_open, plain-may_hold, plain-open, thread-slot, vspace-may_hold}
 use Rattle.soundness.proofs.Rest.{thread-kind}
 use Rattle.soundness.proofs.ThreadCalls.{fine-of, same-whole}
@@ -186,9 +186,8 @@ address-fine t address fine less = record {
 }
 
 pub configure-whole : (s t : State) (root : Cap) (thread : ℕ) (guard : Option ℕ) (address : ℕ) (cspace_name vspace_name : SlotName)
-    → IsSound s → IsRoot s root
-    → kind_at s thread ≡ Some NewThread → address < 2 ^ 32 → configure s root thread guard address cspace_name vspace_name ≡ Ok t → IsSound t
-configure-whole s t root thread guard address cspace_name vspace_name whole is_root is_thread less is =
+    → IsSound s → kind_at s thread ≡ Some NewThread → address < 2 ^ 32 → configure s root thread guard address cspace_name vspace_name ≡ Ok t → IsSound t
+configure-whole s t root thread guard address cspace_name vspace_name whole is_thread less is =
     let one = passes-both (source_slot s.slots root cspace_name) _ t is in
     let cspace = one.value in
     let two = passes-both (wanted (cnode_of (capability_at s.slots cspace)) InvalidCapability) _ t one.rest in
@@ -209,8 +208,8 @@ configure-whole s t root thread guard address cspace_name vspace_name whole is_r
       is_cnode = wanted-some (cnode_of (capability_at s.slots cspace)) InvalidCapability two.value two.first;
       root = four.value;
       is_root = wanted-some (root_of (capability_at s.slots vspace)) InvalidCapability four.value four.first;
-      first_full = (source-plain s whole.memory root cspace_name cspace is_root one.first).1;
-      second_full = (source-plain s whole.memory root vspace_name vspace is_root three.first).1;
+      first_full = source-full s.slots root cspace_name cspace one.first;
+      second_full = source-full s.slots root vspace_name vspace three.first;
       first_free = not-true (is_full s.slots (cspace_slot thread)) free.0;
       second_free = not-true (is_full s.slots (vspace_slot thread)) free.1;
       fits = check-passes (given_guard_fits (capability_at s.slots cspace) guard) IllegalOperation six.value six.first;

@@ -62,7 +62,7 @@ module _ (s t : State) (call : Call) (words : List ℕ) (whole : IsSound s) (is_
       let at = invoked-at s call (Tcb thread) is_call.invoked is refl in
       let is_thread : kind_at s thread ≡ Some NewThread = whole.memory.named call.slot NewThread thread (ap object_named (IsAt.at at)) in
       chosen Does (label == configure_label) _ _ form
-      (λ so. configure-whole s t call.root thread None (word words 0) (slot_name words 1) (slot_name words 3) whole is_call.root is_thread (word-less 0) so)
+      (λ so. configure-whole s t call.root thread None (word words 0) (slot_name words 1) (slot_name words 3) whole is_thread (word-less 0) so)
       (chosen Does (label == set_priority_label) _ _ form (λ so. set_priority-whole s whole thread is_thread t (word words 0) so)
       (chosen Does (label == set_register_label) _ _ form (λ so. set_register-whole s whole thread is_thread t call.caller (word words 0) (word words 1) (word-less 1) so)
       (chosen Does (label == resume_label) _ _ form (λ so. done (resume s thread) so (resume-whole s whole thread is_thread))

@@ -9,7 +9,7 @@ pub use Rattle.soundness.proofs.Events.{acknowledge-whole, fault-whole, raise-wh
 pub use Rattle.soundness.proofs.FreshMachines.{fresh-sound}
 pub use Rattle.soundness.proofs.Inserted.{empty-capability, empty-open}
 pub use Rattle.soundness.proofs.Loading.{made-whole}
-pub use Rattle.soundness.proofs.Lookups.{check-passes, destination-plain, passes-both, source-plain, wanted-some}
+pub use Rattle.soundness.proofs.Lookups.{check-passes, destination-plain, passes-both, source-full, source-plain, wanted-some}
 pub use Rattle.soundness.proofs.Machines.{acknowledge-machine, answered-machine, fault-machine, passes-machine, poll-machine, raise-machine, receive-machine, reply-machine, resume-machine, send-machine, signal-machine, suspend-machine, then-machine, tick-machine, try_to_receive-machine, try_to_send-machine, wait-machine, with_priority-machine, with_register-machine, yielded-machine}
 pub use Rattle.soundness.proofs.MappingCalls.{IsAt, frame-sound, invoked-at, table-sound}
 pub use Rattle.soundness.proofs.Messages.{poll-whole, receive-whole, reply-whole, running-object, signal-whole, try_to_receive-whole, wait-whole}

@@ -68,7 +68,7 @@ guarded-whole s t call words whole is_call small is =
     let tcb = tcb-of call.capability thread (wanted-some (thread_of call.capability) IllegalOperation thread one.first) in
     let at = invoked-at s call (Tcb thread) is_call.invoked tcb refl in
     let is_thread : kind_at s thread ≡ Some NewThread = whole.memory.named call.slot NewThread thread (ap object_named (IsAt.at at)) in
-    configure-whole s t call.root thread (Some (word words 5)) (word words 0) (slot_name words 1) (slot_name words 3) whole is_call.root is_thread (read-less words 0 small) two.rest
+    configure-whole s t call.root thread (Some (word words 5)) (word words 0) (slot_name words 1) (slot_name words 3) whole is_thread (read-less words 0 small) two.rest
 
 pub made-whole : (s t : State) (c : LoaderCall) → IsSound s → All (λ word. word < 2 ^ 32) c.words → made s c ≡ Ok t → IsSound t
 unfolding made

@@ -10,7 +10,7 @@ use Rattle.model.specs.declared.invocations.SlotName.{SlotName}
 use Rattle.model.specs.declared.lookup_failures.LookupFailure.{LookupFailure}
 use Rattle.model.specs.declared.lookup_failures.LookupFailure.TheVariants.{DepthMismatch, GuardMismatch, InvalidRoot}
 use Rattle.model.specs.Capabilities.Lookup.{go_on, is_cnode, lookup, lookup_within, resolve}
-use Rattle.model.specs.Capabilities.Slots.{IsFull, capability_at, is_full}
+use Rattle.model.specs.Capabilities.Slots.{IsFull, Slots, capability_at, is_full}
 use Rattle.model.specs.Kernel.Arguments.{◌>>=◌, argument_slot, check, destination_slot, source_slot, wanted, whole}
 use Rattle.model.specs.Kernel.Kinds.{object_named}
 use Rattle.model.specs.Kernel.Retype.{NewCNode}
@@ -37,6 +37,14 @@ check-passes false error u is = let e : ◌≡◌ {A = Result (Unit {0}) KError}
 pub wanted-some : {A : Type 0} (o : Option A) (error : KError) (value : A) → wanted o error ≡ Ok value → o ≡ Some value
 wanted-some (Some x) error value is = let e : x ≡ value = cc in ap Some e
 wanted-some {A} None error value is = let e : ◌≡◌ {A = Result A KError} (Err error) (Ok value) = is in absurd cc
+
+-- a source is full, whatever it is looked up from
+pub source-full : (slots : Slots) (root : Cap) (name : SlotName) (slot : ℕ) → source_slot slots root name ≡ Ok slot → IsFull slots slot
+source-full slots root name slot is =
+    let one = passes-both (argument_slot slots root name) (λ found. check (is_full slots found) FailedLookup >>= λ _. Ok found) slot is in
+    let two = passes-both (check (is_full slots one.value) FailedLookup) (λ _. Ok one.value) slot one.rest in
+    let e : one.value ≡ slot = cc two.rest in
+    subst (IsFull slots) e (check-passes (is_full slots one.value) FailedLookup two.value two.first)
 
 -- ---- lookups
 
@@ -139,5 +147,5 @@ module _ (s : State) (memory : MemoryIsSound s) where
       let tested = passes-both (check (is_full s.slots parts.value) FailedLookup) (λ _. Ok parts.value) slot parts.rest in
       let e : parts.value ≡ slot = cc tested.rest in (
         argument-plain root name slot is_root (parts.first ∙ ap (λ (x : ℕ). Ok x) e),
-        subst (λ (x : ℕ). is_full s.slots x ≡ true) e (check-passes (is_full s.slots parts.value) FailedLookup tested.value tested.first),
+        source-full s.slots root name slot is,
       )

@@ -103,7 +103,7 @@ TableCallsKeepSoundness =
 abbrev pub ConfigureKeepsSoundness : Type 0
 ConfigureKeepsSoundness =
     (s t : State) (root : Cap) (thread : ℕ) (guard : Option ℕ) (fault_address : ℕ) (cspace vspace : SlotName)
-    → IsSound s → IsRoot s root → kind_at s thread ≡ Some NewThread → fault_address < 2 ^ 32
+    → IsSound s → kind_at s thread ≡ Some NewThread → fault_address < 2 ^ 32
     → configure s root thread guard fault_address cspace vspace ≡ Ok t → IsSound t
 
 abbrev pub GetHandlerKeepsSoundness : Type 0

@@ -13,7 +13,7 @@ use Rattle.model.specs.declared.capabilities.Cap.{Cap}
 use Rattle.model.specs.declared.errors.KError.{KError}
 use Rattle.model.specs.declared.errors.KError.TheVariants.{DeleteFirst, FailedLookup, IllegalOperation, InvalidCapability}
 use Rattle.model.specs.declared.invocations.SlotName.{SlotName}
-use Rattle.soundness.proofs.Laws.{check-passes, empty-open, own-slot_open, passes-both, room-below, thread-kind, thread-slot, wanted-some}
+use Rattle.soundness.proofs.Laws.{check-passes, empty-open, own-slot_open, passes-both, room-below, source-full, thread-kind, thread-slot, wanted-some}
 use Rattle.tcb_ops.specs.Configuring.{MayConfigure, cnode_source, room_for_spaces, root_source, sources, spaces_put}
 use Rattle.tcb_ops.specs.declared.spaces.Sources.{Sources}
 
@@ -65,13 +65,6 @@ configure-passes s root thread guard fault_address cspace_name vspace_name from 
     ∙ ap (λ (r : Result Sources KError). r >>= λ from. Ok (configured s thread guard fault_address from)) (sym is)
 
 -- ---- what the checks say
-
-source-full : (slots : Slots) (root : Cap) (name : SlotName) (slot : ℕ) → source_slot slots root name ≡ Ok slot → IsFull slots slot
-source-full slots root name slot is =
-    let one = passes-both (argument_slot slots root name) (λ found. check (is_full slots found) FailedLookup >>= λ _. Ok found) slot is in
-    let two = passes-both (check (is_full slots one.value) FailedLookup) (λ _. Ok one.value) slot one.rest in
-    let e : one.value ≡ slot = cc two.rest in
-    subst (IsFull slots) e (check-passes (is_full slots one.value) FailedLookup two.value two.first)
 
 -- a source that is full and of the wanted kind
 record Wanted {B : Type 0} (slots : Slots) (kind : Cap → Option B) (slot : ℕ) : Type 0 where

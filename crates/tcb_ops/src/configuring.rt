@@ -2,10 +2,11 @@
 
 ghost use Rattle.std.specs.Prelude.{◌≡◌, ◌+◌, ◌/◌, ◌^◌, ◌<◌, OnErr};
 ghost use Rattle.model.specs.Kernel.Outcomes.{GivesState};
+ghost use Rattle.model.specs.Capabilities.CapabilityWords.{IsCapability};
 ghost use Rattle.model.specs.Capabilities.Slots.{SameOutside};
+ghost use Rattle.model.specs.Kernel.Soundness.{IsSound};
 ghost use Rattle.model.specs.Kernel.ThreadCalls.{configure};
 ghost use Rattle.object_lifetimes.specs.Kernels.{state_in};
-ghost use Rattle.soundness.specs.Calls.{IsRoot};
 ghost use Rattle.tcb_ops.specs.Configuring.{MayConfigure, spaces_put};
 ghost use Rattle.vspace.specs.Tables.{Holds};
 
@@ -45,7 +46,7 @@ pub fn configure<S: SlotStore>(
     thread: u32,
     spaces: Spaces,
 ) -> Result<(), KError>
-    requires root { IsRoot (state_in S.slots S.memory kernel.old) root }
+    requires valid { IsSound (state_in S.slots S.memory kernel.old) → IsCapability root }
     requires held { Holds (S.slots kernel.old.store) (Cap.Tcb thread) }
     ensures outcome { GivesState
         (configure (state_in S.slots S.memory kernel.old) root thread spaces.guard spaces.fault_address spaces.cspace spaces.vspace)

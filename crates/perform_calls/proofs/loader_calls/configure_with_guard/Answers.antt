@@ -3,7 +3,7 @@ use Rattle.std.proofs.Common.{◌∙◌, Result, subst, sym}
 use Rattle.model.specs.Kernel.Outcomes.{GivesState}
 use Rattle.objects.specs.Tables.{state_of}
 use Rattle.perform_calls.proofs.Guarded.{guarded-long, guarded-none, guarded-short, tcb-of}
-use Rattle.perform_calls.proofs.Roots.{thread-held}
+use Rattle.perform_calls.proofs.Roots.{root-valid, thread-held}
 use Rattle.perform_calls.proofs.loader_calls.configure_with_guard.Goals as goal
 use Rattle.perform_calls.specs.Calls.{call_of}
 use Rattle.model.specs.Kernel.State.{State}
@@ -16,8 +16,8 @@ returns-in_default-clause-outcome g c = guarded-none (state_in g.S.SlotMap.slots
 pub returns-then-words-lt6-clause-outcome : goal.returns-then-words-lt6-clause-outcome
 returns-then-words-lt6-clause-outcome g c = guarded-short (state_in g.S.SlotMap.slots g.S.SlotStore.memory c.args.kernel.now) (call_of c.args.call) c.args.words.now c.thread_of.result c.in-Some.thread c.thread_of.ensures c.in-Some.is c.if-words-lt6.true
 
-pub configure-requires-clause-root : goal.configure-requires-clause-root
-configure-requires-clause-root g c = c.requires.call.root
+pub configure-requires-clause-valid : goal.configure-requires-clause-valid
+configure-requires-clause-valid g c sound = root-valid _ c.args.call.root sound c.requires.call.root
 
 pub configure-requires-clause-held : goal.configure-requires-clause-held
 unfolding state_of

@@ -6,12 +6,12 @@ use Rattle.model.specs.Kernel.ThreadCalls.{on_thread}
 use Rattle.model.specs.declared.invocations.ThreadCall.{ThreadCall}
 use Rattle.object_lifetimes.specs.Kernels.{state_in}
 use Rattle.objects.specs.Tables.{state_of}
-use Rattle.perform_calls.proofs.Roots.{thread-held}
+use Rattle.perform_calls.proofs.Roots.{root-valid, thread-held}
 use Rattle.perform_calls.proofs.thread_calls.on_thread.Goals as goal
 use Rattle.perform_calls.specs.Calls.{call_of}
 
-pub configure-requires-clause-root : goal.configure-requires-clause-root
-configure-requires-clause-root g c = c.requires.call.root
+pub configure-requires-clause-valid : goal.configure-requires-clause-valid
+configure-requires-clause-valid g c sound = root-valid _ c.args.call.root sound c.requires.call.root
 
 pub configure-requires-clause-held : goal.configure-requires-clause-held
 unfolding state_of

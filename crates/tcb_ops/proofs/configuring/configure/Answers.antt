@@ -9,7 +9,6 @@ use Rattle.object_lifetimes.proofs.Laws.{state_before}
 use Rattle.object_lifetimes.specs.Kernels.{state_in}
 use Rattle.objects.specs.Tables.{state_of}
 use Rattle.soundness.proofs.Laws.{configure-whole}
-use Rattle.soundness.specs.Calls.{IsRoot}
 use Rattle.tcb_ops.proofs.Checks.{configure-passes, configure-refused, may-configure}
 use Rattle.tcb_ops.proofs.Configured.{configured-state, put-agrees, thread-agrees, thread-still}
 use Rattle.tcb_ops.proofs.ThreadsNear.{held-inside, slots-near, thread-there}
@@ -103,8 +102,6 @@ invariant_of-kernel g c =
     let there = thread-there _ _ _ c.args.thread whole held in
     let k = c.args.spaces in
     let may = may-configure _ c.args.thread whole.sound there c.args.root k.guard k.cspace k.vspace c.in_ok-from.from c.in_ok-from.ensures in
-    let root = subst (λ x. IsRoot (state_of x.objects (g.S.SlotMap.slots x.store) (g.S.SlotStore.memory x.store)) c.args.root) (sym c.kernel-inside.view_is)
-    (subst (λ x. IsRoot (state_in g.S.SlotMap.slots g.S.SlotStore.memory x) c.args.root) (sym c.kernel.view_is) c.requires.root) in
     let set = c.set_fault_address.new in
     let t : State = state_of set.self (g.S.SlotMap.slots set.store) (g.S.SlotStore.memory set.store) in
     let passes = configure-passes (state_before whole) c.args.root c.args.thread k.guard k.fault_address k.cspace k.vspace c.in_ok-from.from c.in_ok-from.ensures
@@ -112,7 +109,7 @@ invariant_of-kernel g c =
     c.put_spaces.ensures.slots c.set_fault_address.ensures.state) in
     let agrees = put-agrees _ _ _ _ c.args.thread k.guard c.in_ok-from.from (whole.agrees, whole.stands) c.put_spaces.ensures.bytes may _ c.put_spaces.ensures.slots in
     record {
-      sound = configure-whole _ t c.args.root c.args.thread k.guard k.fault_address k.cspace k.vspace whole.sound root there (omega arith) passes;
+      sound = configure-whole _ t c.args.root c.args.thread k.guard k.fault_address k.cspace k.vspace whole.sound there (omega arith) passes;
       agrees = thread-agrees _ _ c.args.thread _ _ _ agrees.0 c.set_fault_address.ensures.bytes c.set_fault_address.ensures.state;
       stands = c.set_fault_address.ensures.stands;
     }
