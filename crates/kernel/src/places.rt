@@ -42,13 +42,17 @@ fn end_of(capability: Cap) -> u32
 fn reaches_behind<S: SlotStore>(store: &S, offset: u32) -> bool
     ensures { result ≡ reaches_behind (S.slots store.now) (length (S.memory store.now) / 16) offset }
 {
-    let count = store.count();
-    'slots: for number in 0..count {
-        if offset < end_of(store.capability(Slot::new(number))) {
+    let mut at = None;
+    'slots: loop {
+        let Some(slot) = store.next_full(at) else {
+            return false;
+        };
+        prove!(slot.number() < store.count());
+        if offset < end_of(store.capability(slot)) {
             return true;
         }
+        at = Some(slot);
     }
-    false
 }
 
 /// Whether untyped memory may stand at an offset, from `first` on and behind all that stands.

@@ -1,8 +1,18 @@
--- No memory that was named so far ends behind the offset.
-use Rattle.std.proofs.Common.{ℕ, ◌≡◌, ◌<◌, false, nat_lt}
+-- No slot so far names memory that ends behind the offset: who does stands behind the last one.
+use Rattle.std.proofs.Common.{ℕ, ◌≡◌, Some, length, nat_lt}
+use Rattle.cnode_ops.proofs.Laws.{AreBehind}
 use Rattle.kernel.proofs.places.reaches_behind.Given as goal
-use Rattle.model.specs.Capabilities.Slots.{capability_at}
+use Rattle.model.proofs.Orders.{behind}
+use Rattle.model.specs.Capabilities.Slots.{IsFull, capability_at, is_full}
 use Rattle.model.specs.Kernel.Setup.{end_of}
 
 abbrev pub invariant-slots : goal.invariant-slots
-invariant-slots g l = (slot : ℕ) → slot < l.number → nat_lt l.offset (end_of (capability_at (g.S.SlotMap.slots l.store) slot)) ≡ false
+invariant-slots g l =
+    let slots = g.S.SlotMap.slots l.store in
+    record {
+      full : (slot : ℕ) → l.at ≡ Some slot → IsFull slots slot;
+      rest : AreBehind (g.S.SlotStore.order l.store) (is_full slots) (λ slot. nat_lt l.offset (end_of (capability_at slots slot))) l.at;
+    }
+
+abbrev pub decreases-slots : goal.decreases-slots
+decreases-slots g l = length (behind (g.S.SlotStore.order l.store) l.at)
