@@ -53,6 +53,7 @@ pub trait Ends {
 
     /// Whether a thread waits at the object that starts at an offset.
     fn is_waited_at<S: SlotStore>(&self, store: &S, offset: u32) -> bool
+        requires { Agree self.now (S.slots store.now) (S.memory store.now) }
         ensures { (result ≡ false) ↔ (waiting_at ((state self.now (S.slots store.now) (S.memory store.now)).objects offset) ≡ []) };
 
     /// Threads that wait at objects that are gone stand at their call again and run, in rising order of

@@ -5,14 +5,13 @@ use Rattle.model.specs.Kernel.Kinds.{kind_at, kind_of}
 use Rattle.model.specs.Kernel.Retype.{NewObject}
 use Rattle.model.specs.Kernel.State.{Object}
 use Rattle.objects.proofs.Replacing.{aligned}
-use Rattle.objects.specs.Tables.{Tables, object_from, object_of, record_in, state_of, thread_in, told_by}
+use Rattle.objects.specs.Tables.{Tables, object_from, object_of, record_in, state_of, thread_in, told_by, waiting_of}
 use Rattle.objects.specs.declared.records.Record.{Record}
-use Rattle.queues.specs.Queues.{queue_of}
 
 pub object-aligned : (o : Tables) (slots : Slots) (memory : List ℕ) (offset : ℕ) (kind : NewObject) → kind_at (state_of o slots memory) offset ≡ Some kind → offset % 16 ≡ 0
 unfolding state_of told_by
 object-aligned o slots memory offset kind =
-    let other : Option Record → Option Object = option_map (object_of o.threads (queue_of o.waiting memory offset)) in
+    let other : Option Record → Option Object = option_map (object_of o.threads (waiting_of o memory offset)) in
     elim (thread_in o.threads offset) as (λ t. thread_in o.threads offset ≡ t → option_map kind_of (object_from t (other (record_in o.records offset))) ≡ Some kind → offset % 16 ≡ 0) [
       | Some t ↦ λ is _. let multiple = aligned 512 o.threads offset (ap is_some is) in omega (arith, multiple)
       | None ↦ λ _.

@@ -13,7 +13,7 @@ use Rattle.objects.proofs.Kept.{put-here, put-there}
 use Rattle.objects.proofs.Vacating.{other-same}
 use Rattle.objects.specs.Changes.{MayStand, begun, is_frame_kind}
 use Rattle.objects.specs.Standing.{Standing}
-use Rattle.objects.specs.Tables.{Tables, byte_in, is_frame, object_from, object_in, object_of, record_in, record_of, sending_in, state_of, thread_in, told_by}
+use Rattle.objects.specs.Tables.{Tables, byte_in, is_frame, object_from, object_in, object_of, record_in, record_of, sending_in, state_of, thread_in, told_by, waiting_of}
 use Rattle.objects.specs.Threads.{new_object, thread_state}
 use Rattle.objects.specs.Waiting.{has_waiting}
 use Rattle.objects.specs.declared.records.Kind.{Kind}
@@ -21,7 +21,7 @@ use Rattle.objects.specs.declared.records.Kind.TheVariants as kinds
 use Rattle.objects.specs.declared.records.Record.{Record}
 use Rattle.objects.specs.declared.records.Record.TheVariants.{Endpoint, Notification, CNode, Frame, PageTable, RootTable}
 use Rattle.objects.specs.declared.records.Thread.{Thread}
-use Rattle.queues.specs.Queues.{queue_of}
+use Rattle.objects.proofs.Told.{state_with, waited, waiters}
 
 -- ---- nothing is there
 
@@ -87,7 +87,7 @@ never true x y = refl
 never false x y = refl
 
 module _ (o : Tables) (slots : Slots) (memory : List ℕ) (offset : ℕ) (stands : Standing o slots memory) (free : (state_of o slots memory).objects offset ≡ None) where
-  free-object : object_in o memory offset ≡ None
+  free-object : object_in o (waiting_of o memory) offset ≡ None
   unfolding state_of told_by
   free-object = free
 
@@ -95,20 +95,20 @@ module _ (o : Tables) (slots : Slots) (memory : List ℕ) (offset : ℕ) (stands
   no-kind : kind_at (state_of o slots memory) offset ≡ None
   no-kind = ap (option_map kind_of) free
 
-  pub waits-not : (queue : ℕ) → times_in (queue_of o.waiting memory queue) offset ≡ 0
-  waits-not queue = elim (cases_lt 0 (times_in (queue_of o.waiting memory queue) offset)) [
-    | inl some ↦ absurd (let clash : None ≡ Some NewThread = sym no-kind ∙ stands.waiters queue offset some in cc)
+  pub waits-not : (queue : ℕ) → times_in (waiting_of o memory queue) offset ≡ 0
+  waits-not queue = elim (cases_lt 0 (times_in (waiting_of o memory queue) offset)) [
+    | inl some ↦ absurd (let clash : None ≡ Some NewThread = sym no-kind ∙ waiters o slots memory stands queue offset some in cc)
     | inr few ↦ omega (arith, few)
   ]
 
-  no-queue : queue_of o.waiting memory offset ≡ []
-  no-queue = nobody (queue_of o.waiting memory) offset (λ thread some. absurd (let clash : false ≡ true = sym (ap has_waiting no-kind) ∙ stands.waited offset thread some in cc))
+  no-queue : waiting_of o memory offset ≡ []
+  no-queue = nobody (waiting_of o memory) offset (λ thread some. absurd (let clash : false ≡ true = sym (ap has_waiting no-kind) ∙ waited o slots memory stands offset thread some in cc))
 
   free-in-threads : thread_in o.threads offset ≡ None
   free-in-threads = free-thread (thread_in o.threads offset) _ free-object
 
   free-in-records : record_in o.records offset ≡ None
-  free-in-records = free-record o.threads (queue_of o.waiting memory offset) (thread_in o.threads offset) (record_in o.records offset) free-object
+  free-in-records = free-record o.threads (waiting_of o memory offset) (thread_in o.threads offset) (record_in o.records offset) free-object
 
   -- ---- a thread
 
@@ -117,41 +117,41 @@ module _ (o : Tables) (slots : Slots) (memory : List ℕ) (offset : ℕ) (stands
     sends : (other : ℕ) → other ≢ offset → sending_in threads other ≡ sending_in o.threads other
     sends other apart = ap (option_and_then (λ t. t.sending)) (threaded other ∙ put-there (thread_in o.threads) offset (Some new) other apart)
 
-    object-threaded : (other : ℕ) → object_in (record o { threads = threads }) memory other ≡ put (object_in o memory) offset (Some (ThreadObject new_thread)) other
+    object-threaded : (other : ℕ) → object_in (record o { threads = threads }) (waiting_of o memory) other ≡ put (object_in o (waiting_of o memory)) offset (Some (ThreadObject new_thread)) other
     object-threaded other = elim (eqb_tells other offset) [
       | inl here ↦
-          ap (λ t. object_from t (option_map (object_of threads (queue_of o.waiting memory other)) (record_in o.records other)))
+          ap (λ t. object_from t (option_map (object_of threads (waiting_of o memory other)) (record_in o.records other)))
           (threaded other ∙ ap (λ b. if b then Some new else thread_in o.threads other) here.0)
-          ∙ ap (λ t. Some (ThreadObject t)) is_new ∙ ap (λ b. if b then Some (ThreadObject new_thread) else object_in o memory other) (sym here.0)
+          ∙ ap (λ t. Some (ThreadObject t)) is_new ∙ ap (λ b. if b then Some (ThreadObject new_thread) else object_in o (waiting_of o memory) other) (sym here.0)
       | inr apart ↦
-          ap (λ t. object_from t (option_map (object_of threads (queue_of o.waiting memory other)) (record_in o.records other)))
+          ap (λ t. object_from t (option_map (object_of threads (waiting_of o memory other)) (record_in o.records other)))
           (threaded other ∙ put-there (thread_in o.threads) offset (Some new) other apart.1)
-          ∙ ap (object_from (thread_in o.threads other)) (other-same o.threads threads offset (queue_of o.waiting memory other) (record_in o.records other) sends (waits-not other))
-          ∙ ap (λ b. if b then Some (ThreadObject new_thread) else object_in o memory other) (sym apart.0)
+          ∙ ap (object_from (thread_in o.threads other)) (other-same o.threads threads offset (waiting_of o memory other) (record_in o.records other) sends (waits-not other))
+          ∙ ap (λ b. if b then Some (ThreadObject new_thread) else object_in o (waiting_of o memory) other) (sym apart.0)
     ]
 
-    pub begun-thread : state_of (record o { threads = threads }) slots memory ≡ begun (state_of o slots memory) memory kinds.Thread offset
-    unfolding state_of told_by
-    begun-thread = λ i. record (state_of o slots memory) { objects = λ other. object-threaded other i }
+    pub begun-thread : (ready : ℕ → List ℕ) → state_with (record o { threads = threads }) (waiting_of o memory) ready slots memory
+        ≡ begun (state_with o (waiting_of o memory) ready slots memory) memory kinds.Thread offset
+    begun-thread ready = λ i. record (state_with o (waiting_of o memory) ready slots memory) { objects = λ other. object-threaded other i }
 
   -- ---- another object
 
   module _ (records : List (Option Record)) (kind : Kind) (new : Record) (is : record_of kind ≡ Some new)
       (recorded : (other : ℕ) → record_in records other ≡ put (record_in o.records) offset (Some new) other) where
-    object-recorded : (other : ℕ) → object_in (record o { records = records }) memory other ≡ put (object_in o memory) offset (Some (new_object kind)) other
+    object-recorded : (other : ℕ) → object_in (record o { records = records }) (waiting_of o memory) other ≡ put (object_in o (waiting_of o memory)) offset (Some (new_object kind)) other
     object-recorded other = elim (eqb_tells other offset) [
       | inl here ↦
-          ap (λ t. object_from t (option_map (object_of o.threads (queue_of o.waiting memory other)) (record_in records other))) (ap (thread_in o.threads) here.1 ∙ free-in-threads)
-          ∙ ap (option_map (object_of o.threads (queue_of o.waiting memory other)))
+          ap (λ t. object_from t (option_map (object_of o.threads (waiting_of o memory other)) (record_in records other))) (ap (thread_in o.threads) here.1 ∙ free-in-threads)
+          ∙ ap (option_map (object_of o.threads (waiting_of o memory other)))
           (recorded other ∙ ap (λ b. if b then Some new else record_in o.records other) here.0)
           ∙ ap (λ l. Some (object_of o.threads l new))
-          (ap (queue_of o.waiting memory) here.1 ∙ no-queue)
+          (ap (waiting_of o memory) here.1 ∙ no-queue)
           ∙ ap Some (new-record o.threads kind new is).0
-          ∙ ap (λ b. if b then Some (new_object kind) else object_in o memory other) (sym here.0)
+          ∙ ap (λ b. if b then Some (new_object kind) else object_in o (waiting_of o memory) other) (sym here.0)
       | inr apart ↦
-          ap (λ r. object_from (thread_in o.threads other) (option_map (object_of o.threads (queue_of o.waiting memory other)) r))
+          ap (λ r. object_from (thread_in o.threads other) (option_map (object_of o.threads (waiting_of o memory other)) r))
           (recorded other ∙ put-there (record_in o.records) offset (Some new) other apart.1)
-          ∙ ap (λ b. if b then Some (new_object kind) else object_in o memory other) (sym apart.0)
+          ∙ ap (λ b. if b then Some (new_object kind) else object_in o (waiting_of o memory) other) (sym apart.0)
     ]
 
     -- the byte of a place in what was put, or in what was there
@@ -178,9 +178,9 @@ module _ (o : Tables) (slots : Slots) (memory : List ℕ) (offset : ℕ) (stands
           ∙ ap (λ b. if is_frame_kind kind && b then Some (slice_index memory place) else byte_in o.records memory place) (sym apart.0)
     ]
 
-    pub begun-record : state_of (record o { records = records }) slots memory ≡ begun (state_of o slots memory) memory kind offset
-    unfolding state_of told_by
-    begun-record = λ i. record (state_of o slots memory) {
+    pub begun-record : (ready : ℕ → List ℕ) → state_with (record o { records = records }) (waiting_of o memory) ready slots memory
+        ≡ begun (state_with o (waiting_of o memory) ready slots memory) memory kind offset
+    begun-record ready = λ i. record (state_with o (waiting_of o memory) ready slots memory) {
       objects = λ other. object-recorded other i;
       bytes = λ place. byte-recorded place i;
     }

@@ -1,5 +1,5 @@
 -- What stands goes on where objects end, wake and begin.
-use Rattle.std.proofs.Common.{ℕ, ◌≡◌, ◌∙◌, ◌==◌, ◌+◌, ◌/◌, ◌^◌, ◌<◌, ◌≤◌, ◌⊎◌, ◌&&◌, inl, inr, Bool, true, false, if◌then◌else◌, Option, Some, None, IsSome, option_map, List, refl, sym, ap, subst, arith}
+use Rattle.std.proofs.Common.{ℕ, ◌≡◌, ◌≢◌, ◌∙◌, ◌==◌, ◌+◌, ◌/◌, ◌^◌, ◌<◌, ◌≤◌, ◌⊎◌, ◌&&◌, inl, inr, Bool, true, false, if◌then◌else◌, Option, Some, None, IsSome, option_map, List, length, refl, sym, ap, subst, arith}
 use Rattle.std.specs.Prelude.{slice_index}
 use Rattle.std.specs.Option.{option_map_or}
 use Rattle.std.proofs.lemmas.Bool.Decides.{eqb_tells}
@@ -8,17 +8,31 @@ use Rattle.model.specs.Kernel.AddressSpaces.{page_size}
 use Rattle.model.specs.Kernel.Kinds.{frame_around, kind_at, kind_of}
 use Rattle.model.specs.Kernel.Retype.{NewObject, NewUntyped, NewThread, NewEndpoint, NewNotification, NewCNode, NewFrame, NewPageTable, NewRootTable, object_bits}
 use Rattle.model.specs.Kernel.Scheduling.{full_slice, wake}
-use Rattle.model.specs.Kernel.State.{Object, Runnable, State, ThreadObject, EndpointObject, NotificationObject, CNodeObject, FrameObject, PageTableObject, RootTableObject, as_thread, put, thread_at}
+use Rattle.model.specs.Kernel.State.{Object, Runnable, State, ThreadObject, EndpointObject, NotificationObject, CNodeObject, FrameObject, PageTableObject, RootTableObject, as_thread, new_thread, put, thread_at}
 use Rattle.model.specs.declared.slot_entries.Entry.{Entry}
 use Rattle.objects.proofs.Frames.{Unmoved, kind-put, same-state}
-use Rattle.objects.specs.Changes.{begun, is_frame_kind}
-use Rattle.objects.specs.Frames.{FitsMemory, IsInRecord, IsRoom, has_record, has_slots, slot_bytes}
-use Rattle.objects.proofs.Kept.{put-there}
-use Rattle.objects.specs.Standing.{AreThere, Standing, WaitAtObjects}
+use Rattle.objects.specs.Changes.{MayStand, begun, is_frame_kind}
+use Rattle.objects.specs.Frames.{FitsMemory, IsInRecord, IsRoom, SameBesideObjects, has_record, has_slots, slot_bytes}
+use Rattle.objects.proofs.Beginning.{begun-record, begun-thread}
+use Rattle.objects.proofs.Following.{follows-bytes}
+use Rattle.objects.proofs.Kept.{put-here, put-there}
+use Rattle.objects.proofs.Stepping.{Left}
+use Rattle.objects.proofs.Told.{has-head, has-thread, in-point, in-thread, kind-state, kind-with, own-bits, own-slots, state_with, told}
+use Rattle.objects.specs.Standing.{Standing}
 use Rattle.objects.specs.Waiting.{has_waiting}
-use Rattle.queues.specs.Queues.{QueuedThreads, QueuesStand, queue_of}
-use Rattle.objects.specs.Tables.{Tables, state_of}
-use Rattle.objects.specs.Threads.{new_object}
+use Rattle.linked_queues.specs.Laws.{KeepHeads, KeepThreads}
+use Rattle.linked_queues.specs.Layout.{IsHeadAt, IsThreadAt, Places}
+use Rattle.linked_queues.specs.Queues.{IsHeadByte}
+use Rattle.linked_queues.specs.Ready.{ReadyStands, nobody, ready_of}
+use Rattle.linked_queues.specs.Words.{end_at, end_of, link_at, link_in, with_ends, without_links}
+use Rattle.linked_queues.specs.declared.words.Ends.{Ends}
+use Rattle.linked_queues.proofs.Laws.{begins_empty, ready_stays, waiting_stays}
+use Rattle.objects.specs.declared.records.Record.{Record}
+use Rattle.objects.specs.declared.records.Record.TheVariants.{CNode, Frame, PageTable, RootTable}
+use Rattle.std.proofs.Math.Pow.{pow_mono}
+use Rattle.objects.specs.Tables.{AreTables, Tables, byte_in, has_queue, is_thread_kind, kind_in, places_of, ready_at, record_in, record_of, state_of, thread_in, waiting_of}
+use Rattle.objects.specs.Threads.{new_object, thread_state}
+use Rattle.objects.specs.declared.records.Thread.{Thread}
 use Rattle.objects.specs.declared.records.Kind.{Kind}
 use Rattle.objects.specs.declared.records.Kind.TheVariants as kinds
 use Rattle.removal_laws.specs.Finishing.{is_stranded, waits_nowhere}
@@ -91,8 +105,9 @@ module _ (s : State) (memory : List ℕ) (kind : Kind) (offset : ℕ) (fits : Fi
   after = put s.objects offset (Some (new_object kind))
 
   -- a record was there, or it is the new object's
-  record-after : (place : ℕ) → IsInRecord after place
-      → IsInRecord s.objects place ⊎ ((has_record k ≡ true) × (offset + slot_bytes k ≤ place) × (place < offset + 2 ^ object_bits k))
+  record-after : (place : ℕ) (held : IsInRecord after place)
+      → ((was : IsInRecord s.objects place) × (was.offset ≡ held.offset))
+      ⊎ ((has_record k ≡ true) × (offset + slot_bytes k ≤ place) × (place < offset + 2 ^ object_bits k) × (held.offset ≡ offset))
   record-after place held = elim (eqb_tells held.offset offset) [
     | inl here ↦
         let same : Some k ≡ Some held.kind = sym (ap (λ (b : Bool). option_map kind_of (if b then Some (new_object kind) else s.objects held.offset)) here.0) ∙ held.there in
@@ -102,21 +117,24 @@ module _ (s : State) (memory : List ℕ) (kind : Kind) (offset : ℕ) (fits : Fi
         let slots : slot_bytes held.kind ≡ slot_bytes k = ap slot_bytes is in
         let size : 2 ^ object_bits held.kind ≡ 2 ^ object_bits k = ap (λ (n : NewObject). 2 ^ object_bits n) is in
         let at = here.1 in
-        inr (sym (ap has_record is) ∙ held.kept, omega (arith, from, slots, at), omega (arith, below, size, at))
-    | inr apart ↦ inl (record {
-      offset = held.offset;
-      kind = held.kind;
-      there = sym (ap (λ (b : Bool). option_map kind_of (if b then Some (new_object kind) else s.objects held.offset)) apart.0) ∙ held.there;
-      kept = held.kept;
-      from = held.from;
-      below = held.below;
-    })
+        inr (sym (ap has_record is) ∙ held.kept, omega (arith, from, slots, at), omega (arith, below, size, at), at)
+    | inr apart ↦ inl (
+      record {
+        offset = held.offset;
+        kind = held.kind;
+        there = sym (ap (λ (b : Bool). option_map kind_of (if b then Some (new_object kind) else s.objects held.offset)) apart.0) ∙ held.there;
+        kept = held.kept;
+        from = held.from;
+        below = held.below;
+      },
+      refl,
+    )
   ]
 
   closed : (place : ℕ) → IsOpen s.slots (place / 16) → s.slots (place / 16) ≡ None → ⊥
   closed place is_open none = let clash : false ≡ true = subst (λ (e : Option Entry). IsSome e) none is_open in absurd cc
 
-  bytes-after : (place : ℕ) → ((is_frame_kind kind && (offset == frame_around place)) ≡ true → ⊥) → s.bytes place ≡ None → (begun s memory kind offset).bytes place ≡ None
+  pub bytes-after : (place : ℕ) → ((is_frame_kind kind && (offset == frame_around place)) ≡ true → ⊥) → s.bytes place ≡ None → (begun s memory kind offset).bytes place ≡ None
   bytes-after place apart none =
       elim (is_frame_kind kind && (offset == frame_around place)) as (λ b. (is_frame_kind kind && (offset == frame_around place)) ≡ b
       → (if b then Some (slice_index memory place) else s.bytes place) ≡ None) [
@@ -136,7 +154,7 @@ module _ (s : State) (memory : List ℕ) (kind : Kind) (offset : ℕ) (fits : Fi
         let high = framed.2 in
         closed place is_open (room.slots place (omega (arith, before, low)) (omega (arith, bits, high)) page.slots)) (fits.frames place is_open);
     records = λ place is_open held. elim (record-after place held) [
-      | inl was ↦ fits.records place is_open was
+      | inl was ↦ fits.records place is_open was.0
       | inr new ↦ closed place is_open (room.slots place new.1 new.2 (record-slots k new.0))
     ];
     apart = λ place held. elim (record-after place held) [
@@ -144,43 +162,301 @@ module _ (s : State) (memory : List ℕ) (kind : Kind) (offset : ℕ) (fits : Fi
           let framed = framed-if (is_frame_kind kind) place offset is in
           let bits = (frame-page kind framed.0).bits in
           let high = framed.2 in
-          room.records place framed.1 (omega (arith, bits, high)) was) (fits.apart place was)
+          room.records place framed.1 (omega (arith, bits, high)) was.0) (fits.apart place was.0)
       | inr new ↦
           let from = new.1 in
           bytes-after place (λ is.
           let framed = framed-if (is_frame_kind kind) place offset is in
           let clash : true ≡ false = sym new.0 ∙ (frame-page kind framed.0).records in absurd cc) (room.frames place (omega (arith, from)) new.2)
     ];
+    alone = λ place one two. elim (record-after place one) [
+      | inl was ↦ elim (record-after place two) [
+        | inl was' ↦ sym was.1 ∙ fits.alone place was.0 was'.0 ∙ was'.1
+        | inr new ↦ let from = new.1 in absurd (room.records place (omega (arith, from)) new.2 was.0)
+      ]
+      | inr new ↦ elim (record-after place two) [
+        | inl was' ↦ let from = new.1 in absurd (room.records place (omega (arith, from)) new.2 was'.0)
+        | inr new' ↦ new.3 ∙ sym new'.3
+      ]
+    ];
   }
 
-kind-begun : (objects : ℕ → Option Object) (offset : ℕ) (new : Object) → objects offset ≡ None → (other : ℕ) (k : NewObject) → option_map kind_of (objects other) ≡ Some k
-    → option_map kind_of (put objects offset (Some new) other) ≡ Some k
-kind-begun objects offset new free other k is = elim (eqb_tells other offset) [
-  | inl here ↦ absurd (let clash : None ≡ Some k = sym (ap (λ (x : ℕ). option_map kind_of (objects x)) here.1 ∙ ap (option_map kind_of) free) ∙ is in cc)
-  | inr apart ↦ ap (option_map kind_of) (put-there objects offset (Some new) other apart.1) ∙ is
-]
+-- ---- what stands goes on
 
-waiting-begun : (objects : ℕ → Option Object) (offset : ℕ) (new : Object) → objects offset ≡ None → (other : ℕ) → has_waiting (option_map kind_of (objects other)) ≡ true
-    → has_waiting (option_map kind_of (put objects offset (Some new) other)) ≡ true
-waiting-begun objects offset new free other is = elim (eqb_tells other offset) [
-  | inl here ↦ absurd (let clash : false ≡ true = sym (ap (λ (x : ℕ). has_waiting (option_map kind_of (objects x))) here.1 ∙ ap (λ (x : Option Object). has_waiting (option_map kind_of x)) free) ∙ is in cc)
-  | inr apart ↦ ap (λ (x : Option Object). has_waiting (option_map kind_of x)) (put-there objects offset (Some new) other apart.1) ∙ is
-]
+module _ (o n : Tables) (before after : Slots) (old new : List ℕ) (kind : Kind) (offset : ℕ) (stands : Standing o before old) (same_slots : after ≡ before)
+    (free : (state_of o before old).objects offset ≡ None) (room : IsRoom (state_of o before old) (kind_of (new_object kind)) offset) (same_ready : n.ready ≡ o.ready)
+    (begins : (ready : ℕ → List ℕ) → state_with n (waiting_of o old) ready before old ≡ begun (state_with o (waiting_of o old) ready before old) old kind offset)
+    (size : length new ≡ length old)
+    (same : (place : ℕ) → (offset + slot_bytes (kind_of (new_object kind)) ≤ place → place < offset + 2 ^ object_bits (kind_of (new_object kind))
+    → has_record (kind_of (new_object kind)) ≡ true → ⊥) → slice_index new place ≡ slice_index old place)
+    (unlinked : is_thread_kind (Some (kind_of (new_object kind))) ≡ true → (link_at 244 new offset 0 ≡ None) × (link_at 256 new offset 0 ≡ None))
+    (unwaited : has_waiting (Some (kind_of (new_object kind))) ≡ true → (i : ℕ) → i < 2 → end_at new offset i ≡ None) where
+  abbrev u : State
+  u = state_of o before old
 
-pub stands-begun : (o n : Tables) (slots : Slots) (memory : List ℕ) (kind : Kind) (offset : ℕ) → Standing o slots memory
-    → (state_of o slots memory).objects offset ≡ None → n.waiting ≡ o.waiting → n.ready ≡ o.ready
-    → IsRoom (state_of o slots memory) (kind_of (new_object kind)) offset → state_of n slots memory ≡ begun (state_of o slots memory) memory kind offset → Standing n slots memory
-stands-begun o n slots memory kind offset stands free waiting ready room is =
-    let s = state_of o slots memory in
-    let t = state_of n slots memory in
-    let there : (queues : ℕ → List ℕ) → AreThere s queues → AreThere t queues = λ queues are queue thread in_queue.
-    ap (λ (u : State). kind_at u thread) is ∙ kind-begun s.objects offset (new_object kind) free thread NewThread (are queue thread in_queue) in
-    record {
-      fits = subst (λ (t : State). FitsMemory t memory) (sym is) (begun-fits s memory kind offset stands.fits room);
-      waiting = subst (λ (q : QueuedThreads). QueuesStand q memory) (sym waiting) stands.waiting;
-      ready = subst (λ (q : QueuedThreads). QueuesStand q memory) (sym ready) stands.ready;
-      waiters = subst (λ (q : QueuedThreads). AreThere t (queue_of q memory)) (sym waiting) (there (queue_of o.waiting memory) stands.waiters);
-      waited = subst (λ (q : QueuedThreads). WaitAtObjects t (queue_of q memory)) (sym waiting) (λ queue thread in_queue.
-          ap (λ (u : State). has_waiting (kind_at u queue)) is ∙ waiting-begun s.objects offset (new_object kind) free queue (stands.waited queue thread in_queue));
-      runners = subst (λ (q : QueuedThreads). AreThere t (queue_of q memory)) (sym ready) (there (queue_of o.ready memory) stands.runners);
-    }
+  abbrev q : NewObject
+  q = kind_of (new_object kind)
+
+  abbrev t : State
+  t = begun u old kind offset
+
+  abbrev p : Places
+  p = places_of o
+
+  kinds-now : (other : ℕ) → kind_in n other ≡ kind_at t other
+  kinds-now other =
+      sym (kind-with n (waiting_of o old) (ready_at o old) before old other) ∙ ap (λ (x : State). kind_at x other) (begins (ready_at o old))
+      ∙ ap (λ (x : State). kind_at (begun x old kind offset) other) (sym (told o before old))
+
+  kind-other : (other : ℕ) → other ≢ offset → kind_in n other ≡ kind_in o other
+  kind-other other differs = kinds-now other ∙ ap (option_map kind_of) (put-there u.objects offset (Some (new_object kind)) other differs) ∙ kind-state o other before old
+
+  kind-new : kind_in n offset ≡ Some q
+  kind-new = kinds-now offset ∙ ap (option_map kind_of) (put-here u.objects offset (Some (new_object kind)))
+
+  kind-old : kind_in o offset ≡ None
+  kind-old = sym (kind-state o offset before old) ∙ ap (option_map kind_of) free
+
+  -- bytes of other records are the same
+  same-record : (place : ℕ) → IsInRecord u.objects place → slice_index new place ≡ slice_index old place
+  same-record place held = same place (λ from below kept. room.records place (omega (arith, from)) below held)
+
+  if-none : (b : Bool) (x : Option ℕ) → (b ≡ true → x ≡ None) → (if b then x else None) ≡ None
+  if-none true x none = none refl
+  if-none false x none = refl
+
+  keep : (base : ℕ) → 32 ≤ base → base ≤ 256 → (is_thread_kind (Some q) ≡ true → link_at base new offset 0 ≡ None) → KeepThreads base p (places_of n) old new
+  keep base least most none thread = elim (eqb_tells thread offset) [
+    | inl here ↦ inr (record {
+      was = ap (link_in base p.threads old 0) here.1 ∙ ap (λ (k : Option NewObject). if is_thread_kind k then link_at base old offset 0 else None) kind-old;
+      now = ap (link_in base (places_of n).threads new 0) here.1 ∙ ap (λ (k : Option NewObject). if is_thread_kind k then link_at base new offset 0 else None) kind-new
+          ∙ if-none (is_thread_kind (Some q)) (link_at base new offset 0) none;
+    })
+    | inr apart ↦ inl (record {
+      there = ap is_thread_kind (kind-other thread apart.1);
+      bytes = λ is place held. same-record place (in-thread u thread place (kind-state o thread before old ∙ has-thread o thread is) (omega (arith, least, held.0)) (omega (arith, most, held.1)));
+    })
+  ]
+
+  keep-waits : KeepThreads 244 p (places_of n) old new
+  keep-waits = keep 244 (omega arith) (omega arith) (λ is. (unlinked is).0)
+
+  keep-runs : KeepThreads 256 p (places_of n) old new
+  keep-runs = keep 256 (omega arith) (omega arith) (λ is. (unlinked is).1)
+
+  no-end : (b : Bool) (i : ℕ) → (b ≡ true → end_at new offset i ≡ None) → end_of new i (if b then Some offset else None) ≡ None
+  no-end true i none = none refl
+  no-end false i none = refl
+
+  keep-heads : KeepHeads p (places_of n) old new
+  keep-heads queue = elim (eqb_tells queue offset) [
+    | inl here ↦ inr (record {
+      was = λ i low. ap (λ (x : ℕ). end_of old i (p.heads x)) here.1 ∙ ap (λ (x : Option NewObject). end_of old i (if has_waiting x then Some offset else None)) kind-old;
+      now = λ i low. ap (λ (x : ℕ). end_of new i ((places_of n).heads x)) here.1 ∙ ap (λ (x : Option NewObject). end_of new i (if has_waiting x then Some offset else None)) kind-new
+          ∙ no-end (has_waiting (Some q)) i (λ is. unwaited is i low);
+    })
+    | inr apart ↦ inl (record {
+      there = ap (λ (x : Option NewObject). if has_waiting x then Some queue else None) (kind-other queue apart.1);
+      bytes = λ head place is held.
+          let at = has-head o queue head is in
+          same-record place (in-point u queue place (ap has_waiting (kind-state o queue before old) ∙ at.0) (omega (arith, held.0, at.1)) (omega (arith, held.1, at.1))).0;
+    })
+  ]
+
+  waits_now : (queue : ℕ) → waiting_of n new queue ≡ waiting_of o old queue
+  waits_now = waiting_stays.queues p (places_of n) old new size keep-waits keep-heads stands.waiting
+
+  ready-was : ReadyStands p n.ready old
+  ready-was = subst (λ (e : List Ends). ReadyStands p e old) (sym same_ready) stands.ready
+
+  runs_now : (priority : ℕ) → ready_at n new priority ≡ ready_at o old priority
+  runs_now priority = ready_stays.queues p (places_of n) n.ready old new size keep-runs ready-was priority ∙ ap (λ (e : List Ends). ready_of p e old priority) same_ready
+
+  now-with : state_with n (waiting_of n new) (ready_at n new) before old ≡ t
+  now-with =
+      (λ i. state_with n (λ queue. waits_now queue i) (λ priority. runs_now priority i) before old) ∙ begins (ready_at o old)
+      ∙ ap (λ (x : State). begun x old kind offset) (sym (told o before old))
+
+  -- what is written is in no frame
+  frames-same : (place byte : ℕ) → byte_in n.records old place ≡ Some byte → slice_index new place ≡ slice_index old place
+  frames-same place byte some = same place (λ from below kept.
+      let none : t.bytes place ≡ None = bytes-after u old kind offset stands.fits room place (λ is.
+      let framed = framed-if (is_frame_kind kind) place offset is in
+      let clash : true ≡ false = sym kept ∙ (frame-page kind framed.0).records in absurd cc) (room.frames place (omega (arith, from)) below) in
+      let clash : None ≡ Some byte = sym none ∙ sym (ap (λ (x : State). x.bytes place) now-with) ∙ some in absurd cc)
+
+  now-state : state_of n after new ≡ t
+  now-state = follows-bytes n before old new after frames-same ∙ ap (λ (f : Slots). state_with n (waiting_of n new) (ready_at n new) f old) same_slots ∙ now-with
+
+  pub begun-left : Left n after new t
+  begun-left =
+      let fits = begun-fits u old kind offset stands.fits room in
+      record {
+        state = now-state;
+        stands = record {
+          fits = subst (λ (x : State). FitsMemory x new) (sym now-state)
+              (record { size = fits.size ∙ sym size; frames = fits.frames; records = fits.records; apart = fits.apart; alone = fits.alone });
+          waiting = waiting_stays.stands p (places_of n) old new size keep-waits keep-heads stands.waiting;
+          ready = ready_stays.stands p (places_of n) n.ready old new size keep-runs ready-was;
+        };
+      }
+
+  pub begun-bytes : SameBesideObjects (state_of n after new) old new
+  begun-bytes = record {
+    size = size;
+    bytes = λ place outside. same place (λ from below kept.
+        elim (outside offset q (ap (λ (x : State). kind_at x offset) now-state ∙ ap (option_map kind_of) (put-here u.objects offset (Some (new_object kind)))) kept) [
+          | inl earlier ↦ absurd (omega (arith, from, earlier))
+          | inr behind ↦ absurd (omega (arith, below, behind))
+        ]);
+  }
+
+-- ---- the links of what begins
+
+module _ (o : Tables) (slots : Slots) (memory : List ℕ) (kind : Kind) (offset : ℕ) (are : AreTables o) (fits : FitsMemory (state_of o slots memory) memory)
+    (may : MayStand (state_of o slots memory).memory_bits kind offset) (room : IsRoom (state_of o slots memory) (kind_of (new_object kind)) offset) where
+  long : length memory ≡ 2 ^ o.bits
+  long = sym fits.size ∙ ap (λ (n : ℕ). 2 ^ n) (own-bits o slots memory)
+
+  small : length memory ≤ 2 ^ 24
+  small = omega (arith, long, pow_mono {i = o.bits} {j = 24} are.most_bits)
+
+  below-end : offset < 2 ^ (state_of o slots memory).memory_bits → offset < 2 ^ o.bits
+  below-end less = omega (arith, less, ap (λ (n : ℕ). 2 ^ n) (own-bits o slots memory))
+
+  empty : (place : ℕ) → (state_of o slots memory).slots (place / 16) ≡ None → slots (place / 16) ≡ None
+  empty place none = ap (λ (f : Slots). f (place / 16)) (sym (own-slots o slots memory)) ∙ none
+
+  pub new-thread : kind ≡ kinds.Thread → IsThreadAt slots (length memory) offset
+  new-thread is =
+      let may' = subst (λ (x : Kind). MayStand (state_of o slots memory).memory_bits x offset) is may in
+      let room' = subst (λ (x : Kind). IsRoom (state_of o slots memory) (kind_of (new_object x)) offset) is room in
+      record {
+        few = small;
+        within = omega (arith, may'.0, below-end may'.1, long, are.thread_places);
+        outside = λ place from below. empty place (room'.slots place (omega (arith, from)) (omega (arith, below)) refl);
+      }
+
+  pub new-queue : (r : Record) → record_of kind ≡ Some r → has_queue r ≡ true → IsHeadAt slots (length memory) offset
+  new-queue r made queued =
+      elim kind as (λ x. kind ≡ x → IsHeadAt slots (length memory) offset) [
+        | kinds.Endpoint ↦ λ is.
+            let may' = subst (λ (x : Kind). MayStand (state_of o slots memory).memory_bits x offset) is may in
+            let room' = subst (λ (x : Kind). IsRoom (state_of o slots memory) (kind_of (new_object x)) offset) is room in
+            record {
+              few = small;
+              within = omega (arith, may'.0, below-end may'.1, long, are.record_places);
+              outside = λ place from below. empty place (room'.slots place (omega (arith, from)) (omega (arith, below)) refl);
+            }
+        | kinds.Notification ↦ λ is.
+            let may' = subst (λ (x : Kind). MayStand (state_of o slots memory).memory_bits x offset) is may in
+            let room' = subst (λ (x : Kind). IsRoom (state_of o slots memory) (kind_of (new_object x)) offset) is room in
+            record {
+              few = small;
+              within = omega (arith, may'.0, below-end may'.1, long, are.record_places);
+              outside = λ place from below. empty place (room'.slots place (omega (arith, from)) (omega (arith, below)) refl);
+            }
+        | kinds.Thread ↦ λ is. absurd (let clash : None ≡ Some r = sym (ap record_of is) ∙ made in cc)
+        | kinds.CNode radix ↦ λ is. absurd (let clash : Some (CNode radix) ≡ Some r = sym (ap record_of is) ∙ made in let e : false ≡ true = ap (λ (x : Option Record). option_map_or has_queue x false) clash ∙ queued in cc)
+        | kinds.Frame ↦ λ is. absurd (let clash : Some Frame ≡ Some r = sym (ap record_of is) ∙ made in let e : false ≡ true = ap (λ (x : Option Record). option_map_or has_queue x false) clash ∙ queued in cc)
+        | kinds.PageTable ↦ λ is. absurd (let clash : Some PageTable ≡ Some r = sym (ap record_of is) ∙ made in let e : false ≡ true = ap (λ (x : Option Record). option_map_or has_queue x false) clash ∙ queued in cc)
+        | kinds.RootTable ↦ λ is. absurd (let clash : Some RootTable ≡ Some r = sym (ap record_of is) ∙ made in let e : false ≡ true = ap (λ (x : Option Record). option_map_or has_queue x false) clash ∙ queued in cc)
+      ] refl
+
+-- a record tells what its kind is
+pub record-thread : (kind : Kind) (r : Record) → record_of kind ≡ Some r → is_thread_kind (Some (kind_of (new_object kind))) ≡ false
+record-thread kinds.Thread r is = absurd (let clash : None ≡ Some r = is in cc)
+record-thread kinds.Endpoint r is = refl
+record-thread kinds.Notification r is = refl
+record-thread (kinds.CNode radix) r is = refl
+record-thread kinds.Frame r is = refl
+record-thread kinds.PageTable r is = refl
+record-thread kinds.RootTable r is = refl
+
+pub record-waits : (kind : Kind) (r : Record) → record_of kind ≡ Some r → has_waiting (Some (kind_of (new_object kind))) ≡ has_queue r
+record-waits kinds.Thread r is = absurd (let clash : None ≡ Some r = is in cc)
+record-waits kinds.Endpoint r is = ap (λ (x : Option Record). option_map_or has_queue x false) is
+record-waits kinds.Notification r is = ap (λ (x : Option Record). option_map_or has_queue x false) is
+record-waits (kinds.CNode radix) r is = ap (λ (x : Option Record). option_map_or has_queue x false) is
+record-waits kinds.Frame r is = ap (λ (x : Option Record). option_map_or has_queue x false) is
+record-waits kinds.PageTable r is = ap (λ (x : Option Record). option_map_or has_queue x false) is
+record-waits kinds.RootTable r is = ap (λ (x : Option Record). option_map_or has_queue x false) is
+
+-- who waits at what begins has the first two words of it
+record IsPoint (q : NewObject) : Type 0 where
+  before : slot_bytes q ≡ 0
+  bits : 2 ^ object_bits q ≡ 16
+  kept : has_record q ≡ true
+
+record-point : (kind : Kind) (r : Record) → record_of kind ≡ Some r → has_queue r ≡ true → IsPoint (kind_of (new_object kind))
+record-point kinds.Thread r is queued = absurd (let clash : None ≡ Some r = is in cc)
+record-point kinds.Endpoint r is queued = record { before = refl; bits = refl; kept = refl }
+record-point kinds.Notification r is queued = record { before = refl; bits = refl; kept = refl }
+record-point (kinds.CNode radix) r is queued = absurd (let e : false ≡ true = ap (λ (x : Option Record). option_map_or has_queue x false) is ∙ queued in cc)
+record-point kinds.Frame r is queued = absurd (let e : false ≡ true = ap (λ (x : Option Record). option_map_or has_queue x false) is ∙ queued in cc)
+record-point kinds.PageTable r is queued = absurd (let e : false ≡ true = ap (λ (x : Option Record). option_map_or has_queue x false) is ∙ queued in cc)
+record-point kinds.RootTable r is queued = absurd (let e : false ≡ true = ap (λ (x : Option Record). option_map_or has_queue x false) is ∙ queued in cc)
+
+-- memory with nobody named at an object, if threads may wait there
+abbrev pub wiped : Bool → List ℕ → ℕ → List ℕ
+wiped b memory offset = if b then with_ends memory offset nobody else memory
+
+wiped-size : (b : Bool) (m : List ℕ) (offset : ℕ) → (b ≡ true → offset + 8 ≤ length m) → length (wiped b m offset) ≡ length m
+wiped-size true m offset within = begins_empty.head_size m offset (within refl)
+wiped-size false m offset within = refl
+
+wiped-bytes : (b : Bool) (m : List ℕ) (offset place : ℕ) → (b ≡ true → offset + 8 ≤ length m) → (b ≡ true → IsHeadByte offset place → ⊥)
+    → slice_index (wiped b m offset) place ≡ slice_index m place
+wiped-bytes true m offset place within off = begins_empty.head_bytes m offset place (within refl) (off refl)
+wiped-bytes false m offset place within off = refl
+
+wiped-ends : (b : Bool) (m : List ℕ) (offset i : ℕ) → (b ≡ true → offset + 8 ≤ length m) → b ≡ true → i < 2 → end_at (wiped b m offset) offset i ≡ None
+wiped-ends true m offset i within is low = begins_empty.head m offset i (within refl) low
+wiped-ends false m offset i within is low = absurd (let clash : false ≡ true = is in cc)
+
+module _ (o : Tables) (before after : Slots) (old new : List ℕ) (offset : ℕ) (are : AreTables o) (stands : Standing o before old) (same_slots : after ≡ before)
+    (free : (state_of o before old).objects offset ≡ None) where
+  pub thread-begins : (may : MayStand (state_of o before old).memory_bits kinds.Thread offset) (room : IsRoom (state_of o before old) NewThread offset)
+      (threads : List (Option Thread)) (fresh : Thread) → ((other : ℕ) → thread_in threads other ≡ put (thread_in o.threads) offset (Some fresh) other)
+      → thread_state fresh ≡ new_thread → new ≡ without_links old offset
+      → Left (record o { threads = threads }) after new (begun (state_of o before old) old kinds.Thread offset) × SameBesideObjects (state_of (record o { threads = threads }) after new) old new
+  thread-begins may room threads fresh threaded is_new bytes =
+      let within = (new-thread o before old kinds.Thread offset are stands.fits may room refl).within in
+      let n : Tables = record o { threads = threads } in
+      let size : length new ≡ length old = ap (λ (m : List ℕ). length m) bytes ∙ begins_empty.size old offset within in
+      let same : (place : ℕ) → (offset + 32 ≤ place → place < offset + 2 ^ 9 → true ≡ true → ⊥) → slice_index new place ≡ slice_index old place = λ place apart.
+      ap (λ (m : List ℕ). slice_index m place) bytes ∙ begins_empty.bytes old offset place within
+      (λ held. apart (omega (arith, held.0)) (omega (arith, held.1)) refl) (λ held. apart (omega (arith, held.0)) (omega (arith, held.1)) refl) in
+      let unlinked : true ≡ true → (link_at 244 new offset 0 ≡ None) × (link_at 256 new offset 0 ≡ None) = λ _. (
+        ap (λ (m : List ℕ). link_at 244 m offset 0) bytes ∙ begins_empty.waits old offset within,
+        ap (λ (m : List ℕ). link_at 256 m offset 0) bytes ∙ begins_empty.ready old offset within,
+      ) in
+      let unwaited : false ≡ true → (i : ℕ) → i < 2 → end_at new offset i ≡ None = λ clash i low. absurd cc in
+      let begins = begun-thread o before old offset stands free threads fresh threaded is_new in (
+        begun-left o n before after old new kinds.Thread offset stands same_slots free room refl begins size same unlinked unwaited,
+        begun-bytes o n before after old new kinds.Thread offset stands same_slots free room refl begins size same unlinked unwaited,
+      )
+
+  pub record-begins : (kind : Kind) (r : Record) → record_of kind ≡ Some r → (may : MayStand (state_of o before old).memory_bits kind offset)
+      (room : IsRoom (state_of o before old) (kind_of (new_object kind)) offset) (records : List (Option Record))
+      → ((other : ℕ) → record_in records other ≡ put (record_in o.records) offset (Some r) other) → new ≡ wiped (has_queue r) old offset
+      → Left (record o { records = records }) after new (begun (state_of o before old) old kind offset) × SameBesideObjects (state_of (record o { records = records }) after new) old new
+  record-begins kind r made may room records recorded bytes =
+      let within : has_queue r ≡ true → offset + 8 ≤ length old = λ queued. (new-queue o before old kind offset are stands.fits may room r made queued).within in
+      let n : Tables = record o { records = records } in
+      let size : length new ≡ length old = ap (λ (m : List ℕ). length m) bytes ∙ wiped-size (has_queue r) old offset within in
+      let same : (place : ℕ) → (offset + slot_bytes (kind_of (new_object kind)) ≤ place → place < offset + 2 ^ object_bits (kind_of (new_object kind))
+      → has_record (kind_of (new_object kind)) ≡ true → ⊥) → slice_index new place ≡ slice_index old place = λ place apart.
+      ap (λ (m : List ℕ). slice_index m place) bytes ∙ wiped-bytes (has_queue r) old offset place within (λ queued held.
+      let point = record-point kind r made queued in
+      let first = point.before in
+      let bits = point.bits in
+      apart (omega (arith, held.0, first)) (omega (arith, held.1, bits)) point.kept) in
+      let unlinked : is_thread_kind (Some (kind_of (new_object kind))) ≡ true → (link_at 244 new offset 0 ≡ None) × (link_at 256 new offset 0 ≡ None) = λ is.
+      absurd (let clash : false ≡ true = sym (record-thread kind r made) ∙ is in cc) in
+      let unwaited : has_waiting (Some (kind_of (new_object kind))) ≡ true → (i : ℕ) → i < 2 → end_at new offset i ≡ None = λ is i low.
+      ap (λ (m : List ℕ). end_at m offset i) bytes ∙ wiped-ends (has_queue r) old offset i within (sym (record-waits kind r made) ∙ is) low in
+      let begins = begun-record o before old offset stands free records kind r made recorded in (
+        begun-left o n before after old new kind offset stands same_slots free room refl begins size same unlinked unwaited,
+        begun-bytes o n before after old new kind offset stands same_slots free room refl begins size same unlinked unwaited,
+      )

@@ -11,15 +11,17 @@ use Rattle.model.specs.Kernel.Soundness.{waiting_at}
 use Rattle.model.specs.Kernel.State.{CNodeObject, EndpointObject, EndpointState, FrameObject, NotificationObject, NotificationState, Object, PageTableObject, RootTableObject, State, ThreadObject, Sender, as_endpoint, as_notification, endpoint_at, new_endpoint, new_notification, notification_at, put, with_object}
 use Rattle.objects.proofs.Kept.{put-here, put-there}
 use Rattle.objects.proofs.Serving.{first-receives, first-sends}
-use Rattle.objects.specs.Tables.{Tables, is_frame, kind_in, object_from, object_in, object_of, receivers_in, record_in, senders_in, sending_in, state_of, thread_in, told_by}
+use Rattle.objects.specs.Tables.{Tables, is_frame, kind_in, object_from, object_in, object_of, ready_at, receivers_in, record_in, senders_in, sending_in, state_of, thread_in, told_by, waiting_of}
 use Rattle.objects.specs.Threads.{sender_of}
 use Rattle.objects.specs.Waiting.{IsOneSided, changed_at, has_waiting, with_word}
 use Rattle.objects.specs.declared.records.Record.{Record}
 use Rattle.objects.specs.declared.records.Record.TheVariants.{Endpoint, Notification, CNode, Frame, PageTable, RootTable}
 use Rattle.objects.specs.declared.records.Sending.{Sending}
 use Rattle.objects.specs.declared.records.Thread.{Thread}
-use Rattle.queues.proofs.Laws.{head-rest}
-use Rattle.queues.specs.Queues.{queue_of}
+use Rattle.objects.proofs.Frames.{kind-put}
+use Rattle.objects.proofs.Lists.{head-rest}
+use Rattle.objects.proofs.Told.{kind-from, state_with, told, told-same}
+pub use Rattle.objects.proofs.Told.{kind-state}
 
 -- ---- in any state
 
@@ -54,22 +56,6 @@ changed-notification s notification change is =
     ap (λ o. record s { objects = put s.objects notification (option_map change o) }) (notification-there (s.objects notification) is)
 
 -- ---- in the state of tables
-
--- whoever waits there
-kind-from : (threads : List (Option Thread)) (waiting : List ℕ) (t : Option Thread) (r : Option Record)
-    → option_map kind_of (object_from t (option_map (object_of threads waiting) r)) ≡ option_map kind_of (object_from t (option_map (object_of threads []) r))
-kind-from threads waiting (Some t) r = refl
-kind-from threads waiting None None = refl
-kind-from threads waiting None (Some Endpoint) = refl
-kind-from threads waiting None (Some (Notification word)) = refl
-kind-from threads waiting None (Some (CNode radix)) = refl
-kind-from threads waiting None (Some Frame) = refl
-kind-from threads waiting None (Some PageTable) = refl
-kind-from threads waiting None (Some RootTable) = refl
-
-pub kind-state : (o : Tables) (offset : ℕ) (slots : Slots) (memory : List ℕ) → kind_at (state_of o slots memory) offset ≡ kind_in o offset
-unfolding state_of told_by
-kind-state o offset slots memory = kind-from o.threads (queue_of o.waiting memory offset) (thread_in o.threads offset) (record_in o.records offset)
 
 endpoint-from : (threads : List (Option Thread)) (waiting : List ℕ) (t : Option Thread) (r : Option Record)
     → option_map kind_of (object_from t (option_map (object_of threads waiting) r)) ≡ Some NewEndpoint
@@ -112,7 +98,7 @@ module _ (o : Tables) (endpoint : ℕ) (slots : Slots) (memory : List ℕ) (is :
   e = endpoint_at (state_of o slots memory) endpoint
 
   abbrev waiting : List ℕ
-  waiting = queue_of o.waiting memory endpoint
+  waiting = waiting_of o memory endpoint
 
   endpoint-in : e ≡ record { senders = senders_in o.threads waiting; receivers = receivers_in o.threads waiting }
   unfolding state_of told_by
@@ -155,7 +141,7 @@ module _ (o : Tables) (notification : ℕ) (slots : Slots) (memory : List ℕ) (
   n = notification_at (state_of o slots memory) notification
 
   abbrev queue : List ℕ
-  queue = queue_of o.waiting memory notification
+  queue = waiting_of o memory notification
 
   waiters-in : n.waiters ≡ queue
   unfolding state_of told_by
@@ -193,11 +179,11 @@ waited-from threads waiting None (Some Frame) = (λ _. refl, λ _. refl)
 waited-from threads waiting None (Some PageTable) = (λ _. refl, λ _. refl)
 waited-from threads waiting None (Some RootTable) = (λ _. refl, λ _. refl)
 
-pub waited-in : (o : Tables) (slots : Slots) (memory : List ℕ) (offset : ℕ) (waited : Bool) → waited ≡ (has_waiting (kind_in o offset) && is_some (head_of (queue_of o.waiting memory offset)))
+pub waited-in : (o : Tables) (slots : Slots) (memory : List ℕ) (offset : ℕ) (waited : Bool) → waited ≡ (has_waiting (kind_in o offset) && is_some (head_of (waiting_of o memory offset)))
     → (waited ≡ false) ↔ (waiting_at ((state_of o slots memory).objects offset) ≡ [])
 unfolding state_of told_by
 waited-in o slots memory offset waited is =
-    let same = waited-from o.threads (queue_of o.waiting memory offset) (thread_in o.threads offset) (record_in o.records offset) in
+    let same = waited-from o.threads (waiting_of o memory offset) (thread_in o.threads offset) (record_in o.records offset) in
     (λ none. same.0 (sym is ∙ none), λ none. is ∙ same.1 none)
 
 -- ---- another word
@@ -231,24 +217,24 @@ module _ (o : Tables) (records : List (Option Record)) (notification word : ℕ)
   abbrev now : Tables
   now = record o { records = records }
 
-  abbrev value : List ℕ → Object
-  value memory = NotificationObject (record (option_map_or (λ n. n) (as_notification (object_in o memory notification)) new_notification) { word = word })
+  abbrev value : (ℕ → List ℕ) → Object
+  value waiting = NotificationObject (record (option_map_or (λ n. n) (as_notification (object_in o waiting notification)) new_notification) { word = word })
 
-  is-now : (memory : List ℕ) → option_map kind_of (object_in o memory notification) ≡ Some NewNotification
-  is-now memory = kind-from o.threads (queue_of o.waiting memory notification) (thread_in o.threads notification) (record_in o.records notification) ∙ is
+  is-now : (waiting : ℕ → List ℕ) → option_map kind_of (object_in o waiting notification) ≡ Some NewNotification
+  is-now waiting = kind-from o.threads (waiting notification) (thread_in o.threads notification) (record_in o.records notification) ∙ is
 
-  object-word : (memory : List ℕ) (other : ℕ) → object_in now memory other ≡ put (object_in o memory) notification (Some (value memory)) other
-  object-word memory other = elim (eqb_tells other notification) [
+  object-word : (waiting : ℕ → List ℕ) (other : ℕ) → object_in now waiting other ≡ put (object_in o waiting) notification (Some (value waiting)) other
+  object-word waiting other = elim (eqb_tells other notification) [
     | inl here ↦
-        ap (object_in now memory) here.1
-        ∙ ap (λ r. object_from (thread_in o.threads notification) (option_map (object_of o.threads (queue_of o.waiting memory notification)) r))
+        ap (object_in now waiting) here.1
+        ∙ ap (λ r. object_from (thread_in o.threads notification) (option_map (object_of o.threads (waiting notification)) r))
         (replaced notification ∙ put-here (record_in o.records) notification _)
-        ∙ word-from o.threads (queue_of o.waiting memory notification) word (thread_in o.threads notification) (record_in o.records notification) (is-now memory)
-        ∙ ap (λ b. if b then Some (value memory) else object_in o memory other) (sym here.0)
+        ∙ word-from o.threads (waiting notification) word (thread_in o.threads notification) (record_in o.records notification) (is-now waiting)
+        ∙ ap (λ b. if b then Some (value waiting) else object_in o waiting other) (sym here.0)
     | inr apart ↦
-        ap (λ r. object_from (thread_in o.threads other) (option_map (object_of o.threads (queue_of o.waiting memory other)) r))
+        ap (λ r. object_from (thread_in o.threads other) (option_map (object_of o.threads (waiting other)) r))
         (replaced other ∙ put-there (record_in o.records) notification _ other apart.1)
-        ∙ ap (λ b. if b then Some (value memory) else object_in o memory other) (sym apart.0)
+        ∙ ap (λ b. if b then Some (value waiting) else object_in o waiting other) (sym apart.0)
   ]
 
   frame-word : (other : ℕ) → option_map_or is_frame (record_in records other) false ≡ option_map_or is_frame (record_in o.records other) false
@@ -261,9 +247,16 @@ module _ (o : Tables) (records : List (Option Record)) (notification word : ℕ)
     | inr apart ↦ ap (λ r. option_map_or is_frame r false) (replaced other ∙ put-there (record_in o.records) notification _ other apart.1)
   ]
 
-  pub word-state : (slots : Slots) (memory : List ℕ) → state_of now slots memory ≡ with_word (state_of o slots memory) notification word
-  unfolding state_of told_by
-  word-state slots memory = λ i. record (state_of o slots memory) {
-    objects = λ other. object-word memory other i;
+  word-with : (waiting ready : ℕ → List ℕ) (slots : Slots) (memory : List ℕ) → state_with now waiting ready slots memory ≡ with_word (state_with o waiting ready slots memory) notification word
+  word-with waiting ready slots memory = λ i. record (state_with o waiting ready slots memory) {
+    objects = λ other. object-word waiting other i;
     bytes = λ place. ap (λ b. if b then Some (slice_index memory place) else None) (frame-word (frame_around place)) i;
   }
+
+  kinds-word : (other : ℕ) → kind_in now other ≡ kind_in o other
+  kinds-word other = ap (option_map kind_of) (object-word (λ queue. []) other) ∙ kind-put (object_in o (λ queue. [])) notification (value (λ queue. [])) is other
+
+  pub word-state : (slots : Slots) (memory : List ℕ) → state_of now slots memory ≡ with_word (state_of o slots memory) notification word
+  word-state slots memory =
+      told-same o now kinds-word slots memory ∙ word-with (waiting_of o memory) (ready_at o memory) slots memory
+      ∙ ap (λ (s : State). with_word s notification word) (sym (told o slots memory))

@@ -6,12 +6,11 @@ use Rattle.std.proofs.lemmas.Bool.Decides.{eqb_tells}
 use Rattle.model.specs.Capabilities.Slots.{Slots}
 use Rattle.model.specs.Kernel.Scheduling.{all_leave, leaves, without_threads}
 use Rattle.model.specs.Kernel.State.{Object, State, ThreadState, as_thread}
-use Rattle.objects.specs.Tables.{Tables, object_from, object_in, object_of, record_in, state_of, thread_in, told_by}
+use Rattle.objects.specs.Tables.{Tables, object_from, object_in, object_of, record_in, state_of, thread_in, told_by, waiting_of}
 use Rattle.objects.specs.Threads.{thread_state}
 use Rattle.objects.specs.declared.records.Record.{Record}
 use Rattle.objects.specs.declared.records.Record.TheVariants.{Endpoint, Notification, CNode, Frame, PageTable, RootTable}
 use Rattle.objects.specs.declared.records.Thread.{Thread}
-use Rattle.queues.specs.Queues.{queue_of}
 use Rattle.removal_laws.proofs.Laws.{filter-all, threads-all}
 use Rattle.removal_laws.specs.Steps.{ends_thread}
 
@@ -25,10 +24,10 @@ no-thread threads waiting (Some PageTable) = refl
 no-thread threads waiting (Some RootTable) = refl
 
 -- the threads of the state are those of the table
-pub as-thread : (o : Tables) (memory : List ℕ) (offset : ℕ) → as_thread (object_in o memory offset) ≡ option_map thread_state (thread_in o.threads offset)
-as-thread o memory offset = elim (thread_in o.threads offset) as (λ t. as_thread (object_from t (option_map (object_of o.threads (queue_of o.waiting memory offset)) (record_in o.records offset))) ≡ option_map thread_state t) [
+pub as-thread : (o : Tables) (waiting : ℕ → List ℕ) (offset : ℕ) → as_thread (object_in o waiting offset) ≡ option_map thread_state (thread_in o.threads offset)
+as-thread o waiting offset = elim (thread_in o.threads offset) as (λ t. as_thread (object_from t (option_map (object_of o.threads (waiting offset)) (record_in o.records offset))) ≡ option_map thread_state t) [
   | Some t ↦ refl
-  | None ↦ no-thread o.threads (queue_of o.waiting memory offset) (record_in o.records offset)
+  | None ↦ no-thread o.threads (waiting offset) (record_in o.records offset)
 ]
 
 any-false : (t : Option ThreadState) → option_map_or (λ (x : ThreadState). false) t false ≡ false
@@ -51,7 +50,7 @@ module _ (o : Tables) (offset : ℕ) (slots : Slots) (memory : List ℕ) where
 
   ends-at : (other : ℕ) → ends_thread s offset other ≡ option_map_or (λ _. offset == other) (option_map thread_state (thread_in o.threads other)) false
   unfolding state_of told_by
-  ends-at other = ap (λ t. option_map_or (λ _. offset == other) t false) (as-thread o memory other)
+  ends-at other = ap (λ t. option_map_or (λ _. offset == other) t false) (as-thread o (waiting_of o memory) other)
 
   ends-elsewhere : (other : ℕ) → (offset == other) ≡ false → ends_thread s offset other ≡ false
   ends-elsewhere other apart =

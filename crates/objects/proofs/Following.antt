@@ -1,22 +1,16 @@
 -- The state goes along with slots and with the bytes of frames, since neither a byte of a frame nor one of a record stands in an open slot.
-use Rattle.std.proofs.Common.{ℕ, ◌≡◌, ◌∙◌, ◌/◌, ◌<◌, Bool, true, false, if◌then◌else◌, Option, Some, None, IsSome, option_map, List, refl, sym, ap, subst}
+use Rattle.std.proofs.Common.{ℕ, ◌≡◌, ◌∙◌, ◌/◌, Bool, true, false, if◌then◌else◌, Option, Some, None, IsSome, option_map, List, refl, sym, ap, subst}
 use Rattle.std.specs.Prelude.{slice_index}
 use Rattle.std.specs.Option.{option_map_or}
 use Rattle.model.specs.Capabilities.Slots.{IsOpen, SameOutside, Slots}
-use Rattle.model.specs.Kernel.Kinds.{frame_around, kind_at}
+use Rattle.model.specs.Kernel.Kinds.{frame_around}
 use Rattle.model.specs.Kernel.State.{State, with_slots}
-use Rattle.model.specs.Shared.Lists.{times_in}
 use Rattle.model.specs.declared.slot_entries.Entry.{Entry}
 use Rattle.objects.specs.Frames.{FitsMemory, IsInRecord, SameBesideFrames, SameKept}
-use Rattle.objects.specs.Standing.{AreThere, Standing, WaitAtObjects}
-use Rattle.objects.specs.Tables.{Tables, byte_in, is_frame, object_with, record_in, state_of, told_by}
-use Rattle.objects.specs.Waiting.{has_waiting}
-use Rattle.queues.proofs.Laws.{stays, still-stand}
-use Rattle.queues.specs.Queues.{queue_of}
-
-pub own-slots : (o : Tables) (slots : Slots) (memory : List ℕ) → (state_of o slots memory).slots ≡ slots
-unfolding state_of
-own-slots o slots memory = refl
+use Rattle.objects.specs.Standing.{Standing}
+use Rattle.objects.specs.Tables.{Tables, byte_in, is_frame, object_with, ready_at, record_in, state_of, told_by, waiting_of}
+use Rattle.objects.proofs.Told.{ready-on, ready-same, state_with, waiting-on, waiting-same}
+pub use Rattle.objects.proofs.Told.{not-open, own-slots}
 
 -- a slot that was not opened
 pub still-open : (slots now : Slots) → ((slot : ℕ) → slots slot ≡ None → now slot ≡ None) → (slot : ℕ) → IsOpen now slot → IsOpen slots slot
@@ -25,24 +19,6 @@ still-open slots now closes slot open_now = elim (slots slot) as (λ e. slots sl
   | Some e ↦ λ is. subst (λ (x : Option Entry). IsSome x) (sym is) refl
 ] refl
 
--- where no open slot is, none is
-pub not-open : (slots : Slots) (slot : ℕ) → (IsOpen slots slot → ⊥) → slots slot ≡ None
-not-open slots slot closed = elim (slots slot) as (λ e. slots slot ≡ e → slots slot ≡ None) [
-  | None ↦ λ is. is
-  | Some e ↦ λ is. absurd (closed (subst (λ (x : Option Entry). IsSome x) (sym is) refl))
-] refl
-
--- who stands in queues is there where objects are of the same kinds
-pub there-on : (s t : State) (p q : ℕ → List ℕ) → ((offset : ℕ) → kind_at t offset ≡ kind_at s offset) → ((queue : ℕ) → q queue ≡ p queue) → AreThere s p → AreThere t q
-there-on s t p q kinds same there = λ queue thread stands. kinds thread ∙ there queue thread (subst (λ l. 0 < times_in l thread) (same queue) stands)
-
-pub wait-on : (s t : State) (p q : ℕ → List ℕ) → ((offset : ℕ) → kind_at t offset ≡ kind_at s offset) → ((queue : ℕ) → q queue ≡ p queue) → WaitAtObjects s p → WaitAtObjects t q
-wait-on s t p q kinds same waited = λ queue thread stands.
-    ap has_waiting (kinds queue) ∙ waited queue thread (subst (λ l. 0 < times_in l thread) (same queue) stands)
-
-kinds-on : (s t : State) (now : Slots) → t ≡ with_slots s now → (offset : ℕ) → kind_at t offset ≡ kind_at s offset
-kinds-on s t now is = λ offset. ap (λ (u : State). kind_at u offset) is
-
 module _ (o : Tables) (slots : Slots) (old new : List ℕ) where
   abbrev s : State
   s = state_of o slots old
@@ -50,11 +26,10 @@ module _ (o : Tables) (slots : Slots) (old new : List ℕ) where
   abbrev in_frame : ℕ → Bool
   in_frame place = option_map_or is_frame (record_in o.records (frame_around place)) false
 
-  framed : (place : ℕ) → in_frame place ≡ true → s.bytes place ≡ Some (slice_index old place)
-  unfolding state_of told_by
+  framed : (place : ℕ) → in_frame place ≡ true → byte_in o.records old place ≡ Some (slice_index old place)
   framed place is = ap (λ b. if b then Some (slice_index old place) else None) is
 
-  byte-same : ((place byte : ℕ) → s.bytes place ≡ Some byte → slice_index new place ≡ slice_index old place) → (place : ℕ)
+  byte-same : ((place byte : ℕ) → byte_in o.records old place ≡ Some byte → slice_index new place ≡ slice_index old place) → (place : ℕ)
       → byte_in o.records new place ≡ byte_in o.records old place
   byte-same same place = elim (in_frame place) as (λ b. in_frame place ≡ b
       → (if b then Some (slice_index new place) else None) ≡ (if b then Some (slice_index old place) else None)) [
@@ -62,19 +37,25 @@ module _ (o : Tables) (slots : Slots) (old new : List ℕ) where
         | false ↦ λ is. refl
       ] refl
 
-  pub follows-bytes : (now : Slots) → ((place byte : ℕ) → s.bytes place ≡ Some byte → slice_index new place ≡ slice_index old place)
-      → state_of o now new ≡ with_slots s now
+  own-bytes : (place : ℕ) → s.bytes place ≡ byte_in o.records old place
   unfolding state_of told_by
-  follows-bytes now same = λ i. record (state_of o now new) {
-    objects = λ offset. object_with o (stays o.waiting old new offset i) offset;
-    ready = λ priority. stays o.ready old new priority i;
-    bytes = λ place. byte-same same place i;
-  }
+  own-bytes place = refl
+
+  -- where the bytes of frames are the same, the state is that of the bytes before, with those that wait and are ready now
+  pub follows-bytes : (now : Slots) → ((place byte : ℕ) → byte_in o.records old place ≡ Some byte → slice_index new place ≡ slice_index old place)
+      → state_of o now new ≡ state_with o (waiting_of o new) (ready_at o new) now old
+  unfolding state_of told_by
+  follows-bytes now same = λ i. record (state_of o now new) { bytes = λ place. byte-same same place i }
 
   -- ---- the bytes of frames and of records are the same
 
   pub follows-kept : (now : Slots) → Standing o slots old → SameKept s old new → state_of o now new ≡ with_slots s now
-  follows-kept now stands same = follows-bytes now same.frames
+  unfolding state_of told_by
+  follows-kept now stands same = λ i. record (state_of o now new) {
+    objects = λ offset. object_with o (waiting-same o slots old new stands same.size same.records offset i) offset;
+    ready = λ priority. ready-same o slots old new stands same.size same.records priority i;
+    bytes = λ place. byte-same (λ at byte is. same.frames at byte (own-bytes at ∙ is)) place i;
+  }
 
   pub stands-kept : (now : Slots) → Standing o slots old → SameKept s old new → ((place : ℕ) → IsOpen now (place / 16) → s.bytes place ≡ None)
       → ((place : ℕ) → IsOpen now (place / 16) → IsInRecord s.objects place → ⊥) → Standing o now new
@@ -84,15 +65,10 @@ module _ (o : Tables) (slots : Slots) (old new : List ℕ) where
       frames = frames;
       records = records;
       apart = stands.fits.apart;
+      alone = stands.fits.alone;
     });
-    waiting = still-stand o.waiting old new stands.waiting;
-    ready = still-stand o.ready old new stands.ready;
-    waiters = there-on s (state_of o now new) (queue_of o.waiting old) (queue_of o.waiting new) (kinds-on s (state_of o now new) now (follows-kept now stands same))
-        (stays o.waiting old new) stands.waiters;
-    waited = wait-on s (state_of o now new) (queue_of o.waiting old) (queue_of o.waiting new) (kinds-on s (state_of o now new) now (follows-kept now stands same))
-        (stays o.waiting old new) stands.waited;
-    runners = there-on s (state_of o now new) (queue_of o.ready old) (queue_of o.ready new) (kinds-on s (state_of o now new) now (follows-kept now stands same))
-        (stays o.ready old new) stands.runners;
+    waiting = waiting-on o slots old new stands same.size same.records;
+    ready = ready-on o slots old new stands same.size same.records;
   }
 
   -- ---- only bytes of open slots changed
@@ -125,12 +101,15 @@ module _ (o : Tables) (slots : Slots) (old new : List ℕ) where
     | false ↦ refl
   ]
 
+  beside-records : Standing o slots old → SameBesideFrames s old new → (place : ℕ) → IsInRecord s.objects place → slice_index new place ≡ slice_index old place
+  beside-records stands same place held = same.bytes place (stands.fits.apart place held)
+
   pub follows-frames : Standing o slots old → SameBesideFrames s old new
       → state_of o slots new ≡ record s { bytes = λ place. option_map (λ _. slice_index new place) (s.bytes place) }
   unfolding state_of told_by
   follows-frames stands same = λ i. record s {
-    objects = λ offset. object_with o (stays o.waiting old new offset i) offset;
-    ready = λ priority. stays o.ready old new priority i;
+    objects = λ offset. object_with o (waiting-same o slots old new stands same.size (beside-records stands same) offset i) offset;
+    ready = λ priority. ready-same o slots old new stands same.size (beside-records stands same) priority i;
     bytes = λ place. seen place i;
   }
 
@@ -144,15 +123,10 @@ module _ (o : Tables) (slots : Slots) (old new : List ℕ) where
           records = stands.fits.records;
           apart = λ place held. none (s.bytes place) (slice_index new place)
               (stands.fits.apart place held);
+          alone = stands.fits.alone;
         });
-        waiting = still-stand o.waiting old new stands.waiting;
-        ready = still-stand o.ready old new stands.ready;
-        waiters = there-on s (state_of o slots new) (queue_of o.waiting old) (queue_of o.waiting new) (λ offset. ap (λ (t : State). kind_at t offset) (follows-frames stands same))
-            (stays o.waiting old new) stands.waiters;
-        waited = wait-on s (state_of o slots new) (queue_of o.waiting old) (queue_of o.waiting new) (λ offset. ap (λ (t : State). kind_at t offset) (follows-frames stands same))
-            (stays o.waiting old new) stands.waited;
-        runners = there-on s (state_of o slots new) (queue_of o.ready old) (queue_of o.ready new) (λ offset. ap (λ (t : State). kind_at t offset) (follows-frames stands same))
-            (stays o.ready old new) stands.runners;
+        waiting = waiting-on o slots old new stands same.size (beside-records stands same);
+        ready = ready-on o slots old new stands same.size (beside-records stands same);
       }
 
 framed-byte : (b : Bool) (now byte : ℕ) → (if b then Some now else None) ≡ Some byte → byte ≡ now

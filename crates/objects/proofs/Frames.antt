@@ -8,14 +8,17 @@ use Rattle.model.specs.Kernel.Scheduling.{at_tail, is_runnable, unready, without
 use Rattle.model.specs.Kernel.State.{Object, CNodeObject, EndpointObject, FrameObject, NotificationObject, PageTableObject, RootTableObject, State, ThreadObject, ThreadState, put, thread_at, with_object, with_thread}
 use Rattle.model.specs.Kernel.ThreadCalls.{with_priority}
 use Rattle.objects.proofs.Kept.{put-there}
-use Rattle.objects.proofs.Following.{there-on, wait-on}
+use Rattle.objects.proofs.Told.{kind-state, same-places}
 use Rattle.objects.specs.Frames.{FitsMemory, IsInRecord, SameBesideObjects, SameBesideRecords, SameElsewhere, SameObjects, has_record}
 use Rattle.objects.specs.Standing.{Standing}
-use Rattle.objects.specs.Tables.{Tables, state_of}
+use Rattle.objects.specs.Tables.{Tables, places_of, state_of}
 use Rattle.objects.specs.Waiting.{ReceiverTaken, SenderTaken, WaiterTaken, changed_at, joined, served}
 use Rattle.objects.specs.declared.records.Sending.{Sending}
 use Rattle.objects.specs.declared.records.WaitingSender.{WaitingSender}
-use Rattle.queues.specs.Queues.{QueuedThreads, QueuesStand, queue_of}
+use Rattle.linked_queues.specs.Layout.{Places}
+use Rattle.linked_queues.specs.Queues.{QueuesStand}
+use Rattle.linked_queues.specs.Ready.{ReadyStands}
+use Rattle.linked_queues.specs.declared.words.Ends.{Ends}
 
 -- ---- kinds
 
@@ -177,22 +180,22 @@ fits-less s t old new fits bits long opens none kinds =
       frames = λ place is_open. none place (fits.frames place (opens (place / 16) is_open));
       records = λ place is_open held. fits.records place (opens (place / 16) is_open) (before place held);
       apart = λ place held. none place (fits.apart place (before place held));
+      alone = λ place one two. fits.alone place (before place one) (before place two);
     }
 
 -- the tables change but for the queues, and the store does not
-pub stands-unmoved : (o n : Tables) (slots : Slots) (memory : List ℕ) → Standing o slots memory → n.waiting ≡ o.waiting → n.ready ≡ o.ready
+pub stands-unmoved : (o n : Tables) (slots : Slots) (memory : List ℕ) → Standing o slots memory → n.ready ≡ o.ready
     → Unmoved (state_of o slots memory) (state_of n slots memory) → Standing n slots memory
-stands-unmoved o n slots memory stands waiting ready unmoved = record {
-  fits = fits-less (state_of o slots memory) (state_of n slots memory) memory memory stands.fits unmoved.bits refl
-      (λ slot is_open. subst (λ (f : Slots). IsOpen f slot) unmoved.slots is_open)
-      (λ place none. ap (λ (f : ℕ → Option ℕ). f place) unmoved.bytes ∙ none)
-      (λ offset kind is. sym (unmoved.kinds offset) ∙ is);
-  waiting = subst (λ (q : QueuedThreads). QueuesStand q memory) (sym waiting) stands.waiting;
-  ready = subst (λ (q : QueuedThreads). QueuesStand q memory) (sym ready) stands.ready;
-  waiters = there-on (state_of o slots memory) (state_of n slots memory) (queue_of o.waiting memory) (queue_of n.waiting memory) unmoved.kinds (λ queue. ap (λ (q : QueuedThreads). queue_of q memory queue) waiting) stands.waiters;
-  waited = wait-on (state_of o slots memory) (state_of n slots memory) (queue_of o.waiting memory) (queue_of n.waiting memory) unmoved.kinds (λ queue. ap (λ (q : QueuedThreads). queue_of q memory queue) waiting) stands.waited;
-  runners = there-on (state_of o slots memory) (state_of n slots memory) (queue_of o.ready memory) (queue_of n.ready memory) unmoved.kinds (λ queue. ap (λ (q : QueuedThreads). queue_of q memory queue) ready) stands.runners;
-}
+stands-unmoved o n slots memory stands ready unmoved =
+    let same = same-places o n (λ offset. sym (kind-state n offset slots memory) ∙ unmoved.kinds offset ∙ kind-state o offset slots memory) in
+    record {
+      fits = fits-less (state_of o slots memory) (state_of n slots memory) memory memory stands.fits unmoved.bits refl
+          (λ slot is_open. subst (λ (f : Slots). IsOpen f slot) unmoved.slots is_open)
+          (λ place none. ap (λ (f : ℕ → Option ℕ). f place) unmoved.bytes ∙ none)
+          (λ offset kind is. sym (unmoved.kinds offset) ∙ is);
+      waiting = subst (λ (p : Places). QueuesStand p memory) (sym same) stands.waiting;
+      ready = subst (λ (p : Places). ReadyStands p n.ready memory) (sym same) (subst (λ (e : List Ends). ReadyStands (places_of o) e memory) (sym ready) stands.ready);
+    }
 
 -- ---- one call after another
 

@@ -12,14 +12,14 @@ use Rattle.objects.proofs.Kept.{put-here, put-there}
 use Rattle.objects.proofs.Lists.{receivers-by, receivers-same, senders-by, senders-same}
 use Rattle.objects.proofs.Vacating.{other-same}
 use Rattle.objects.specs.Standing.{Standing}
-use Rattle.objects.specs.Tables.{Tables, object_from, object_in, object_of, record_in, sending_in, state_of, thread_in, told_by}
+use Rattle.objects.specs.Tables.{Tables, object_from, object_in, object_of, record_in, sending_in, state_of, thread_in, told_by, waiting_of}
 use Rattle.objects.specs.Threads.{sender_of}
 use Rattle.objects.specs.Waiting.{StandsNowhere, changed_at, has_waiting, joined}
 use Rattle.objects.specs.declared.records.Record.{Record}
 use Rattle.objects.specs.declared.records.Record.TheVariants.{Endpoint, Notification, CNode, Frame, PageTable, RootTable}
 use Rattle.objects.specs.declared.records.Sending.{Sending}
 use Rattle.objects.specs.declared.records.Thread.{Thread}
-use Rattle.queues.specs.Queues.{QueuedThreads, queue_of}
+use Rattle.objects.proofs.Told.{state_with, waited}
 
 -- ---- those that wait, as senders and receivers
 
@@ -89,23 +89,23 @@ waits-queued threads waiting thread None (Some RootTable) is = absurd (let clash
 
 -- so who waits at no object stands in no queue
 pub nowhere-queued : (o : Tables) (slots : Slots) (memory : List ℕ) (thread : ℕ) → Standing o slots memory → StandsNowhere (state_of o slots memory).objects thread
-    → (queue : ℕ) → times_in (queue_of o.waiting memory queue) thread ≡ 0
+    → (queue : ℕ) → times_in (waiting_of o memory queue) thread ≡ 0
 unfolding state_of told_by
-nowhere-queued o slots memory thread stands apart queue = elim (cases_lt 0 (times_in (queue_of o.waiting memory queue) thread)) [
+nowhere-queued o slots memory thread stands apart queue = elim (cases_lt 0 (times_in (waiting_of o memory queue) thread)) [
   | inl some ↦
-      let waits = waits-queued o.threads (queue_of o.waiting memory queue) thread (thread_in o.threads queue) (record_in o.records queue) (stands.waited queue thread some) in
+      let waits = waits-queued o.threads (waiting_of o memory queue) thread (thread_in o.threads queue) (record_in o.records queue) (waited o slots memory stands queue thread some) in
       sym waits ∙ apart.nowhere queue
   | inr few ↦ omega (arith, few)
 ]
 
-module _ (o : Tables) (threads : List (Option Thread)) (waiting : QueuedThreads) (queue thread : ℕ) (held : Thread) (sending : Option Sending) (memory : List ℕ)
+module _ (o : Tables) (threads : List (Option Thread)) (was_waiting waiting : ℕ → List ℕ) (queue thread : ℕ) (held : Thread) (sending : Option Sending)
     (there : thread_in o.threads thread ≡ Some held)
     (free : thread_in o.threads queue ≡ None)
     (replaced : (other : ℕ) → thread_in threads other ≡ put (thread_in o.threads) thread (Some (record held { sending = sending })) other)
-    (queue-now : (other : ℕ) → queue_of waiting memory other ≡ put (queue_of o.waiting memory) queue (queue_of o.waiting memory queue ++ thread ∷ []) other)
-    (waits-not : (other : ℕ) → times_in (queue_of o.waiting memory other) thread ≡ 0) where
+    (queue-now : (other : ℕ) → waiting other ≡ put (was_waiting) queue (was_waiting queue ++ thread ∷ []) other)
+    (waits-not : (other : ℕ) → times_in (was_waiting other) thread ≡ 0) where
   abbrev now : Tables
-  now = record o { threads = threads; waiting = waiting }
+  now = record o { threads = threads }
 
   sends : (other : ℕ) → other ≢ thread → sending_in threads other ≡ sending_in o.threads other
   sends other apart = ap (option_and_then (λ t. t.sending)) (replaced other ∙ put-there (thread_in o.threads) thread _ other apart)
@@ -114,7 +114,7 @@ module _ (o : Tables) (threads : List (Option Thread)) (waiting : QueuedThreads)
   sends-this = ap (option_and_then (λ t. t.sending)) (replaced thread ∙ put-here (thread_in o.threads) thread _)
 
   abbrev before : List ℕ
-  before = queue_of o.waiting memory queue
+  before = was_waiting queue
 
   old-senders : senders-by (sending_in threads) before ≡ senders-by (sending_in o.threads) before
   old-senders = senders-same (sending_in threads) (sending_in o.threads) thread before sends (waits-not queue)
@@ -149,40 +149,39 @@ module _ (o : Tables) (threads : List (Option Thread)) (waiting : QueuedThreads)
   apart-from : queue ≢ thread
   apart-from same = let clash : None ≡ Some held = sym free ∙ ap (thread_in o.threads) same ∙ there in cc
 
-  joined-here : object_in now memory queue ≡ option_map (joined thread sending) (object_in o memory queue)
+  joined-here : object_in now waiting queue ≡ option_map (joined thread sending) (object_in o was_waiting queue)
   joined-here =
-      ap (λ l. object_from (thread_in threads queue) (option_map (object_of threads l) (record_in o.records queue))) (queue-now queue ∙ put-here (queue_of o.waiting memory) queue _)
+      ap (λ l. object_from (thread_in threads queue) (option_map (object_of threads l) (record_in o.records queue))) (queue-now queue ∙ put-here (was_waiting) queue _)
       ∙ ap (λ t. object_from t (option_map (object_of threads (before ++ thread ∷ [])) (record_in o.records queue)))
       (replaced queue ∙ put-there (thread_in o.threads) thread _ queue apart-from ∙ free)
       ∙ other-joined (record_in o.records queue)
       ∙ ap (λ t. option_map (joined thread sending) (object_from t (option_map (object_of o.threads before) (record_in o.records queue)))) (sym free)
 
-  thread-same : object_in now memory thread ≡ object_in o memory thread
+  thread-same : object_in now waiting thread ≡ object_in o was_waiting thread
   thread-same =
-      ap (λ t. object_from t (option_map (object_of threads (queue_of waiting memory thread)) (record_in o.records thread))) (replaced thread ∙ put-here (thread_in o.threads) thread _)
-      ∙ ap (λ t. object_from t (option_map (object_of o.threads (queue_of o.waiting memory thread)) (record_in o.records thread))) (sym there)
+      ap (λ t. object_from t (option_map (object_of threads (waiting thread)) (record_in o.records thread))) (replaced thread ∙ put-here (thread_in o.threads) thread _)
+      ∙ ap (λ t. object_from t (option_map (object_of o.threads (was_waiting thread)) (record_in o.records thread))) (sym there)
 
-  other-same-there : (other : ℕ) → other ≢ thread → other ≢ queue → object_in now memory other ≡ object_in o memory other
+  other-same-there : (other : ℕ) → other ≢ thread → other ≢ queue → object_in now waiting other ≡ object_in o was_waiting other
   other-same-there other from_thread from_queue =
-      ap (λ t. object_from t (option_map (object_of threads (queue_of waiting memory other)) (record_in o.records other)))
+      ap (λ t. object_from t (option_map (object_of threads (waiting other)) (record_in o.records other)))
       (replaced other ∙ put-there (thread_in o.threads) thread _ other from_thread)
       ∙ ap (λ l. object_from (thread_in o.threads other) (option_map (object_of threads l) (record_in o.records other)))
-      (queue-now other ∙ put-there (queue_of o.waiting memory) queue _ other from_queue)
+      (queue-now other ∙ put-there (was_waiting) queue _ other from_queue)
       ∙ ap (object_from (thread_in o.threads other))
-      (other-same o.threads threads thread (queue_of o.waiting memory other) (record_in o.records other) sends (waits-not other))
+      (other-same o.threads threads thread (was_waiting other) (record_in o.records other) sends (waits-not other))
 
-  object-joined : (other : ℕ) → object_in now memory other ≡ put (object_in o memory) queue (option_map (joined thread sending) (object_in o memory queue)) other
+  object-joined : (other : ℕ) → object_in now waiting other ≡ put (object_in o was_waiting) queue (option_map (joined thread sending) (object_in o was_waiting queue)) other
   object-joined other = elim (eqb_tells other queue) [
     | inl here ↦
-        ap (object_in now memory) here.1 ∙ joined-here
-        ∙ ap (λ b. if b then option_map (joined thread sending) (object_in o memory queue) else object_in o memory other) (sym here.0)
+        ap (object_in now waiting) here.1 ∙ joined-here
+        ∙ ap (λ b. if b then option_map (joined thread sending) (object_in o was_waiting queue) else object_in o was_waiting other) (sym here.0)
     | inr apart ↦
         (elim (eqb_tells other thread) [
-          | inl here ↦ ap (object_in now memory) here.1 ∙ thread-same ∙ ap (object_in o memory) (sym here.1)
+          | inl here ↦ ap (object_in now waiting) here.1 ∙ thread-same ∙ ap (object_in o was_waiting) (sym here.1)
           | inr differs ↦ other-same-there other differs.1 apart.1
-        ]) ∙ ap (λ b. if b then option_map (joined thread sending) (object_in o memory queue) else object_in o memory other) (sym apart.0)
+        ]) ∙ ap (λ b. if b then option_map (joined thread sending) (object_in o was_waiting queue) else object_in o was_waiting other) (sym apart.0)
   ]
 
-  pub joined-state : (slots : Slots) → state_of now slots memory ≡ changed_at (state_of o slots memory) queue (joined thread sending)
-  unfolding state_of told_by
-  joined-state slots = λ i. record (state_of o slots memory) { objects = λ other. object-joined other i }
+  pub joined-state : (ready : ℕ → List ℕ) (slots : Slots) (memory : List ℕ) → state_with now waiting ready slots memory ≡ changed_at (state_with o was_waiting ready slots memory) queue (joined thread sending)
+  joined-state ready slots memory = λ i. record (state_with o was_waiting ready slots memory) { objects = λ other. object-joined other i }

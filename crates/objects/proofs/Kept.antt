@@ -21,16 +21,13 @@ put-there m place value other apart = elim (eqb_tells other place) [
 
 -- tables of the same sizes, if CNodes are small
 pub kept : (o n : Tables) → AreTables o → n.bits ≡ o.bits → n.radix ≡ o.radix → length n.records ≡ length o.records → length n.threads ≡ length o.threads
-    → n.waiting.limit ≡ o.waiting.limit → n.ready.limit ≡ o.ready.limit
     → ((offset radix : ℕ) → record_in n.records offset ≡ Some (CNode radix) → radix ≤ 14) → AreTables n
-kept o n are bits radix records threads waiting ready small = record {
+kept o n are bits radix records threads small = record {
   least_bits = omega (arith, bits, are.least_bits);
   most_bits = omega (arith, bits, are.most_bits);
   most_radix = omega (arith, radix, are.most_radix);
   record_places = ap (λ (x : ℕ). 16 * x) records ∙ are.record_places ∙ ap (λ (x : ℕ). 2 ^ x) (sym bits);
   thread_places = ap (λ (x : ℕ). 512 * x) threads ∙ are.thread_places ∙ ap (λ (x : ℕ). 2 ^ x) (sym bits);
-  waiting_room = waiting ∙ are.waiting_room ∙ sym threads;
-  ready_room = ready ∙ are.ready_room ∙ sym threads;
   nodes = small;
 }
 

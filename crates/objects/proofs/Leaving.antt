@@ -7,22 +7,22 @@ use Rattle.model.specs.Kernel.State.{Object, EndpointObject, NotificationObject}
 use Rattle.model.specs.Shared.Lists.{without}
 use Rattle.objects.proofs.Lists.{receivers-by, receivers-part, senders-by, senders-part}
 use Rattle.objects.specs.Changes.{voided}
-use Rattle.objects.specs.Tables.{Tables, object_from, object_in, object_of, receivers_in, record_in, senders_in, sending_in, state_of, thread_in, told_by}
+use Rattle.objects.specs.Tables.{Tables, object_from, object_in, object_of, receivers_in, record_in, senders_in, sending_in, thread_in}
 use Rattle.objects.specs.declared.records.Record.{Record}
 use Rattle.objects.specs.declared.records.Record.TheVariants.{Endpoint, Notification, CNode, Frame, PageTable, RootTable}
 use Rattle.objects.specs.declared.records.Thread.{Thread}
-use Rattle.queues.specs.Queues.{QueuedThreads, queue_of}
+use Rattle.objects.proofs.Told.{state_with}
 
 sends-still : (gone : ℕ) (o : Option Thread) → option_and_then (λ t. t.sending) (option_map (voided gone) o) ≡ option_and_then (λ t. t.sending) o
 sends-still gone (Some t) = refl
 sends-still gone None = refl
 
-module _ (o : Tables) (threads : List (Option Thread)) (waiting ready : QueuedThreads) (thread : ℕ) (memory : List ℕ)
+module _ (o : Tables) (threads : List (Option Thread)) (was_waiting waiting was_ready ready : ℕ → List ℕ) (thread : ℕ)
     (void : (other : ℕ) → thread_in threads other ≡ option_map (voided thread) (thread_in o.threads other))
-    (left : (queue : ℕ) → queue_of waiting memory queue ≡ without thread (queue_of o.waiting memory queue))
-    (unready : (priority : ℕ) → queue_of ready memory priority ≡ without thread (queue_of o.ready memory priority)) where
+    (left : (queue : ℕ) → waiting queue ≡ without thread (was_waiting queue))
+    (unready : (priority : ℕ) → ready priority ≡ without thread (was_ready priority)) where
   abbrev now : Tables
-  now = record o { threads = threads; waiting = waiting; ready = ready }
+  now = record o { threads = threads }
 
   abbrev gone : ℕ → Bool
   gone other = other == thread
@@ -30,18 +30,18 @@ module _ (o : Tables) (threads : List (Option Thread)) (waiting ready : QueuedTh
   sends : (other : ℕ) → sending_in threads other ≡ sending_in o.threads other
   sends other = ap (option_and_then (λ t. t.sending)) (void other) ∙ sends-still thread (thread_in o.threads other)
 
-  senders-left : (queue : ℕ) → senders_in threads (queue_of waiting memory queue)
-      ≡ filter (λ sender. not (gone sender.thread)) (senders_in o.threads (queue_of o.waiting memory queue))
+  senders-left : (queue : ℕ) → senders_in threads (waiting queue)
+      ≡ filter (λ sender. not (gone sender.thread)) (senders_in o.threads (was_waiting queue))
   senders-left queue =
-      (λ i. senders-by (λ other. sends other i) (left queue i)) ∙ senders-part (sending_in o.threads) gone (queue_of o.waiting memory queue)
+      (λ i. senders-by (λ other. sends other i) (left queue i)) ∙ senders-part (sending_in o.threads) gone (was_waiting queue)
 
-  receivers-left : (queue : ℕ) → receivers_in threads (queue_of waiting memory queue)
-      ≡ filter (λ other. not (gone other)) (receivers_in o.threads (queue_of o.waiting memory queue))
+  receivers-left : (queue : ℕ) → receivers_in threads (waiting queue)
+      ≡ filter (λ other. not (gone other)) (receivers_in o.threads (was_waiting queue))
   receivers-left queue =
-      (λ i. receivers-by (λ other. sends other i) (left queue i)) ∙ receivers-part (sending_in o.threads) gone (queue_of o.waiting memory queue)
+      (λ i. receivers-by (λ other. sends other i) (left queue i)) ∙ receivers-part (sending_in o.threads) gone (was_waiting queue)
 
-  record-left : (queue : ℕ) (r : Record) → object_of threads (queue_of waiting memory queue) r
-      ≡ without_threads gone (object_of o.threads (queue_of o.waiting memory queue) r)
+  record-left : (queue : ℕ) (r : Record) → object_of threads (waiting queue) r
+      ≡ without_threads gone (object_of o.threads (was_waiting queue) r)
   record-left queue Endpoint = λ i. EndpointObject (record { senders = senders-left queue i; receivers = receivers-left queue i })
   record-left queue (Notification word) = λ i. NotificationObject (record { word = word; waiters = left queue i })
   record-left queue (CNode radix) = refl
@@ -49,8 +49,8 @@ module _ (o : Tables) (threads : List (Option Thread)) (waiting ready : QueuedTh
   record-left queue PageTable = refl
   record-left queue RootTable = refl
 
-  other-left : (queue : ℕ) (r : Option Record) → option_map (object_of threads (queue_of waiting memory queue)) r
-      ≡ option_map (without_threads gone) (option_map (object_of o.threads (queue_of o.waiting memory queue)) r)
+  other-left : (queue : ℕ) (r : Option Record) → option_map (object_of threads (waiting queue)) r
+      ≡ option_map (without_threads gone) (option_map (object_of o.threads (was_waiting queue)) r)
   other-left queue (Some r) = ap Some (record-left queue r)
   other-left queue None = refl
 
@@ -59,14 +59,13 @@ module _ (o : Tables) (threads : List (Option Thread)) (waiting ready : QueuedTh
   from-left (Some t) p q same = refl
   from-left None p q same = same
 
-  object-left : (offset : ℕ) → object_in now memory offset ≡ option_map (without_threads gone) (object_in o memory offset)
+  object-left : (offset : ℕ) → object_in now waiting offset ≡ option_map (without_threads gone) (object_in o was_waiting offset)
   object-left offset =
-      ap (λ t. object_from t (option_map (object_of threads (queue_of waiting memory offset)) (record_in o.records offset))) (void offset)
+      ap (λ t. object_from t (option_map (object_of threads (waiting offset)) (record_in o.records offset))) (void offset)
       ∙ from-left (thread_in o.threads offset) _ _ (other-left offset (record_in o.records offset))
 
-  pub left-state : (slots : Slots) → state_of now slots memory ≡ leaves (state_of o slots memory) thread
-  unfolding state_of told_by
-  left-state slots = λ i. record (state_of o slots memory) {
+  pub left-state : (slots : Slots) (memory : List ℕ) → state_with now waiting ready slots memory ≡ leaves (state_with o was_waiting was_ready slots memory) thread
+  left-state slots memory = λ i. record (state_with o was_waiting was_ready slots memory) {
     objects = λ offset. object-left offset i;
     ready = λ priority. unready priority i;
   }

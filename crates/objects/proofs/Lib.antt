@@ -18,5 +18,6 @@ mod Replacing
 mod Serving
 mod Stepping
 mod Stranded
+mod Told
 mod Vacating
 pub mod Laws

@@ -1,7 +1,8 @@
 -- Who waits at an endpoint, as parts of a list and after changes of other threads.
-use Rattle.std.proofs.Common.{ℕ, ◌≡◌, ◌≢◌, ◌∙◌, ◌+◌, inl, inr, Bool, not, if◌then◌else◌, Option, is_some, option_map, List, [], ◌∷◌, filter, refl, sym, ap, arith}
+use Rattle.std.proofs.Common.{ℕ, ◌≡◌, ◌≢◌, ◌∙◌, ◌+◌, inl, inr, Bool, not, if◌then◌else◌, Option, Some, None, is_some, option_map, List, [], ◌∷◌, drop, filter, refl, sym, ap, arith}
 use Rattle.std.specs.Prelude.{filter_map}
 use Rattle.std.proofs.lemmas.Bool.Decides.{eqb_tells}
+use Rattle.model.specs.Kernel.Scheduling.{head_of}
 use Rattle.model.specs.Kernel.State.{Sender}
 use Rattle.model.specs.Shared.Lists.{times_in}
 use Rattle.objects.specs.Threads.{sender_of}
@@ -50,3 +51,9 @@ pub receivers-same : (f g : ℕ → Option Sending) (thread : ℕ) (waiting : Li
 receivers-same f g thread [] same none = refl
 receivers-same f g thread (x ∷ rest) same none =
     let parts = times-first thread x rest none in receivers-first f g x rest (same x parts.0) (receivers-same f g thread rest same parts.1)
+
+-- ---- the first of a list
+
+pub head-rest : (threads : List ℕ) (thread : ℕ) → head_of threads ≡ Some thread → threads ≡ thread ∷ drop 1 threads
+head-rest [] thread is = absurd (let clash : None ≡ Some thread = is in cc)
+head-rest (t ∷ rest) thread is = ap (λ x. x ∷ rest) (let same : t ≡ thread = cc in same)

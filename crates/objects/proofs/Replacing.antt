@@ -1,10 +1,8 @@
 -- A thread is replaced by one that sends the same.
-use Rattle.std.proofs.Common.{ℕ, ◌≡◌, ◌∙◌, ◌==◌, ◌/◌, ◌%◌, ◌<◌, inl, inr, Bool, true, false, if◌then◌else◌, Option, Some, None, is_some, option_map, List, [], length, refl, sym, ap}
-use Rattle.std.specs.Prelude.{option_and_then, slice_index_or}
+use Rattle.std.proofs.Common.{ℕ, ◌≡◌, ◌∙◌, ◌==◌, inl, inr, Bool, true, false, if◌then◌else◌, Option, Some, None, is_some, option_map, List, [], refl, sym, ap}
+use Rattle.std.specs.Prelude.{option_and_then}
 use Rattle.std.specs.Option.{option_map_or}
-use Rattle.std.proofs.lemmas.Bool.{cases_lt}
 use Rattle.std.proofs.lemmas.Bool.Decides.{eqb_tells}
-use Rattle.std.proofs.lemmas.List.{get_or_past}
 use Rattle.model.specs.Capabilities.Slots.{Slots}
 use Rattle.model.specs.Kernel.Kinds.{kind_at, kind_of}
 use Rattle.model.specs.Kernel.Messages.{with_registers}
@@ -17,13 +15,15 @@ use Rattle.objects.proofs.Ends.{as-thread}
 use Rattle.objects.proofs.Kept.{put-here, put-there}
 use Rattle.objects.proofs.Lists.{receivers-by, senders-by}
 use Rattle.objects.specs.Changes.{registered}
-use Rattle.objects.specs.Tables.{Tables, kind_in, object_from, object_in, object_of, placed, record_in, sending_in, state_of, thread_in, told_by}
+use Rattle.objects.specs.Tables.{Tables, kind_in, object_from, object_in, object_of, ready_at, record_in, sending_in, state_of, thread_in, told_by, waiting_of}
 use Rattle.objects.specs.Threads.{status_of, thread_state}
 use Rattle.objects.specs.declared.records.Record.{Record}
 use Rattle.objects.specs.declared.records.Record.TheVariants.{Endpoint, Notification, CNode, Frame, PageTable, RootTable}
 use Rattle.objects.specs.declared.records.Status.TheVariants.{Runnable}
 use Rattle.objects.specs.declared.records.Thread.{Thread}
-use Rattle.queues.specs.Queues.{QueuedThreads, queue_of}
+use Rattle.objects.proofs.Frames.{kind-put}
+use Rattle.objects.proofs.Told.{state_with, told, told-same}
+pub use Rattle.objects.proofs.Told.{aligned, within}
 
 -- ---- threads that are there
 
@@ -31,7 +31,7 @@ use Rattle.queues.specs.Queues.{QueuedThreads, queue_of}
 pub thread-state : (o : Tables) (offset : ℕ) (slots : Slots) (memory : List ℕ)
     → thread_at (state_of o slots memory) offset ≡ option_map_or (λ t. t) (option_map thread_state (thread_in o.threads offset)) new_thread
 unfolding state_of told_by
-thread-state o offset slots memory = ap (λ t. option_map_or (λ t. t) t new_thread) (as-thread o memory offset)
+thread-state o offset slots memory = ap (λ t. option_map_or (λ t. t) t new_thread) (as-thread o (waiting_of o memory) offset)
 
 pub thread-is : (o : Tables) (offset : ℕ) (t : Thread) (slots : Slots) (memory : List ℕ) → thread_in o.threads offset ≡ Some t
     → thread_at (state_of o slots memory) offset ≡ thread_state t
@@ -41,7 +41,7 @@ thread-is o offset t slots memory is =
 pub thread-kind : (o : Tables) (offset : ℕ) (t : Thread) (slots : Slots) (memory : List ℕ) → thread_in o.threads offset ≡ Some t
     → kind_at (state_of o slots memory) offset ≡ Some NewThread
 unfolding state_of told_by
-thread-kind o offset t slots memory is = ap (λ found. option_map kind_of (object_from found (option_map (object_of o.threads (queue_of o.waiting memory offset)) (record_in o.records offset)))) is
+thread-kind o offset t slots memory is = ap (λ found. option_map kind_of (object_from found (option_map (object_of o.threads (waiting_of o memory offset)) (record_in o.records offset)))) is
 
 pub registers-of : (o : Tables) (offset : ℕ) (slots : Slots) (memory : List ℕ)
     → (thread_at (state_of o slots memory) offset).registers
@@ -82,26 +82,11 @@ thread-there o offset =
       | None ↦ λ is. no-thread-kind o.threads [] (record_in o.records offset) is
     ]
 
--- what stands somewhere has an entry
-pub aligned : {A : Type 0} (size : ℕ) (entries : List (Option A)) (offset : ℕ) → is_some (placed size entries offset) ≡ true → offset % size ≡ 0
-aligned {A} size entries offset some = elim (eqb_tells (offset % size) 0) [
-  | inl here ↦ here.1
-  | inr apart ↦ absurd (let clash : false ≡ true = sym (ap (λ b. is_some (if b then slice_index_or entries (offset / size) None else None)) apart.0) ∙ some in cc)
-]
-
-nothing : {A : Type 0} (b : Bool) (x : Option A) → x ≡ None → (if b then x else None) ≡ None
-nothing true x is = is
-nothing false x is = refl
-
-pub within : {A : Type 0} (size : ℕ) (entries : List (Option A)) (offset : ℕ) → is_some (placed size entries offset) ≡ true → offset / size < length entries
-within {A} size entries offset some = elim (cases_lt (offset / size) (length entries)) [
-  | inl inside ↦ inside
-  | inr outside ↦
-      let none : placed size entries offset ≡ None = nothing (offset % size == 0) _ (get_or_past entries (offset / size) None outside) in
-      absurd (let clash : false ≡ true = sym (ap is_some none) ∙ some in cc)
-]
-
 -- ---- the state with another thread
+
+some-kind : (t : Option Thread) (p : Option Object) → is_some t ≡ true → option_map kind_of (object_from t p) ≡ Some NewThread
+some-kind (Some t) p there = refl
+some-kind None p there = absurd (let clash : false ≡ true = there in cc)
 
 module _ (o : Tables) (threads : List (Option Thread)) (thread : ℕ) (after : Thread)
     (replaced : (other : ℕ) → thread_in threads other ≡ put (thread_in o.threads) thread (Some after) other)
@@ -137,16 +122,26 @@ module _ (o : Tables) (threads : List (Option Thread)) (thread : ℕ) (after : T
   from-put true t p = refl
   from-put false t p = refl
 
-  object-replaced : (memory : List ℕ) (other : ℕ) → object_in now memory other ≡ put (object_in o memory) thread (Some (ThreadObject (thread_state after))) other
-  object-replaced memory other =
-      ap (λ t. object_from t (option_map (object_of threads (queue_of o.waiting memory other)) (record_in o.records other))) (replaced other)
+  object-replaced : (waiting : ℕ → List ℕ) (other : ℕ) → object_in now waiting other ≡ put (object_in o waiting) thread (Some (ThreadObject (thread_state after))) other
+  object-replaced waiting other =
+      ap (λ t. object_from t (option_map (object_of threads (waiting other)) (record_in o.records other))) (replaced other)
       ∙ from-put (other == thread) (thread_in o.threads other) _
       ∙ ap (λ p. if other == thread then Some (ThreadObject (thread_state after)) else object_from (thread_in o.threads other) p)
-      (other-still (queue_of o.waiting memory other) (record_in o.records other))
+      (other-still (waiting other) (record_in o.records other))
 
-  pub replaced-state : (slots : Slots) (memory : List ℕ) → state_of now slots memory ≡ with_thread (state_of o slots memory) thread (thread_state after)
-  unfolding state_of told_by
-  replaced-state slots memory = λ i. record (state_of o slots memory) { objects = λ other. object-replaced memory other i }
+  pub replaced-with : (waiting ready : ℕ → List ℕ) (slots : Slots) (memory : List ℕ) → state_with now waiting ready slots memory ≡ with_thread (state_with o waiting ready slots memory) thread (thread_state after)
+  replaced-with waiting ready slots memory = λ i. record (state_with o waiting ready slots memory) { objects = λ other. object-replaced waiting other i }
+
+  module _ (there : is_some (thread_in o.threads thread) ≡ true) where
+    pub kinds-replaced : (other : ℕ) → kind_in now other ≡ kind_in o other
+    kinds-replaced other =
+        ap (option_map kind_of) (object-replaced (λ queue. []) other)
+        ∙ kind-put (object_in o (λ queue. [])) thread (ThreadObject (thread_state after)) (some-kind (thread_in o.threads thread) _ there) other
+
+    pub replaced-state : (slots : Slots) (memory : List ℕ) → state_of now slots memory ≡ with_thread (state_of o slots memory) thread (thread_state after)
+    replaced-state slots memory =
+        told-same o now kinds-replaced slots memory ∙ replaced-with (waiting_of o memory) (ready_at o memory) slots memory
+        ∙ ap (λ (s : State). with_thread s thread (thread_state after)) (sym (told o slots memory))
 
 -- ---- the state with other registers of a thread
 
@@ -160,7 +155,7 @@ registered-state o threads offset registers changed there slots memory =
       | Some t ↦ λ is some.
           replaced-state o threads offset (registered registers t)
           (λ other. changed other ∙ ap (λ found. put (thread_in o.threads) offset (option_map (registered registers) found) other) is)
-          (ap (option_and_then (λ t. t.sending)) is) slots memory
+          (ap (option_and_then (λ t. t.sending)) is) there slots memory
           ∙ ap (λ t. with_thread (state_of o slots memory) offset (record t { registers = registers }))
           (sym (thread-state o offset slots memory ∙ ap (λ found. option_map_or (λ t. t) (option_map thread_state found) new_thread) is))
       | None ↦ λ is some. absurd (let clash : false ≡ true = some in cc)
@@ -168,13 +163,8 @@ registered-state o threads offset registers changed there slots memory =
 
 -- ---- the ready list
 
-pub ready-state : (o : Tables) (ready : QueuedThreads) (slots : Slots) (memory : List ℕ) (queues : ℕ → List ℕ) → ((priority : ℕ) → queue_of ready memory priority ≡ queues priority)
-    → state_of (record o { ready = ready }) slots memory ≡ record (state_of o slots memory) { ready = queues }
-unfolding state_of told_by
-ready-state o ready slots memory queues is = λ i. record (state_of o slots memory) { ready = λ priority. is priority i }
-
 -- the ready list is the table's
-pub ready-is : (o : Tables) (slots : Slots) (memory : List ℕ) → (state_of o slots memory).ready ≡ queue_of o.ready memory
+pub ready-is : (o : Tables) (slots : Slots) (memory : List ℕ) → (state_of o slots memory).ready ≡ ready_at o memory
 unfolding state_of told_by
 ready-is o slots memory = refl
 

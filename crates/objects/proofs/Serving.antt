@@ -4,16 +4,15 @@ use Rattle.std.proofs.lemmas.Bool.Decides.{eqb_tells}
 use Rattle.model.specs.Capabilities.Slots.{Slots}
 use Rattle.model.specs.Kernel.Scheduling.{head_of}
 use Rattle.model.specs.Kernel.State.{EndpointObject, put}
-use Rattle.objects.proofs.Lists.{receivers-by, senders-by}
-use Rattle.objects.specs.Tables.{Tables, object_from, object_in, object_of, record_in, sending_in, state_of, thread_in, told_by}
+use Rattle.objects.proofs.Lists.{head-rest, receivers-by, senders-by}
+use Rattle.objects.specs.Tables.{Tables, object_from, object_in, object_of, record_in, sending_in, thread_in}
 use Rattle.objects.specs.Threads.{sender_of}
 use Rattle.objects.specs.Waiting.{changed_at, served}
 use Rattle.objects.specs.declared.records.Record.{Record}
 use Rattle.objects.specs.declared.records.Record.TheVariants.{Endpoint, Notification, CNode, Frame, PageTable, RootTable}
 use Rattle.objects.specs.declared.records.Sending.{Sending}
 use Rattle.objects.specs.declared.records.Thread.{Thread}
-use Rattle.queues.proofs.Laws.{head-rest}
-use Rattle.queues.specs.Queues.{QueuedThreads, queue_of}
+use Rattle.objects.proofs.Told.{state_with}
 
 -- ---- the first of a list of those that wait
 
@@ -35,17 +34,14 @@ first-receives sends thread rest is = grind (arith, is)
 
 -- ---- the state without it
 
-module _ (o : Tables) (waiting : QueuedThreads) (queue thread : ℕ) (memory : List ℕ)
-    (queue-now : (other : ℕ) → queue_of waiting memory other ≡ put (queue_of o.waiting memory) queue (drop 1 (queue_of o.waiting memory queue)) other)
-    (first : head_of (queue_of o.waiting memory queue) ≡ Some thread) where
-  abbrev now : Tables
-  now = record o { waiting = waiting }
-
+module _ (o : Tables) (was_waiting waiting : ℕ → List ℕ) (queue thread : ℕ)
+    (queue-now : (other : ℕ) → waiting other ≡ put (was_waiting) queue (drop 1 (was_waiting queue)) other)
+    (first : head_of (was_waiting queue) ≡ Some thread) where
   abbrev rest : List ℕ
-  rest = drop 1 (queue_of o.waiting memory queue)
+  rest = drop 1 (was_waiting queue)
 
-  whole : queue_of o.waiting memory queue ≡ thread ∷ rest
-  whole = head-rest (queue_of o.waiting memory queue) thread first
+  whole : was_waiting queue ≡ thread ∷ rest
+  whole = head-rest (was_waiting queue) thread first
 
   abbrev sending : Option Sending
   sending = sending_in o.threads thread
@@ -74,21 +70,20 @@ module _ (o : Tables) (waiting : QueuedThreads) (queue thread : ℕ) (memory : L
   other-served None (Some r) = ap Some (record-served r)
   other-served None None = refl
 
-  object-served : (other : ℕ) → object_in now memory other ≡ put (object_in o memory) queue (option_map (served sending) (object_in o memory queue)) other
+  object-served : (other : ℕ) → object_in o waiting other ≡ put (object_in o was_waiting) queue (option_map (served sending) (object_in o was_waiting queue)) other
   object-served other =
       ap (λ l. object_from (thread_in o.threads other) (option_map (object_of o.threads l) (record_in o.records other))) (queue-now other)
       ∙ (elim (eqb_tells other queue) [
         | inl here ↦
-            ap (λ b. object_from (thread_in o.threads other) (option_map (object_of o.threads (if b then rest else queue_of o.waiting memory other)) (record_in o.records other))) here.0
+            ap (λ b. object_from (thread_in o.threads other) (option_map (object_of o.threads (if b then rest else was_waiting other)) (record_in o.records other))) here.0
             ∙ ap (λ n. object_from (thread_in o.threads n) (option_map (object_of o.threads rest) (record_in o.records n))) here.1
             ∙ other-served (thread_in o.threads queue) (record_in o.records queue)
             ∙ ap (λ l. option_map (served sending) (object_from (thread_in o.threads queue) (option_map (object_of o.threads l) (record_in o.records queue)))) (sym whole)
-            ∙ ap (λ b. if b then option_map (served sending) (object_in o memory queue) else object_in o memory other) (sym here.0)
+            ∙ ap (λ b. if b then option_map (served sending) (object_in o was_waiting queue) else object_in o was_waiting other) (sym here.0)
         | inr apart ↦
-            ap (λ b. object_from (thread_in o.threads other) (option_map (object_of o.threads (if b then rest else queue_of o.waiting memory other)) (record_in o.records other))) apart.0
-            ∙ ap (λ b. if b then option_map (served sending) (object_in o memory queue) else object_in o memory other) (sym apart.0)
+            ap (λ b. object_from (thread_in o.threads other) (option_map (object_of o.threads (if b then rest else was_waiting other)) (record_in o.records other))) apart.0
+            ∙ ap (λ b. if b then option_map (served sending) (object_in o was_waiting queue) else object_in o was_waiting other) (sym apart.0)
       ])
 
-  pub served-state : (slots : Slots) → state_of now slots memory ≡ changed_at (state_of o slots memory) queue (served sending)
-  unfolding state_of told_by
-  served-state slots = λ i. record (state_of o slots memory) { objects = λ other. object-served other i }
+  pub served-state : (ready : ℕ → List ℕ) (slots : Slots) (memory : List ℕ) → state_with o waiting ready slots memory ≡ changed_at (state_with o was_waiting ready slots memory) queue (served sending)
+  served-state ready slots memory = λ i. record (state_with o was_waiting ready slots memory) { objects = λ other. object-served other i }

@@ -1,60 +1,86 @@
 -- A call that changes queues leaves a state, and what stands stands.
-use Rattle.std.proofs.Common.{ℕ, ◌≡◌, ◌≢◌, ◌∙◌, ◌==◌, ◌≤◌, inl, inr, true, false, if◌then◌else◌, Option, Some, None, is_some, option_map, List, [], ◌∷◌, ◌++◌, drop, refl, sym, ap, subst, arith}
+use Rattle.std.proofs.Common.{ℕ, ◌≡◌, ◌≢◌, ◌∙◌, ◌==◌, inl, inr, true, false, if◌then◌else◌, Option, Some, None, is_some, option_map, List, [], ◌∷◌, ◌++◌, drop, length, refl, sym, ap, subst, arith}
 use Rattle.std.specs.Prelude.{option_and_then, slice_index}
 use Rattle.std.proofs.lemmas.Bool.{cases_lt}
 use Rattle.std.proofs.lemmas.Bool.Decides.{eqb_tells}
 use Rattle.model.specs.Capabilities.Slots.{IsOpen, Slots}
 use Rattle.model.specs.Kernel.Kinds.{frame_around, kind_at, kind_of}
-use Rattle.model.specs.Kernel.Retype.{NewObject, NewThread}
+use Rattle.model.specs.Kernel.Retype.{NewObject}
 use Rattle.model.specs.Kernel.Scheduling.{full_slice, head_of, leaves, to_tail, unready, wake}
-use Rattle.model.specs.Kernel.State.{Runnable, State, ThreadObject, ThreadState, put, thread_at, with_slots, with_thread}
+use Rattle.model.specs.Kernel.State.{Runnable, State, ThreadObject, ThreadState, put, thread_at, with_thread}
 use Rattle.model.specs.Shared.Lists.{times_in, without}
-use Rattle.objects.proofs.Endpoints.{kind-state}
-use Rattle.objects.proofs.Following.{follows-bytes, there-on, wait-on}
+use Rattle.linked_queues.specs.Laws.{AreThreadsIn, KeepHeads, KeepThreads}
+use Rattle.linked_queues.specs.Layout.{AreLaidOut, Places}
+use Rattle.linked_queues.specs.Queues.{QueuesStand, SameBesideWaiting, queue_of}
+use Rattle.linked_queues.specs.Ready.{ReadyStands, SameBesideReady, ready_of}
+use Rattle.linked_queues.specs.Words.{end_of, link_at, link_in}
+use Rattle.linked_queues.specs.declared.words.Ends.{Ends}
+use Rattle.linked_queues.proofs.Laws.{kinds_apart, nobody_named, ready_stays, waiting_stays}
+use Rattle.objects.proofs.Following.{follows-bytes}
 use Rattle.objects.proofs.Frames.{Unmoved, fits-less, kind-joined, kind-left, kind-served, moved-to, one-changed, one-put, record-was, records-then, stands-unmoved}
-use Rattle.objects.proofs.InQueues.{ended-less, left-less, less-there, less-wait, popped-less, pushed-there, pushed-wait, ready-records, waiting-records}
+use Rattle.objects.proofs.InQueues.{ready-records, times-gone, waiting-records}
 use Rattle.objects.proofs.Joining.{free-queue, joined-state, nowhere-queued}
 use Rattle.objects.proofs.Kept.{put-here}
 use Rattle.objects.proofs.Leaving.{left-state}
-use Rattle.objects.proofs.Replacing.{ready-is, ready-state, replaced-state, thread-is, thread-kind, thread-there}
+use Rattle.objects.proofs.Replacing.{ready-is, replaced-state, thread-is, thread-kind, thread-there}
 use Rattle.objects.proofs.Serving.{served-state}
+use Rattle.objects.proofs.Told.{AreThere, kind-state, kind-with, same-places, state_with, told}
 use Rattle.objects.proofs.Vacating.{vacated-state}
 use Rattle.objects.specs.Changes.{vacated, voided}
 use Rattle.objects.specs.Frames.{FitsMemory, SameBesideRecords}
-use Rattle.objects.specs.Standing.{AreThere, Standing, WaitAtObjects}
-use Rattle.objects.specs.Tables.{Tables, record_in, sending_in, state_of, thread_in}
+use Rattle.objects.specs.Standing.{Standing}
+use Rattle.objects.specs.Tables.{Tables, byte_in, is_thread_kind, kind_in, places_of, ready_at, record_in, sending_in, state_of, thread_in, waiting_of}
 use Rattle.objects.specs.Threads.{thread_state}
 use Rattle.objects.specs.Waiting.{StandsNowhere, changed_at, has_waiting, joined, served}
 use Rattle.objects.specs.declared.records.Record.{Record}
 use Rattle.objects.specs.declared.records.Sending.{Sending}
 use Rattle.objects.specs.declared.records.Status.TheVariants as statuses
 use Rattle.objects.specs.declared.records.Thread.{Thread}
-use Rattle.queues.proofs.Laws.{stays, still-stand}
-use Rattle.queues.specs.Queues.{QueuedThreads, QueuesStand, SameBesideThreads, SameBesideWaiting, queue_of}
 
 -- what a call leaves: a state, and that it stands
 pub record Left (n : Tables) (slots : Slots) (memory : List ℕ) (t : State) : Type 0 where
   pub state : state_of n slots memory ≡ t
   pub stands : Standing n slots memory
 
+-- ---- those that wait change beside those that are ready
+
+module _ (p : Places) (slots : Slots) (a b : List ℕ) (laid : AreLaidOut p slots (length a)) (queues : ℕ → List ℕ) (there : AreThreadsIn p queues) where
+  pub ready-beyond : (ends : List Ends) → SameBesideWaiting p queues a b → ReadyStands p ends a → ReadyStands p ends b
+  ready-beyond ends same = ready_stays.stands p p ends a b same.size (λ thread. inl (kinds_apart.ready p slots a b laid queues there same thread))
+
+  pub ready-as-was : (ends : List Ends) → SameBesideWaiting p queues a b → ReadyStands p ends a → (priority : ℕ) → ready_of p ends b priority ≡ ready_of p ends a priority
+  ready-as-was ends same = ready_stays.queues p p ends a b same.size (λ thread. inl (kinds_apart.ready p slots a b laid queues there same thread))
+
+  pub waiting-beyond : SameBesideReady queues a b → QueuesStand p a → QueuesStand p b
+  waiting-beyond same = waiting_stays.stands p p a b same.size (λ thread. inl (kinds_apart.waiting p slots a b laid queues there same thread))
+      (λ queue. inl (kinds_apart.heads p slots a b laid queues there same queue))
+
+  pub waiting-as-was : SameBesideReady queues a b → QueuesStand p a → (queue : ℕ) → queue_of p b queue ≡ queue_of p a queue
+  waiting-as-was same = waiting_stays.queues p p a b same.size (λ thread. inl (kinds_apart.waiting p slots a b laid queues there same thread))
+      (λ queue. inl (kinds_apart.heads p slots a b laid queues there same queue))
+
+-- what is ready stays so while those that wait change
+pub ready-then : (o : Tables) (slots : Slots) (a b : List ℕ) → Standing o slots a → AreLaidOut (places_of o) slots (length a) → SameBesideWaiting (places_of o) (waiting_of o a) a b
+    → ReadyStands (places_of o) o.ready b
+ready-then o slots a b stands laid same =
+    ready-beyond (places_of o) slots a b laid (waiting_of o a) (kinds_apart.waiters (places_of o) a stands.waiting) o.ready same stands.ready
+
 -- No object comes: where bytes of records changed, the state is what the tables tell over the bytes that were there.
-module _ (o n : Tables) (before after : Slots) (old new : List ℕ) (t : State) (stands : Standing o before old) (same_slots : after ≡ before)
-    (is : state_of n before old ≡ t) where
+module _ (o n : Tables) (before after : Slots) (old new : List ℕ) (t : State) (stands : Standing o before old) (same_slots : after ≡ before) where
   abbrev s : State
   s = state_of o before old
 
-  module _ (kinds : (offset : ℕ) (kind : NewObject) → kind_at t offset ≡ Some kind → kind_at s offset ≡ Some kind)
+  module _ (is : state_with n (waiting_of n new) (ready_at n new) before old ≡ t)
+      (kinds : (offset : ℕ) (kind : NewObject) → kind_at t offset ≡ Some kind → kind_at s offset ≡ Some kind)
       (bytes : (place : ℕ) → s.bytes place ≡ None → t.bytes place ≡ None) (slots : t.slots ≡ s.slots) (bits : t.memory_bits ≡ s.memory_bits)
-      (same : SameBesideRecords s old new) (waiting : QueuesStand n.waiting new) (ready : QueuesStand n.ready new)
-      (waiters : AreThere t (queue_of n.waiting new)) (waited : WaitAtObjects t (queue_of n.waiting new)) (runners : AreThere t (queue_of n.ready new)) where
-    frames-same : (place byte : ℕ) → (state_of n before old).bytes place ≡ Some byte → slice_index new place ≡ slice_index old place
+      (same : SameBesideRecords s old new) (waiting : QueuesStand (places_of n) new) (ready : ReadyStands (places_of n) n.ready new) where
+    frames-same : (place byte : ℕ) → byte_in n.records old place ≡ Some byte → slice_index new place ≡ slice_index old place
     frames-same place byte some = same.bytes place (λ held.
         let none = bytes place (stands.fits.apart place held) in
         let clash : None ≡ Some byte = sym none ∙ sym (ap (λ (u : State). u.bytes place) is) ∙ some in absurd cc)
 
     now-state : state_of n after new ≡ t
-    unfolding state_of
-    now-state = follows-bytes n before old new after frames-same ∙ ap (λ (f : Slots). with_slots (state_of n before old) f) same_slots ∙ is
+    now-state = follows-bytes n before old new after frames-same ∙ ap (λ (f : Slots). state_with n (waiting_of n new) (ready_at n new) f old) same_slots ∙ is
 
     pub left-there : Left n after new t
     left-there = record {
@@ -64,134 +90,165 @@ module _ (o n : Tables) (before after : Slots) (old new : List ℕ) (t : State) 
             (λ slot is_open. subst (λ (f : Slots). IsOpen f slot) slots is_open) bytes kinds);
         waiting = waiting;
         ready = ready;
-        waiters = subst (λ (u : State). AreThere u (queue_of n.waiting new)) (sym now-state) waiters;
-        waited = subst (λ (u : State). WaitAtObjects u (queue_of n.waiting new)) (sym now-state) waited;
-        runners = subst (λ (u : State). AreThere u (queue_of n.ready new)) (sym now-state) runners;
       };
     }
 
   -- the objects are the same
-  pub left-same : Unmoved s t → SameBesideRecords s old new → QueuesStand n.waiting new → QueuesStand n.ready new
-      → AreThere s (queue_of n.waiting new) → WaitAtObjects s (queue_of n.waiting new) → AreThere s (queue_of n.ready new) → Left n after new t
-  left-same unmoved same waiting ready waiters waited runners =
-      left-there (λ offset kind k. sym (unmoved.kinds offset) ∙ k) (λ place none. ap (λ (f : ℕ → Option ℕ). f place) unmoved.bytes ∙ none) unmoved.slots unmoved.bits
-      same waiting ready (there-on s t _ (queue_of n.waiting new) unmoved.kinds (λ queue. refl) waiters)
-      (wait-on s t _ (queue_of n.waiting new) unmoved.kinds (λ queue. refl) waited) (there-on s t _ (queue_of n.ready new) unmoved.kinds (λ queue. refl) runners)
+  module _ (is : state_with n (queue_of (places_of o) new) (ready_of (places_of o) n.ready new) before old ≡ t) (unmoved : Unmoved s t) where
+    kinds-are : (offset : ℕ) → kind_in n offset ≡ kind_in o offset
+    kinds-are offset =
+        sym (kind-with n (queue_of (places_of o) new) (ready_of (places_of o) n.ready new) before old offset) ∙ ap (λ (u : State). kind_at u offset) is
+        ∙ unmoved.kinds offset ∙ kind-state o offset before old
 
-module _ (o : Tables) (before after : Slots) (old new : List ℕ) (stands : Standing o before old) (same_slots : after ≡ before) where
+    places-are : places_of n ≡ places_of o
+    places-are = same-places o n kinds-are
+
+    pub left-same : SameBesideRecords s old new → QueuesStand (places_of o) new → ReadyStands (places_of o) n.ready new → Left n after new t
+    left-same same waiting ready =
+        left-there ((λ i. state_with n (queue_of (places-are i) new) (ready_of (places-are i) n.ready new) before old) ∙ is)
+        (λ offset kind k. sym (unmoved.kinds offset) ∙ k) (λ place none. ap (λ (f : ℕ → Option ℕ). f place) unmoved.bytes ∙ none) unmoved.slots unmoved.bits
+        same (subst (λ (p : Places). QueuesStand p new) (sym places-are) waiting) (subst (λ (p : Places). ReadyStands p n.ready new) (sym places-are) ready)
+
+module _ (o : Tables) (before after : Slots) (old new : List ℕ) (stands : Standing o before old) (same_slots : after ≡ before)
+    (laid : AreLaidOut (places_of o) before (length old)) where
   abbrev was : State
   was = state_of o before old
 
-  -- a queue that does not change
-  ready-goes-on : AreThere was (queue_of o.ready new)
-  ready-goes-on = there-on was was (queue_of o.ready old) (queue_of o.ready new) (λ offset. refl) (stays o.ready old new) stands.runners
+  abbrev p : Places
+  p = places_of o
 
-  waiting-goes-on : AreThere was (queue_of o.waiting new)
-  waiting-goes-on = there-on was was (queue_of o.waiting old) (queue_of o.waiting new) (λ offset. refl) (stays o.waiting old new) stands.waiters
+  abbrev waits : ℕ → List ℕ
+  waits = waiting_of o old
 
-  waited-goes-on : WaitAtObjects was (queue_of o.waiting new)
-  waited-goes-on = wait-on was was (queue_of o.waiting old) (queue_of o.waiting new) (λ offset. refl) (stays o.waiting old new) stands.waited
+  abbrev runs : ℕ → List ℕ
+  runs = ready_at o old
+
+  own-waiters : AreThreadsIn p waits
+  own-waiters = kinds_apart.waiters p old stands.waiting
+
+  own-runners : AreThreadsIn p runs
+  own-runners = kinds_apart.runners p o.ready old stands.ready
 
   -- the first of a queue leaves
-  pub serve-left : (waiting : QueuedThreads) (queue thread : ℕ) → head_of (queue_of o.waiting old queue) ≡ Some thread
-      → ((other : ℕ) → queue_of waiting new other ≡ put (queue_of o.waiting old) queue (drop 1 (queue_of o.waiting old queue)) other) → QueuesStand waiting new
-      → SameBesideWaiting (queue_of o.waiting old) old new → Left (record o { waiting = waiting }) after new (changed_at was queue (served (sending_in o.threads thread)))
-  serve-left waiting queue thread first popped queued bytes =
-      let less = popped-less (queue_of o.waiting old) (queue_of waiting new) queue popped in
-      left-same o (record o { waiting = waiting }) before after old new (changed_at was queue (served (sending_in o.threads thread))) stands same_slots
-      (served-state o waiting queue thread old (λ other. stays waiting new old other ∙ popped other) first before)
-      (one-changed was queue (served (sending_in o.threads thread)) (kind-served (sending_in o.threads thread)))
-      (waiting-records was (queue_of o.waiting old) old new stands.waiters stands.waited bytes) queued (still-stand o.ready old new stands.ready)
-      (less-there was (queue_of o.waiting old) (queue_of waiting new) less stands.waiters) (less-wait was (queue_of o.waiting old) (queue_of waiting new) less stands.waited)
-      ready-goes-on
+  pub serve-left : (queue thread : ℕ) → head_of (waits queue) ≡ Some thread
+      → ((other : ℕ) → queue_of p new other ≡ put waits queue (drop 1 (waits queue)) other) → QueuesStand p new → SameBesideWaiting p waits old new
+      → Left o after new (changed_at was queue (served (sending_in o.threads thread))) × SameBesideRecords was old new
+  serve-left queue thread first popped queued bytes =
+      let same = waiting-records o before old old new waits own-waiters bytes in
+      let ready_was = ready-as-was p before old new laid waits own-waiters o.ready bytes stands.ready in (
+        left-same o o before after old new (changed_at was queue (served (sending_in o.threads thread))) stands same_slots
+            (served-state o waits (queue_of p new) queue thread popped first (ready_of p o.ready new) before old
+            ∙ (λ i. changed_at (state_with o waits (λ priority. ready_was priority i) before old) queue (served (sending_in o.threads thread)))
+            ∙ ap (λ (u : State). changed_at u queue (served (sending_in o.threads thread))) (sym (told o before old)))
+            (one-changed was queue (served (sending_in o.threads thread)) (kind-served (sending_in o.threads thread)))
+            same queued (ready-beyond p before old new laid waits own-waiters o.ready bytes stands.ready),
+        same,
+      )
 
   -- a thread comes to stand behind the others
-  pub enqueue-left : (threads : List (Option Thread)) (waiting : QueuedThreads) (queue thread : ℕ) (held : Thread) (sending : Option Sending)
-      → thread_in o.threads thread ≡ Some held → kind_at was thread ≡ Some NewThread → has_waiting (kind_at was queue) ≡ true → StandsNowhere was.objects thread
+  pub enqueue-left : (threads : List (Option Thread)) (queue thread : ℕ) (held : Thread) (sending : Option Sending)
+      → thread_in o.threads thread ≡ Some held → has_waiting (kind_at was queue) ≡ true → StandsNowhere was.objects thread
       → ((other : ℕ) → thread_in threads other ≡ put (thread_in o.threads) thread (Some (record held { sending = sending })) other)
-      → ((other : ℕ) → queue_of waiting new other ≡ put (queue_of o.waiting old) queue (queue_of o.waiting old queue ++ thread ∷ []) other) → QueuesStand waiting new
-      → SameBesideWaiting (queue_of waiting new) old new
-      → Left (record o { threads = threads; waiting = waiting }) after new (changed_at was queue (joined thread sending)) × SameBesideRecords was old new
-  enqueue-left threads waiting queue thread held sending there kind waits apart replaced pushed queued bytes =
-      let more = pushed-there was (queue_of o.waiting old) (queue_of waiting new) queue thread pushed kind stands.waiters in
-      let at = pushed-wait was (queue_of o.waiting old) (queue_of waiting new) queue thread pushed waits stands.waited in
-      let same = waiting-records was (queue_of waiting new) old new more at bytes in (
-        left-same o (record o { threads = threads; waiting = waiting }) before after old new (changed_at was queue (joined thread sending)) stands same_slots
-            (joined-state o threads waiting queue thread held sending old there (free-queue o before old queue waits) replaced
-            (λ other. stays waiting new old other ∙ pushed other) (nowhere-queued o before old thread stands apart) before)
-            (one-changed was queue (joined thread sending) (kind-joined thread sending)) same queued (still-stand o.ready old new stands.ready) more at ready-goes-on,
+      → ((other : ℕ) → queue_of p new other ≡ put waits queue (waits queue ++ thread ∷ []) other) → QueuesStand p new
+      → SameBesideWaiting p (queue_of p new) old new
+      → Left (record o { threads = threads }) after new (changed_at was queue (joined thread sending)) × SameBesideRecords was old new
+  enqueue-left threads queue thread held sending there may apart replaced pushed queued bytes =
+      let now-waiters = kinds_apart.waiters p new queued in
+      let same = waiting-records o before old old new (queue_of p new) now-waiters bytes in
+      let ready_was = ready-as-was p before old new laid (queue_of p new) now-waiters o.ready bytes stands.ready in (
+        left-same o (record o { threads = threads }) before after old new (changed_at was queue (joined thread sending)) stands same_slots
+            (joined-state o threads waits (queue_of p new) queue thread held sending there (free-queue o before old queue may) replaced pushed
+            (nowhere-queued o before old thread stands apart) (ready_of p o.ready new) before old
+            ∙ (λ i. changed_at (state_with o waits (λ priority. ready_was priority i) before old) queue (joined thread sending))
+            ∙ ap (λ (u : State). changed_at u queue (joined thread sending)) (sym (told o before old)))
+            (one-changed was queue (joined thread sending) (kind-joined thread sending)) same queued
+            (ready-beyond p before old new laid (queue_of p new) now-waiters o.ready bytes stands.ready),
         same,
       )
 
   -- a thread leaves the ready list
-  pub unready-left : (ready : QueuedThreads) (thread : ℕ) → ((priority : ℕ) → queue_of ready new priority ≡ without thread (queue_of o.ready old priority)) → QueuesStand ready new
-      → SameBesideThreads (queue_of o.ready old) old new → Left (record o { ready = ready }) after new (unready was thread)
+  pub unready-left : (ready : List Ends) (thread : ℕ) → ((priority : ℕ) → ready_of p ready new priority ≡ without thread (runs priority)) → ReadyStands p ready new
+      → SameBesideReady runs old new → Left (record o { ready = ready }) after new (unready was thread) × SameBesideRecords was old new
   unready-left ready thread left queued bytes =
-      left-same o (record o { ready = ready }) before after old new (unready was thread) stands same_slots
-      (ready-state o ready before old (unready was thread).ready
-      (λ priority. stays ready new old priority ∙ left priority ∙ ap (λ (f : ℕ → List ℕ). without thread (f priority)) (sym (ready-is o before old))))
-      (record { kinds = λ offset. refl; bytes = refl; slots = refl; bits = refl })
-      (ready-records was (queue_of o.ready old) old new stands.runners bytes) (still-stand o.waiting old new stands.waiting) queued waiting-goes-on waited-goes-on
-      (less-there was (queue_of o.ready old) (queue_of ready new) (left-less (queue_of o.ready old) (queue_of ready new) thread left) stands.runners)
-
-  -- a thread leaves all queues, and nobody has the right to reply to it
-  pub forget-left : (threads : List (Option Thread)) (waiting ready : QueuedThreads) (thread : ℕ) (mid : List ℕ)
-      → ((other : ℕ) → thread_in threads other ≡ option_map (voided thread) (thread_in o.threads other))
-      → ((queue : ℕ) → queue_of waiting mid queue ≡ without thread (queue_of o.waiting old queue)) → QueuesStand waiting mid
-      → SameBesideWaiting (queue_of o.waiting old) old mid
-      → ((priority : ℕ) → queue_of ready new priority ≡ without thread (queue_of o.ready mid priority)) → QueuesStand ready new
-      → SameBesideThreads (queue_of o.ready mid) mid new
-      → Left (record o { threads = threads; waiting = waiting; ready = ready }) after new (leaves was thread) × SameBesideRecords was old new
-  forget-left threads waiting ready thread mid void left queued bytes unready runs more =
-      let left_now : (queue : ℕ) → queue_of waiting new queue ≡ without thread (queue_of o.waiting old queue) = λ queue. stays waiting mid new queue ∙ left queue in
-      let unready_now : (priority : ℕ) → queue_of ready new priority ≡ without thread (queue_of o.ready old priority) =
-      λ priority. unready priority ∙ ap (without thread) (stays o.ready old mid priority) in
-      let runners = there-on was was (queue_of o.ready old) (queue_of o.ready mid) (λ offset. refl) (stays o.ready old mid) stands.runners in
-      let less = left-less (queue_of o.waiting old) (queue_of waiting new) thread left_now in
-      let same = records-then was was old mid new (λ offset kind is. is) (waiting-records was (queue_of o.waiting old) old mid stands.waiters stands.waited bytes)
-      (ready-records was (queue_of o.ready mid) mid new runners more) in (
-        left-same o (record o { threads = threads; waiting = waiting; ready = ready }) before after old new (leaves was thread) stands same_slots
-            (left-state o threads waiting ready thread old void (λ queue. stays waiting mid old queue ∙ left queue) (λ priority. stays ready new old priority ∙ unready_now priority) before)
-            (record { kinds = λ offset. kind-left (λ other. other == thread) (was.objects offset); bytes = refl; slots = refl; bits = refl })
-            same (still-stand waiting mid new queued) runs
-            (less-there was (queue_of o.waiting old) (queue_of waiting new) less stands.waiters) (less-wait was (queue_of o.waiting old) (queue_of waiting new) less stands.waited)
-            (less-there was (queue_of o.ready old) (queue_of ready new) (left-less (queue_of o.ready old) (queue_of ready new) thread unready_now) stands.runners),
+      let same = ready-records o before old old new runs own-runners bytes in
+      let waits_was = waiting-as-was p before old new laid runs own-runners bytes stands.waiting in (
+        left-same o (record o { ready = ready }) before after old new (unready was thread) stands same_slots
+            ((λ i. state_with o (λ queue. waits_was queue i) (λ priority. left priority i) before old) ∙ ap (λ (u : State). unready u thread) (sym (told o before old)))
+            (record { kinds = λ offset. refl; bytes = refl; slots = refl; bits = refl }) same
+            (waiting-beyond p before old new laid runs own-runners bytes stands.waiting) queued,
         same,
       )
 
+  -- a thread leaves all queues, and nobody has the right to reply to it
+  pub forget-left : (threads : List (Option Thread)) (ready : List Ends) (thread : ℕ) (mid : List ℕ)
+      → ((other : ℕ) → thread_in threads other ≡ option_map (voided thread) (thread_in o.threads other))
+      → ((queue : ℕ) → queue_of p mid queue ≡ without thread (waits queue)) → QueuesStand p mid → SameBesideWaiting p waits old mid
+      → ((priority : ℕ) → ready_of p ready new priority ≡ without thread (ready_of p o.ready mid priority)) → ReadyStands p ready new
+      → SameBesideReady (ready_of p o.ready mid) mid new
+      → Left (record o { threads = threads; ready = ready }) after new (leaves was thread) × SameBesideRecords was old new
+      × ((queue : ℕ) → times_in (waiting_of (record o { threads = threads; ready = ready }) new queue) thread ≡ 0)
+      × ((priority : ℕ) → times_in (ready_at (record o { threads = threads; ready = ready }) new priority) thread ≡ 0)
+  forget-left threads ready thread mid void left queued bytes unready runs_now more =
+      let n : Tables = record o { threads = threads; ready = ready } in
+      let laid_mid = subst (AreLaidOut p before) (sym bytes.size) laid in
+      let ready_mid = ready-beyond p before old mid laid waits own-waiters o.ready bytes stands.ready in
+      let ready_was = ready-as-was p before old mid laid waits own-waiters o.ready bytes stands.ready in
+      let mid-runners = kinds_apart.runners p o.ready mid ready_mid in
+      let waits_was = waiting-as-was p before mid new laid_mid (ready_of p o.ready mid) mid-runners more queued in
+      let left_now : (queue : ℕ) → queue_of p new queue ≡ without thread (waits queue) = λ queue. waits_was queue ∙ left queue in
+      let unready_now : (priority : ℕ) → ready_of p ready new priority ≡ without thread (runs priority) = λ priority. unready priority ∙ ap (without thread) (ready_was priority) in
+      let same = records-then was was old mid new (λ offset kind is. is) (waiting-records o before old old mid waits own-waiters bytes)
+      (ready-records o before old mid new (ready_of p o.ready mid) mid-runners more) in
+      let is = left-state o threads waits (queue_of p new) runs (ready_of p ready new) thread void left_now unready_now before old
+      ∙ ap (λ (u : State). leaves u thread) (sym (told o before old)) in
+      let unmoved : Unmoved was (leaves was thread) =
+      record { kinds = λ offset. kind-left (λ other. other == thread) (was.objects offset); bytes = refl; slots = refl; bits = refl } in
+      let same_places = places-are o n before after old new (leaves was thread) stands same_slots is unmoved in (
+        left-same o n before after old new (leaves was thread) stands same_slots is unmoved
+            same (waiting-beyond p before mid new laid_mid (ready_of p o.ready mid) mid-runners more queued) runs_now,
+        same,
+        λ queue. ap (λ (x : Places). times_in (queue_of x new queue) thread) same_places ∙ ap (λ l. times_in l thread) (left_now queue) ∙ times-gone (waits queue) thread,
+        λ priority. ap (λ (x : Places). times_in (ready_of x ready new priority) thread) same_places ∙ ap (λ l. times_in l thread) (unready_now priority) ∙ times-gone (runs priority) thread,
+      )
+
   -- a thread goes to the tail of its priority
-  pub tail-left : (ready mid_ready : QueuedThreads) (thread priority : ℕ) (mid : List ℕ) → kind_at was thread ≡ Some NewThread → priority ≡ (thread_at was thread).priority
-      → ((other : ℕ) → queue_of mid_ready mid other ≡ without thread (queue_of o.ready old other)) → SameBesideThreads (queue_of o.ready old) old mid
-      → ((other : ℕ) → queue_of ready new other ≡ put (queue_of mid_ready mid) priority (queue_of mid_ready mid priority ++ thread ∷ []) other) → QueuesStand ready new
-      → SameBesideThreads (queue_of ready new) mid new
+  pub tail-left : (ready mid_ready : List Ends) (thread priority : ℕ) (mid : List ℕ) → priority ≡ (thread_at was thread).priority
+      → ((other : ℕ) → ready_of p mid_ready mid other ≡ without thread (runs other)) → ReadyStands p mid_ready mid → SameBesideReady runs old mid
+      → ((other : ℕ) → ready_of p ready new other ≡ put (ready_of p mid_ready mid) priority (ready_of p mid_ready mid priority ++ thread ∷ []) other) → ReadyStands p ready new
+      → SameBesideReady (ready_of p ready new) mid new
       → Left (record o { ready = ready }) after new (to_tail was thread) × SameBesideRecords was old new
-  tail-left ready mid_ready thread priority mid kind own left bytes pushed queued more =
-      let part = less-there was (queue_of o.ready old) (queue_of mid_ready mid) (left-less (queue_of o.ready old) (queue_of mid_ready mid) thread left) stands.runners in
-      let runners = pushed-there was (queue_of mid_ready mid) (queue_of ready new) priority thread pushed kind part in
-      let same = records-then was was old mid new (λ offset k is. is) (ready-records was (queue_of o.ready old) old mid stands.runners bytes)
-      (ready-records was (queue_of ready new) mid new runners more) in (
+  tail-left ready mid_ready thread priority mid own left mid_stands bytes pushed queued more =
+      let laid_mid = subst (AreLaidOut p before) (sym bytes.size) laid in
+      let waits_mid = waiting-beyond p before old mid laid runs own-runners bytes stands.waiting in
+      let waits_was = waiting-as-was p before old mid laid runs own-runners bytes stands.waiting in
+      let new-runners = kinds_apart.runners p ready new queued in
+      let waits_now = waiting-as-was p before mid new laid_mid (ready_of p ready new) new-runners more waits_mid in
+      let same = records-then was was old mid new (λ offset k is. is) (ready-records o before old old mid runs own-runners bytes)
+      (ready-records o before old mid new (ready_of p ready new) new-runners more) in
+      let queues : (other : ℕ) → ready_of p ready new other ≡ (to_tail was thread).ready other = λ other. pushed other
+      ∙ (λ i. put (λ q. left q i) priority (left priority i ++ thread ∷ []) other)
+      ∙ ap (λ (f : ℕ → List ℕ). put (λ q. without thread (f q)) priority (without thread (f priority) ++ thread ∷ []) other) (sym (ready-is o before old))
+      ∙ ap (λ (n : ℕ). put (λ q. without thread (was.ready q)) n (without thread (was.ready n) ++ thread ∷ []) other) own in (
         left-same o (record o { ready = ready }) before after old new (to_tail was thread) stands same_slots
-            (ready-state o ready before old (to_tail was thread).ready
-            (λ other. stays ready new old other ∙ pushed other
-            ∙ (λ i. put (λ p. left p i) priority (left priority i ++ thread ∷ []) other)
-            ∙ ap (λ (f : ℕ → List ℕ). put (λ p. without thread (f p)) priority (without thread (f priority) ++ thread ∷ []) other) (sym (ready-is o before old))
-            ∙ ap (λ (p : ℕ). put (λ q. without thread (was.ready q)) p (without thread (was.ready p) ++ thread ∷ []) other) own))
-            (record { kinds = λ offset. refl; bytes = refl; slots = refl; bits = refl }) same (still-stand o.waiting old new stands.waiting) queued waiting-goes-on waited-goes-on runners,
+            ((λ i. state_with o (λ queue. (waits_now queue ∙ waits_was queue) i) (λ other. queues other i) before old)
+            ∙ ap (λ (u : State). record u { ready = (to_tail was thread).ready }) (sym (told o before old)))
+            (record { kinds = λ offset. refl; bytes = refl; slots = refl; bits = refl }) same
+            (waiting-beyond p before mid new laid_mid (ready_of p ready new) new-runners more waits_mid) queued,
         same,
       )
 
   -- nothing stands at an offset any more
-  module _ (records : List (Option Record)) (threads : List (Option Thread)) (waiting : QueuedThreads) (offset : ℕ)
-      (waits_not : (queue : ℕ) → times_in (queue_of o.waiting old queue) offset ≡ 0) (ready_not : (priority : ℕ) → times_in (queue_of o.ready old priority) offset ≡ 0)
+  module _ (records : List (Option Record)) (threads : List (Option Thread)) (offset : ℕ)
+      (waits_not : (queue : ℕ) → times_in (waits queue) offset ≡ 0) (ready_not : (priority : ℕ) → times_in (runs priority) offset ≡ 0)
       (unrecorded : (other : ℕ) → record_in records other ≡ put (record_in o.records) offset None other)
       (unthreaded : (other : ℕ) → thread_in threads other ≡ put (thread_in o.threads) offset None other)
-      (ended : (queue : ℕ) → queue_of waiting new queue ≡ put (queue_of o.waiting old) offset [] queue) (queued : QueuesStand waiting new)
-      (bytes : SameBesideWaiting (queue_of o.waiting old) old new) where
+      (ended : (queue : ℕ) → queue_of p new queue ≡ put waits offset [] queue) (queued : QueuesStand p new)
+      (bytes : SameBesideWaiting p waits old new) where
     abbrev vacant : State
     vacant = vacated was offset
 
-    less : (queue thread : ℕ) → times_in (queue_of waiting new queue) thread ≤ times_in (queue_of o.waiting old queue) thread
-    less = ended-less (queue_of o.waiting old) (queue_of waiting new) offset ended
+    abbrev n : Tables
+    n = record o { records = records; threads = threads }
 
     kinds-then : (other : ℕ) (k : NewObject) → kind_at vacant other ≡ Some k → kind_at was other ≡ Some k
     kinds-then other k is = elim (offset == other) as (λ b. option_map kind_of (if b then None else was.objects other) ≡ Some k → kind_at was other ≡ Some k) [
@@ -212,60 +269,129 @@ module _ (o : Tables) (before after : Slots) (old new : List ℕ) (stands : Stan
       | inr apart ↦ ap (λ b. option_map kind_of (if b then None else was.objects other)) apart.0
     ]
 
-    there-then : (queues : ℕ → List ℕ) → ((queue : ℕ) → times_in (queues queue) offset ≡ 0) → AreThere was queues → AreThere vacant queues
-    there-then queues none there = λ queue thread stands.
-        kind-then thread (λ same. absurd (omega (arith, stands, none queue, ap (λ (n : ℕ). times_in (queues queue) n) same))) ∙ there queue thread stands
+    kind-here : kind_at vacant offset ≡ None
+    kind-here = elim (eqb_tells offset offset) [
+      | inl here ↦ ap (λ b. option_map kind_of (if b then None else was.objects offset)) here.0
+      | inr apart ↦ absurd (apart.1 refl)
+    ]
 
-    pub vacate-left : Left (record o { records = records; threads = threads; waiting = waiting }) after new (vacated was offset) × SameBesideRecords was old new
+    ready_was : (priority : ℕ) → ready_of p o.ready new priority ≡ runs priority
+    ready_was = ready-as-was p before old new laid waits own-waiters o.ready bytes stands.ready
+
+    -- whatever the queues of the new tables are said to be
+    vacant-with : (ready : ℕ → List ℕ) → ((priority : ℕ) → ready priority ≡ runs priority) → (waiting : ℕ → List ℕ) → ((queue : ℕ) → waiting queue ≡ queue_of p new queue)
+        → state_with n waiting ready before old ≡ vacant
+    vacant-with ready are waiting same =
+        vacated-state o records threads waits waiting offset unrecorded unthreaded (λ queue. same queue ∙ ended queue) waits_not ready before old
+        ∙ (λ i. vacated (state_with o waits (λ priority. are priority i) before old) offset) ∙ ap (λ (u : State). vacated u offset) (sym (told o before old))
+
+    kinds-now : (other : ℕ) → kind_in n other ≡ kind_at vacant other
+    kinds-now other = sym (kind-with n (queue_of p new) runs before old other) ∙ ap (λ (u : State). kind_at u other) (vacant-with runs (λ priority. refl) (queue_of p new) (λ queue. refl))
+
+    kind-other : (other : ℕ) → other ≢ offset → kind_in n other ≡ kind_in o other
+    kind-other other differs = kinds-now other ∙ kind-then other differs ∙ kind-state o other before old
+
+    kind-gone : kind_in n offset ≡ None
+    kind-gone = kinds-now offset ∙ kind-here
+
+    ready_new : ReadyStands p o.ready new
+    ready_new = ready-beyond p before old new laid waits own-waiters o.ready bytes stands.ready
+
+    times-ended : (queue : ℕ) → times_in (queue_of p new queue) offset ≡ 0
+    times-ended queue = elim (eqb_tells queue offset) [
+      | inl here ↦ ap (λ l. times_in l offset) (ended queue) ∙ ap (λ b. times_in (if b then [] else waits queue) offset) here.0
+      | inr apart ↦ ap (λ l. times_in l offset) (ended queue) ∙ ap (λ b. times_in (if b then [] else waits queue) offset) apart.0 ∙ waits_not queue
+    ]
+
+    keep : (base : ℕ) → link_in base p.threads new 0 offset ≡ None → KeepThreads base p (places_of n) new new
+    keep base none thread = elim (eqb_tells thread offset) [
+      | inl here ↦ inr (record {
+        was = ap (link_in base p.threads new 0) here.1 ∙ none;
+        now = ap (link_in base (places_of n).threads new 0) here.1 ∙ ap (λ (k : Option NewObject). if is_thread_kind k then link_at base new offset 0 else None) kind-gone;
+      })
+      | inr apart ↦ inl (record { there = ap is_thread_kind (kind-other thread apart.1); bytes = λ is place held. refl })
+    ]
+
+    keep-waits : KeepThreads 244 p (places_of n) new new
+    keep-waits = keep 244 (nobody_named.idle p new offset queued times-ended)
+
+    keep-runs : KeepThreads 256 p (places_of n) new new
+    keep-runs = keep 256 (nobody_named.unready p o.ready new offset ready_new (λ priority. ap (λ l. times_in l offset) (ready_was priority) ∙ ready_not priority))
+
+    keep-heads : KeepHeads p (places_of n) new new
+    keep-heads queue = elim (eqb_tells queue offset) [
+      | inl here ↦ inr (record {
+        was = λ k low. nobody_named.empty p new queue queued (ended queue ∙ ap (λ b. if b then [] else waits queue) here.0) k low;
+        now = λ k low. ap (λ (q : ℕ). end_of new k ((places_of n).heads q)) here.1 ∙ ap (λ (x : Option NewObject). end_of new k (if has_waiting x then Some offset else None)) kind-gone;
+      })
+      | inr apart ↦ inl (record { there = ap (λ (x : Option NewObject). if has_waiting x then Some queue else None) (kind-other queue apart.1); bytes = λ head place is held. refl })
+    ]
+
+    waits_now : (queue : ℕ) → queue_of (places_of n) new queue ≡ queue_of p new queue
+    waits_now = waiting_stays.queues p (places_of n) new new refl keep-waits keep-heads queued
+
+    runs_now : (priority : ℕ) → ready_of (places_of n) o.ready new priority ≡ ready_of p o.ready new priority
+    runs_now = ready_stays.queues p (places_of n) o.ready new new refl keep-runs ready_new
+
+    pub vacate-left : Left n after new (vacated was offset) × SameBesideRecords was old new
     vacate-left =
-        let same = waiting-records was (queue_of o.waiting old) old new stands.waiters stands.waited bytes in (
-          left-there o (record o { records = records; threads = threads; waiting = waiting }) before after old new vacant stands same_slots
-              (vacated-state o records threads waiting offset old unrecorded unthreaded (λ queue. stays waiting new old queue ∙ ended queue) waits_not before)
-              kinds-then bytes-then refl refl same queued (still-stand o.ready old new stands.ready)
-              (there-then (queue_of waiting new) (λ queue. let few = less queue offset in let none = waits_not queue in omega (arith, few, none))
-              (less-there was (queue_of o.waiting old) (queue_of waiting new) less stands.waiters))
-              (λ queue thread stands_there. ap has_waiting (kind-then queue (λ same. absurd (
-              let nobody = ap (λ l. times_in l thread) (ended queue ∙ ap (λ (n : ℕ). put (queue_of o.waiting old) offset [] n) same ∙ put-here (queue_of o.waiting old) offset []) in
-              omega (arith, stands_there, nobody))))
-              ∙ stands.waited queue thread (omega (arith, stands_there, less queue thread)))
-              (there-then (queue_of o.ready new) (λ priority. ap (λ l. times_in l offset) (stays o.ready old new priority) ∙ ready_not priority) ready-goes-on),
+        let same = waiting-records o before old old new waits own-waiters bytes in (
+          left-there o n before after old new vacant stands same_slots
+              (vacant-with (ready_at n new) (λ priority. runs_now priority ∙ ready_was priority) (waiting_of n new) waits_now)
+              kinds-then bytes-then refl refl same (waiting_stays.stands p (places_of n) new new refl keep-waits keep-heads queued)
+              (ready_stays.stands p (places_of n) o.ready new new refl keep-runs ready_new),
           same,
         )
 
 -- a thread runs again
-module _ (o : Tables) (before after : Slots) (old new : List ℕ) (stands : Standing o before old) (same_slots : after ≡ before) where
+module _ (o : Tables) (before after : Slots) (old new : List ℕ) (stands : Standing o before old) (same_slots : after ≡ before)
+    (threads : List (Option Thread)) where
   abbrev first : State
   first = state_of o before old
 
-  pub wake-left : (threads : List (Option Thread)) (ready mid_ready : QueuedThreads) (thread : ℕ) (held woken : Thread) (mid : List ℕ)
-      → thread_in o.threads thread ≡ Some held → ((other : ℕ) → thread_in threads other ≡ put (thread_in o.threads) thread (Some woken) other)
-      → woken ≡ record held { status = statuses.Runnable; slice = 5 }
-      → ((other : ℕ) → queue_of mid_ready mid other ≡ without thread (queue_of o.ready old other)) → SameBesideThreads (queue_of o.ready old) old mid
-      → ((other : ℕ) → queue_of ready new other ≡ put (queue_of mid_ready mid) held.priority (queue_of mid_ready mid held.priority ++ thread ∷ []) other) → QueuesStand ready new
-      → SameBesideThreads (queue_of ready new) mid new
-      → Left (record o { threads = threads; ready = ready }) after new (wake first thread) × SameBesideRecords first old new
-  wake-left threads ready mid_ready thread held woken mid there replaced is left bytes pushed queued more =
-      let o1 : Tables = record o { threads = threads } in
-      let alike : sending_in o.threads thread ≡ woken.sending = ap (option_and_then (λ t. t.sending)) there ∙ ap (λ (t : Thread). t.sending) (sym is) in
-      let put_there : state_of o1 before old ≡ with_thread first thread (thread_state woken) = replaced-state o threads thread woken replaced alike before old in
-      let unmoved = moved-to first (state_of o1 before old) (with_thread first thread (thread_state woken)) put_there
-      (one-put first thread (ThreadObject (thread_state woken)) (thread-kind o thread held before old there)) in
-      let stands1 = stands-unmoved o o1 before old stands refl refl unmoved in
-      let found : thread_in threads thread ≡ Some woken = replaced thread ∙ put-here (thread_in o.threads) thread (Some woken) in
-      let own : held.priority ≡ (thread_at (state_of o1 before old) thread).priority =
-      ap (λ (t : Thread). t.priority) (sym is) ∙ ap (λ (t : ThreadState). t.priority) (sym (thread-is o1 thread woken before old found)) in
-      let runs : thread_state woken ≡ record (thread_at first thread) { status = Runnable; slice = full_slice } =
-      ap thread_state is ∙ ap (λ (t : ThreadState). record t { status = Runnable; slice = full_slice }) (sym (thread-is o thread held before old there)) in
-      let result = tail-left o1 before after old new stands1 same_slots ready mid_ready thread held.priority mid (thread-kind o1 thread woken before old found) own left bytes pushed queued more in (
-        record {
-          state = result.0.state ∙ ap (λ (u : State). to_tail u thread) (put_there ∙ ap (with_thread first thread) runs);
-          stands = result.0.stands;
-        },
-        record {
-          size = result.1.size;
-          bytes = λ place apart. result.1.bytes place (λ held. apart (record-was first (state_of o1 before old) place (λ offset k k_is. sym (unmoved.kinds offset) ∙ k_is) held));
-        },
-      )
+  abbrev o1 : Tables
+  o1 = record o { threads = threads }
+
+  abbrev p1 : Places
+  p1 = places_of o1
+
+  module _ (thread : ℕ) (held woken : Thread) (there : thread_in o.threads thread ≡ Some held)
+      (replaced : (other : ℕ) → thread_in threads other ≡ put (thread_in o.threads) thread (Some woken) other)
+      (is : woken ≡ record held { status = statuses.Runnable; slice = 5 }) where
+    alike : sending_in o.threads thread ≡ woken.sending
+    alike = ap (option_and_then (λ t. t.sending)) there ∙ ap (λ (t : Thread). t.sending) (sym is)
+
+    put_there : state_of o1 before old ≡ with_thread first thread (thread_state woken)
+    put_there = replaced-state o threads thread woken replaced alike (ap is_some there) before old
+
+    unmoved : Unmoved first (state_of o1 before old)
+    unmoved = moved-to first (state_of o1 before old) (with_thread first thread (thread_state woken)) put_there
+        (one-put first thread (ThreadObject (thread_state woken)) (thread-kind o thread held before old there))
+
+    pub woken-stands : Standing o1 before old
+    woken-stands = stands-unmoved o o1 before old stands refl unmoved
+
+    pub wake-left : AreLaidOut p1 before (length old) → (ready mid_ready : List Ends) (mid : List ℕ)
+        → ((other : ℕ) → ready_of p1 mid_ready mid other ≡ without thread (ready_at o1 old other)) → ReadyStands p1 mid_ready mid → SameBesideReady (ready_at o1 old) old mid
+        → ((other : ℕ) → ready_of p1 ready new other ≡ put (ready_of p1 mid_ready mid) held.priority (ready_of p1 mid_ready mid held.priority ++ thread ∷ []) other) → ReadyStands p1 ready new
+        → SameBesideReady (ready_of p1 ready new) mid new
+        → Left (record o { threads = threads; ready = ready }) after new (wake first thread) × SameBesideRecords first old new
+    wake-left laid ready mid_ready mid left mid_stands bytes pushed queued more =
+        let found : thread_in threads thread ≡ Some woken = replaced thread ∙ put-here (thread_in o.threads) thread (Some woken) in
+        let own : held.priority ≡ (thread_at (state_of o1 before old) thread).priority =
+        ap (λ (t : Thread). t.priority) (sym is) ∙ ap (λ (t : ThreadState). t.priority) (sym (thread-is o1 thread woken before old found)) in
+        let runs : thread_state woken ≡ record (thread_at first thread) { status = Runnable; slice = full_slice } =
+        ap thread_state is ∙ ap (λ (t : ThreadState). record t { status = Runnable; slice = full_slice }) (sym (thread-is o thread held before old there)) in
+        let result = tail-left o1 before after old new woken-stands same_slots laid ready mid_ready thread held.priority mid own left mid_stands bytes pushed queued more in (
+          record {
+            state = result.0.state ∙ ap (λ (u : State). to_tail u thread) (put_there ∙ ap (with_thread first thread) runs);
+            stands = result.0.stands;
+          },
+          record {
+            size = result.1.size;
+            bytes = λ place apart. result.1.bytes place (λ held. apart (record-was first (state_of o1 before old) place (λ offset k k_is. sym (unmoved.kinds offset) ∙ k_is) held));
+          },
+        )
 
 -- who is no thread stands in no queue
 pub nobody-there : (o : Tables) (slots : Slots) (memory : List ℕ) (offset : ℕ) (queues : ℕ → List ℕ) → AreThere (state_of o slots memory) queues

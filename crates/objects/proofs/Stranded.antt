@@ -12,7 +12,7 @@ use Rattle.objects.proofs.Frames.{Unmoved, moved-to, records-then, same-records,
 use Rattle.objects.proofs.Kept.{put-there}
 use Rattle.objects.specs.Frames.{SameBesideRecords}
 use Rattle.objects.specs.Standing.{Standing}
-use Rattle.objects.specs.Tables.{Tables, state_of, thread_in, told_by}
+use Rattle.objects.specs.Tables.{Tables, state_of, thread_in, told_by, waiting_of}
 use Rattle.objects.specs.Threads.{status_of, thread_state}
 use Rattle.objects.specs.declared.records.Thread.{Thread}
 use Rattle.removal_laws.specs.Finishing.{is_stranded, waits_nowhere, woken}
@@ -23,13 +23,13 @@ pub stranded-at : (o : Tables) (offset : ℕ) (t : Thread) (slots : Slots) (memo
     → is_stranded (state_of o slots memory) offset ≡ waits_nowhere (state_of o slots memory) (status_of t.status)
 unfolding state_of told_by
 stranded-at o offset t slots memory there =
-    ap (λ p. option_map_or (λ x. waits_nowhere (state_of o slots memory) x.status) p false) (as-thread o memory offset ∙ ap (option_map thread_state) there)
+    ap (λ p. option_map_or (λ x. waits_nowhere (state_of o slots memory) x.status) p false) (as-thread o (waiting_of o memory) offset ∙ ap (option_map thread_state) there)
 
 pub stranded-nobody : (o : Tables) (offset : ℕ) (slots : Slots) (memory : List ℕ) → thread_in o.threads offset ≡ None
     → is_stranded (state_of o slots memory) offset ≡ false
 unfolding state_of told_by
 stranded-nobody o offset slots memory none =
-    ap (λ p. option_map_or (λ x. waits_nowhere (state_of o slots memory) x.status) p false) (as-thread o memory offset ∙ ap (option_map thread_state) none)
+    ap (λ p. option_map_or (λ x. waits_nowhere (state_of o slots memory) x.status) p false) (as-thread o (waiting_of o memory) offset ∙ ap (option_map thread_state) none)
 
 -- ---- one that is woken leaves the others so
 

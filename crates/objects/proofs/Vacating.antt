@@ -10,11 +10,11 @@ use Rattle.model.specs.Shared.Lists.{times_in}
 use Rattle.objects.proofs.Kept.{put-here, put-there}
 use Rattle.objects.proofs.Lists.{receivers-same, senders-same}
 use Rattle.objects.specs.Changes.{vacated}
-use Rattle.objects.specs.Tables.{Tables, byte_in, is_frame, object_from, object_in, object_of, record_in, sending_in, state_of, thread_in, told_by}
+use Rattle.objects.specs.Tables.{Tables, byte_in, is_frame, object_from, object_in, object_of, record_in, sending_in, thread_in}
 use Rattle.objects.specs.declared.records.Record.{Record}
 use Rattle.objects.specs.declared.records.Record.TheVariants.{Endpoint, Notification, CNode, Frame, PageTable, RootTable}
 use Rattle.objects.specs.declared.records.Thread.{Thread}
-use Rattle.queues.specs.Queues.{QueuedThreads, queue_of}
+use Rattle.objects.proofs.Told.{state_with}
 
 -- An object looks the same where one thread that does not wait at it changes what it sends.
 pub object-same : (old new : List (Option Thread)) (thread : ℕ) (waiting : List ℕ) (r : Record)
@@ -35,44 +35,44 @@ pub other-same : (old new : List (Option Thread)) (thread : ℕ) (waiting : List
 other-same old new thread waiting (Some r) same none = ap Some (object-same old new thread waiting r same none)
 other-same old new thread waiting None same none = refl
 
-module _ (o : Tables) (records : List (Option Record)) (threads : List (Option Thread)) (waiting : QueuedThreads) (offset : ℕ) (memory : List ℕ)
+module _ (o : Tables) (records : List (Option Record)) (threads : List (Option Thread)) (was_waiting waiting : ℕ → List ℕ) (offset : ℕ)
     (unrecorded : (other : ℕ) → record_in records other ≡ put (record_in o.records) offset None other)
     (unthreaded : (other : ℕ) → thread_in threads other ≡ put (thread_in o.threads) offset None other)
-    (ended : (queue : ℕ) → queue_of waiting memory queue ≡ put (queue_of o.waiting memory) offset [] queue)
-    (waits-not : (queue : ℕ) → times_in (queue_of o.waiting memory queue) offset ≡ 0) where
+    (ended : (queue : ℕ) → waiting queue ≡ put (was_waiting) offset [] queue)
+    (waits-not : (queue : ℕ) → times_in (was_waiting queue) offset ≡ 0) where
   abbrev now : Tables
-  now = record o { records = records; threads = threads; waiting = waiting }
+  now = record o { records = records; threads = threads }
 
   sends : (other : ℕ) → other ≢ offset → sending_in threads other ≡ sending_in o.threads other
   sends other differs = ap (option_and_then (λ t. t.sending)) (unthreaded other ∙ put-there (thread_in o.threads) offset None other differs)
 
-  queue-still : (queue : ℕ) → queue ≢ offset → queue_of waiting memory queue ≡ queue_of o.waiting memory queue
-  queue-still queue differs = ended queue ∙ put-there (queue_of o.waiting memory) offset [] queue differs
+  queue-still : (queue : ℕ) → queue ≢ offset → waiting queue ≡ was_waiting queue
+  queue-still queue differs = ended queue ∙ put-there (was_waiting) offset [] queue differs
 
   -- at the offset, and elsewhere
-  nothing-here : object_in now memory offset ≡ None
+  nothing-here : object_in now waiting offset ≡ None
   nothing-here =
-      ap (λ t. object_from t (option_map (object_of threads (queue_of waiting memory offset)) (record_in records offset)))
+      ap (λ t. object_from t (option_map (object_of threads (waiting offset)) (record_in records offset)))
       (unthreaded offset ∙ put-here (thread_in o.threads) offset None)
-      ∙ ap (option_map (object_of threads (queue_of waiting memory offset))) (unrecorded offset ∙ put-here (record_in o.records) offset None)
+      ∙ ap (option_map (object_of threads (waiting offset))) (unrecorded offset ∙ put-here (record_in o.records) offset None)
 
-  same-there : (other : ℕ) → other ≢ offset → object_in now memory other ≡ object_in o memory other
+  same-there : (other : ℕ) → other ≢ offset → object_in now waiting other ≡ object_in o was_waiting other
   same-there other differs =
-      ap (λ t. object_from t (option_map (object_of threads (queue_of waiting memory other)) (record_in records other)))
+      ap (λ t. object_from t (option_map (object_of threads (waiting other)) (record_in records other)))
       (unthreaded other ∙ put-there (thread_in o.threads) offset None other differs)
       ∙ ap (object_from (thread_in o.threads other)) (
-      ap (option_map (object_of threads (queue_of waiting memory other))) (unrecorded other ∙ put-there (record_in o.records) offset None other differs)
+      ap (option_map (object_of threads (waiting other))) (unrecorded other ∙ put-there (record_in o.records) offset None other differs)
       ∙ ap (λ l. option_map (object_of threads l) (record_in o.records other)) (queue-still other differs)
-      ∙ other-same o.threads threads offset (queue_of o.waiting memory other) (record_in o.records other) sends (waits-not other))
+      ∙ other-same o.threads threads offset (was_waiting other) (record_in o.records other) sends (waits-not other))
 
-  object-vacated : (other : ℕ) → object_in now memory other ≡ (if offset == other then None else object_in o memory other)
+  object-vacated : (other : ℕ) → object_in now waiting other ≡ (if offset == other then None else object_in o was_waiting other)
   object-vacated other = elim (eqb_tells offset other) [
-    | inl here ↦ ap (object_in now memory) (sym here.1) ∙ nothing-here ∙ ap (λ b. if b then None else object_in o memory other) (sym here.0)
-    | inr differs ↦ same-there other (λ same. differs.1 (sym same)) ∙ ap (λ b. if b then None else object_in o memory other) (sym differs.0)
+    | inl here ↦ ap (object_in now waiting) (sym here.1) ∙ nothing-here ∙ ap (λ b. if b then None else object_in o was_waiting other) (sym here.0)
+    | inr differs ↦ same-there other (λ same. differs.1 (sym same)) ∙ ap (λ b. if b then None else object_in o was_waiting other) (sym differs.0)
   ]
 
-  byte-vacated : (place : ℕ) → byte_in records memory place ≡ (if offset == frame_around place then None else byte_in o.records memory place)
-  byte-vacated place = elim (eqb_tells offset (frame_around place)) [
+  byte-vacated : (memory : List ℕ) (place : ℕ) → byte_in records memory place ≡ (if offset == frame_around place then None else byte_in o.records memory place)
+  byte-vacated memory place = elim (eqb_tells offset (frame_around place)) [
     | inl here ↦
         let none : record_in records (frame_around place) ≡ None =
         unrecorded (frame_around place) ∙ ap (λ (x : ℕ). put (record_in o.records) offset None x) (sym here.1) ∙ put-here (record_in o.records) offset None in
@@ -85,9 +85,8 @@ module _ (o : Tables) (records : List (Option Record)) (threads : List (Option T
         ∙ ap (λ b. if b then None else byte_in o.records memory place) (sym differs.0)
   ]
 
-  pub vacated-state : (slots : Slots) → state_of now slots memory ≡ vacated (state_of o slots memory) offset
-  unfolding state_of told_by
-  vacated-state slots = λ i. record (state_of o slots memory) {
+  pub vacated-state : (ready : ℕ → List ℕ) (slots : Slots) (memory : List ℕ) → state_with now waiting ready slots memory ≡ vacated (state_with o was_waiting ready slots memory) offset
+  vacated-state ready slots memory = λ i. record (state_with o was_waiting ready slots memory) {
     objects = λ other. object-vacated other i;
-    bytes = λ place. byte-vacated place i;
+    bytes = λ place. byte-vacated memory place i;
   }

@@ -83,12 +83,13 @@ pub record SameBesideFrames (s : State) (old new : List ℕ) : Type 0 where
   pub size : length new ≡ length old
   pub bytes : (place : ℕ) → s.bytes place ≡ None → slice_index new place ≡ slice_index old place
 
--- the memory is as large as the state says; neither a byte of a frame nor one of a record stands in an open slot, and no record in a frame
+-- the memory is as large as the state says; neither a byte of a frame nor one of a record stands in an open slot, no record in a frame, and none in another
 pub record FitsMemory (s : State) (memory : List ℕ) : Type 0 where
   pub size : 2 ^ s.memory_bits ≡ length memory
   pub frames : (place : ℕ) → IsOpen s.slots (place / 16) → s.bytes place ≡ None
   pub records : (place : ℕ) → IsOpen s.slots (place / 16) → IsInRecord s.objects place → ⊥
   pub apart : (place : ℕ) → IsInRecord s.objects place → s.bytes place ≡ None
+  pub alone : (place : ℕ) (one two : IsInRecord s.objects place) → one.offset ≡ two.offset
 
 -- nothing stands where a new object is to come, and no slot is open there but those that it begins with
 pub record IsRoom (s : State) (kind : NewObject) (offset : ℕ) : Type 0 where

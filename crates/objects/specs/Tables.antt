@@ -4,7 +4,7 @@ use Rattle.std.specs.Prelude.{ℕ, ◌≡◌, ◌==◌, ◌*◌, ◌/◌, ◌%�
 use Rattle.std.specs.Option.{option_map_or}
 use Rattle.model.specs.Capabilities.Slots.{Slots}
 use Rattle.model.specs.Kernel.Kinds.{frame_around, kind_of}
-use Rattle.model.specs.Kernel.Retype.{NewObject}
+use Rattle.model.specs.Kernel.Retype.{NewObject, NewUntyped, NewThread, NewEndpoint, NewNotification, NewCNode, NewFrame, NewPageTable, NewRootTable}
 use Rattle.model.specs.Kernel.State.{State, Object, Sender, ThreadObject, EndpointObject, NotificationObject, CNodeObject, FrameObject, PageTableObject, RootTableObject, with_slots}
 use Rattle.objects.specs.Threads.{sender_of, thread_state}
 use Rattle.objects.specs.declared.records.Kind.{Kind}
@@ -13,7 +13,11 @@ use Rattle.objects.specs.declared.records.Record.{Record}
 use Rattle.objects.specs.declared.records.Record.TheVariants as records
 use Rattle.objects.specs.declared.records.Sending.{Sending}
 use Rattle.objects.specs.declared.records.Thread.{Thread}
-use Rattle.queues.specs.Queues.{QueuedThreads, queue_of}
+use Rattle.objects.specs.Waiting.{has_waiting}
+use Rattle.linked_queues.specs.Layout.{Places}
+use Rattle.linked_queues.specs.Queues.{queue_of}
+use Rattle.linked_queues.specs.Ready.{ready_of}
+use Rattle.linked_queues.specs.declared.words.Ends.{Ends}
 
 -- ---- tables
 
@@ -34,9 +38,8 @@ pub record Tables : Type 0 where
   pub radix : ℕ
   pub records : List (Option Record)
   pub threads : List (Option Thread)
-  -- who waits at an object, and who is ready at a priority
-  pub waiting : QueuedThreads
-  pub ready : QueuedThreads
+  -- the first and the last thread that is ready at each priority
+  pub ready : List Ends
   pub masked : List Bool
   pub pending : List Bool
 
@@ -69,12 +72,55 @@ object_from None other = other
 abbrev pub object_with : Tables → List ℕ → ℕ → Option Object
 object_with o waiting offset = object_from (thread_in o.threads offset) (option_map (object_of o.threads waiting) (record_in o.records offset))
 
-abbrev pub object_in : Tables → List ℕ → ℕ → Option Object
-object_in o memory offset = object_with o (queue_of o.waiting memory offset) offset
+-- an object, if these wait at each
+abbrev pub object_in : Tables → (ℕ → List ℕ) → ℕ → Option Object
+object_in o waiting offset = object_with o (waiting offset) offset
 
 -- the type of the object at an offset, whoever waits at it
+abbrev pub kind_by : List (Option Record) → List (Option Thread) → ℕ → Option NewObject
+kind_by records threads offset = option_map kind_of (object_from (thread_in threads offset) (option_map (object_of threads []) (record_in records offset)))
+
 abbrev pub kind_in : Tables → ℕ → Option NewObject
-kind_in o offset = option_map kind_of (object_with o [] offset)
+kind_in o offset = kind_by o.records o.threads offset
+
+-- ---- queues
+
+-- whether threads may wait at an object with such a record
+abbrev pub has_queue : Record → Bool
+has_queue records.Endpoint = true
+has_queue (records.Notification word) = true
+has_queue (records.CNode radix) = false
+has_queue records.Frame = false
+has_queue records.PageTable = false
+has_queue records.RootTable = false
+
+abbrev pub is_thread_kind : Option NewObject → Bool
+is_thread_kind None = false
+is_thread_kind (Some NewThread) = true
+is_thread_kind (Some NewEndpoint) = false
+is_thread_kind (Some NewNotification) = false
+is_thread_kind (Some (NewUntyped bits)) = false
+is_thread_kind (Some (NewCNode radix)) = false
+is_thread_kind (Some NewFrame) = false
+is_thread_kind (Some NewPageTable) = false
+is_thread_kind (Some NewRootTable) = false
+
+-- where threads and those that wait are linked: an object keeps the first and the last of these in its first two words
+abbrev pub places_by : (ℕ → Option NewObject) → Places
+places_by kinds = record {
+  threads = λ offset. is_thread_kind (kinds offset);
+  heads = λ offset. if has_waiting (kinds offset) then Some offset else None;
+}
+
+abbrev pub places_of : Tables → Places
+places_of o = places_by (kind_in o)
+
+-- who waits at an object, and who is ready at a priority
+abbrev pub waiting_of : Tables → List ℕ → ℕ → List ℕ
+waiting_of o memory = queue_of (places_of o) memory
+
+abbrev pub ready_at : Tables → List ℕ → ℕ → List ℕ
+ready_at o memory = ready_of (places_of o) o.ready memory
 
 -- ---- the state
 
@@ -91,18 +137,21 @@ abbrev pub byte_in : List (Option Record) → List ℕ → ℕ → Option ℕ
 byte_in records memory place =
     if option_map_or is_frame (record_in records (frame_around place)) false then Some (slice_index memory place) else None
 
--- what the tables and the bytes of memory tell of a state: all but its slots
-unfoldable pub told_by : Tables → List ℕ → State
-told_by o memory = record {
+-- what the tables and the bytes of memory tell of a state, if these wait and are ready: all but its slots
+abbrev pub told_with : Tables → (ℕ → List ℕ) → (ℕ → List ℕ) → List ℕ → State
+told_with o waiting ready memory = record {
   memory_bits = o.bits;
   boot_radix = o.radix;
   slots = λ slot. None;
-  objects = object_in o memory;
+  objects = object_in o waiting;
   bytes = byte_in o.records memory;
-  ready = queue_of o.ready memory;
+  ready = ready;
   masked = λ line. slice_index_or o.masked line false;
   pending = λ line. slice_index_or o.pending line false;
 }
+
+unfoldable pub told_by : Tables → List ℕ → State
+told_by o memory = told_with o (waiting_of o memory) (ready_at o memory) memory
 
 -- whatever the form of the tables is, the slots are the store's
 unfoldable pub state_of : Tables → Slots → List ℕ → State
@@ -114,11 +163,9 @@ pub record AreTables (o : Tables) : Type 0 where
   pub least_bits : 16 ≤ o.bits
   pub most_bits : o.bits ≤ 24
   pub most_radix : o.radix ≤ 14
-  -- there is an entry for each place, and room for each thread in the queues
+  -- there is an entry for each place
   pub record_places : 16 * length o.records ≡ 2 ^ o.bits
   pub thread_places : 512 * length o.threads ≡ 2 ^ o.bits
-  pub waiting_room : o.waiting.limit ≡ length o.threads
-  pub ready_room : o.ready.limit ≡ length o.threads
   pub nodes : (offset radix : ℕ) → record_in o.records offset ≡ Some (records.CNode radix) → radix ≤ 14
 
 -- what the table holds of a new object that is no thread

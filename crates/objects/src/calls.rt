@@ -15,8 +15,10 @@ ghost use Rattle.objects.specs.Threads.{new_object};
 ghost use Rattle.removal_laws.specs.Finishing.{woken};
 ghost use Rattle.removal_laws.specs.Steps.{object_ended};
 
+use crate::held::begin_queue;
 use crate::records::{Kind, Thread};
 use crate::tables::{LEAST_SIZE, Objects, record_of};
+use linked_queues::begin_thread;
 use model::Slot;
 use slots::SlotStore;
 
@@ -105,8 +107,14 @@ impl Objects {
         ensures stands { Standing self.new (S.slots store.new) (S.memory store.new) }
     {
         match record_of(kind) {
-            None => self.threads.put(offset, Thread::new()),
-            Some(record) => self.records.put(LEAST_SIZE, offset, record),
+            None => {
+                begin_thread(store, offset);
+                self.held.threads.put(offset, Thread::new());
+            }
+            Some(record) => {
+                begin_queue(store, offset, record);
+                self.held.records.put(LEAST_SIZE, offset, record);
+            }
         }
     }
 

@@ -4,6 +4,7 @@
 #![tactic(auto)]
 
 mod calls;
+mod held;
 mod line_calls;
 mod places;
 mod queue_calls;

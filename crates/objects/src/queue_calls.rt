@@ -145,6 +145,7 @@ impl Objects {
     /// Whether a thread waits at the object at an offset.
     #[tactic(auto, unfolding(crate::specs::Tables::state_of, crate::specs::Tables::told_by))]
     pub fn is_waited_at<S: SlotStore>(&self, store: &S, offset: u32) -> bool
+        requires { Standing self.now (S.slots store.now) (S.memory store.now) }
         ensures { (result ≡ false) ↔ (waiting_at ((state_of self.now (S.slots store.now) (S.memory store.now)).objects offset) ≡ []) }
     {
         self.has_queue(offset) && self.first_waiting(store, offset).is_some()

@@ -21,7 +21,7 @@ impl Objects {
     pub fn current<S: SlotStore>(&self, store: &S) -> Option<u32>
         ensures { result ≡ current (state_of self.now (S.slots store.now) (S.memory store.now)) }
     {
-        self.ready.current(store)
+        self.ready.current()
     }
 
     /// How many ticks a thread runs on before it goes to the tail of its priority.
@@ -59,8 +59,8 @@ impl Objects {
         ensures stands { Standing self.new (S.slots store.new) (S.memory store.new) }
     {
         let held = self.thread_or_new(thread);
-        self.ready.leave(store, thread);
-        self.ready.push(store, u32::from(held.priority), thread);
+        self.ready.leave(&self.held, store, thread);
+        self.ready.push(&self.held, store, held.priority, thread);
     }
 
     /// Sets the priority of a thread: one that runs goes to its tail, with the slice that it has.

@@ -12,18 +12,16 @@ ghost use Rattle.model.specs.Shared.Lists.{times_in};
 ghost use Rattle.objects.specs.Changes.{vacated};
 ghost use Rattle.objects.specs.Frames.{SameBesideRecords};
 ghost use Rattle.objects.specs.Standing.{Standing};
-ghost use Rattle.objects.specs.Tables.{is_frame, kind_in, object_in, record_in, record_of, state_of, thread_in};
+ghost use Rattle.objects.specs.Tables.{is_frame, kind_in, object_in, ready_at, record_in, record_of, state_of, thread_in, waiting_of};
 ghost use Rattle.objects.specs.Threads.{status_of};
 ghost use Rattle.objects.specs.Waiting.{has_waiting};
-ghost use Rattle.queues.specs.Queues.{queue_of};
 ghost use Rattle.removal_laws.specs.Finishing.{is_stranded, waits_nowhere};
 ghost use Rattle.removal_laws.specs.Steps.{ends_thread};
 
-use crate::places::Places;
+use crate::held::Held;
 use crate::records::{Kind, Record, Status, Thread};
-use crate::thread_places::ThreadPlaces;
+use linked_queues::{ReadyList, waiting};
 use model::Slot;
-use queues::{Queues, ReadyList};
 use slots::SlotStore;
 use std::alloc::{AllocError, Global};
 use std::marker::Model;
@@ -45,9 +43,7 @@ const PAGE_SIZE: u32 = 4096;
 pub struct Objects {
     pub(crate) bits: u32,
     pub(crate) radix: u32,
-    pub(crate) records: Places<Record>,
-    pub(crate) threads: ThreadPlaces,
-    pub(crate) waiting: Queues,
+    pub(crate) held: Held,
     pub(crate) ready: ReadyList,
     pub(crate) masked: [bool; 64],
     pub(crate) pending: [bool; 64],
@@ -61,9 +57,8 @@ impl Model for Objects {
     ghost view = { λ o. record {
       bits = o.bits;
       radix = o.radix;
-      records = o.records;
-      threads = o.threads;
-      waiting = o.waiting;
+      records = o.held.records;
+      threads = o.held.threads;
       ready = o.ready;
       masked = o.masked;
       pending = o.pending;
@@ -72,9 +67,8 @@ impl Model for Objects {
     ghost invariant = { λ o. AreTables (record {
       bits = o.bits;
       radix = o.radix;
-      records = o.records;
-      threads = o.threads;
-      waiting = o.waiting;
+      records = o.held.records;
+      threads = o.held.threads;
       ready = o.ready;
       masked = o.masked;
       pending = o.pending;
@@ -93,14 +87,11 @@ impl Objects {
         ensures stands { IfOk result (λ o. (slots : Slots) (memory : List ℕ) → 2 ^ bits ≡ length memory → Standing o slots memory) }
     {
         let size = power(bits);
-        let places = size / THREAD_SIZE;
         Ok(Objects {
             bits,
             radix,
-            records: Places::filled(alloc, size / LEAST_SIZE, None)?,
-            threads: ThreadPlaces::new(alloc, places)?,
-            waiting: Queues::new(alloc, places)?,
-            ready: ReadyList::new(alloc, places)?,
+            held: Held::new(alloc, size)?,
+            ready: ReadyList::new(),
             masked: quiet(),
             pending: quiet(),
         })
@@ -127,17 +118,17 @@ impl Objects {
     pub(crate) fn thread_at(&self, offset: u32) -> Option<Thread>
         ensures { result ≡ thread_in self.now.threads offset }
     {
-        self.threads.get(offset)
+        self.held.threads.get(offset)
     }
 
     /// How many slots the object has that starts at an offset.
     pub(crate) fn count_slots(&self, offset: u32) -> u32
-        ensures { (memory : List ℕ) → result ≡ slot_count (object_in self.now memory offset) }
+        ensures { (waiting : ℕ → List ℕ) → result ≡ slot_count (object_in self.now waiting offset) }
     {
         if self.thread_at(offset).is_some() {
             return 2;
         }
-        match self.records.get(LEAST_SIZE, offset) {
+        match self.held.records.get(LEAST_SIZE, offset) {
             Some(Record::CNode { radix }) => 1 << radix,
             _ => 0,
         }
@@ -145,24 +136,27 @@ impl Objects {
 
     /// Whether an object starts at an offset.
     fn is_there(&self, offset: u32) -> bool
-        ensures { (memory : List ℕ) → result ≡ is_some (object_in self.now memory offset) }
+        ensures { (waiting : ℕ → List ℕ) → result ≡ is_some (object_in self.now waiting offset) }
     {
-        self.thread_at(offset).is_some() || self.records.get(LEAST_SIZE, offset).is_some()
+        self.thread_at(offset).is_some() || self.held.records.get(LEAST_SIZE, offset).is_some()
     }
 
     /// Whether the object at an offset is a thread.
     pub(crate) fn has_thread(&self, offset: u32) -> bool
-        ensures { (memory : List ℕ) → result ≡ is_some (as_thread (object_in self.now memory offset)) }
+        ensures { (waiting : ℕ → List ℕ) → result ≡ is_some (as_thread (object_in self.now waiting offset)) }
     {
         self.thread_at(offset).is_some()
     }
 
     /// Whether the object at an offset is a frame.
     pub(crate) fn has_frame(&self, offset: u32) -> bool
-        ensures { (memory : List ℕ) → result ≡ is_frame_object (object_in self.now memory offset) }
+        ensures { (waiting : ℕ → List ℕ) → result ≡ is_frame_object (object_in self.now waiting offset) }
     {
         self.thread_at(offset).is_none()
-            && matches!(self.records.get(LEAST_SIZE, offset), Some(Record::Frame))
+            && matches!(
+                self.held.records.get(LEAST_SIZE, offset),
+                Some(Record::Frame)
+            )
     }
 
     /// Whether threads may wait at the object at an offset.
@@ -171,7 +165,7 @@ impl Objects {
     {
         self.thread_at(offset).is_none()
             && matches!(
-                self.records.get(LEAST_SIZE, offset),
+                self.held.records.get(LEAST_SIZE, offset),
                 Some(Record::Endpoint | Record::Notification { .. })
             )
     }
@@ -182,7 +176,10 @@ impl Objects {
         ensures inside { result ≡ true → place < 2 ^ self.now.bits }
     {
         let frame = place - place % PAGE_SIZE;
-        matches!(self.records.get(LEAST_SIZE, frame), Some(Record::Frame))
+        matches!(
+            self.held.records.get(LEAST_SIZE, frame),
+            Some(Record::Frame)
+        )
     }
 
     /// A thread leaves every queue and the ready list, and nobody has the right to reply to it any more.
@@ -194,12 +191,12 @@ impl Objects {
         ensures bytes { SameBesideRecords (state_of self.old (S.slots store.old) (S.memory store.old)) (S.memory store.old) (S.memory store.new) }
         ensures order { S.order store.new ≡ S.order store.old }
         ensures stands { Standing self.new (S.slots store.new) (S.memory store.new) }
-        ensures waits_not { (queue : ℕ) → times_in (queue_of self.new.waiting (S.memory store.new) queue) thread ≡ 0 }
-        ensures ready_not { (priority : ℕ) → times_in (queue_of self.new.ready (S.memory store.new) priority) thread ≡ 0 }
+        ensures waits_not { (queue : ℕ) → times_in (waiting_of self.new (S.memory store.new) queue) thread ≡ 0 }
+        ensures ready_not { (priority : ℕ) → times_in (ready_at self.new (S.memory store.new) priority) thread ≡ 0 }
     {
-        self.waiting.leave(store, thread);
-        self.ready.leave(store, thread);
-        self.threads.void_rights(thread);
+        waiting::leave(&self.held, store, thread);
+        self.ready.leave(&self.held, store, thread);
+        self.held.threads.void_rights(thread);
     }
 
     /// If the object at an offset is a thread, it leaves what it waits for.
@@ -211,10 +208,10 @@ impl Objects {
         ensures bytes { SameBesideRecords (state_of self.old (S.slots store.old) (S.memory store.old)) (S.memory store.old) (S.memory store.new) }
         ensures order { S.order store.new ≡ S.order store.old }
         ensures stands { Standing self.new (S.slots store.new) (S.memory store.new) }
-        ensures waits_not { (queue : ℕ) → times_in (queue_of self.new.waiting (S.memory store.new) queue) offset ≡ 0 }
-        ensures ready_not { (priority : ℕ) → times_in (queue_of self.new.ready (S.memory store.new) priority) offset ≡ 0 }
+        ensures waits_not { (queue : ℕ) → times_in (waiting_of self.new (S.memory store.new) queue) offset ≡ 0 }
+        ensures ready_not { (priority : ℕ) → times_in (ready_at self.new (S.memory store.new) priority) offset ≡ 0 }
     {
-        if self.threads.get(offset).is_none() {
+        if self.held.threads.get(offset).is_none() {
             return;
         }
         self.forget(store, offset);
@@ -222,8 +219,8 @@ impl Objects {
 
     /// Nothing stands at an offset any more. No thread that stands there waits or is ready.
     pub(crate) fn vacate<S: SlotStore>(&mut self, store: &mut S, offset: u32)
-        requires waits_not { (queue : ℕ) → times_in (queue_of self.old.waiting (S.memory store.old) queue) offset ≡ 0 }
-        requires ready_not { (priority : ℕ) → times_in (queue_of self.old.ready (S.memory store.old) priority) offset ≡ 0 }
+        requires waits_not { (queue : ℕ) → times_in (waiting_of self.old (S.memory store.old) queue) offset ≡ 0 }
+        requires ready_not { (priority : ℕ) → times_in (ready_at self.old (S.memory store.old) priority) offset ≡ 0 }
         requires stands { Standing self.old (S.slots store.old) (S.memory store.old) }
         ensures state { state_of self.new (S.slots store.new) (S.memory store.new)
             ≡ vacated (state_of self.old (S.slots store.old) (S.memory store.old)) offset }
@@ -232,9 +229,9 @@ impl Objects {
         ensures order { S.order store.new ≡ S.order store.old }
         ensures stands { Standing self.new (S.slots store.new) (S.memory store.new) }
     {
-        self.waiting.end(store, offset);
-        self.records.clear(LEAST_SIZE, offset);
-        self.threads.clear(offset);
+        waiting::end(&self.held, store, offset);
+        self.held.records.clear(LEAST_SIZE, offset);
+        self.held.threads.clear(offset);
     }
 
     /// Makes a thread runnable that does not run: it goes to the tail of its priority, with a full slice.
@@ -253,9 +250,9 @@ impl Objects {
             slice: FULL_SLICE,
             ..thread
         };
-        self.threads.put(offset, woken);
-        self.ready.leave(store, offset);
-        self.ready.push(store, u32::from(thread.priority), offset);
+        self.held.threads.put(offset, woken);
+        self.ready.leave(&self.held, store, offset);
+        self.ready.push(&self.held, store, thread.priority, offset);
     }
 
     /// Whether a thread waits at an object that is gone.

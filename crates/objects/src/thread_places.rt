@@ -1,6 +1,6 @@
 //! The threads by their places, and who may reply to each of them.
 
-ghost use Rattle.std.specs.Prelude.{ℕ, ◌≡◌, ◌==◌, ◌&&◌, ◌/◌, ◌%◌, ◌<◌, not, Some, None, IfOk, length, option_map, replicate};
+ghost use Rattle.std.specs.Prelude.{ℕ, ◌≡◌, ◌==◌, ◌&&◌, ◌/◌, ◌%◌, ◌<◌, not, Some, None, IfOk, is_some, length, option_map, replicate};
 ghost use Rattle.model.specs.Kernel.State.{put};
 ghost use Rattle.objects.specs.Changes.{registered, voided};
 ghost use Rattle.objects.specs.Rights.{AreKnown, IsNoted, has_right};
@@ -52,6 +52,13 @@ impl ThreadPlaces {
         ensures { result ≡ thread_in self.now offset }
     {
         self.entries.get(THREAD_SIZE, offset)
+    }
+
+    /// Whether a thread stands at an offset.
+    pub(crate) fn has(&self, offset: u32) -> bool
+        ensures { result ≡ is_some (thread_in self.now offset) }
+    {
+        self.entries.pc(offset).is_some()
     }
 
     /// The registers of the thread at an offset.

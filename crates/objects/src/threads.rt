@@ -38,7 +38,7 @@ impl Objects {
             ≡ with_thread (state_of self.old slots memory) offset (thread_state thread) }
         ensures tables { self.new ≡ record self.old { threads = self.new.threads } }
     {
-        self.threads.put(offset, thread);
+        self.held.threads.put(offset, thread);
     }
 
     /// Sets the registers of a thread.
@@ -48,14 +48,14 @@ impl Objects {
             ≡ with_registers (state_of self.old slots memory) offset registers }
         ensures tables { self.new ≡ record self.old { threads = self.new.threads } }
     {
-        self.threads.set_registers(offset, registers);
+        self.held.threads.set_registers(offset, registers);
     }
 
     /// The registers of the thread at an offset: those of a new one where none is.
     pub(crate) fn registers_at(&self, offset: u32) -> Regs
         ensures { (slots : Slots) (memory : List ℕ) → result ≡ (thread_at (state_of self.now slots memory) offset).registers }
     {
-        match self.threads.registers(offset) {
+        match self.held.threads.registers(offset) {
             Some(registers) => registers,
             None => Regs::new(),
         }
@@ -65,7 +65,7 @@ impl Objects {
     pub(crate) fn pc_at(&self, offset: u32) -> u32
         ensures { (slots : Slots) (memory : List ℕ) → result ≡ (thread_at (state_of self.now slots memory) offset).registers.pc }
     {
-        match self.threads.pc(offset) {
+        match self.held.threads.pc(offset) {
             Some(pc) => pc,
             None => 0,
         }
@@ -109,7 +109,7 @@ impl Objects {
         ensures order { S.order store.new ≡ S.order store.old }
         ensures stands { Standing self.new (S.slots store.new) (S.memory store.new) }
     {
-        self.ready.leave(store, offset);
+        self.ready.leave(&self.held, store, offset);
     }
 
     /// Sets how many ticks a thread runs on.

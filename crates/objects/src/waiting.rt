@@ -8,12 +8,12 @@ ghost use Rattle.model.specs.Kernel.Scheduling.{head_of};
 ghost use Rattle.model.specs.Kernel.State.{notification_at};
 ghost use Rattle.objects.specs.Frames.{SameBesideRecords};
 ghost use Rattle.objects.specs.Standing.{Standing};
-ghost use Rattle.objects.specs.Tables.{kind_in, sending_in, state_of};
+ghost use Rattle.objects.specs.Tables.{kind_in, sending_in, state_of, waiting_of};
 ghost use Rattle.objects.specs.Waiting.{StandsNowhere, changed_at, has_waiting, joined, served, with_word};
-ghost use Rattle.queues.specs.Queues.{queue_of};
 
 use crate::records::{Record, Sending, Thread};
 use crate::tables::{LEAST_SIZE, Objects};
+use linked_queues::waiting::{first, pop, push};
 use slots::SlotStore;
 
 impl Objects {
@@ -36,14 +36,14 @@ impl Objects {
         ensures order { S.order store.new ≡ S.order store.old }
         ensures stands { Standing self.new (S.slots store.new) (S.memory store.new) }
     {
+        push(&self.held, store, queue, thread);
         let held = self.thread_or_new(thread);
-        self.threads.put(thread, Thread { sending, ..held });
-        self.waiting.push(store, queue, thread);
+        self.held.threads.put(thread, Thread { sending, ..held });
     }
 
     /// The first of those that wait at an object leaves.
     pub(crate) fn serve<S: SlotStore>(&mut self, store: &mut S, queue: u32, thread: u32)
-        requires first { head_of (queue_of self.old.waiting (S.memory store.old) queue) ≡ Some thread }
+        requires first { head_of (waiting_of self.old (S.memory store.old) queue) ≡ Some thread }
         requires stands { Standing self.old (S.slots store.old) (S.memory store.old) }
         ensures state { state_of self.new (S.slots store.new) (S.memory store.new)
             ≡ changed_at (state_of self.old (S.slots store.old) (S.memory store.old)) queue (served (sending_in self.old.threads thread)) }
@@ -53,14 +53,15 @@ impl Objects {
         ensures stands { Standing self.new (S.slots store.new) (S.memory store.new) }
         ensures there { kind_at (state_of self.new (S.slots store.new) (S.memory store.new)) thread ≡ Some NewThread }
     {
-        self.waiting.pop(store, queue);
+        pop(&self.held, store, queue);
     }
 
     /// The first thread that waits at an object.
     pub(crate) fn first_waiting<S: SlotStore>(&self, store: &S, queue: u32) -> Option<u32>
-        ensures { result ≡ head_of (queue_of self.now.waiting (S.memory store.now) queue) }
+        requires { Standing self.now (S.slots store.now) (S.memory store.now) }
+        ensures { result ≡ head_of (waiting_of self.now (S.memory store.now) queue) }
     {
-        self.waiting.first(store, queue)
+        first(&self.held, store, queue)
     }
 
     /// What a thread sends, if it does.
@@ -82,7 +83,7 @@ impl Objects {
         if self.thread_at(notification).is_some() {
             return 0;
         }
-        match self.records.get(LEAST_SIZE, notification) {
+        match self.held.records.get(LEAST_SIZE, notification) {
             Some(Record::Notification { word }) => word,
             _ => 0,
         }
@@ -95,7 +96,8 @@ impl Objects {
             ≡ with_word (state_of self.old slots memory) notification word }
         ensures tables { self.new ≡ record self.old { records = self.new.records } }
     {
-        self.records
+        self.held
+            .records
             .put(LEAST_SIZE, notification, Record::Notification { word });
     }
 }

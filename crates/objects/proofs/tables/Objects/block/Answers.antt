@@ -21,7 +21,7 @@ unready-requires g c =
     let before = state_of c.args.self.now (g.S.SlotMap.slots c.args.store.now) (g.S.SlotStore.memory c.args.store.now) in
     record {
       stands = stands-unmoved c.args.self.now c.replace.new.self (g.S.SlotMap.slots c.args.store.now) (g.S.SlotStore.memory c.args.store.now) c.requires.stands
-          (ap (λ (o : Tables). o.waiting) c.replace.ensures.tables) (ap (λ (o : Tables). o.ready) c.replace.ensures.tables)
+          (ap (λ (o : Tables). o.ready) c.replace.ensures.tables)
           (moved-to before _ _ (c.replace.ensures.state (g.S.SlotMap.slots c.args.store.now) (g.S.SlotStore.memory c.args.store.now)) (one-put before c.args.thread (ThreadObject _) c.requires.there));
     }
 

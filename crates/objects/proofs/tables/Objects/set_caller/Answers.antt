@@ -22,5 +22,5 @@ pub returns-clause-stands : goal.returns-clause-stands
 returns-clause-stands g c =
     let before = state_of c.args.self.now (g.S.SlotMap.slots c.args.store.now) (g.S.SlotStore.memory c.args.store.now) in
     stands-unmoved c.args.self.now _ (g.S.SlotMap.slots c.args.store.now) (g.S.SlotStore.memory c.args.store.now) c.requires.stands
-    (ap (λ (o : Tables). o.waiting) c.set_caller_at.ensures.tables) (ap (λ (o : Tables). o.ready) c.set_caller_at.ensures.tables)
+    (ap (λ (o : Tables). o.ready) c.set_caller_at.ensures.tables)
     (moved-to before _ _ (c.set_caller_at.ensures.state _ _) (one-put before c.args.thread (ThreadObject _) c.requires.there))

@@ -17,5 +17,5 @@ pub returns-clause-stands : goal.returns-clause-stands
 returns-clause-stands g c =
     let before = state_of c.args.self.now (g.S.SlotMap.slots c.args.store.now) (g.S.SlotStore.memory c.args.store.now) in
     stands-unmoved c.args.self.now _ (g.S.SlotMap.slots c.args.store.now) (g.S.SlotStore.memory c.args.store.now) c.requires.stands
-    (ap (λ (o : Tables). o.waiting) c.set_masked_at.ensures.tables) (ap (λ (o : Tables). o.ready) c.set_masked_at.ensures.tables)
+    (ap (λ (o : Tables). o.ready) c.set_masked_at.ensures.tables)
     (moved-to before _ _ (c.set_masked_at.ensures.state _ _) (record { kinds = λ offset. refl; bytes = refl; slots = refl; bits = refl }))

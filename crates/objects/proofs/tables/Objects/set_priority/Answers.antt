@@ -23,7 +23,7 @@ pub to_tail-requires-clause-stands : goal.to_tail-requires-clause-stands
 to_tail-requires-clause-stands g c =
     let before = state_of c.args.self.now (g.S.SlotMap.slots c.args.store.now) (g.S.SlotStore.memory c.args.store.now) in
     stands-unmoved c.args.self.now c.replace.new.self (g.S.SlotMap.slots c.args.store.now) (g.S.SlotStore.memory c.args.store.now) c.requires.stands
-    (ap (λ (o : Tables). o.waiting) c.replace.ensures.tables) (ap (λ (o : Tables). o.ready) c.replace.ensures.tables)
+    (ap (λ (o : Tables). o.ready) c.replace.ensures.tables)
     (moved-to before _ _ (c.replace.ensures.state (g.S.SlotMap.slots c.args.store.now) (g.S.SlotStore.memory c.args.store.now)) (one-put before c.args.thread (ThreadObject _) c.requires.there))
 
 pub returns-in-Runnable-clause-state : goal.returns-in-Runnable-clause-state
@@ -49,5 +49,5 @@ pub returns-in-Inactive-clause-stands : goal.returns-in-Inactive-clause-stands
 returns-in-Inactive-clause-stands g c =
     let before = state_of c.args.self.now (g.S.SlotMap.slots c.args.store.now) (g.S.SlotStore.memory c.args.store.now) in
     stands-unmoved c.args.self.now c.replace.new.self (g.S.SlotMap.slots c.args.store.now) (g.S.SlotStore.memory c.args.store.now) c.requires.stands
-    (ap (λ (o : Tables). o.waiting) c.replace.ensures.tables) (ap (λ (o : Tables). o.ready) c.replace.ensures.tables)
+    (ap (λ (o : Tables). o.ready) c.replace.ensures.tables)
     (moved-to before _ _ (c.replace.ensures.state (g.S.SlotMap.slots c.args.store.now) (g.S.SlotStore.memory c.args.store.now)) (one-put before c.args.thread (ThreadObject _) c.requires.there))
