@@ -1,6 +1,7 @@
 -- The first sender is served.
 use Rattle.ipc.proofs.Taken.{calls-then, received-from}
 use Rattle.ipc.proofs.receives.receive_or_pass.Goals as goal
+use Rattle.objects.proofs.Laws.{objects-then}
 use Rattle.model.specs.Kernel.Messages.{deliver_word}
 use Rattle.objects.specs.Tables.{state_of}
 use Rattle.objects.specs.Threads.{sender_of}
@@ -13,3 +14,6 @@ returns-in-Some-clause-state g c =
 
 pub returns-in-Some-clause-bytes : goal.returns-in-Some-clause-bytes
 returns-in-Some-clause-bytes g c = calls-then _ _ _ _ _ _ c.take_sender.ensures.bytes c.receive_from.ensures.bytes
+
+pub returns-in-None-clause-bytes : goal.returns-in-None-clause-bytes
+returns-in-None-clause-bytes g c = objects-then _ _ _ _ _ _ c.take_sender.ensures.bytes c.deliver_word.ensures.bytes

@@ -2,6 +2,7 @@
 use Rattle.std.proofs.Common.{◌∙◌, ap}
 use Rattle.ipc.proofs.Taken.{calls-then, received-from}
 use Rattle.ipc.proofs.receives.receive_or_wait.Goals as goal
+use Rattle.objects.proofs.Laws.{objects-then}
 use Rattle.model.specs.Kernel.Messages.{waits_to_receive}
 use Rattle.model.specs.Kernel.State.{State, endpoint_at}
 use Rattle.objects.specs.Tables.{state_of}
@@ -19,3 +20,6 @@ returns-in-Some-clause-bytes g c = calls-then _ _ _ _ _ _ c.take_sender.ensures.
 pub wait_to_receive-requires-clause-alone : goal.wait_to_receive-requires-clause-alone
 wait_to_receive-requires-clause-alone g c =
     ap (λ (s : State). (endpoint_at s c.args.endpoint).senders) c.in-None.ensures.state.state ∙ c.in-None.ensures.state.none
+
+pub returns-in-None-clause-bytes : goal.returns-in-None-clause-bytes
+returns-in-None-clause-bytes g c = objects-then _ _ _ _ _ _ c.take_sender.ensures.bytes c.wait_to_receive.ensures.bytes

@@ -3,6 +3,7 @@ use Rattle.std.proofs.Common.{◌∙◌, ap}
 use Rattle.ipc.proofs.Premises.{nowhere-still, one-sided, runs-nowhere, runs-there}
 use Rattle.ipc.proofs.Taken.{calls-then, sent-to}
 use Rattle.ipc.proofs.sends.send.Goals as goal
+use Rattle.objects.proofs.Laws.{objects-then}
 use Rattle.model.specs.Kernel.State.{State, endpoint_at}
 use Rattle.objects.specs.Tables.{state_of}
 use Rattle.objects.specs.Threads.{sender_of}
@@ -38,3 +39,6 @@ wait_to_send-requires-clause-apart g c =
 pub wait_to_send-requires-clause-alone : goal.wait_to_send-requires-clause-alone
 wait_to_send-requires-clause-alone g c =
     ap (λ (s : State). (endpoint_at s c.args.endpoint).receivers) c.in-None.ensures.state.state ∙ c.in-None.ensures.state.none
+
+pub returns-in-None-clause-bytes : goal.returns-in-None-clause-bytes
+returns-in-None-clause-bytes g c = objects-then _ _ _ _ _ _ c.take_receiver.ensures.bytes c.wait_to_send.ensures.bytes

@@ -3,6 +3,7 @@ use Rattle.std.proofs.Common.{◌∙◌}
 use Rattle.ipc.proofs.Premises.{one-sided, runs-there}
 use Rattle.ipc.proofs.Taken.{calls-then, tried-to}
 use Rattle.ipc.proofs.sends.try_to_send.Goals as goal
+use Rattle.objects.proofs.Laws.{objects-then}
 use Rattle.objects.specs.Tables.{state_of}
 use Rattle.objects.specs.Threads.{sender_of}
 
@@ -23,3 +24,6 @@ pub send_to-requires-clause-sender : goal.send_to-requires-clause-sender
 send_to-requires-clause-sender g c =
     c.take_receiver.ensures.bytes.kinds c.args.thread
     ∙ runs-there (state_of c.args.objects.now (g.S.SlotMap.slots c.args.store.now) (g.S.SlotStore.memory c.args.store.now)) c.args.thread c.requires.runs
+
+pub returns-in-None-clause-bytes : goal.returns-in-None-clause-bytes
+returns-in-None-clause-bytes g c = objects-then _ _ _ _ _ _ c.take_receiver.ensures.bytes c.pass.ensures.bytes

@@ -1,13 +1,16 @@
 -- Room, record and capability, one after another.
-use Rattle.std.proofs.Common.{ℕ, ◌∙◌, ◌<◌, ◌^◌, Some, ap, sym, subst, arith}
+use Rattle.std.proofs.Common.{ℕ, ◌∙◌, ◌<◌, ◌^◌, IsSome, Option, Some, ap, refl, sym, subst, arith}
 use Rattle.kernel_invariant.proofs.Laws.{is-room, room-stands, room-state, sixteen}
 use Rattle.cnode_ops.specs.Placed.{new_type}
 use Rattle.object_lifetimes.proofs.OneMade.{growing-made, stands-made, state-made}
-use Rattle.object_lifetimes.proofs.Places.{of-some, place-closed, place-free, place-near, room-depth, room-full}
+use Rattle.object_lifetimes.proofs.Places.{of-some, place-closed, place-free, place-near, room-depth, room-full, room-of_open}
 use Rattle.object_lifetimes.proofs.making.make_one.Goals as goal
 use Rattle.model.specs.Capabilities.Slots.{IsFull, Slots, depth_of, inserted}
 use Rattle.model.specs.Kernel.State.{State}
+use Rattle.model.specs.Capabilities.CapabilityWords.{IsCapability}
+use Rattle.model.specs.declared.slot_entries.Entry.{Entry}
 use Rattle.objects.specs.Tables.{state_of}
+use Rattle.soundness.proofs.Laws.{first-valid}
 
 pub make_room-requires-clause-aligned : goal.make_room-requires-clause-aligned
 make_room-requires-clause-aligned g c = sixteen (new_type c.args.kind) c.args.place c.requires.large c.requires.aligned
@@ -41,6 +44,20 @@ begin_object-requires-clause-room g c =
     is-room c.args.objects.now (g.S.SlotMap.slots c.args.store.now) (g.S.SlotMap.slots c.make_room.new.store) (g.S.SlotStore.memory c.args.store.now)
     (g.S.SlotStore.memory c.make_room.new.store) (new_type c.args.kind) c.args.place _ c.requires.growing (omega arith)
     (sixteen (new_type c.args.kind) c.args.place c.requires.large c.requires.aligned) c.make_room.ensures c.requires.stands
+
+pub insert-requires-clause-empty : goal.insert-requires-clause-empty
+unfolding state_of
+insert-requires-clause-empty g c =
+    ap (λ (f : Slots). f c.args.slot) c.begin_object.ensures.slots
+    ∙ room-of_open (state_of c.args.objects.now (g.S.SlotMap.slots c.args.store.now) (g.S.SlotStore.memory c.args.store.now)) (new_type c.args.kind) c.args.place _
+    c.requires.growing (g.S.SlotMap.slots c.make_room.new.store) (sixteen (new_type c.args.kind) c.args.place c.requires.large c.requires.aligned) c.make_room.ensures.slots c.args.slot
+    (subst (λ (e : Option Entry). IsSome e) (sym c.requires.empty) refl)
+    ∙ c.requires.empty
+
+pub insert-requires-clause-valid : goal.insert-requires-clause-valid
+insert-requires-clause-valid g c =
+    subst IsCapability (sym c.first_capability.ensures)
+    (first-valid (new_type c.args.kind) c.args.place c.requires.large c.requires.small c.requires.aligned c.requires.near)
 
 pub insert-requires-clause-full : goal.insert-requires-clause-full
 unfolding state_of
