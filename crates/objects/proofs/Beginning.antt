@@ -14,13 +14,14 @@ use Rattle.objects.proofs.Vacating.{other-same}
 use Rattle.objects.specs.Changes.{MayStand, begun, is_frame_kind}
 use Rattle.objects.specs.Standing.{Standing}
 use Rattle.objects.specs.Tables.{Tables, byte_in, is_frame, object_from, object_in, object_of, record_in, record_of, sending_in, state_of, thread_in, told_by, waiting_of}
-use Rattle.objects.specs.Threads.{new_object, thread_state}
+use Rattle.thread_records.specs.Threads.{thread_state}
+use Rattle.objects.specs.Threads.{new_object}
 use Rattle.objects.specs.Waiting.{has_waiting}
 use Rattle.objects.specs.declared.records.Kind.{Kind}
 use Rattle.objects.specs.declared.records.Kind.TheVariants as kinds
 use Rattle.objects.specs.declared.records.Record.{Record}
 use Rattle.objects.specs.declared.records.Record.TheVariants.{Endpoint, Notification, CNode, Frame, PageTable, RootTable}
-use Rattle.objects.specs.declared.records.Thread.{Thread}
+use Rattle.thread_records.specs.declared.records.Thread.{Thread}
 use Rattle.objects.proofs.Told.{state_with, waited, waiters}
 
 -- ---- nothing is there

@@ -31,8 +31,9 @@ use Rattle.objects.specs.declared.records.Record.{Record}
 use Rattle.objects.specs.declared.records.Record.TheVariants.{CNode, Frame, PageTable, RootTable}
 use Rattle.std.proofs.Math.Pow.{pow_mono}
 use Rattle.objects.specs.Tables.{AreTables, Tables, byte_in, has_queue, is_thread_kind, kind_in, places_of, ready_at, record_in, record_of, state_of, thread_in, waiting_of}
-use Rattle.objects.specs.Threads.{new_object, thread_state}
-use Rattle.objects.specs.declared.records.Thread.{Thread}
+use Rattle.thread_records.specs.Threads.{thread_state}
+use Rattle.objects.specs.Threads.{new_object}
+use Rattle.thread_records.specs.declared.records.Thread.{Thread}
 use Rattle.objects.specs.declared.records.Kind.{Kind}
 use Rattle.objects.specs.declared.records.Kind.TheVariants as kinds
 use Rattle.removal_laws.specs.Finishing.{is_stranded, waits_nowhere}

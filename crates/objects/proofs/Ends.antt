@@ -7,10 +7,10 @@ use Rattle.model.specs.Capabilities.Slots.{Slots}
 use Rattle.model.specs.Kernel.Scheduling.{all_leave, leaves, without_threads}
 use Rattle.model.specs.Kernel.State.{Object, State, ThreadState, as_thread}
 use Rattle.objects.specs.Tables.{Tables, object_from, object_in, object_of, record_in, state_of, thread_in, told_by, waiting_of}
-use Rattle.objects.specs.Threads.{thread_state}
+use Rattle.thread_records.specs.Threads.{thread_state}
 use Rattle.objects.specs.declared.records.Record.{Record}
 use Rattle.objects.specs.declared.records.Record.TheVariants.{Endpoint, Notification, CNode, Frame, PageTable, RootTable}
-use Rattle.objects.specs.declared.records.Thread.{Thread}
+use Rattle.thread_records.specs.declared.records.Thread.{Thread}
 use Rattle.removal_laws.proofs.Laws.{filter-all, threads-all}
 use Rattle.removal_laws.specs.Steps.{ends_thread}
 

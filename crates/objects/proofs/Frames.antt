@@ -13,7 +13,7 @@ use Rattle.objects.specs.Frames.{FitsMemory, IsInRecord, SameBesideObjects, Same
 use Rattle.objects.specs.Standing.{Standing}
 use Rattle.objects.specs.Tables.{Tables, places_of, state_of}
 use Rattle.objects.specs.Waiting.{ReceiverTaken, SenderTaken, WaiterTaken, changed_at, joined, served}
-use Rattle.objects.specs.declared.records.Sending.{Sending}
+use Rattle.thread_records.specs.declared.records.Sending.{Sending}
 use Rattle.objects.specs.declared.records.WaitingSender.{WaitingSender}
 use Rattle.linked_queues.specs.Layout.{Places}
 use Rattle.linked_queues.specs.Queues.{QueuesStand}

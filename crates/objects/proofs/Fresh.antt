@@ -19,7 +19,7 @@ use Rattle.objects.specs.Waiting.{has_waiting}
 use Rattle.objects.specs.Tables.{AreTables, Tables, byte_in, is_thread_kind, kind_in, object_in, placed, places_of, state_of, told_by, waiting_of}
 use Rattle.objects.specs.declared.records.Record.{Record}
 use Rattle.objects.specs.declared.records.Record.TheVariants.{CNode}
-use Rattle.objects.specs.declared.records.Thread.{Thread}
+use Rattle.thread_records.specs.declared.records.Thread.{Thread}
 use Rattle.model.specs.Kernel.Kinds.{frame_around}
 
 nothing-at : {A : Type 0} (n i : ℕ) → slice_index_or (replicate {A = Option A} n None) i None ≡ None

@@ -13,12 +13,12 @@ use Rattle.objects.proofs.Lists.{receivers-by, receivers-same, senders-by, sende
 use Rattle.objects.proofs.Vacating.{other-same}
 use Rattle.objects.specs.Standing.{Standing}
 use Rattle.objects.specs.Tables.{Tables, object_from, object_in, object_of, record_in, sending_in, state_of, thread_in, told_by, waiting_of}
-use Rattle.objects.specs.Threads.{sender_of}
+use Rattle.thread_records.specs.Threads.{sender_of}
 use Rattle.objects.specs.Waiting.{StandsNowhere, changed_at, has_waiting, joined}
 use Rattle.objects.specs.declared.records.Record.{Record}
 use Rattle.objects.specs.declared.records.Record.TheVariants.{Endpoint, Notification, CNode, Frame, PageTable, RootTable}
-use Rattle.objects.specs.declared.records.Sending.{Sending}
-use Rattle.objects.specs.declared.records.Thread.{Thread}
+use Rattle.thread_records.specs.declared.records.Sending.{Sending}
+use Rattle.thread_records.specs.declared.records.Thread.{Thread}
 use Rattle.objects.proofs.Told.{state_with, waited}
 
 -- ---- those that wait, as senders and receivers

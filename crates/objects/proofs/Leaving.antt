@@ -10,7 +10,7 @@ use Rattle.objects.specs.Changes.{voided}
 use Rattle.objects.specs.Tables.{Tables, object_from, object_in, object_of, receivers_in, record_in, senders_in, sending_in, thread_in}
 use Rattle.objects.specs.declared.records.Record.{Record}
 use Rattle.objects.specs.declared.records.Record.TheVariants.{Endpoint, Notification, CNode, Frame, PageTable, RootTable}
-use Rattle.objects.specs.declared.records.Thread.{Thread}
+use Rattle.thread_records.specs.declared.records.Thread.{Thread}
 use Rattle.objects.proofs.Told.{state_with}
 
 sends-still : (gone : ℕ) (o : Option Thread) → option_and_then (λ t. t.sending) (option_map (voided gone) o) ≡ option_and_then (λ t. t.sending) o

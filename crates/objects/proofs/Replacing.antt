@@ -16,11 +16,11 @@ use Rattle.objects.proofs.Kept.{put-here, put-there}
 use Rattle.objects.proofs.Lists.{receivers-by, senders-by}
 use Rattle.objects.specs.Changes.{registered}
 use Rattle.objects.specs.Tables.{Tables, kind_in, object_from, object_in, object_of, ready_at, record_in, sending_in, state_of, thread_in, told_by, waiting_of}
-use Rattle.objects.specs.Threads.{status_of, thread_state}
+use Rattle.thread_records.specs.Threads.{status_of, thread_state}
 use Rattle.objects.specs.declared.records.Record.{Record}
 use Rattle.objects.specs.declared.records.Record.TheVariants.{Endpoint, Notification, CNode, Frame, PageTable, RootTable}
-use Rattle.objects.specs.declared.records.Status.TheVariants.{Runnable}
-use Rattle.objects.specs.declared.records.Thread.{Thread}
+use Rattle.thread_records.specs.declared.records.Status.TheVariants.{Runnable}
+use Rattle.thread_records.specs.declared.records.Thread.{Thread}
 use Rattle.objects.proofs.Frames.{kind-put}
 use Rattle.objects.proofs.Told.{state_with, told, told-same}
 pub use Rattle.objects.proofs.Told.{aligned, within}

@@ -6,12 +6,12 @@ use Rattle.model.specs.Kernel.Scheduling.{head_of}
 use Rattle.model.specs.Kernel.State.{EndpointObject, put}
 use Rattle.objects.proofs.Lists.{head-rest, receivers-by, senders-by}
 use Rattle.objects.specs.Tables.{Tables, object_from, object_in, object_of, record_in, sending_in, thread_in}
-use Rattle.objects.specs.Threads.{sender_of}
+use Rattle.thread_records.specs.Threads.{sender_of}
 use Rattle.objects.specs.Waiting.{changed_at, served}
 use Rattle.objects.specs.declared.records.Record.{Record}
 use Rattle.objects.specs.declared.records.Record.TheVariants.{Endpoint, Notification, CNode, Frame, PageTable, RootTable}
-use Rattle.objects.specs.declared.records.Sending.{Sending}
-use Rattle.objects.specs.declared.records.Thread.{Thread}
+use Rattle.thread_records.specs.declared.records.Sending.{Sending}
+use Rattle.thread_records.specs.declared.records.Thread.{Thread}
 use Rattle.objects.proofs.Told.{state_with}
 
 -- ---- the first of a list of those that wait

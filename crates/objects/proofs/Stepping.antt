@@ -30,12 +30,12 @@ use Rattle.objects.specs.Changes.{vacated, voided}
 use Rattle.objects.specs.Frames.{FitsMemory, SameBesideRecords}
 use Rattle.objects.specs.Standing.{Standing}
 use Rattle.objects.specs.Tables.{Tables, byte_in, is_thread_kind, kind_in, places_of, ready_at, record_in, sending_in, state_of, thread_in, waiting_of}
-use Rattle.objects.specs.Threads.{thread_state}
+use Rattle.thread_records.specs.Threads.{thread_state}
 use Rattle.objects.specs.Waiting.{StandsNowhere, changed_at, has_waiting, joined, served}
 use Rattle.objects.specs.declared.records.Record.{Record}
-use Rattle.objects.specs.declared.records.Sending.{Sending}
-use Rattle.objects.specs.declared.records.Status.TheVariants as statuses
-use Rattle.objects.specs.declared.records.Thread.{Thread}
+use Rattle.thread_records.specs.declared.records.Sending.{Sending}
+use Rattle.thread_records.specs.declared.records.Status.TheVariants as statuses
+use Rattle.thread_records.specs.declared.records.Thread.{Thread}
 
 -- what a call leaves: a state, and that it stands
 pub record Left (n : Tables) (slots : Slots) (memory : List ℕ) (t : State) : Type 0 where

@@ -13,8 +13,8 @@ use Rattle.objects.proofs.Kept.{put-there}
 use Rattle.objects.specs.Frames.{SameBesideRecords}
 use Rattle.objects.specs.Standing.{Standing}
 use Rattle.objects.specs.Tables.{Tables, state_of, thread_in, told_by, waiting_of}
-use Rattle.objects.specs.Threads.{status_of, thread_state}
-use Rattle.objects.specs.declared.records.Thread.{Thread}
+use Rattle.thread_records.specs.Threads.{status_of, thread_state}
+use Rattle.thread_records.specs.declared.records.Thread.{Thread}
 use Rattle.removal_laws.specs.Finishing.{is_stranded, waits_nowhere, woken}
 
 -- ---- who is stranded

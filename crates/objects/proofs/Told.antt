@@ -22,7 +22,7 @@ use Rattle.objects.specs.Tables.{AreTables, Tables, is_thread_kind, kind_in, obj
 use Rattle.objects.specs.Waiting.{has_waiting}
 use Rattle.objects.specs.declared.records.Record.{Record}
 use Rattle.objects.specs.declared.records.Record.TheVariants.{Endpoint, Notification, CNode, Frame, PageTable, RootTable}
-use Rattle.objects.specs.declared.records.Thread.{Thread}
+use Rattle.thread_records.specs.declared.records.Thread.{Thread}
 
 -- the state of tables, if these wait and are ready
 abbrev pub state_with : Tables → (ℕ → List ℕ) → (ℕ → List ℕ) → Slots → List ℕ → State

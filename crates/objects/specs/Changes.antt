@@ -7,7 +7,7 @@ use Rattle.model.specs.Machine.ProgramMemory.{RegisterFile}
 use Rattle.objects.specs.Threads.{new_object}
 use Rattle.objects.specs.declared.records.Kind.{Kind}
 use Rattle.objects.specs.declared.records.Kind.TheVariants as kinds
-use Rattle.objects.specs.declared.records.Thread.{Thread}
+use Rattle.thread_records.specs.declared.records.Thread.{Thread}
 
 -- ---- objects that begin and end
 

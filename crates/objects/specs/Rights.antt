@@ -2,7 +2,7 @@
 use Rattle.std.specs.Prelude.{ℕ, ◌≡◌, ◌==◌, Bool, true, false, Option, Some, List}
 use Rattle.std.specs.Option.{option_map_or}
 use Rattle.objects.specs.Tables.{placed, thread_in}
-use Rattle.objects.specs.declared.records.Thread.{Thread}
+use Rattle.thread_records.specs.declared.records.Thread.{Thread}
 
 -- whether what stands at an offset is a thread with the right to reply to another
 abbrev pub has_right : Option Thread → ℕ → Bool

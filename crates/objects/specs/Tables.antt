@@ -6,13 +6,13 @@ use Rattle.model.specs.Capabilities.Slots.{Slots}
 use Rattle.model.specs.Kernel.Kinds.{frame_around, kind_of}
 use Rattle.model.specs.Kernel.Retype.{NewObject, NewUntyped, NewThread, NewEndpoint, NewNotification, NewCNode, NewFrame, NewPageTable, NewRootTable}
 use Rattle.model.specs.Kernel.State.{State, Object, Sender, ThreadObject, EndpointObject, NotificationObject, CNodeObject, FrameObject, PageTableObject, RootTableObject, with_slots}
-use Rattle.objects.specs.Threads.{sender_of, thread_state}
+use Rattle.thread_records.specs.Threads.{sender_of, thread_state}
 use Rattle.objects.specs.declared.records.Kind.{Kind}
 use Rattle.objects.specs.declared.records.Kind.TheVariants as kinds
 use Rattle.objects.specs.declared.records.Record.{Record}
 use Rattle.objects.specs.declared.records.Record.TheVariants as records
-use Rattle.objects.specs.declared.records.Sending.{Sending}
-use Rattle.objects.specs.declared.records.Thread.{Thread}
+use Rattle.thread_records.specs.declared.records.Sending.{Sending}
+use Rattle.thread_records.specs.declared.records.Thread.{Thread}
 use Rattle.objects.specs.Waiting.{has_waiting}
 use Rattle.linked_queues.specs.Layout.{Places}
 use Rattle.linked_queues.specs.Queues.{queue_of}

@@ -17,10 +17,11 @@ mod thread_places;
 mod threads;
 mod waiting;
 
-pub use records::{Fault, Kind, Sending, Sent, Status, Thread, WaitingSender};
+pub use records::{Kind, WaitingSender};
 pub use state_laws::{
     a_byte_is_in_memory, a_state_follows_its_frames, a_state_follows_its_slots,
     a_state_follows_other_bytes, a_state_has_its_slots, what_stands_beside_frames,
     what_stands_beside_other_bytes, what_stands_still_does,
 };
 pub use tables::{FULL_SLICE, Objects};
+pub use thread_records::{Fault, Sending, Sent, Status, Thread};

@@ -3,14 +3,14 @@
 ghost use Rattle.std.specs.Prelude.{ℕ, ◌≡◌, ◌==◌, ◌/◌, ◌%◌, ◌<◌, Some, None, IfOk, length, option_map, replicate, if◌then◌else◌};
 ghost use Rattle.model.specs.Kernel.State.{put};
 ghost use Rattle.objects.specs.Changes.{registered, voided};
-ghost use Rattle.objects.specs.declared.records.Thread.{Thread};
+ghost use Rattle.thread_records.specs.declared.records.Thread.{Thread};
 ghost use Rattle.objects.specs.Tables.{placed, thread_in};
 
-use crate::records::Thread;
 use crate::tables::THREAD_SIZE;
 use rv32_exec::Regs;
 use std::alloc::{AllocError, Global};
 use std::marker::Model;
+use thread_records::Thread;
 
 /// A table with an entry for each `size` bytes of memory; its calls are told the size. Clauses see the
 /// list of its entries.

@@ -9,12 +9,13 @@ ghost use Rattle.model.specs.Kernel.State.{endpoint_at, notification_at};
 ghost use Rattle.objects.specs.Frames.{SameObjects};
 ghost use Rattle.objects.specs.Standing.{Standing};
 ghost use Rattle.objects.specs.Tables.{state_of};
-ghost use Rattle.objects.specs.Threads.{sender_of};
+ghost use Rattle.thread_records.specs.Threads.{sender_of};
 ghost use Rattle.objects.specs.Waiting.{IsOneSided, ReceiverTaken, SenderTaken, StandsNowhere, WaiterTaken, with_receiver, with_sender, with_waiter, with_word};
 
-use crate::records::{Sending, WaitingSender};
+use crate::records::WaitingSender;
 use crate::tables::Objects;
 use slots::SlotStore;
+use thread_records::Sending;
 
 impl Objects {
     /// A thread that waits nowhere waits behind the others at an endpoint where nobody receives, to send this.

@@ -11,9 +11,9 @@ ghost use Rattle.objects.specs.Frames.{SameObjects};
 ghost use Rattle.objects.specs.Standing.{Standing};
 ghost use Rattle.objects.specs.Tables.{state_of};
 
-use crate::records::{Status, Thread};
 use crate::tables::Objects;
 use slots::SlotStore;
+use thread_records::{Status, Thread};
 
 impl Objects {
     /// The current thread: the first of the greatest priority, if any is ready.

@@ -13,18 +13,19 @@ ghost use Rattle.objects.specs.Changes.{vacated};
 ghost use Rattle.objects.specs.Frames.{SameBesideRecords};
 ghost use Rattle.objects.specs.Standing.{Standing};
 ghost use Rattle.objects.specs.Tables.{is_frame, kind_in, object_in, ready_at, record_in, record_of, state_of, thread_in, waiting_of};
-ghost use Rattle.objects.specs.Threads.{status_of};
+ghost use Rattle.thread_records.specs.Threads.{status_of};
 ghost use Rattle.objects.specs.Waiting.{has_waiting};
 ghost use Rattle.removal_laws.specs.Finishing.{is_stranded, waits_nowhere};
 ghost use Rattle.removal_laws.specs.Steps.{ends_thread};
 
 use crate::held::Held;
-use crate::records::{Kind, Record, Status, Thread};
+use crate::records::{Kind, Record};
 use linked_queues::{ReadyList, waiting};
 use model::Slot;
 use slots::SlotStore;
 use std::alloc::{AllocError, Global};
 use std::marker::Model;
+use thread_records::{Status, Thread};
 
 /// How many ticks a thread gets when it is made runnable.
 pub const FULL_SLICE: u8 = 5;

@@ -9,12 +9,12 @@ ghost use Rattle.model.specs.Kernel.State.{thread_at, with_thread};
 ghost use Rattle.objects.specs.Frames.{SameObjects};
 ghost use Rattle.objects.specs.Standing.{Standing};
 ghost use Rattle.objects.specs.Tables.{state_of};
-ghost use Rattle.objects.specs.Threads.{status_of};
+ghost use Rattle.thread_records.specs.Threads.{status_of};
 
-use crate::records::{Status, Thread};
 use crate::tables::Objects;
 use rv32_exec::Regs;
 use slots::SlotStore;
+use thread_records::{Status, Thread};
 
 impl Objects {
     /// The registers of a thread: those of a new one, where none is.

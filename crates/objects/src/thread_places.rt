@@ -4,15 +4,15 @@ ghost use Rattle.std.specs.Prelude.{ℕ, ◌≡◌, ◌==◌, ◌&&◌, ◌/◌,
 ghost use Rattle.model.specs.Kernel.State.{put};
 ghost use Rattle.objects.specs.Changes.{registered, voided};
 ghost use Rattle.objects.specs.Rights.{AreKnown, IsNoted, has_right};
-ghost use Rattle.objects.specs.declared.records.Thread.{Thread};
+ghost use Rattle.thread_records.specs.declared.records.Thread.{Thread};
 ghost use Rattle.objects.specs.Tables.{thread_in};
 
 use crate::places::Places;
-use crate::records::Thread;
 use crate::tables::THREAD_SIZE;
 use rv32_exec::Regs;
 use std::alloc::{AllocError, Global};
 use std::marker::Model;
+use thread_records::Thread;
 
 /// An entry for each 512 bytes of memory, where a thread may stand. Clauses see the list of its entries.
 ///
@@ -27,7 +27,7 @@ pub(crate) struct ThreadPlaces {
 impl Model for ThreadPlaces {
     ghost use Rattle.std.specs.Prelude.{List, Option};
     ghost use Rattle.objects.specs.Rights.{AreKnown};
-    ghost use Rattle.objects.specs.declared.records.Thread.{Thread};
+    ghost use Rattle.thread_records.specs.declared.records.Thread.{Thread};
 
     ghost Value = { List (Option Thread) };
 

@@ -9,12 +9,12 @@ ghost use Rattle.model.specs.Kernel.State.{thread_at, with_thread};
 ghost use Rattle.objects.specs.Frames.{SameBesideRecords};
 ghost use Rattle.objects.specs.Standing.{Standing};
 ghost use Rattle.objects.specs.Tables.{kind_in, sending_in, state_of, thread_in};
-ghost use Rattle.objects.specs.Threads.{thread_state};
+ghost use Rattle.thread_records.specs.Threads.{thread_state};
 
-use crate::records::Thread;
 use crate::tables::Objects;
 use rv32_exec::Regs;
 use slots::SlotStore;
+use thread_records::Thread;
 
 impl Objects {
     /// The thread at an offset, or a new one where none is.

@@ -11,10 +11,11 @@ ghost use Rattle.objects.specs.Standing.{Standing};
 ghost use Rattle.objects.specs.Tables.{kind_in, sending_in, state_of, waiting_of};
 ghost use Rattle.objects.specs.Waiting.{StandsNowhere, changed_at, has_waiting, joined, served, with_word};
 
-use crate::records::{Record, Sending, Thread};
+use crate::records::Record;
 use crate::tables::{LEAST_SIZE, Objects};
 use linked_queues::waiting::{first, pop, push};
 use slots::SlotStore;
+use thread_records::{Sending, Thread};
 
 impl Objects {
     /// A thread that stands in no queue stands behind those that wait at an object, to send this or to receive.

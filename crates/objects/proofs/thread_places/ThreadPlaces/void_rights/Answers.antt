@@ -4,7 +4,7 @@ use Rattle.objects.proofs.Repliers.{one-voided}
 use Rattle.objects.proofs.thread_places.ThreadPlaces.void_rights.Goals as goal
 use Rattle.objects.specs.Changes.{voided}
 use Rattle.objects.specs.Tables.{thread_in}
-use Rattle.objects.specs.declared.records.Thread.{Thread}
+use Rattle.thread_records.specs.declared.records.Thread.{Thread}
 
 pub returns-in-Some-clause-threads : goal.returns-in-Some-clause-threads
 returns-in-Some-clause-threads c = λ other.
