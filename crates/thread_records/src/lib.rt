@@ -2,6 +2,8 @@
 //! seL4 Reference Manual, "Threads and Execution".
 #![tactic(auto)]
 
+mod laws;
 mod records;
 
+pub use laws::a_record_stays;
 pub use records::{Fault, Sending, Sent, Status, Thread};

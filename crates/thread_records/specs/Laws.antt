@@ -1,0 +1,8 @@
+-- The law of this crate on what stays of a thread, where other bytes change.
+use Rattle.std.specs.Prelude.{ℕ, ◌≡◌, List, slice_index}
+use Rattle.thread_records.specs.Records.{IsRecordByte, thread_at}
+
+-- a thread is what its record's bytes say
+abbrev pub RecordStays : Type 0
+RecordStays = (old new : List ℕ) (thread : ℕ) → ((place : ℕ) → IsRecordByte thread place → slice_index new place ≡ slice_index old place)
+    → thread_at new thread ≡ thread_at old thread
