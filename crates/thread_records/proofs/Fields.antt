@@ -12,7 +12,7 @@ use Rattle.model.specs.declared.instructions.Cause.TheVariants as causes
 use Rattle.model.specs.declared.lookup_failures.LookupFailure.{LookupFailure}
 use Rattle.model.specs.declared.lookup_failures.LookupFailure.TheVariants as failures
 use Rattle.thread_records.specs.Laws.{RecordStays}
-use Rattle.thread_records.specs.Records.{IsRecordByte, SameBesideRecord, access_from, caller_from, caller_words, cause_from, failure_from, failure_left, flag, is_set, sending_from, sending_with, sending_words, sent_from, sent_words, status_from, status_words, thread_at, words_at, words_bytes}
+use Rattle.thread_records.specs.Records.{IsRecordByte, SameBesideRecord, access_from, caller_from, caller_words, cause_from, failure_from, failure_left, fault_from, flag, is_set, sending_from, sending_with, sending_words, sent_from, sent_words, status_from, status_words, thread_at, words_at, words_bytes}
 use Rattle.thread_records.specs.declared.records.Fault.{Fault}
 use Rattle.thread_records.specs.declared.records.Fault.TheVariants as faults
 use Rattle.thread_records.specs.declared.records.Sending.{Sending}
@@ -62,7 +62,12 @@ third-word badge reply (sents.Fault (faults.UnknownCall pc number)) = refl
 third-word badge reply (sents.Fault (faults.Instruction pc cause)) = refl
 third-word badge reply (sents.Fault (faults.Memory pc fault)) = refl
 
-sent-back : (badge reply : ℕ) (sent : Sent) → sent_from (sent_words badge reply sent) ≡ Some sent
+sent_of : List ℕ → Option Sent
+sent_of words =
+    let code = slice_index words 0 in
+    sent_from code (fault_from code (slice_index words 3) (slice_index words 4) (slice_index words 5) (slice_index words 6) (slice_index words 7))
+
+sent-back : (badge reply : ℕ) (sent : Sent) → sent_of (sent_words badge reply sent) ≡ Some sent
 sent-back badge reply sents.Send = refl
 sent-back badge reply sents.Call = refl
 sent-back badge reply (sents.Fault (faults.Capability pc address true failures.InvalidRoot)) = refl

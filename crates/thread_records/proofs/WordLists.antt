@@ -1,9 +1,9 @@
 -- Words one behind the other: how they are written and read back, and which bytes that leaves as they are.
-use Rattle.std.proofs.Common.{ℕ, zero, suc, ◌≡◌, ◌∙◌, ◌+◌, ◌*◌, ◌^◌, ◌<◌, ◌≤◌, ◌⊎◌, inl, inr, List, [], ◌∷◌, ◌++◌, length, slice_index, take, drop, refl, sym, ap, append_assoc, length-append, arith}
+use Rattle.std.proofs.Common.{ℕ, zero, suc, ◌≡◌, ◌∙◌, ◌+◌, ◌*◌, ◌^◌, ◌<◌, ◌≤◌, ◌⊎◌, inl, inr, List, [], ◌∷◌, ◌++◌, length, slice_index, slice_set, take, drop, refl, sym, ap, add-one, append_assoc, length-append, arith}
 use Rattle.std.proofs.Math.Seq.{take-append_seam}
 use Rattle.std.proofs.lemmas.Bool.{cases_lt}
-use Rattle.std.proofs.lemmas.Grind.{common_steps}
-use Rattle.std.proofs.lemmas.List.{length-take-le}
+use Rattle.std.proofs.lemmas.Grind.{common_steps, flat_map-append}
+use Rattle.std.proofs.lemmas.List.{length-take-le, take_more, take_more_set}
 use Rattle.std.proofs.lemmas.Slice.{drop-append-drop}
 use Rattle.model.proofs.BytesLemmas.{length-written, slice_index-written_before, slice_index-written_behind, slice_index-written_inside, word_at-same, word_at-written, word_at-written_before, word_at-written_behind}
 use Rattle.model.specs.Shared.Bytes.{word_at, word_bytes, written}
@@ -81,3 +81,42 @@ words-written m at (w ∷ ws) inside fits =
     ap (λ (n : List ℕ). words_at n at (length (w ∷ ws))) split
     ∙ ap (λ (x : ℕ). x ∷ words_at (written one (at + 4) (words_bytes ws)) (at + 4) (length ws)) first
     ∙ ap (λ (xs : List ℕ). w ∷ xs) rest
+
+-- ---- one word more
+
+words-suc : (m : List ℕ) (at n : ℕ) → words_at m at (suc n) ≡ words_at m at n ++ word_at m (at + 4 * n) ∷ []
+words-suc m at zero = ap (λ (place : ℕ). word_at m place ∷ []) (omega arith)
+words-suc m at (suc n) =
+    let place : at + 4 + 4 * n ≡ at + 4 * suc n = omega arith in
+    ap (λ (ws : List ℕ). word_at m at ∷ ws) (words-suc m (at + 4) n ∙ ap (λ (place : ℕ). words_at m (at + 4) n ++ word_at m place ∷ []) place)
+
+words-more : (m : List ℕ) (at n : ℕ) → words_at m at (n + 1) ≡ words_at m at n ++ word_at m (at + 4 * n) ∷ []
+words-more m at n = ap (words_at m at) (add-one n) ∙ words-suc m at n
+
+-- what was read so far, and the word that is read
+pub read-more : (m words : List ℕ) (at i word : ℕ) → i < length words → take i words ≡ words_at m at i → word ≡ word_at m (at + 4 * i)
+    → take (i + 1) (slice_set words i word) ≡ words_at m at (i + 1)
+read-more m words at i word less so is =
+    take_more_set words i word less ∙ ap (λ (ws : List ℕ). ws ++ word ∷ []) so ∙ ap (λ (w : ℕ). words_at m at i ++ w ∷ []) is ∙ sym (words-more m at i)
+
+words_bytes-more : (words : List ℕ) (i : ℕ) → i < length words → words_bytes (take (i + 1) words) ≡ words_bytes (take i words) ++ word_bytes (slice_index words i)
+words_bytes-more words i less =
+    ap words_bytes (take_more words i 0 less) ∙ flat_map-append word_bytes (take i words) (slice_index words i ∷ [])
+
+-- what was written so far, and the word that is written
+pub write-more : (m now : List ℕ) (at : ℕ) (words : List ℕ) (i : ℕ) → i < length words → at + 4 * length words ≤ length m
+    → now ≡ written m at (words_bytes (take i words))
+    → written now (at + 4 * i) (word_bytes (slice_index words i)) ≡ written m at (words_bytes (take (i + 1) words))
+write-more m now at words i less inside so =
+    let first = words_bytes (take i words) in
+    let long : length first ≡ 4 * i = length-words_bytes (take i words) ∙ ap (λ (n : ℕ). 4 * n) (length-take-le i words (omega (arith, less))) in
+    ap (λ (n : List ℕ). written n (at + 4 * i) (word_bytes (slice_index words i))) so
+    ∙ ap (λ (k : ℕ). written (written m at first) (at + k) (word_bytes (slice_index words i))) (sym long)
+    ∙ sym (written-append m at first (word_bytes (slice_index words i)) (omega (arith, long, less, inside)))
+    ∙ ap (λ (piece : List ℕ). written m at piece) (sym (words_bytes-more words i less))
+
+pub length-written_so : (m now : List ℕ) (at : ℕ) (words : List ℕ) (i : ℕ) → i ≤ length words → at + 4 * length words ≤ length m
+    → now ≡ written m at (words_bytes (take i words)) → length now ≡ length m
+length-written_so m now at words i less inside so =
+    let long : length (words_bytes (take i words)) ≡ 4 * i = length-words_bytes (take i words) ∙ ap (λ (n : ℕ). 4 * n) (length-take-le i words less) in
+    ap length so ∙ length-written m at (words_bytes (take i words)) (omega (arith, long, less, inside))

@@ -1,5 +1,5 @@
 -- A thread's record in bytes 48 to 243 of its 512. Each field is a little-endian word, priority and slice are bytes. All zero is a new thread, and any bytes read as some thread.
-use Rattle.std.specs.Prelude.{ℕ, zero, suc, ◌≡◌, ◌==◌, ◌+◌, ◌^◌, ◌<◌, ◌≤◌, Bool, not, Option, Some, None, List, [], ◌∷◌, if◌then◌else◌, length, replicate, slice_index}
+use Rattle.std.specs.Prelude.{ℕ, zero, suc, ◌≡◌, ◌==◌, ◌+◌, ◌^◌, ◌<◌, ◌≤◌, Bool, not, Option, Some, None, option_map, List, [], ◌∷◌, if◌then◌else◌, length, replicate, slice_index}
 use Rattle.std.specs.List.{flat_map}
 use Rattle.model.specs.Capabilities.LookupNumbers.{failure_number}
 use Rattle.model.specs.Capabilities.Slots.{OutsideSlots, Slots}
@@ -84,25 +84,26 @@ cause_from number = if number == 2 then causes.Misaligned else causes.Illegal
 abbrev pub access_from : ℕ → Access
 access_from number = if number == 2 then accesses.Store else if number == 3 then accesses.Fetch else accesses.Load
 
-abbrev pub sent_from : List ℕ → Option Sent
-sent_from words =
-    let code = slice_index words 0 in
-    let pc = slice_index words 3 in
-    let second = slice_index words 4 in
-    let third = slice_index words 5 in
-    if code == 1 then Some sents.Send else
-    if code == 2 then Some sents.Call else
-    if code == 3 then Some (sents.Fault (faults.Capability pc second (is_set third) (failure_from (slice_index words 6) (slice_index words 7)))) else
-    if code == 4 then Some (sents.Fault (faults.UnknownCall pc second)) else
-    if code == 5 then Some (sents.Fault (faults.Instruction pc (cause_from second))) else
-    if code == 6 then Some (sents.Fault (faults.Memory pc (record { address = second; access = access_from third }))) else None
+-- the fault with this code, of which five words tell
+abbrev pub fault_from : ℕ → ℕ → ℕ → ℕ → ℕ → ℕ → Option Fault
+fault_from code pc second third fourth fifth =
+    if code == 3 then Some (faults.Capability pc second (is_set third) (failure_from fourth fifth)) else
+    if code == 4 then Some (faults.UnknownCall pc second) else
+    if code == 5 then Some (faults.Instruction pc (cause_from second)) else
+    if code == 6 then Some (faults.Memory pc (record { address = second; access = access_from third })) else None
+
+abbrev pub sent_from : ℕ → Option Fault → Option Sent
+sent_from code fault = if code == 1 then Some sents.Send else if code == 2 then Some sents.Call else option_map sents.Fault fault
 
 abbrev pub sending_with : ℕ → ℕ → Option Sent → Option Sending
 sending_with badge reply None = None
 sending_with badge reply (Some sent) = Some (record { sent = sent; badge = badge; grant_reply = is_set reply })
 
 abbrev pub sending_from : List ℕ → Option Sending
-sending_from words = sending_with (slice_index words 1) (slice_index words 2) (sent_from words)
+sending_from words =
+    let code = slice_index words 0 in
+    let fault = fault_from code (slice_index words 3) (slice_index words 4) (slice_index words 5) (slice_index words 6) (slice_index words 7) in
+    sending_with (slice_index words 1) (slice_index words 2) (sent_from code fault)
 
 abbrev pub sent_words : ℕ → ℕ → Sent → List ℕ
 sent_words badge reply sents.Send = 1 ∷ badge ∷ reply ∷ 0 ∷ 0 ∷ 0 ∷ 0 ∷ 0 ∷ 0 ∷ []
