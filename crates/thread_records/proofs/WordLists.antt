@@ -7,12 +7,7 @@ use Rattle.std.proofs.lemmas.List.{length-take-le, take_more, take_more_set}
 use Rattle.std.proofs.lemmas.Slice.{drop-append-drop}
 use Rattle.model.proofs.BytesLemmas.{length-written, slice_index-written_before, slice_index-written_behind, slice_index-written_inside, word_at-same, word_at-written, word_at-written_before, word_at-written_behind}
 use Rattle.model.specs.Shared.Bytes.{word_at, word_bytes, written}
-use Rattle.thread_records.specs.Records.{words_at, words_bytes}
-
--- all bytes are the same but those from one place to another
-pub record SameBeside (from to : ℕ) (old new : List ℕ) : Type 0 where
-  pub size : length new ≡ length old
-  pub bytes : (place : ℕ) → (place < from) ⊎ (to ≤ place) → slice_index new place ≡ slice_index old place
+use Rattle.thread_records.specs.Records.{SameBeside, words_at, words_bytes}
 
 pub written-beside : (m : List ℕ) (at : ℕ) (piece : List ℕ) (to : ℕ) → at + length piece ≡ to → to ≤ length m → SameBeside at to m (written m at piece)
 written-beside m at piece to is inside = record {
@@ -65,6 +60,14 @@ pub length-words_bytes : (words : List ℕ) → length (words_bytes words) ≡ 4
 length-words_bytes [] = refl
 length-words_bytes (w ∷ ws) = grind (arith, common_steps, length-words_bytes ws)
 
+pub beside-words : (m : List ℕ) (at : ℕ) (words : List ℕ) (to : ℕ) → at + 4 * length words ≡ to → to ≤ length m → SameBeside at to m (written m at (words_bytes words))
+beside-words m at words to is inside =
+    let long = length-words_bytes words in
+    written-beside m at (words_bytes words) to (omega (arith, long, is)) inside
+
+pub same-size : (m n : List ℕ) (at : ℕ) (words : List ℕ) → n ≡ written m at (words_bytes words) → at + 4 * length words ≤ length m → length n ≡ length m
+same-size m n at words is inside = ap length is ∙ (beside-words m at words (at + 4 * length words) refl inside).size
+
 -- words that were written are read back
 pub words-written : (m : List ℕ) (at : ℕ) (words : List ℕ) → at + 4 * length words ≤ length m → ((k : ℕ) → slice_index words k < 2 ^ 32)
     → words_at (written m at (words_bytes words)) at (length words) ≡ words
@@ -114,9 +117,3 @@ write-more m now at words i less inside so =
     ∙ ap (λ (k : ℕ). written (written m at first) (at + k) (word_bytes (slice_index words i))) (sym long)
     ∙ sym (written-append m at first (word_bytes (slice_index words i)) (omega (arith, long, less, inside)))
     ∙ ap (λ (piece : List ℕ). written m at piece) (sym (words_bytes-more words i less))
-
-pub length-written_so : (m now : List ℕ) (at : ℕ) (words : List ℕ) (i : ℕ) → i ≤ length words → at + 4 * length words ≤ length m
-    → now ≡ written m at (words_bytes (take i words)) → length now ≡ length m
-length-written_so m now at words i less inside so =
-    let long : length (words_bytes (take i words)) ≡ 4 * i = length-words_bytes (take i words) ∙ ap (λ (n : ℕ). 4 * n) (length-take-le i words less) in
-    ap length so ∙ length-written m at (words_bytes (take i words)) (omega (arith, long, less, inside))

@@ -1,5 +1,5 @@
 -- A thread's record in bytes 48 to 243 of its 512. Each field is a little-endian word, priority and slice are bytes. All zero is a new thread, and any bytes read as some thread.
-use Rattle.std.specs.Prelude.{ℕ, zero, suc, ◌≡◌, ◌==◌, ◌+◌, ◌^◌, ◌<◌, ◌≤◌, Bool, not, Option, Some, None, option_map, List, [], ◌∷◌, if◌then◌else◌, length, replicate, slice_index}
+use Rattle.std.specs.Prelude.{ℕ, zero, suc, ◌≡◌, ◌==◌, ◌+◌, ◌^◌, ◌<◌, ◌≤◌, ◌⊎◌, Bool, not, Option, Some, None, option_map, List, [], ◌∷◌, if◌then◌else◌, length, replicate, slice_index}
 use Rattle.std.specs.List.{flat_map}
 use Rattle.model.specs.Capabilities.LookupNumbers.{failure_number}
 use Rattle.model.specs.Capabilities.Slots.{OutsideSlots, Slots}
@@ -158,6 +158,11 @@ blank_thread = record {
 }
 
 -- ---- where a record stands
+
+-- all bytes are the same but those from one place to another
+pub record SameBeside (from to : ℕ) (old new : List ℕ) : Type 0 where
+  pub size : length new ≡ length old
+  pub bytes : (place : ℕ) → (place < from) ⊎ (to ≤ place) → slice_index new place ≡ slice_index old place
 
 abbrev pub IsRecordByte : ℕ → ℕ → Type 0
 IsRecordByte thread place = (thread + 48 ≤ place) × (place < thread + 244)

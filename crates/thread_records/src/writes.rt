@@ -1,8 +1,7 @@
 //! Changes of what a thread's bytes say of it. Each leaves slots, their order, and all other bytes as they are.
 
-ghost use Rattle.std.specs.Prelude.{◌≡◌, ◌+◌, ◌*◌, ◌<◌, ◌≤◌, [], ◌∷◌, length, replicate};
-ghost use Rattle.model.specs.Shared.Bytes.{written};
-ghost use Rattle.thread_records.specs.Records.{IsRecordAt, SameBesideRecord, blank_thread, thread_at, words_bytes};
+ghost use Rattle.std.specs.Prelude.{◌≡◌, ◌+◌, ◌*◌, ◌<◌, ◌≤◌, length, slice_index};
+ghost use Rattle.thread_records.specs.Records.{IsRecordAt, SameBeside, SameBesideRecord, blank_thread, thread_at, words_at};
 
 use crate::codes::{caller_words, sending_words, status_words};
 use crate::places::{
@@ -18,7 +17,8 @@ fn put_words<S: SlotStore>(store: &mut S, thread: u32, place: u32, words: &[u32]
     requires there { IsRecordAt (S.slots store.old) (length (S.memory store.old)) thread }
     requires first { 48 ≤ place }
     requires inside { place + 4 * length words.now ≤ 244 }
-    ensures written { S.memory store.new ≡ written (S.memory store.old) (thread + place) (words_bytes words.now) }
+    ensures others { SameBeside (thread + place) (thread + (place + 4 * length words.now)) (S.memory store.old) (S.memory store.new) }
+    ensures read { words_at (S.memory store.new) (thread + place) (length words.now) ≡ words.now }
     ensures slots { S.slots store.new ≡ S.slots store.old }
     ensures order { S.order store.new ≡ S.order store.old }
     ensures there { IsRecordAt (S.slots store.new) (length (S.memory store.new)) thread }
@@ -31,7 +31,8 @@ fn put_byte<S: SlotStore>(store: &mut S, thread: u32, place: u32, byte: u8)
     requires there { IsRecordAt (S.slots store.old) (length (S.memory store.old)) thread }
     requires first { 48 ≤ place }
     requires inside { place < 244 }
-    ensures written { S.memory store.new ≡ written (S.memory store.old) (thread + place) (byte ∷ []) }
+    ensures others { SameBeside (thread + place) (thread + (place + 1)) (S.memory store.old) (S.memory store.new) }
+    ensures read { slice_index (S.memory store.new) (thread + place) ≡ byte }
     ensures slots { S.slots store.new ≡ S.slots store.old }
     ensures order { S.order store.new ≡ S.order store.old }
 {
@@ -132,4 +133,21 @@ pub fn set_sending<S: SlotStore>(store: &mut S, thread: u32, sending: Option<Sen
     ensures order { S.order store.new ≡ S.order store.old }
 {
     put_words(store, thread, SENDING, &sending_words(sending));
+}
+
+/// Changes the whole record of a thread.
+pub fn put_thread<S: SlotStore>(store: &mut S, thread: u32, value: Thread)
+    requires there { IsRecordAt (S.slots store.old) (length (S.memory store.old)) thread }
+    ensures record { thread_at (S.memory store.new) thread ≡ value }
+    ensures bytes { SameBesideRecord thread (S.memory store.old) (S.memory store.new) }
+    ensures slots { S.slots store.new ≡ S.slots store.old }
+    ensures order { S.order store.new ≡ S.order store.old }
+{
+    set_registers(store, thread, value.registers);
+    set_priority(store, thread, value.priority);
+    set_slice(store, thread, value.slice);
+    set_fault_address(store, thread, value.fault_address);
+    set_status(store, thread, value.status);
+    set_caller(store, thread, value.caller);
+    set_sending(store, thread, value.sending);
 }
