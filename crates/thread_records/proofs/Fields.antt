@@ -1,26 +1,21 @@
 -- What a thread's fields are behind a change of some bytes of its record.
-use Rattle.std.proofs.Common.{ℕ, zero, suc, ◌≡◌, ◌∙◌, ◌+◌, ◌*◌, ◌^◌, ◌<◌, ◌≤◌, ◌⊎◌, inl, inr, Bool, true, false, Option, Some, None, List, [], ◌∷◌, length, slice_index, replicate, refl, sym, ap, arith}
+use Rattle.std.proofs.Common.{ℕ, zero, suc, ◌≡◌, ◌∙◌, ◌+◌, ◌*◌, ◌<◌, ◌≤◌, ◌⊎◌, inl, inr, Bool, true, false, Option, Some, None, List, [], ◌∷◌, length, slice_index, replicate, refl, ap, arith}
 use Rattle.std.proofs.lemmas.Bool.{cases_lt}
 use Rattle.model.proofs.BytesLemmas.{word_at-same}
-use Rattle.model.specs.Machine.Effects.{access_number, cause_number}
-use Rattle.model.specs.Machine.ProgramMemory.{RegisterFile}
-use Rattle.model.specs.Shared.Bytes.{word_at, word_bytes, written}
+use Rattle.model.specs.Machine.Effects.{access_number}
+use Rattle.model.specs.Shared.Bytes.{word_at}
 use Rattle.model.specs.declared.instructions.Access.{Access}
 use Rattle.model.specs.declared.instructions.Access.TheVariants as accesses
-use Rattle.model.specs.declared.instructions.Cause.{Cause}
 use Rattle.model.specs.declared.instructions.Cause.TheVariants as causes
-use Rattle.model.specs.declared.lookup_failures.LookupFailure.{LookupFailure}
 use Rattle.model.specs.declared.lookup_failures.LookupFailure.TheVariants as failures
 use Rattle.thread_records.specs.Laws.{RecordStays}
-use Rattle.thread_records.specs.Records.{IsRecordByte, SameBeside, SameBesideRecord, access_from, blank_thread, caller_from, caller_words, cause_from, failure_from, failure_left, fault_from, flag, is_set, sending_from, sending_with, sending_words, sent_from, sent_words, status_from, status_words, thread_at, words_at, words_bytes}
-use Rattle.thread_records.specs.declared.records.Fault.{Fault}
+use Rattle.thread_records.specs.Records.{IsRecordByte, SameBeside, SameBesideRecord, access_from, blank_thread, caller_from, caller_words, fault_from, flag, is_set, sending_from, sending_with, sending_words, sent_from, sent_words, status_from, status_words, thread_at, words_at}
 use Rattle.thread_records.specs.declared.records.Fault.TheVariants as faults
 use Rattle.thread_records.specs.declared.records.Sending.{Sending}
 use Rattle.thread_records.specs.declared.records.Sent.{Sent}
 use Rattle.thread_records.specs.declared.records.Sent.TheVariants as sents
 use Rattle.thread_records.specs.declared.records.Status.{Status}
 use Rattle.thread_records.specs.declared.records.Status.TheVariants as statuses
-use Rattle.thread_records.specs.declared.records.Thread.{Thread}
 use Rattle.thread_records.proofs.WordLists.{word-stays, words-same, words-stay}
 
 -- ---- what is spelled so is read

@@ -1,11 +1,10 @@
 -- Words one behind the other: how they are written and read back, and which bytes that leaves as they are.
 use Rattle.std.proofs.Common.{ℕ, zero, suc, ◌≡◌, ◌∙◌, ◌+◌, ◌*◌, ◌^◌, ◌<◌, ◌≤◌, ◌⊎◌, inl, inr, List, [], ◌∷◌, ◌++◌, length, slice_index, slice_set, take, drop, refl, sym, ap, add-one, append_assoc, length-append, arith}
 use Rattle.std.proofs.Math.Seq.{take-append_seam}
-use Rattle.std.proofs.lemmas.Bool.{cases_lt}
 use Rattle.std.proofs.lemmas.Grind.{common_steps, flat_map-append}
 use Rattle.std.proofs.lemmas.List.{length-take-le, take_more, take_more_set}
 use Rattle.std.proofs.lemmas.Slice.{drop-append-drop}
-use Rattle.model.proofs.BytesLemmas.{length-written, slice_index-written_before, slice_index-written_behind, slice_index-written_inside, word_at-same, word_at-written, word_at-written_before, word_at-written_behind}
+use Rattle.model.proofs.BytesLemmas.{length-written, slice_index-written_before, slice_index-written_behind, word_at-same, word_at-written, word_at-written_before}
 use Rattle.model.specs.Shared.Bytes.{word_at, word_bytes, written}
 use Rattle.thread_records.specs.Records.{SameBeside, words_at, words_bytes}
 

@@ -1,5 +1,5 @@
 -- Each byte of the record is zero.
-use Rattle.std.proofs.Common.{ℕ, ◌≡◌, ◌+◌, ◌-◌, ◌∙◌, List, replicate, slice_index, ap, subst, sym, arith}
+use Rattle.std.proofs.Common.{ℕ, ◌≡◌, ◌+◌, ◌-◌, ◌∙◌, List, replicate, slice_index, ap, arith}
 use Rattle.std.proofs.lemmas.List.{get_or-replicate}
 use Rattle.model.proofs.BytesLemmas.{slice_index-written_inside}
 use Rattle.model.specs.Shared.Bytes.{written}

@@ -1,5 +1,5 @@
 -- What was written is read, and nothing else changed.
-use Rattle.std.proofs.Common.{ℕ, ◌≡◌, ◌+◌, [], ◌∷◌, List, slice_index, subst, sym, ap, ◌∙◌, arith}
+use Rattle.std.proofs.Common.{ℕ, ◌+◌, [], ◌∷◌, List, slice_index, subst, sym, ap, ◌∙◌, arith}
 use Rattle.model.proofs.BytesLemmas.{slice_index-written_inside}
 use Rattle.model.specs.Shared.Bytes.{written}
 use Rattle.thread_records.specs.Records.{SameBeside}

@@ -1,6 +1,6 @@
 -- The right to reply is read from two words.
-use Rattle.std.proofs.Common.{ℕ, ◌≡◌, ◌∙◌, ◌+◌, ◌*◌, List, length, ap, subst, arith}
-use Rattle.thread_records.specs.Records.{SameBeside, caller_words, words_at}
+use Rattle.std.proofs.Common.{ℕ, ◌≡◌, ◌∙◌, ◌+◌, ◌*◌, length, ap, subst, arith}
+use Rattle.thread_records.specs.Records.{SameBeside, words_at}
 use Rattle.thread_records.proofs.Fields.{beside-record, caller-count, caller-set}
 use Rattle.thread_records.proofs.writes.set_caller.Goals as goal
 

@@ -1,6 +1,6 @@
 -- The status is read from two words.
-use Rattle.std.proofs.Common.{ℕ, ◌≡◌, ◌∙◌, ◌+◌, ◌*◌, List, length, ap, subst, arith}
-use Rattle.thread_records.specs.Records.{SameBeside, status_words, words_at}
+use Rattle.std.proofs.Common.{ℕ, ◌≡◌, ◌∙◌, ◌+◌, ◌*◌, length, ap, subst, arith}
+use Rattle.thread_records.specs.Records.{SameBeside, words_at}
 use Rattle.thread_records.proofs.Fields.{beside-record, status-count, status-set}
 use Rattle.thread_records.proofs.writes.set_status.Goals as goal
 
