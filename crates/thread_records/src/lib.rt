@@ -5,10 +5,15 @@
 mod codes;
 mod laws;
 mod places;
-pub mod reads;
+mod reads;
 mod records;
 mod words;
-pub mod writes;
+mod writes;
 
 pub use laws::a_record_stays;
+pub use reads::{caller, fault_address, pc, priority, registers, sending, slice, status, thread};
 pub use records::{Fault, Sending, Sent, Status, Thread};
+pub use writes::{
+    begin_thread, put_thread, set_caller, set_fault_address, set_priority, set_registers,
+    set_sending, set_slice, set_status,
+};
