@@ -10,7 +10,7 @@ mod records;
 mod words;
 mod writes;
 
-pub use laws::a_record_stays;
+pub use laws::{a_record_stays, zero_is_a_new_thread};
 pub use reads::{caller, fault_address, pc, priority, registers, sending, slice, status, thread};
 pub use records::{Fault, Sending, Sent, Status, Thread};
 pub use writes::{
