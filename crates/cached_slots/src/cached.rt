@@ -118,6 +118,10 @@ impl<S: SlotStore> SlotStore for CachedSlots<S> {
         self.store.write32(offset, word);
     }
 
+    fn write_words(&mut self, offset: u32, words: &[u32]) {
+        self.store.write_words(offset, words);
+    }
+
     fn zero(&mut self, offset: u32, count: u32) {
         self.store.zero(offset, count);
     }

@@ -163,6 +163,16 @@ impl SlotStore for PackedSlots {
         );
     }
 
+    fn write_words(&mut self, offset: u32, words: &[u32]) {
+        writes::write_words(
+            &mut self.memory,
+            &self.open_slots,
+            &self.first,
+            offset,
+            words,
+        );
+    }
+
     fn zero(&mut self, offset: u32, count: u32) {
         writes::zero(
             &mut self.memory,

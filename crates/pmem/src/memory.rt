@@ -1,7 +1,8 @@
 //! The bytes of the machine.
 
-ghost use Rattle.std.specs.Prelude.{◌≡◌, ◌+◌, ◌^◌, ◌<◌, ◌≤◌, [], ◌∷◌, IfOk, OnOk, length, replicate, slice_index};
+ghost use Rattle.std.specs.Prelude.{◌≡◌, ◌+◌, ◌*◌, ◌^◌, ◌<◌, ◌≤◌, [], ◌∷◌, IfOk, OnOk, length, replicate, slice_index};
 ghost use Rattle.model.specs.Shared.Bytes.{AreBytes, word_at, word_bytes, written};
+ghost use Rattle.pmem.specs.Words.{words_at, words_bytes};
 
 use byteorder::{ByteOrder, LittleEndian};
 use std::alloc::{AllocError, Global};
@@ -64,6 +65,15 @@ impl Mem {
         LittleEndian::read_u32(&self.bytes[offset as usize..])
     }
 
+    /// Reads as many little-endian numbers of four bytes as there is room for, one behind the other, from `offset` on.
+    pub fn read_words(&self, offset: u32, words: &mut [u32])
+        requires { offset + 4 * length words.old ≤ length self.now }
+        ensures { words.new ≡ words_at self.now offset (length words.old) }
+    {
+        let start = offset as usize;
+        LittleEndian::read_u32_into(&self.bytes[start..start + 4 * words.len()], words);
+    }
+
     /// Writes one byte.
     pub fn write8(&mut self, offset: u32, byte: u8)
         requires { offset < length self.old }
@@ -83,6 +93,16 @@ impl Mem {
         LittleEndian::write_u32(&mut piece, word);
         let start = offset as usize;
         self.bytes[start..start + 4].copy_from_slice(&piece);
+    }
+
+    /// Writes numbers into four bytes each, one behind the other, from `offset` on, the lowest byte of each first.
+    pub fn write_words(&mut self, offset: u32, words: &[u32])
+        requires { offset + 4 * length words.now ≤ length self.old }
+        ensures bytes { self.new ≡ written self.old offset (words_bytes words.now) }
+        ensures length { length self.new ≡ length self.old }
+    {
+        let start = offset as usize;
+        LittleEndian::write_u32_into(words, &mut self.bytes[start..start + 4 * words.len()]);
     }
 
     /// Writes zero into the `count` bytes from `offset` on.

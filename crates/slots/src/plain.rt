@@ -122,6 +122,10 @@ impl SlotStore for PlainSlots {
         self.memory.write32(offset, word);
     }
 
+    fn write_words(&mut self, offset: u32, words: &[u32]) {
+        self.memory.write_words(offset, words);
+    }
+
     fn zero(&mut self, offset: u32, count: u32) {
         self.memory.zero(offset, count);
     }

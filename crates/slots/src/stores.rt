@@ -9,6 +9,7 @@ ghost use Rattle.model.specs.Capabilities.Orders.{IsOrderOf, next_in, descendant
 ghost use Rattle.model.specs.Shared.Lists.{without};
 ghost use Rattle.model.specs.declared.capabilities.Cap.{Cap};
 ghost use Rattle.model.specs.declared.capabilities.Cap.TheVariants.{Empty};
+ghost use Rattle.pmem.specs.Words.{words_bytes};
 
 use crate::SlotMap;
 use model::{Cap, Slot};
@@ -162,6 +163,15 @@ pub trait SlotStore: SlotMap {
         requires outside { OutsideSlots (Self.slots self.old) offset 4 }
         ensures slots { Self.slots self.new ≡ Self.slots self.old }
         ensures bytes { memory self.new ≡ written (memory self.old) offset (word_bytes word) }
+        ensures order { order self.new ≡ order self.old };
+
+    /// Writes numbers into four bytes each, one behind the other, the lowest byte of each first, where no slot is
+    /// open.
+    fn write_words(&mut self, offset: u32, words: &[u32])
+        requires within { offset + 4 * length words.now ≤ length (memory self.old) }
+        requires outside { OutsideSlots (Self.slots self.old) offset (4 * length words.now) }
+        ensures slots { Self.slots self.new ≡ Self.slots self.old }
+        ensures bytes { memory self.new ≡ written (memory self.old) offset (words_bytes words.now) }
         ensures order { order self.new ≡ order self.old };
 
     /// Writes zero into `count` bytes, where no slot is open.

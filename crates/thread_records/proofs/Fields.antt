@@ -9,14 +9,16 @@ use Rattle.model.specs.declared.instructions.Access.TheVariants as accesses
 use Rattle.model.specs.declared.instructions.Cause.TheVariants as causes
 use Rattle.model.specs.declared.lookup_failures.LookupFailure.TheVariants as failures
 use Rattle.thread_records.specs.Laws.{RecordStays}
-use Rattle.thread_records.specs.Records.{IsRecordByte, SameBeside, SameBesideRecord, access_from, blank_thread, caller_from, caller_words, fault_from, flag, is_set, sending_from, sending_with, sending_words, sent_from, sent_words, status_from, status_words, thread_at, words_at}
+use Rattle.pmem.specs.Words.{words_at}
+use Rattle.thread_records.specs.Records.{IsRecordByte, SameBeside, SameBesideRecord, access_from, blank_thread, caller_from, caller_words, fault_from, flag, is_set, sending_from, sending_with, sending_words, sent_from, sent_words, status_from, status_words, thread_at}
 use Rattle.thread_records.specs.declared.records.Fault.TheVariants as faults
 use Rattle.thread_records.specs.declared.records.Sending.{Sending}
 use Rattle.thread_records.specs.declared.records.Sent.{Sent}
 use Rattle.thread_records.specs.declared.records.Sent.TheVariants as sents
 use Rattle.thread_records.specs.declared.records.Status.{Status}
 use Rattle.thread_records.specs.declared.records.Status.TheVariants as statuses
-use Rattle.thread_records.proofs.WordLists.{word-stays, words-same, words-stay}
+use Rattle.pmem.proofs.Laws.{words-same}
+use Rattle.thread_records.proofs.WordLists.{word-stays, words-stay}
 
 -- ---- what is spelled so is read
 

@@ -1,17 +1,17 @@
 -- A thread's record in bytes 48 to 243 of its 512. Each field is a little-endian word, priority and slice are bytes. All zero is a new thread, and any bytes read as some thread.
-use Rattle.std.specs.Prelude.{ℕ, zero, suc, ◌≡◌, ◌==◌, ◌+◌, ◌^◌, ◌<◌, ◌≤◌, ◌⊎◌, Bool, not, Option, Some, None, option_map, List, [], ◌∷◌, if◌then◌else◌, length, replicate, slice_index}
-use Rattle.std.specs.List.{flat_map}
+use Rattle.std.specs.Prelude.{ℕ, ◌≡◌, ◌==◌, ◌+◌, ◌^◌, ◌<◌, ◌≤◌, ◌⊎◌, Bool, not, Option, Some, None, option_map, List, [], ◌∷◌, if◌then◌else◌, length, replicate, slice_index}
 use Rattle.model.specs.Capabilities.LookupNumbers.{failure_number}
 use Rattle.model.specs.Capabilities.Slots.{OutsideSlots, Slots}
 use Rattle.model.specs.Machine.Effects.{access_number, cause_number}
 use Rattle.model.specs.Machine.ProgramMemory.{RegisterFile}
-use Rattle.model.specs.Shared.Bytes.{word_at, word_bytes}
+use Rattle.model.specs.Shared.Bytes.{word_at}
 use Rattle.model.specs.declared.instructions.Access.{Access}
 use Rattle.model.specs.declared.instructions.Access.TheVariants as accesses
 use Rattle.model.specs.declared.instructions.Cause.{Cause}
 use Rattle.model.specs.declared.instructions.Cause.TheVariants as causes
 use Rattle.model.specs.declared.lookup_failures.LookupFailure.{LookupFailure}
 use Rattle.model.specs.declared.lookup_failures.LookupFailure.TheVariants as failures
+use Rattle.pmem.specs.Words.{words_at}
 use Rattle.thread_records.specs.declared.records.Fault.{Fault}
 use Rattle.thread_records.specs.declared.records.Fault.TheVariants as faults
 use Rattle.thread_records.specs.declared.records.Sending.{Sending}
@@ -22,15 +22,6 @@ use Rattle.thread_records.specs.declared.records.Status.TheVariants as statuses
 use Rattle.thread_records.specs.declared.records.Thread.{Thread}
 
 -- ---- words
-
--- so many words from a place on
-abbrev pub words_at : List ℕ → ℕ → ℕ → List ℕ
-words_at memory at zero = []
-words_at memory at (suc n) = word_at memory at ∷ words_at memory (at + 4) n
-
--- the bytes of words, one behind the other
-abbrev pub words_bytes : List ℕ → List ℕ
-words_bytes words = flat_map word_bytes words
 
 abbrev pub flag : Bool → ℕ
 flag b = if b then 1 else 0

@@ -7,7 +7,6 @@ mod laws;
 mod places;
 mod reads;
 mod records;
-mod words;
 mod writes;
 
 pub use laws::{a_record_stays, zero_is_a_new_thread};

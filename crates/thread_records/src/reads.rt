@@ -2,12 +2,12 @@
 
 ghost use Rattle.std.specs.Prelude.{◌≡◌, ◌+◌, ◌*◌, ◌<◌, ◌≤◌, length, slice_index};
 ghost use Rattle.model.specs.Shared.Bytes.{word_at};
-ghost use Rattle.thread_records.specs.Records.{thread_at, words_at};
+ghost use Rattle.pmem.specs.Words.{words_at};
+ghost use Rattle.thread_records.specs.Records.{thread_at};
 
 use crate::codes::{SENDING_WORDS, caller_from, sending_from, status_from};
 use crate::places::{CALLER, FAULT_ADDRESS, PC, PRIORITY, REGISTERS, SENDING, SLICE, STATUS};
 use crate::records::{Sending, Status, Thread};
-use crate::words::read_words;
 use pmem::Mem;
 use rv32_exec::Regs;
 use slots::SlotStore;
@@ -39,7 +39,7 @@ fn fill_words(memory: &Mem, thread: u32, place: u32, words: &mut [u32])
     ensures { words.new ≡ words_at memory.now (thread + place) (length words.old) }
 {
     prove!(thread <= memory.len());
-    read_words(memory, thread + place, words);
+    memory.read_words(thread + place, words);
 }
 
 /// The whole record of the thread at an offset.

@@ -1,14 +1,14 @@
 //! Changes of what a thread's bytes say of it. Each leaves slots, their order, and all other bytes as they are.
 
 ghost use Rattle.std.specs.Prelude.{◌≡◌, ◌+◌, ◌*◌, ◌<◌, ◌≤◌, length, slice_index};
-ghost use Rattle.thread_records.specs.Records.{IsRecordAt, SameBeside, SameBesideRecord, blank_thread, thread_at, words_at};
+ghost use Rattle.pmem.specs.Words.{words_at};
+ghost use Rattle.thread_records.specs.Records.{IsRecordAt, SameBeside, SameBesideRecord, blank_thread, thread_at};
 
 use crate::codes::{caller_words, sending_words, status_words};
 use crate::places::{
     CALLER, FAULT_ADDRESS, FIRST, LENGTH, PC, PRIORITY, REGISTERS, SENDING, SLICE, STATUS,
 };
 use crate::records::{Sending, Status, Thread};
-use crate::words::write_words;
 use rv32_exec::Regs;
 use slots::SlotStore;
 
@@ -23,7 +23,7 @@ fn put_words<S: SlotStore>(store: &mut S, thread: u32, place: u32, words: &[u32]
     ensures order { S.order store.new ≡ S.order store.old }
     ensures there { IsRecordAt (S.slots store.new) (length (S.memory store.new)) thread }
 {
-    write_words(store, thread + place, words);
+    store.write_words(thread + place, words);
 }
 
 /// Writes a byte of a thread's record.

@@ -1,7 +1,9 @@
 -- What was written is read, and nothing else changed.
 use Rattle.std.proofs.Common.{ℕ, ◌≡◌, ◌+◌, ◌*◌, List, length, subst, sym, arith}
-use Rattle.thread_records.specs.Records.{IsRecordAt, SameBeside, words_at}
-use Rattle.thread_records.proofs.WordLists.{beside-words, same-size, words-written}
+use Rattle.pmem.specs.Words.{words_at}
+use Rattle.thread_records.specs.Records.{IsRecordAt, SameBeside}
+use Rattle.pmem.proofs.Laws.{words-written}
+use Rattle.thread_records.proofs.WordLists.{beside-words, same-size}
 use Rattle.thread_records.proofs.writes.put_words.Goals as goal
 
 pub returns-clause-others : goal.returns-clause-others
@@ -24,5 +26,5 @@ returns-clause-there g c =
     let m = g.S.SlotStore.memory c.args.store.now in
     let at = c.args.thread + c.args.place in
     let slots = g.S.SlotMap.slots c.args.store.now in
-    subst (λ slots. IsRecordAt slots (length (g.S.SlotStore.memory c.write_words.new.store)) c.args.thread) (sym c.write_words.ensures.slots)
-    (subst (λ (size : ℕ). IsRecordAt slots size c.args.thread) (sym (same-size m (g.S.SlotStore.memory c.write_words.new.store) at (c.args.words.now) c.write_words.ensures.bytes (omega (arith, c.requires.there.within, c.requires.inside)))) c.requires.there)
+    subst (λ slots. IsRecordAt slots (length (g.S.SlotStore.memory c.write_words.new.self)) c.args.thread) (sym c.write_words.ensures.slots)
+    (subst (λ (size : ℕ). IsRecordAt slots size c.args.thread) (sym (same-size m (g.S.SlotStore.memory c.write_words.new.self) at (c.args.words.now) c.write_words.ensures.bytes (omega (arith, c.requires.there.within, c.requires.inside)))) c.requires.there)

@@ -1,6 +1,7 @@
 -- The right to reply is read from two words.
 use Rattle.std.proofs.Common.{ℕ, ◌≡◌, ◌∙◌, ◌+◌, ◌*◌, length, ap, subst, arith}
-use Rattle.thread_records.specs.Records.{SameBeside, words_at}
+use Rattle.pmem.specs.Words.{words_at}
+use Rattle.thread_records.specs.Records.{SameBeside}
 use Rattle.thread_records.proofs.Fields.{beside-record, caller-count, caller-set}
 use Rattle.thread_records.proofs.writes.set_caller.Goals as goal
 

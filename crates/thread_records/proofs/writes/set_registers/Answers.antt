@@ -1,6 +1,7 @@
 -- The pc is read from a word, and the registers from 32 words.
 use Rattle.std.proofs.Common.{ℕ, ◌≡◌, ◌∙◌, ◌+◌, ◌*◌, length, ap, subst, rules}
-use Rattle.thread_records.specs.Records.{SameBeside, thread_at, words_at}
+use Rattle.pmem.specs.Words.{words_at}
+use Rattle.thread_records.specs.Records.{SameBeside, thread_at}
 use Rattle.thread_records.specs.declared.records.Thread.{Thread}
 use Rattle.thread_records.proofs.Fields.{pc-set, words-set}
 use Rattle.thread_records.proofs.writes.set_registers.Goals as goal

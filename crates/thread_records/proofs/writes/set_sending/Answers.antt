@@ -1,6 +1,7 @@
 -- What is sent is read from nine words.
 use Rattle.std.proofs.Common.{ℕ, ◌≡◌, ◌∙◌, ◌+◌, ◌*◌, length, ap, subst, arith}
-use Rattle.thread_records.specs.Records.{SameBeside, words_at}
+use Rattle.pmem.specs.Words.{words_at}
+use Rattle.thread_records.specs.Records.{SameBeside}
 use Rattle.thread_records.proofs.Fields.{beside-record, sending-count, sending-set}
 use Rattle.thread_records.proofs.writes.set_sending.Goals as goal
 

@@ -1,6 +1,7 @@
 -- The status is read from two words.
 use Rattle.std.proofs.Common.{ℕ, ◌≡◌, ◌∙◌, ◌+◌, ◌*◌, length, ap, subst, arith}
-use Rattle.thread_records.specs.Records.{SameBeside, words_at}
+use Rattle.pmem.specs.Words.{words_at}
+use Rattle.thread_records.specs.Records.{SameBeside}
 use Rattle.thread_records.proofs.Fields.{beside-record, status-count, status-set}
 use Rattle.thread_records.proofs.writes.set_status.Goals as goal
 
