@@ -24,7 +24,8 @@ pub(crate) const CALLER: u32 = 200;
 /// What is sent, in nine words.
 pub(crate) const SENDING: u32 = 208;
 
-/// Where the record begins, and how many bytes it has.
+/// Where the record begins.
 pub(crate) const FIRST: u32 = 48;
 
+/// How many bytes the record has.
 pub(crate) const LENGTH: u32 = 196;
