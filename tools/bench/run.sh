@@ -8,7 +8,7 @@ trap 'rm -rf "$copy"' EXIT
 cp -r "$here/../../." "$copy"
 rm -rf "$copy/.git" "$copy/tools"
 git -C "$copy" init -q
-for name in exec_bench store_bench lookup_bench revoke_bench kernel_bench; do
+for name in exec_bench store_bench lookup_bench revoke_bench kernel_bench crowd_bench; do
     mkdir -p "$copy/crates/$name/src"
     cp "$here/$name.rt.in" "$copy/crates/$name/src/main.rt"
 done
@@ -20,8 +20,9 @@ store_bench: model slots
 lookup_bench: model slots cspace
 revoke_bench: model kernel
 kernel_bench: model kernel
+crowd_bench: model kernel
 LIST
-for name in exec_bench store_bench lookup_bench revoke_bench kernel_bench; do
+for name in exec_bench store_bench lookup_bench revoke_bench kernel_bench crowd_bench; do
     (cd "$copy/crates/$name" && rt run >"$copy/$name.log" 2>&1)
 done
 echo "100 million instructions, proved:"
@@ -58,6 +59,7 @@ for bits in 19 20 22; do
 done
 if command -v valgrind >/dev/null; then
     "$here/revoke_instructions.sh" "$copy/crates/revoke_bench/out/revoke_bench"
+    "$here/crowd_instructions.sh" "$copy/crates/crowd_bench/out/crowd_bench"
 fi
 for case in count memory calls lines crowd; do
     for bits in 16 24; do

@@ -1,0 +1,21 @@
+#!/usr/bin/env bash
+# Tells how many instructions a step of the program `crowd_bench` takes beside other threads, by valgrind's callgrind: a run of
+# 120,000 steps, less one of 20,000. What else the machine does makes no difference.
+# The one word is the built program, as tools/bench/run.sh leaves it.
+set -e
+program=$1
+
+instructions() {
+    valgrind --tool=callgrind --callgrind-out-file=/dev/null "$program" "$@" 2>&1 >/dev/null |
+        sed -n 's/.*I *refs: *\([0-9,]*\).*/\1/p' | tr -d ,
+}
+
+for case in yield calls; do
+    for others in "0 ready" "64 ready" "1024 ready" "1024 blocked"; do
+        for bits in 22 24; do
+            long=$(instructions $case $others 120 $bits)
+            short=$(instructions $case $others 20 $bits)
+            echo "$case beside $others, memory of 2^$bits bytes: $(((long - short) / 100000)) instructions a step"
+        done
+    done
+done
