@@ -20,13 +20,13 @@ use Rattle.objects.proofs.Stepping.{Left}
 use Rattle.objects.proofs.Told.{has-head, has-thread, in-point, in-thread, kind-state, kind-with, own-bits, own-slots, state_with, told}
 use Rattle.objects.specs.Standing.{Standing}
 use Rattle.objects.specs.Waiting.{has_waiting}
-use Rattle.linked_queues.specs.Laws.{KeepHeads, KeepThreads}
-use Rattle.linked_queues.specs.Layout.{IsHeadAt, IsThreadAt, Places}
-use Rattle.linked_queues.specs.Queues.{IsHeadByte}
-use Rattle.linked_queues.specs.Ready.{ReadyStands, nobody, ready_of}
-use Rattle.linked_queues.specs.Words.{end_at, end_of, link_at, link_in, with_ends, without_links}
-use Rattle.linked_queues.specs.declared.words.Ends.{Ends}
-use Rattle.linked_queues.proofs.Laws.{begins_empty, ready_stays, waiting_stays}
+use Rattle.queues.specs.Laws.{KeepHeads, KeepThreads}
+use Rattle.queues.specs.Layout.{IsHeadAt, IsThreadAt, Places}
+use Rattle.queues.specs.Queues.{IsHeadByte}
+use Rattle.queues.specs.Ready.{ReadyStands, nobody, ready_of}
+use Rattle.queues.specs.Words.{end_at, end_of, link_at, link_in, with_ends, without_links}
+use Rattle.queues.specs.declared.words.Ends.{Ends}
+use Rattle.queues.proofs.Laws.{begins_empty, ready_stays, waiting_stays}
 use Rattle.objects.specs.declared.records.Record.{Record}
 use Rattle.objects.specs.declared.records.Record.TheVariants.{CNode, Frame, PageTable, RootTable}
 use Rattle.std.proofs.Math.Pow.{pow_mono}

@@ -15,10 +15,10 @@ use Rattle.objects.specs.Tables.{Tables, places_of, state_of}
 use Rattle.objects.specs.Waiting.{ReceiverTaken, SenderTaken, WaiterTaken, changed_at, joined, served}
 use Rattle.thread_records.specs.declared.records.Sending.{Sending}
 use Rattle.objects.specs.declared.records.WaitingSender.{WaitingSender}
-use Rattle.linked_queues.specs.Layout.{Places}
-use Rattle.linked_queues.specs.Queues.{QueuesStand}
-use Rattle.linked_queues.specs.Ready.{ReadyStands}
-use Rattle.linked_queues.specs.declared.words.Ends.{Ends}
+use Rattle.queues.specs.Layout.{Places}
+use Rattle.queues.specs.Queues.{QueuesStand}
+use Rattle.queues.specs.Ready.{ReadyStands}
+use Rattle.queues.specs.declared.words.Ends.{Ends}
 
 -- ---- kinds
 

@@ -10,10 +10,10 @@ use Rattle.model.specs.Kernel.State.{State, with_slots}
 use Rattle.objects.specs.Frames.{FitsMemory}
 use Rattle.model.specs.Kernel.Kinds.{kind_of}
 use Rattle.model.specs.Kernel.Retype.{NewObject}
-use Rattle.linked_queues.specs.Layout.{Places}
-use Rattle.linked_queues.specs.Ready.{ReadyStands, ready_of}
-use Rattle.linked_queues.specs.declared.words.Ends.{Ends}
-use Rattle.linked_queues.proofs.Laws.{begins_empty}
+use Rattle.queues.specs.Layout.{Places}
+use Rattle.queues.specs.Ready.{ReadyStands, ready_of}
+use Rattle.queues.specs.declared.words.Ends.{Ends}
+use Rattle.queues.proofs.Laws.{begins_empty}
 use Rattle.objects.specs.Standing.{Standing}
 use Rattle.objects.specs.Waiting.{has_waiting}
 use Rattle.objects.specs.Tables.{AreTables, Tables, byte_in, is_thread_kind, kind_in, object_in, placed, places_of, state_of, told_by, waiting_of}

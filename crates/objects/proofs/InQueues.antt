@@ -7,9 +7,9 @@ use Rattle.model.specs.Shared.Lists.{times_in, without}
 use Rattle.objects.specs.Frames.{SameBesideRecords}
 use Rattle.objects.specs.Waiting.{has_waiting}
 use Rattle.model.specs.Capabilities.Slots.{Slots}
-use Rattle.linked_queues.specs.Laws.{AreThreadsIn}
-use Rattle.linked_queues.specs.Queues.{SameBesideWaiting}
-use Rattle.linked_queues.specs.Ready.{SameBesideReady}
+use Rattle.queues.specs.Laws.{AreThreadsIn}
+use Rattle.queues.specs.Queues.{SameBesideWaiting}
+use Rattle.queues.specs.Ready.{SameBesideReady}
 use Rattle.objects.proofs.Told.{has-head, has-thread, in-point, in-thread, kind-state}
 use Rattle.objects.specs.Tables.{Tables, places_of, state_of}
 

@@ -9,13 +9,13 @@ use Rattle.model.specs.Kernel.Retype.{NewObject}
 use Rattle.model.specs.Kernel.Scheduling.{full_slice, head_of, leaves, to_tail, unready, wake}
 use Rattle.model.specs.Kernel.State.{Runnable, State, ThreadObject, ThreadState, put, thread_at, with_thread}
 use Rattle.model.specs.Shared.Lists.{times_in, without}
-use Rattle.linked_queues.specs.Laws.{AreThreadsIn, KeepHeads, KeepThreads}
-use Rattle.linked_queues.specs.Layout.{AreLaidOut, Places}
-use Rattle.linked_queues.specs.Queues.{QueuesStand, SameBesideWaiting, queue_of}
-use Rattle.linked_queues.specs.Ready.{ReadyStands, SameBesideReady, ready_of}
-use Rattle.linked_queues.specs.Words.{end_of, link_at, link_in}
-use Rattle.linked_queues.specs.declared.words.Ends.{Ends}
-use Rattle.linked_queues.proofs.Laws.{kinds_apart, nobody_named, ready_stays, waiting_stays}
+use Rattle.queues.specs.Laws.{AreThreadsIn, KeepHeads, KeepThreads}
+use Rattle.queues.specs.Layout.{AreLaidOut, Places}
+use Rattle.queues.specs.Queues.{QueuesStand, SameBesideWaiting, queue_of}
+use Rattle.queues.specs.Ready.{ReadyStands, SameBesideReady, ready_of}
+use Rattle.queues.specs.Words.{end_of, link_at, link_in}
+use Rattle.queues.specs.declared.words.Ends.{Ends}
+use Rattle.queues.proofs.Laws.{kinds_apart, nobody_named, ready_stays, waiting_stays}
 use Rattle.objects.proofs.Following.{follows-bytes}
 use Rattle.objects.proofs.Frames.{Unmoved, fits-less, kind-joined, kind-left, kind-served, moved-to, one-changed, one-put, record-was, records-then, stands-unmoved}
 use Rattle.objects.proofs.InQueues.{ready-records, times-gone, waiting-records}

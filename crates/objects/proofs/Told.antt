@@ -11,11 +11,11 @@ use Rattle.model.specs.Kernel.Retype.{NewObject, NewUntyped, NewThread, NewEndpo
 use Rattle.model.specs.Kernel.State.{State, with_slots}
 use Rattle.model.specs.Shared.Lists.{times_in}
 use Rattle.model.specs.declared.slot_entries.Entry.{Entry}
-use Rattle.linked_queues.specs.Laws.{KeepHeads, KeepThreads}
-use Rattle.linked_queues.specs.Layout.{AreLaidOut, IsHeadAt, IsThreadAt, Places}
-use Rattle.linked_queues.specs.Queues.{QueuesStand, queue_of}
-use Rattle.linked_queues.specs.Ready.{ReadyStands, ready_of}
-use Rattle.linked_queues.proofs.Laws.{kinds_apart, ready_stays, waiting_stays}
+use Rattle.queues.specs.Laws.{KeepHeads, KeepThreads}
+use Rattle.queues.specs.Layout.{AreLaidOut, IsHeadAt, IsThreadAt, Places}
+use Rattle.queues.specs.Queues.{QueuesStand, queue_of}
+use Rattle.queues.specs.Ready.{ReadyStands, ready_of}
+use Rattle.queues.proofs.Laws.{kinds_apart, ready_stays, waiting_stays}
 use Rattle.objects.specs.Frames.{FitsMemory, IsInRecord}
 use Rattle.objects.specs.Standing.{Standing}
 use Rattle.objects.specs.Tables.{AreTables, Tables, is_thread_kind, kind_in, object_from, object_of, placed, places_by, places_of, ready_at, record_in, state_of, thread_in, told_by, told_with, waiting_of}

@@ -3,8 +3,8 @@ use Rattle.std.specs.Prelude.{List, ℕ}
 use Rattle.model.specs.Capabilities.Slots.{Slots}
 use Rattle.objects.specs.Frames.{FitsMemory}
 use Rattle.objects.specs.Tables.{Tables, places_of, state_of}
-use Rattle.linked_queues.specs.Queues.{QueuesStand}
-use Rattle.linked_queues.specs.Ready.{ReadyStands}
+use Rattle.queues.specs.Queues.{QueuesStand}
+use Rattle.queues.specs.Ready.{ReadyStands}
 
 -- The links in the bytes of threads and of what they wait at are well formed. So who stands in a queue is a thread that is there, and waits where threads may.
 pub record Standing (o : Tables) (slots : Slots) (memory : List ℕ) : Type 0 where

@@ -14,10 +14,10 @@ use Rattle.objects.specs.declared.records.Record.TheVariants as records
 use Rattle.thread_records.specs.declared.records.Sending.{Sending}
 use Rattle.thread_records.specs.declared.records.Thread.{Thread}
 use Rattle.objects.specs.Waiting.{has_waiting}
-use Rattle.linked_queues.specs.Layout.{Places}
-use Rattle.linked_queues.specs.Queues.{queue_of}
-use Rattle.linked_queues.specs.Ready.{ready_of}
-use Rattle.linked_queues.specs.declared.words.Ends.{Ends}
+use Rattle.queues.specs.Layout.{Places}
+use Rattle.queues.specs.Queues.{queue_of}
+use Rattle.queues.specs.Ready.{ready_of}
+use Rattle.queues.specs.declared.words.Ends.{Ends}
 
 -- ---- tables
 

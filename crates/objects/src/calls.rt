@@ -18,7 +18,7 @@ ghost use Rattle.removal_laws.specs.Steps.{object_ended};
 use crate::held::begin_queue;
 use crate::records::Kind;
 use crate::tables::{LEAST_SIZE, Objects, record_of};
-use linked_queues::begin_thread;
+use queues::begin_thread;
 use model::Slot;
 use slots::SlotStore;
 use thread_records::Thread;

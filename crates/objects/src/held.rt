@@ -1,15 +1,15 @@
 //! What stands where in memory.
 
 ghost use Rattle.std.specs.Prelude.{ℕ, ◌≡◌, ◌/◌, None, IfOk, true, length, if◌then◌else◌, replicate};
-ghost use Rattle.linked_queues.specs.Layout.{IsHeadAt};
-ghost use Rattle.linked_queues.specs.Words.{with_ends};
+ghost use Rattle.queues.specs.Layout.{IsHeadAt};
+ghost use Rattle.queues.specs.Words.{with_ends};
 ghost use Rattle.objects.specs.Tables.{has_queue, kind_by, places_by};
 
 use crate::places::Places;
 use crate::records::Record;
 use crate::tables::{LEAST_SIZE, THREAD_SIZE};
 use crate::thread_places::ThreadPlaces;
-use linked_queues::{Layout, begin_head};
+use queues::{Layout, begin_head};
 use slots::SlotStore;
 use std::alloc::{AllocError, Global};
 

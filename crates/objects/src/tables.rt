@@ -20,7 +20,7 @@ ghost use Rattle.removal_laws.specs.Steps.{ends_thread};
 
 use crate::held::Held;
 use crate::records::{Kind, Record};
-use linked_queues::{ReadyList, waiting};
+use queues::{ReadyList, waiting};
 use model::Slot;
 use slots::SlotStore;
 use std::alloc::{AllocError, Global};

@@ -13,7 +13,7 @@ ghost use Rattle.objects.specs.Waiting.{StandsNowhere, changed_at, has_waiting, 
 
 use crate::records::Record;
 use crate::tables::{LEAST_SIZE, Objects};
-use linked_queues::waiting::{first, pop, push};
+use queues::waiting::{first, pop, push};
 use slots::SlotStore;
 use thread_records::{Sending, Thread};
 

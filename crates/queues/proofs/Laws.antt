@@ -1,3 +1,3 @@
 -- What the crates above use of these proofs.
-pub use Rattle.queues.proofs.Contracts.{stays, still-stand}
-pub use Rattle.queues.proofs.Parts.{head-rest}
+pub use Rattle.queues.proofs.Beginnings.{begins_empty, nobody_named}
+pub use Rattle.queues.proofs.Changing.{kinds_apart, ready_stays, waiting_stays}

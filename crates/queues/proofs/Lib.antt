@@ -1,6 +1,12 @@
-mod Rooms
-mod Parts
-mod Standings
-mod Contracts
-mod Greatest
+mod Beginnings
+mod Changing
+mod EndingQueues
+mod Frames
+mod LeavingQueues
 pub mod Laws
+mod LinkSteps
+mod Marks
+mod MemoryWrites
+mod Nobody
+mod ReadySteps
+mod Standings

@@ -1,1 +1,5 @@
+pub mod Laws
+pub mod Layout
 pub mod Queues
+pub mod Ready
+pub mod Words

@@ -1,16 +1,28 @@
-//! How queues go along with memory. Each law is the contract of a function that does nothing. A form with links in
-//! the bytes of threads asks here that these bytes are the same.
+//! What stays of queues where something else changes. Each law is the contract of a function that does nothing.
 
-ghost use Rattle.std.specs.Prelude.{ℕ, ◌≡◌, List};
-ghost use Rattle.queues.specs.Queues.{QueuedThreads, QueuesStand, queue_of};
+ghost use Rattle.queues.specs.Laws.{BeginsEmpty, KindsApart, NobodyNamed, ReadyStays, WaitingStays};
 
-/// Whatever memory holds, the same threads stand in a queue.
-#[tactic(auto, unfolding(crate::specs::Queues::queue_of))]
-pub fn a_queue_stays()
-    ensures { (queues : QueuedThreads) (old new : List ℕ) (queue : ℕ) → queue_of queues new queue ≡ queue_of queues old queue }
+/// Those that wait still do, where neither the bytes of their links nor the objects change.
+pub fn waiting_stays()
+    ensures { WaitingStays }
 {}
 
-/// What stands in queues still does.
-pub fn queues_that_stand_still_do()
-    ensures { (queues : QueuedThreads) (old new : List ℕ) → QueuesStand queues old → QueuesStand queues new }
+/// Those that are ready still are, where neither the bytes of their links nor the threads change.
+pub fn ready_stays()
+    ensures { ReadyStays }
+{}
+
+/// Who waits changes beside who is ready, and threads alone stand in queues, of objects that may have such.
+pub fn kinds_stand_apart()
+    ensures { KindsApart }
+{}
+
+/// Who stands in no queue is not named, and where nobody waits, nobody is.
+pub fn nobody_is_named()
+    ensures { NobodyNamed }
+{}
+
+/// Threads and objects begin with nobody named.
+pub fn objects_begin_empty()
+    ensures { BeginsEmpty }
 {}

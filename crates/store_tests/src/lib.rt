@@ -1,5 +1,5 @@
 //! Tests of the public calls on capability slots, lookup, decoding, CNodes and address spaces over a plain
-//! table of slots, of packed slots beside that, and on queues of threads.
+//! table of slots, and of packed slots beside that.
 #![tactic(auto)]
 
 #[cfg(test)]
@@ -22,5 +22,3 @@ mod side_by_side;
 mod tables;
 #[cfg(test)]
 mod trees;
-#[cfg(test)]
-mod waiting;

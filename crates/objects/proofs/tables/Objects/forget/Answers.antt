@@ -1,6 +1,6 @@
 -- The thread leaves all queues.
 use Rattle.std.proofs.Common.{◌∙◌, length, refl, sym, subst}
-use Rattle.linked_queues.specs.Layout.{AreLaidOut}
+use Rattle.queues.specs.Layout.{AreLaidOut}
 use Rattle.objects.proofs.Kept.{kept}
 use Rattle.objects.proofs.Stepping.{forget-left, ready-then}
 use Rattle.objects.proofs.Told.{laid-out}

@@ -2,7 +2,7 @@
 use Rattle.std.proofs.Common.{◌∙◌, length, ap, refl, subst, sym}
 use Rattle.model.specs.Kernel.State.{ThreadState, thread_at}
 use Rattle.model.specs.Shared.Lists.{times_in}
-use Rattle.linked_queues.specs.Layout.{AreLaidOut}
+use Rattle.queues.specs.Layout.{AreLaidOut}
 use Rattle.objects.proofs.Endpoints.{kind-state}
 use Rattle.objects.proofs.Frames.{moved-to, same-objects}
 use Rattle.objects.proofs.InQueues.{times-gone}

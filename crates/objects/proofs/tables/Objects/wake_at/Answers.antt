@@ -1,7 +1,7 @@
 -- The thread stands behind all others of its priority.
 use Rattle.std.proofs.Common.{◌∙◌, length, ap, refl, subst, sym}
 use Rattle.model.specs.Shared.Lists.{times_in}
-use Rattle.linked_queues.specs.Layout.{AreLaidOut}
+use Rattle.queues.specs.Layout.{AreLaidOut}
 use Rattle.objects.proofs.InQueues.{times-gone}
 use Rattle.objects.proofs.Kept.{kept, put-here}
 use Rattle.objects.proofs.Replacing.{thread-kind}

@@ -1,13 +1,17 @@
--- The best entry's thread is the first of the greatest queue.
-use Rattle.std.proofs.Common.{◌≡◌, ◌∙◌, ap, option_map, rules}
+-- The first thread of the highest priority that is marked.
+use Rattle.std.proofs.Common.{◌≡◌, ◌∙◌, List, subst}
 use Rattle.model.specs.Kernel.Scheduling.{first_below}
-use Rattle.queues.proofs.Greatest.{best-first}
+use Rattle.queues.specs.Ready.{ends_of, ready_of}
+use Rattle.queues.specs.declared.words.Ends.{Ends}
+use Rattle.queues.proofs.Marks.{nobody-first, top-first}
 use Rattle.queues.proofs.ready.ReadyList.current.Goals as goal
-use Rattle.queues.specs.Queues.{QueuedThreads, queue_at, queue_of}
+
+pub returns-in_err-priority : goal.returns-in_err-priority
+returns-in_err-priority c = λ places memory.
+    subst (λ (ends : List Ends). c.from_residual.result ≡ first_below 256 (ready_of places ends memory)) c.self.view_is
+    (c.from_residual.ensures ∙ nobody-first places c.self.inside.ends memory c.self.inside.marks c.self.invariant c.in_err-priority.ensures)
 
 pub returns : goal.returns
-unfolding queue_of
-returns g c =
-    let threads : c.map.result ≡ option_map (λ entry. entry.thread) c.self.inside.best = search rules in
-    threads ∙ best-first 256 c.self.inside.queues.entries c.self.inside.best c.self.invariant
-    ∙ ap (λ (q : QueuedThreads). first_below 256 (queue_at q.entries)) c.self.view_is
+returns c = λ places memory.
+    subst (λ (ends : List Ends). (ends_of c.self.inside.ends c.in_ok-priority.priority).first ≡ first_below 256 (ready_of places ends memory)) c.self.view_is
+    (top-first places c.self.inside.ends memory c.self.inside.marks c.in_ok-priority.priority c.self.invariant c.in_ok-priority.ensures)

@@ -1,3 +1,0 @@
--- What the crates above use of these proofs.
-pub use Rattle.linked_queues.proofs.Beginnings.{begins_empty, nobody_named}
-pub use Rattle.linked_queues.proofs.Changing.{kinds_apart, ready_stays, waiting_stays}

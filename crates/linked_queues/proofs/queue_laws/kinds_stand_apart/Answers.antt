@@ -1,6 +1,0 @@
--- By the lemma on the links.
-use Rattle.linked_queues.proofs.Laws.{kinds_apart}
-use Rattle.linked_queues.proofs.queue_laws.kinds_stand_apart.Goals as goal
-
-pub returns : goal.returns
-returns c = kinds_apart

@@ -1,6 +1,0 @@
--- By the lemma on the links.
-use Rattle.linked_queues.proofs.Laws.{begins_empty}
-use Rattle.linked_queues.proofs.queue_laws.objects_begin_empty.Goals as goal
-
-pub returns : goal.returns
-returns c = begins_empty

@@ -1,6 +1,0 @@
--- By the lemma on the links.
-use Rattle.linked_queues.proofs.Laws.{ready_stays}
-use Rattle.linked_queues.proofs.queue_laws.ready_stays.Goals as goal
-
-pub returns : goal.returns
-returns c = ready_stays

@@ -1,5 +1,0 @@
-pub mod Laws
-pub mod Layout
-pub mod Queues
-pub mod Ready
-pub mod Words
