@@ -5,7 +5,7 @@ does (valgrind's callgrind). Asks for `make build` before, and for valgrind.
   tools/large_images/instructions.py [--program PROGRAM] [KIND ..]     no kind named: all
 
 A line for each kind: the bytes of its three images, million instructions, instructions a byte, and by how much these differ at most. What the
-program takes to start is counted by an image of 428 bytes and taken off.
+smallest sample takes, and so what the program takes to start, is taken off, and so are its bytes where instructions a byte are told.
 """
 import argparse
 import os
@@ -38,7 +38,8 @@ def main():
     words.add_argument("kinds", nargs="*", choices=[[], *KINDS])
     given = words.parse_args()
     with tempfile.TemporaryDirectory() as folder:
-        start = instructions(given.program, f"{ROOT}/samples/solo.img", folder)
+        least = f"{ROOT}/samples/solo.img"
+        start = instructions(given.program, least, folder)
         print(f"start: {start / 1e6:.1f} million")
         for kind in given.kinds or KINDS:
             sizes, counts = [], []
@@ -47,7 +48,7 @@ def main():
                 subprocess.run([sys.executable, f"{HERE}/make.py", kind, str(share), image], check=True)
                 sizes.append(os.path.getsize(image))
                 counts.append(instructions(given.program, image, folder) - start)
-            each = [count / size for count, size in zip(counts, sizes)]
+            each = [count / (size - os.path.getsize(least)) for count, size in zip(counts, sizes)]
             print(
                 f"{kind}: {'; '.join(f'{it:,}' for it in sizes)} bytes; {'; '.join(f'{it / 1e6:.1f}' for it in counts)} million;"
                 f" {'; '.join(f'{it:,.0f}' for it in each)} a byte; at most {max(each) / max(1, min(each)):.2f} apart",
