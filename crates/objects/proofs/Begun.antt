@@ -18,7 +18,7 @@ use Rattle.objects.proofs.Following.{follows-bytes}
 use Rattle.objects.proofs.Kept.{put-here, put-there}
 use Rattle.objects.proofs.Stepping.{Left}
 use Rattle.objects.proofs.Told.{has-head, has-thread, in-point, in-thread, kind-state, kind-with, own-bits, own-slots, state_with, told}
-use Rattle.objects.specs.Standing.{Standing}
+use Rattle.objects.proofs.Linked.{Linked}
 use Rattle.objects.specs.Waiting.{has_waiting}
 use Rattle.linked_queues.specs.Laws.{KeepHeads, KeepThreads}
 use Rattle.linked_queues.specs.Layout.{IsHeadAt, IsThreadAt, Places}
@@ -27,12 +27,13 @@ use Rattle.linked_queues.specs.Ready.{ReadyStands, nobody, ready_of}
 use Rattle.linked_queues.specs.Words.{end_at, end_of, link_at, link_in, with_ends, without_links}
 use Rattle.linked_queues.specs.declared.words.Ends.{Ends}
 use Rattle.linked_queues.proofs.Laws.{begins_empty, ready_stays, waiting_stays}
-use Rattle.objects.specs.declared.records.Record.{Record}
-use Rattle.objects.specs.declared.records.Record.TheVariants.{CNode, Frame, PageTable, RootTable}
+use Rattle.objects.specs.Contents.{Record}
+use Rattle.objects.specs.Contents.{CNode, Frame, PageTable, RootTable}
 use Rattle.std.proofs.Math.Pow.{pow_mono}
-use Rattle.objects.specs.Tables.{AreTables, Tables, byte_in, has_queue, is_thread_kind, kind_in, places_of, ready_at, record_in, record_of, state_of, thread_in, waiting_of}
-use Rattle.objects.specs.Threads.{new_object, thread_state}
-use Rattle.objects.specs.declared.records.Thread.{Thread}
+use Rattle.objects.specs.Contents.{AreContents, Contents, byte_in, has_queue, is_thread_kind, kind_in, places_of, ready_at, record_of, contents_state, waiting_of}
+use Rattle.objects.specs.Threads.{new_object}
+use Rattle.thread_records.specs.Threads.{thread_state}
+use Rattle.thread_records.specs.declared.records.Thread.{Thread}
 use Rattle.objects.specs.declared.records.Kind.{Kind}
 use Rattle.objects.specs.declared.records.Kind.TheVariants as kinds
 use Rattle.removal_laws.specs.Finishing.{is_stranded, waits_nowhere}
@@ -183,8 +184,8 @@ module _ (s : State) (memory : List ℕ) (kind : Kind) (offset : ℕ) (fits : Fi
 
 -- ---- what stands goes on
 
-module _ (o n : Tables) (before after : Slots) (old new : List ℕ) (kind : Kind) (offset : ℕ) (stands : Standing o before old) (same_slots : after ≡ before)
-    (free : (state_of o before old).objects offset ≡ None) (room : IsRoom (state_of o before old) (kind_of (new_object kind)) offset) (same_ready : n.ready ≡ o.ready)
+module _ (o n : Contents) (before after : Slots) (old new : List ℕ) (kind : Kind) (offset : ℕ) (stands : Linked o before old) (same_slots : after ≡ before)
+    (free : (contents_state o before old).objects offset ≡ None) (room : IsRoom (contents_state o before old) (kind_of (new_object kind)) offset) (same_ready : n.ready ≡ o.ready)
     (begins : (ready : ℕ → List ℕ) → state_with n (waiting_of o old) ready before old ≡ begun (state_with o (waiting_of o old) ready before old) old kind offset)
     (size : length new ≡ length old)
     (same : (place : ℕ) → (offset + slot_bytes (kind_of (new_object kind)) ≤ place → place < offset + 2 ^ object_bits (kind_of (new_object kind))
@@ -192,7 +193,7 @@ module _ (o n : Tables) (before after : Slots) (old new : List ℕ) (kind : Kind
     (unlinked : is_thread_kind (Some (kind_of (new_object kind))) ≡ true → (link_at 244 new offset 0 ≡ None) × (link_at 256 new offset 0 ≡ None))
     (unwaited : has_waiting (Some (kind_of (new_object kind))) ≡ true → (i : ℕ) → i < 2 → end_at new offset i ≡ None) where
   abbrev u : State
-  u = state_of o before old
+  u = contents_state o before old
 
   abbrev q : NewObject
   q = kind_of (new_object kind)
@@ -285,7 +286,7 @@ module _ (o n : Tables) (before after : Slots) (old new : List ℕ) (kind : Kind
       let clash : true ≡ false = sym kept ∙ (frame-page kind framed.0).records in absurd cc) (room.frames place (omega (arith, from)) below) in
       let clash : None ≡ Some byte = sym none ∙ sym (ap (λ (x : State). x.bytes place) now-with) ∙ some in absurd cc)
 
-  now-state : state_of n after new ≡ t
+  now-state : contents_state n after new ≡ t
   now-state = follows-bytes n before old new after frames-same ∙ ap (λ (f : Slots). state_with n (waiting_of n new) (ready_at n new) f old) same_slots ∙ now-with
 
   pub begun-left : Left n after new t
@@ -301,7 +302,7 @@ module _ (o n : Tables) (before after : Slots) (old new : List ℕ) (kind : Kind
         };
       }
 
-  pub begun-bytes : SameBesideObjects (state_of n after new) old new
+  pub begun-bytes : SameBesideObjects (contents_state n after new) old new
   begun-bytes = record {
     size = size;
     bytes = λ place outside. same place (λ from below kept.
@@ -313,24 +314,24 @@ module _ (o n : Tables) (before after : Slots) (old new : List ℕ) (kind : Kind
 
 -- ---- the links of what begins
 
-module _ (o : Tables) (slots : Slots) (memory : List ℕ) (kind : Kind) (offset : ℕ) (are : AreTables o) (fits : FitsMemory (state_of o slots memory) memory)
-    (may : MayStand (state_of o slots memory).memory_bits kind offset) (room : IsRoom (state_of o slots memory) (kind_of (new_object kind)) offset) where
+module _ (o : Contents) (slots : Slots) (memory : List ℕ) (kind : Kind) (offset : ℕ) (are : AreContents o) (fits : FitsMemory (contents_state o slots memory) memory)
+    (may : MayStand (contents_state o slots memory).memory_bits kind offset) (room : IsRoom (contents_state o slots memory) (kind_of (new_object kind)) offset) where
   long : length memory ≡ 2 ^ o.bits
   long = sym fits.size ∙ ap (λ (n : ℕ). 2 ^ n) (own-bits o slots memory)
 
   small : length memory ≤ 2 ^ 24
   small = omega (arith, long, pow_mono {i = o.bits} {j = 24} are.most_bits)
 
-  below-end : offset < 2 ^ (state_of o slots memory).memory_bits → offset < 2 ^ o.bits
+  below-end : offset < 2 ^ (contents_state o slots memory).memory_bits → offset < 2 ^ o.bits
   below-end less = omega (arith, less, ap (λ (n : ℕ). 2 ^ n) (own-bits o slots memory))
 
-  empty : (place : ℕ) → (state_of o slots memory).slots (place / 16) ≡ None → slots (place / 16) ≡ None
+  empty : (place : ℕ) → (contents_state o slots memory).slots (place / 16) ≡ None → slots (place / 16) ≡ None
   empty place none = ap (λ (f : Slots). f (place / 16)) (sym (own-slots o slots memory)) ∙ none
 
   pub new-thread : kind ≡ kinds.Thread → IsThreadAt slots (length memory) offset
   new-thread is =
-      let may' = subst (λ (x : Kind). MayStand (state_of o slots memory).memory_bits x offset) is may in
-      let room' = subst (λ (x : Kind). IsRoom (state_of o slots memory) (kind_of (new_object x)) offset) is room in
+      let may' = subst (λ (x : Kind). MayStand (contents_state o slots memory).memory_bits x offset) is may in
+      let room' = subst (λ (x : Kind). IsRoom (contents_state o slots memory) (kind_of (new_object x)) offset) is room in
       record {
         few = small;
         within = omega (arith, may'.0, below-end may'.1, long, are.thread_places);
@@ -341,16 +342,16 @@ module _ (o : Tables) (slots : Slots) (memory : List ℕ) (kind : Kind) (offset 
   new-queue r made queued =
       elim kind as (λ x. kind ≡ x → IsHeadAt slots (length memory) offset) [
         | kinds.Endpoint ↦ λ is.
-            let may' = subst (λ (x : Kind). MayStand (state_of o slots memory).memory_bits x offset) is may in
-            let room' = subst (λ (x : Kind). IsRoom (state_of o slots memory) (kind_of (new_object x)) offset) is room in
+            let may' = subst (λ (x : Kind). MayStand (contents_state o slots memory).memory_bits x offset) is may in
+            let room' = subst (λ (x : Kind). IsRoom (contents_state o slots memory) (kind_of (new_object x)) offset) is room in
             record {
               few = small;
               within = omega (arith, may'.0, below-end may'.1, long, are.record_places);
               outside = λ place from below. empty place (room'.slots place (omega (arith, from)) (omega (arith, below)) refl);
             }
         | kinds.Notification ↦ λ is.
-            let may' = subst (λ (x : Kind). MayStand (state_of o slots memory).memory_bits x offset) is may in
-            let room' = subst (λ (x : Kind). IsRoom (state_of o slots memory) (kind_of (new_object x)) offset) is room in
+            let may' = subst (λ (x : Kind). MayStand (contents_state o slots memory).memory_bits x offset) is may in
+            let room' = subst (λ (x : Kind). IsRoom (contents_state o slots memory) (kind_of (new_object x)) offset) is room in
             record {
               few = small;
               within = omega (arith, may'.0, below-end may'.1, long, are.record_places);
@@ -414,15 +415,15 @@ wiped-ends : (b : Bool) (m : List ℕ) (offset i : ℕ) → (b ≡ true → offs
 wiped-ends true m offset i within is low = begins_empty.head m offset i (within refl) low
 wiped-ends false m offset i within is low = absurd (let clash : false ≡ true = is in cc)
 
-module _ (o : Tables) (before after : Slots) (old new : List ℕ) (offset : ℕ) (are : AreTables o) (stands : Standing o before old) (same_slots : after ≡ before)
-    (free : (state_of o before old).objects offset ≡ None) where
-  pub thread-begins : (may : MayStand (state_of o before old).memory_bits kinds.Thread offset) (room : IsRoom (state_of o before old) NewThread offset)
-      (threads : List (Option Thread)) (fresh : Thread) → ((other : ℕ) → thread_in threads other ≡ put (thread_in o.threads) offset (Some fresh) other)
+module _ (o : Contents) (before after : Slots) (old new : List ℕ) (offset : ℕ) (are : AreContents o) (stands : Linked o before old) (same_slots : after ≡ before)
+    (free : (contents_state o before old).objects offset ≡ None) where
+  pub thread-begins : (may : MayStand (contents_state o before old).memory_bits kinds.Thread offset) (room : IsRoom (contents_state o before old) NewThread offset)
+      (threads : ℕ → Option Thread) (fresh : Thread) → ((other : ℕ) → threads other ≡ put (o.threads) offset (Some fresh) other)
       → thread_state fresh ≡ new_thread → new ≡ without_links old offset
-      → Left (record o { threads = threads }) after new (begun (state_of o before old) old kinds.Thread offset) × SameBesideObjects (state_of (record o { threads = threads }) after new) old new
+      → Left (record o { threads = threads }) after new (begun (contents_state o before old) old kinds.Thread offset) × SameBesideObjects (contents_state (record o { threads = threads }) after new) old new
   thread-begins may room threads fresh threaded is_new bytes =
       let within = (new-thread o before old kinds.Thread offset are stands.fits may room refl).within in
-      let n : Tables = record o { threads = threads } in
+      let n : Contents = record o { threads = threads } in
       let size : length new ≡ length old = ap (λ (m : List ℕ). length m) bytes ∙ begins_empty.size old offset within in
       let same : (place : ℕ) → (offset + 32 ≤ place → place < offset + 2 ^ 9 → true ≡ true → ⊥) → slice_index new place ≡ slice_index old place = λ place apart.
       ap (λ (m : List ℕ). slice_index m place) bytes ∙ begins_empty.bytes old offset place within
@@ -437,13 +438,13 @@ module _ (o : Tables) (before after : Slots) (old new : List ℕ) (offset : ℕ)
         begun-bytes o n before after old new kinds.Thread offset stands same_slots free room refl begins size same unlinked unwaited,
       )
 
-  pub record-begins : (kind : Kind) (r : Record) → record_of kind ≡ Some r → (may : MayStand (state_of o before old).memory_bits kind offset)
-      (room : IsRoom (state_of o before old) (kind_of (new_object kind)) offset) (records : List (Option Record))
-      → ((other : ℕ) → record_in records other ≡ put (record_in o.records) offset (Some r) other) → new ≡ wiped (has_queue r) old offset
-      → Left (record o { records = records }) after new (begun (state_of o before old) old kind offset) × SameBesideObjects (state_of (record o { records = records }) after new) old new
+  pub record-begins : (kind : Kind) (r : Record) → record_of kind ≡ Some r → (may : MayStand (contents_state o before old).memory_bits kind offset)
+      (room : IsRoom (contents_state o before old) (kind_of (new_object kind)) offset) (records : ℕ → Option Record)
+      → ((other : ℕ) → records other ≡ put (o.records) offset (Some r) other) → new ≡ wiped (has_queue r) old offset
+      → Left (record o { records = records }) after new (begun (contents_state o before old) old kind offset) × SameBesideObjects (contents_state (record o { records = records }) after new) old new
   record-begins kind r made may room records recorded bytes =
       let within : has_queue r ≡ true → offset + 8 ≤ length old = λ queued. (new-queue o before old kind offset are stands.fits may room r made queued).within in
-      let n : Tables = record o { records = records } in
+      let n : Contents = record o { records = records } in
       let size : length new ≡ length old = ap (λ (m : List ℕ). length m) bytes ∙ wiped-size (has_queue r) old offset within in
       let same : (place : ℕ) → (offset + slot_bytes (kind_of (new_object kind)) ≤ place → place < offset + 2 ^ object_bits (kind_of (new_object kind))
       → has_record (kind_of (new_object kind)) ≡ true → ⊥) → slice_index new place ≡ slice_index old place = λ place apart.

@@ -1,4 +1,4 @@
--- Tables without objects.
+-- Contents without objects.
 use Rattle.std.proofs.Common.{ℕ, ◌≡◌, ◌∙◌, ◌==◌, ◌*◌, ◌-◌, ◌/◌, ◌%◌, ◌^◌, ◌≤◌, inl, inr, Bool, true, false, if◌then◌else◌, Option, Some, None, option_map, List, [], length, replicate, refl, sym, ap, subst, arith}
 use Rattle.std.specs.Prelude.{slice_index_or}
 use Rattle.std.proofs.lemmas.List.{get_or-replicate, get_or_past, length-replicate}
@@ -14,12 +14,12 @@ use Rattle.linked_queues.specs.Layout.{Places}
 use Rattle.linked_queues.specs.Ready.{ReadyStands, ready_of}
 use Rattle.linked_queues.specs.declared.words.Ends.{Ends}
 use Rattle.linked_queues.proofs.Laws.{begins_empty}
-use Rattle.objects.specs.Standing.{Standing}
+use Rattle.objects.proofs.Linked.{Linked}
 use Rattle.objects.specs.Waiting.{has_waiting}
-use Rattle.objects.specs.Tables.{AreTables, Tables, byte_in, is_thread_kind, kind_in, object_in, placed, places_of, state_of, told_by, waiting_of}
-use Rattle.objects.specs.declared.records.Record.{Record}
-use Rattle.objects.specs.declared.records.Record.TheVariants.{CNode}
-use Rattle.objects.specs.declared.records.Thread.{Thread}
+use Rattle.objects.specs.Contents.{AreContents, Contents, byte_in, is_thread_kind, kind_in, object_in, placed, places_of, contents_state, waiting_of}
+use Rattle.objects.specs.Contents.{Record}
+use Rattle.objects.specs.Contents.{CNode}
+use Rattle.thread_records.specs.declared.records.Thread.{Thread}
 use Rattle.model.specs.Kernel.Kinds.{frame_around}
 
 nothing-at : {A : Type 0} (n i : ℕ) → slice_index_or (replicate {A = Option A} n None) i None ≡ None
@@ -40,7 +40,7 @@ never-masked n line = elim (cases_lt line n) [
   | inr outside ↦ get_or_past (replicate n false) line false (omega (arith, outside, length-replicate {A = Bool} n false))
 ]
 
-abbrev pub fresh : ℕ → ℕ → List Ends → Tables
+abbrev pub fresh : ℕ → ℕ → List Ends → Contents
 fresh bits radix ready = record {
   bits = bits;
   radix = radix;
@@ -51,7 +51,7 @@ fresh bits radix ready = record {
   pending = replicate 64 false;
 }
 
-pub fresh-tables : (bits radix : ℕ) (ready : List Ends) → 16 ≤ bits → bits ≤ 24 → radix ≤ 14 → AreTables (fresh bits radix ready)
+pub fresh-tables : (bits radix : ℕ) (ready : List Ends) → 16 ≤ bits → bits ≤ 24 → radix ≤ 14 → AreContents (fresh bits radix ready)
 fresh-tables bits radix ready least most few =
     let sixteenths : 2 ^ bits ≡ 2 ^ (bits - 4) * 16 = ap (λ (n : ℕ). 2 ^ n) (omega (arith, least)) ∙ pow-add 2 (bits - 4) 4 in
     let parts : 2 ^ bits ≡ 2 ^ (bits - 9) * 512 = ap (λ (n : ℕ). 2 ^ n) (omega (arith, least)) ∙ pow-add 2 (bits - 9) 9 in
@@ -67,7 +67,7 @@ fresh-tables bits radix ready least most few =
     }
 
 module _ (bits radix : ℕ) (ready : List Ends) (nobody : (places : Places) (memory : List ℕ) (priority : ℕ) → ready_of places ready memory priority ≡ []) where
-  abbrev o : Tables
+  abbrev o : Contents
   o = fresh bits radix ready
 
   no-object : (waiting : ℕ → List ℕ) (offset : ℕ) → object_in o waiting offset ≡ None
@@ -79,8 +79,8 @@ module _ (bits radix : ℕ) (ready : List Ends) (nobody : (places : Places) (mem
   no-kind : (offset : ℕ) → kind_in o offset ≡ None
   no-kind offset = ap (option_map kind_of) (no-object (λ queue. []) offset)
 
-  pub fresh-state : (slots : Slots) (memory : List ℕ) → state_of o slots memory ≡ with_slots (boot_area bits radix) slots
-  unfolding state_of told_by boot_area
+  pub fresh-state : (slots : Slots) (memory : List ℕ) → contents_state o slots memory ≡ with_slots (boot_area bits radix) slots
+  unfolding contents_state boot_area
   fresh-state slots memory = λ i. record (with_slots (boot_area bits radix) slots) {
     objects = λ offset. no-object (waiting_of o memory) offset i;
     ready = λ priority. nobody (places_of o) memory priority i;
@@ -90,7 +90,7 @@ module _ (bits radix : ℕ) (ready : List Ends) (nobody : (places : Places) (mem
   }
 
   pub fresh-stands : (slots : Slots) (memory : List ℕ) → ((places : Places) (memory : List ℕ) → ((offset : ℕ) → places.threads offset ≡ false) → ReadyStands places ready memory)
-      → 2 ^ bits ≡ length memory → Standing o slots memory
+      → 2 ^ bits ≡ length memory → Linked o slots memory
   unfolding boot_area
   fresh-stands slots memory runs size = record {
     fits = subst (λ (t : State). FitsMemory t memory) (sym (fresh-state slots memory))

@@ -2,9 +2,9 @@
 use Rattle.std.proofs.Common.{ℕ, ◌≡◌, ◌≢◌, ◌∙◌, ◌*◌, ◌^◌, ◌≤◌, inl, inr, if◌then◌else◌, Option, Some, None, List, length, refl, sym, ap, arith}
 use Rattle.std.proofs.lemmas.Bool.Decides.{eqb_tells}
 use Rattle.model.specs.Kernel.State.{put}
-use Rattle.objects.specs.Tables.{AreTables, Tables, record_in}
-use Rattle.objects.specs.declared.records.Record.{Record}
-use Rattle.objects.specs.declared.records.Record.TheVariants.{CNode}
+use Rattle.objects.specs.Contents.{AreContents, Contents}
+use Rattle.objects.specs.Contents.{Record}
+use Rattle.objects.specs.Contents.{CNode}
 
 -- a map with another value at one place
 pub put-here : {A : Type 0} (m : ℕ → A) (place : ℕ) (value : A) → put m place value place ≡ value
@@ -20,8 +20,8 @@ put-there m place value other apart = elim (eqb_tells other place) [
 ]
 
 -- tables of the same sizes, if CNodes are small
-pub kept : (o n : Tables) → AreTables o → n.bits ≡ o.bits → n.radix ≡ o.radix → length n.records ≡ length o.records → length n.threads ≡ length o.threads
-    → ((offset radix : ℕ) → record_in n.records offset ≡ Some (CNode radix) → radix ≤ 14) → AreTables n
+pub kept : (o n : Contents) → AreContents o → n.bits ≡ o.bits → n.radix ≡ o.radix → length n.records ≡ length o.records → length n.threads ≡ length o.threads
+    → ((offset radix : ℕ) → n.records offset ≡ Some (CNode radix) → radix ≤ 14) → AreContents n
 kept o n are bits radix records threads small = record {
   least_bits = omega (arith, bits, are.least_bits);
   most_bits = omega (arith, bits, are.most_bits);
@@ -31,9 +31,9 @@ kept o n are bits radix records threads small = record {
   nodes = small;
 }
 
-pub small-vacated : (old new : List (Option Record)) (offset : ℕ) → ((other : ℕ) → record_in new other ≡ put (record_in old) offset None other)
-    → ((place radix : ℕ) → record_in old place ≡ Some (CNode radix) → radix ≤ 14) → (place radix : ℕ) → record_in new place ≡ Some (CNode radix) → radix ≤ 14
+pub small-vacated : (old new : ℕ → Option Record) (offset : ℕ) → ((other : ℕ) → new other ≡ put (old) offset None other)
+    → ((place radix : ℕ) → old place ≡ Some (CNode radix) → radix ≤ 14) → (place radix : ℕ) → new place ≡ Some (CNode radix) → radix ≤ 14
 small-vacated old new offset records small place radix is = elim (eqb_tells place offset) [
-  | inl here ↦ absurd (let clash : None ≡ Some (CNode radix) = ap (λ b. if b then None else record_in old place) (sym here.0) ∙ sym (records place) ∙ is in cc)
-  | inr apart ↦ small place radix (ap (λ b. if b then None else record_in old place) (sym apart.0) ∙ sym (records place) ∙ is)
+  | inl here ↦ absurd (let clash : None ≡ Some (CNode radix) = ap (λ b. if b then None else old place) (sym here.0) ∙ sym (records place) ∙ is in cc)
+  | inr apart ↦ small place radix (ap (λ b. if b then None else old place) (sym apart.0) ∙ sym (records place) ∙ is)
 ]

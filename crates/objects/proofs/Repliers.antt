@@ -7,7 +7,7 @@ use Rattle.objects.proofs.Kept.{put-there}
 use Rattle.objects.specs.Changes.{registered, voided}
 use Rattle.objects.specs.Rights.{AreKnown, has_right}
 use Rattle.objects.specs.Tables.{placed, thread_in}
-use Rattle.objects.specs.declared.records.Thread.{Thread}
+use Rattle.thread_records.specs.declared.records.Thread.{Thread}
 
 -- a thread without the right keeps what it has
 keeps : (gone : ℕ) (t : Option Thread) → has_right t gone ≡ false → option_map (voided gone) t ≡ t

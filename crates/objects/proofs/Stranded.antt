@@ -11,25 +11,25 @@ use Rattle.objects.proofs.Ends.{as-thread}
 use Rattle.objects.proofs.Frames.{Unmoved, moved-to, records-then, same-records, same-state}
 use Rattle.objects.proofs.Kept.{put-there}
 use Rattle.objects.specs.Frames.{SameBesideRecords}
-use Rattle.objects.specs.Standing.{Standing}
-use Rattle.objects.specs.Tables.{Tables, state_of, thread_in, told_by, waiting_of}
-use Rattle.objects.specs.Threads.{status_of, thread_state}
-use Rattle.objects.specs.declared.records.Thread.{Thread}
+use Rattle.objects.proofs.Linked.{Linked}
+use Rattle.objects.specs.Contents.{Contents, contents_state, waiting_of}
+use Rattle.thread_records.specs.Threads.{status_of, thread_state}
+use Rattle.thread_records.specs.declared.records.Thread.{Thread}
 use Rattle.removal_laws.specs.Finishing.{is_stranded, waits_nowhere, woken}
 
 -- ---- who is stranded
 
-pub stranded-at : (o : Tables) (offset : ℕ) (t : Thread) (slots : Slots) (memory : List ℕ) → thread_in o.threads offset ≡ Some t
-    → is_stranded (state_of o slots memory) offset ≡ waits_nowhere (state_of o slots memory) (status_of t.status)
-unfolding state_of told_by
+pub stranded-at : (o : Contents) (offset : ℕ) (t : Thread) (slots : Slots) (memory : List ℕ) → o.threads offset ≡ Some t
+    → is_stranded (contents_state o slots memory) offset ≡ waits_nowhere (contents_state o slots memory) (status_of t.status)
+unfolding contents_state
 stranded-at o offset t slots memory there =
-    ap (λ p. option_map_or (λ x. waits_nowhere (state_of o slots memory) x.status) p false) (as-thread o (waiting_of o memory) offset ∙ ap (option_map thread_state) there)
+    ap (λ p. option_map_or (λ x. waits_nowhere (contents_state o slots memory) x.status) p false) (as-thread o (waiting_of o memory) offset ∙ ap (option_map thread_state) there)
 
-pub stranded-nobody : (o : Tables) (offset : ℕ) (slots : Slots) (memory : List ℕ) → thread_in o.threads offset ≡ None
-    → is_stranded (state_of o slots memory) offset ≡ false
-unfolding state_of told_by
+pub stranded-nobody : (o : Contents) (offset : ℕ) (slots : Slots) (memory : List ℕ) → o.threads offset ≡ None
+    → is_stranded (contents_state o slots memory) offset ≡ false
+unfolding contents_state
 stranded-nobody o offset slots memory none =
-    ap (λ p. option_map_or (λ x. waits_nowhere (state_of o slots memory) x.status) p false) (as-thread o (waiting_of o memory) offset ∙ ap (option_map thread_state) none)
+    ap (λ p. option_map_or (λ x. waits_nowhere (contents_state o slots memory) x.status) p false) (as-thread o (waiting_of o memory) offset ∙ ap (option_map thread_state) none)
 
 -- ---- one that is woken leaves the others so
 
@@ -93,11 +93,11 @@ sweep-step s first count =
     ] refl
 
 -- all places are those of all threads
-pub swept-all : (o : Tables) (slots : Slots) (memory : List ℕ) (count : ℕ) → count ≡ 2 ^ o.bits / 16
-    → swept (state_of o slots memory) 0 (count - 0) ≡ woken (state_of o slots memory)
-unfolding state_of told_by slot_numbers
+pub swept-all : (o : Contents) (slots : Slots) (memory : List ℕ) (count : ℕ) → count ≡ 2 ^ o.bits / 16
+    → swept (contents_state o slots memory) 0 (count - 0) ≡ woken (contents_state o slots memory)
+unfolding contents_state slot_numbers
 swept-all o slots memory count is =
-    let all : count - 0 ≡ 2 ^ o.bits / 16 = omega (arith, is) in ap (λ (n : ℕ). swept (state_of o slots memory) 0 n) all
+    let all : count - 0 ≡ 2 ^ o.bits / 16 = omega (arith, is) in ap (λ (n : ℕ). swept (contents_state o slots memory) 0 n) all
 
 pub sweep-on : (s t : State) (first count : ℕ) → first < count → t ≡ woken-if s (16 * first) → swept t (first + 1) (count - (first + 1)) ≡ swept s first (count - first)
 sweep-on s t first count less is =
@@ -107,36 +107,36 @@ sweep-on s t first count less is =
 -- ---- the loop over all places
 
 -- what is left to be swept leaves what sweeping all would; the objects are the same, and only bytes of records changed
-pub record SweptSoFar (o n : Tables) (before after : Slots) (old new : List ℕ) (number count : ℕ) : Type 0 where
-  pub left : swept (state_of n after new) number (count - number) ≡ woken (state_of o before old)
-  pub unmoved : Unmoved (state_of o before old) (state_of n after new)
-  pub bytes : SameBesideRecords (state_of o before old) old new
+pub record SweptSoFar (o n : Contents) (before after : Slots) (old new : List ℕ) (number count : ℕ) : Type 0 where
+  pub left : swept (contents_state n after new) number (count - number) ≡ woken (contents_state o before old)
+  pub unmoved : Unmoved (contents_state o before old) (contents_state n after new)
+  pub bytes : SameBesideRecords (contents_state o before old) old new
   pub slots : after ≡ before
-  pub stands : Standing n after new
+  pub stands : Linked n after new
 
-pub swept-first : (o : Tables) (slots : Slots) (memory : List ℕ) (count : ℕ) → count ≡ 2 ^ o.bits / 16 → Standing o slots memory → SweptSoFar o o slots slots memory memory 0 count
+pub swept-first : (o : Contents) (slots : Slots) (memory : List ℕ) (count : ℕ) → count ≡ 2 ^ o.bits / 16 → Linked o slots memory → SweptSoFar o o slots slots memory memory 0 count
 swept-first o slots memory count is stands = record {
   left = swept-all o slots memory count is;
-  unmoved = same-state (state_of o slots memory);
-  bytes = same-records (state_of o slots memory) memory;
+  unmoved = same-state (contents_state o slots memory);
+  bytes = same-records (contents_state o slots memory) memory;
   slots = refl;
   stands = stands;
 }
 
-pub swept-next : (o m n : Tables) (before mid after : Slots) (old half new : List ℕ) (number count : ℕ) → SweptSoFar o m before mid old half number count → number < count
-    → state_of n after new ≡ woken-if (state_of m mid half) (16 * number) → SameBesideRecords (state_of m mid half) half new → after ≡ mid → Standing n after new
+pub swept-next : (o m n : Contents) (before mid after : Slots) (old half new : List ℕ) (number count : ℕ) → SweptSoFar o m before mid old half number count → number < count
+    → contents_state n after new ≡ woken-if (contents_state m mid half) (16 * number) → SameBesideRecords (contents_state m mid half) half new → after ≡ mid → Linked n after new
     → SweptSoFar o n before after old new (number + 1) count
 swept-next o m n before mid after old half new number count sofar less is bytes same stands =
-    let step = moved-to (state_of m mid half) (state_of n after new) _ is (woken-one (state_of m mid half) (16 * number)) in
+    let step = moved-to (contents_state m mid half) (contents_state n after new) _ is (woken-one (contents_state m mid half) (16 * number)) in
     record {
-      left = sweep-on (state_of m mid half) (state_of n after new) number count less is ∙ sofar.left;
+      left = sweep-on (contents_state m mid half) (contents_state n after new) number count less is ∙ sofar.left;
       unmoved = record {
         kinds = λ offset. step.kinds offset ∙ sofar.unmoved.kinds offset;
         bytes = step.bytes ∙ sofar.unmoved.bytes;
         slots = step.slots ∙ sofar.unmoved.slots;
         bits = step.bits ∙ sofar.unmoved.bits;
       };
-      bytes = records-then (state_of o before old) (state_of m mid half) old half new (λ offset k k_is. sym (sofar.unmoved.kinds offset) ∙ k_is) sofar.bytes bytes;
+      bytes = records-then (contents_state o before old) (contents_state m mid half) old half new (λ offset k k_is. sym (sofar.unmoved.kinds offset) ∙ k_is) sofar.bytes bytes;
       slots = same ∙ sofar.slots;
       stands = stands;
     }

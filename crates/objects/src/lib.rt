@@ -3,24 +3,25 @@
 //! seL4 Reference Manual, "Kernel Services and Objects".
 #![tactic(auto)]
 
+mod beginnings;
 mod calls;
 mod held;
 mod line_calls;
-mod places;
 mod queue_calls;
 mod records;
+mod rights;
 mod scheduling_calls;
 mod state_laws;
 mod tables;
 mod thread_calls;
-mod thread_places;
 mod threads;
 mod waiting;
 
-pub use records::{Fault, Kind, Sending, Sent, Status, Thread, WaitingSender};
+pub use records::{Kind, WaitingSender};
 pub use state_laws::{
     a_byte_is_in_memory, a_state_follows_its_frames, a_state_follows_its_slots,
     a_state_follows_other_bytes, a_state_has_its_slots, what_stands_beside_frames,
     what_stands_beside_other_bytes, what_stands_still_does,
 };
 pub use tables::{FULL_SLICE, Objects};
+pub use thread_records::{Fault, Sending, Sent, Status, Thread};

@@ -7,8 +7,8 @@ use Rattle.objects.proofs.Endpoints.{kind-state}
 use Rattle.objects.proofs.Frames.{kind-put, moved-to, one-put, records-then, same-objects, same-records, stands-unmoved}
 use Rattle.objects.proofs.tables.Objects.block.Goals as goal
 use Rattle.objects.specs.Tables.{Tables, state_of}
-use Rattle.objects.specs.Threads.{status_of}
-use Rattle.objects.specs.declared.records.Thread.{Thread}
+use Rattle.thread_records.specs.Threads.{status_of}
+use Rattle.thread_records.specs.declared.records.Thread.{Thread}
 
 pub replace-requires-clause-there : goal.replace-requires-clause-there
 replace-requires-clause-there g c = ap is_some (c.thread_or_new-held.ensures.there (sym (kind-state c.args.self.now c.args.thread (g.S.SlotMap.slots c.args.store.now) (g.S.SlotStore.memory c.args.store.now)) ∙ c.requires.there))

@@ -4,7 +4,7 @@ use Rattle.std.specs.Option.{option_map_or}
 use Rattle.objects.proofs.Replacing.{pc-of}
 use Rattle.objects.proofs.tables.Objects.pc_at.Goals as goal
 use Rattle.objects.specs.Tables.{Tables, thread_in}
-use Rattle.objects.specs.declared.records.Thread.{Thread}
+use Rattle.thread_records.specs.declared.records.Thread.{Thread}
 
 pub returns-in-Some : goal.returns-in-Some
 returns-in-Some c = λ slots memory.

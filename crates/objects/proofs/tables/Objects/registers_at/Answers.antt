@@ -6,7 +6,7 @@ use Rattle.model.specs.Machine.ProgramMemory.{RegisterFile}
 use Rattle.objects.proofs.Replacing.{registers-of}
 use Rattle.objects.proofs.tables.Objects.registers_at.Goals as goal
 use Rattle.objects.specs.Tables.{Tables, thread_in}
-use Rattle.objects.specs.declared.records.Thread.{Thread}
+use Rattle.thread_records.specs.declared.records.Thread.{Thread}
 
 pub returns-in-Some : goal.returns-in-Some
 returns-in-Some c = λ slots memory.

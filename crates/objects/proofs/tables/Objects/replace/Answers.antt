@@ -4,7 +4,7 @@ use Rattle.model.specs.Kernel.State.{with_thread}
 use Rattle.objects.proofs.Replacing.{replaced-state}
 use Rattle.objects.proofs.tables.Objects.replace.Goals as goal
 use Rattle.objects.specs.Tables.{Tables, sending_in, state_of, thread_in}
-use Rattle.objects.specs.Threads.{thread_state}
+use Rattle.thread_records.specs.Threads.{thread_state}
 
 pub returns-clause-state : goal.returns-clause-state
 returns-clause-state c = λ slots memory.

@@ -4,7 +4,7 @@ use Rattle.std.specs.Option.{option_map_or}
 use Rattle.model.specs.Kernel.State.{new_thread}
 use Rattle.objects.proofs.Replacing.{thread-state}
 use Rattle.objects.proofs.tables.Objects.thread_or_new.Goals as goal
-use Rattle.objects.specs.Threads.{thread_state}
+use Rattle.thread_records.specs.Threads.{thread_state}
 
 pub returns-in-Some-clause-state : goal.returns-in-Some-clause-state
 returns-in-Some-clause-state c = λ slots memory.

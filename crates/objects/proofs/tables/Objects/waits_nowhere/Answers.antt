@@ -2,7 +2,7 @@
 use Rattle.std.proofs.Common.{◌∙◌, not, ap, sym}
 use Rattle.objects.proofs.tables.Objects.waits_nowhere.Goals as goal
 use Rattle.objects.specs.Tables.{state_of, told_by, waiting_of}
-use Rattle.objects.specs.Threads.{status_of}
+use Rattle.thread_records.specs.Threads.{status_of}
 use Rattle.removal_laws.specs.Finishing.{waits_nowhere}
 
 pub returns-in-Blocked : goal.returns-in-Blocked

@@ -1,0 +1,39 @@
+//! What the bytes of a new object hold.
+
+ghost use Rattle.std.specs.Prelude.{ℕ, ◌≡◌, length};
+ghost use Rattle.objects.specs.Laid.{BegunAt, IsRoomAt};
+
+use crate::records::Kind;
+use crate::rights::put_replier;
+use linked_queues::{begin_head, begin_thread};
+use slots::SlotStore;
+
+/// A new object comes to stand at an offset, with nobody linked there.
+pub(crate) fn begin_bytes<S: SlotStore>(store: &mut S, offset: u32, kind: Kind)
+    requires { IsRoomAt kind (S.slots store.old) (length (S.memory store.old)) offset }
+    ensures bytes { BegunAt kind offset (S.memory store.old) (S.memory store.new) }
+    ensures slots { S.slots store.new ≡ S.slots store.old }
+    ensures order { S.order store.new ≡ S.order store.old }
+{
+    match kind {
+        Kind::Thread => begin_thread_bytes(store, offset),
+        Kind::Endpoint => begin_point(store, offset),
+        Kind::Notification => begin_point(store, offset),
+        Kind::CNode { .. } | Kind::Frame | Kind::PageTable | Kind::RootTable => {}
+    }
+}
+
+/// A thread begins that is new, stands in no queue, and to which nobody may reply.
+fn begin_thread_bytes<S: SlotStore>(store: &mut S, offset: u32)
+{
+    begin_thread(store, offset);
+    thread_records::begin_thread(store, offset);
+    put_replier(store, offset, Some(0));
+}
+
+/// An object begins at which nobody waits, and whose word is 0.
+fn begin_point<S: SlotStore>(store: &mut S, offset: u32)
+{
+    begin_head(store, offset);
+    store.write32(offset + WORD, 0);
+}
