@@ -6,8 +6,8 @@ use Rattle.model.specs.Kernel.Scheduling.{wake}
 use Rattle.model.specs.Kernel.State.{State, thread_at}
 use Rattle.model.specs.Machine.ProgramMemory.{RegisterFile, read}
 use Rattle.model.specs.Shared.Labels.{fault_number}
-use Rattle.objects.specs.Threads.{message_of}
-use Rattle.objects.specs.declared.records.Fault.{Fault}
+use Rattle.thread_records.specs.Threads.{message_of}
+use Rattle.thread_records.specs.declared.records.Fault.{Fault}
 
 -- the message in registers
 abbrev pub message_in : RegisterFile → Message

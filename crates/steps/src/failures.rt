@@ -7,7 +7,7 @@ ghost use Rattle.model.specs.Kernel.Soundness.{SentIsSound};
 ghost use Rattle.model.specs.Kernel.State.{ByFault};
 ghost use Rattle.model.specs.Kernel.Steps.{faults, registers_of};
 ghost use Rattle.object_lifetimes.specs.Kernels.{state_in};
-ghost use Rattle.objects.specs.Threads.{message_of};
+ghost use Rattle.thread_records.specs.Threads.{message_of};
 ghost use Rattle.soundness.specs.Running.{IsRunning};
 
 use faults::raise_fault;
