@@ -247,7 +247,7 @@ module _ (o : Contents) (records : ℕ → Option Record) (notification word : �
     | inr apart ↦ ap (λ r. option_map_or is_frame r false) (replaced other ∙ put-there (o.records) notification _ other apart.1)
   ]
 
-  word-with : (waiting ready : ℕ → List ℕ) (slots : Slots) (memory : List ℕ) → state_with now waiting ready slots memory ≡ with_word (state_with o waiting ready slots memory) notification word
+  pub word-with : (waiting ready : ℕ → List ℕ) (slots : Slots) (memory : List ℕ) → state_with now waiting ready slots memory ≡ with_word (state_with o waiting ready slots memory) notification word
   word-with waiting ready slots memory = λ i. record (state_with o waiting ready slots memory) {
     objects = λ other. object-word waiting other i;
     bytes = λ place. ap (λ b. if b then Some (slice_index memory place) else None) (frame-word (frame_around place)) i;

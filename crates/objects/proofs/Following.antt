@@ -95,8 +95,8 @@ module _ (o : Contents) (slots : Slots) (old new : List ℕ) where
 
   -- ---- only bytes of frames changed
 
-  seen : (place : ℕ) → byte_in o.records new place ≡ option_map (λ _. slice_index new place) (byte_in o.records old place)
-  seen place = elim (in_frame place) as (λ b. (if b then Some (slice_index new place) else None) ≡ option_map (λ _. slice_index new place) (if b then Some (slice_index old place) else None)) [
+  framed-now : (place : ℕ) → byte_in o.records new place ≡ option_map (λ _. slice_index new place) (byte_in o.records old place)
+  framed-now place = elim (in_frame place) as (λ b. (if b then Some (slice_index new place) else None) ≡ option_map (λ _. slice_index new place) (if b then Some (slice_index old place) else None)) [
     | true ↦ refl
     | false ↦ refl
   ]
@@ -110,7 +110,7 @@ module _ (o : Contents) (slots : Slots) (old new : List ℕ) where
   follows-frames stands same = λ i. record s {
     objects = λ offset. object_with o (waiting-same o slots old new stands same.size (beside-records stands same) offset i) offset;
     ready = λ priority. ready-same o slots old new stands same.size (beside-records stands same) priority i;
-    bytes = λ place. seen place i;
+    bytes = λ place. framed-now place i;
   }
 
   pub stands-frames : Linked o slots old → SameBesideFrames s old new → Linked o slots new

@@ -14,7 +14,6 @@ use Rattle.model.specs.Machine.ProgramMemory.{RegisterFile}
 use Rattle.objects.proofs.Ends.{as-thread}
 use Rattle.objects.proofs.Kept.{put-here, put-there}
 use Rattle.objects.proofs.Lists.{receivers-by, senders-by}
-use Rattle.objects.specs.Changes.{registered}
 use Rattle.objects.specs.Contents.{Contents, kind_in, object_from, object_in, object_of, ready_at, sending_in, contents_state, waiting_of}
 use Rattle.thread_records.specs.Threads.{status_of, thread_state}
 use Rattle.objects.specs.Contents.{Record}
@@ -23,7 +22,6 @@ use Rattle.thread_records.specs.declared.records.Status.TheVariants.{Runnable}
 use Rattle.thread_records.specs.declared.records.Thread.{Thread}
 use Rattle.objects.proofs.Frames.{kind-put}
 use Rattle.objects.proofs.Told.{state_with, told, told-same}
-pub use Rattle.objects.proofs.Told.{aligned, within}
 
 -- ---- threads that are there
 
@@ -42,28 +40,6 @@ pub thread-kind : (o : Contents) (offset : ℕ) (t : Thread) (slots : Slots) (me
     → kind_at (contents_state o slots memory) offset ≡ Some NewThread
 unfolding contents_state
 thread-kind o offset t slots memory is = ap (λ found. option_map kind_of (object_from found (option_map (object_of o.threads (waiting_of o memory offset)) (o.records offset)))) is
-
-pub registers-of : (o : Contents) (offset : ℕ) (slots : Slots) (memory : List ℕ)
-    → (thread_at (contents_state o slots memory) offset).registers
-    ≡ option_map_or (λ registers. registers) (option_map (λ t. t.registers) (o.threads offset)) new_thread.registers
-registers-of o offset slots memory =
-    ap (λ t. t.registers) (thread-state o offset slots memory)
-    ∙ elim (o.threads offset) as (λ t. (option_map_or (λ t. t) (option_map thread_state t) new_thread).registers
-    ≡ option_map_or (λ registers. registers) (option_map (λ t. t.registers) t) new_thread.registers) [
-      | Some t ↦ refl
-      | None ↦ refl
-    ]
-
-pub pc-of : (o : Contents) (offset : ℕ) (slots : Slots) (memory : List ℕ)
-    → (thread_at (contents_state o slots memory) offset).registers.pc
-    ≡ option_map_or (λ pc. pc) (option_map (λ t. t.registers.pc) (o.threads offset)) 0
-pc-of o offset slots memory =
-    ap (λ t. t.registers.pc) (thread-state o offset slots memory)
-    ∙ elim (o.threads offset) as (λ t. (option_map_or (λ t. t) (option_map thread_state t) new_thread).registers.pc
-    ≡ option_map_or (λ pc. pc) (option_map (λ t. t.registers.pc) t) 0) [
-      | Some t ↦ refl
-      | None ↦ refl
-    ]
 
 no-thread-kind : (threads : ℕ → Option Thread) (waiting : List ℕ) (r : Option Record) → option_map kind_of (option_map (object_of threads waiting) r) ≡ Some NewThread → false ≡ true
 no-thread-kind threads waiting None is = cc
@@ -142,24 +118,6 @@ module _ (o : Contents) (threads : ℕ → Option Thread) (thread : ℕ) (after 
     replaced-state slots memory =
         told-same o now kinds-replaced slots memory ∙ replaced-with (waiting_of o memory) (ready_at o memory) slots memory
         ∙ ap (λ (s : State). with_thread s thread (thread_state after)) (sym (told o slots memory))
-
--- ---- the state with other registers of a thread
-
-pub registered-state : (o : Contents) (threads : ℕ → Option Thread) (offset : ℕ) (registers : RegisterFile)
-    → ((other : ℕ) → threads other ≡ put (o.threads) offset (option_map (registered registers) (o.threads offset)) other)
-    → is_some (o.threads offset) ≡ true → (slots : Slots) (memory : List ℕ)
-    → contents_state (record o { threads = threads }) slots memory ≡ with_registers (contents_state o slots memory) offset registers
-registered-state o threads offset registers changed there slots memory =
-    elim (o.threads offset) as (λ found. o.threads offset ≡ found → is_some found ≡ true
-    → contents_state (record o { threads = threads }) slots memory ≡ with_registers (contents_state o slots memory) offset registers) [
-      | Some t ↦ λ is some.
-          replaced-state o threads offset (registered registers t)
-          (λ other. changed other ∙ ap (λ found. put (o.threads) offset (option_map (registered registers) found) other) is)
-          (ap (option_and_then (λ t. t.sending)) is) there slots memory
-          ∙ ap (λ t. with_thread (contents_state o slots memory) offset (record t { registers = registers }))
-          (sym (thread-state o offset slots memory ∙ ap (λ found. option_map_or (λ t. t) (option_map thread_state found) new_thread) is))
-      | None ↦ λ is some. absurd (let clash : false ≡ true = some in cc)
-    ] refl there
 
 -- ---- the ready list
 

@@ -343,56 +343,6 @@ module _ (o : Contents) (before after : Slots) (old new : List ℕ) (stands : Li
           same,
         )
 
--- a thread runs again
-module _ (o : Contents) (before after : Slots) (old new : List ℕ) (stands : Linked o before old) (same_slots : after ≡ before)
-    (threads : ℕ → Option Thread) where
-  abbrev first : State
-  first = contents_state o before old
-
-  abbrev o1 : Contents
-  o1 = record o { threads = threads }
-
-  abbrev p1 : Places
-  p1 = places_of o1
-
-  module _ (thread : ℕ) (held woken : Thread) (there : o.threads thread ≡ Some held)
-      (replaced : (other : ℕ) → threads other ≡ put (o.threads) thread (Some woken) other)
-      (is : woken ≡ record held { status = statuses.Runnable; slice = 5 }) where
-    alike : sending_in o.threads thread ≡ woken.sending
-    alike = ap (option_and_then (λ t. t.sending)) there ∙ ap (λ (t : Thread). t.sending) (sym is)
-
-    put_there : contents_state o1 before old ≡ with_thread first thread (thread_state woken)
-    put_there = replaced-state o threads thread woken replaced alike (ap is_some there) before old
-
-    unmoved : Unmoved first (contents_state o1 before old)
-    unmoved = moved-to first (contents_state o1 before old) (with_thread first thread (thread_state woken)) put_there
-        (one-put first thread (ThreadObject (thread_state woken)) (thread-kind o thread held before old there))
-
-    pub woken-stands : Linked o1 before old
-    woken-stands = stands-unmoved o o1 before old stands refl unmoved
-
-    pub wake-left : AreLaidOut p1 before (length old) → (ready mid_ready : List Ends) (mid : List ℕ)
-        → ((other : ℕ) → ready_of p1 mid_ready mid other ≡ without thread (ready_at o1 old other)) → ReadyStands p1 mid_ready mid → SameBesideReady (ready_at o1 old) old mid
-        → ((other : ℕ) → ready_of p1 ready new other ≡ put (ready_of p1 mid_ready mid) held.priority (ready_of p1 mid_ready mid held.priority ++ thread ∷ []) other) → ReadyStands p1 ready new
-        → SameBesideReady (ready_of p1 ready new) mid new
-        → Left (record o { threads = threads; ready = ready }) after new (wake first thread) × SameBesideRecords first old new
-    wake-left laid ready mid_ready mid left mid_stands bytes pushed queued more =
-        let found : threads thread ≡ Some woken = replaced thread ∙ put-here (o.threads) thread (Some woken) in
-        let own : held.priority ≡ (thread_at (contents_state o1 before old) thread).priority =
-        ap (λ (t : Thread). t.priority) (sym is) ∙ ap (λ (t : ThreadState). t.priority) (sym (thread-is o1 thread woken before old found)) in
-        let runs : thread_state woken ≡ record (thread_at first thread) { status = Runnable; slice = full_slice } =
-        ap thread_state is ∙ ap (λ (t : ThreadState). record t { status = Runnable; slice = full_slice }) (sym (thread-is o thread held before old there)) in
-        let result = tail-left o1 before after old new woken-stands same_slots laid ready mid_ready thread held.priority mid own left mid_stands bytes pushed queued more in (
-          record {
-            state = result.0.state ∙ ap (λ (u : State). to_tail u thread) (put_there ∙ ap (with_thread first thread) runs);
-            stands = result.0.stands;
-          },
-          record {
-            size = result.1.size;
-            bytes = λ place apart. result.1.bytes place (λ held. apart (record-was first (contents_state o1 before old) place (λ offset k k_is. sym (unmoved.kinds offset) ∙ k_is) held));
-          },
-        )
-
 -- who is no thread stands in no queue
 pub nobody-there : (o : Contents) (slots : Slots) (memory : List ℕ) (offset : ℕ) (queues : ℕ → List ℕ) → AreThere (contents_state o slots memory) queues
     → o.threads offset ≡ None → (queue : ℕ) → times_in (queues queue) offset ≡ 0

@@ -3,7 +3,6 @@ use Rattle.std.proofs.Common.{ℕ, ◌≡◌, ◌∙◌, ◌+◌, ◌/◌, ◌%�
 use Rattle.std.specs.Prelude.{◌==◌, slice_index, slice_index_or}
 use Rattle.std.proofs.lemmas.Bool.Decides.{eqb_tells}
 use Rattle.std.proofs.lemmas.Bool.{cases_lt}
-use Rattle.std.proofs.lemmas.List.{get_or_past}
 use Rattle.std.proofs.Math.Pow.{pow_mono}
 use Rattle.model.specs.Capabilities.Slots.{IsOpen, Slots}
 use Rattle.model.specs.Kernel.Kinds.{kind_at, kind_of}
@@ -17,8 +16,8 @@ use Rattle.linked_queues.specs.Queues.{QueuesStand, queue_of}
 use Rattle.linked_queues.specs.Ready.{ReadyStands, ready_of}
 use Rattle.linked_queues.proofs.Laws.{kinds_apart, ready_stays, waiting_stays}
 use Rattle.objects.specs.Frames.{FitsMemory, IsInRecord}
-use Rattle.objects.proofs.Linked.{Linked}
-use Rattle.objects.specs.Contents.{AreContents, Contents, is_thread_kind, kind_in, object_from, object_of, placed, places_by, places_of, ready_at, contents_state, told_with, waiting_of}
+use Rattle.objects.proofs.Linked.{AreContents, Linked}
+use Rattle.objects.specs.Contents.{Contents, is_thread_kind, kind_in, object_from, object_of, places_by, places_of, ready_at, contents_state, told_with, waiting_of}
 use Rattle.objects.specs.Waiting.{has_waiting}
 use Rattle.objects.specs.Contents.{Record}
 use Rattle.objects.specs.Contents.{Endpoint, Notification, CNode, Frame, PageTable, RootTable}
@@ -70,24 +69,24 @@ told-same o n same slots memory = λ i. state_with n (queue_of (same-places o n 
 
 -- ---- threads and what they wait at
 
-thread-kind : (k : Option NewObject) → is_thread_kind k ≡ true → k ≡ Some NewThread
-thread-kind (Some NewThread) is = refl
-thread-kind None is = absurd (let clash : false ≡ true = is in cc)
-thread-kind (Some NewEndpoint) is = absurd (let clash : false ≡ true = is in cc)
-thread-kind (Some NewNotification) is = absurd (let clash : false ≡ true = is in cc)
-thread-kind (Some (NewUntyped bits)) is = absurd (let clash : false ≡ true = is in cc)
-thread-kind (Some (NewCNode radix)) is = absurd (let clash : false ≡ true = is in cc)
-thread-kind (Some NewFrame) is = absurd (let clash : false ≡ true = is in cc)
-thread-kind (Some NewPageTable) is = absurd (let clash : false ≡ true = is in cc)
-thread-kind (Some NewRootTable) is = absurd (let clash : false ≡ true = is in cc)
+pub is-thread : (k : Option NewObject) → is_thread_kind k ≡ true → k ≡ Some NewThread
+is-thread (Some NewThread) is = refl
+is-thread None is = absurd (let clash : false ≡ true = is in cc)
+is-thread (Some NewEndpoint) is = absurd (let clash : false ≡ true = is in cc)
+is-thread (Some NewNotification) is = absurd (let clash : false ≡ true = is in cc)
+is-thread (Some (NewUntyped bits)) is = absurd (let clash : false ≡ true = is in cc)
+is-thread (Some (NewCNode radix)) is = absurd (let clash : false ≡ true = is in cc)
+is-thread (Some NewFrame) is = absurd (let clash : false ≡ true = is in cc)
+is-thread (Some NewPageTable) is = absurd (let clash : false ≡ true = is in cc)
+is-thread (Some NewRootTable) is = absurd (let clash : false ≡ true = is in cc)
 
 pub has-thread : (o : Contents) (offset : ℕ) → (places_of o).threads offset ≡ true → kind_in o offset ≡ Some NewThread
-has-thread o offset is = thread-kind (kind_in o offset) is
+has-thread o offset is = is-thread (kind_in o offset) is
 
 pub thread-has : (o : Contents) (offset : ℕ) → kind_in o offset ≡ Some NewThread → (places_of o).threads offset ≡ true
 thread-has o offset is = ap is_thread_kind is
 
-if-head : (b : Bool) (queue head : ℕ) → (if b then Some queue else None) ≡ Some head → (b ≡ true) × (head ≡ queue)
+pub if-head : (b : Bool) (queue head : ℕ) → (if b then Some queue else None) ≡ Some head → (b ≡ true) × (head ≡ queue)
 if-head true queue head is = (refl, let e : Some queue ≡ Some head = is in let f : head ≡ queue = cc in f)
 if-head false queue head is = absurd (let clash : None ≡ Some head = is in cc)
 
@@ -125,28 +124,9 @@ point-kind (Some NewFrame) is = absurd (let clash : false ≡ true = is in cc)
 point-kind (Some NewPageTable) is = absurd (let clash : false ≡ true = is in cc)
 point-kind (Some NewRootTable) is = absurd (let clash : false ≡ true = is in cc)
 
--- what stands somewhere has an entry
-pub aligned : {A : Type 0} (size : ℕ) (entries : List (Option A)) (offset : ℕ) → is_some (placed size entries offset) ≡ true → offset % size ≡ 0
-aligned {A} size entries offset some = elim (eqb_tells (offset % size) 0) [
-  | inl here ↦ here.1
-  | inr apart ↦ absurd (let clash : false ≡ true = sym (ap (λ b. is_some (if b then slice_index_or entries (offset / size) None else None)) apart.0) ∙ some in cc)
-]
-
-nothing : {A : Type 0} (b : Bool) (x : Option A) → x ≡ None → (if b then x else None) ≡ None
-nothing true x is = is
-nothing false x is = refl
-
-pub within : {A : Type 0} (size : ℕ) (entries : List (Option A)) (offset : ℕ) → is_some (placed size entries offset) ≡ true → offset / size < length entries
-within {A} size entries offset some = elim (cases_lt (offset / size) (length entries)) [
-  | inl inside ↦ inside
-  | inr outside ↦
-      let none : placed size entries offset ≡ None = nothing (offset % size == 0) _ (get_or_past entries (offset / size) None outside) in
-      absurd (let clash : false ≡ true = sym (ap is_some none) ∙ some in cc)
-]
-
 -- ---- bytes of links stand in records
 
-pub in-thread : (s : State) (thread place : ℕ) → kind_at s thread ≡ Some NewThread → thread + 32 ≤ place → place < thread + 512 → IsInRecord s.objects place
+unfoldable pub in-thread : (s : State) (thread place : ℕ) → kind_at s thread ≡ Some NewThread → thread + 32 ≤ place → place < thread + 512 → IsInRecord s.objects place
 in-thread s thread place is from below = record { offset = thread; kind = NewThread; there = is; kept = refl; from = from; below = below }
 
 pub in-point : (s : State) (queue place : ℕ) → has_waiting (kind_at s queue) ≡ true → queue ≤ place → place < queue + 16
@@ -189,7 +169,7 @@ module _ (o : Contents) (slots : Slots) (memory : List ℕ) (are : AreContents o
     there = thread-from o.threads (o.threads thread) (o.records thread) (has-thread o thread is)
 
     pub thread-multiple : thread % 512 ≡ 0
-    thread-multiple = aligned 512 o.threads thread there
+    thread-multiple = (are.threads thread there).0
 
     kind-there : kind_at s thread ≡ Some NewThread
     kind-there = kind-state o thread slots memory ∙ has-thread o thread is
@@ -197,7 +177,7 @@ module _ (o : Contents) (slots : Slots) (memory : List ℕ) (are : AreContents o
     thread-at : IsThreadAt slots (length memory) thread
     thread-at = record {
       few = few;
-      within = omega (arith, thread-multiple, within 512 o.threads thread there, are.thread_places, size);
+      within = omega (arith, (are.threads thread there).1, size);
       outside = λ place from below. closed place (in-thread s thread place kind-there (omega (arith, from)) (omega (arith, below)));
     }
 
@@ -206,10 +186,10 @@ module _ (o : Contents) (slots : Slots) (memory : List ℕ) (are : AreContents o
     some = record-from o.threads (o.threads queue) (o.records queue) is
 
     queue-multiple : queue % 16 ≡ 0
-    queue-multiple = aligned 16 o.records queue some
+    queue-multiple = (are.records queue some).0
 
     queue-inside : queue + 16 ≤ length memory
-    queue-inside = omega (arith, queue-multiple, within 16 o.records queue some, are.record_places, size)
+    queue-inside = omega (arith, (are.records queue some).1, size)
 
     waits-there : has_waiting (kind_at s queue) ≡ true
     waits-there = ap has_waiting (kind-state o queue slots memory) ∙ is

@@ -8,6 +8,9 @@ use crate::rights::put_replier;
 use linked_queues::{begin_head, begin_thread};
 use slots::SlotStore;
 
+/// How far into a notification its word stands.
+pub(crate) const WORD: u32 = 8;
+
 /// A new object comes to stand at an offset, with nobody linked there.
 pub(crate) fn begin_bytes<S: SlotStore>(store: &mut S, offset: u32, kind: Kind)
     requires { IsRoomAt kind (S.slots store.old) (length (S.memory store.old)) offset }

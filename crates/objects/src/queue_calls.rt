@@ -12,13 +12,11 @@ ghost use Rattle.objects.specs.Tables.{state_of};
 ghost use Rattle.thread_records.specs.Threads.{sender_of};
 ghost use Rattle.objects.specs.Waiting.{IsOneSided, ReceiverTaken, SenderTaken, StandsNowhere, WaiterTaken, with_receiver, with_sender, with_waiter, with_word};
 
+use crate::beginnings::WORD;
 use crate::records::{Entry, WaitingSender};
 use crate::tables::Objects;
 use slots::SlotStore;
 use thread_records::Sending;
-
-/// How far into a notification its word stands.
-const WORD: u32 = 8;
 
 impl Objects {
     /// A thread that waits nowhere waits behind the others at an endpoint where nobody receives, to send this.
