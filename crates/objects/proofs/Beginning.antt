@@ -13,7 +13,7 @@ use Rattle.objects.proofs.Kept.{put-here, put-there}
 use Rattle.objects.proofs.Vacating.{other-same}
 use Rattle.objects.specs.Changes.{MayStand, begun, is_frame_kind}
 use Rattle.objects.proofs.Linked.{Linked}
-use Rattle.objects.specs.Contents.{Contents, byte_in, is_frame, object_from, object_in, object_of, record_of, sending_in, contents_state, waiting_of}
+use Rattle.objects.specs.Contents.{Contents, byte_in, is_frame, object_from, object_in, object_of, sending_in, contents_state, waiting_of}
 use Rattle.objects.specs.Threads.{new_object}
 use Rattle.thread_records.specs.Threads.{thread_state}
 use Rattle.objects.specs.Waiting.{has_waiting}
@@ -41,7 +41,16 @@ nobody queues queue none = elim (queues queue) as (λ l. ((thread : ℕ) → 0 <
   | x ∷ rest ↦ λ none. absurd (none x (omega (arith, ap (λ b. if b then times_in rest x + 1 else times_in rest x) (eq-eqb x x refl))))
 ] none
 
--- what the record of a kind stands for
+-- what stands at the offset of a new object that is no thread
+abbrev pub record_of : Kind → Option Record
+record_of kinds.Thread = None
+record_of kinds.Endpoint = Some Endpoint
+record_of kinds.Notification = Some (Notification 0)
+record_of (kinds.CNode radix) = Some (CNode radix)
+record_of kinds.Frame = Some Frame
+record_of kinds.PageTable = Some PageTable
+record_of kinds.RootTable = Some RootTable
+
 same-record : (a b : Record) → Some a ≡ Some b → a ≡ b
 same-record a b same = cc
 
@@ -54,34 +63,6 @@ new-record threads (kinds.CNode radix) r is = let e = same-record r (CNode radix
 new-record threads kinds.Frame r is = let e = same-record r Frame (sym is) in (ap (object_of threads []) e, ap is_frame e)
 new-record threads kinds.PageTable r is = let e = same-record r PageTable (sym is) in (ap (object_of threads []) e, ap is_frame e)
 new-record threads kinds.RootTable r is = let e = same-record r RootTable (sym is) in (ap (object_of threads []) e, ap is_frame e)
-
-pub no-record : (kind : Kind) → record_of kind ≡ None → kind ≡ kinds.Thread
-no-record kinds.Thread none = refl
-no-record kinds.Endpoint none = absurd (let clash : Some Endpoint ≡ None = none in cc)
-no-record kinds.Notification none = absurd (let clash : Some (Notification 0) ≡ None = none in cc)
-no-record (kinds.CNode radix) none = absurd (let clash : Some (CNode radix) ≡ None = none in cc)
-no-record kinds.Frame none = absurd (let clash : Some Frame ≡ None = none in cc)
-no-record kinds.PageTable none = absurd (let clash : Some PageTable ≡ None = none in cc)
-no-record kinds.RootTable none = absurd (let clash : Some RootTable ≡ None = none in cc)
-
--- a new CNode is small
-may-small : (kind : Kind) (radix bits offset : ℕ) → record_of kind ≡ Some (CNode radix) → MayStand bits kind offset → radix ≤ 14
-may-small (kinds.CNode small) radix bits offset is fits = let same : small ≡ radix = cc in omega (arith, same, fits.2)
-may-small kinds.Thread radix bits offset is fits = absurd cc
-may-small kinds.Endpoint radix bits offset is fits = absurd cc
-may-small kinds.Notification radix bits offset is fits = absurd cc
-may-small kinds.Frame radix bits offset is fits = absurd cc
-may-small kinds.PageTable radix bits offset is fits = absurd cc
-may-small kinds.RootTable radix bits offset is fits = absurd cc
-
-pub small-begun : (old new : ℕ → Option Record) (offset : ℕ) (kind : Kind) (r : Record) (bits : ℕ) → record_of kind ≡ Some r → MayStand bits kind offset
-    → ((other : ℕ) → new other ≡ put (old) offset (Some r) other)
-    → ((place radix : ℕ) → old place ≡ Some (CNode radix) → radix ≤ 14) → (place radix : ℕ) → new place ≡ Some (CNode radix) → radix ≤ 14
-small-begun old new offset kind r bits made fits records small place radix is = elim (eqb_tells place offset) [
-  | inl here ↦
-      may-small kind radix bits offset (made ∙ sym (ap (λ b. if b then Some r else old place) here.0) ∙ sym (records place) ∙ is) fits
-  | inr apart ↦ small place radix (sym (ap (λ b. if b then Some r else old place) apart.0) ∙ sym (records place) ∙ is)
-]
 
 never : {A : Type 0} (a : Bool) (x y : A) → y ≡ (if a && false then x else y)
 never true x y = refl

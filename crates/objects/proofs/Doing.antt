@@ -32,6 +32,7 @@ use Rattle.objects.specs.Changes.{voided}
 use Rattle.objects.specs.Contents as contents
 use Rattle.objects.specs.Contents.{Contents, Notification, Record, contents_state, object_from, object_in, object_of, places_by}
 use Rattle.objects.specs.Frames.{IsInRecord, SameBesideRecords}
+use Rattle.objects.specs.Laid.{AreThreadsPlaced}
 use Rattle.objects.specs.Rights.{AreKnown, has_right}
 use Rattle.objects.specs.Standing.{Standing}
 use Rattle.objects.specs.Tables.{AreTables, Tables, contents_of, entry_in, kind_in, places_of, ready_at, sending_in, state_of, thread_in, waiting_of}
@@ -68,7 +69,7 @@ module _ (o : Tables) (before after : Slots) (old new : List ℕ) (stands : Stan
 
     links-done : (ready : List Ends) (t : State) → Left (record c { ready = ready }) after new t → Done (record o { ready = ready }) after new t
     links-done ready t left =
-        done (record o { ready = ready }) after new t (subst (λ (x : Contents). Left (record x { ready = ready }) after new t) (sym links-contents) left) links-known
+        done (record o { ready = ready }) after new t (subst (AreThreadsPlaced o.entries) (sym same.size) stands.placed) (subst (λ (x : Contents). Left (record x { ready = ready }) after new t) (sym links-contents) left) links-known
 
   module _ (are : AreTables o) where
     laid : AreLaidOut (contents.places_of c) before (length old)
@@ -163,7 +164,7 @@ module _ (o : Tables) (before after : Slots) (old new : List ℕ) (stands : Stan
         let ready = subst (λ (p : Places). ReadyStands p o.ready new) (sym (places-as o old)) (ready-stands o before old stands.fits old new same o.ready stands.ready) in
         let is' : state_with d (queue_of (contents.places_of c) new) (ready_of (contents.places_of c) d.ready new) before old ≡ t =
         (λ i. state_with d (λ queue. waits_now queue i) (λ priority. runs_now priority i) before old) ∙ is in
-        (done o after new t (left-same c d before after old new t links same_slots is' unmoved records waiting ready) known, records)
+        (done o after new t (subst (AreThreadsPlaced o.entries) (sym same.size) stands.placed) (left-same c d before after old new t links same_slots is' unmoved records waiting ready) known, records)
 
     -- a thread is another one that sends the same
     pub thread-done : (thread : ℕ) (held now : Thread) → kind_in o thread ≡ Some NewThread → thread_in o old thread ≡ Some held → held.sending ≡ now.sending

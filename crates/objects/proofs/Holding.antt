@@ -21,12 +21,13 @@ use Rattle.objects.proofs.Told.{in-thread, is-thread, not-open, own-slots}
 use Rattle.objects.specs.Contents as contents
 use Rattle.objects.specs.Contents.{Contents, contents_state, is_thread_kind, object_from, object_of, places_by}
 use Rattle.objects.specs.Frames.{FitsMemory, IsInRecord}
-use Rattle.objects.specs.Laid.{AreThreadsLaid, IsThreadPlace}
+use Rattle.objects.specs.Laid.{AreThreadsLaid, AreThreadsPlaced, IsThreadPlace}
 use Rattle.objects.specs.Rights.{AreKnown}
 use Rattle.objects.specs.Standing.{Standing}
 use Rattle.objects.specs.Tables.{AreTables, Tables, contents_of, entry_in, kind_in, kind_of_entry, places_of, record_from, state_of, thread_from, thread_in}
 use Rattle.objects.specs.declared.records.Entry.{Entry}
 use Rattle.objects.specs.declared.records.Entry.TheVariants as entries
+use Rattle.thread_records.specs.Records.{IsRecordAt}
 use Rattle.thread_records.specs.declared.records.Thread.{Thread}
 
 -- ---- kinds
@@ -83,9 +84,11 @@ linked o slots memory stands = record {
   ready = subst (λ (p : Places). ReadyStands p o.ready memory) (sym (places-as o memory)) stands.ready;
 }
 
-pub standing : (o : Tables) (slots : Slots) (memory : List ℕ) → Linked (contents_of o memory) slots memory → AreKnown (thread_in o memory) memory → Standing o slots memory
+pub standing : (o : Tables) (slots : Slots) (memory : List ℕ) → AreThreadsPlaced o.entries (length memory) → Linked (contents_of o memory) slots memory
+    → AreKnown (thread_in o memory) memory → Standing o slots memory
 unfolding state_of
-standing o slots memory links known = record {
+standing o slots memory placed links known = record {
+  placed = placed;
   fits = links.fits;
   waiting = subst (λ (p : Places). QueuesStand p memory) (places-as o memory) links.waiting;
   ready = subst (λ (p : Places). ReadyStands p o.ready memory) (places-as o memory) links.ready;
@@ -97,9 +100,10 @@ pub record Done (n : Tables) (slots : Slots) (memory : List ℕ) (t : State) : T
   pub state : state_of n slots memory ≡ t
   pub stands : Standing n slots memory
 
-pub done : (n : Tables) (slots : Slots) (memory : List ℕ) (t : State) → Left (contents_of n memory) slots memory t → AreKnown (thread_in n memory) memory → Done n slots memory t
+pub done : (n : Tables) (slots : Slots) (memory : List ℕ) (t : State) → AreThreadsPlaced n.entries (length memory) → Left (contents_of n memory) slots memory t
+    → AreKnown (thread_in n memory) memory → Done n slots memory t
 unfolding state_of
-done n slots memory t left known = record { state = left.state; stands = standing n slots memory left.stands known }
+done n slots memory t placed left known = record { state = left.state; stands = standing n slots memory placed left.stands known }
 
 -- ---- where things stand
 
@@ -174,22 +178,34 @@ module _ (o : Tables) (are : AreTables o) where
     pub few : length memory ≤ 2 ^ 24
     few = omega (arith, long, pow_mono {i = o.bits} {j = 24} are.most_bits)
 
-    pub closed : (place : ℕ) → IsInRecord (state_of o slots memory).objects place → slots (place / 16) ≡ None
-    unfolding state_of
-    closed place held = not-open slots (place / 16)
-        (λ is_open. fits.records place (subst (λ (f : Slots). IsOpen f (place / 16)) (sym (own-slots (contents_of o memory) slots memory)) is_open) held)
-
-    pub thread-place : (thread : ℕ) → entry_in o.entries thread ≡ entries.Thread → IsThreadPlace slots (length memory) thread
-    thread-place thread is = record {
+    pub placed-here : AreThreadsPlaced o.entries (length memory)
+    placed-here = record {
+      places = omega (arith, are.places, long, few);
       few = few;
-      within = omega (arith, thread-inside thread is, long);
-      outside = λ place from below.
-          closed place (in-thread (state_of o slots memory) thread place (kind-state o thread slots memory ∙ kind-there o thread is) (omega (arith, from)) (omega (arith, below)));
+      aligned = are.threads;
+      within = λ thread is. omega (arith, thread-inside thread is, long);
     }
 
-    pub threads-laid : AreThreadsLaid o.entries slots (length memory)
-    threads-laid = record {
-      few = omega (arith, are.places, long, few);
-      aligned = are.threads;
-      places = thread-place;
-    }
+-- no slot is open in a record
+pub closed : (o : Tables) (slots : Slots) (memory : List ℕ) → FitsMemory (state_of o slots memory) memory → (place : ℕ) → IsInRecord (state_of o slots memory).objects place
+    → slots (place / 16) ≡ None
+unfolding state_of
+closed o slots memory fits place held = not-open slots (place / 16)
+    (λ is_open. fits.records place (subst (λ (f : Slots). IsOpen f (place / 16)) (sym (own-slots (contents_of o memory) slots memory)) is_open) held)
+
+module _ (o : Tables) (slots : Slots) (memory : List ℕ) (stands : Standing o slots memory) where
+  pub thread-place : (thread : ℕ) → entry_in o.entries thread ≡ entries.Thread → IsThreadPlace slots (length memory) thread
+  thread-place thread is = record {
+    few = stands.placed.few;
+    within = stands.placed.within thread is;
+    outside = λ place from below. closed o slots memory stands.fits place
+        (in-thread (state_of o slots memory) thread place (kind-state o thread slots memory ∙ kind-there o thread is) (omega (arith, from)) (omega (arith, below)));
+  }
+
+  pub threads-laid : AreThreadsLaid o.entries slots (length memory)
+  threads-laid = record { few = stands.placed.places; aligned = stands.placed.aligned; places = thread-place }
+
+  pub record-place : (thread : ℕ) → kind_in o thread ≡ Some NewThread → IsRecordAt slots (length memory) thread
+  record-place thread is =
+      let place = thread-place thread (entry-there o thread is) in
+      record { few = place.few; within = place.within; outside = λ at from below. place.outside at from (omega (arith, below)); stub = ? }

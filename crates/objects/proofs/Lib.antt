@@ -15,6 +15,8 @@ mod Leaving
 mod Lines
 mod Linked
 mod Lists
+mod Making
+mod Parting
 mod Parts
 mod Replacing
 mod Serving

@@ -12,6 +12,7 @@ use Rattle.objects.proofs.Parts.{known-same, same-contents}
 use Rattle.objects.proofs.Told.{in-point, in-thread}
 use Rattle.objects.specs.Contents.{Contents, contents_state}
 use Rattle.objects.specs.Frames.{IsInRecord, SameBesideFrames, SameKept}
+use Rattle.objects.specs.Laid.{AreThreadsPlaced}
 use Rattle.objects.specs.Rights.{AreKnown, has_right}
 use Rattle.objects.specs.Standing.{Standing}
 use Rattle.objects.specs.Tables.{AreTables, Tables, contents_of, state_of, thread_in}
@@ -21,7 +22,7 @@ module _ (o : Tables) (slots : Slots) (old new : List ℕ) (stands : Standing o 
   abbrev s : State
   s = state_of o slots old
 
-  module _ (same : (place : ℕ) → IsInRecord s.objects place → slice_index new place ≡ slice_index old place) where
+  module _ (size : length new ≡ length old) (same : (place : ℕ) → IsInRecord s.objects place → slice_index new place ≡ slice_index old place) where
     contents-still : contents_of o new ≡ contents_of o old
     contents-still = same-contents o old new
         (λ thread is place held. same place (in-thread s thread place (kind-state o thread slots old ∙ is) (omega (arith, held.0)) (omega (arith, held.1))))
@@ -32,8 +33,11 @@ module _ (o : Tables) (slots : Slots) (old new : List ℕ) (stands : Standing o 
         (λ caller holder right. ap (λ (c : Contents). has_right (c.threads holder) caller) (sym contents-still) ∙ right)
         (λ thread is place held. same place (in-thread s thread place (kind-state o thread slots old ∙ is) (omega (arith, held.0)) (omega (arith, held.1))))
 
+    placed-still : AreThreadsPlaced o.entries (length new)
+    placed-still = subst (AreThreadsPlaced o.entries) (sym size) stands.placed
+
     still : (now : Slots) → Linked (contents_of o old) now new → Standing o now new
-    still now links = standing o now new (subst (λ (c : Contents). Linked c now new) (sym contents-still) links) known-still
+    still now links = standing o now new placed-still (subst (λ (c : Contents). Linked c now new) (sym contents-still) links) known-still
 
     state-still : (now : Slots) (t : State) → contents_state (contents_of o old) now new ≡ t → state_of o now new ≡ t
     unfolding state_of
@@ -44,12 +48,12 @@ module _ (o : Tables) (slots : Slots) (old new : List ℕ) (stands : Standing o 
 
   kept-follows : (now : Slots) → SameKept s old new → state_of o now new ≡ with_slots s now
   unfolding state_of
-  kept-follows now same = state-still same.records now (with_slots s now) (following.follows-kept (contents_of o old) slots old new now links same)
+  kept-follows now same = state-still same.size same.records now (with_slots s now) (following.follows-kept (contents_of o old) slots old new now links same)
 
   kept-stands : (now : Slots) → SameKept s old new → ((place : ℕ) → IsOpen now (place / 16) → s.bytes place ≡ None)
       → ((place : ℕ) → IsOpen now (place / 16) → IsInRecord s.objects place → ⊥) → Standing o now new
   unfolding state_of
-  kept-stands now same frames records = still same.records now (following.stands-kept (contents_of o old) slots old new now links same frames records)
+  kept-stands now same frames records = still same.size same.records now (following.stands-kept (contents_of o old) slots old new now links same frames records)
 
   outside : SameOutside slots old new → SameKept s old new
   unfolding state_of
@@ -60,19 +64,19 @@ module _ (o : Tables) (slots : Slots) (old new : List ℕ) (stands : Standing o 
 
   closed-stands : (now : Slots) → SameOutside slots old new → ((slot : ℕ) → slots slot ≡ None → now slot ≡ None) → Standing o now new
   unfolding state_of
-  closed-stands now same closes = still (outside same).records now (following.stands-still (contents_of o old) slots old new now links same closes)
+  closed-stands now same closes = still same.size (outside same).records now (following.stands-still (contents_of o old) slots old new now links same closes)
 
   beside : SameBesideFrames s old new → (place : ℕ) → IsInRecord s.objects place → slice_index new place ≡ slice_index old place
   beside same place held = same.bytes place (stands.fits.apart place held)
 
   frames-follow : SameBesideFrames s old new → state_of o slots new ≡ record s { bytes = λ place. option_map (λ _. slice_index new place) (s.bytes place) }
   unfolding state_of
-  frames-follow same = state-still (beside same) slots (record s { bytes = λ place. option_map (λ _. slice_index new place) (s.bytes place) })
+  frames-follow same = state-still same.size (beside same) slots (record s { bytes = λ place. option_map (λ _. slice_index new place) (s.bytes place) })
       (following.follows-frames (contents_of o old) slots old new links same)
 
   frames-stand : SameBesideFrames s old new → Standing o slots new
   unfolding state_of
-  frames-stand same = still (beside same) slots (following.stands-frames (contents_of o old) slots old new links same)
+  frames-stand same = still same.size (beside same) slots (following.stands-frames (contents_of o old) slots old new links same)
 
 -- ---- as laws
 

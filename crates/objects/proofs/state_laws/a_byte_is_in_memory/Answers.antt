@@ -2,6 +2,8 @@
 use Rattle.objects.proofs.StateLaws.{byte-there}
 use Rattle.objects.proofs.Doing.{sending-done}
 use Rattle.objects.proofs.Writing.{known-noted}
+use Rattle.objects.proofs.Parting.{vacate-done}
+use Rattle.objects.proofs.Making.{begin-done}
 use Rattle.objects.proofs.state_laws.a_byte_is_in_memory.Goals as goal
 
 pub returns : goal.returns
