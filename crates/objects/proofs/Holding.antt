@@ -107,7 +107,7 @@ done n slots memory t placed left known = record { state = left.state; stands = 
 
 -- ---- where things stand
 
-some-inside : (table : List Entry) (offset : ℕ) → is_some (kind_of_entry (entry_in table offset)) ≡ true → (offset % 16 ≡ 0) × (offset / 16 < length table)
+pub some-inside : (table : List Entry) (offset : ℕ) → is_some (kind_of_entry (entry_in table offset)) ≡ true → (offset % 16 ≡ 0) × (offset / 16 < length table)
 some-inside table offset some = elim (eqb_tells (offset % 16) 0) [
   | inr apart ↦
       absurd (let clash : false ≡ true = sym (ap (λ b. is_some (kind_of_entry (if b then slice_index_or table (offset / 16) entries.Nothing else entries.Nothing))) apart.0) ∙ some in cc)

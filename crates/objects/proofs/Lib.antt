@@ -15,6 +15,7 @@ mod Leaving
 mod Lines
 mod Linked
 mod Lists
+mod Made
 mod Making
 mod Parting
 mod Parts
