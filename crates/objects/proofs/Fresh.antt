@@ -1,6 +1,6 @@
 -- Tables without objects.
 use Rattle.std.proofs.Common.{ℕ, ◌≡◌, ◌∙◌, ◌==◌, ◌*◌, ◌-◌, ◌/◌, ◌%◌, ◌^◌, ◌≤◌, inl, inr, Bool, true, false, if◌then◌else◌, Option, Some, None, option_map, List, [], length, replicate, refl, sym, ap, subst, arith}
-use Rattle.std.specs.Prelude.{slice_index_or}
+use Rattle.std.specs.Prelude.{◌+◌, slice_index, slice_index_or}
 use Rattle.std.specs.Option.{option_map_or}
 use Rattle.std.proofs.lemmas.List.{get_or-replicate, get_or_past, length-replicate}
 use Rattle.std.proofs.lemmas.Bool.{cases_lt}
@@ -9,6 +9,7 @@ use Rattle.model.specs.Capabilities.Slots.{Slots}
 use Rattle.model.specs.Kernel.Kinds.{frame_around}
 use Rattle.model.specs.Kernel.Setup.{boot_area}
 use Rattle.model.specs.Kernel.State.{State, with_slots}
+use Rattle.model.specs.Shared.Bytes.{word_at}
 use Rattle.linked_queues.specs.Layout.{Places}
 use Rattle.linked_queues.specs.Ready.{ReadyStands, ready_of}
 use Rattle.linked_queues.specs.declared.words.Ends.{Ends}
@@ -21,6 +22,7 @@ use Rattle.objects.specs.Rights.{has_right}
 use Rattle.objects.specs.Standing.{Standing}
 use Rattle.objects.specs.Tables.{AreTables, Tables, contents_of, entry_in, kind_in, kind_of_entry, places_of, record_from, state_of, thread_from, thread_in, waiting_of}
 use Rattle.objects.specs.Waiting.{has_waiting}
+use Rattle.thread_records.specs.Records as thread_words
 use Rattle.objects.specs.declared.records.Entry.{Entry}
 use Rattle.objects.specs.declared.records.Entry.TheVariants as entries
 
@@ -74,10 +76,11 @@ module _ (bits radix : ℕ) (ready : List Ends) (nobody : (places : Places) (mem
 
   no-object : (memory : List ℕ) (waiting : ℕ → List ℕ) (offset : ℕ) → object_in (contents_of o memory) waiting offset ≡ None
   no-object memory waiting offset =
-      ap (λ (e : Entry). object_from (thread_from e _) (option_map (object_of (contents_of o memory).threads (waiting offset)) (record_from e _))) (nothing offset)
+      ap (λ (e : Entry). object_from (thread_from e (thread_words.thread_at memory offset))
+      (option_map (object_of (contents_of o memory).threads (waiting offset)) (record_from e (word_at memory (offset + 8))))) (nothing offset)
 
   no-byte : (memory : List ℕ) (place : ℕ) → byte_in (contents_of o memory).records memory place ≡ None
-  no-byte memory place = ap (λ (e : Entry). if option_map_or is_frame (record_from e _) false then Some _ else None) (nothing (frame_around place))
+  no-byte memory place = ap (λ (e : Entry). if option_map_or is_frame (record_from e (word_at memory (frame_around place + 8))) false then Some (slice_index memory place) else None) (nothing (frame_around place))
 
   no-kind : (offset : ℕ) → kind_in o offset ≡ None
   no-kind offset = ap kind_of_entry (nothing offset)
@@ -105,7 +108,7 @@ module _ (bits radix : ℕ) (ready : List Ends) (nobody : (places : Places) (mem
         alone = λ place one two. absurd (let clash : None ≡ Some one.kind = one.there in cc);
       }) in
       let no-right : (caller holder : ℕ) → has_right (thread_in o memory holder) caller ≡ false = λ caller holder.
-      ap (λ (e : Entry). has_right (thread_from e _) caller) (nothing holder) in
+      ap (λ (e : Entry). has_right (thread_from e (thread_words.thread_at memory holder)) caller) (nothing holder) in
       record {
         placed = placed-here o are slots memory fits;
         fits = fits;

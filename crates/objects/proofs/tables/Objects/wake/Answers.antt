@@ -1,7 +1,7 @@
 -- A thread runs again, and the objects are the same.
 use Rattle.std.proofs.Common.{◌∙◌, refl, sym}
 use Rattle.model.specs.Kernel.State.{ThreadObject}
-use Rattle.objects.proofs.Endpoints.{kind-state}
+use Rattle.objects.proofs.Holding.{kind-state}
 use Rattle.objects.proofs.Frames.{kind-put, moved-to, same-objects}
 use Rattle.objects.proofs.tables.Objects.wake.Goals as goal
 use Rattle.objects.specs.Tables.{state_of}
