@@ -27,7 +27,6 @@ use Rattle.objects.specs.Standing.{Standing}
 use Rattle.objects.specs.Tables.{AreTables, Tables, contents_of, entry_in, kind_in, kind_of_entry, places_of, record_from, state_of, thread_from, thread_in}
 use Rattle.objects.specs.declared.records.Entry.{Entry}
 use Rattle.objects.specs.declared.records.Entry.TheVariants as entries
-use Rattle.thread_records.specs.Records.{IsRecordAt}
 use Rattle.thread_records.specs.declared.records.Thread.{Thread}
 
 -- ---- kinds
@@ -204,8 +203,3 @@ module _ (o : Tables) (slots : Slots) (memory : List ℕ) (stands : Standing o s
 
   pub threads-laid : AreThreadsLaid o.entries slots (length memory)
   threads-laid = record { few = stands.placed.places; aligned = stands.placed.aligned; places = thread-place }
-
-  pub record-place : (thread : ℕ) → kind_in o thread ≡ Some NewThread → IsRecordAt slots (length memory) thread
-  record-place thread is =
-      let place = thread-place thread (entry-there o thread is) in
-      record { few = place.few; within = place.within; outside = λ at from below. place.outside at from (omega (arith, below)); stub = ? }

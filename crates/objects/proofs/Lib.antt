@@ -17,6 +17,7 @@ mod Linked
 mod Lists
 mod Made
 mod Making
+mod OneThread
 mod Parting
 mod Parts
 mod Replacing

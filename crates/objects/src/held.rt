@@ -1,6 +1,6 @@
 //! What stands where in memory: existence and kind are in no byte, since a new object is all zero.
 
-ghost use Rattle.std.specs.Prelude.{ℕ, ◌≡◌, ◌/◌, ◌%◌, ◌<◌, IfOk, length, replicate};
+ghost use Rattle.std.specs.Prelude.{ℕ, ◌≡◌, ◌^◌, ◌/◌, ◌%◌, ◌<◌, ◌≤◌, IfOk, length, replicate};
 ghost use Rattle.model.specs.Kernel.State.{put};
 ghost use Rattle.objects.specs.Tables.{entry_in, entry_of, kinds_by};
 ghost use Rattle.objects.specs.Contents.{is_thread_kind, places_by};

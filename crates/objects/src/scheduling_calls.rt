@@ -29,7 +29,7 @@ impl Objects {
         requires { Standing self.now (S.slots store.now) (S.memory store.now) }
         ensures { result ≡ (thread_at (state_of self.now (S.slots store.now) (S.memory store.now)) thread).slice }
     {
-        if self.held.has_thread(thread) {
+        if self.has_thread(thread) {
             thread_records::slice(store, thread)
         } else {
             0

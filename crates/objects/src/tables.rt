@@ -200,7 +200,7 @@ impl Objects {
         ensures ready_not { (priority : ℕ) → times_in (ready_at self.new (S.memory store.new) priority) offset ≡ 0 }
         ensures rights_not { (holder : ℕ) → has_right (thread_in self.new (S.memory store.new) holder) offset ≡ false }
     {
-        if self.held.has_thread(offset) {
+        if self.has_thread(offset) {
             self.forget(store, offset);
         }
     }
@@ -256,7 +256,7 @@ impl Objects {
         requires { Standing self.now (S.slots store.now) (S.memory store.now) }
         ensures { result ≡ is_stranded (state_of self.now (S.slots store.now) (S.memory store.now)) offset }
     {
-        self.held.has_thread(offset) && self.waits_nowhere(thread_records::status(store, offset))
+        self.has_thread(offset) && self.waits_nowhere(thread_records::status(store, offset))
     }
 
     /// Wakes the thread at an offset, if one is there that waits at an object that is gone.

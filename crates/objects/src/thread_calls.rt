@@ -23,7 +23,7 @@ impl Objects {
         requires { Standing self.now (S.slots store.now) (S.memory store.now) }
         ensures { result ≡ (thread_at (state_of self.now (S.slots store.now) (S.memory store.now)) thread).registers }
     {
-        if self.held.has_thread(thread) {
+        if self.has_thread(thread) {
             thread_records::registers(store, thread)
         } else {
             Regs::new()
@@ -35,7 +35,7 @@ impl Objects {
         requires { Standing self.now (S.slots store.now) (S.memory store.now) }
         ensures { result ≡ (thread_at (state_of self.now (S.slots store.now) (S.memory store.now)) thread).registers.pc }
     {
-        if self.held.has_thread(thread) {
+        if self.has_thread(thread) {
             thread_records::pc(store, thread)
         } else {
             0
@@ -47,7 +47,7 @@ impl Objects {
         requires { Standing self.now (S.slots store.now) (S.memory store.now) }
         ensures { status_of result ≡ (thread_at (state_of self.now (S.slots store.now) (S.memory store.now)) thread).status }
     {
-        if self.held.has_thread(thread) {
+        if self.has_thread(thread) {
             thread_records::status(store, thread)
         } else {
             Status::Inactive
@@ -59,7 +59,7 @@ impl Objects {
         requires { Standing self.now (S.slots store.now) (S.memory store.now) }
         ensures { result ≡ (thread_at (state_of self.now (S.slots store.now) (S.memory store.now)) thread).caller }
     {
-        if self.held.has_thread(thread) {
+        if self.has_thread(thread) {
             thread_records::caller(store, thread)
         } else {
             None
@@ -71,7 +71,7 @@ impl Objects {
         requires { Standing self.now (S.slots store.now) (S.memory store.now) }
         ensures { result ≡ (thread_at (state_of self.now (S.slots store.now) (S.memory store.now)) thread).priority }
     {
-        if self.held.has_thread(thread) {
+        if self.has_thread(thread) {
             thread_records::priority(store, thread)
         } else {
             0
@@ -83,7 +83,7 @@ impl Objects {
         requires { Standing self.now (S.slots store.now) (S.memory store.now) }
         ensures { result ≡ (thread_at (state_of self.now (S.slots store.now) (S.memory store.now)) thread).fault_address }
     {
-        if self.held.has_thread(thread) {
+        if self.has_thread(thread) {
             thread_records::fault_address(store, thread)
         } else {
             0

@@ -66,7 +66,7 @@ impl Objects {
         requires { Standing self.now (S.slots store.now) (S.memory store.now) }
         ensures { result ≡ sending_in self.now (S.memory store.now) thread }
     {
-        if self.held.has_thread(thread) {
+        if self.has_thread(thread) {
             thread_records::sending(store, thread)
         } else {
             None

@@ -34,6 +34,20 @@ impl Regs {
         }
     }
 
+    /// The registers of a thread: its pc, and the words of registers 0 to 31.
+    pub fn from_words(pc: u32, words: [u32; 32]) -> Self
+        ensures { result ≡ record { pc = pc; words = words } }
+    {
+        Regs { pc, words }
+    }
+
+    /// The words of registers 0 to 31. The first is never read as a register.
+    pub fn words(&self) -> &[u32; 32]
+        ensures { result.now ≡ self.now.words }
+    {
+        &self.words
+    }
+
     /// The address of the instruction that runs next.
     pub fn pc(&self) -> u32
         ensures { result ≡ self.now.pc }

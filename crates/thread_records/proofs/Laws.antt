@@ -1,7 +1,2 @@
-use Rattle.std.proofs.Common.{refl}
-use Rattle.thread_records.specs.Laws.{RecordStays}
-use Rattle.thread_records.specs.Records.{thread_at}
-
-pub record_stays : RecordStays
-unfolding thread_at
-record_stays old new thread same = refl
+-- What the crates above use of these proofs.
+pub use Rattle.thread_records.proofs.Fields.{record_stays}

@@ -2,12 +2,18 @@
 //! seL4 Reference Manual, "Threads and Execution".
 #![tactic(auto)]
 
+mod codes;
+mod places;
+mod reads;
+mod record_laws;
 mod records;
 mod words;
+mod writes;
 
+pub use reads::{caller, fault_address, pc, priority, registers, sending, slice, status, thread};
+pub use record_laws::{a_record_stays, zero_is_a_new_thread};
 pub use records::{Fault, Sending, Sent, Status, Thread};
-pub use words::{
-    begin_thread, caller, fault_address, pc, priority, put_thread, registers, sending, set_caller,
-    set_fault_address, set_priority, set_registers, set_sending, set_slice, set_status, slice,
-    status,
+pub use writes::{
+    begin_thread, put_thread, set_caller, set_fault_address, set_priority, set_registers,
+    set_sending, set_slice, set_status,
 };
