@@ -165,6 +165,19 @@ module _ (o : Tables) (are : AreTables o) where
         (inside.0, omega (arith, inside.0, inside.1, are.places));
   }
 
+  pub placed-by : (size : ℕ) → size ≡ 2 ^ o.bits → AreThreadsPlaced o.entries size
+  placed-by size is =
+      let few = pow_mono {i = o.bits} {j = 24} are.most_bits in
+      record {
+        places = omega (arith, are.places, is, few);
+        few = omega (arith, is, few);
+        aligned = are.threads;
+        within = λ thread there. omega (arith, thread-inside thread there, is);
+        points = λ point there.
+            let inside = some-inside o.entries point (ap (λ (e : Entry). is_some (kind_of_entry e)) there) in
+            omega (arith, inside.0, inside.1, are.places, is);
+      }
+
   module _ (slots : Slots) (memory : List ℕ) (fits : FitsMemory (state_of o slots memory) memory) where
     pub laid-here : AreLaidOut (places_of o) slots (length memory)
     unfolding state_of
@@ -178,12 +191,7 @@ module _ (o : Tables) (are : AreTables o) where
     few = omega (arith, long, pow_mono {i = o.bits} {j = 24} are.most_bits)
 
     pub placed-here : AreThreadsPlaced o.entries (length memory)
-    placed-here = record {
-      places = omega (arith, are.places, long, few);
-      few = few;
-      aligned = are.threads;
-      within = λ thread is. omega (arith, thread-inside thread is, long);
-    }
+    placed-here = placed-by (length memory) long
 
 -- no slot is open in a record
 pub closed : (o : Tables) (slots : Slots) (memory : List ℕ) → FitsMemory (state_of o slots memory) memory → (place : ℕ) → IsInRecord (state_of o slots memory).objects place

@@ -1,5 +1,6 @@
 mod Beginning
 mod Begun
+mod BegunTables
 mod Endpoints
 mod Doing
 mod Ends
@@ -20,6 +21,7 @@ mod Making
 mod OneThread
 mod Parting
 mod Parts
+mod PointsHere
 mod Replacing
 mod Serving
 mod Stepping

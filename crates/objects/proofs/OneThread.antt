@@ -1,5 +1,5 @@
 -- What single calls on one thread leave.
-use Rattle.std.proofs.Common.{ℕ, ◌≡◌, ◌∙◌, ◌+◌, ◌^◌, ◌<◌, ◌≤◌, Bool, true, false, Option, Some, None, option_map, List, length, refl, sym, ap, subst, arith}
+use Rattle.std.proofs.Common.{ℕ, ◌≡◌, ◌∙◌, ◌+◌, ◌^◌, ◌<◌, ◌≤◌, inl, inr, Bool, true, false, Option, Some, None, option_map, List, length, refl, sym, ap, subst, arith}
 use Rattle.std.specs.Prelude.{option_and_then, slice_index}
 use Rattle.std.specs.Option.{option_map_or}
 use Rattle.model.specs.Capabilities.Slots.{OutsideSlots, Slots}
@@ -11,12 +11,21 @@ use Rattle.model.proofs.BytesLemmas.{word_at-written}
 use Rattle.model.specs.Shared.Bytes.{word_at, word_bytes, written}
 use Rattle.objects.proofs.Doing.{sending-done, thread-done, word-done}
 use Rattle.objects.proofs.Frames.{Unmoved, moved-to, one-put, same-objects}
-use Rattle.objects.proofs.Holding.{Done, closed, entry-there, kind-state, kind-there, thread-entry, thread-place}
+use Rattle.objects.proofs.Holding.{Done, closed, entry-there, kind-state, kind-there, linked, places-as, thread-entry, thread-place, thread-some}
 use Rattle.objects.proofs.Made.{word-beside, word-size}
 use Rattle.objects.proofs.Parts.{IsPart, SameBesideContents, contents-then, known-same, record-beside, replier-beside, replier-same, threads-beside}
 use Rattle.objects.proofs.Replacing as replacing
-use Rattle.objects.proofs.Told.{in-point}
+use Rattle.linked_queues.specs.Layout.{Places}
+use Rattle.linked_queues.specs.Queues.{queue_of}
+use Rattle.objects.proofs.Joining.{nowhere-queued}
+use Rattle.objects.proofs.Told.{in-point, is-thread}
 use Rattle.objects.proofs.Writing.{known-noted, other-replier, record-replaces, replier-record, replier-thread, same-rights, thread-here, threads-record, threads-replier, word-replaces, word-replier, word-thread}
+use Rattle.linked_queues.proofs.Laws.{kinds_apart}
+use Rattle.model.specs.Kernel.Scheduling.{all_leave, leaves}
+use Rattle.model.specs.Shared.Lists.{times_in}
+use Rattle.objects.proofs.Ends.{left-itself, left-nobody}
+use Rattle.removal_laws.specs.Steps.{ends_thread}
+use Rattle.std.proofs.lemmas.Bool.{cases_lt}
 use Rattle.objects.proofs.Stranded.{stranded-at, stranded-nobody}
 use Rattle.objects.specs.Contents as contents
 use Rattle.objects.specs.Contents.{contents_state, is_thread_kind, object_in}
@@ -25,7 +34,7 @@ use Rattle.objects.specs.Frames.{IsInRecord, SameBesideRecords, SameObjects}
 use Rattle.objects.specs.Laid.{IsThreadPlace}
 use Rattle.objects.specs.Rights.{AreKnown, SameBesideReplier, has_right, noted, replier_at}
 use Rattle.objects.specs.Standing.{Standing}
-use Rattle.objects.specs.Tables.{Tables, contents_of, entry_in, kind_in, kind_of_entry, sending_in, state_of, thread_from, thread_in}
+use Rattle.objects.specs.Tables.{Tables, contents_of, entry_in, kind_in, kind_of_entry, places_of, ready_at, sending_in, state_of, thread_from, thread_in, waiting_of}
 use Rattle.objects.specs.Waiting.{StandsNowhere, has_waiting, with_word}
 use Rattle.objects.specs.declared.records.Entry.{Entry}
 use Rattle.objects.specs.declared.records.Entry.TheVariants as entries
@@ -113,8 +122,55 @@ module _ (o : Tables) (slots : Slots) (memory : List ℕ) where
   pub sends-none : (thread : ℕ) → is_thread_kind (kind_in o thread) ≡ false → None ≡ sending_in o memory thread
   sends-none thread is = ap (option_and_then (λ (t : Thread). t.sending)) (sym (none-at thread is))
 
+  -- where no thread is, nobody waits, is ready, or may be replied to
+  module _ (stands : Standing o slots memory) (offset : ℕ) (no : is_thread_kind (kind_in o offset) ≡ false) where
+    pub nobody-waits : (queue : ℕ) → times_in (waiting_of o memory queue) offset ≡ 0
+    nobody-waits queue = elim (cases_lt 0 (times_in (waiting_of o memory queue) offset)) [
+      | inl some ↦ absurd (let clash : false ≡ true = sym no ∙ kinds_apart.waiters (places_of o) memory stands.waiting queue offset some in cc)
+      | inr few ↦ omega (arith, few)
+    ]
+
+    pub nobody-runs : (priority : ℕ) → times_in (ready_at o memory priority) offset ≡ 0
+    nobody-runs priority = elim (cases_lt 0 (times_in (ready_at o memory priority) offset)) [
+      | inl some ↦ absurd (let clash : false ≡ true = sym no ∙ kinds_apart.runners (places_of o) o.ready memory stands.ready priority offset some in cc)
+      | inr few ↦ omega (arith, few)
+    ]
+
+    pub nobody-replies : (holder : ℕ) → has_right (thread_in o memory holder) offset ≡ false
+    nobody-replies holder = elim (has_right (thread_in o memory holder) offset) as (λ b. has_right (thread_in o memory holder) offset ≡ b → has_right (thread_in o memory holder) offset ≡ false) [
+      | false ↦ λ is. is
+      | true ↦ λ is.
+          absurd (let clash : false ≡ true =
+          sym no ∙ ap (λ (e : Entry). is_thread_kind (kind_of_entry e)) (thread-some o memory offset (stands.rights.there offset holder is)) in cc)
+    ] refl
+
+    pub left-none : state_of o slots memory ≡ all_leave (state_of o slots memory) (ends_thread (state_of o slots memory) offset)
+    unfolding state_of
+    left-none = left-nobody (contents_of o memory) offset slots memory (none-at offset no)
+
+  pub left-one : (offset : ℕ) → is_thread_kind (kind_in o offset) ≡ true
+      → leaves (state_of o slots memory) offset ≡ all_leave (state_of o slots memory) (ends_thread (state_of o slots memory) offset)
+  unfolding state_of
+  left-one offset is = left-itself (contents_of o memory) offset slots memory (Some (thread_words.thread_at memory offset))
+      (sym (thread-here o memory offset (kind-there o offset (thread-entry (entry_in o.entries offset) is)))) refl
+
+  pub stranded-kind : (offset : ℕ) → is_stranded (state_of o slots memory) offset ≡ true → kind_at (state_of o slots memory) offset ≡ Some NewThread
+  stranded-kind offset stranded = elim (is_thread_kind (kind_in o offset)) as (λ b. is_thread_kind (kind_in o offset) ≡ b → kind_at (state_of o slots memory) offset ≡ Some NewThread) [
+    | true ↦ λ is. kind-state o offset slots memory ∙ is-thread (kind_in o offset) is
+    | false ↦ λ no. absurd (let clash : false ≡ true = sym (stranded-none offset no) ∙ stranded in cc)
+  ] refl
+
+  -- who waits at no object stands in no queue
+  pub nowhere-here : Standing o slots memory → (thread : ℕ) → StandsNowhere (state_of o slots memory).objects thread → (queue : ℕ) → times_in (waiting_of o memory queue) thread ≡ 0
+  unfolding state_of
+  nowhere-here stands thread apart = subst (λ (p : Places). (queue : ℕ) → times_in (queue_of p memory queue) thread ≡ 0) (places-as o memory)
+      (nowhere-queued (contents_of o memory) slots memory thread (linked o slots memory stands) apart)
+
   -- the word of a notification
   module _ (stands : Standing o slots memory) (notification : ℕ) (is : kind_in o notification ≡ Some NewNotification) where
+    pub word-inside : notification + 8 + 4 ≤ length memory
+    word-inside = omega (arith, stands.placed.points notification (notification-entry (entry_in o.entries notification) is))
+
     pub word-outside : OutsideSlots slots (notification + 8) 4
     word-outside = λ place from below. closed o slots memory stands.fits place
         (in-point (state_of o slots memory) notification place (ap has_waiting (kind-state o notification slots memory ∙ is)) (omega (arith, from)) (omega (arith, below))).0

@@ -1,5 +1,5 @@
 -- A thread leaves all queues, and nothing stands at an offset any more.
-use Rattle.std.proofs.Common.{ℕ, ◌≡◌, ◌≢◌, ◌∙◌, ◌==◌, ◌+◌, ◌<◌, ◌≤◌, inl, inr, Bool, true, false, if◌then◌else◌, Option, Some, None, is_some, option_map, List, [], length, refl, sym, ap, subst, arith}
+use Rattle.std.proofs.Common.{ℕ, ◌≡◌, ◌≢◌, ◌∙◌, ◌==◌, ◌+◌, ◌*◌, ◌<◌, ◌≤◌, inl, inr, Bool, true, false, if◌then◌else◌, Option, Some, None, is_some, option_map, List, [], length, refl, sym, ap, subst, arith}
 use Rattle.std.specs.Prelude.{slice_index}
 use Rattle.std.proofs.lemmas.Bool.Decides.{eqb_tells}
 use Rattle.model.specs.Capabilities.Slots.{Slots}
@@ -15,7 +15,7 @@ use Rattle.linked_queues.specs.Queues.{QueuesStand, SameBesideWaiting, queue_of}
 use Rattle.linked_queues.specs.Ready.{ReadyStands, SameBesideReady, ready_of}
 use Rattle.linked_queues.specs.declared.words.Ends.{Ends}
 use Rattle.linked_queues.proofs.Laws.{kinds_apart}
-use Rattle.objects.proofs.Doing.{links-contents}
+use Rattle.objects.proofs.Doing.{links-contents, links-known}
 use Rattle.objects.proofs.Frames.{Unmoved, kind-left, record-was, same-state}
 use Rattle.objects.proofs.Holding.{Done, are-contents, done, entry-there, kind-as, kind-state, kind-there, linked, places-as, thread-some}
 use Rattle.objects.proofs.Kept.{put-here, put-there}
@@ -37,6 +37,25 @@ use Rattle.objects.specs.declared.records.Entry.{Entry}
 use Rattle.objects.specs.declared.records.Entry.TheVariants as entries
 use Rattle.thread_records.specs.Records as thread_words
 use Rattle.thread_records.specs.declared.records.Thread.{Thread}
+
+-- where one entry is taken away
+module _ (o : Tables) (entries_now : List Entry) (offset : ℕ) (cleared : (other : ℕ) → entry_in entries_now other ≡ put (entry_in o.entries) offset entries.Nothing other) where
+  less-entry : (place : ℕ) (e : Entry) → entry_in entries_now place ≡ e → (entries.Nothing ≡ e → ⊥) → entry_in o.entries place ≡ e
+  less-entry place e is some = elim (eqb_tells place offset) [
+    | inl here ↦ absurd (some (sym (cleared place ∙ ap (λ b. if b then entries.Nothing else entry_in o.entries place) here.0) ∙ is))
+    | inr apart ↦ sym (cleared place ∙ put-there (entry_in o.entries) offset entries.Nothing place apart.1) ∙ is
+  ]
+
+pub tables-less : (o : Tables) (entries_now : List Entry) (offset : ℕ) → AreTables o → length entries_now ≡ length o.entries
+    → ((other : ℕ) → entry_in entries_now other ≡ put (entry_in o.entries) offset entries.Nothing other) → AreTables (record o { entries = entries_now })
+tables-less o entries_now offset are long cleared = record {
+  least_bits = are.least_bits;
+  most_bits = are.most_bits;
+  most_radix = are.most_radix;
+  places = ap (λ (n : ℕ). 16 * n) long ∙ are.places;
+  threads = λ other is. are.threads other (less-entry o entries_now offset cleared other entries.Thread is (λ same. absurd cc));
+  nodes = λ other radix is. are.nodes other radix (less-entry o entries_now offset cleared other (entries.CNode radix) is (λ same. absurd cc));
+}
 
 module _ (o : Tables) (before after : Slots) (old : List ℕ) (stands : Standing o before old) (same_slots : after ≡ before) where
   abbrev s : State
@@ -96,79 +115,84 @@ module _ (o : Tables) (before after : Slots) (old : List ℕ) (stands : Standing
 
     -- ---- a thread leaves all queues
 
-    module _ (ready : List Ends) (thread : ℕ) (one two new : List ℕ)
+    -- who is ready stays so while those that wait change
+    pub ready-after : (one : List ℕ) → SameBesideWaiting p (waiting_of o old) old one → ReadyStands p o.ready one
+    ready-after one bytes = subst (λ (q : Places). ReadyStands q o.ready one) (places-as o old)
+        (ready-then c before old one links laid (subst (λ (q : Places). SameBesideWaiting q (queue_of q old) old one) (sym (places-as o old)) bytes))
+
+    module _ (ready : List Ends) (thread : ℕ) (one two : List ℕ)
         (left : (queue : ℕ) → waiting_of o one queue ≡ without thread (waiting_of o old queue)) (queued : QueuesStand p one)
         (bytes : SameBesideWaiting p (waiting_of o old) old one)
         (unready : (priority : ℕ) → ready_of p ready two priority ≡ without thread (ready_at o one priority)) (readied : ReadyStands p ready two)
-        (more : SameBesideReady (ready_at o one) one two)
-        (void : (other : ℕ) → thread_in o new other ≡ option_map (voided thread) (thread_in o two other)) (beside : SameBesideThreads o.entries two new) where
-      abbrev n : Tables
-      n = record o { ready = ready }
-
-      ready-one : ReadyStands p o.ready one
-      ready-one = subst (λ (q : Places). ReadyStands q o.ready one) (places-as o old)
-          (ready-then c before old one links laid (subst (λ (q : Places). SameBesideWaiting q (queue_of q old) old one) (sym (places-as o old)) bytes))
-
+        (more : SameBesideReady (ready_at o one) one two) where
       both : SameBesideLinks o old two
       both = links-then o old one two (waiting-links o old one (waiting_of o old) waiters bytes)
-          (ready-links o one two (ready_at o one) (kinds_apart.runners p o.ready one ready-one) more)
+          (ready-links o one two (ready_at o one) (kinds_apart.runners p o.ready one (ready-after one bytes)) more)
 
-      void-all : (other : ℕ) → thread_in o new other ≡ option_map (voided thread) (thread_in o old other)
-      void-all other = void other ∙ ap (λ (x : Contents). option_map (voided thread) (x.threads other)) (links-contents o before after old two stands same_slots both)
+      pub known-two : AreKnown (thread_in o two) two
+      known-two = links-known o before after old two stands same_slots both
 
-      abbrev middle : Contents
-      middle = record c { threads = thread_in o new; ready = ready }
+      module _ (new : List ℕ)
+          (void : (other : ℕ) → thread_in o new other ≡ option_map (voided thread) (thread_in o two other)) (beside : SameBesideThreads o.entries two new) where
+        abbrev n : Tables
+        n = record o { ready = ready }
 
-      t-kinds : (offset : ℕ) → kind_at (leaves s thread) offset ≡ kind_in o offset
-      t-kinds offset = kind-left (λ other. other == thread) (s.objects offset) ∙ kind-state o offset before old
+        void-all : (other : ℕ) → thread_in o new other ≡ option_map (voided thread) (thread_in o old other)
+        void-all other = void other ∙ ap (λ (x : Contents). option_map (voided thread) (x.threads other)) (links-contents o before after old two stands same_slots both)
 
-      all : Left middle after two (leaves s thread) × SameBesideRecords s old two
-          × ((queue : ℕ) → times_in (contents.waiting_of middle two queue) thread ≡ 0) × ((priority : ℕ) → times_in (contents.ready_at middle two priority) thread ≡ 0)
-      unfolding state_of
-      all = subst (λ (q : Places). ((queue : ℕ) → queue_of q one queue ≡ without thread (queue_of q old queue)) → QueuesStand q one
-          → SameBesideWaiting q (queue_of q old) old one
-          → ((priority : ℕ) → ready_of q ready two priority ≡ without thread (ready_of q o.ready one priority)) → ReadyStands q ready two
-          → SameBesideReady (ready_of q o.ready one) one two
-          → Left middle after two (leaves s thread) × SameBesideRecords s old two
-          × ((queue : ℕ) → times_in (contents.waiting_of middle two queue) thread ≡ 0) × ((priority : ℕ) → times_in (contents.ready_at middle two priority) thread ≡ 0))
-          (places-as o old) (forget-left c before after old two links same_slots laid (thread_in o new) ready thread one void-all) left queued bytes unready readied more
+        abbrev middle : Contents
+        middle = record c { threads = thread_in o new; ready = ready }
 
-      carried : Left middle after new (leaves s thread)
-      carried = carry middle (leaves s thread) two new t-kinds all.0 (threads-beside o two new beside)
+        t-kinds : (offset : ℕ) → kind_at (leaves s thread) offset ≡ kind_in o offset
+        t-kinds offset = kind-left (λ other. other == thread) (s.objects offset) ∙ kind-state o offset before old
 
-      recorded : (other : ℕ) → (contents_of o new).records other ≡ c.records other
-      recorded other =
-          threads-record o before old stands.fits two new beside other
-          ∙ ap (λ (x : Contents). x.records other) (links-contents o before after old two stands same_slots both)
+        all : Left middle after two (leaves s thread) × SameBesideRecords s old two
+            × ((queue : ℕ) → times_in (contents.waiting_of middle two queue) thread ≡ 0) × ((priority : ℕ) → times_in (contents.ready_at middle two priority) thread ≡ 0)
+        unfolding state_of
+        all = subst (λ (q : Places). ((queue : ℕ) → queue_of q one queue ≡ without thread (queue_of q old queue)) → QueuesStand q one
+            → SameBesideWaiting q (queue_of q old) old one
+            → ((priority : ℕ) → ready_of q ready two priority ≡ without thread (ready_of q o.ready one priority)) → ReadyStands q ready two
+            → SameBesideReady (ready_of q o.ready one) one two
+            → Left middle after two (leaves s thread) × SameBesideRecords s old two
+            × ((queue : ℕ) → times_in (contents.waiting_of middle two queue) thread ≡ 0) × ((priority : ℕ) → times_in (contents.ready_at middle two priority) thread ≡ 0))
+            (places-as o old) (forget-left c before after old two links same_slots laid (thread_in o new) ready thread one void-all) left queued bytes unready readied more
 
-      known : AreKnown (thread_in o new) new
-      known = known-same o old new stands.rights
-          (λ caller holder right. void-fewer thread caller (thread_in o old holder) (ap (λ (t : Option Thread). has_right t caller) (sym (void-all holder)) ∙ right))
-          (λ other is place part. threads-replier o before old stands.fits two new beside other is place part ∙ link-replier o before old stands.fits old two both other is place part)
+        carried : Left middle after new (leaves s thread)
+        carried = carry middle (leaves s thread) two new t-kinds all.0 (threads-beside o two new beside)
 
-      pub forget-done : Done n after new (leaves s thread) × SameBesideRecords s old new
-      forget-done = (
-        done n after new (leaves s thread) (subst (AreThreadsPlaced o.entries) (sym (beside.size ∙ all.1.size)) stands.placed) (subst (λ (r : ℕ → Option Record). Left (record middle { records = r }) after new (leaves s thread))
-            (λ i. λ other. sym (recorded other) i) carried) known,
-        record {
-          size = beside.size ∙ all.1.size;
-          bytes = λ place apart.
-              (contents-records o before old stands.fits two new (threads-beside o two new beside)).bytes place apart ∙ all.1.bytes place apart;
-        },
-      )
+        recorded : (other : ℕ) → (contents_of o new).records other ≡ c.records other
+        recorded other =
+            threads-record o before old stands.fits two new beside other
+            ∙ ap (λ (x : Contents). x.records other) (links-contents o before after old two stands same_slots both)
 
-      pub forget-waits : (queue : ℕ) → times_in (waiting_of n new queue) thread ≡ 0
-      forget-waits queue =
-          ap (λ l. times_in l thread) (waiting-as o before old stands.fits two new (threads-beside o two new beside) (waits-there middle (leaves s thread) two two t-kinds all.0) queue)
-          ∙ ap (λ (q : Places). times_in (queue_of q two queue) thread) (sym (places-of middle (leaves s thread) two two t-kinds all.0)) ∙ all.2 queue
+        known : AreKnown (thread_in o new) new
+        known = known-same o old new stands.rights
+            (λ caller holder right. void-fewer thread caller (thread_in o old holder) (ap (λ (t : Option Thread). has_right t caller) (sym (void-all holder)) ∙ right))
+            (λ other is place part. threads-replier o before old stands.fits two new beside other is place part ∙ link-replier o before old stands.fits old two both other is place part)
 
-      pub forget-ready : (priority : ℕ) → times_in (ready_at n new priority) thread ≡ 0
-      forget-ready priority =
-          ap (λ l. times_in l thread) (ready-as o before old stands.fits two new (threads-beside o two new beside) ready (runs-there middle (leaves s thread) two two t-kinds all.0) priority)
-          ∙ ap (λ (q : Places). times_in (ready_of q ready two priority) thread) (sym (places-of middle (leaves s thread) two two t-kinds all.0)) ∙ all.3 priority
+        pub forget-done : Done n after new (leaves s thread) × SameBesideRecords s old new
+        forget-done = (
+          done n after new (leaves s thread) (subst (AreThreadsPlaced o.entries) (sym (beside.size ∙ all.1.size)) stands.placed) (subst (λ (r : ℕ → Option Record). Left (record middle { records = r }) after new (leaves s thread))
+              (λ i. λ other. sym (recorded other) i) carried) known,
+          record {
+            size = beside.size ∙ all.1.size;
+            bytes = λ place apart.
+                (contents-records o before old stands.fits two new (threads-beside o two new beside)).bytes place apart ∙ all.1.bytes place apart;
+          },
+        )
 
-      pub forget-rights : (holder : ℕ) → has_right (thread_in n new holder) thread ≡ false
-      forget-rights holder = ap (λ (t : Option Thread). has_right t thread) (void-all holder) ∙ void-gone thread (thread_in o old holder)
+        pub forget-waits : (queue : ℕ) → times_in (waiting_of n new queue) thread ≡ 0
+        forget-waits queue =
+            ap (λ l. times_in l thread) (waiting-as o before old stands.fits two new (threads-beside o two new beside) (waits-there middle (leaves s thread) two two t-kinds all.0) queue)
+            ∙ ap (λ (q : Places). times_in (queue_of q two queue) thread) (sym (places-of middle (leaves s thread) two two t-kinds all.0)) ∙ all.2 queue
+
+        pub forget-ready : (priority : ℕ) → times_in (ready_at n new priority) thread ≡ 0
+        forget-ready priority =
+            ap (λ l. times_in l thread) (ready-as o before old stands.fits two new (threads-beside o two new beside) ready (runs-there middle (leaves s thread) two two t-kinds all.0) priority)
+            ∙ ap (λ (q : Places). times_in (ready_of q ready two priority) thread) (sym (places-of middle (leaves s thread) two two t-kinds all.0)) ∙ all.3 priority
+
+        pub forget-rights : (holder : ℕ) → has_right (thread_in n new holder) thread ≡ false
+        forget-rights holder = ap (λ (t : Option Thread). has_right t thread) (void-all holder) ∙ void-gone thread (thread_in o old holder)
 
     -- ---- nothing stands at an offset any more
 
@@ -235,13 +259,11 @@ module _ (o : Tables) (before after : Slots) (old : List ℕ) (stands : Standing
             (sym (replier-same old new caller (link-replier o before old stands.fits old new same caller there)) ∙ is);
       }
 
+      entry-was : (place : ℕ) (e : Entry) → entry_in entries_now place ≡ e → (entries.Nothing ≡ e → ⊥) → entry_in o.entries place ≡ e
+      entry-was = less-entry o entries_now offset cleared
+
       thread-was : (thread : ℕ) → entry_in entries_now thread ≡ entries.Thread → entry_in o.entries thread ≡ entries.Thread
-      thread-was thread is = elim (eqb_tells thread offset) [
-        | inl here ↦
-            absurd (let clash : entries.Nothing ≡ entries.Thread =
-            sym (cleared thread ∙ ap (λ b. if b then entries.Nothing else entry_in o.entries thread) here.0) ∙ is in cc)
-        | inr apart ↦ sym (cleared thread ∙ put-there (entry_in o.entries) offset entries.Nothing thread apart.1) ∙ is
-      ]
+      thread-was thread is = entry-was thread entries.Thread is (λ same. absurd cc)
 
       placed-less : AreThreadsPlaced entries_now (length new)
       placed-less =
@@ -252,6 +274,7 @@ module _ (o : Tables) (before after : Slots) (old : List ℕ) (stands : Standing
             few = omega (arith, size, placed.few);
             aligned = λ thread is. placed.aligned thread (thread-was thread is);
             within = λ thread is. omega (arith, size, placed.within thread (thread-was thread is));
+            points = λ point is. omega (arith, size, placed.points point (entry-was point entries.Notification is (λ same. absurd cc)));
           }
 
       pub vacate-done : Done m after new (vacated s offset) × SameBesideRecords s old new

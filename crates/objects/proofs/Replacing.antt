@@ -132,18 +132,15 @@ pub replaced-there : (s n : State) (offset : ℕ) (t : ThreadState) → n ≡ wi
 replaced-there s n offset t is = ap (λ (s : State). kind_at s offset) is ∙ ap (option_map kind_of) (put-here s.objects offset (Some (ThreadObject t)))
 
 -- a thread that runs goes to the tail of its new priority
-module _ (s : State) (thread priority : ℕ) (held : Thread) (is : thread_state held ≡ thread_at s thread) where
-  abbrev after : ThreadState → ThreadState
-  after t = record t { priority = priority }
+module _ (s : State) (thread priority : ℕ) (runs : Bool) (told : runs ≡ is_runnable (thread_at s thread).status) where
+  abbrev after : ThreadState
+  after = record (thread_at s thread) { priority = priority }
 
   abbrev prioritized : Bool → State
-  prioritized runs =
-      if runs then at_tail (with_thread (unready s thread) thread (after (thread_at s thread))) thread else with_thread s thread (after (thread_at s thread))
+  prioritized b = if b then at_tail (with_thread (unready s thread) thread after) thread else with_thread s thread after
 
-  runs : held.status ≡ Runnable → is_runnable (thread_at s thread).status ≡ true
-  runs stands = ap (λ (t : ThreadState). is_runnable t.status) (sym is) ∙ ap (λ x. is_runnable (status_of x)) stands
+  pub tail-priority : runs ≡ true → to_tail (with_thread s thread after) thread ≡ with_priority s thread priority
+  tail-priority is = sym (ap prioritized (sym told ∙ is))
 
-  pub at-new-tail : (t u : State) → t ≡ with_thread s thread (after (thread_state held)) → u ≡ to_tail t thread → held.status ≡ Runnable
-      → u ≡ with_priority s thread priority
-  at-new-tail t u put_there sent stands =
-      sent ∙ ap (λ x. to_tail x thread) (put_there ∙ ap (λ h. with_thread s thread (after h)) is) ∙ sym (ap prioritized (runs stands))
+  pub keep-priority : runs ≡ false → with_thread s thread after ≡ with_priority s thread priority
+  keep-priority is = sym (ap prioritized (sym told ∙ is))

@@ -90,6 +90,9 @@ pub if-head : (b : Bool) (queue head : ℕ) → (if b then Some queue else None)
 if-head true queue head is = (refl, let e : Some queue ≡ Some head = is in let f : head ≡ queue = cc in f)
 if-head false queue head is = absurd (let clash : None ≡ Some head = is in cc)
 
+pub head-at-point : (k : Option NewObject) (queue : ℕ) → has_waiting k ≡ true → is_some (if has_waiting k then Some queue else None) ≡ true
+head-at-point k queue is = ap (λ b. is_some (if b then Some queue else None)) is
+
 pub has-head : (o : Contents) (queue head : ℕ) → (places_of o).heads queue ≡ Some head → (has_waiting (kind_in o queue) ≡ true) × (head ≡ queue)
 has-head o queue head is = if-head (has_waiting (kind_in o queue)) queue head is
 

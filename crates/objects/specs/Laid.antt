@@ -26,12 +26,13 @@ pub record IsThreadPlace (slots : Slots) (size thread : ℕ) : Type 0 where
   pub within : thread + 512 ≤ size
   pub outside : OutsideSlots slots (thread + 48) 224
 
--- threads stand inside memory of this size, at multiples of their own
+-- threads and notifications stand inside memory of this size, threads at multiples of their own
 pub record AreThreadsPlaced (table : List Entry) (size : ℕ) : Type 0 where
   pub places : length table ≤ 2 ^ 20
   pub few : size ≤ 2 ^ 24
   pub aligned : (thread : ℕ) → entry_in table thread ≡ entries.Thread → thread % 512 ≡ 0
   pub within : (thread : ℕ) → entry_in table thread ≡ entries.Thread → thread + 512 ≤ size
+  pub points : (notification : ℕ) → entry_in table notification ≡ entries.Notification → notification + 16 ≤ size
 
 -- there is an entry for each 16 bytes at most, and threads stand at multiples of their size
 pub record AreThreadsLaid (table : List Entry) (slots : Slots) (size : ℕ) : Type 0 where

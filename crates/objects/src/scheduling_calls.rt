@@ -13,7 +13,6 @@ ghost use Rattle.objects.specs.Tables.{state_of};
 
 use crate::tables::Objects;
 use slots::SlotStore;
-use thread_records::Status;
 
 impl Objects {
     /// The current thread: the first of the greatest priority, if any is ready.
@@ -77,14 +76,10 @@ impl Objects {
         ensures order { S.order store.new ≡ S.order store.old }
         ensures stands { Standing self.new (S.slots store.new) (S.memory store.new) }
     {
-        let status = thread_records::status(store, thread);
+        let runs = self.runs(store, thread);
         self.set_priority_at(store, thread, priority);
-        match status {
-            Status::Runnable => self.to_tail_at(store, thread),
-            Status::Inactive
-            | Status::Blocked { .. }
-            | Status::AwaitsReply
-            | Status::AwaitsHandler => {}
+        if runs {
+            self.to_tail_at(store, thread);
         }
     }
 

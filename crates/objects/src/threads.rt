@@ -3,7 +3,7 @@
 ghost use Rattle.std.specs.Prelude.{ℕ, ◌≡◌, Some};
 ghost use Rattle.model.specs.Kernel.Kinds.{kind_at};
 ghost use Rattle.model.specs.Kernel.Retype.{NewThread};
-ghost use Rattle.model.specs.Kernel.Scheduling.{to_tail, unready};
+ghost use Rattle.model.specs.Kernel.Scheduling.{is_runnable, to_tail, unready};
 ghost use Rattle.model.specs.Kernel.State.{thread_at, with_thread};
 ghost use Rattle.objects.specs.Frames.{SameBesideRecords};
 ghost use Rattle.objects.specs.Standing.{Standing};
@@ -55,6 +55,15 @@ impl Objects {
         ensures stands { Standing self.new (S.slots store.new) (S.memory store.new) }
     {
         thread_records::set_priority(store, offset, priority);
+    }
+
+    /// Whether a thread runs.
+    pub(crate) fn runs<S: SlotStore>(&self, store: &S, offset: u32) -> bool
+        requires there { kind_at (state_of self.now (S.slots store.now) (S.memory store.now)) offset ≡ Some NewThread }
+        requires stands { Standing self.now (S.slots store.now) (S.memory store.now) }
+        ensures { result ≡ is_runnable (thread_at (state_of self.now (S.slots store.now) (S.memory store.now)) offset).status }
+    {
+        matches!(thread_records::status(store, offset), Status::Runnable)
     }
 
     /// A thread leaves the ready list.

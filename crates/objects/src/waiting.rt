@@ -34,7 +34,22 @@ impl Objects {
         ensures order { S.order store.new ≡ S.order store.old }
         ensures stands { Standing self.new (S.slots store.new) (S.memory store.new) }
     {
+        self.set_sending_at(store, thread, sending);
         push(&self.held, store, queue, thread);
+    }
+
+    /// A thread that stands in no queue is to send this, or to receive.
+    fn set_sending_at<S: SlotStore>(&self, store: &mut S, thread: u32, sending: Option<Sending>)
+        requires apart { StandsNowhere (state_of self.now (S.slots store.old) (S.memory store.old)).objects thread }
+        requires there { kind_at (state_of self.now (S.slots store.old) (S.memory store.old)) thread ≡ Some NewThread }
+        requires stands { Standing self.now (S.slots store.old) (S.memory store.old) }
+        ensures state { state_of self.now (S.slots store.new) (S.memory store.new) ≡ state_of self.now (S.slots store.old) (S.memory store.old) }
+        ensures sending { sending_in self.now (S.memory store.new) thread ≡ sending }
+        ensures slots { S.slots store.new ≡ S.slots store.old }
+        ensures bytes { SameBesideRecords (state_of self.now (S.slots store.old) (S.memory store.old)) (S.memory store.old) (S.memory store.new) }
+        ensures order { S.order store.new ≡ S.order store.old }
+        ensures stands { Standing self.now (S.slots store.new) (S.memory store.new) }
+    {
         thread_records::set_sending(store, thread, sending);
     }
 
