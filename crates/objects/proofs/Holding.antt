@@ -168,8 +168,11 @@ module _ (o : Tables) (are : AreTables o) where
   pub placed-by : (size : ℕ) → size ≡ 2 ^ o.bits → AreThreadsPlaced o.entries size
   placed-by size is =
       let few = pow_mono {i = o.bits} {j = 24} are.most_bits in
+      let least = are.least_bits in
+      let parts : 2 ^ o.bits ≡ 2 ^ (o.bits - 9) * 512 = ap (λ (n : ℕ). 2 ^ n) (omega (arith, least)) ∙ pow-add 2 (o.bits - 9) 9 in
       record {
         places = omega (arith, are.places, is, few);
+        whole = omega (arith, are.places, parts);
         few = omega (arith, is, few);
         aligned = are.threads;
         within = λ thread there. omega (arith, thread-inside thread there, is);
@@ -210,4 +213,4 @@ module _ (o : Tables) (slots : Slots) (memory : List ℕ) (stands : Standing o s
   }
 
   pub threads-laid : AreThreadsLaid o.entries slots (length memory)
-  threads-laid = record { few = stands.placed.places; aligned = stands.placed.aligned; places = thread-place }
+  threads-laid = record { few = stands.placed.places; whole = stands.placed.whole; aligned = stands.placed.aligned; places = thread-place }

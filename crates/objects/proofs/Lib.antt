@@ -29,5 +29,6 @@ mod StateLaws
 mod Stranded
 mod Told
 mod Vacating
+mod Voiding
 mod Writing
 pub mod Laws

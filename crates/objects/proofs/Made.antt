@@ -91,3 +91,27 @@ module _ (old a new : List ℕ) (offset : ℕ) (within : offset + 16 ≤ length 
 
   pub point-word : word_at new (offset + 8) ≡ 0
   point-word = ap (λ (m : List ℕ). word_at m (offset + 8)) bytes ∙ word_at-written a (offset + 8) 0 inside (omega arith)
+
+pub point-made : (kind : Kind) (old new : List ℕ) (offset : ℕ) → has_waiting (Some (kind_of (new_object kind))) ≡ true → SameBesidePoint offset old new
+    → ((number : ℕ) → number < 2 → end_at new offset number ≡ None) → word_at new (offset + 8) ≡ 0 → BegunAt kind offset old new
+point-made kinds.Endpoint old new offset waits same unwaited word = record {
+  size = same.size;
+  bytes = λ place apart. same.bytes place (λ from below. apart (omega (arith, from)) (omega (arith, below)) refl);
+  thread = λ clash. absurd cc;
+  unlinked = λ clash. absurd (let e : false ≡ true = clash in cc);
+  unwaited = λ _. unwaited;
+  word = λ _. word;
+}
+point-made kinds.Notification old new offset waits same unwaited word = record {
+  size = same.size;
+  bytes = λ place apart. same.bytes place (λ from below. apart (omega (arith, from)) (omega (arith, below)) refl);
+  thread = λ clash. absurd cc;
+  unlinked = λ clash. absurd (let e : false ≡ true = clash in cc);
+  unwaited = λ _. unwaited;
+  word = λ _. word;
+}
+point-made kinds.Thread old new offset waits same unwaited word = absurd (let clash : false ≡ true = waits in cc)
+point-made (kinds.CNode radix) old new offset waits same unwaited word = absurd (let clash : false ≡ true = waits in cc)
+point-made kinds.Frame old new offset waits same unwaited word = absurd (let clash : false ≡ true = waits in cc)
+point-made kinds.PageTable old new offset waits same unwaited word = absurd (let clash : false ≡ true = waits in cc)
+point-made kinds.RootTable old new offset waits same unwaited word = absurd (let clash : false ≡ true = waits in cc)

@@ -271,6 +271,7 @@ module _ (o : Tables) (before after : Slots) (old : List ℕ) (stands : Standing
           let placed = stands.placed in
           record {
             places = omega (arith, long, placed.places);
+            whole = omega (arith, long, placed.whole);
             few = omega (arith, size, placed.few);
             aligned = λ thread is. placed.aligned thread (thread-was thread is);
             within = λ thread is. omega (arith, size, placed.within thread (thread-was thread is));

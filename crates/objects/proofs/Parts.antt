@@ -219,7 +219,7 @@ module _ (o : Tables) (slots : Slots) (memory : List ℕ) (fits : FitsMemory (st
 
 -- ---- where the bytes are the same, contents are
 
-thread-from-same : (e : Entry) (t u : Thread) → (kind_of_entry e ≡ Some NewThread → t ≡ u) → thread_from e t ≡ thread_from e u
+pub thread-from-same : (e : Entry) (t u : Thread) → (kind_of_entry e ≡ Some NewThread → t ≡ u) → thread_from e t ≡ thread_from e u
 thread-from-same entries.Thread t u same = ap Some (same refl)
 thread-from-same entries.Nothing t u same = refl
 thread-from-same entries.Endpoint t u same = refl

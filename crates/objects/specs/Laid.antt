@@ -29,6 +29,7 @@ pub record IsThreadPlace (slots : Slots) (size thread : ℕ) : Type 0 where
 -- threads and notifications stand inside memory of this size, threads at multiples of their own
 pub record AreThreadsPlaced (table : List Entry) (size : ℕ) : Type 0 where
   pub places : length table ≤ 2 ^ 20
+  pub whole : length table % 32 ≡ 0
   pub few : size ≤ 2 ^ 24
   pub aligned : (thread : ℕ) → entry_in table thread ≡ entries.Thread → thread % 512 ≡ 0
   pub within : (thread : ℕ) → entry_in table thread ≡ entries.Thread → thread + 512 ≤ size
@@ -37,6 +38,7 @@ pub record AreThreadsPlaced (table : List Entry) (size : ℕ) : Type 0 where
 -- there is an entry for each 16 bytes at most, and threads stand at multiples of their size
 pub record AreThreadsLaid (table : List Entry) (slots : Slots) (size : ℕ) : Type 0 where
   pub few : length table ≤ 2 ^ 20
+  pub whole : length table % 32 ≡ 0
   pub aligned : (thread : ℕ) → entry_in table thread ≡ entries.Thread → thread % 512 ≡ 0
   pub places : (thread : ℕ) → entry_in table thread ≡ entries.Thread → IsThreadPlace slots size thread
 

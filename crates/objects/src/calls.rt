@@ -106,8 +106,8 @@ impl Objects {
         ensures order { S.order store.new ≡ S.order store.old }
         ensures stands { Standing self.new (S.slots store.new) (S.memory store.new) }
     {
-        begin_bytes(store, offset, kind);
         self.held.put(offset, entry_of(kind));
+        begin_bytes(store, offset, kind);
     }
 
     /// Threads that wait at objects that are gone run again, in rising order of their offsets.

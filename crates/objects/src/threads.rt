@@ -63,7 +63,7 @@ impl Objects {
         requires stands { Standing self.now (S.slots store.now) (S.memory store.now) }
         ensures { result ≡ is_runnable (thread_at (state_of self.now (S.slots store.now) (S.memory store.now)) offset).status }
     {
-        matches!(thread_records::status(store, offset), Status::Runnable)
+        is_running(thread_records::status(store, offset))
     }
 
     /// A thread leaves the ready list.
@@ -92,4 +92,11 @@ impl Objects {
         self.ready.leave(&self.held, store, offset);
         self.ready.push(&self.held, store, priority, offset);
     }
+}
+
+/// Whether a thread with this status runs.
+fn is_running(status: Status) -> bool
+    ensures { result ≡ is_runnable (status_of status) }
+{
+    matches!(status, Status::Runnable)
 }
