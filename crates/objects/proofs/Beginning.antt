@@ -1,5 +1,5 @@
 -- A new object stands at an offset where none was.
-use Rattle.std.proofs.Common.{ℕ, ◌≡◌, ◌≢◌, ◌∙◌, ◌==◌, ◌+◌, ◌<◌, ◌≤◌, ◌&&◌, inl, inr, Bool, true, false, if◌then◌else◌, Option, Some, None, option_map, List, [], ◌∷◌, refl, sym, ap, arith}
+use Rattle.std.proofs.Common.{ℕ, ◌≡◌, ◌≢◌, ◌∙◌, ◌==◌, ◌+◌, ◌<◌, ◌&&◌, inl, inr, Bool, true, false, if◌then◌else◌, Option, Some, None, option_map, List, [], ◌∷◌, refl, sym, ap, arith}
 use Rattle.std.specs.Prelude.{option_and_then, slice_index}
 use Rattle.std.specs.Option.{option_map_or}
 use Rattle.std.proofs.lemmas.Bool.{cases_lt, eq-eqb}
@@ -11,7 +11,7 @@ use Rattle.model.specs.Kernel.State.{Object, ThreadObject, new_thread, put}
 use Rattle.model.specs.Shared.Lists.{times_in}
 use Rattle.objects.proofs.Kept.{put-here, put-there}
 use Rattle.objects.proofs.Vacating.{other-same}
-use Rattle.objects.specs.Changes.{MayStand, begun, is_frame_kind}
+use Rattle.objects.specs.Changes.{begun, is_frame_kind}
 use Rattle.objects.proofs.Linked.{Linked}
 use Rattle.objects.specs.Contents.{Contents, byte_in, is_frame, object_from, object_in, object_of, sending_in, contents_state, waiting_of}
 use Rattle.objects.specs.Threads.{new_object}

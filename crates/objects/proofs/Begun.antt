@@ -8,32 +8,25 @@ use Rattle.model.specs.Kernel.AddressSpaces.{page_size}
 use Rattle.model.specs.Kernel.Kinds.{frame_around, kind_at, kind_of}
 use Rattle.model.specs.Kernel.Retype.{NewObject, NewUntyped, NewThread, NewEndpoint, NewNotification, NewCNode, NewFrame, NewPageTable, NewRootTable, object_bits}
 use Rattle.model.specs.Kernel.Scheduling.{full_slice, wake}
-use Rattle.model.specs.Kernel.State.{Object, Runnable, State, ThreadObject, EndpointObject, NotificationObject, CNodeObject, FrameObject, PageTableObject, RootTableObject, as_thread, new_thread, put, thread_at}
+use Rattle.model.specs.Kernel.State.{Object, Runnable, State, ThreadObject, EndpointObject, NotificationObject, CNodeObject, FrameObject, PageTableObject, RootTableObject, as_thread, put, thread_at}
 use Rattle.model.specs.declared.slot_entries.Entry.{Entry}
 use Rattle.objects.proofs.Frames.{Unmoved, kind-put, same-state}
-use Rattle.objects.specs.Changes.{MayStand, begun, is_frame_kind}
+use Rattle.objects.specs.Changes.{begun, is_frame_kind}
 use Rattle.objects.specs.Frames.{FitsMemory, IsInRecord, IsRoom, SameBesideObjects, has_record, has_slots, slot_bytes}
-use Rattle.objects.proofs.Beginning.{begun-record, begun-thread}
 use Rattle.objects.proofs.Following.{follows-bytes}
 use Rattle.objects.proofs.Kept.{put-here, put-there}
 use Rattle.objects.proofs.Stepping.{Left}
-use Rattle.objects.proofs.Told.{has-head, has-thread, in-point, in-thread, kind-state, kind-with, own-bits, own-slots, state_with, told}
+use Rattle.objects.proofs.Told.{has-head, has-thread, in-point, in-thread, kind-state, kind-with, state_with, told}
 use Rattle.objects.proofs.Linked.{Linked}
 use Rattle.objects.specs.Waiting.{has_waiting}
 use Rattle.linked_queues.specs.Laws.{KeepHeads, KeepThreads}
-use Rattle.linked_queues.specs.Layout.{IsHeadAt, IsThreadAt, Places}
-use Rattle.linked_queues.specs.Queues.{IsHeadByte}
-use Rattle.linked_queues.specs.Ready.{ReadyStands, nobody, ready_of}
-use Rattle.linked_queues.specs.Words.{end_at, end_of, link_at, link_in, with_ends, without_links}
+use Rattle.linked_queues.specs.Layout.{Places}
+use Rattle.linked_queues.specs.Ready.{ReadyStands, ready_of}
+use Rattle.linked_queues.specs.Words.{end_at, end_of, link_at, link_in}
 use Rattle.linked_queues.specs.declared.words.Ends.{Ends}
-use Rattle.linked_queues.proofs.Laws.{begins_empty, ready_stays, waiting_stays}
-use Rattle.objects.specs.Contents.{Record}
-use Rattle.objects.specs.Contents.{CNode, Frame, PageTable, RootTable}
-use Rattle.std.proofs.Math.Pow.{pow_mono}
-use Rattle.objects.specs.Contents.{Contents, byte_in, has_queue, is_thread_kind, kind_in, places_of, ready_at, contents_state, waiting_of}
+use Rattle.linked_queues.proofs.Laws.{ready_stays, waiting_stays}
+use Rattle.objects.specs.Contents.{Contents, byte_in, is_thread_kind, kind_in, places_of, ready_at, contents_state, waiting_of}
 use Rattle.objects.specs.Threads.{new_object}
-use Rattle.thread_records.specs.Threads.{thread_state}
-use Rattle.thread_records.specs.declared.records.Thread.{Thread}
 use Rattle.objects.specs.declared.records.Kind.{Kind}
 use Rattle.objects.specs.declared.records.Kind.TheVariants as kinds
 use Rattle.removal_laws.specs.Finishing.{is_stranded, waits_nowhere}

@@ -1,15 +1,13 @@
 -- What each write of links or of contents leaves.
-use Rattle.std.proofs.Common.{ℕ, ◌≡◌, ◌≢◌, ◌∙◌, ◌==◌, ◌+◌, ◌<◌, ◌≤◌, ◌++◌, inl, inr, Bool, true, false, if◌then◌else◌, Option, Some, None, is_some, option_map, List, [], ◌∷◌, drop, length, refl, sym, ap, subst, arith}
-use Rattle.std.specs.Prelude.{option_and_then, slice_index}
-use Rattle.std.specs.Option.{option_map_or}
-use Rattle.std.proofs.lemmas.Bool.{eq-eqb}
+use Rattle.std.proofs.Common.{ℕ, ◌≡◌, ◌≢◌, ◌∙◌, ◌++◌, inl, inr, true, if◌then◌else◌, Option, Some, option_map, List, [], ◌∷◌, drop, length, sym, ap, subst}
+use Rattle.std.specs.Prelude.{option_and_then}
 use Rattle.std.proofs.lemmas.Bool.Decides.{eqb_tells}
 use Rattle.model.specs.Capabilities.Slots.{Slots}
 use Rattle.model.specs.Kernel.Kinds.{kind_at}
-use Rattle.model.specs.Kernel.Retype.{NewObject, NewNotification, NewThread}
-use Rattle.model.specs.Kernel.Scheduling.{head_of, leaves, to_tail, unready}
+use Rattle.model.specs.Kernel.Retype.{NewNotification, NewThread}
+use Rattle.model.specs.Kernel.Scheduling.{head_of, to_tail, unready}
 use Rattle.model.specs.Kernel.State.{NotificationObject, State, ThreadObject, put, thread_at, with_thread}
-use Rattle.model.specs.Shared.Lists.{times_in, without}
+use Rattle.model.specs.Shared.Lists.{without}
 use Rattle.linked_queues.specs.Laws.{AreThreadsIn}
 use Rattle.linked_queues.specs.Layout.{AreLaidOut, Places}
 use Rattle.linked_queues.specs.Queues.{QueuesStand, SameBesideWaiting, queue_of}
@@ -17,25 +15,23 @@ use Rattle.linked_queues.specs.Ready.{ReadyStands, SameBesideReady, ready_of}
 use Rattle.linked_queues.specs.declared.words.Ends.{Ends}
 use Rattle.linked_queues.proofs.Laws.{kinds_apart}
 use Rattle.objects.proofs.Endpoints.{word-with}
-use Rattle.objects.proofs.Frames.{Unmoved, kind-left, moved-to, one-put, same-state}
-use Rattle.objects.proofs.Holding.{Done, are-contents, done, entry-there, kind-as, kind-state, kind-there, linked, places-as}
+use Rattle.objects.proofs.Frames.{Unmoved, one-put, same-state}
+use Rattle.objects.proofs.Holding.{Done, are-contents, done, kind-as, kind-state, linked, places-as}
 use Rattle.objects.proofs.Joining.{nowhere-queued}
-use Rattle.objects.proofs.Kept.{put-here, put-there}
+use Rattle.objects.proofs.Kept.{put-there}
 use Rattle.objects.proofs.Linked.{Linked}
-use Rattle.objects.proofs.Parts.{IsPart, SameBesideContents, SameBesideLinks, contents-records, known-same, link-record, link-replier, link-word, links-records, never-both, ready-as, ready-links, ready-stands, record-same, same-contents, same-point, same-thread, thread-same, waiting-as, waiting-links, waiting-stands}
+use Rattle.objects.proofs.Parts.{SameBesideContents, SameBesideLinks, contents-records, known-same, link-record, link-replier, link-word, ready-as, ready-links, ready-stands, same-contents, waiting-as, waiting-links, waiting-stands}
 use Rattle.objects.proofs.Replacing.{replaced-with}
-use Rattle.objects.proofs.Stepping.{Left, enqueue-left, forget-left, left-same, serve-left, tail-left, unready-left}
-use Rattle.objects.proofs.Told as tellings
-use Rattle.objects.proofs.Told.{kind-with, laid-out, state_with, told}
+use Rattle.objects.proofs.Stepping.{Left, enqueue-left, left-same, serve-left, tail-left, unready-left}
+use Rattle.objects.proofs.Told.{laid-out, state_with, told}
 use Rattle.objects.proofs.Vacating.{other-same}
-use Rattle.objects.specs.Changes.{voided}
 use Rattle.objects.specs.Contents as contents
 use Rattle.objects.specs.Contents.{Contents, Notification, Record, contents_state, object_from, object_in, object_of, places_by}
-use Rattle.objects.specs.Frames.{IsInRecord, SameBesideRecords}
+use Rattle.objects.specs.Frames.{SameBesideRecords}
 use Rattle.objects.specs.Laid.{AreThreadsPlaced}
 use Rattle.objects.specs.Rights.{AreKnown, has_right}
 use Rattle.objects.specs.Standing.{Standing}
-use Rattle.objects.specs.Tables.{AreTables, Tables, contents_of, entry_in, kind_in, places_of, ready_at, sending_in, state_of, thread_in, waiting_of}
+use Rattle.objects.specs.Tables.{AreTables, Tables, contents_of, kind_in, places_of, ready_at, sending_in, state_of, thread_in, waiting_of}
 use Rattle.objects.specs.Waiting.{StandsNowhere, changed_at, has_waiting, joined, served, with_word}
 use Rattle.thread_records.specs.Threads.{thread_state}
 use Rattle.thread_records.specs.declared.records.Sending.{Sending}

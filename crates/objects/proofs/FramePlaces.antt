@@ -1,5 +1,5 @@
 -- A frame lies inside memory.
-use Rattle.std.proofs.Common.{ℕ, ◌≡◌, ◌∙◌, ◌*◌, ◌-◌, ◌/◌, ◌%◌, ◌^◌, ◌<◌, ◌≤◌, true, Option, is_some, List, length, ap, arith}
+use Rattle.std.proofs.Common.{ℕ, ◌≡◌, ◌∙◌, ◌*◌, ◌-◌, ◌/◌, ◌%◌, ◌^◌, ◌<◌, is_some, length, ap, arith}
 use Rattle.std.proofs.lemmas.Nat.{pow-add}
 use Rattle.model.specs.Kernel.Kinds.{frame_around}
 use Rattle.objects.proofs.Holding.{some-inside}

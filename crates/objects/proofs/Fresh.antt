@@ -1,5 +1,5 @@
 -- Tables without objects.
-use Rattle.std.proofs.Common.{ℕ, ◌≡◌, ◌∙◌, ◌==◌, ◌*◌, ◌-◌, ◌/◌, ◌%◌, ◌^◌, ◌≤◌, inl, inr, Bool, true, false, if◌then◌else◌, Option, Some, None, option_map, List, [], length, replicate, refl, sym, ap, subst, arith}
+use Rattle.std.proofs.Common.{ℕ, ◌≡◌, ◌∙◌, ◌==◌, ◌*◌, ◌-◌, ◌/◌, ◌%◌, ◌^◌, ◌≤◌, inl, inr, Bool, true, false, if◌then◌else◌, Some, None, option_map, List, [], length, replicate, refl, sym, ap, subst, arith}
 use Rattle.std.specs.Prelude.{◌+◌, slice_index, slice_index_or}
 use Rattle.std.specs.Option.{option_map_or}
 use Rattle.std.proofs.lemmas.List.{get_or-replicate, get_or_past, length-replicate}
@@ -20,7 +20,7 @@ use Rattle.objects.specs.Contents.{byte_in, contents_state, is_frame, is_thread_
 use Rattle.objects.specs.Frames.{FitsMemory}
 use Rattle.objects.specs.Rights.{has_right}
 use Rattle.objects.specs.Standing.{Standing}
-use Rattle.objects.specs.Tables.{AreTables, Tables, contents_of, entry_in, kind_in, kind_of_entry, places_of, record_from, state_of, thread_from, thread_in, waiting_of}
+use Rattle.objects.specs.Tables.{AreTables, Tables, contents_of, entry_in, kind_in, kind_of_entry, places_of, record_from, state_of, thread_from, thread_in}
 use Rattle.objects.specs.Waiting.{has_waiting}
 use Rattle.thread_records.specs.Records as thread_words
 use Rattle.objects.specs.declared.records.Entry.{Entry}

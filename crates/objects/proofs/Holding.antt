@@ -1,5 +1,5 @@
 -- What tables and bytes hold, as contents.
-use Rattle.std.proofs.Common.{ℕ, ◌≡◌, ◌∙◌, ◌==◌, ◌+◌, ◌-◌, ◌*◌, ◌/◌, ◌%◌, ◌^◌, ◌<◌, ◌≤◌, inl, inr, Bool, true, false, if◌then◌else◌, Option, Some, None, is_some, option_map, List, [], length, refl, sym, ap, subst, arith}
+use Rattle.std.proofs.Common.{ℕ, ◌≡◌, ◌∙◌, ◌+◌, ◌-◌, ◌*◌, ◌/◌, ◌%◌, ◌^◌, ◌<◌, ◌≤◌, inl, inr, true, false, if◌then◌else◌, Option, Some, None, is_some, option_map, List, [], length, refl, sym, ap, subst, arith}
 use Rattle.std.specs.Prelude.{slice_index_or}
 use Rattle.std.proofs.lemmas.Bool.{cases_lt}
 use Rattle.std.proofs.lemmas.Bool.Decides.{eqb_tells}
@@ -10,7 +10,6 @@ use Rattle.model.specs.Capabilities.Slots.{IsOpen, Slots}
 use Rattle.model.specs.Kernel.Kinds.{kind_at, kind_of}
 use Rattle.model.specs.Kernel.Retype.{NewObject, NewThread}
 use Rattle.model.specs.Kernel.State.{State}
-use Rattle.model.specs.Shared.Bytes.{word_at}
 use Rattle.linked_queues.specs.Layout.{AreLaidOut, Places}
 use Rattle.linked_queues.specs.Queues.{QueuesStand}
 use Rattle.linked_queues.specs.Ready.{ReadyStands}
@@ -153,6 +152,14 @@ module _ (o : Tables) (are : AreTables o) where
       let least = are.least_bits in
       let parts : 2 ^ o.bits ≡ 2 ^ (o.bits - 9) * 512 = ap (λ (n : ℕ). 2 ^ n) (omega (arith, least)) ∙ pow-add 2 (o.bits - 9) 9 in
       omega (arith, inside.0, inside.1, are.places, are.threads offset is, parts)
+
+  -- how many places of threads there are
+  pub thread-count : (length o.entries ≤ 2 ^ 20) × (512 * (length o.entries / 32) ≡ 2 ^ o.bits) × (length o.entries / 32 ≤ 2 ^ 15)
+  thread-count =
+      let most = pow_mono {i = o.bits} {j = 24} are.most_bits in
+      let least = are.least_bits in
+      let parts : 2 ^ o.bits ≡ 2 ^ (o.bits - 9) * 512 = ap (λ (n : ℕ). 2 ^ n) (omega (arith, least)) ∙ pow-add 2 (o.bits - 9) 9 in
+      (omega (arith, are.places, most), omega (arith, are.places, parts), omega (arith, are.places, most))
 
   pub are-contents : (memory : List ℕ) → AreContents (contents_of o memory)
   are-contents memory = record {

@@ -1,5 +1,5 @@
 -- The bytes of a new object.
-use Rattle.std.proofs.Common.{ℕ, ◌≡◌, ◌∙◌, ◌+◌, ◌*◌, ◌^◌, ◌<◌, ◌≤◌, inl, inr, Bool, true, false, Option, Some, None, List, length, refl, sym, ap, subst, arith}
+use Rattle.std.proofs.Common.{ℕ, ◌≡◌, ◌∙◌, ◌+◌, ◌*◌, ◌<◌, ◌≤◌, inl, inr, true, false, Some, None, List, length, refl, ap, arith}
 use Rattle.std.specs.Prelude.{slice_index}
 use Rattle.std.proofs.lemmas.Bool.{cases_lt}
 use Rattle.model.proofs.BytesLemmas.{length-written, slice_index-written_before, slice_index-written_behind, word_at-same, word_at-written, word_at-written_before}
@@ -19,7 +19,6 @@ use Rattle.thread_records.proofs.Laws.{record_stays}
 use Rattle.thread_records.specs.Records as thread_words
 use Rattle.thread_records.specs.Records.{SameBesideRecord}
 use Rattle.thread_records.specs.Threads.{thread_state}
-use Rattle.thread_records.specs.declared.records.Thread.{Thread}
 
 -- one word, and the bytes beside it
 pub word-size : (m : List ℕ) (at word : ℕ) → at + 4 ≤ length m → length (written m at (word_bytes word)) ≡ length m

@@ -1,25 +1,24 @@
 -- A new object stands at an offset, in tables and bytes.
-use Rattle.std.proofs.Common.{ℕ, ◌≡◌, ◌≢◌, ◌∙◌, ◌==◌, ◌+◌, ◌^◌, ◌<◌, ◌≤◌, inl, inr, Bool, true, false, if◌then◌else◌, Option, Some, None, is_some, option_map, List, length, refl, sym, ap, subst, arith}
+use Rattle.std.proofs.Common.{ℕ, ◌≡◌, ◌≢◌, ◌∙◌, ◌==◌, ◌+◌, ◌<◌, ◌≤◌, inl, inr, true, false, if◌then◌else◌, Option, Some, None, is_some, option_map, List, length, refl, sym, ap, arith}
 use Rattle.std.specs.Prelude.{slice_index}
 use Rattle.std.specs.Option.{option_map_or}
 use Rattle.std.proofs.lemmas.Bool.Decides.{eqb_tells}
 use Rattle.model.specs.Capabilities.Slots.{Slots}
-use Rattle.model.specs.Kernel.Kinds.{kind_at, kind_of}
-use Rattle.model.specs.Kernel.Retype.{NewObject, NewThread, object_bits}
-use Rattle.model.specs.Kernel.State.{State, ThreadState, new_thread, put}
+use Rattle.model.specs.Kernel.Kinds.{kind_of}
+use Rattle.model.specs.Kernel.Retype.{NewThread}
+use Rattle.model.specs.Kernel.State.{State, ThreadState, put}
 use Rattle.model.specs.Shared.Bytes.{word_at}
 use Rattle.objects.proofs.Beginning.{begun-record, begun-thread, record_of}
 use Rattle.objects.proofs.Begun.{begun-bytes, begun-left}
-use Rattle.objects.proofs.Holding.{Done, done, entry-there, kind-state, kind-there, linked, thread-some}
-use Rattle.objects.proofs.Kept.{put-here, put-there}
+use Rattle.objects.proofs.Holding.{Done, done, kind-state, kind-there, linked, thread-some}
+use Rattle.objects.proofs.Kept.{put-there}
 use Rattle.objects.proofs.Linked.{Linked}
-use Rattle.objects.proofs.Parts.{IsPart, replier-same, same-contents}
-use Rattle.objects.proofs.Stepping.{Left}
-use Rattle.objects.proofs.Told.{in-point, in-thread, state_with, told}
+use Rattle.objects.proofs.Parts.{replier-same, same-contents}
+use Rattle.objects.proofs.Told.{in-point, in-thread, state_with}
 use Rattle.objects.specs.Changes.{begun}
 use Rattle.objects.specs.Contents as contents
 use Rattle.objects.specs.Contents.{Contents, Record, Endpoint, Notification, CNode, Frame, PageTable, RootTable}
-use Rattle.objects.specs.Frames.{IsInRecord, IsRoom, SameBesideObjects, has_record, slot_bytes}
+use Rattle.objects.specs.Frames.{IsInRecord, IsRoom, SameBesideObjects}
 use Rattle.objects.specs.Laid.{AreThreadsPlaced, BegunAt}
 use Rattle.objects.specs.Rights.{AreKnown, has_right}
 use Rattle.objects.specs.Standing.{Standing}
@@ -31,7 +30,6 @@ use Rattle.objects.specs.declared.records.Entry.TheVariants as entries
 use Rattle.objects.specs.declared.records.Kind.{Kind}
 use Rattle.objects.specs.declared.records.Kind.TheVariants as kinds
 use Rattle.thread_records.specs.Records as thread_words
-use Rattle.thread_records.specs.Threads.{thread_state}
 use Rattle.thread_records.specs.declared.records.Thread.{Thread}
 
 nothing-entry : (e : Entry) → kind_of_entry e ≡ None → e ≡ entries.Nothing

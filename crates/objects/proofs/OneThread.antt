@@ -1,5 +1,5 @@
 -- What single calls on one thread leave.
-use Rattle.std.proofs.Common.{ℕ, ◌≡◌, ◌∙◌, ◌+◌, ◌^◌, ◌<◌, ◌≤◌, inl, inr, Bool, true, false, Option, Some, None, option_map, List, length, refl, sym, ap, subst, arith}
+use Rattle.std.proofs.Common.{ℕ, ◌≡◌, ◌∙◌, ◌+◌, ◌^◌, ◌<◌, ◌≤◌, inl, inr, true, false, Option, Some, None, option_map, List, length, refl, sym, ap, subst, arith}
 use Rattle.std.specs.Prelude.{option_and_then, slice_index}
 use Rattle.std.specs.Option.{option_map_or}
 use Rattle.model.specs.Capabilities.Slots.{OutsideSlots, Slots}
@@ -10,7 +10,7 @@ use Rattle.model.specs.Kernel.State.{State, ThreadObject, ThreadState, new_threa
 use Rattle.model.proofs.BytesLemmas.{word_at-written}
 use Rattle.model.specs.Shared.Bytes.{word_at, word_bytes, written}
 use Rattle.objects.proofs.Doing.{sending-done, thread-done, word-done}
-use Rattle.objects.proofs.Frames.{Unmoved, moved-to, one-put, same-objects}
+use Rattle.objects.proofs.Frames.{moved-to, one-put, same-objects}
 use Rattle.objects.proofs.Holding.{Done, closed, entry-there, kind-state, kind-there, linked, places-as, thread-entry, thread-place, thread-some}
 use Rattle.objects.proofs.Made.{word-beside, word-size}
 use Rattle.objects.proofs.Parts.{IsPart, SameBesideContents, contents-then, known-same, record-beside, replier-beside, replier-same, threads-beside}
@@ -30,7 +30,7 @@ use Rattle.objects.proofs.Stranded.{stranded-at, stranded-nobody}
 use Rattle.objects.specs.Contents as contents
 use Rattle.objects.specs.Contents.{contents_state, is_thread_kind, object_in}
 use Rattle.removal_laws.specs.Finishing.{is_stranded, waits_nowhere}
-use Rattle.objects.specs.Frames.{IsInRecord, SameBesideRecords, SameObjects}
+use Rattle.objects.specs.Frames.{SameBesideRecords, SameObjects}
 use Rattle.objects.specs.Laid.{IsThreadPlace}
 use Rattle.objects.specs.Rights.{AreKnown, SameBesideReplier, has_right, noted, replier_at}
 use Rattle.objects.specs.Standing.{Standing}

@@ -1,10 +1,8 @@
 -- A thread leaves all queues, and nothing stands at an offset any more.
-use Rattle.std.proofs.Common.{ℕ, ◌≡◌, ◌≢◌, ◌∙◌, ◌==◌, ◌+◌, ◌*◌, ◌<◌, ◌≤◌, inl, inr, Bool, true, false, if◌then◌else◌, Option, Some, None, is_some, option_map, List, [], length, refl, sym, ap, subst, arith}
-use Rattle.std.specs.Prelude.{slice_index}
+use Rattle.std.proofs.Common.{ℕ, ◌≡◌, ◌≢◌, ◌∙◌, ◌==◌, ◌+◌, ◌*◌, inl, inr, true, false, if◌then◌else◌, Option, None, is_some, option_map, List, [], length, refl, sym, ap, subst, arith}
 use Rattle.std.proofs.lemmas.Bool.Decides.{eqb_tells}
 use Rattle.model.specs.Capabilities.Slots.{Slots}
 use Rattle.model.specs.Kernel.Kinds.{kind_at}
-use Rattle.model.specs.Kernel.Retype.{NewObject, NewThread}
 use Rattle.model.specs.Kernel.Scheduling.{leaves}
 use Rattle.model.specs.Kernel.State.{State, put}
 use Rattle.model.specs.Shared.Bytes.{word_at}
@@ -17,20 +15,20 @@ use Rattle.linked_queues.specs.declared.words.Ends.{Ends}
 use Rattle.linked_queues.proofs.Laws.{kinds_apart}
 use Rattle.objects.proofs.Doing.{links-contents, links-known}
 use Rattle.objects.proofs.Frames.{Unmoved, kind-left, record-was, same-state}
-use Rattle.objects.proofs.Holding.{Done, are-contents, done, entry-there, kind-as, kind-state, kind-there, linked, places-as, thread-some}
-use Rattle.objects.proofs.Kept.{put-here, put-there}
+use Rattle.objects.proofs.Holding.{Done, are-contents, done, kind-state, kind-there, linked, places-as, thread-some}
+use Rattle.objects.proofs.Kept.{put-there}
 use Rattle.objects.proofs.Linked.{Linked}
 use Rattle.objects.proofs.Parts.{SameBesideContents, SameBesideLinks, contents-records, known-same, link-replier, links-then, ready-as, ready-links, ready-stands, replier-same, threads-beside, waiting-as, waiting-links, waiting-stands}
 use Rattle.objects.proofs.Stepping.{Left, forget-left, left-same, ready-then, vacate-left}
 use Rattle.objects.proofs.Told as tellings
 use Rattle.objects.proofs.Told.{laid-out, state_with, told}
-use Rattle.objects.proofs.Writing.{thread-here, threads-record, threads-replier, void-fewer, void-gone}
+use Rattle.objects.proofs.Writing.{threads-record, threads-replier, void-fewer, void-gone}
 use Rattle.objects.specs.Changes.{vacated, voided}
 use Rattle.objects.specs.Contents as contents
 use Rattle.objects.specs.Contents.{Contents, Record, contents_state, places_by}
-use Rattle.objects.specs.Frames.{IsInRecord, SameBesideRecords}
-use Rattle.objects.specs.Laid.{AreThreadsPlaced, SameBesideThreads, threads_by}
-use Rattle.objects.specs.Rights.{AreKnown, has_right, replier_at}
+use Rattle.objects.specs.Frames.{SameBesideRecords}
+use Rattle.objects.specs.Laid.{AreThreadsPlaced, SameBesideThreads}
+use Rattle.objects.specs.Rights.{AreKnown, has_right}
 use Rattle.objects.specs.Standing.{Standing}
 use Rattle.objects.specs.Tables.{AreTables, Tables, contents_of, entry_in, kind_in, places_of, ready_at, record_from, state_of, thread_from, thread_in, waiting_of}
 use Rattle.objects.specs.declared.records.Entry.{Entry}

@@ -1,23 +1,20 @@
 -- Which bytes of an object hold its links, and which its contents: neither kind of bytes lies in the other.
-use Rattle.std.proofs.Common.{ℕ, ◌≡◌, ◌∙◌, ◌+◌, ◌<◌, ◌≤◌, inl, inr, Bool, true, false, Option, Some, None, is_some, List, length, refl, sym, ap, subst, arith}
+use Rattle.std.proofs.Common.{ℕ, ◌≡◌, ◌∙◌, ◌+◌, ◌<◌, ◌≤◌, inl, true, false, Option, Some, is_some, List, length, refl, sym, ap, arith}
 use Rattle.std.specs.Prelude.{slice_index}
 use Rattle.model.proofs.BytesLemmas.{word_at-same}
 use Rattle.model.specs.Capabilities.Slots.{Slots}
 use Rattle.model.specs.Kernel.Kinds.{kind_at}
-use Rattle.model.specs.Kernel.Retype.{NewObject, NewThread}
+use Rattle.model.specs.Kernel.Retype.{NewThread}
 use Rattle.model.specs.Kernel.State.{State}
 use Rattle.model.specs.Shared.Bytes.{word_at}
 use Rattle.linked_queues.specs.Laws.{AreThreadsIn, KeepHeads, KeepThreads}
-use Rattle.linked_queues.specs.Layout.{Places}
 use Rattle.linked_queues.specs.Queues.{QueuesStand, SameBesideWaiting, queue_of}
 use Rattle.linked_queues.specs.Ready.{ReadyStands, SameBesideReady, ready_of}
 use Rattle.linked_queues.specs.declared.words.Ends.{Ends}
 use Rattle.linked_queues.proofs.Laws.{ready_stays, waiting_stays}
-use Rattle.objects.proofs.Holding.{entry-there, kind-as, kind-state, kind-there, thread-some}
-use Rattle.objects.proofs.Told.{has-head, has-thread, if-head, in-point, in-thread, is-thread}
-use Rattle.objects.specs.Contents as contents
-use Rattle.objects.specs.Contents.{Contents, Record}
-use Rattle.objects.specs.Frames.{FitsMemory, IsInRecord, SameBesideRecords}
+use Rattle.objects.proofs.Holding.{entry-there, kind-state, kind-there, thread-some}
+use Rattle.objects.proofs.Told.{if-head, in-point, in-thread, is-thread}
+use Rattle.objects.specs.Frames.{FitsMemory, SameBesideRecords}
 use Rattle.objects.specs.Laid.{SameBesideThreads}
 use Rattle.objects.specs.Rights.{AreKnown, SameBesideReplier, has_right, one_of, replier_at}
 use Rattle.objects.specs.Tables.{Tables, contents_of, entry_in, kind_in, kind_of_entry, places_of, record_from, state_of, thread_from, thread_in}

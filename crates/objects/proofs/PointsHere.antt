@@ -1,5 +1,5 @@
 -- Endpoints and notifications that the tables hold, with those that wait in the bytes of memory.
-use Rattle.std.proofs.Common.{ℕ, ◌≡◌, ◌∙◌, ◌&&◌, ◌↔◌, true, false, Bool, Option, Some, None, is_some, List, [], ◌∷◌, drop, sym, ap, subst}
+use Rattle.std.proofs.Common.{ℕ, ◌≡◌, ◌∙◌, ◌&&◌, ◌↔◌, true, false, Bool, Option, Some, None, is_some, List, [], ◌∷◌, drop, sym, ap}
 use Rattle.model.specs.Capabilities.Slots.{Slots}
 use Rattle.model.specs.Kernel.Kinds.{kind_at}
 use Rattle.model.specs.Kernel.Retype.{NewEndpoint, NewNotification, NewObject}
@@ -13,7 +13,6 @@ use Rattle.objects.proofs.Holding.{kind-as, places-as}
 use Rattle.objects.specs.Contents as contents
 use Rattle.objects.specs.Contents.{Contents}
 use Rattle.objects.specs.Tables.{Tables, contents_of, kind_in, sending_in, state_of, waiting_of}
-use Rattle.objects.specs.Threads.{new_object}
 use Rattle.objects.specs.Waiting.{IsOneSided, has_waiting}
 use Rattle.thread_records.specs.Threads.{sender_of}
 use Rattle.thread_records.specs.declared.records.Sending.{Sending}

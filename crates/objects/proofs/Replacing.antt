@@ -5,20 +5,17 @@ use Rattle.std.specs.Option.{option_map_or}
 use Rattle.std.proofs.lemmas.Bool.Decides.{eqb_tells}
 use Rattle.model.specs.Capabilities.Slots.{Slots}
 use Rattle.model.specs.Kernel.Kinds.{kind_at, kind_of}
-use Rattle.model.specs.Kernel.Messages.{with_registers}
 use Rattle.model.specs.Kernel.Retype.{NewThread}
 use Rattle.model.specs.Kernel.Scheduling.{at_tail, is_runnable, to_tail, unready}
 use Rattle.model.specs.Kernel.State.{EndpointObject, Object, State, ThreadObject, ThreadState, new_thread, put, thread_at, with_thread}
 use Rattle.model.specs.Kernel.ThreadCalls.{with_priority}
-use Rattle.model.specs.Machine.ProgramMemory.{RegisterFile}
 use Rattle.objects.proofs.Ends.{as-thread}
 use Rattle.objects.proofs.Kept.{put-here, put-there}
 use Rattle.objects.proofs.Lists.{receivers-by, senders-by}
 use Rattle.objects.specs.Contents.{Contents, kind_in, object_from, object_in, object_of, ready_at, sending_in, contents_state, waiting_of}
-use Rattle.thread_records.specs.Threads.{status_of, thread_state}
+use Rattle.thread_records.specs.Threads.{thread_state}
 use Rattle.objects.specs.Contents.{Record}
 use Rattle.objects.specs.Contents.{Endpoint, Notification, CNode, Frame, PageTable, RootTable}
-use Rattle.thread_records.specs.declared.records.Status.TheVariants.{Runnable}
 use Rattle.thread_records.specs.declared.records.Thread.{Thread}
 use Rattle.objects.proofs.Frames.{kind-put}
 use Rattle.objects.proofs.Told.{state_with, told, told-same}

@@ -1,12 +1,10 @@
 -- The state of tables goes along with slots and with bytes that are in no record.
-use Rattle.std.proofs.Common.{ℕ, ◌≡◌, ◌∙◌, ◌%◌, ◌/◌, Option, Some, None, option_map, List, length, sym, ap, subst, arith}
+use Rattle.std.proofs.Common.{ℕ, ◌≡◌, ◌∙◌, ◌/◌, Some, None, option_map, List, length, sym, ap, subst, arith}
 use Rattle.std.specs.Prelude.{slice_index}
 use Rattle.model.specs.Capabilities.Slots.{IsOpen, SameOutside, Slots}
-use Rattle.model.specs.Kernel.Kinds.{kind_at}
-use Rattle.model.specs.Kernel.Retype.{NewObject}
 use Rattle.model.specs.Kernel.State.{State, with_slots}
 use Rattle.objects.proofs.Following as following
-use Rattle.objects.proofs.Holding.{are-contents, kind-state, linked, standing}
+use Rattle.objects.proofs.Holding.{kind-state, linked, standing}
 use Rattle.objects.proofs.Linked.{Linked}
 use Rattle.objects.proofs.Parts.{known-same, same-contents}
 use Rattle.objects.proofs.Told.{in-point, in-thread}
@@ -15,7 +13,7 @@ use Rattle.objects.specs.Frames.{IsInRecord, SameBesideFrames, SameKept}
 use Rattle.objects.specs.Laid.{AreThreadsPlaced}
 use Rattle.objects.specs.Rights.{AreKnown, has_right}
 use Rattle.objects.specs.Standing.{Standing}
-use Rattle.objects.specs.Tables.{AreTables, Tables, contents_of, state_of, thread_in}
+use Rattle.objects.specs.Tables.{Tables, contents_of, state_of, thread_in}
 use Rattle.objects.specs.Waiting.{has_waiting}
 
 module _ (o : Tables) (slots : Slots) (old new : List ℕ) (stands : Standing o slots old) where

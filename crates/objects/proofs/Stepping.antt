@@ -1,13 +1,13 @@
 -- A call that changes queues leaves a state, and what stands stands.
 use Rattle.std.proofs.Common.{ℕ, ◌≡◌, ◌≢◌, ◌∙◌, ◌==◌, inl, inr, true, false, if◌then◌else◌, Option, Some, None, is_some, option_map, List, [], ◌∷◌, ◌++◌, drop, length, refl, sym, ap, subst, arith}
-use Rattle.std.specs.Prelude.{option_and_then, slice_index}
+use Rattle.std.specs.Prelude.{slice_index}
 use Rattle.std.proofs.lemmas.Bool.{cases_lt}
 use Rattle.std.proofs.lemmas.Bool.Decides.{eqb_tells}
 use Rattle.model.specs.Capabilities.Slots.{IsOpen, Slots}
 use Rattle.model.specs.Kernel.Kinds.{frame_around, kind_at, kind_of}
 use Rattle.model.specs.Kernel.Retype.{NewObject}
-use Rattle.model.specs.Kernel.Scheduling.{full_slice, head_of, leaves, to_tail, unready, wake}
-use Rattle.model.specs.Kernel.State.{Runnable, State, ThreadObject, ThreadState, put, thread_at, with_thread}
+use Rattle.model.specs.Kernel.Scheduling.{head_of, leaves, to_tail, unready}
+use Rattle.model.specs.Kernel.State.{State, put, thread_at}
 use Rattle.model.specs.Shared.Lists.{times_in, without}
 use Rattle.linked_queues.specs.Laws.{AreThreadsIn, KeepHeads, KeepThreads}
 use Rattle.linked_queues.specs.Layout.{AreLaidOut, Places}
@@ -17,12 +17,11 @@ use Rattle.linked_queues.specs.Words.{end_of, link_at, link_in}
 use Rattle.linked_queues.specs.declared.words.Ends.{Ends}
 use Rattle.linked_queues.proofs.Laws.{kinds_apart, nobody_named, ready_stays, waiting_stays}
 use Rattle.objects.proofs.Following.{follows-bytes}
-use Rattle.objects.proofs.Frames.{Unmoved, fits-less, kind-joined, kind-left, kind-served, moved-to, one-changed, one-put, record-was, records-then, stands-unmoved}
+use Rattle.objects.proofs.Frames.{Unmoved, fits-less, kind-joined, kind-left, kind-served, one-changed, records-then}
 use Rattle.objects.proofs.InQueues.{ready-records, times-gone, waiting-records}
 use Rattle.objects.proofs.Joining.{free-queue, joined-state, nowhere-queued}
-use Rattle.objects.proofs.Kept.{put-here}
 use Rattle.objects.proofs.Leaving.{left-state}
-use Rattle.objects.proofs.Replacing.{ready-is, replaced-state, thread-is, thread-kind, thread-there}
+use Rattle.objects.proofs.Replacing.{ready-is, thread-there}
 use Rattle.objects.proofs.Serving.{served-state}
 use Rattle.objects.proofs.Told.{AreThere, kind-state, kind-with, same-places, state_with, told}
 use Rattle.objects.proofs.Vacating.{vacated-state}
@@ -30,11 +29,9 @@ use Rattle.objects.specs.Changes.{vacated, voided}
 use Rattle.objects.specs.Frames.{FitsMemory, SameBesideRecords}
 use Rattle.objects.proofs.Linked.{Linked}
 use Rattle.objects.specs.Contents.{Contents, byte_in, is_thread_kind, kind_in, places_of, ready_at, sending_in, contents_state, waiting_of}
-use Rattle.thread_records.specs.Threads.{thread_state}
 use Rattle.objects.specs.Waiting.{StandsNowhere, changed_at, has_waiting, joined, served}
 use Rattle.objects.specs.Contents.{Record}
 use Rattle.thread_records.specs.declared.records.Sending.{Sending}
-use Rattle.thread_records.specs.declared.records.Status.TheVariants as statuses
 use Rattle.thread_records.specs.declared.records.Thread.{Thread}
 
 -- what a call leaves: a state, and that it stands

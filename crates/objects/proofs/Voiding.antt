@@ -1,12 +1,11 @@
 -- Rights to reply to a thread are taken away, in the threads that the bytes hold.
-use Rattle.std.proofs.Common.{ℕ, ◌≡◌, ◌≢◌, ◌∙◌, ◌==◌, ◌+◌, ◌*◌, ◌/◌, ◌%◌, ◌^◌, ◌<◌, ◌≤◌, inl, inr, Bool, true, false, if◌then◌else◌, Option, Some, None, is_some, option_map, List, length, refl, sym, ap, subst, arith}
-use Rattle.std.specs.Prelude.{slice_index}
+use Rattle.std.proofs.Common.{ℕ, ◌≡◌, ◌≢◌, ◌∙◌, ◌+◌, ◌*◌, ◌/◌, ◌<◌, ◌≤◌, inl, inr, true, false, if◌then◌else◌, Option, Some, None, is_some, option_map, List, length, refl, sym, ap, subst, arith}
 use Rattle.std.proofs.lemmas.Bool.{cases_lt}
 use Rattle.std.proofs.lemmas.Bool.Decides.{eqb_tells}
 use Rattle.model.specs.Capabilities.Slots.{Slots}
 use Rattle.model.specs.Kernel.State.{put}
 use Rattle.objects.proofs.Holding.{some-inside, thread-entry}
-use Rattle.objects.proofs.Kept.{put-here, put-there}
+use Rattle.objects.proofs.Kept.{put-there}
 use Rattle.objects.proofs.Parts.{thread-from-same}
 use Rattle.objects.proofs.Writing.{void-keeps}
 use Rattle.objects.specs.Changes.{voided}

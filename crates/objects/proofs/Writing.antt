@@ -1,18 +1,17 @@
 -- What writes to records, to words and to who may reply leave of threads, words and rights.
-use Rattle.std.proofs.Common.{ℕ, ◌≡◌, ◌≢◌, ◌∙◌, ◌==◌, ◌&&◌, ◌+◌, ◌<◌, ◌≤◌, inl, inr, Bool, true, false, not, if◌then◌else◌, Option, Some, None, is_some, option_map, List, length, refl, sym, ap, subst, arith}
+use Rattle.std.proofs.Common.{ℕ, ◌≡◌, ◌≢◌, ◌∙◌, ◌==◌, ◌&&◌, ◌+◌, inl, inr, true, false, not, if◌then◌else◌, Option, Some, None, is_some, option_map, List, length, refl, sym, ap, arith}
 use Rattle.std.specs.Prelude.{slice_index}
 use Rattle.std.specs.Option.{option_map_or}
 use Rattle.std.proofs.lemmas.Bool.Decides.{eqb_tells}
-use Rattle.model.proofs.BytesLemmas.{length-written, slice_index-written_before, slice_index-written_behind, word_at-written}
 use Rattle.model.specs.Capabilities.Slots.{Slots}
 use Rattle.model.specs.Kernel.Retype.{NewNotification, NewThread}
 use Rattle.model.specs.Kernel.State.{put}
-use Rattle.model.specs.Shared.Bytes.{word_at, word_bytes, written}
+use Rattle.model.specs.Shared.Bytes.{word_at}
 use Rattle.objects.proofs.Holding.{entry-there, kind-there, thread-some}
 use Rattle.objects.proofs.Kept.{put-here, put-there}
-use Rattle.objects.proofs.Parts.{IsPart, known-same, never-both, record-same, replier-same, same-point, same-thread, thread-same}
+use Rattle.objects.proofs.Parts.{IsPart, never-both, record-same, replier-same, same-point, same-thread, thread-same}
 use Rattle.objects.specs.Changes.{voided}
-use Rattle.objects.specs.Contents.{Notification, Record}
+use Rattle.objects.specs.Contents.{Notification}
 use Rattle.objects.specs.Frames.{FitsMemory}
 use Rattle.objects.specs.Laid.{SameBesideThreads}
 use Rattle.objects.specs.Rights.{AreKnown, SameBesideReplier, has_right, noted, replier_at}

@@ -1,6 +1,6 @@
 -- What the tables and the bytes of memory hold of objects, and the state that this stands for.
 -- seL4 Reference Manual, "Kernel Services and Objects".
-use Rattle.std.specs.Prelude.{ℕ, ◌==◌, Bool, true, false, not, if◌then◌else◌, Option, Some, None, is_some, option_map, option_and_then, List, [], filter, filter_map, slice_index, slice_index_or}
+use Rattle.std.specs.Prelude.{ℕ, Bool, true, false, not, if◌then◌else◌, Option, Some, None, is_some, option_map, option_and_then, List, [], filter, filter_map, slice_index, slice_index_or}
 use Rattle.std.specs.Option.{option_map_or}
 use Rattle.model.specs.Capabilities.Slots.{Slots}
 use Rattle.model.specs.Kernel.Kinds.{frame_around, kind_of}

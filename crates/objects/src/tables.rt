@@ -153,10 +153,7 @@ impl Objects {
     pub(crate) fn has_queue(&self, offset: u32) -> bool
         ensures { result ≡ has_waiting (kind_in self.now offset) }
     {
-        matches!(
-            self.held.get(offset),
-            Entry::Endpoint | Entry::Notification
-        )
+        matches!(self.held.get(offset), Entry::Endpoint | Entry::Notification)
     }
 
     /// Whether a place stands in a frame.

@@ -1,5 +1,4 @@
 -- The two words of the queue and the word are written.
-use Rattle.std.proofs.Common.{refl, ◌≡◌, ◌+◌, ◌≤◌, arith}
 use Rattle.objects.proofs.Made.{point-beside, point-unwaited, point-word}
 use Rattle.objects.proofs.beginnings.begin_point.Goals as goal
 

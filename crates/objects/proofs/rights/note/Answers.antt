@@ -1,5 +1,4 @@
 -- The bytes of who may reply are there.
-use Rattle.std.proofs.Common.{sym}
 use Rattle.objects.proofs.rights.note.Goals as goal
 
 pub replier-requires : goal.replier-requires

@@ -10,14 +10,14 @@ use Rattle.objects.specs.contracts.tables.Objects.{the_view}
 use Rattle.objects.proofs.tables.Objects.begin.Goals as goal
 
 pub begin_bytes-requires : goal.begin_bytes-requires
-begin_bytes-requires g c = 
+begin_bytes-requires g c =
     let stands = rw (← c.self.view_is) at c.requires.stands in
     let room = rw (← c.self.view_is) at c.requires.room in
     let fits = rw (← c.self.view_is) at c.requires.fits in
     room-at (the_view c.self.inside) (g.S.SlotMap.slots c.args.store.now) (g.S.SlotStore.memory c.args.store.now) c.args.kind c.args.offset c.self.invariant stands.fits fits room
 
 pub invariant_of-self : goal.invariant_of-self
-invariant_of-self g c = 
+invariant_of-self g c =
     let stands = rw (← c.self.view_is) at c.requires.stands in
     let free = rw (← c.self.view_is) at c.requires.free in
     let room = rw (← c.self.view_is) at c.requires.room in
@@ -28,7 +28,7 @@ invariant_of-self g c =
     now
 
 pub returns-clause-state : goal.returns-clause-state
-returns-clause-state g c = 
+returns-clause-state g c =
     let stands = rw (← c.self.view_is) at c.requires.stands in
     let free = rw (← c.self.view_is) at c.requires.free in
     let room = rw (← c.self.view_is) at c.requires.room in
@@ -39,7 +39,7 @@ returns-clause-state g c =
     rw (← c.self.view_is) (begin-done (the_view c.self.inside) (g.S.SlotMap.slots c.args.store.now) (g.S.SlotMap.slots c.begin_bytes.new.store) (g.S.SlotStore.memory c.args.store.now) (g.S.SlotStore.memory c.begin_bytes.new.store) c.args.kind c.args.offset stands c.begin_bytes.ensures.slots free room c.put.new.self entered c.begin_bytes.ensures.bytes placed).state
 
 pub returns-clause-bytes : goal.returns-clause-bytes
-returns-clause-bytes g c = 
+returns-clause-bytes g c =
     let stands = rw (← c.self.view_is) at c.requires.stands in
     let free = rw (← c.self.view_is) at c.requires.free in
     let room = rw (← c.self.view_is) at c.requires.room in
@@ -50,7 +50,7 @@ returns-clause-bytes g c =
     begin-bytes (the_view c.self.inside) (g.S.SlotMap.slots c.args.store.now) (g.S.SlotMap.slots c.begin_bytes.new.store) (g.S.SlotStore.memory c.args.store.now) (g.S.SlotStore.memory c.begin_bytes.new.store) c.args.kind c.args.offset stands c.begin_bytes.ensures.slots free room c.put.new.self entered c.begin_bytes.ensures.bytes placed
 
 pub returns-clause-stands : goal.returns-clause-stands
-returns-clause-stands g c = 
+returns-clause-stands g c =
     let stands = rw (← c.self.view_is) at c.requires.stands in
     let free = rw (← c.self.view_is) at c.requires.free in
     let room = rw (← c.self.view_is) at c.requires.room in

@@ -1,5 +1,5 @@
 -- The word is written to its place.
-use Rattle.std.proofs.Common.{◌≡◌, ◌∙◌, ◌+◌, ◌<◌, ◌≤◌, ◌^◌, length, sym, arith}
+use Rattle.std.proofs.Common.{◌∙◌, sym}
 use Rattle.model.specs.Kernel.State.{NotificationObject}
 use Rattle.objects.proofs.Frames.{moved-to, one-put, same-objects}
 use Rattle.objects.proofs.Holding.{kind-state}
