@@ -1,5 +1,5 @@
 -- A new object stands at an offset where none was.
-use Rattle.std.proofs.Common.{ℕ, ◌≡◌, ◌≢◌, ◌∙◌, ◌==◌, ◌+◌, ◌<◌, ◌≤◌, ◌&&◌, inl, inr, Bool, true, false, if◌then◌else◌, Option, Some, None, option_map, List, [], ◌∷◌, refl, sym, ap, arith}
+use Rattle.std.proofs.Common.{ℕ, ◌≡◌, ◌≢◌, ◌∙◌, ◌==◌, ◌+◌, ◌<◌, ◌&&◌, inl, inr, Bool, true, false, if◌then◌else◌, Option, Some, None, option_map, List, [], ◌∷◌, refl, sym, ap, arith}
 use Rattle.std.specs.Prelude.{option_and_then, slice_index}
 use Rattle.std.specs.Option.{option_map_or}
 use Rattle.std.proofs.lemmas.Bool.{cases_lt, eq-eqb}
@@ -11,16 +11,16 @@ use Rattle.model.specs.Kernel.State.{Object, ThreadObject, new_thread, put}
 use Rattle.model.specs.Shared.Lists.{times_in}
 use Rattle.objects.proofs.Kept.{put-here, put-there}
 use Rattle.objects.proofs.Vacating.{other-same}
-use Rattle.objects.specs.Changes.{MayStand, begun, is_frame_kind}
-use Rattle.objects.specs.Standing.{Standing}
-use Rattle.objects.specs.Tables.{Tables, byte_in, is_frame, object_from, object_in, object_of, record_in, record_of, sending_in, state_of, thread_in, told_by, waiting_of}
-use Rattle.thread_records.specs.Threads.{thread_state}
+use Rattle.objects.specs.Changes.{begun, is_frame_kind}
+use Rattle.objects.proofs.Linked.{Linked}
+use Rattle.objects.specs.Contents.{Contents, byte_in, is_frame, object_from, object_in, object_of, sending_in, contents_state, waiting_of}
 use Rattle.objects.specs.Threads.{new_object}
+use Rattle.thread_records.specs.Threads.{thread_state}
 use Rattle.objects.specs.Waiting.{has_waiting}
 use Rattle.objects.specs.declared.records.Kind.{Kind}
 use Rattle.objects.specs.declared.records.Kind.TheVariants as kinds
-use Rattle.objects.specs.declared.records.Record.{Record}
-use Rattle.objects.specs.declared.records.Record.TheVariants.{Endpoint, Notification, CNode, Frame, PageTable, RootTable}
+use Rattle.objects.specs.Contents.{Record}
+use Rattle.objects.specs.Contents.{Endpoint, Notification, CNode, Frame, PageTable, RootTable}
 use Rattle.thread_records.specs.declared.records.Thread.{Thread}
 use Rattle.objects.proofs.Told.{state_with, waited, waiters}
 
@@ -30,7 +30,7 @@ free-thread : (t : Option Thread) (p : Option Object) → object_from t p ≡ No
 free-thread (Some t) p free = absurd (let clash : Some (ThreadObject (thread_state t)) ≡ None = free in cc)
 free-thread None p free = refl
 
-free-record : (threads : List (Option Thread)) (waiting : List ℕ) (t : Option Thread) (r : Option Record) → object_from t (option_map (object_of threads waiting) r) ≡ None → r ≡ None
+free-record : (threads : ℕ → Option Thread) (waiting : List ℕ) (t : Option Thread) (r : Option Record) → object_from t (option_map (object_of threads waiting) r) ≡ None → r ≡ None
 free-record threads waiting (Some t) r free = absurd (let clash : Some (ThreadObject (thread_state t)) ≡ None = free in cc)
 free-record threads waiting None (Some r) free = absurd (let clash : Some (object_of threads waiting r) ≡ None = free in cc)
 free-record threads waiting None None free = refl
@@ -41,11 +41,20 @@ nobody queues queue none = elim (queues queue) as (λ l. ((thread : ℕ) → 0 <
   | x ∷ rest ↦ λ none. absurd (none x (omega (arith, ap (λ b. if b then times_in rest x + 1 else times_in rest x) (eq-eqb x x refl))))
 ] none
 
--- what the record of a kind stands for
+-- what stands at the offset of a new object that is no thread
+abbrev pub record_of : Kind → Option Record
+record_of kinds.Thread = None
+record_of kinds.Endpoint = Some Endpoint
+record_of kinds.Notification = Some (Notification 0)
+record_of (kinds.CNode radix) = Some (CNode radix)
+record_of kinds.Frame = Some Frame
+record_of kinds.PageTable = Some PageTable
+record_of kinds.RootTable = Some RootTable
+
 same-record : (a b : Record) → Some a ≡ Some b → a ≡ b
 same-record a b same = cc
 
-new-record : (threads : List (Option Thread)) (kind : Kind) (r : Record) → record_of kind ≡ Some r
+new-record : (threads : ℕ → Option Thread) (kind : Kind) (r : Record) → record_of kind ≡ Some r
     → (object_of threads [] r ≡ new_object kind) × (is_frame r ≡ is_frame_kind kind)
 new-record threads kinds.Thread r is = absurd (let clash : None ≡ Some r = is in cc)
 new-record threads kinds.Endpoint r is = let e = same-record r Endpoint (sym is) in (ap (object_of threads []) e, ap is_frame e)
@@ -55,45 +64,17 @@ new-record threads kinds.Frame r is = let e = same-record r Frame (sym is) in (a
 new-record threads kinds.PageTable r is = let e = same-record r PageTable (sym is) in (ap (object_of threads []) e, ap is_frame e)
 new-record threads kinds.RootTable r is = let e = same-record r RootTable (sym is) in (ap (object_of threads []) e, ap is_frame e)
 
-pub no-record : (kind : Kind) → record_of kind ≡ None → kind ≡ kinds.Thread
-no-record kinds.Thread none = refl
-no-record kinds.Endpoint none = absurd (let clash : Some Endpoint ≡ None = none in cc)
-no-record kinds.Notification none = absurd (let clash : Some (Notification 0) ≡ None = none in cc)
-no-record (kinds.CNode radix) none = absurd (let clash : Some (CNode radix) ≡ None = none in cc)
-no-record kinds.Frame none = absurd (let clash : Some Frame ≡ None = none in cc)
-no-record kinds.PageTable none = absurd (let clash : Some PageTable ≡ None = none in cc)
-no-record kinds.RootTable none = absurd (let clash : Some RootTable ≡ None = none in cc)
-
--- a new CNode is small
-may-small : (kind : Kind) (radix bits offset : ℕ) → record_of kind ≡ Some (CNode radix) → MayStand bits kind offset → radix ≤ 14
-may-small (kinds.CNode small) radix bits offset is fits = let same : small ≡ radix = cc in omega (arith, same, fits.2)
-may-small kinds.Thread radix bits offset is fits = absurd cc
-may-small kinds.Endpoint radix bits offset is fits = absurd cc
-may-small kinds.Notification radix bits offset is fits = absurd cc
-may-small kinds.Frame radix bits offset is fits = absurd cc
-may-small kinds.PageTable radix bits offset is fits = absurd cc
-may-small kinds.RootTable radix bits offset is fits = absurd cc
-
-pub small-begun : (old new : List (Option Record)) (offset : ℕ) (kind : Kind) (r : Record) (bits : ℕ) → record_of kind ≡ Some r → MayStand bits kind offset
-    → ((other : ℕ) → record_in new other ≡ put (record_in old) offset (Some r) other)
-    → ((place radix : ℕ) → record_in old place ≡ Some (CNode radix) → radix ≤ 14) → (place radix : ℕ) → record_in new place ≡ Some (CNode radix) → radix ≤ 14
-small-begun old new offset kind r bits made fits records small place radix is = elim (eqb_tells place offset) [
-  | inl here ↦
-      may-small kind radix bits offset (made ∙ sym (ap (λ b. if b then Some r else record_in old place) here.0) ∙ sym (records place) ∙ is) fits
-  | inr apart ↦ small place radix (sym (ap (λ b. if b then Some r else record_in old place) apart.0) ∙ sym (records place) ∙ is)
-]
-
 never : {A : Type 0} (a : Bool) (x y : A) → y ≡ (if a && false then x else y)
 never true x y = refl
 never false x y = refl
 
-module _ (o : Tables) (slots : Slots) (memory : List ℕ) (offset : ℕ) (stands : Standing o slots memory) (free : (state_of o slots memory).objects offset ≡ None) where
+module _ (o : Contents) (slots : Slots) (memory : List ℕ) (offset : ℕ) (stands : Linked o slots memory) (free : (contents_state o slots memory).objects offset ≡ None) where
   free-object : object_in o (waiting_of o memory) offset ≡ None
-  unfolding state_of told_by
+  unfolding contents_state
   free-object = free
 
   -- nobody is there, and nobody waits there
-  no-kind : kind_at (state_of o slots memory) offset ≡ None
+  no-kind : kind_at (contents_state o slots memory) offset ≡ None
   no-kind = ap (option_map kind_of) free
 
   pub waits-not : (queue : ℕ) → times_in (waiting_of o memory queue) offset ≡ 0
@@ -105,29 +86,29 @@ module _ (o : Tables) (slots : Slots) (memory : List ℕ) (offset : ℕ) (stands
   no-queue : waiting_of o memory offset ≡ []
   no-queue = nobody (waiting_of o memory) offset (λ thread some. absurd (let clash : false ≡ true = sym (ap has_waiting no-kind) ∙ waited o slots memory stands offset thread some in cc))
 
-  free-in-threads : thread_in o.threads offset ≡ None
-  free-in-threads = free-thread (thread_in o.threads offset) _ free-object
+  free-in-threads : o.threads offset ≡ None
+  free-in-threads = free-thread (o.threads offset) _ free-object
 
-  free-in-records : record_in o.records offset ≡ None
-  free-in-records = free-record o.threads (waiting_of o memory offset) (thread_in o.threads offset) (record_in o.records offset) free-object
+  free-in-records : o.records offset ≡ None
+  free-in-records = free-record o.threads (waiting_of o memory offset) (o.threads offset) (o.records offset) free-object
 
   -- ---- a thread
 
-  module _ (threads : List (Option Thread)) (new : Thread) (threaded : (other : ℕ) → thread_in threads other ≡ put (thread_in o.threads) offset (Some new) other)
+  module _ (threads : ℕ → Option Thread) (new : Thread) (threaded : (other : ℕ) → threads other ≡ put (o.threads) offset (Some new) other)
       (is_new : thread_state new ≡ new_thread) where
     sends : (other : ℕ) → other ≢ offset → sending_in threads other ≡ sending_in o.threads other
-    sends other apart = ap (option_and_then (λ t. t.sending)) (threaded other ∙ put-there (thread_in o.threads) offset (Some new) other apart)
+    sends other apart = ap (option_and_then (λ t. t.sending)) (threaded other ∙ put-there (o.threads) offset (Some new) other apart)
 
     object-threaded : (other : ℕ) → object_in (record o { threads = threads }) (waiting_of o memory) other ≡ put (object_in o (waiting_of o memory)) offset (Some (ThreadObject new_thread)) other
     object-threaded other = elim (eqb_tells other offset) [
       | inl here ↦
-          ap (λ t. object_from t (option_map (object_of threads (waiting_of o memory other)) (record_in o.records other)))
-          (threaded other ∙ ap (λ b. if b then Some new else thread_in o.threads other) here.0)
+          ap (λ t. object_from t (option_map (object_of threads (waiting_of o memory other)) (o.records other)))
+          (threaded other ∙ ap (λ b. if b then Some new else o.threads other) here.0)
           ∙ ap (λ t. Some (ThreadObject t)) is_new ∙ ap (λ b. if b then Some (ThreadObject new_thread) else object_in o (waiting_of o memory) other) (sym here.0)
       | inr apart ↦
-          ap (λ t. object_from t (option_map (object_of threads (waiting_of o memory other)) (record_in o.records other)))
-          (threaded other ∙ put-there (thread_in o.threads) offset (Some new) other apart.1)
-          ∙ ap (object_from (thread_in o.threads other)) (other-same o.threads threads offset (waiting_of o memory other) (record_in o.records other) sends (waits-not other))
+          ap (λ t. object_from t (option_map (object_of threads (waiting_of o memory other)) (o.records other)))
+          (threaded other ∙ put-there (o.threads) offset (Some new) other apart.1)
+          ∙ ap (object_from (o.threads other)) (other-same o.threads threads offset (waiting_of o memory other) (o.records other) sends (waits-not other))
           ∙ ap (λ b. if b then Some (ThreadObject new_thread) else object_in o (waiting_of o memory) other) (sym apart.0)
     ]
 
@@ -137,21 +118,21 @@ module _ (o : Tables) (slots : Slots) (memory : List ℕ) (offset : ℕ) (stands
 
   -- ---- another object
 
-  module _ (records : List (Option Record)) (kind : Kind) (new : Record) (is : record_of kind ≡ Some new)
-      (recorded : (other : ℕ) → record_in records other ≡ put (record_in o.records) offset (Some new) other) where
+  module _ (records : ℕ → Option Record) (kind : Kind) (new : Record) (is : record_of kind ≡ Some new)
+      (recorded : (other : ℕ) → records other ≡ put (o.records) offset (Some new) other) where
     object-recorded : (other : ℕ) → object_in (record o { records = records }) (waiting_of o memory) other ≡ put (object_in o (waiting_of o memory)) offset (Some (new_object kind)) other
     object-recorded other = elim (eqb_tells other offset) [
       | inl here ↦
-          ap (λ t. object_from t (option_map (object_of o.threads (waiting_of o memory other)) (record_in records other))) (ap (thread_in o.threads) here.1 ∙ free-in-threads)
+          ap (λ t. object_from t (option_map (object_of o.threads (waiting_of o memory other)) (records other))) (ap (o.threads) here.1 ∙ free-in-threads)
           ∙ ap (option_map (object_of o.threads (waiting_of o memory other)))
-          (recorded other ∙ ap (λ b. if b then Some new else record_in o.records other) here.0)
+          (recorded other ∙ ap (λ b. if b then Some new else o.records other) here.0)
           ∙ ap (λ l. Some (object_of o.threads l new))
           (ap (waiting_of o memory) here.1 ∙ no-queue)
           ∙ ap Some (new-record o.threads kind new is).0
           ∙ ap (λ b. if b then Some (new_object kind) else object_in o (waiting_of o memory) other) (sym here.0)
       | inr apart ↦
-          ap (λ r. object_from (thread_in o.threads other) (option_map (object_of o.threads (waiting_of o memory other)) r))
-          (recorded other ∙ put-there (record_in o.records) offset (Some new) other apart.1)
+          ap (λ r. object_from (o.threads other) (option_map (object_of o.threads (waiting_of o memory other)) r))
+          (recorded other ∙ put-there (o.records) offset (Some new) other apart.1)
           ∙ ap (λ b. if b then Some (new_object kind) else object_in o (waiting_of o memory) other) (sym apart.0)
     ]
 
@@ -164,9 +145,9 @@ module _ (o : Tables) (slots : Slots) (memory : List ℕ) (offset : ℕ) (stands
         ≡ (if is_frame_kind kind && (offset == frame_around place) then Some (slice_index memory place) else byte_in o.records memory place)
     byte-recorded place = elim (eqb_tells offset (frame_around place)) [
       | inl here ↦
-          let now : record_in records (frame_around place) ≡ Some new =
-          ap (record_in records) (sym here.1) ∙ recorded offset ∙ put-here (record_in o.records) offset (Some new) in
-          let was : record_in o.records (frame_around place) ≡ None = ap (record_in o.records) (sym here.1) ∙ free-in-records in
+          let now : records (frame_around place) ≡ Some new =
+          ap (records) (sym here.1) ∙ recorded offset ∙ put-here (o.records) offset (Some new) in
+          let was : o.records (frame_around place) ≡ None = ap (o.records) (sym here.1) ∙ free-in-records in
           ap (λ r. if option_map_or is_frame r false then Some (slice_index memory place) else None) now
           ∙ ap (λ b. if b then Some (slice_index memory place) else None) (new-record o.threads kind new is).1
           ∙ byte-new (slice_index memory place) (is_frame_kind kind) (new-record o.threads kind new is).1
@@ -174,7 +155,7 @@ module _ (o : Tables) (slots : Slots) (memory : List ℕ) (offset : ℕ) (stands
           else (if option_map_or is_frame (sym was i) false then Some (slice_index memory place) else None))
       | inr apart ↦
           ap (λ r. if option_map_or is_frame r false then Some (slice_index memory place) else None)
-          (recorded (frame_around place) ∙ put-there (record_in o.records) offset (Some new) (frame_around place) (λ same. apart.1 (sym same)))
+          (recorded (frame_around place) ∙ put-there (o.records) offset (Some new) (frame_around place) (λ same. apart.1 (sym same)))
           ∙ never (is_frame_kind kind) (Some (slice_index memory place)) (byte_in o.records memory place)
           ∙ ap (λ b. if is_frame_kind kind && b then Some (slice_index memory place) else byte_in o.records memory place) (sym apart.0)
     ]

@@ -8,32 +8,25 @@ use Rattle.model.specs.Kernel.AddressSpaces.{page_size}
 use Rattle.model.specs.Kernel.Kinds.{frame_around, kind_at, kind_of}
 use Rattle.model.specs.Kernel.Retype.{NewObject, NewUntyped, NewThread, NewEndpoint, NewNotification, NewCNode, NewFrame, NewPageTable, NewRootTable, object_bits}
 use Rattle.model.specs.Kernel.Scheduling.{full_slice, wake}
-use Rattle.model.specs.Kernel.State.{Object, Runnable, State, ThreadObject, EndpointObject, NotificationObject, CNodeObject, FrameObject, PageTableObject, RootTableObject, as_thread, new_thread, put, thread_at}
+use Rattle.model.specs.Kernel.State.{Object, Runnable, State, ThreadObject, EndpointObject, NotificationObject, CNodeObject, FrameObject, PageTableObject, RootTableObject, as_thread, put, thread_at}
 use Rattle.model.specs.declared.slot_entries.Entry.{Entry}
 use Rattle.objects.proofs.Frames.{Unmoved, kind-put, same-state}
-use Rattle.objects.specs.Changes.{MayStand, begun, is_frame_kind}
+use Rattle.objects.specs.Changes.{begun, is_frame_kind}
 use Rattle.objects.specs.Frames.{FitsMemory, IsInRecord, IsRoom, SameBesideObjects, has_record, has_slots, slot_bytes}
-use Rattle.objects.proofs.Beginning.{begun-record, begun-thread}
 use Rattle.objects.proofs.Following.{follows-bytes}
 use Rattle.objects.proofs.Kept.{put-here, put-there}
 use Rattle.objects.proofs.Stepping.{Left}
-use Rattle.objects.proofs.Told.{has-head, has-thread, in-point, in-thread, kind-state, kind-with, own-bits, own-slots, state_with, told}
-use Rattle.objects.specs.Standing.{Standing}
+use Rattle.objects.proofs.Told.{has-head, has-thread, in-point, in-thread, kind-state, kind-with, state_with, told}
+use Rattle.objects.proofs.Linked.{Linked}
 use Rattle.objects.specs.Waiting.{has_waiting}
 use Rattle.queues.specs.Laws.{KeepHeads, KeepThreads}
-use Rattle.queues.specs.Layout.{IsHeadAt, IsThreadAt, Places}
-use Rattle.queues.specs.Queues.{IsHeadByte}
-use Rattle.queues.specs.Ready.{ReadyStands, nobody, ready_of}
-use Rattle.queues.specs.Words.{end_at, end_of, link_at, link_in, with_ends, without_links}
+use Rattle.queues.specs.Layout.{Places}
+use Rattle.queues.specs.Ready.{ReadyStands, ready_of}
+use Rattle.queues.specs.Words.{end_at, end_of, link_at, link_in}
 use Rattle.queues.specs.declared.words.Ends.{Ends}
-use Rattle.queues.proofs.Laws.{begins_empty, ready_stays, waiting_stays}
-use Rattle.objects.specs.declared.records.Record.{Record}
-use Rattle.objects.specs.declared.records.Record.TheVariants.{CNode, Frame, PageTable, RootTable}
-use Rattle.std.proofs.Math.Pow.{pow_mono}
-use Rattle.objects.specs.Tables.{AreTables, Tables, byte_in, has_queue, is_thread_kind, kind_in, places_of, ready_at, record_in, record_of, state_of, thread_in, waiting_of}
-use Rattle.thread_records.specs.Threads.{thread_state}
+use Rattle.queues.proofs.Laws.{ready_stays, waiting_stays}
+use Rattle.objects.specs.Contents.{Contents, byte_in, is_thread_kind, kind_in, places_of, ready_at, contents_state, waiting_of}
 use Rattle.objects.specs.Threads.{new_object}
-use Rattle.thread_records.specs.declared.records.Thread.{Thread}
 use Rattle.objects.specs.declared.records.Kind.{Kind}
 use Rattle.objects.specs.declared.records.Kind.TheVariants as kinds
 use Rattle.removal_laws.specs.Finishing.{is_stranded, waits_nowhere}
@@ -184,8 +177,8 @@ module _ (s : State) (memory : List ℕ) (kind : Kind) (offset : ℕ) (fits : Fi
 
 -- ---- what stands goes on
 
-module _ (o n : Tables) (before after : Slots) (old new : List ℕ) (kind : Kind) (offset : ℕ) (stands : Standing o before old) (same_slots : after ≡ before)
-    (free : (state_of o before old).objects offset ≡ None) (room : IsRoom (state_of o before old) (kind_of (new_object kind)) offset) (same_ready : n.ready ≡ o.ready)
+module _ (o n : Contents) (before after : Slots) (old new : List ℕ) (kind : Kind) (offset : ℕ) (stands : Linked o before old) (same_slots : after ≡ before)
+    (free : (contents_state o before old).objects offset ≡ None) (room : IsRoom (contents_state o before old) (kind_of (new_object kind)) offset) (same_ready : n.ready ≡ o.ready)
     (begins : (ready : ℕ → List ℕ) → state_with n (waiting_of o old) ready before old ≡ begun (state_with o (waiting_of o old) ready before old) old kind offset)
     (size : length new ≡ length old)
     (same : (place : ℕ) → (offset + slot_bytes (kind_of (new_object kind)) ≤ place → place < offset + 2 ^ object_bits (kind_of (new_object kind))
@@ -193,7 +186,7 @@ module _ (o n : Tables) (before after : Slots) (old new : List ℕ) (kind : Kind
     (unlinked : is_thread_kind (Some (kind_of (new_object kind))) ≡ true → (link_at 244 new offset 0 ≡ None) × (link_at 256 new offset 0 ≡ None))
     (unwaited : has_waiting (Some (kind_of (new_object kind))) ≡ true → (i : ℕ) → i < 2 → end_at new offset i ≡ None) where
   abbrev u : State
-  u = state_of o before old
+  u = contents_state o before old
 
   abbrev q : NewObject
   q = kind_of (new_object kind)
@@ -286,7 +279,7 @@ module _ (o n : Tables) (before after : Slots) (old new : List ℕ) (kind : Kind
       let clash : true ≡ false = sym kept ∙ (frame-page kind framed.0).records in absurd cc) (room.frames place (omega (arith, from)) below) in
       let clash : None ≡ Some byte = sym none ∙ sym (ap (λ (x : State). x.bytes place) now-with) ∙ some in absurd cc)
 
-  now-state : state_of n after new ≡ t
+  now-state : contents_state n after new ≡ t
   now-state = follows-bytes n before old new after frames-same ∙ ap (λ (f : Slots). state_with n (waiting_of n new) (ready_at n new) f old) same_slots ∙ now-with
 
   pub begun-left : Left n after new t
@@ -302,7 +295,7 @@ module _ (o n : Tables) (before after : Slots) (old new : List ℕ) (kind : Kind
         };
       }
 
-  pub begun-bytes : SameBesideObjects (state_of n after new) old new
+  pub begun-bytes : SameBesideObjects (contents_state n after new) old new
   begun-bytes = record {
     size = size;
     bytes = λ place outside. same place (λ from below kept.
@@ -311,153 +304,3 @@ module _ (o n : Tables) (before after : Slots) (old new : List ℕ) (kind : Kind
           | inr behind ↦ absurd (omega (arith, below, behind))
         ]);
   }
-
--- ---- the links of what begins
-
-module _ (o : Tables) (slots : Slots) (memory : List ℕ) (kind : Kind) (offset : ℕ) (are : AreTables o) (fits : FitsMemory (state_of o slots memory) memory)
-    (may : MayStand (state_of o slots memory).memory_bits kind offset) (room : IsRoom (state_of o slots memory) (kind_of (new_object kind)) offset) where
-  long : length memory ≡ 2 ^ o.bits
-  long = sym fits.size ∙ ap (λ (n : ℕ). 2 ^ n) (own-bits o slots memory)
-
-  small : length memory ≤ 2 ^ 24
-  small = omega (arith, long, pow_mono {i = o.bits} {j = 24} are.most_bits)
-
-  below-end : offset < 2 ^ (state_of o slots memory).memory_bits → offset < 2 ^ o.bits
-  below-end less = omega (arith, less, ap (λ (n : ℕ). 2 ^ n) (own-bits o slots memory))
-
-  empty : (place : ℕ) → (state_of o slots memory).slots (place / 16) ≡ None → slots (place / 16) ≡ None
-  empty place none = ap (λ (f : Slots). f (place / 16)) (sym (own-slots o slots memory)) ∙ none
-
-  pub new-thread : kind ≡ kinds.Thread → IsThreadAt slots (length memory) offset
-  new-thread is =
-      let may' = subst (λ (x : Kind). MayStand (state_of o slots memory).memory_bits x offset) is may in
-      let room' = subst (λ (x : Kind). IsRoom (state_of o slots memory) (kind_of (new_object x)) offset) is room in
-      record {
-        few = small;
-        within = omega (arith, may'.0, below-end may'.1, long, are.thread_places);
-        outside = λ place from below. empty place (room'.slots place (omega (arith, from)) (omega (arith, below)) refl);
-      }
-
-  pub new-queue : (r : Record) → record_of kind ≡ Some r → has_queue r ≡ true → IsHeadAt slots (length memory) offset
-  new-queue r made queued =
-      elim kind as (λ x. kind ≡ x → IsHeadAt slots (length memory) offset) [
-        | kinds.Endpoint ↦ λ is.
-            let may' = subst (λ (x : Kind). MayStand (state_of o slots memory).memory_bits x offset) is may in
-            let room' = subst (λ (x : Kind). IsRoom (state_of o slots memory) (kind_of (new_object x)) offset) is room in
-            record {
-              few = small;
-              within = omega (arith, may'.0, below-end may'.1, long, are.record_places);
-              outside = λ place from below. empty place (room'.slots place (omega (arith, from)) (omega (arith, below)) refl);
-            }
-        | kinds.Notification ↦ λ is.
-            let may' = subst (λ (x : Kind). MayStand (state_of o slots memory).memory_bits x offset) is may in
-            let room' = subst (λ (x : Kind). IsRoom (state_of o slots memory) (kind_of (new_object x)) offset) is room in
-            record {
-              few = small;
-              within = omega (arith, may'.0, below-end may'.1, long, are.record_places);
-              outside = λ place from below. empty place (room'.slots place (omega (arith, from)) (omega (arith, below)) refl);
-            }
-        | kinds.Thread ↦ λ is. absurd (let clash : None ≡ Some r = sym (ap record_of is) ∙ made in cc)
-        | kinds.CNode radix ↦ λ is. absurd (let clash : Some (CNode radix) ≡ Some r = sym (ap record_of is) ∙ made in let e : false ≡ true = ap (λ (x : Option Record). option_map_or has_queue x false) clash ∙ queued in cc)
-        | kinds.Frame ↦ λ is. absurd (let clash : Some Frame ≡ Some r = sym (ap record_of is) ∙ made in let e : false ≡ true = ap (λ (x : Option Record). option_map_or has_queue x false) clash ∙ queued in cc)
-        | kinds.PageTable ↦ λ is. absurd (let clash : Some PageTable ≡ Some r = sym (ap record_of is) ∙ made in let e : false ≡ true = ap (λ (x : Option Record). option_map_or has_queue x false) clash ∙ queued in cc)
-        | kinds.RootTable ↦ λ is. absurd (let clash : Some RootTable ≡ Some r = sym (ap record_of is) ∙ made in let e : false ≡ true = ap (λ (x : Option Record). option_map_or has_queue x false) clash ∙ queued in cc)
-      ] refl
-
--- a record tells what its kind is
-pub record-thread : (kind : Kind) (r : Record) → record_of kind ≡ Some r → is_thread_kind (Some (kind_of (new_object kind))) ≡ false
-record-thread kinds.Thread r is = absurd (let clash : None ≡ Some r = is in cc)
-record-thread kinds.Endpoint r is = refl
-record-thread kinds.Notification r is = refl
-record-thread (kinds.CNode radix) r is = refl
-record-thread kinds.Frame r is = refl
-record-thread kinds.PageTable r is = refl
-record-thread kinds.RootTable r is = refl
-
-pub record-waits : (kind : Kind) (r : Record) → record_of kind ≡ Some r → has_waiting (Some (kind_of (new_object kind))) ≡ has_queue r
-record-waits kinds.Thread r is = absurd (let clash : None ≡ Some r = is in cc)
-record-waits kinds.Endpoint r is = ap (λ (x : Option Record). option_map_or has_queue x false) is
-record-waits kinds.Notification r is = ap (λ (x : Option Record). option_map_or has_queue x false) is
-record-waits (kinds.CNode radix) r is = ap (λ (x : Option Record). option_map_or has_queue x false) is
-record-waits kinds.Frame r is = ap (λ (x : Option Record). option_map_or has_queue x false) is
-record-waits kinds.PageTable r is = ap (λ (x : Option Record). option_map_or has_queue x false) is
-record-waits kinds.RootTable r is = ap (λ (x : Option Record). option_map_or has_queue x false) is
-
--- who waits at what begins has the first two words of it
-record IsPoint (q : NewObject) : Type 0 where
-  before : slot_bytes q ≡ 0
-  bits : 2 ^ object_bits q ≡ 16
-  kept : has_record q ≡ true
-
-record-point : (kind : Kind) (r : Record) → record_of kind ≡ Some r → has_queue r ≡ true → IsPoint (kind_of (new_object kind))
-record-point kinds.Thread r is queued = absurd (let clash : None ≡ Some r = is in cc)
-record-point kinds.Endpoint r is queued = record { before = refl; bits = refl; kept = refl }
-record-point kinds.Notification r is queued = record { before = refl; bits = refl; kept = refl }
-record-point (kinds.CNode radix) r is queued = absurd (let e : false ≡ true = ap (λ (x : Option Record). option_map_or has_queue x false) is ∙ queued in cc)
-record-point kinds.Frame r is queued = absurd (let e : false ≡ true = ap (λ (x : Option Record). option_map_or has_queue x false) is ∙ queued in cc)
-record-point kinds.PageTable r is queued = absurd (let e : false ≡ true = ap (λ (x : Option Record). option_map_or has_queue x false) is ∙ queued in cc)
-record-point kinds.RootTable r is queued = absurd (let e : false ≡ true = ap (λ (x : Option Record). option_map_or has_queue x false) is ∙ queued in cc)
-
--- memory with nobody named at an object, if threads may wait there
-abbrev pub wiped : Bool → List ℕ → ℕ → List ℕ
-wiped b memory offset = if b then with_ends memory offset nobody else memory
-
-wiped-size : (b : Bool) (m : List ℕ) (offset : ℕ) → (b ≡ true → offset + 8 ≤ length m) → length (wiped b m offset) ≡ length m
-wiped-size true m offset within = begins_empty.head_size m offset (within refl)
-wiped-size false m offset within = refl
-
-wiped-bytes : (b : Bool) (m : List ℕ) (offset place : ℕ) → (b ≡ true → offset + 8 ≤ length m) → (b ≡ true → IsHeadByte offset place → ⊥)
-    → slice_index (wiped b m offset) place ≡ slice_index m place
-wiped-bytes true m offset place within off = begins_empty.head_bytes m offset place (within refl) (off refl)
-wiped-bytes false m offset place within off = refl
-
-wiped-ends : (b : Bool) (m : List ℕ) (offset i : ℕ) → (b ≡ true → offset + 8 ≤ length m) → b ≡ true → i < 2 → end_at (wiped b m offset) offset i ≡ None
-wiped-ends true m offset i within is low = begins_empty.head m offset i (within refl) low
-wiped-ends false m offset i within is low = absurd (let clash : false ≡ true = is in cc)
-
-module _ (o : Tables) (before after : Slots) (old new : List ℕ) (offset : ℕ) (are : AreTables o) (stands : Standing o before old) (same_slots : after ≡ before)
-    (free : (state_of o before old).objects offset ≡ None) where
-  pub thread-begins : (may : MayStand (state_of o before old).memory_bits kinds.Thread offset) (room : IsRoom (state_of o before old) NewThread offset)
-      (threads : List (Option Thread)) (fresh : Thread) → ((other : ℕ) → thread_in threads other ≡ put (thread_in o.threads) offset (Some fresh) other)
-      → thread_state fresh ≡ new_thread → new ≡ without_links old offset
-      → Left (record o { threads = threads }) after new (begun (state_of o before old) old kinds.Thread offset) × SameBesideObjects (state_of (record o { threads = threads }) after new) old new
-  thread-begins may room threads fresh threaded is_new bytes =
-      let within = (new-thread o before old kinds.Thread offset are stands.fits may room refl).within in
-      let n : Tables = record o { threads = threads } in
-      let size : length new ≡ length old = ap (λ (m : List ℕ). length m) bytes ∙ begins_empty.size old offset within in
-      let same : (place : ℕ) → (offset + 32 ≤ place → place < offset + 2 ^ 9 → true ≡ true → ⊥) → slice_index new place ≡ slice_index old place = λ place apart.
-      ap (λ (m : List ℕ). slice_index m place) bytes ∙ begins_empty.bytes old offset place within
-      (λ held. apart (omega (arith, held.0)) (omega (arith, held.1)) refl) (λ held. apart (omega (arith, held.0)) (omega (arith, held.1)) refl) in
-      let unlinked : true ≡ true → (link_at 244 new offset 0 ≡ None) × (link_at 256 new offset 0 ≡ None) = λ _. (
-        ap (λ (m : List ℕ). link_at 244 m offset 0) bytes ∙ begins_empty.waits old offset within,
-        ap (λ (m : List ℕ). link_at 256 m offset 0) bytes ∙ begins_empty.ready old offset within,
-      ) in
-      let unwaited : false ≡ true → (i : ℕ) → i < 2 → end_at new offset i ≡ None = λ clash i low. absurd cc in
-      let begins = begun-thread o before old offset stands free threads fresh threaded is_new in (
-        begun-left o n before after old new kinds.Thread offset stands same_slots free room refl begins size same unlinked unwaited,
-        begun-bytes o n before after old new kinds.Thread offset stands same_slots free room refl begins size same unlinked unwaited,
-      )
-
-  pub record-begins : (kind : Kind) (r : Record) → record_of kind ≡ Some r → (may : MayStand (state_of o before old).memory_bits kind offset)
-      (room : IsRoom (state_of o before old) (kind_of (new_object kind)) offset) (records : List (Option Record))
-      → ((other : ℕ) → record_in records other ≡ put (record_in o.records) offset (Some r) other) → new ≡ wiped (has_queue r) old offset
-      → Left (record o { records = records }) after new (begun (state_of o before old) old kind offset) × SameBesideObjects (state_of (record o { records = records }) after new) old new
-  record-begins kind r made may room records recorded bytes =
-      let within : has_queue r ≡ true → offset + 8 ≤ length old = λ queued. (new-queue o before old kind offset are stands.fits may room r made queued).within in
-      let n : Tables = record o { records = records } in
-      let size : length new ≡ length old = ap (λ (m : List ℕ). length m) bytes ∙ wiped-size (has_queue r) old offset within in
-      let same : (place : ℕ) → (offset + slot_bytes (kind_of (new_object kind)) ≤ place → place < offset + 2 ^ object_bits (kind_of (new_object kind))
-      → has_record (kind_of (new_object kind)) ≡ true → ⊥) → slice_index new place ≡ slice_index old place = λ place apart.
-      ap (λ (m : List ℕ). slice_index m place) bytes ∙ wiped-bytes (has_queue r) old offset place within (λ queued held.
-      let point = record-point kind r made queued in
-      let first = point.before in
-      let bits = point.bits in
-      apart (omega (arith, held.0, first)) (omega (arith, held.1, bits)) point.kept) in
-      let unlinked : is_thread_kind (Some (kind_of (new_object kind))) ≡ true → (link_at 244 new offset 0 ≡ None) × (link_at 256 new offset 0 ≡ None) = λ is.
-      absurd (let clash : false ≡ true = sym (record-thread kind r made) ∙ is in cc) in
-      let unwaited : has_waiting (Some (kind_of (new_object kind))) ≡ true → (i : ℕ) → i < 2 → end_at new offset i ≡ None = λ is i low.
-      ap (λ (m : List ℕ). end_at m offset i) bytes ∙ wiped-ends (has_queue r) old offset i within (sym (record-waits kind r made) ∙ is) low in
-      let begins = begun-record o before old offset stands free records kind r made recorded in (
-        begun-left o n before after old new kind offset stands same_slots free room refl begins size same unlinked unwaited,
-        begun-bytes o n before after old new kind offset stands same_slots free room refl begins size same unlinked unwaited,
-      )

@@ -11,11 +11,11 @@ use Rattle.model.specs.Kernel.Soundness.{waiting_at}
 use Rattle.model.specs.Kernel.State.{CNodeObject, EndpointObject, EndpointState, FrameObject, NotificationObject, NotificationState, Object, PageTableObject, RootTableObject, State, ThreadObject, Sender, as_endpoint, as_notification, endpoint_at, new_endpoint, new_notification, notification_at, put, with_object}
 use Rattle.objects.proofs.Kept.{put-here, put-there}
 use Rattle.objects.proofs.Serving.{first-receives, first-sends}
-use Rattle.objects.specs.Tables.{Tables, is_frame, kind_in, object_from, object_in, object_of, ready_at, receivers_in, record_in, senders_in, sending_in, state_of, thread_in, told_by, waiting_of}
+use Rattle.objects.specs.Contents.{Contents, is_frame, kind_in, object_from, object_in, object_of, ready_at, receivers_in, senders_in, sending_in, contents_state, waiting_of}
 use Rattle.thread_records.specs.Threads.{sender_of}
 use Rattle.objects.specs.Waiting.{IsOneSided, changed_at, has_waiting, with_word}
-use Rattle.objects.specs.declared.records.Record.{Record}
-use Rattle.objects.specs.declared.records.Record.TheVariants.{Endpoint, Notification, CNode, Frame, PageTable, RootTable}
+use Rattle.objects.specs.Contents.{Record}
+use Rattle.objects.specs.Contents.{Endpoint, Notification, CNode, Frame, PageTable, RootTable}
 use Rattle.thread_records.specs.declared.records.Sending.{Sending}
 use Rattle.thread_records.specs.declared.records.Thread.{Thread}
 use Rattle.objects.proofs.Frames.{kind-put}
@@ -57,7 +57,7 @@ changed-notification s notification change is =
 
 -- ---- in the state of tables
 
-endpoint-from : (threads : List (Option Thread)) (waiting : List ℕ) (t : Option Thread) (r : Option Record)
+endpoint-from : (threads : ℕ → Option Thread) (waiting : List ℕ) (t : Option Thread) (r : Option Record)
     → option_map kind_of (object_from t (option_map (object_of threads waiting) r)) ≡ Some NewEndpoint
     → option_map_or (λ e. e) (as_endpoint (object_from t (option_map (object_of threads waiting) r))) new_endpoint
     ≡ record { senders = senders_in threads waiting; receivers = receivers_in threads waiting }
@@ -70,7 +70,7 @@ endpoint-from threads waiting None (Some Frame) is = absurd cc
 endpoint-from threads waiting None (Some PageTable) is = absurd cc
 endpoint-from threads waiting None (Some RootTable) is = absurd cc
 
-waiters-from : (threads : List (Option Thread)) (waiting : List ℕ) (t : Option Thread) (r : Option Record)
+waiters-from : (threads : ℕ → Option Thread) (waiting : List ℕ) (t : Option Thread) (r : Option Record)
     → option_map kind_of (object_from t (option_map (object_of threads waiting) r)) ≡ Some NewNotification
     → (option_map_or (λ n. n) (as_notification (object_from t (option_map (object_of threads waiting) r))) new_notification).waiters ≡ waiting
 waiters-from threads waiting None (Some (Notification word)) is = refl
@@ -93,16 +93,16 @@ pub sends-nothing : (sending : Option Sending) → is_some sending ≡ false →
 sends-nothing None is = refl
 sends-nothing (Some sending) is = absurd (let clash : true ≡ false = is in cc)
 
-module _ (o : Tables) (endpoint : ℕ) (slots : Slots) (memory : List ℕ) (is : kind_at (state_of o slots memory) endpoint ≡ Some NewEndpoint) where
+module _ (o : Contents) (endpoint : ℕ) (slots : Slots) (memory : List ℕ) (is : kind_at (contents_state o slots memory) endpoint ≡ Some NewEndpoint) where
   abbrev e : EndpointState
-  e = endpoint_at (state_of o slots memory) endpoint
+  e = endpoint_at (contents_state o slots memory) endpoint
 
   abbrev waiting : List ℕ
   waiting = waiting_of o memory endpoint
 
   endpoint-in : e ≡ record { senders = senders_in o.threads waiting; receivers = receivers_in o.threads waiting }
-  unfolding state_of told_by
-  endpoint-in = endpoint-from o.threads waiting (thread_in o.threads endpoint) (record_in o.records endpoint) is
+  unfolding contents_state
+  endpoint-in = endpoint-from o.threads waiting (o.threads endpoint) (o.records endpoint) is
 
   pub nobody-sends : head_of waiting ≡ None → e.senders ≡ []
   nobody-sends none = ap (λ (x : EndpointState). x.senders) endpoint-in ∙ ap (senders_in o.threads) (no-head waiting none)
@@ -136,16 +136,16 @@ module _ (o : Tables) (endpoint : ℕ) (slots : Slots) (memory : List ℕ) (is :
       | inr none ↦ none
     ]
 
-module _ (o : Tables) (notification : ℕ) (slots : Slots) (memory : List ℕ) (is : kind_at (state_of o slots memory) notification ≡ Some NewNotification) where
+module _ (o : Contents) (notification : ℕ) (slots : Slots) (memory : List ℕ) (is : kind_at (contents_state o slots memory) notification ≡ Some NewNotification) where
   abbrev n : NotificationState
-  n = notification_at (state_of o slots memory) notification
+  n = notification_at (contents_state o slots memory) notification
 
   abbrev queue : List ℕ
   queue = waiting_of o memory notification
 
   waiters-in : n.waiters ≡ queue
-  unfolding state_of told_by
-  waiters-in = waiters-from o.threads queue (thread_in o.threads notification) (record_in o.records notification) is
+  unfolding contents_state
+  waiters-in = waiters-from o.threads queue (o.threads notification) (o.records notification) is
 
   pub nobody-waits : head_of queue ≡ None → n.waiters ≡ []
   nobody-waits none = waiters-in ∙ no-head queue none
@@ -155,7 +155,7 @@ module _ (o : Tables) (notification : ℕ) (slots : Slots) (memory : List ℕ) (
 
 -- ---- whether someone waits
 
-someone-waits : (threads : List (Option Thread)) (thread : ℕ) (rest : List ℕ) → map (λ (sender : Sender). sender.thread) (senders_in threads (thread ∷ rest)) ++ receivers_in threads (thread ∷ rest) ≡ [] → ⊥
+someone-waits : (threads : ℕ → Option Thread) (thread : ℕ) (rest : List ℕ) → map (λ (sender : Sender). sender.thread) (senders_in threads (thread ∷ rest)) ++ receivers_in threads (thread ∷ rest) ≡ [] → ⊥
 someone-waits threads thread rest none = elim (sending_in threads thread) as (λ o. sending_in threads thread ≡ o → ⊥) [
   | Some sending ↦ λ sends.
       let first = ap length (ap (λ (l : List Sender). map (λ (sender : Sender). sender.thread) l ++ receivers_in threads (thread ∷ rest)) (sym (first-sends (sending_in threads) thread rest sending sends)) ∙ none) in
@@ -166,7 +166,7 @@ someone-waits threads thread rest none = elim (sending_in threads thread) as (λ
       omega (arith, first, both)
 ] refl
 
-waited-from : (threads : List (Option Thread)) (waiting : List ℕ) (t : Option Thread) (r : Option Record)
+waited-from : (threads : ℕ → Option Thread) (waiting : List ℕ) (t : Option Thread) (r : Option Record)
     → ((has_waiting (option_map kind_of (object_from t (option_map (object_of threads []) r))) && is_some (head_of waiting)) ≡ false) ↔ (waiting_at (object_from t (option_map (object_of threads waiting) r)) ≡ [])
 waited-from threads waiting (Some t) r = (λ _. refl, λ _. refl)
 waited-from threads waiting None None = (λ _. refl, λ _. refl)
@@ -179,16 +179,16 @@ waited-from threads waiting None (Some Frame) = (λ _. refl, λ _. refl)
 waited-from threads waiting None (Some PageTable) = (λ _. refl, λ _. refl)
 waited-from threads waiting None (Some RootTable) = (λ _. refl, λ _. refl)
 
-pub waited-in : (o : Tables) (slots : Slots) (memory : List ℕ) (offset : ℕ) (waited : Bool) → waited ≡ (has_waiting (kind_in o offset) && is_some (head_of (waiting_of o memory offset)))
-    → (waited ≡ false) ↔ (waiting_at ((state_of o slots memory).objects offset) ≡ [])
-unfolding state_of told_by
+pub waited-in : (o : Contents) (slots : Slots) (memory : List ℕ) (offset : ℕ) (waited : Bool) → waited ≡ (has_waiting (kind_in o offset) && is_some (head_of (waiting_of o memory offset)))
+    → (waited ≡ false) ↔ (waiting_at ((contents_state o slots memory).objects offset) ≡ [])
+unfolding contents_state
 waited-in o slots memory offset waited is =
-    let same = waited-from o.threads (waiting_of o memory offset) (thread_in o.threads offset) (record_in o.records offset) in
+    let same = waited-from o.threads (waiting_of o memory offset) (o.threads offset) (o.records offset) in
     (λ none. same.0 (sym is ∙ none), λ none. is ∙ same.1 none)
 
 -- ---- another word
 
-word-from : (threads : List (Option Thread)) (waiting : List ℕ) (word : ℕ) (t : Option Thread) (r : Option Record)
+word-from : (threads : ℕ → Option Thread) (waiting : List ℕ) (word : ℕ) (t : Option Thread) (r : Option Record)
     → option_map kind_of (object_from t (option_map (object_of threads waiting) r)) ≡ Some NewNotification
     → object_from t (option_map (object_of threads waiting) (Some (Notification word)))
     ≡ Some (NotificationObject (record (option_map_or (λ n. n) (as_notification (object_from t (option_map (object_of threads waiting) r))) new_notification) { word = word }))
@@ -201,7 +201,7 @@ word-from threads waiting word None (Some Frame) is = absurd cc
 word-from threads waiting word None (Some PageTable) is = absurd cc
 word-from threads waiting word None (Some RootTable) is = absurd cc
 
-no-frame : (threads : List (Option Thread)) (waiting : List ℕ) (t : Option Thread) (r : Option Record)
+no-frame : (threads : ℕ → Option Thread) (waiting : List ℕ) (t : Option Thread) (r : Option Record)
     → option_map kind_of (object_from t (option_map (object_of threads waiting) r)) ≡ Some NewNotification → option_map_or is_frame r false ≡ false
 no-frame threads waiting None (Some (Notification word)) is = refl
 no-frame threads waiting (Some t) r is = absurd cc
@@ -212,42 +212,42 @@ no-frame threads waiting None (Some Frame) is = absurd cc
 no-frame threads waiting None (Some PageTable) is = refl
 no-frame threads waiting None (Some RootTable) is = refl
 
-module _ (o : Tables) (records : List (Option Record)) (notification word : ℕ) (is : kind_in o notification ≡ Some NewNotification)
-    (replaced : (other : ℕ) → record_in records other ≡ put (record_in o.records) notification (Some (Notification word)) other) where
-  abbrev now : Tables
+module _ (o : Contents) (records : ℕ → Option Record) (notification word : ℕ) (is : kind_in o notification ≡ Some NewNotification)
+    (replaced : (other : ℕ) → records other ≡ put (o.records) notification (Some (Notification word)) other) where
+  abbrev now : Contents
   now = record o { records = records }
 
   abbrev value : (ℕ → List ℕ) → Object
   value waiting = NotificationObject (record (option_map_or (λ n. n) (as_notification (object_in o waiting notification)) new_notification) { word = word })
 
   is-now : (waiting : ℕ → List ℕ) → option_map kind_of (object_in o waiting notification) ≡ Some NewNotification
-  is-now waiting = kind-from o.threads (waiting notification) (thread_in o.threads notification) (record_in o.records notification) ∙ is
+  is-now waiting = kind-from o.threads (waiting notification) (o.threads notification) (o.records notification) ∙ is
 
   object-word : (waiting : ℕ → List ℕ) (other : ℕ) → object_in now waiting other ≡ put (object_in o waiting) notification (Some (value waiting)) other
   object-word waiting other = elim (eqb_tells other notification) [
     | inl here ↦
         ap (object_in now waiting) here.1
-        ∙ ap (λ r. object_from (thread_in o.threads notification) (option_map (object_of o.threads (waiting notification)) r))
-        (replaced notification ∙ put-here (record_in o.records) notification _)
-        ∙ word-from o.threads (waiting notification) word (thread_in o.threads notification) (record_in o.records notification) (is-now waiting)
+        ∙ ap (λ r. object_from (o.threads notification) (option_map (object_of o.threads (waiting notification)) r))
+        (replaced notification ∙ put-here (o.records) notification _)
+        ∙ word-from o.threads (waiting notification) word (o.threads notification) (o.records notification) (is-now waiting)
         ∙ ap (λ b. if b then Some (value waiting) else object_in o waiting other) (sym here.0)
     | inr apart ↦
-        ap (λ r. object_from (thread_in o.threads other) (option_map (object_of o.threads (waiting other)) r))
-        (replaced other ∙ put-there (record_in o.records) notification _ other apart.1)
+        ap (λ r. object_from (o.threads other) (option_map (object_of o.threads (waiting other)) r))
+        (replaced other ∙ put-there (o.records) notification _ other apart.1)
         ∙ ap (λ b. if b then Some (value waiting) else object_in o waiting other) (sym apart.0)
   ]
 
-  frame-word : (other : ℕ) → option_map_or is_frame (record_in records other) false ≡ option_map_or is_frame (record_in o.records other) false
+  frame-word : (other : ℕ) → option_map_or is_frame (records other) false ≡ option_map_or is_frame (o.records other) false
   frame-word other = elim (eqb_tells other notification) [
     | inl here ↦
-        ap (λ (x : ℕ). option_map_or is_frame (record_in records x) false) here.1
-        ∙ ap (λ r. option_map_or is_frame r false) (replaced notification ∙ put-here (record_in o.records) notification _)
-        ∙ sym (ap (λ (x : ℕ). option_map_or is_frame (record_in o.records x) false) here.1
-        ∙ no-frame o.threads [] (thread_in o.threads notification) (record_in o.records notification) is)
-    | inr apart ↦ ap (λ r. option_map_or is_frame r false) (replaced other ∙ put-there (record_in o.records) notification _ other apart.1)
+        ap (λ (x : ℕ). option_map_or is_frame (records x) false) here.1
+        ∙ ap (λ r. option_map_or is_frame r false) (replaced notification ∙ put-here (o.records) notification _)
+        ∙ sym (ap (λ (x : ℕ). option_map_or is_frame (o.records x) false) here.1
+        ∙ no-frame o.threads [] (o.threads notification) (o.records notification) is)
+    | inr apart ↦ ap (λ r. option_map_or is_frame r false) (replaced other ∙ put-there (o.records) notification _ other apart.1)
   ]
 
-  word-with : (waiting ready : ℕ → List ℕ) (slots : Slots) (memory : List ℕ) → state_with now waiting ready slots memory ≡ with_word (state_with o waiting ready slots memory) notification word
+  pub word-with : (waiting ready : ℕ → List ℕ) (slots : Slots) (memory : List ℕ) → state_with now waiting ready slots memory ≡ with_word (state_with o waiting ready slots memory) notification word
   word-with waiting ready slots memory = λ i. record (state_with o waiting ready slots memory) {
     objects = λ other. object-word waiting other i;
     bytes = λ place. ap (λ b. if b then Some (slice_index memory place) else None) (frame-word (frame_around place)) i;
@@ -256,7 +256,7 @@ module _ (o : Tables) (records : List (Option Record)) (notification word : ℕ)
   kinds-word : (other : ℕ) → kind_in now other ≡ kind_in o other
   kinds-word other = ap (option_map kind_of) (object-word (λ queue. []) other) ∙ kind-put (object_in o (λ queue. [])) notification (value (λ queue. [])) is other
 
-  pub word-state : (slots : Slots) (memory : List ℕ) → state_of now slots memory ≡ with_word (state_of o slots memory) notification word
+  pub word-state : (slots : Slots) (memory : List ℕ) → contents_state now slots memory ≡ with_word (contents_state o slots memory) notification word
   word-state slots memory =
       told-same o now kinds-word slots memory ∙ word-with (waiting_of o memory) (ready_at o memory) slots memory
       ∙ ap (λ (s : State). with_word s notification word) (sym (told o slots memory))

@@ -6,15 +6,15 @@ use Rattle.std.proofs.lemmas.Bool.Decides.{eqb_tells}
 use Rattle.model.specs.Capabilities.Slots.{Slots}
 use Rattle.model.specs.Kernel.Scheduling.{all_leave, leaves, without_threads}
 use Rattle.model.specs.Kernel.State.{Object, State, ThreadState, as_thread}
-use Rattle.objects.specs.Tables.{Tables, object_from, object_in, object_of, record_in, state_of, thread_in, told_by, waiting_of}
+use Rattle.objects.specs.Contents.{Contents, object_from, object_in, object_of, contents_state, waiting_of}
 use Rattle.thread_records.specs.Threads.{thread_state}
-use Rattle.objects.specs.declared.records.Record.{Record}
-use Rattle.objects.specs.declared.records.Record.TheVariants.{Endpoint, Notification, CNode, Frame, PageTable, RootTable}
+use Rattle.objects.specs.Contents.{Record}
+use Rattle.objects.specs.Contents.{Endpoint, Notification, CNode, Frame, PageTable, RootTable}
 use Rattle.thread_records.specs.declared.records.Thread.{Thread}
 use Rattle.removal_laws.proofs.Laws.{filter-all, threads-all}
 use Rattle.removal_laws.specs.Steps.{ends_thread}
 
-no-thread : (threads : List (Option Thread)) (waiting : List ℕ) (r : Option Record) → as_thread (option_map (object_of threads waiting) r) ≡ None
+no-thread : (threads : ℕ → Option Thread) (waiting : List ℕ) (r : Option Record) → as_thread (option_map (object_of threads waiting) r) ≡ None
 no-thread threads waiting None = refl
 no-thread threads waiting (Some Endpoint) = refl
 no-thread threads waiting (Some (Notification word)) = refl
@@ -24,10 +24,10 @@ no-thread threads waiting (Some PageTable) = refl
 no-thread threads waiting (Some RootTable) = refl
 
 -- the threads of the state are those of the table
-pub as-thread : (o : Tables) (waiting : ℕ → List ℕ) (offset : ℕ) → as_thread (object_in o waiting offset) ≡ option_map thread_state (thread_in o.threads offset)
-as-thread o waiting offset = elim (thread_in o.threads offset) as (λ t. as_thread (object_from t (option_map (object_of o.threads (waiting offset)) (record_in o.records offset))) ≡ option_map thread_state t) [
+pub as-thread : (o : Contents) (waiting : ℕ → List ℕ) (offset : ℕ) → as_thread (object_in o waiting offset) ≡ option_map thread_state (o.threads offset)
+as-thread o waiting offset = elim (o.threads offset) as (λ t. as_thread (object_from t (option_map (object_of o.threads (waiting offset)) (o.records offset))) ≡ option_map thread_state t) [
   | Some t ↦ refl
-  | None ↦ no-thread o.threads (waiting offset) (record_in o.records offset)
+  | None ↦ no-thread o.threads (waiting offset) (o.records offset)
 ]
 
 any-false : (t : Option ThreadState) → option_map_or (λ (x : ThreadState). false) t false ≡ false
@@ -44,26 +44,26 @@ without-nobody s gone none = λ i. record s {
   objects = λ offset. object-all gone none (s.objects offset) i;
 }
 
-module _ (o : Tables) (offset : ℕ) (slots : Slots) (memory : List ℕ) where
+module _ (o : Contents) (offset : ℕ) (slots : Slots) (memory : List ℕ) where
   abbrev s : State
-  s = state_of o slots memory
+  s = contents_state o slots memory
 
-  ends-at : (other : ℕ) → ends_thread s offset other ≡ option_map_or (λ _. offset == other) (option_map thread_state (thread_in o.threads other)) false
-  unfolding state_of told_by
+  ends-at : (other : ℕ) → ends_thread s offset other ≡ option_map_or (λ _. offset == other) (option_map thread_state (o.threads other)) false
+  unfolding contents_state
   ends-at other = ap (λ t. option_map_or (λ _. offset == other) t false) (as-thread o (waiting_of o memory) other)
 
   ends-elsewhere : (other : ℕ) → (offset == other) ≡ false → ends_thread s offset other ≡ false
   ends-elsewhere other apart =
-      ends-at other ∙ ap (λ b. option_map_or (λ _. b) (option_map thread_state (thread_in o.threads other)) false) apart
-      ∙ any-false (option_map thread_state (thread_in o.threads other))
+      ends-at other ∙ ap (λ b. option_map_or (λ _. b) (option_map thread_state (o.threads other)) false) apart
+      ∙ any-false (option_map thread_state (o.threads other))
 
   -- that thread alone, if one stands there
-  ends-itself : (t : Thread) → thread_in o.threads offset ≡ Some t → (other : ℕ) → (other == offset) ≡ ends_thread s offset other
+  ends-itself : (t : Thread) → o.threads offset ≡ Some t → (other : ℕ) → (other == offset) ≡ ends_thread s offset other
   ends-itself t there other = elim (eqb_tells offset other) [
     | inl here ↦
         eq-eqb other offset (sym here.1)
         ∙ sym (ends-at other
-        ∙ ap (λ o. option_map_or (λ _. offset == other) (option_map thread_state o) false) (ap (thread_in o.threads) (sym here.1) ∙ there) ∙ here.0)
+        ∙ ap (λ o. option_map_or (λ _. offset == other) (option_map thread_state o) false) (ap (o.threads) (sym here.1) ∙ there) ∙ here.0)
     | inr apart ↦
         elim (eqb_tells other offset) [
           | inl same ↦ absurd (apart.1 (sym same.1))
@@ -71,18 +71,18 @@ module _ (o : Tables) (offset : ℕ) (slots : Slots) (memory : List ℕ) where
         ]
   ]
 
-  ends-nobody : thread_in o.threads offset ≡ None → (other : ℕ) → ends_thread s offset other ≡ false
+  ends-nobody : o.threads offset ≡ None → (other : ℕ) → ends_thread s offset other ≡ false
   ends-nobody none other = elim (eqb_tells offset other) [
     | inl here ↦
-        ends-at other ∙ ap (λ o. option_map_or (λ _. offset == other) (option_map thread_state o) false) (ap (thread_in o.threads) (sym here.1) ∙ none)
+        ends-at other ∙ ap (λ o. option_map_or (λ _. offset == other) (option_map thread_state o) false) (ap (o.threads) (sym here.1) ∙ none)
     | inr apart ↦ ends-elsewhere other apart.0
   ]
 
-  pub left-itself : (t : Option Thread) → t ≡ thread_in o.threads offset → is_some t ≡ true → leaves s offset ≡ all_leave s (ends_thread s offset)
+  pub left-itself : (t : Option Thread) → t ≡ o.threads offset → is_some t ≡ true → leaves s offset ≡ all_leave s (ends_thread s offset)
   left-itself (Some t) there some = λ i. all_leave s (λ other. ends-itself t (sym there) other i)
   left-itself None there some = absurd (let clash : false ≡ true = some in cc)
 
-  pub left-nobody : thread_in o.threads offset ≡ None → s ≡ all_leave s (ends_thread s offset)
+  pub left-nobody : o.threads offset ≡ None → s ≡ all_leave s (ends_thread s offset)
   left-nobody none = sym (without-nobody s (ends_thread s offset) (ends-nobody none))
 
 pub none-there : (t : Option Thread) → is_some t ≡ false → t ≡ None

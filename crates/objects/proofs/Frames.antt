@@ -10,8 +10,8 @@ use Rattle.model.specs.Kernel.ThreadCalls.{with_priority}
 use Rattle.objects.proofs.Kept.{put-there}
 use Rattle.objects.proofs.Told.{kind-state, same-places}
 use Rattle.objects.specs.Frames.{FitsMemory, IsInRecord, SameBesideObjects, SameBesideRecords, SameElsewhere, SameObjects, has_record}
-use Rattle.objects.specs.Standing.{Standing}
-use Rattle.objects.specs.Tables.{Tables, places_of, state_of}
+use Rattle.objects.proofs.Linked.{Linked}
+use Rattle.objects.specs.Contents.{Contents, places_of, contents_state}
 use Rattle.objects.specs.Waiting.{ReceiverTaken, SenderTaken, WaiterTaken, changed_at, joined, served}
 use Rattle.thread_records.specs.declared.records.Sending.{Sending}
 use Rattle.objects.specs.declared.records.WaitingSender.{WaitingSender}
@@ -184,12 +184,12 @@ fits-less s t old new fits bits long opens none kinds =
     }
 
 -- the tables change but for the queues, and the store does not
-pub stands-unmoved : (o n : Tables) (slots : Slots) (memory : List ℕ) → Standing o slots memory → n.ready ≡ o.ready
-    → Unmoved (state_of o slots memory) (state_of n slots memory) → Standing n slots memory
+pub stands-unmoved : (o n : Contents) (slots : Slots) (memory : List ℕ) → Linked o slots memory → n.ready ≡ o.ready
+    → Unmoved (contents_state o slots memory) (contents_state n slots memory) → Linked n slots memory
 stands-unmoved o n slots memory stands ready unmoved =
     let same = same-places o n (λ offset. sym (kind-state n offset slots memory) ∙ unmoved.kinds offset ∙ kind-state o offset slots memory) in
     record {
-      fits = fits-less (state_of o slots memory) (state_of n slots memory) memory memory stands.fits unmoved.bits refl
+      fits = fits-less (contents_state o slots memory) (contents_state n slots memory) memory memory stands.fits unmoved.bits refl
           (λ slot is_open. subst (λ (f : Slots). IsOpen f slot) unmoved.slots is_open)
           (λ place none. ap (λ (f : ℕ → Option ℕ). f place) unmoved.bytes ∙ none)
           (λ offset kind is. sym (unmoved.kinds offset) ∙ is);

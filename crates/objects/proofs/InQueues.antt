@@ -11,7 +11,7 @@ use Rattle.queues.specs.Laws.{AreThreadsIn}
 use Rattle.queues.specs.Queues.{SameBesideWaiting}
 use Rattle.queues.specs.Ready.{SameBesideReady}
 use Rattle.objects.proofs.Told.{has-head, has-thread, in-point, in-thread, kind-state}
-use Rattle.objects.specs.Tables.{Tables, places_of, state_of}
+use Rattle.objects.specs.Contents.{Contents, places_of, contents_state}
 
 -- ---- lists
 
@@ -36,23 +36,23 @@ times-first (t ∷ rest) thread first =
 -- ---- bytes
 
 -- links stand in records
-pub waiting-records : (o : Tables) (slots : Slots) (memory old new : List ℕ) (queues : ℕ → List ℕ) → AreThreadsIn (places_of o) queues
-    → SameBesideWaiting (places_of o) queues old new → SameBesideRecords (state_of o slots memory) old new
+pub waiting-records : (o : Contents) (slots : Slots) (memory old new : List ℕ) (queues : ℕ → List ℕ) → AreThreadsIn (places_of o) queues
+    → SameBesideWaiting (places_of o) queues old new → SameBesideRecords (contents_state o slots memory) old new
 waiting-records o slots memory old new queues there same = record {
   size = same.size;
   bytes = λ place apart. same.bytes place
-      (λ queue thread stands held. apart (in-thread (state_of o slots memory) thread place (kind-state o thread slots memory ∙ has-thread o thread (there queue thread stands))
+      (λ queue thread stands held. apart (in-thread (contents_state o slots memory) thread place (kind-state o thread slots memory ∙ has-thread o thread (there queue thread stands))
       (omega (arith, held.0)) (omega (arith, held.1))))
       (λ queue head thread stands is held.
       let at = has-head o queue head is in
-      apart (in-point (state_of o slots memory) queue place (ap has_waiting (kind-state o queue slots memory) ∙ at.0) (omega (arith, held.0, at.1)) (omega (arith, held.1, at.1))).0);
+      apart (in-point (contents_state o slots memory) queue place (ap has_waiting (kind-state o queue slots memory) ∙ at.0) (omega (arith, held.0, at.1)) (omega (arith, held.1, at.1))).0);
 }
 
-pub ready-records : (o : Tables) (slots : Slots) (memory old new : List ℕ) (queues : ℕ → List ℕ) → AreThreadsIn (places_of o) queues
-    → SameBesideReady queues old new → SameBesideRecords (state_of o slots memory) old new
+pub ready-records : (o : Contents) (slots : Slots) (memory old new : List ℕ) (queues : ℕ → List ℕ) → AreThreadsIn (places_of o) queues
+    → SameBesideReady queues old new → SameBesideRecords (contents_state o slots memory) old new
 ready-records o slots memory old new queues there same = record {
   size = same.size;
   bytes = λ place apart. same.bytes place
-      (λ queue thread stands held. apart (in-thread (state_of o slots memory) thread place (kind-state o thread slots memory ∙ has-thread o thread (there queue thread stands))
+      (λ queue thread stands held. apart (in-thread (contents_state o slots memory) thread place (kind-state o thread slots memory ∙ has-thread o thread (there queue thread stands))
       (omega (arith, held.0)) (omega (arith, held.1))));
 }

@@ -11,12 +11,12 @@ use Rattle.model.specs.Shared.Lists.{times_in}
 use Rattle.objects.proofs.Kept.{put-here, put-there}
 use Rattle.objects.proofs.Lists.{receivers-by, receivers-same, senders-by, senders-same}
 use Rattle.objects.proofs.Vacating.{other-same}
-use Rattle.objects.specs.Standing.{Standing}
-use Rattle.objects.specs.Tables.{Tables, object_from, object_in, object_of, record_in, sending_in, state_of, thread_in, told_by, waiting_of}
+use Rattle.objects.proofs.Linked.{Linked}
+use Rattle.objects.specs.Contents.{Contents, object_from, object_in, object_of, sending_in, contents_state, waiting_of}
 use Rattle.thread_records.specs.Threads.{sender_of}
 use Rattle.objects.specs.Waiting.{StandsNowhere, changed_at, has_waiting, joined}
-use Rattle.objects.specs.declared.records.Record.{Record}
-use Rattle.objects.specs.declared.records.Record.TheVariants.{Endpoint, Notification, CNode, Frame, PageTable, RootTable}
+use Rattle.objects.specs.Contents.{Record}
+use Rattle.objects.specs.Contents.{Endpoint, Notification, CNode, Frame, PageTable, RootTable}
 use Rattle.thread_records.specs.declared.records.Sending.{Sending}
 use Rattle.thread_records.specs.declared.records.Thread.{Thread}
 use Rattle.objects.proofs.Told.{state_with, waited}
@@ -70,12 +70,12 @@ no-thread-waits : (t : Option Thread) (p : Option Object) → has_waiting (optio
 no-thread-waits (Some t) p is = absurd (let clash : false ≡ true = is in cc)
 no-thread-waits None p is = refl
 
-pub free-queue : (o : Tables) (slots : Slots) (memory : List ℕ) (queue : ℕ) → has_waiting (kind_at (state_of o slots memory) queue) ≡ true → thread_in o.threads queue ≡ None
-unfolding state_of told_by
-free-queue o slots memory queue = no-thread-waits (thread_in o.threads queue) _
+pub free-queue : (o : Contents) (slots : Slots) (memory : List ℕ) (queue : ℕ) → has_waiting (kind_at (contents_state o slots memory) queue) ≡ true → o.threads queue ≡ None
+unfolding contents_state
+free-queue o slots memory queue = no-thread-waits (o.threads queue) _
 
 -- who waits at an object stands in its queue
-waits-queued : (threads : List (Option Thread)) (waiting : List ℕ) (thread : ℕ) (t : Option Thread) (r : Option Record)
+waits-queued : (threads : ℕ → Option Thread) (waiting : List ℕ) (thread : ℕ) (t : Option Thread) (r : Option Record)
     → has_waiting (option_map kind_of (object_from t (option_map (object_of threads waiting) r))) ≡ true
     → times_in (waiting_at (object_from t (option_map (object_of threads waiting) r))) thread ≡ times_in waiting thread
 waits-queued threads waiting thread None (Some Endpoint) is = times-parts (sending_in threads) waiting thread
@@ -88,30 +88,30 @@ waits-queued threads waiting thread None (Some PageTable) is = absurd (let clash
 waits-queued threads waiting thread None (Some RootTable) is = absurd (let clash : false ≡ true = is in cc)
 
 -- so who waits at no object stands in no queue
-pub nowhere-queued : (o : Tables) (slots : Slots) (memory : List ℕ) (thread : ℕ) → Standing o slots memory → StandsNowhere (state_of o slots memory).objects thread
+pub nowhere-queued : (o : Contents) (slots : Slots) (memory : List ℕ) (thread : ℕ) → Linked o slots memory → StandsNowhere (contents_state o slots memory).objects thread
     → (queue : ℕ) → times_in (waiting_of o memory queue) thread ≡ 0
-unfolding state_of told_by
+unfolding contents_state
 nowhere-queued o slots memory thread stands apart queue = elim (cases_lt 0 (times_in (waiting_of o memory queue) thread)) [
   | inl some ↦
-      let waits = waits-queued o.threads (waiting_of o memory queue) thread (thread_in o.threads queue) (record_in o.records queue) (waited o slots memory stands queue thread some) in
+      let waits = waits-queued o.threads (waiting_of o memory queue) thread (o.threads queue) (o.records queue) (waited o slots memory stands queue thread some) in
       sym waits ∙ apart.nowhere queue
   | inr few ↦ omega (arith, few)
 ]
 
-module _ (o : Tables) (threads : List (Option Thread)) (was_waiting waiting : ℕ → List ℕ) (queue thread : ℕ) (held : Thread) (sending : Option Sending)
-    (there : thread_in o.threads thread ≡ Some held)
-    (free : thread_in o.threads queue ≡ None)
-    (replaced : (other : ℕ) → thread_in threads other ≡ put (thread_in o.threads) thread (Some (record held { sending = sending })) other)
+module _ (o : Contents) (threads : ℕ → Option Thread) (was_waiting waiting : ℕ → List ℕ) (queue thread : ℕ) (held : Thread) (sending : Option Sending)
+    (there : o.threads thread ≡ Some held)
+    (free : o.threads queue ≡ None)
+    (replaced : (other : ℕ) → threads other ≡ put (o.threads) thread (Some (record held { sending = sending })) other)
     (queue-now : (other : ℕ) → waiting other ≡ put (was_waiting) queue (was_waiting queue ++ thread ∷ []) other)
     (waits-not : (other : ℕ) → times_in (was_waiting other) thread ≡ 0) where
-  abbrev now : Tables
+  abbrev now : Contents
   now = record o { threads = threads }
 
   sends : (other : ℕ) → other ≢ thread → sending_in threads other ≡ sending_in o.threads other
-  sends other apart = ap (option_and_then (λ t. t.sending)) (replaced other ∙ put-there (thread_in o.threads) thread _ other apart)
+  sends other apart = ap (option_and_then (λ t. t.sending)) (replaced other ∙ put-there (o.threads) thread _ other apart)
 
   sends-this : sending_in threads thread ≡ sending
-  sends-this = ap (option_and_then (λ t. t.sending)) (replaced thread ∙ put-here (thread_in o.threads) thread _)
+  sends-this = ap (option_and_then (λ t. t.sending)) (replaced thread ∙ put-here (o.threads) thread _)
 
   abbrev before : List ℕ
   before = was_waiting queue
@@ -147,29 +147,29 @@ module _ (o : Tables) (threads : List (Option Thread)) (was_waiting waiting : �
 
   -- the queue's own object, that of the thread, and the others
   apart-from : queue ≢ thread
-  apart-from same = let clash : None ≡ Some held = sym free ∙ ap (thread_in o.threads) same ∙ there in cc
+  apart-from same = let clash : None ≡ Some held = sym free ∙ ap (o.threads) same ∙ there in cc
 
   joined-here : object_in now waiting queue ≡ option_map (joined thread sending) (object_in o was_waiting queue)
   joined-here =
-      ap (λ l. object_from (thread_in threads queue) (option_map (object_of threads l) (record_in o.records queue))) (queue-now queue ∙ put-here (was_waiting) queue _)
-      ∙ ap (λ t. object_from t (option_map (object_of threads (before ++ thread ∷ [])) (record_in o.records queue)))
-      (replaced queue ∙ put-there (thread_in o.threads) thread _ queue apart-from ∙ free)
-      ∙ other-joined (record_in o.records queue)
-      ∙ ap (λ t. option_map (joined thread sending) (object_from t (option_map (object_of o.threads before) (record_in o.records queue)))) (sym free)
+      ap (λ l. object_from (threads queue) (option_map (object_of threads l) (o.records queue))) (queue-now queue ∙ put-here (was_waiting) queue _)
+      ∙ ap (λ t. object_from t (option_map (object_of threads (before ++ thread ∷ [])) (o.records queue)))
+      (replaced queue ∙ put-there (o.threads) thread _ queue apart-from ∙ free)
+      ∙ other-joined (o.records queue)
+      ∙ ap (λ t. option_map (joined thread sending) (object_from t (option_map (object_of o.threads before) (o.records queue)))) (sym free)
 
   thread-same : object_in now waiting thread ≡ object_in o was_waiting thread
   thread-same =
-      ap (λ t. object_from t (option_map (object_of threads (waiting thread)) (record_in o.records thread))) (replaced thread ∙ put-here (thread_in o.threads) thread _)
-      ∙ ap (λ t. object_from t (option_map (object_of o.threads (was_waiting thread)) (record_in o.records thread))) (sym there)
+      ap (λ t. object_from t (option_map (object_of threads (waiting thread)) (o.records thread))) (replaced thread ∙ put-here (o.threads) thread _)
+      ∙ ap (λ t. object_from t (option_map (object_of o.threads (was_waiting thread)) (o.records thread))) (sym there)
 
   other-same-there : (other : ℕ) → other ≢ thread → other ≢ queue → object_in now waiting other ≡ object_in o was_waiting other
   other-same-there other from_thread from_queue =
-      ap (λ t. object_from t (option_map (object_of threads (waiting other)) (record_in o.records other)))
-      (replaced other ∙ put-there (thread_in o.threads) thread _ other from_thread)
-      ∙ ap (λ l. object_from (thread_in o.threads other) (option_map (object_of threads l) (record_in o.records other)))
+      ap (λ t. object_from t (option_map (object_of threads (waiting other)) (o.records other)))
+      (replaced other ∙ put-there (o.threads) thread _ other from_thread)
+      ∙ ap (λ l. object_from (o.threads other) (option_map (object_of threads l) (o.records other)))
       (queue-now other ∙ put-there (was_waiting) queue _ other from_queue)
-      ∙ ap (object_from (thread_in o.threads other))
-      (other-same o.threads threads thread (was_waiting other) (record_in o.records other) sends (waits-not other))
+      ∙ ap (object_from (o.threads other))
+      (other-same o.threads threads thread (was_waiting other) (o.records other) sends (waits-not other))
 
   object-joined : (other : ℕ) → object_in now waiting other ≡ put (object_in o was_waiting) queue (option_map (joined thread sending) (object_in o was_waiting queue)) other
   object-joined other = elim (eqb_tells other queue) [

@@ -1,12 +1,8 @@
--- What is always true of the tables stays true where they change.
-use Rattle.std.proofs.Common.{ℕ, ◌≡◌, ◌≢◌, ◌∙◌, ◌*◌, ◌^◌, ◌≤◌, inl, inr, if◌then◌else◌, Option, Some, None, List, length, refl, sym, ap, arith}
+-- A map with another value at one place.
+use Rattle.std.proofs.Common.{ℕ, ◌≡◌, ◌≢◌, inl, inr, if◌then◌else◌, refl, ap}
 use Rattle.std.proofs.lemmas.Bool.Decides.{eqb_tells}
 use Rattle.model.specs.Kernel.State.{put}
-use Rattle.objects.specs.Tables.{AreTables, Tables, record_in}
-use Rattle.objects.specs.declared.records.Record.{Record}
-use Rattle.objects.specs.declared.records.Record.TheVariants.{CNode}
 
--- a map with another value at one place
 pub put-here : {A : Type 0} (m : ℕ → A) (place : ℕ) (value : A) → put m place value place ≡ value
 put-here m place value = elim (eqb_tells place place) [
   | inl here ↦ ap (λ b. if b then value else m place) here.0
@@ -17,23 +13,4 @@ pub put-there : {A : Type 0} (m : ℕ → A) (place : ℕ) (value : A) (other : 
 put-there m place value other apart = elim (eqb_tells other place) [
   | inl here ↦ absurd (apart here.1)
   | inr there ↦ ap (λ b. if b then value else m other) there.0
-]
-
--- tables of the same sizes, if CNodes are small
-pub kept : (o n : Tables) → AreTables o → n.bits ≡ o.bits → n.radix ≡ o.radix → length n.records ≡ length o.records → length n.threads ≡ length o.threads
-    → ((offset radix : ℕ) → record_in n.records offset ≡ Some (CNode radix) → radix ≤ 14) → AreTables n
-kept o n are bits radix records threads small = record {
-  least_bits = omega (arith, bits, are.least_bits);
-  most_bits = omega (arith, bits, are.most_bits);
-  most_radix = omega (arith, radix, are.most_radix);
-  record_places = ap (λ (x : ℕ). 16 * x) records ∙ are.record_places ∙ ap (λ (x : ℕ). 2 ^ x) (sym bits);
-  thread_places = ap (λ (x : ℕ). 512 * x) threads ∙ are.thread_places ∙ ap (λ (x : ℕ). 2 ^ x) (sym bits);
-  nodes = small;
-}
-
-pub small-vacated : (old new : List (Option Record)) (offset : ℕ) → ((other : ℕ) → record_in new other ≡ put (record_in old) offset None other)
-    → ((place radix : ℕ) → record_in old place ≡ Some (CNode radix) → radix ≤ 14) → (place radix : ℕ) → record_in new place ≡ Some (CNode radix) → radix ≤ 14
-small-vacated old new offset records small place radix is = elim (eqb_tells place offset) [
-  | inl here ↦ absurd (let clash : None ≡ Some (CNode radix) = ap (λ b. if b then None else record_in old place) (sym here.0) ∙ sym (records place) ∙ is in cc)
-  | inr apart ↦ small place radix (ap (λ b. if b then None else record_in old place) (sym apart.0) ∙ sym (records place) ∙ is)
 ]

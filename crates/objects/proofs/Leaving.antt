@@ -7,9 +7,9 @@ use Rattle.model.specs.Kernel.State.{Object, EndpointObject, NotificationObject}
 use Rattle.model.specs.Shared.Lists.{without}
 use Rattle.objects.proofs.Lists.{receivers-by, receivers-part, senders-by, senders-part}
 use Rattle.objects.specs.Changes.{voided}
-use Rattle.objects.specs.Tables.{Tables, object_from, object_in, object_of, receivers_in, record_in, senders_in, sending_in, thread_in}
-use Rattle.objects.specs.declared.records.Record.{Record}
-use Rattle.objects.specs.declared.records.Record.TheVariants.{Endpoint, Notification, CNode, Frame, PageTable, RootTable}
+use Rattle.objects.specs.Contents.{Contents, object_from, object_in, object_of, receivers_in, senders_in, sending_in}
+use Rattle.objects.specs.Contents.{Record}
+use Rattle.objects.specs.Contents.{Endpoint, Notification, CNode, Frame, PageTable, RootTable}
 use Rattle.thread_records.specs.declared.records.Thread.{Thread}
 use Rattle.objects.proofs.Told.{state_with}
 
@@ -17,18 +17,18 @@ sends-still : (gone : ℕ) (o : Option Thread) → option_and_then (λ t. t.send
 sends-still gone (Some t) = refl
 sends-still gone None = refl
 
-module _ (o : Tables) (threads : List (Option Thread)) (was_waiting waiting was_ready ready : ℕ → List ℕ) (thread : ℕ)
-    (void : (other : ℕ) → thread_in threads other ≡ option_map (voided thread) (thread_in o.threads other))
+module _ (o : Contents) (threads : ℕ → Option Thread) (was_waiting waiting was_ready ready : ℕ → List ℕ) (thread : ℕ)
+    (void : (other : ℕ) → threads other ≡ option_map (voided thread) (o.threads other))
     (left : (queue : ℕ) → waiting queue ≡ without thread (was_waiting queue))
     (unready : (priority : ℕ) → ready priority ≡ without thread (was_ready priority)) where
-  abbrev now : Tables
+  abbrev now : Contents
   now = record o { threads = threads }
 
   abbrev gone : ℕ → Bool
   gone other = other == thread
 
   sends : (other : ℕ) → sending_in threads other ≡ sending_in o.threads other
-  sends other = ap (option_and_then (λ t. t.sending)) (void other) ∙ sends-still thread (thread_in o.threads other)
+  sends other = ap (option_and_then (λ t. t.sending)) (void other) ∙ sends-still thread (o.threads other)
 
   senders-left : (queue : ℕ) → senders_in threads (waiting queue)
       ≡ filter (λ sender. not (gone sender.thread)) (senders_in o.threads (was_waiting queue))
@@ -61,8 +61,8 @@ module _ (o : Tables) (threads : List (Option Thread)) (was_waiting waiting was_
 
   object-left : (offset : ℕ) → object_in now waiting offset ≡ option_map (without_threads gone) (object_in o was_waiting offset)
   object-left offset =
-      ap (λ t. object_from t (option_map (object_of threads (waiting offset)) (record_in o.records offset))) (void offset)
-      ∙ from-left (thread_in o.threads offset) _ _ (other-left offset (record_in o.records offset))
+      ap (λ t. object_from t (option_map (object_of threads (waiting offset)) (o.records offset))) (void offset)
+      ∙ from-left (o.threads offset) _ _ (other-left offset (o.records offset))
 
   pub left-state : (slots : Slots) (memory : List ℕ) → state_with now waiting ready slots memory ≡ leaves (state_with o was_waiting was_ready slots memory) thread
   left-state slots memory = λ i. record (state_with o was_waiting was_ready slots memory) {

@@ -5,67 +5,40 @@ use Rattle.std.specs.Option.{option_map_or}
 use Rattle.std.proofs.lemmas.Bool.Decides.{eqb_tells}
 use Rattle.model.specs.Capabilities.Slots.{Slots}
 use Rattle.model.specs.Kernel.Kinds.{kind_at, kind_of}
-use Rattle.model.specs.Kernel.Messages.{with_registers}
 use Rattle.model.specs.Kernel.Retype.{NewThread}
 use Rattle.model.specs.Kernel.Scheduling.{at_tail, is_runnable, to_tail, unready}
 use Rattle.model.specs.Kernel.State.{EndpointObject, Object, State, ThreadObject, ThreadState, new_thread, put, thread_at, with_thread}
 use Rattle.model.specs.Kernel.ThreadCalls.{with_priority}
-use Rattle.model.specs.Machine.ProgramMemory.{RegisterFile}
 use Rattle.objects.proofs.Ends.{as-thread}
 use Rattle.objects.proofs.Kept.{put-here, put-there}
 use Rattle.objects.proofs.Lists.{receivers-by, senders-by}
-use Rattle.objects.specs.Changes.{registered}
-use Rattle.objects.specs.Tables.{Tables, kind_in, object_from, object_in, object_of, ready_at, record_in, sending_in, state_of, thread_in, told_by, waiting_of}
-use Rattle.thread_records.specs.Threads.{status_of, thread_state}
-use Rattle.objects.specs.declared.records.Record.{Record}
-use Rattle.objects.specs.declared.records.Record.TheVariants.{Endpoint, Notification, CNode, Frame, PageTable, RootTable}
-use Rattle.thread_records.specs.declared.records.Status.TheVariants.{Runnable}
+use Rattle.objects.specs.Contents.{Contents, kind_in, object_from, object_in, object_of, ready_at, sending_in, contents_state, waiting_of}
+use Rattle.thread_records.specs.Threads.{thread_state}
+use Rattle.objects.specs.Contents.{Record}
+use Rattle.objects.specs.Contents.{Endpoint, Notification, CNode, Frame, PageTable, RootTable}
 use Rattle.thread_records.specs.declared.records.Thread.{Thread}
 use Rattle.objects.proofs.Frames.{kind-put}
 use Rattle.objects.proofs.Told.{state_with, told, told-same}
-pub use Rattle.objects.proofs.Told.{aligned, within}
 
 -- ---- threads that are there
 
 -- the state's thread at an offset
-pub thread-state : (o : Tables) (offset : ℕ) (slots : Slots) (memory : List ℕ)
-    → thread_at (state_of o slots memory) offset ≡ option_map_or (λ t. t) (option_map thread_state (thread_in o.threads offset)) new_thread
-unfolding state_of told_by
+pub thread-state : (o : Contents) (offset : ℕ) (slots : Slots) (memory : List ℕ)
+    → thread_at (contents_state o slots memory) offset ≡ option_map_or (λ t. t) (option_map thread_state (o.threads offset)) new_thread
+unfolding contents_state
 thread-state o offset slots memory = ap (λ t. option_map_or (λ t. t) t new_thread) (as-thread o (waiting_of o memory) offset)
 
-pub thread-is : (o : Tables) (offset : ℕ) (t : Thread) (slots : Slots) (memory : List ℕ) → thread_in o.threads offset ≡ Some t
-    → thread_at (state_of o slots memory) offset ≡ thread_state t
+pub thread-is : (o : Contents) (offset : ℕ) (t : Thread) (slots : Slots) (memory : List ℕ) → o.threads offset ≡ Some t
+    → thread_at (contents_state o slots memory) offset ≡ thread_state t
 thread-is o offset t slots memory is =
     thread-state o offset slots memory ∙ ap (λ found. option_map_or (λ t. t) (option_map thread_state found) new_thread) is
 
-pub thread-kind : (o : Tables) (offset : ℕ) (t : Thread) (slots : Slots) (memory : List ℕ) → thread_in o.threads offset ≡ Some t
-    → kind_at (state_of o slots memory) offset ≡ Some NewThread
-unfolding state_of told_by
-thread-kind o offset t slots memory is = ap (λ found. option_map kind_of (object_from found (option_map (object_of o.threads (waiting_of o memory offset)) (record_in o.records offset)))) is
+pub thread-kind : (o : Contents) (offset : ℕ) (t : Thread) (slots : Slots) (memory : List ℕ) → o.threads offset ≡ Some t
+    → kind_at (contents_state o slots memory) offset ≡ Some NewThread
+unfolding contents_state
+thread-kind o offset t slots memory is = ap (λ found. option_map kind_of (object_from found (option_map (object_of o.threads (waiting_of o memory offset)) (o.records offset)))) is
 
-pub registers-of : (o : Tables) (offset : ℕ) (slots : Slots) (memory : List ℕ)
-    → (thread_at (state_of o slots memory) offset).registers
-    ≡ option_map_or (λ registers. registers) (option_map (λ t. t.registers) (thread_in o.threads offset)) new_thread.registers
-registers-of o offset slots memory =
-    ap (λ t. t.registers) (thread-state o offset slots memory)
-    ∙ elim (thread_in o.threads offset) as (λ t. (option_map_or (λ t. t) (option_map thread_state t) new_thread).registers
-    ≡ option_map_or (λ registers. registers) (option_map (λ t. t.registers) t) new_thread.registers) [
-      | Some t ↦ refl
-      | None ↦ refl
-    ]
-
-pub pc-of : (o : Tables) (offset : ℕ) (slots : Slots) (memory : List ℕ)
-    → (thread_at (state_of o slots memory) offset).registers.pc
-    ≡ option_map_or (λ pc. pc) (option_map (λ t. t.registers.pc) (thread_in o.threads offset)) 0
-pc-of o offset slots memory =
-    ap (λ t. t.registers.pc) (thread-state o offset slots memory)
-    ∙ elim (thread_in o.threads offset) as (λ t. (option_map_or (λ t. t) (option_map thread_state t) new_thread).registers.pc
-    ≡ option_map_or (λ pc. pc) (option_map (λ t. t.registers.pc) t) 0) [
-      | Some t ↦ refl
-      | None ↦ refl
-    ]
-
-no-thread-kind : (threads : List (Option Thread)) (waiting : List ℕ) (r : Option Record) → option_map kind_of (option_map (object_of threads waiting) r) ≡ Some NewThread → false ≡ true
+no-thread-kind : (threads : ℕ → Option Thread) (waiting : List ℕ) (r : Option Record) → option_map kind_of (option_map (object_of threads waiting) r) ≡ Some NewThread → false ≡ true
 no-thread-kind threads waiting None is = cc
 no-thread-kind threads waiting (Some Endpoint) is = cc
 no-thread-kind threads waiting (Some (Notification word)) is = cc
@@ -74,12 +47,12 @@ no-thread-kind threads waiting (Some Frame) is = cc
 no-thread-kind threads waiting (Some PageTable) is = cc
 no-thread-kind threads waiting (Some RootTable) is = cc
 
-pub thread-there : (o : Tables) (offset : ℕ) → kind_in o offset ≡ Some NewThread → is_some (thread_in o.threads offset) ≡ true
+pub thread-there : (o : Contents) (offset : ℕ) → kind_in o offset ≡ Some NewThread → is_some (o.threads offset) ≡ true
 thread-there o offset =
-    elim (thread_in o.threads offset) as (λ t. option_map kind_of (object_from t (option_map (object_of o.threads []) (record_in o.records offset))) ≡ Some NewThread
+    elim (o.threads offset) as (λ t. option_map kind_of (object_from t (option_map (object_of o.threads []) (o.records offset))) ≡ Some NewThread
     → is_some t ≡ true) [
       | Some t ↦ λ is. refl
-      | None ↦ λ is. no-thread-kind o.threads [] (record_in o.records offset) is
+      | None ↦ λ is. no-thread-kind o.threads [] (o.records offset) is
     ]
 
 -- ---- the state with another thread
@@ -88,18 +61,18 @@ some-kind : (t : Option Thread) (p : Option Object) → is_some t ≡ true → o
 some-kind (Some t) p there = refl
 some-kind None p there = absurd (let clash : false ≡ true = there in cc)
 
-module _ (o : Tables) (threads : List (Option Thread)) (thread : ℕ) (after : Thread)
-    (replaced : (other : ℕ) → thread_in threads other ≡ put (thread_in o.threads) thread (Some after) other)
+module _ (o : Contents) (threads : ℕ → Option Thread) (thread : ℕ) (after : Thread)
+    (replaced : (other : ℕ) → threads other ≡ put (o.threads) thread (Some after) other)
     (alike : sending_in o.threads thread ≡ after.sending) where
-  abbrev now : Tables
+  abbrev now : Contents
   now = record o { threads = threads }
 
   sends : (other : ℕ) → sending_in threads other ≡ sending_in o.threads other
   sends other = elim (eqb_tells other thread) [
     | inl here ↦
-        ap (option_and_then (λ t. t.sending)) (replaced other ∙ ap (λ b. if b then Some after else thread_in o.threads other) here.0)
+        ap (option_and_then (λ t. t.sending)) (replaced other ∙ ap (λ b. if b then Some after else o.threads other) here.0)
         ∙ sym alike ∙ ap (sending_in o.threads) (sym here.1)
-    | inr apart ↦ ap (option_and_then (λ t. t.sending)) (replaced other ∙ put-there (thread_in o.threads) thread (Some after) other apart.1)
+    | inr apart ↦ ap (option_and_then (λ t. t.sending)) (replaced other ∙ put-there (o.threads) thread (Some after) other apart.1)
   ]
 
   record-still : (waiting : List ℕ) (r : Record) → object_of threads waiting r ≡ object_of o.threads waiting r
@@ -124,48 +97,30 @@ module _ (o : Tables) (threads : List (Option Thread)) (thread : ℕ) (after : T
 
   object-replaced : (waiting : ℕ → List ℕ) (other : ℕ) → object_in now waiting other ≡ put (object_in o waiting) thread (Some (ThreadObject (thread_state after))) other
   object-replaced waiting other =
-      ap (λ t. object_from t (option_map (object_of threads (waiting other)) (record_in o.records other))) (replaced other)
-      ∙ from-put (other == thread) (thread_in o.threads other) _
-      ∙ ap (λ p. if other == thread then Some (ThreadObject (thread_state after)) else object_from (thread_in o.threads other) p)
-      (other-still (waiting other) (record_in o.records other))
+      ap (λ t. object_from t (option_map (object_of threads (waiting other)) (o.records other))) (replaced other)
+      ∙ from-put (other == thread) (o.threads other) _
+      ∙ ap (λ p. if other == thread then Some (ThreadObject (thread_state after)) else object_from (o.threads other) p)
+      (other-still (waiting other) (o.records other))
 
   pub replaced-with : (waiting ready : ℕ → List ℕ) (slots : Slots) (memory : List ℕ) → state_with now waiting ready slots memory ≡ with_thread (state_with o waiting ready slots memory) thread (thread_state after)
   replaced-with waiting ready slots memory = λ i. record (state_with o waiting ready slots memory) { objects = λ other. object-replaced waiting other i }
 
-  module _ (there : is_some (thread_in o.threads thread) ≡ true) where
+  module _ (there : is_some (o.threads thread) ≡ true) where
     pub kinds-replaced : (other : ℕ) → kind_in now other ≡ kind_in o other
     kinds-replaced other =
         ap (option_map kind_of) (object-replaced (λ queue. []) other)
-        ∙ kind-put (object_in o (λ queue. [])) thread (ThreadObject (thread_state after)) (some-kind (thread_in o.threads thread) _ there) other
+        ∙ kind-put (object_in o (λ queue. [])) thread (ThreadObject (thread_state after)) (some-kind (o.threads thread) _ there) other
 
-    pub replaced-state : (slots : Slots) (memory : List ℕ) → state_of now slots memory ≡ with_thread (state_of o slots memory) thread (thread_state after)
+    pub replaced-state : (slots : Slots) (memory : List ℕ) → contents_state now slots memory ≡ with_thread (contents_state o slots memory) thread (thread_state after)
     replaced-state slots memory =
         told-same o now kinds-replaced slots memory ∙ replaced-with (waiting_of o memory) (ready_at o memory) slots memory
         ∙ ap (λ (s : State). with_thread s thread (thread_state after)) (sym (told o slots memory))
 
--- ---- the state with other registers of a thread
-
-pub registered-state : (o : Tables) (threads : List (Option Thread)) (offset : ℕ) (registers : RegisterFile)
-    → ((other : ℕ) → thread_in threads other ≡ put (thread_in o.threads) offset (option_map (registered registers) (thread_in o.threads offset)) other)
-    → is_some (thread_in o.threads offset) ≡ true → (slots : Slots) (memory : List ℕ)
-    → state_of (record o { threads = threads }) slots memory ≡ with_registers (state_of o slots memory) offset registers
-registered-state o threads offset registers changed there slots memory =
-    elim (thread_in o.threads offset) as (λ found. thread_in o.threads offset ≡ found → is_some found ≡ true
-    → state_of (record o { threads = threads }) slots memory ≡ with_registers (state_of o slots memory) offset registers) [
-      | Some t ↦ λ is some.
-          replaced-state o threads offset (registered registers t)
-          (λ other. changed other ∙ ap (λ found. put (thread_in o.threads) offset (option_map (registered registers) found) other) is)
-          (ap (option_and_then (λ t. t.sending)) is) there slots memory
-          ∙ ap (λ t. with_thread (state_of o slots memory) offset (record t { registers = registers }))
-          (sym (thread-state o offset slots memory ∙ ap (λ found. option_map_or (λ t. t) (option_map thread_state found) new_thread) is))
-      | None ↦ λ is some. absurd (let clash : false ≡ true = some in cc)
-    ] refl there
-
 -- ---- the ready list
 
 -- the ready list is the table's
-pub ready-is : (o : Tables) (slots : Slots) (memory : List ℕ) → (state_of o slots memory).ready ≡ ready_at o memory
-unfolding state_of told_by
+pub ready-is : (o : Contents) (slots : Slots) (memory : List ℕ) → (contents_state o slots memory).ready ≡ ready_at o memory
+unfolding contents_state
 ready-is o slots memory = refl
 
 -- ---- priorities
@@ -174,18 +129,15 @@ pub replaced-there : (s n : State) (offset : ℕ) (t : ThreadState) → n ≡ wi
 replaced-there s n offset t is = ap (λ (s : State). kind_at s offset) is ∙ ap (option_map kind_of) (put-here s.objects offset (Some (ThreadObject t)))
 
 -- a thread that runs goes to the tail of its new priority
-module _ (s : State) (thread priority : ℕ) (held : Thread) (is : thread_state held ≡ thread_at s thread) where
-  abbrev after : ThreadState → ThreadState
-  after t = record t { priority = priority }
+module _ (s : State) (thread priority : ℕ) (runs : Bool) (told : runs ≡ is_runnable (thread_at s thread).status) where
+  abbrev after : ThreadState
+  after = record (thread_at s thread) { priority = priority }
 
   abbrev prioritized : Bool → State
-  prioritized runs =
-      if runs then at_tail (with_thread (unready s thread) thread (after (thread_at s thread))) thread else with_thread s thread (after (thread_at s thread))
+  prioritized b = if b then at_tail (with_thread (unready s thread) thread after) thread else with_thread s thread after
 
-  runs : held.status ≡ Runnable → is_runnable (thread_at s thread).status ≡ true
-  runs stands = ap (λ (t : ThreadState). is_runnable t.status) (sym is) ∙ ap (λ x. is_runnable (status_of x)) stands
+  pub tail-priority : runs ≡ true → to_tail (with_thread s thread after) thread ≡ with_priority s thread priority
+  tail-priority is = sym (ap prioritized (sym told ∙ is))
 
-  pub at-new-tail : (t u : State) → t ≡ with_thread s thread (after (thread_state held)) → u ≡ to_tail t thread → held.status ≡ Runnable
-      → u ≡ with_priority s thread priority
-  at-new-tail t u put_there sent stands =
-      sent ∙ ap (λ x. to_tail x thread) (put_there ∙ ap (λ h. with_thread s thread (after h)) is) ∙ sym (ap prioritized (runs stands))
+  pub keep-priority : runs ≡ false → with_thread s thread after ≡ with_priority s thread priority
+  keep-priority is = sym (ap prioritized (sym told ∙ is))

@@ -5,11 +5,11 @@ use Rattle.model.specs.Capabilities.Slots.{Slots}
 use Rattle.model.specs.Kernel.Scheduling.{head_of}
 use Rattle.model.specs.Kernel.State.{EndpointObject, put}
 use Rattle.objects.proofs.Lists.{head-rest, receivers-by, senders-by}
-use Rattle.objects.specs.Tables.{Tables, object_from, object_in, object_of, record_in, sending_in, thread_in}
+use Rattle.objects.specs.Contents.{Contents, object_from, object_in, object_of, sending_in}
 use Rattle.thread_records.specs.Threads.{sender_of}
 use Rattle.objects.specs.Waiting.{changed_at, served}
-use Rattle.objects.specs.declared.records.Record.{Record}
-use Rattle.objects.specs.declared.records.Record.TheVariants.{Endpoint, Notification, CNode, Frame, PageTable, RootTable}
+use Rattle.objects.specs.Contents.{Record}
+use Rattle.objects.specs.Contents.{Endpoint, Notification, CNode, Frame, PageTable, RootTable}
 use Rattle.thread_records.specs.declared.records.Sending.{Sending}
 use Rattle.thread_records.specs.declared.records.Thread.{Thread}
 use Rattle.objects.proofs.Told.{state_with}
@@ -34,7 +34,7 @@ first-receives sends thread rest is = grind (arith, is)
 
 -- ---- the state without it
 
-module _ (o : Tables) (was_waiting waiting : ℕ → List ℕ) (queue thread : ℕ)
+module _ (o : Contents) (was_waiting waiting : ℕ → List ℕ) (queue thread : ℕ)
     (queue-now : (other : ℕ) → waiting other ≡ put (was_waiting) queue (drop 1 (was_waiting queue)) other)
     (first : head_of (was_waiting queue) ≡ Some thread) where
   abbrev rest : List ℕ
@@ -72,16 +72,16 @@ module _ (o : Tables) (was_waiting waiting : ℕ → List ℕ) (queue thread : �
 
   object-served : (other : ℕ) → object_in o waiting other ≡ put (object_in o was_waiting) queue (option_map (served sending) (object_in o was_waiting queue)) other
   object-served other =
-      ap (λ l. object_from (thread_in o.threads other) (option_map (object_of o.threads l) (record_in o.records other))) (queue-now other)
+      ap (λ l. object_from (o.threads other) (option_map (object_of o.threads l) (o.records other))) (queue-now other)
       ∙ (elim (eqb_tells other queue) [
         | inl here ↦
-            ap (λ b. object_from (thread_in o.threads other) (option_map (object_of o.threads (if b then rest else was_waiting other)) (record_in o.records other))) here.0
-            ∙ ap (λ n. object_from (thread_in o.threads n) (option_map (object_of o.threads rest) (record_in o.records n))) here.1
-            ∙ other-served (thread_in o.threads queue) (record_in o.records queue)
-            ∙ ap (λ l. option_map (served sending) (object_from (thread_in o.threads queue) (option_map (object_of o.threads l) (record_in o.records queue)))) (sym whole)
+            ap (λ b. object_from (o.threads other) (option_map (object_of o.threads (if b then rest else was_waiting other)) (o.records other))) here.0
+            ∙ ap (λ n. object_from (o.threads n) (option_map (object_of o.threads rest) (o.records n))) here.1
+            ∙ other-served (o.threads queue) (o.records queue)
+            ∙ ap (λ l. option_map (served sending) (object_from (o.threads queue) (option_map (object_of o.threads l) (o.records queue)))) (sym whole)
             ∙ ap (λ b. if b then option_map (served sending) (object_in o was_waiting queue) else object_in o was_waiting other) (sym here.0)
         | inr apart ↦
-            ap (λ b. object_from (thread_in o.threads other) (option_map (object_of o.threads (if b then rest else was_waiting other)) (record_in o.records other))) apart.0
+            ap (λ b. object_from (o.threads other) (option_map (object_of o.threads (if b then rest else was_waiting other)) (o.records other))) apart.0
             ∙ ap (λ b. if b then option_map (served sending) (object_in o was_waiting queue) else object_in o was_waiting other) (sym apart.0)
       ])
 

@@ -1,13 +1,13 @@
 -- A call that changes queues leaves a state, and what stands stands.
 use Rattle.std.proofs.Common.{ℕ, ◌≡◌, ◌≢◌, ◌∙◌, ◌==◌, inl, inr, true, false, if◌then◌else◌, Option, Some, None, is_some, option_map, List, [], ◌∷◌, ◌++◌, drop, length, refl, sym, ap, subst, arith}
-use Rattle.std.specs.Prelude.{option_and_then, slice_index}
+use Rattle.std.specs.Prelude.{slice_index}
 use Rattle.std.proofs.lemmas.Bool.{cases_lt}
 use Rattle.std.proofs.lemmas.Bool.Decides.{eqb_tells}
 use Rattle.model.specs.Capabilities.Slots.{IsOpen, Slots}
 use Rattle.model.specs.Kernel.Kinds.{frame_around, kind_at, kind_of}
 use Rattle.model.specs.Kernel.Retype.{NewObject}
-use Rattle.model.specs.Kernel.Scheduling.{full_slice, head_of, leaves, to_tail, unready, wake}
-use Rattle.model.specs.Kernel.State.{Runnable, State, ThreadObject, ThreadState, put, thread_at, with_thread}
+use Rattle.model.specs.Kernel.Scheduling.{head_of, leaves, to_tail, unready}
+use Rattle.model.specs.Kernel.State.{State, put, thread_at}
 use Rattle.model.specs.Shared.Lists.{times_in, without}
 use Rattle.queues.specs.Laws.{AreThreadsIn, KeepHeads, KeepThreads}
 use Rattle.queues.specs.Layout.{AreLaidOut, Places}
@@ -17,30 +17,27 @@ use Rattle.queues.specs.Words.{end_of, link_at, link_in}
 use Rattle.queues.specs.declared.words.Ends.{Ends}
 use Rattle.queues.proofs.Laws.{kinds_apart, nobody_named, ready_stays, waiting_stays}
 use Rattle.objects.proofs.Following.{follows-bytes}
-use Rattle.objects.proofs.Frames.{Unmoved, fits-less, kind-joined, kind-left, kind-served, moved-to, one-changed, one-put, record-was, records-then, stands-unmoved}
+use Rattle.objects.proofs.Frames.{Unmoved, fits-less, kind-joined, kind-left, kind-served, one-changed, records-then}
 use Rattle.objects.proofs.InQueues.{ready-records, times-gone, waiting-records}
 use Rattle.objects.proofs.Joining.{free-queue, joined-state, nowhere-queued}
-use Rattle.objects.proofs.Kept.{put-here}
 use Rattle.objects.proofs.Leaving.{left-state}
-use Rattle.objects.proofs.Replacing.{ready-is, replaced-state, thread-is, thread-kind, thread-there}
+use Rattle.objects.proofs.Replacing.{ready-is, thread-there}
 use Rattle.objects.proofs.Serving.{served-state}
 use Rattle.objects.proofs.Told.{AreThere, kind-state, kind-with, same-places, state_with, told}
 use Rattle.objects.proofs.Vacating.{vacated-state}
 use Rattle.objects.specs.Changes.{vacated, voided}
 use Rattle.objects.specs.Frames.{FitsMemory, SameBesideRecords}
-use Rattle.objects.specs.Standing.{Standing}
-use Rattle.objects.specs.Tables.{Tables, byte_in, is_thread_kind, kind_in, places_of, ready_at, record_in, sending_in, state_of, thread_in, waiting_of}
-use Rattle.thread_records.specs.Threads.{thread_state}
+use Rattle.objects.proofs.Linked.{Linked}
+use Rattle.objects.specs.Contents.{Contents, byte_in, is_thread_kind, kind_in, places_of, ready_at, sending_in, contents_state, waiting_of}
 use Rattle.objects.specs.Waiting.{StandsNowhere, changed_at, has_waiting, joined, served}
-use Rattle.objects.specs.declared.records.Record.{Record}
+use Rattle.objects.specs.Contents.{Record}
 use Rattle.thread_records.specs.declared.records.Sending.{Sending}
-use Rattle.thread_records.specs.declared.records.Status.TheVariants as statuses
 use Rattle.thread_records.specs.declared.records.Thread.{Thread}
 
 -- what a call leaves: a state, and that it stands
-pub record Left (n : Tables) (slots : Slots) (memory : List ℕ) (t : State) : Type 0 where
-  pub state : state_of n slots memory ≡ t
-  pub stands : Standing n slots memory
+pub record Left (n : Contents) (slots : Slots) (memory : List ℕ) (t : State) : Type 0 where
+  pub state : contents_state n slots memory ≡ t
+  pub stands : Linked n slots memory
 
 -- ---- those that wait change beside those that are ready
 
@@ -60,15 +57,15 @@ module _ (p : Places) (slots : Slots) (a b : List ℕ) (laid : AreLaidOut p slot
       (λ queue. inl (kinds_apart.heads p slots a b laid queues there same queue))
 
 -- what is ready stays so while those that wait change
-pub ready-then : (o : Tables) (slots : Slots) (a b : List ℕ) → Standing o slots a → AreLaidOut (places_of o) slots (length a) → SameBesideWaiting (places_of o) (waiting_of o a) a b
+pub ready-then : (o : Contents) (slots : Slots) (a b : List ℕ) → Linked o slots a → AreLaidOut (places_of o) slots (length a) → SameBesideWaiting (places_of o) (waiting_of o a) a b
     → ReadyStands (places_of o) o.ready b
 ready-then o slots a b stands laid same =
     ready-beyond (places_of o) slots a b laid (waiting_of o a) (kinds_apart.waiters (places_of o) a stands.waiting) o.ready same stands.ready
 
 -- No object comes: where bytes of records changed, the state is what the tables tell over the bytes that were there.
-module _ (o n : Tables) (before after : Slots) (old new : List ℕ) (t : State) (stands : Standing o before old) (same_slots : after ≡ before) where
+module _ (o n : Contents) (before after : Slots) (old new : List ℕ) (t : State) (stands : Linked o before old) (same_slots : after ≡ before) where
   abbrev s : State
-  s = state_of o before old
+  s = contents_state o before old
 
   module _ (is : state_with n (waiting_of n new) (ready_at n new) before old ≡ t)
       (kinds : (offset : ℕ) (kind : NewObject) → kind_at t offset ≡ Some kind → kind_at s offset ≡ Some kind)
@@ -79,7 +76,7 @@ module _ (o n : Tables) (before after : Slots) (old new : List ℕ) (t : State) 
         let none = bytes place (stands.fits.apart place held) in
         let clash : None ≡ Some byte = sym none ∙ sym (ap (λ (u : State). u.bytes place) is) ∙ some in absurd cc)
 
-    now-state : state_of n after new ≡ t
+    now-state : contents_state n after new ≡ t
     now-state = follows-bytes n before old new after frames-same ∙ ap (λ (f : Slots). state_with n (waiting_of n new) (ready_at n new) f old) same_slots ∙ is
 
     pub left-there : Left n after new t
@@ -109,10 +106,10 @@ module _ (o n : Tables) (before after : Slots) (old new : List ℕ) (t : State) 
         (λ offset kind k. sym (unmoved.kinds offset) ∙ k) (λ place none. ap (λ (f : ℕ → Option ℕ). f place) unmoved.bytes ∙ none) unmoved.slots unmoved.bits
         same (subst (λ (p : Places). QueuesStand p new) (sym places-are) waiting) (subst (λ (p : Places). ReadyStands p n.ready new) (sym places-are) ready)
 
-module _ (o : Tables) (before after : Slots) (old new : List ℕ) (stands : Standing o before old) (same_slots : after ≡ before)
+module _ (o : Contents) (before after : Slots) (old new : List ℕ) (stands : Linked o before old) (same_slots : after ≡ before)
     (laid : AreLaidOut (places_of o) before (length old)) where
   abbrev was : State
-  was = state_of o before old
+  was = contents_state o before old
 
   abbrev p : Places
   p = places_of o
@@ -146,9 +143,9 @@ module _ (o : Tables) (before after : Slots) (old new : List ℕ) (stands : Stan
       )
 
   -- a thread comes to stand behind the others
-  pub enqueue-left : (threads : List (Option Thread)) (queue thread : ℕ) (held : Thread) (sending : Option Sending)
-      → thread_in o.threads thread ≡ Some held → has_waiting (kind_at was queue) ≡ true → StandsNowhere was.objects thread
-      → ((other : ℕ) → thread_in threads other ≡ put (thread_in o.threads) thread (Some (record held { sending = sending })) other)
+  pub enqueue-left : (threads : ℕ → Option Thread) (queue thread : ℕ) (held : Thread) (sending : Option Sending)
+      → o.threads thread ≡ Some held → has_waiting (kind_at was queue) ≡ true → StandsNowhere was.objects thread
+      → ((other : ℕ) → threads other ≡ put (o.threads) thread (Some (record held { sending = sending })) other)
       → ((other : ℕ) → queue_of p new other ≡ put waits queue (waits queue ++ thread ∷ []) other) → QueuesStand p new
       → SameBesideWaiting p (queue_of p new) old new
       → Left (record o { threads = threads }) after new (changed_at was queue (joined thread sending)) × SameBesideRecords was old new
@@ -180,8 +177,8 @@ module _ (o : Tables) (before after : Slots) (old new : List ℕ) (stands : Stan
       )
 
   -- a thread leaves all queues, and nobody has the right to reply to it
-  pub forget-left : (threads : List (Option Thread)) (ready : List Ends) (thread : ℕ) (mid : List ℕ)
-      → ((other : ℕ) → thread_in threads other ≡ option_map (voided thread) (thread_in o.threads other))
+  pub forget-left : (threads : ℕ → Option Thread) (ready : List Ends) (thread : ℕ) (mid : List ℕ)
+      → ((other : ℕ) → threads other ≡ option_map (voided thread) (o.threads other))
       → ((queue : ℕ) → queue_of p mid queue ≡ without thread (waits queue)) → QueuesStand p mid → SameBesideWaiting p waits old mid
       → ((priority : ℕ) → ready_of p ready new priority ≡ without thread (ready_of p o.ready mid priority)) → ReadyStands p ready new
       → SameBesideReady (ready_of p o.ready mid) mid new
@@ -189,7 +186,7 @@ module _ (o : Tables) (before after : Slots) (old new : List ℕ) (stands : Stan
       × ((queue : ℕ) → times_in (waiting_of (record o { threads = threads; ready = ready }) new queue) thread ≡ 0)
       × ((priority : ℕ) → times_in (ready_at (record o { threads = threads; ready = ready }) new priority) thread ≡ 0)
   forget-left threads ready thread mid void left queued bytes unready runs_now more =
-      let n : Tables = record o { threads = threads; ready = ready } in
+      let n : Contents = record o { threads = threads; ready = ready } in
       let laid_mid = subst (AreLaidOut p before) (sym bytes.size) laid in
       let ready_mid = ready-beyond p before old mid laid waits own-waiters o.ready bytes stands.ready in
       let ready_was = ready-as-was p before old mid laid waits own-waiters o.ready bytes stands.ready in
@@ -238,16 +235,16 @@ module _ (o : Tables) (before after : Slots) (old new : List ℕ) (stands : Stan
       )
 
   -- nothing stands at an offset any more
-  module _ (records : List (Option Record)) (threads : List (Option Thread)) (offset : ℕ)
+  module _ (records : ℕ → Option Record) (threads : ℕ → Option Thread) (offset : ℕ)
       (waits_not : (queue : ℕ) → times_in (waits queue) offset ≡ 0) (ready_not : (priority : ℕ) → times_in (runs priority) offset ≡ 0)
-      (unrecorded : (other : ℕ) → record_in records other ≡ put (record_in o.records) offset None other)
-      (unthreaded : (other : ℕ) → thread_in threads other ≡ put (thread_in o.threads) offset None other)
+      (unrecorded : (other : ℕ) → records other ≡ put (o.records) offset None other)
+      (unthreaded : (other : ℕ) → threads other ≡ put (o.threads) offset None other)
       (ended : (queue : ℕ) → queue_of p new queue ≡ put waits offset [] queue) (queued : QueuesStand p new)
       (bytes : SameBesideWaiting p waits old new) where
     abbrev vacant : State
     vacant = vacated was offset
 
-    abbrev n : Tables
+    abbrev n : Contents
     n = record o { records = records; threads = threads }
 
     kinds-then : (other : ℕ) (k : NewObject) → kind_at vacant other ≡ Some k → kind_at was other ≡ Some k
@@ -343,59 +340,9 @@ module _ (o : Tables) (before after : Slots) (old new : List ℕ) (stands : Stan
           same,
         )
 
--- a thread runs again
-module _ (o : Tables) (before after : Slots) (old new : List ℕ) (stands : Standing o before old) (same_slots : after ≡ before)
-    (threads : List (Option Thread)) where
-  abbrev first : State
-  first = state_of o before old
-
-  abbrev o1 : Tables
-  o1 = record o { threads = threads }
-
-  abbrev p1 : Places
-  p1 = places_of o1
-
-  module _ (thread : ℕ) (held woken : Thread) (there : thread_in o.threads thread ≡ Some held)
-      (replaced : (other : ℕ) → thread_in threads other ≡ put (thread_in o.threads) thread (Some woken) other)
-      (is : woken ≡ record held { status = statuses.Runnable; slice = 5 }) where
-    alike : sending_in o.threads thread ≡ woken.sending
-    alike = ap (option_and_then (λ t. t.sending)) there ∙ ap (λ (t : Thread). t.sending) (sym is)
-
-    put_there : state_of o1 before old ≡ with_thread first thread (thread_state woken)
-    put_there = replaced-state o threads thread woken replaced alike (ap is_some there) before old
-
-    unmoved : Unmoved first (state_of o1 before old)
-    unmoved = moved-to first (state_of o1 before old) (with_thread first thread (thread_state woken)) put_there
-        (one-put first thread (ThreadObject (thread_state woken)) (thread-kind o thread held before old there))
-
-    pub woken-stands : Standing o1 before old
-    woken-stands = stands-unmoved o o1 before old stands refl unmoved
-
-    pub wake-left : AreLaidOut p1 before (length old) → (ready mid_ready : List Ends) (mid : List ℕ)
-        → ((other : ℕ) → ready_of p1 mid_ready mid other ≡ without thread (ready_at o1 old other)) → ReadyStands p1 mid_ready mid → SameBesideReady (ready_at o1 old) old mid
-        → ((other : ℕ) → ready_of p1 ready new other ≡ put (ready_of p1 mid_ready mid) held.priority (ready_of p1 mid_ready mid held.priority ++ thread ∷ []) other) → ReadyStands p1 ready new
-        → SameBesideReady (ready_of p1 ready new) mid new
-        → Left (record o { threads = threads; ready = ready }) after new (wake first thread) × SameBesideRecords first old new
-    wake-left laid ready mid_ready mid left mid_stands bytes pushed queued more =
-        let found : thread_in threads thread ≡ Some woken = replaced thread ∙ put-here (thread_in o.threads) thread (Some woken) in
-        let own : held.priority ≡ (thread_at (state_of o1 before old) thread).priority =
-        ap (λ (t : Thread). t.priority) (sym is) ∙ ap (λ (t : ThreadState). t.priority) (sym (thread-is o1 thread woken before old found)) in
-        let runs : thread_state woken ≡ record (thread_at first thread) { status = Runnable; slice = full_slice } =
-        ap thread_state is ∙ ap (λ (t : ThreadState). record t { status = Runnable; slice = full_slice }) (sym (thread-is o thread held before old there)) in
-        let result = tail-left o1 before after old new woken-stands same_slots laid ready mid_ready thread held.priority mid own left mid_stands bytes pushed queued more in (
-          record {
-            state = result.0.state ∙ ap (λ (u : State). to_tail u thread) (put_there ∙ ap (with_thread first thread) runs);
-            stands = result.0.stands;
-          },
-          record {
-            size = result.1.size;
-            bytes = λ place apart. result.1.bytes place (λ held. apart (record-was first (state_of o1 before old) place (λ offset k k_is. sym (unmoved.kinds offset) ∙ k_is) held));
-          },
-        )
-
 -- who is no thread stands in no queue
-pub nobody-there : (o : Tables) (slots : Slots) (memory : List ℕ) (offset : ℕ) (queues : ℕ → List ℕ) → AreThere (state_of o slots memory) queues
-    → thread_in o.threads offset ≡ None → (queue : ℕ) → times_in (queues queue) offset ≡ 0
+pub nobody-there : (o : Contents) (slots : Slots) (memory : List ℕ) (offset : ℕ) (queues : ℕ → List ℕ) → AreThere (contents_state o slots memory) queues
+    → o.threads offset ≡ None → (queue : ℕ) → times_in (queues queue) offset ≡ 0
 nobody-there o slots memory offset queues there none queue = elim (cases_lt 0 (times_in (queues queue) offset)) [
   | inl some ↦
       let is_thread = thread-there o offset (sym (kind-state o offset slots memory) ∙ there queue offset some) in

@@ -1,9 +1,7 @@
 -- What stands where, as queues ask, and who stands in queues.
 use Rattle.std.proofs.Common.{ℕ, ◌≡◌, ◌∙◌, ◌+◌, ◌/◌, ◌%◌, ◌^◌, ◌<◌, ◌≤◌, ◌⊎◌, inl, inr, Bool, true, false, if◌then◌else◌, Option, Some, None, IsSome, is_some, option_map, List, [], length, refl, sym, ap, subst, arith}
-use Rattle.std.specs.Prelude.{◌==◌, slice_index, slice_index_or}
-use Rattle.std.proofs.lemmas.Bool.Decides.{eqb_tells}
+use Rattle.std.specs.Prelude.{slice_index}
 use Rattle.std.proofs.lemmas.Bool.{cases_lt}
-use Rattle.std.proofs.lemmas.List.{get_or_past}
 use Rattle.std.proofs.Math.Pow.{pow_mono}
 use Rattle.model.specs.Capabilities.Slots.{IsOpen, Slots}
 use Rattle.model.specs.Kernel.Kinds.{kind_at, kind_of}
@@ -17,19 +15,19 @@ use Rattle.queues.specs.Queues.{QueuesStand, queue_of}
 use Rattle.queues.specs.Ready.{ReadyStands, ready_of}
 use Rattle.queues.proofs.Laws.{kinds_apart, ready_stays, waiting_stays}
 use Rattle.objects.specs.Frames.{FitsMemory, IsInRecord}
-use Rattle.objects.specs.Standing.{Standing}
-use Rattle.objects.specs.Tables.{AreTables, Tables, is_thread_kind, kind_in, object_from, object_of, placed, places_by, places_of, ready_at, record_in, state_of, thread_in, told_by, told_with, waiting_of}
+use Rattle.objects.proofs.Linked.{AreContents, Linked}
+use Rattle.objects.specs.Contents.{Contents, is_thread_kind, kind_in, object_from, object_of, places_by, places_of, ready_at, contents_state, told_with, waiting_of}
 use Rattle.objects.specs.Waiting.{has_waiting}
-use Rattle.objects.specs.declared.records.Record.{Record}
-use Rattle.objects.specs.declared.records.Record.TheVariants.{Endpoint, Notification, CNode, Frame, PageTable, RootTable}
+use Rattle.objects.specs.Contents.{Record}
+use Rattle.objects.specs.Contents.{Endpoint, Notification, CNode, Frame, PageTable, RootTable}
 use Rattle.thread_records.specs.declared.records.Thread.{Thread}
 
 -- the state of tables, if these wait and are ready
-abbrev pub state_with : Tables → (ℕ → List ℕ) → (ℕ → List ℕ) → Slots → List ℕ → State
+abbrev pub state_with : Contents → (ℕ → List ℕ) → (ℕ → List ℕ) → Slots → List ℕ → State
 state_with o waiting ready slots memory = with_slots (told_with o waiting ready memory) slots
 
-pub told : (o : Tables) (slots : Slots) (memory : List ℕ) → state_of o slots memory ≡ state_with o (waiting_of o memory) (ready_at o memory) slots memory
-unfolding state_of told_by
+pub told : (o : Contents) (slots : Slots) (memory : List ℕ) → contents_state o slots memory ≡ state_with o (waiting_of o memory) (ready_at o memory) slots memory
+unfolding contents_state
 told o slots memory = refl
 
 -- who stands in a queue is a thread that is there, and waits where threads may
@@ -41,7 +39,7 @@ WaitAtObjects s queues = (queue thread : ℕ) → 0 < times_in (queues queue) th
 
 -- ---- kinds, whoever waits
 
-pub kind-from : (threads : List (Option Thread)) (waiting : List ℕ) (t : Option Thread) (r : Option Record)
+pub kind-from : (threads : ℕ → Option Thread) (waiting : List ℕ) (t : Option Thread) (r : Option Record)
     → option_map kind_of (object_from t (option_map (object_of threads waiting) r)) ≡ option_map kind_of (object_from t (option_map (object_of threads []) r))
 kind-from threads waiting (Some t) r = refl
 kind-from threads waiting None None = refl
@@ -52,54 +50,57 @@ kind-from threads waiting None (Some Frame) = refl
 kind-from threads waiting None (Some PageTable) = refl
 kind-from threads waiting None (Some RootTable) = refl
 
-pub kind-with : (o : Tables) (waiting ready : ℕ → List ℕ) (slots : Slots) (memory : List ℕ) (offset : ℕ) → kind_at (state_with o waiting ready slots memory) offset ≡ kind_in o offset
-kind-with o waiting ready slots memory offset = kind-from o.threads (waiting offset) (thread_in o.threads offset) (record_in o.records offset)
+pub kind-with : (o : Contents) (waiting ready : ℕ → List ℕ) (slots : Slots) (memory : List ℕ) (offset : ℕ) → kind_at (state_with o waiting ready slots memory) offset ≡ kind_in o offset
+kind-with o waiting ready slots memory offset = kind-from o.threads (waiting offset) (o.threads offset) (o.records offset)
 
-pub kind-state : (o : Tables) (offset : ℕ) (slots : Slots) (memory : List ℕ) → kind_at (state_of o slots memory) offset ≡ kind_in o offset
-unfolding state_of told_by
-kind-state o offset slots memory = kind-from o.threads (waiting_of o memory offset) (thread_in o.threads offset) (record_in o.records offset)
+pub kind-state : (o : Contents) (offset : ℕ) (slots : Slots) (memory : List ℕ) → kind_at (contents_state o slots memory) offset ≡ kind_in o offset
+unfolding contents_state
+kind-state o offset slots memory = kind-from o.threads (waiting_of o memory offset) (o.threads offset) (o.records offset)
 
-pub same-places : (o n : Tables) → ((offset : ℕ) → kind_in n offset ≡ kind_in o offset) → places_of n ≡ places_of o
+pub same-places : (o n : Contents) → ((offset : ℕ) → kind_in n offset ≡ kind_in o offset) → places_of n ≡ places_of o
 same-places o n same = λ i. places_by (λ offset. same offset i)
 
 -- tables of the same kinds have the same queues
-pub told-same : (o n : Tables) → ((offset : ℕ) → kind_in n offset ≡ kind_in o offset) → (slots : Slots) (memory : List ℕ)
-    → state_of n slots memory ≡ state_with n (waiting_of o memory) (ready_of (places_of o) n.ready memory) slots memory
-unfolding state_of told_by
+pub told-same : (o n : Contents) → ((offset : ℕ) → kind_in n offset ≡ kind_in o offset) → (slots : Slots) (memory : List ℕ)
+    → contents_state n slots memory ≡ state_with n (waiting_of o memory) (ready_of (places_of o) n.ready memory) slots memory
+unfolding contents_state
 told-same o n same slots memory = λ i. state_with n (queue_of (same-places o n same i) memory) (ready_of (same-places o n same i) n.ready memory) slots memory
 
 -- ---- threads and what they wait at
 
-thread-kind : (k : Option NewObject) → is_thread_kind k ≡ true → k ≡ Some NewThread
-thread-kind (Some NewThread) is = refl
-thread-kind None is = absurd (let clash : false ≡ true = is in cc)
-thread-kind (Some NewEndpoint) is = absurd (let clash : false ≡ true = is in cc)
-thread-kind (Some NewNotification) is = absurd (let clash : false ≡ true = is in cc)
-thread-kind (Some (NewUntyped bits)) is = absurd (let clash : false ≡ true = is in cc)
-thread-kind (Some (NewCNode radix)) is = absurd (let clash : false ≡ true = is in cc)
-thread-kind (Some NewFrame) is = absurd (let clash : false ≡ true = is in cc)
-thread-kind (Some NewPageTable) is = absurd (let clash : false ≡ true = is in cc)
-thread-kind (Some NewRootTable) is = absurd (let clash : false ≡ true = is in cc)
+pub is-thread : (k : Option NewObject) → is_thread_kind k ≡ true → k ≡ Some NewThread
+is-thread (Some NewThread) is = refl
+is-thread None is = absurd (let clash : false ≡ true = is in cc)
+is-thread (Some NewEndpoint) is = absurd (let clash : false ≡ true = is in cc)
+is-thread (Some NewNotification) is = absurd (let clash : false ≡ true = is in cc)
+is-thread (Some (NewUntyped bits)) is = absurd (let clash : false ≡ true = is in cc)
+is-thread (Some (NewCNode radix)) is = absurd (let clash : false ≡ true = is in cc)
+is-thread (Some NewFrame) is = absurd (let clash : false ≡ true = is in cc)
+is-thread (Some NewPageTable) is = absurd (let clash : false ≡ true = is in cc)
+is-thread (Some NewRootTable) is = absurd (let clash : false ≡ true = is in cc)
 
-pub has-thread : (o : Tables) (offset : ℕ) → (places_of o).threads offset ≡ true → kind_in o offset ≡ Some NewThread
-has-thread o offset is = thread-kind (kind_in o offset) is
+pub has-thread : (o : Contents) (offset : ℕ) → (places_of o).threads offset ≡ true → kind_in o offset ≡ Some NewThread
+has-thread o offset is = is-thread (kind_in o offset) is
 
-pub thread-has : (o : Tables) (offset : ℕ) → kind_in o offset ≡ Some NewThread → (places_of o).threads offset ≡ true
+pub thread-has : (o : Contents) (offset : ℕ) → kind_in o offset ≡ Some NewThread → (places_of o).threads offset ≡ true
 thread-has o offset is = ap is_thread_kind is
 
-if-head : (b : Bool) (queue head : ℕ) → (if b then Some queue else None) ≡ Some head → (b ≡ true) × (head ≡ queue)
+pub if-head : (b : Bool) (queue head : ℕ) → (if b then Some queue else None) ≡ Some head → (b ≡ true) × (head ≡ queue)
 if-head true queue head is = (refl, let e : Some queue ≡ Some head = is in let f : head ≡ queue = cc in f)
 if-head false queue head is = absurd (let clash : None ≡ Some head = is in cc)
 
-pub has-head : (o : Tables) (queue head : ℕ) → (places_of o).heads queue ≡ Some head → (has_waiting (kind_in o queue) ≡ true) × (head ≡ queue)
+pub head-at-point : (k : Option NewObject) (queue : ℕ) → has_waiting k ≡ true → is_some (if has_waiting k then Some queue else None) ≡ true
+head-at-point k queue is = ap (λ b. is_some (if b then Some queue else None)) is
+
+pub has-head : (o : Contents) (queue head : ℕ) → (places_of o).heads queue ≡ Some head → (has_waiting (kind_in o queue) ≡ true) × (head ≡ queue)
 has-head o queue head is = if-head (has_waiting (kind_in o queue)) queue head is
 
-pub head-has : (o : Tables) (queue : ℕ) → has_waiting (kind_in o queue) ≡ true → (places_of o).heads queue ≡ Some queue
+pub head-has : (o : Contents) (queue : ℕ) → has_waiting (kind_in o queue) ≡ true → (places_of o).heads queue ≡ Some queue
 head-has o queue is = ap (λ b. if b then Some queue else None) is
 
 -- ---- the tables hold what a kind tells
 
-thread-from : (threads : List (Option Thread)) (t : Option Thread) (r : Option Record) → option_map kind_of (object_from t (option_map (object_of threads []) r)) ≡ Some NewThread → is_some t ≡ true
+thread-from : (threads : ℕ → Option Thread) (t : Option Thread) (r : Option Record) → option_map kind_of (object_from t (option_map (object_of threads []) r)) ≡ Some NewThread → is_some t ≡ true
 thread-from threads (Some t) r is = refl
 thread-from threads None None is = absurd (let clash : None ≡ Some NewThread = is in cc)
 thread-from threads None (Some Endpoint) is = absurd cc
@@ -109,7 +110,7 @@ thread-from threads None (Some Frame) is = absurd cc
 thread-from threads None (Some PageTable) is = absurd cc
 thread-from threads None (Some RootTable) is = absurd cc
 
-record-from : (threads : List (Option Thread)) (t : Option Thread) (r : Option Record) → has_waiting (option_map kind_of (object_from t (option_map (object_of threads []) r))) ≡ true → is_some r ≡ true
+record-from : (threads : ℕ → Option Thread) (t : Option Thread) (r : Option Record) → has_waiting (option_map kind_of (object_from t (option_map (object_of threads []) r))) ≡ true → is_some r ≡ true
 record-from threads (Some t) r is = absurd (let clash : false ≡ true = is in cc)
 record-from threads None None is = absurd (let clash : false ≡ true = is in cc)
 record-from threads None (Some r) is = refl
@@ -125,28 +126,9 @@ point-kind (Some NewFrame) is = absurd (let clash : false ≡ true = is in cc)
 point-kind (Some NewPageTable) is = absurd (let clash : false ≡ true = is in cc)
 point-kind (Some NewRootTable) is = absurd (let clash : false ≡ true = is in cc)
 
--- what stands somewhere has an entry
-pub aligned : {A : Type 0} (size : ℕ) (entries : List (Option A)) (offset : ℕ) → is_some (placed size entries offset) ≡ true → offset % size ≡ 0
-aligned {A} size entries offset some = elim (eqb_tells (offset % size) 0) [
-  | inl here ↦ here.1
-  | inr apart ↦ absurd (let clash : false ≡ true = sym (ap (λ b. is_some (if b then slice_index_or entries (offset / size) None else None)) apart.0) ∙ some in cc)
-]
-
-nothing : {A : Type 0} (b : Bool) (x : Option A) → x ≡ None → (if b then x else None) ≡ None
-nothing true x is = is
-nothing false x is = refl
-
-pub within : {A : Type 0} (size : ℕ) (entries : List (Option A)) (offset : ℕ) → is_some (placed size entries offset) ≡ true → offset / size < length entries
-within {A} size entries offset some = elim (cases_lt (offset / size) (length entries)) [
-  | inl inside ↦ inside
-  | inr outside ↦
-      let none : placed size entries offset ≡ None = nothing (offset % size == 0) _ (get_or_past entries (offset / size) None outside) in
-      absurd (let clash : false ≡ true = sym (ap is_some none) ∙ some in cc)
-]
-
 -- ---- bytes of links stand in records
 
-pub in-thread : (s : State) (thread place : ℕ) → kind_at s thread ≡ Some NewThread → thread + 32 ≤ place → place < thread + 512 → IsInRecord s.objects place
+unfoldable pub in-thread : (s : State) (thread place : ℕ) → kind_at s thread ≡ Some NewThread → thread + 32 ≤ place → place < thread + 512 → IsInRecord s.objects place
 in-thread s thread place is from below = record { offset = thread; kind = NewThread; there = is; kept = refl; from = from; below = below }
 
 pub in-point : (s : State) (queue place : ℕ) → has_waiting (kind_at s queue) ≡ true → queue ≤ place → place < queue + 16
@@ -163,17 +145,17 @@ not-open slots slot closed = elim (slots slot) as (λ e. slots slot ≡ e → sl
   | Some e ↦ λ is. absurd (closed (subst (λ (x : Option Entry). IsSome x) (sym is) refl))
 ] refl
 
-pub own-slots : (o : Tables) (slots : Slots) (memory : List ℕ) → (state_of o slots memory).slots ≡ slots
-unfolding state_of told_by
+pub own-slots : (o : Contents) (slots : Slots) (memory : List ℕ) → (contents_state o slots memory).slots ≡ slots
+unfolding contents_state
 own-slots o slots memory = refl
 
-pub own-bits : (o : Tables) (slots : Slots) (memory : List ℕ) → (state_of o slots memory).memory_bits ≡ o.bits
-unfolding state_of told_by
+pub own-bits : (o : Contents) (slots : Slots) (memory : List ℕ) → (contents_state o slots memory).memory_bits ≡ o.bits
+unfolding contents_state
 own-bits o slots memory = refl
 
-module _ (o : Tables) (slots : Slots) (memory : List ℕ) (are : AreTables o) (fits : FitsMemory (state_of o slots memory) memory) where
+module _ (o : Contents) (slots : Slots) (memory : List ℕ) (are : AreContents o) (fits : FitsMemory (contents_state o slots memory) memory) where
   abbrev s : State
-  s = state_of o slots memory
+  s = contents_state o slots memory
 
   size : length memory ≡ 2 ^ o.bits
   size = sym fits.size ∙ ap (λ (n : ℕ). 2 ^ n) (own-bits o slots memory)
@@ -185,11 +167,11 @@ module _ (o : Tables) (slots : Slots) (memory : List ℕ) (are : AreTables o) (f
   closed place held = not-open slots (place / 16) (λ is_open. fits.records place (subst (λ (f : Slots). IsOpen f (place / 16)) (sym (own-slots o slots memory)) is_open) held)
 
   module _ (thread : ℕ) (is : (places_of o).threads thread ≡ true) where
-    there : is_some (thread_in o.threads thread) ≡ true
-    there = thread-from o.threads (thread_in o.threads thread) (record_in o.records thread) (has-thread o thread is)
+    there : is_some (o.threads thread) ≡ true
+    there = thread-from o.threads (o.threads thread) (o.records thread) (has-thread o thread is)
 
     pub thread-multiple : thread % 512 ≡ 0
-    thread-multiple = aligned 512 o.threads thread there
+    thread-multiple = (are.threads thread there).0
 
     kind-there : kind_at s thread ≡ Some NewThread
     kind-there = kind-state o thread slots memory ∙ has-thread o thread is
@@ -197,19 +179,19 @@ module _ (o : Tables) (slots : Slots) (memory : List ℕ) (are : AreTables o) (f
     thread-at : IsThreadAt slots (length memory) thread
     thread-at = record {
       few = few;
-      within = omega (arith, thread-multiple, within 512 o.threads thread there, are.thread_places, size);
+      within = omega (arith, (are.threads thread there).1, size);
       outside = λ place from below. closed place (in-thread s thread place kind-there (omega (arith, from)) (omega (arith, below)));
     }
 
   module _ (queue : ℕ) (is : has_waiting (kind_in o queue) ≡ true) where
-    some : is_some (record_in o.records queue) ≡ true
-    some = record-from o.threads (thread_in o.threads queue) (record_in o.records queue) is
+    some : is_some (o.records queue) ≡ true
+    some = record-from o.threads (o.threads queue) (o.records queue) is
 
     queue-multiple : queue % 16 ≡ 0
-    queue-multiple = aligned 16 o.records queue some
+    queue-multiple = (are.records queue some).0
 
     queue-inside : queue + 16 ≤ length memory
-    queue-inside = omega (arith, queue-multiple, within 16 o.records queue some, are.record_places, size)
+    queue-inside = omega (arith, (are.records queue some).1, size)
 
     waits-there : has_waiting (kind_at s queue) ≡ true
     waits-there = ap has_waiting (kind-state o queue slots memory) ∙ is
@@ -262,29 +244,29 @@ module _ (o : Tables) (slots : Slots) (memory : List ℕ) (are : AreTables o) (f
 
 -- ---- who stands in queues
 
-module _ (o : Tables) (slots : Slots) (memory : List ℕ) (stands : Standing o slots memory) where
-  pub waiters : AreThere (state_of o slots memory) (waiting_of o memory)
+module _ (o : Contents) (slots : Slots) (memory : List ℕ) (stands : Linked o slots memory) where
+  pub waiters : AreThere (contents_state o slots memory) (waiting_of o memory)
   waiters queue thread some = kind-state o thread slots memory ∙ has-thread o thread (kinds_apart.waiters (places_of o) memory stands.waiting queue thread some)
 
-  pub waited : WaitAtObjects (state_of o slots memory) (waiting_of o memory)
+  pub waited : WaitAtObjects (contents_state o slots memory) (waiting_of o memory)
   waited queue thread some =
       let at = kinds_apart.waited (places_of o) memory stands.waiting queue thread some in
       ap has_waiting (kind-state o queue slots memory) ∙ (has-head o queue at.0 at.1).0
 
-  pub runners : AreThere (state_of o slots memory) (ready_at o memory)
+  pub runners : AreThere (contents_state o slots memory) (ready_at o memory)
   runners priority thread some = kind-state o thread slots memory ∙ has-thread o thread (kinds_apart.runners (places_of o) o.ready memory stands.ready priority thread some)
 
 -- ---- where the bytes of records are the same, queues are
 
-module _ (o : Tables) (slots : Slots) (old new : List ℕ) (stands : Standing o slots old) (size : length new ≡ length old)
-    (records : (place : ℕ) → IsInRecord (state_of o slots old).objects place → slice_index new place ≡ slice_index old place) where
+module _ (o : Contents) (slots : Slots) (old new : List ℕ) (stands : Linked o slots old) (size : length new ≡ length old)
+    (records : (place : ℕ) → IsInRecord (contents_state o slots old).objects place → slice_index new place ≡ slice_index old place) where
   abbrev p : Places
   p = places_of o
 
   kept : (base : ℕ) → 32 ≤ base → base ≤ 256 → KeepThreads base p p old new
   kept base least most thread = inl (record {
     there = refl;
-    bytes = λ is place held. records place (in-thread (state_of o slots old) thread place (kind-state o thread slots old ∙ has-thread o thread is)
+    bytes = λ is place held. records place (in-thread (contents_state o slots old) thread place (kind-state o thread slots old ∙ has-thread o thread is)
         (omega (arith, least, held.0)) (omega (arith, most, held.1)));
   })
 
@@ -293,7 +275,7 @@ module _ (o : Tables) (slots : Slots) (old new : List ℕ) (stands : Standing o 
     there = refl;
     bytes = λ head place is held.
         let at = has-head o queue head is in
-        records place (in-point (state_of o slots old) queue place (ap has_waiting (kind-state o queue slots old) ∙ at.0) (omega (arith, held.0, at.1)) (omega (arith, held.1, at.1))).0;
+        records place (in-point (contents_state o slots old) queue place (ap has_waiting (kind-state o queue slots old) ∙ at.0) (omega (arith, held.0, at.1)) (omega (arith, held.1, at.1))).0;
   })
 
   pub waiting-on : QueuesStand p new

@@ -3,17 +3,12 @@ use Rattle.std.specs.Prelude.{ℕ, ◌≡◌, ◌==◌, ◌&&◌, ◌%◌, ◌^�
 use Rattle.std.specs.Option.{option_map_or}
 use Rattle.model.specs.Kernel.Kinds.{frame_around}
 use Rattle.model.specs.Kernel.State.{State, put}
-use Rattle.model.specs.Machine.ProgramMemory.{RegisterFile}
 use Rattle.objects.specs.Threads.{new_object}
 use Rattle.objects.specs.declared.records.Kind.{Kind}
 use Rattle.objects.specs.declared.records.Kind.TheVariants as kinds
 use Rattle.thread_records.specs.declared.records.Thread.{Thread}
 
 -- ---- objects that begin and end
-
--- a thread with other registers
-abbrev pub registered : RegisterFile → Thread → Thread
-registered registers t = record t { registers = registers }
 
 -- no right to reply to a thread is kept
 abbrev pub voided : ℕ → Thread → Thread

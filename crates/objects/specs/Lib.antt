@@ -1,5 +1,7 @@
 pub mod Changes
+pub mod Contents
 pub mod Frames
+pub mod Laid
 pub mod Rights
 pub mod Standing
 pub mod Tables

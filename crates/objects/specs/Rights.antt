@@ -1,18 +1,31 @@
--- Who has the right to reply to a thread, and what is kept of it.
-use Rattle.std.specs.Prelude.{ℕ, ◌≡◌, ◌==◌, Bool, true, false, Option, Some, List}
+-- Who has the right to reply to a thread, and what is kept of it in the thread's own bytes.
+use Rattle.std.specs.Prelude.{ℕ, ◌≡◌, ◌==◌, ◌&&◌, ◌+◌, ◌-◌, ◌^◌, ◌<◌, ◌≤◌, Bool, true, false, not, Option, Some, None, is_some, if◌then◌else◌, List, length, slice_index}
 use Rattle.std.specs.Option.{option_map_or}
-use Rattle.objects.specs.Tables.{placed, thread_in}
+use Rattle.model.specs.Shared.Bytes.{word_at}
 use Rattle.thread_records.specs.declared.records.Thread.{Thread}
 
 -- whether what stands at an offset is a thread with the right to reply to another
 abbrev pub has_right : Option Thread → ℕ → Bool
-has_right thread caller = option_map_or (λ t. option_map_or (λ c. c == caller) t.caller false) thread false
+has_right thread caller = option_map_or (λ (t : Thread). option_map_or (λ c. c == caller) t.caller false) thread false
 
--- where a thread is kept beside a place, no other one has the right to reply to the thread there
-pub record AreKnown (threads : List (Option Thread)) (repliers : List (Option ℕ)) : Type 0 where
-  pub only : (caller holder thread : ℕ) → has_right (thread_in threads holder) caller ≡ true
-      → placed 512 repliers caller ≡ Some thread → holder ≡ thread
+-- the one thread that such a word says may have the right, or nobody where several may have it
+abbrev pub one_of : ℕ → Option ℕ
+one_of word = if word == 2 ^ 32 - 1 then None else Some word
 
--- a thread that has the right to reply to a caller is kept there, if any is
-abbrev pub IsNoted : List (Option ℕ) → ℕ → Option ℕ → Type 0
-IsNoted repliers holder caller = (named thread : ℕ) → caller ≡ Some named → placed 512 repliers named ≡ Some thread → holder ≡ thread
+abbrev pub replier_at : List ℕ → ℕ → Option ℕ
+replier_at memory thread = one_of (word_at memory (thread + 268))
+
+-- whoever has the right to reply has it to a thread that is there, and is the one that this keeps, if it keeps one
+pub record AreKnown (threads : ℕ → Option Thread) (memory : List ℕ) : Type 0 where
+  pub there : (caller holder : ℕ) → has_right (threads holder) caller ≡ true → is_some (threads caller) ≡ true
+  pub only : (caller holder thread : ℕ) → has_right (threads holder) caller ≡ true → replier_at memory caller ≡ Some thread → holder ≡ thread
+
+-- what is kept of a caller where a thread comes to have the right to reply to it: that thread alone, if the one before has no such right
+abbrev pub noted : (ℕ → Option Thread) → ℕ → ℕ → Option ℕ → Option ℕ
+noted threads holder caller None = None
+noted threads holder caller (Some thread) = if not (thread == holder) && has_right (threads thread) caller then None else Some holder
+
+-- all bytes are the same but those that tell who may reply to this thread
+pub record SameBesideReplier (caller : Option ℕ) (old new : List ℕ) : Type 0 where
+  pub size : length new ≡ length old
+  pub bytes : (place : ℕ) → ((thread : ℕ) → caller ≡ Some thread → thread + 268 ≤ place → place < thread + 272 → ⊥) → slice_index new place ≡ slice_index old place

@@ -1,19 +1,18 @@
 -- The tables, and the state that they stand for together with the slots and the bytes of memory.
 -- seL4 Reference Manual, "Kernel Services and Objects".
-use Rattle.std.specs.Prelude.{ℕ, ◌≡◌, ◌==◌, ◌*◌, ◌/◌, ◌%◌, ◌^◌, ◌≤◌, Bool, true, false, not, if◌then◌else◌, Option, Some, None, is_some, option_map, option_and_then, List, [], filter, filter_map, length, slice_index, slice_index_or}
-use Rattle.std.specs.Option.{option_map_or}
+use Rattle.std.specs.Prelude.{ℕ, ◌≡◌, ◌==◌, ◌+◌, ◌*◌, ◌/◌, ◌%◌, ◌^◌, ◌≤◌, Bool, if◌then◌else◌, Option, Some, None, option_and_then, List, length, slice_index_or}
 use Rattle.model.specs.Capabilities.Slots.{Slots}
-use Rattle.model.specs.Kernel.Kinds.{frame_around, kind_of}
-use Rattle.model.specs.Kernel.Retype.{NewObject, NewUntyped, NewThread, NewEndpoint, NewNotification, NewCNode, NewFrame, NewPageTable, NewRootTable}
-use Rattle.model.specs.Kernel.State.{State, Object, Sender, ThreadObject, EndpointObject, NotificationObject, CNodeObject, FrameObject, PageTableObject, RootTableObject, with_slots}
-use Rattle.thread_records.specs.Threads.{sender_of, thread_state}
+use Rattle.model.specs.Kernel.Retype.{NewObject, NewThread, NewEndpoint, NewNotification, NewCNode, NewFrame, NewPageTable, NewRootTable}
+use Rattle.model.specs.Kernel.State.{State}
+use Rattle.model.specs.Shared.Bytes.{word_at}
+use Rattle.objects.specs.Contents.{Contents, Record, Endpoint, Notification, CNode, Frame, PageTable, RootTable, contents_state, places_by}
+use Rattle.objects.specs.declared.records.Entry.{Entry}
+use Rattle.objects.specs.declared.records.Entry.TheVariants as entries
 use Rattle.objects.specs.declared.records.Kind.{Kind}
 use Rattle.objects.specs.declared.records.Kind.TheVariants as kinds
-use Rattle.objects.specs.declared.records.Record.{Record}
-use Rattle.objects.specs.declared.records.Record.TheVariants as records
+use Rattle.thread_records.specs.Records as thread_words
 use Rattle.thread_records.specs.declared.records.Sending.{Sending}
 use Rattle.thread_records.specs.declared.records.Thread.{Thread}
-use Rattle.objects.specs.Waiting.{has_waiting}
 use Rattle.queues.specs.Layout.{Places}
 use Rattle.queues.specs.Queues.{queue_of}
 use Rattle.queues.specs.Ready.{ready_of}
@@ -21,96 +20,89 @@ use Rattle.queues.specs.declared.words.Ends.{Ends}
 
 -- ---- tables
 
--- what stands at an offset in memory, in a table with an entry for each `size` bytes
-abbrev pub placed : {A : Type 0} → ℕ → List (Option A) → ℕ → Option A
-placed size entries offset = if offset % size == 0 then slice_index_or entries (offset / size) None else None
-
--- objects with and without records of their own stand in two tables; threads have 512 bytes
-abbrev pub record_in : List (Option Record) → ℕ → Option Record
-record_in records offset = placed 16 records offset
-
-abbrev pub thread_in : List (Option Thread) → ℕ → Option Thread
-thread_in threads offset = placed 512 threads offset
-
 pub record Tables : Type 0 where
   -- memory has 2 ^ bits bytes, and the boot CNode 2 ^ radix slots
   pub bits : ℕ
   pub radix : ℕ
-  pub records : List (Option Record)
-  pub threads : List (Option Thread)
+  -- what starts at each 16 bytes of memory
+  pub entries : List Entry
   -- the first and the last thread that is ready at each priority
   pub ready : List Ends
   pub masked : List Bool
   pub pending : List Bool
 
--- ---- objects
+-- what starts at an offset in memory
+abbrev pub entry_in : List Entry → ℕ → Entry
+entry_in table offset = if offset % 16 == 0 then slice_index_or table (offset / 16) entries.Nothing else entries.Nothing
 
-abbrev pub sending_in : List (Option Thread) → ℕ → Option Sending
-sending_in threads thread = option_and_then (λ t. t.sending) (thread_in threads thread)
+abbrev pub kind_of_entry : Entry → Option NewObject
+kind_of_entry entries.Nothing = None
+kind_of_entry entries.Thread = Some NewThread
+kind_of_entry entries.Endpoint = Some NewEndpoint
+kind_of_entry entries.Notification = Some NewNotification
+kind_of_entry (entries.CNode radix) = Some (NewCNode radix)
+kind_of_entry entries.Frame = Some NewFrame
+kind_of_entry entries.PageTable = Some NewPageTable
+kind_of_entry entries.RootTable = Some NewRootTable
 
--- of those that wait at an endpoint: who sends, and who receives
-abbrev pub senders_in : List (Option Thread) → List ℕ → List Sender
-senders_in threads waiting = filter_map (λ thread. option_map (sender_of thread) (sending_in threads thread)) waiting
+abbrev pub kinds_by : List Entry → ℕ → Option NewObject
+kinds_by table offset = kind_of_entry (entry_in table offset)
 
-abbrev pub receivers_in : List (Option Thread) → List ℕ → List ℕ
-receivers_in threads waiting = filter (λ thread. not (is_some (sending_in threads thread))) waiting
-
--- an object that is no thread, with those that wait at it
-abbrev pub object_of : List (Option Thread) → List ℕ → Record → Object
-object_of threads waiting records.Endpoint = EndpointObject (record { senders = senders_in threads waiting; receivers = receivers_in threads waiting })
-object_of threads waiting (records.Notification word) = NotificationObject (record { word = word; waiters = waiting })
-object_of threads waiting (records.CNode radix) = CNodeObject radix
-object_of threads waiting records.Frame = FrameObject
-object_of threads waiting records.PageTable = PageTableObject
-object_of threads waiting records.RootTable = RootTableObject
-
-abbrev pub object_from : Option Thread → Option Object → Option Object
-object_from (Some t) other = Some (ThreadObject (thread_state t))
-object_from None other = other
-
--- an object, if these wait at it
-abbrev pub object_with : Tables → List ℕ → ℕ → Option Object
-object_with o waiting offset = object_from (thread_in o.threads offset) (option_map (object_of o.threads waiting) (record_in o.records offset))
-
--- an object, if these wait at each
-abbrev pub object_in : Tables → (ℕ → List ℕ) → ℕ → Option Object
-object_in o waiting offset = object_with o (waiting offset) offset
-
--- the type of the object at an offset, whoever waits at it
-abbrev pub kind_by : List (Option Record) → List (Option Thread) → ℕ → Option NewObject
-kind_by records threads offset = option_map kind_of (object_from (thread_in threads offset) (option_map (object_of threads []) (record_in records offset)))
-
+-- the type of the object at an offset
 abbrev pub kind_in : Tables → ℕ → Option NewObject
-kind_in o offset = kind_by o.records o.threads offset
+kind_in o offset = kinds_by o.entries offset
+
+-- the entry of a new object
+abbrev pub entry_of : Kind → Entry
+entry_of kinds.Thread = entries.Thread
+entry_of kinds.Endpoint = entries.Endpoint
+entry_of kinds.Notification = entries.Notification
+entry_of (kinds.CNode radix) = entries.CNode radix
+entry_of kinds.Frame = entries.Frame
+entry_of kinds.PageTable = entries.PageTable
+entry_of kinds.RootTable = entries.RootTable
+
+-- ---- what the bytes of memory hold of what starts there
+
+abbrev pub thread_from : Entry → Thread → Option Thread
+thread_from entries.Nothing thread = None
+thread_from entries.Thread thread = Some thread
+thread_from entries.Endpoint thread = None
+thread_from entries.Notification thread = None
+thread_from (entries.CNode radix) thread = None
+thread_from entries.Frame thread = None
+thread_from entries.PageTable thread = None
+thread_from entries.RootTable thread = None
+
+abbrev pub record_from : Entry → ℕ → Option Record
+record_from entries.Nothing word = None
+record_from entries.Thread word = None
+record_from entries.Endpoint word = Some Endpoint
+record_from entries.Notification word = Some (Notification word)
+record_from (entries.CNode radix) word = Some (CNode radix)
+record_from entries.Frame word = Some Frame
+record_from entries.PageTable word = Some PageTable
+record_from entries.RootTable word = Some RootTable
+
+-- a notification keeps its word in its bytes from 8 on
+abbrev pub contents_of : Tables → List ℕ → Contents
+contents_of o memory = record {
+  bits = o.bits;
+  radix = o.radix;
+  records = λ offset. record_from (entry_in o.entries offset) (word_at memory (offset + 8));
+  threads = λ offset. thread_from (entry_in o.entries offset) (thread_words.thread_at memory offset);
+  ready = o.ready;
+  masked = o.masked;
+  pending = o.pending;
+}
+
+abbrev pub thread_in : Tables → List ℕ → ℕ → Option Thread
+thread_in o memory offset = (contents_of o memory).threads offset
+
+abbrev pub sending_in : Tables → List ℕ → ℕ → Option Sending
+sending_in o memory thread = option_and_then (λ (t : Thread). t.sending) (thread_in o memory thread)
 
 -- ---- queues
-
--- whether threads may wait at an object with such a record
-abbrev pub has_queue : Record → Bool
-has_queue records.Endpoint = true
-has_queue (records.Notification word) = true
-has_queue (records.CNode radix) = false
-has_queue records.Frame = false
-has_queue records.PageTable = false
-has_queue records.RootTable = false
-
-abbrev pub is_thread_kind : Option NewObject → Bool
-is_thread_kind None = false
-is_thread_kind (Some NewThread) = true
-is_thread_kind (Some NewEndpoint) = false
-is_thread_kind (Some NewNotification) = false
-is_thread_kind (Some (NewUntyped bits)) = false
-is_thread_kind (Some (NewCNode radix)) = false
-is_thread_kind (Some NewFrame) = false
-is_thread_kind (Some NewPageTable) = false
-is_thread_kind (Some NewRootTable) = false
-
--- where threads and those that wait are linked: an object keeps the first and the last of these in its first two words
-abbrev pub places_by : (ℕ → Option NewObject) → Places
-places_by kinds = record {
-  threads = λ offset. is_thread_kind (kinds offset);
-  heads = λ offset. if has_waiting (kinds offset) then Some offset else None;
-}
 
 abbrev pub places_of : Tables → Places
 places_of o = places_by (kind_in o)
@@ -124,38 +116,9 @@ ready_at o memory = ready_of (places_of o) o.ready memory
 
 -- ---- the state
 
-abbrev pub is_frame : Record → Bool
-is_frame records.Frame = true
-is_frame records.Endpoint = false
-is_frame (records.Notification word) = false
-is_frame (records.CNode radix) = false
-is_frame records.PageTable = false
-is_frame records.RootTable = false
-
--- the bytes of frames are those of memory
-abbrev pub byte_in : List (Option Record) → List ℕ → ℕ → Option ℕ
-byte_in records memory place =
-    if option_map_or is_frame (record_in records (frame_around place)) false then Some (slice_index memory place) else None
-
--- what the tables and the bytes of memory tell of a state, if these wait and are ready: all but its slots
-abbrev pub told_with : Tables → (ℕ → List ℕ) → (ℕ → List ℕ) → List ℕ → State
-told_with o waiting ready memory = record {
-  memory_bits = o.bits;
-  boot_radix = o.radix;
-  slots = λ slot. None;
-  objects = object_in o waiting;
-  bytes = byte_in o.records memory;
-  ready = ready;
-  masked = λ line. slice_index_or o.masked line false;
-  pending = λ line. slice_index_or o.pending line false;
-}
-
-unfoldable pub told_by : Tables → List ℕ → State
-told_by o memory = told_with o (waiting_of o memory) (ready_at o memory) memory
-
 -- whatever the form of the tables is, the slots are the store's
 unfoldable pub state_of : Tables → Slots → List ℕ → State
-state_of o slots memory = with_slots (told_by o memory) slots
+state_of o slots memory = contents_state (contents_of o memory) slots memory
 
 -- ---- what is always true of the tables
 
@@ -164,16 +127,6 @@ pub record AreTables (o : Tables) : Type 0 where
   pub most_bits : o.bits ≤ 24
   pub most_radix : o.radix ≤ 14
   -- there is an entry for each place
-  pub record_places : 16 * length o.records ≡ 2 ^ o.bits
-  pub thread_places : 512 * length o.threads ≡ 2 ^ o.bits
-  pub nodes : (offset radix : ℕ) → record_in o.records offset ≡ Some (records.CNode radix) → radix ≤ 14
-
--- what the table holds of a new object that is no thread
-abbrev pub record_of : Kind → Option Record
-record_of kinds.Thread = None
-record_of kinds.Endpoint = Some records.Endpoint
-record_of kinds.Notification = Some (records.Notification 0)
-record_of (kinds.CNode radix) = Some (records.CNode radix)
-record_of kinds.Frame = Some records.Frame
-record_of kinds.PageTable = Some records.PageTable
-record_of kinds.RootTable = Some records.RootTable
+  pub places : 16 * length o.entries ≡ 2 ^ o.bits
+  pub threads : (offset : ℕ) → entry_in o.entries offset ≡ entries.Thread → offset % 512 ≡ 0
+  pub nodes : (offset radix : ℕ) → entry_in o.entries offset ≡ entries.CNode radix → radix ≤ 14

@@ -15,13 +15,12 @@ ghost use Rattle.objects.specs.Threads.{new_object};
 ghost use Rattle.removal_laws.specs.Finishing.{woken};
 ghost use Rattle.removal_laws.specs.Steps.{object_ended};
 
-use crate::held::begin_queue;
+use crate::beginnings::begin_bytes;
+use crate::held::{THREAD_SIZE, entry_of};
 use crate::records::Kind;
-use crate::tables::{LEAST_SIZE, Objects, record_of};
-use queues::begin_thread;
+use crate::tables::Objects;
 use model::Slot;
 use slots::SlotStore;
-use thread_records::Thread;
 
 impl Objects {
     /// The slot of the interrupt table that holds what a line signals.
@@ -33,7 +32,7 @@ impl Objects {
     }
 
     /// The boot CNode has 2^`radix` slots.
-    #[tactic(auto, unfolding(crate::specs::Tables::state_of, crate::specs::Tables::told_by))]
+    #[tactic(auto, unfolding(crate::specs::Tables::state_of, crate::specs::Contents::contents_state))]
     pub fn boot_radix(&self) -> u32
         ensures value { (slots : Slots) (memory : List ℕ) → result ≡ (state_of self.now slots memory).boot_radix }
         ensures most { result ≤ 14 }
@@ -42,7 +41,7 @@ impl Objects {
     }
 
     /// How many slots the object has that starts at an offset: none, where there is no object.
-    #[tactic(auto, unfolding(crate::specs::Tables::state_of, crate::specs::Tables::told_by))]
+    #[tactic(auto, unfolding(crate::specs::Tables::state_of, crate::specs::Contents::contents_state))]
     pub fn slots_of<S: SlotStore>(&self, store: &S, offset: u32) -> u32
         ensures { result ≡ slot_count ((state_of self.now (S.slots store.now) (S.memory store.now)).objects offset) }
     {
@@ -50,7 +49,7 @@ impl Objects {
     }
 
     /// Whether the object at an offset is a thread.
-    #[tactic(auto, unfolding(crate::specs::Tables::state_of, crate::specs::Tables::told_by))]
+    #[tactic(auto, unfolding(crate::specs::Tables::state_of, crate::specs::Contents::contents_state))]
     pub fn is_thread<S: SlotStore>(&self, store: &S, offset: u32) -> bool
         ensures { result ≡ is_some (as_thread ((state_of self.now (S.slots store.now) (S.memory store.now)).objects offset)) }
     {
@@ -58,7 +57,7 @@ impl Objects {
     }
 
     /// Whether the object at an offset is a frame.
-    #[tactic(auto, unfolding(crate::specs::Tables::state_of, crate::specs::Tables::told_by))]
+    #[tactic(auto, unfolding(crate::specs::Tables::state_of, crate::specs::Contents::contents_state))]
     pub fn is_frame<S: SlotStore>(&self, store: &S, offset: u32) -> bool
         ensures { result ≡ is_frame_object ((state_of self.now (S.slots store.now) (S.memory store.now)).objects offset) }
     {
@@ -66,7 +65,7 @@ impl Objects {
     }
 
     /// The byte at a place in memory, if a frame is there.
-    #[tactic(auto, unfolding(crate::specs::Tables::state_of, crate::specs::Tables::told_by))]
+    #[tactic(auto, unfolding(crate::specs::Tables::state_of, crate::specs::Contents::contents_state))]
     pub fn byte<S: SlotStore>(&self, store: &S, place: u32) -> Option<u8>
         requires size { 2 ^ (state_of self.now (S.slots store.now) (S.memory store.now)).memory_bits ≡ length (S.memory store.now) }
         ensures { result ≡ (state_of self.now (S.slots store.now) (S.memory store.now)).bytes place }
@@ -94,7 +93,7 @@ impl Objects {
     }
 
     /// A new object stands at an offset where nothing does. What memory holds there are the bytes of a frame.
-    #[tactic(auto, unfolding(crate::specs::Tables::state_of, crate::specs::Tables::told_by))]
+    #[tactic(auto, unfolding(crate::specs::Tables::state_of, crate::specs::Contents::contents_state))]
     pub fn begin<S: SlotStore>(&mut self, store: &mut S, offset: u32, kind: Kind)
         requires free { (state_of self.old (S.slots store.old) (S.memory store.old)).objects offset ≡ None }
         requires fits { MayStand (state_of self.old (S.slots store.old) (S.memory store.old)).memory_bits kind offset }
@@ -107,16 +106,8 @@ impl Objects {
         ensures order { S.order store.new ≡ S.order store.old }
         ensures stands { Standing self.new (S.slots store.new) (S.memory store.new) }
     {
-        match record_of(kind) {
-            None => {
-                begin_thread(store, offset);
-                self.held.threads.put(offset, Thread::new());
-            }
-            Some(record) => {
-                begin_queue(store, offset, record);
-                self.held.records.put(LEAST_SIZE, offset, record);
-            }
-        }
+        self.held.put(offset, entry_of(kind));
+        begin_bytes(store, offset, kind);
     }
 
     /// Threads that wait at objects that are gone run again, in rising order of their offsets.
@@ -131,7 +122,7 @@ impl Objects {
     {
         let count = self.count_places();
         'places: for number in 0..count {
-            self.wake_if_stranded(store, LEAST_SIZE * number);
+            self.wake_if_stranded(store, THREAD_SIZE * number);
         }
     }
 }

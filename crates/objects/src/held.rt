@@ -1,75 +1,156 @@
-//! What stands where in memory.
+//! What stands where in memory: existence and kind are in no byte, since a new object is all zero.
 
-ghost use Rattle.std.specs.Prelude.{ℕ, ◌≡◌, ◌/◌, None, IfOk, true, length, if◌then◌else◌, replicate};
-ghost use Rattle.queues.specs.Layout.{IsHeadAt};
-ghost use Rattle.queues.specs.Words.{with_ends};
-ghost use Rattle.objects.specs.Tables.{has_queue, kind_by, places_by};
+ghost use Rattle.std.specs.Prelude.{ℕ, ◌≡◌, ◌^◌, ◌/◌, ◌%◌, ◌<◌, ◌≤◌, IfOk, length, replicate};
+ghost use Rattle.model.specs.Kernel.State.{put};
+ghost use Rattle.objects.specs.Tables.{entry_in, entry_of, kinds_by};
+ghost use Rattle.objects.specs.Contents.{is_thread_kind, places_by};
+ghost use Rattle.objects.specs.declared.records.Entry.{Entry};
+ghost use Rattle.objects.specs.declared.records.Entry.TheVariants.{Nothing};
 
-use crate::places::Places;
-use crate::records::Record;
-use crate::tables::{LEAST_SIZE, THREAD_SIZE};
-use crate::thread_places::ThreadPlaces;
-use queues::{Layout, begin_head};
-use slots::SlotStore;
+use crate::records::{Entry, Kind};
+use queues::Layout;
 use std::alloc::{AllocError, Global};
+use std::marker::Model;
 
-/// The tables of what stands where: threads, and objects that are none.
+/// Objects start at multiples of so many bytes.
+const LEAST_SIZE: u32 = 16;
+
+/// How many bytes of memory a thread has.
+pub(crate) const THREAD_SIZE: u32 = 512;
+
+/// What starts at each 16 bytes of memory. Clauses see the list of its entries.
 #[derive(Drop)]
 pub(crate) struct Held {
-    pub(crate) records: Places<Record>,
-    pub(crate) threads: ThreadPlaces,
+    entries: Vec<Entry>,
+}
+
+impl Model for Held {
+    ghost use Rattle.std.specs.Prelude.{List};
+    ghost use Rattle.objects.specs.declared.records.Entry.{Entry};
+
+    ghost Value = { List Entry };
+
+    ghost view = { λ held. held.entries.items };
 }
 
 impl Held {
     /// Nothing stands in so many bytes of memory.
     pub(crate) fn new(alloc: Global, size: u32) -> Result<Self, AllocError>
-        ensures records { IfOk result (λ held. held.records ≡ replicate (size / 16) None) }
-        ensures threads { IfOk result (λ held. held.threads ≡ replicate (size / 512) None) }
+        ensures { IfOk result (λ held. held ≡ replicate (size / 16) Nothing) }
     {
-        Ok(Held {
-            records: Places::filled(alloc, size / LEAST_SIZE, None)?,
-            threads: ThreadPlaces::new(alloc, size / THREAD_SIZE)?,
-        })
+        let mut entries = Vec::new(alloc);
+        entries.resize((size / LEAST_SIZE) as usize, Entry::Nothing)?;
+        Ok(Held { entries })
+    }
+
+    /// What starts at an offset in memory.
+    pub(crate) fn get(&self, offset: u32) -> Entry
+        ensures { result ≡ entry_in self.now offset }
+    {
+        entry_at(&self.entries, offset)
+    }
+
+    /// Something starts at an offset that the table has an entry for.
+    pub(crate) fn put(&mut self, offset: u32, entry: Entry)
+        requires aligned { offset % 16 ≡ 0 }
+        requires within { offset / 16 < length self.old }
+        ensures entries { (other : ℕ) → entry_in self.new other ≡ put (entry_in self.old) offset entry other }
+        ensures long { length self.new ≡ length self.old }
+    {
+        put_entry(&mut self.entries, offset, entry);
+    }
+
+    /// Nothing starts at an offset any more.
+    pub(crate) fn clear(&mut self, offset: u32)
+        ensures entries { (other : ℕ) → entry_in self.new other ≡ put (entry_in self.old) offset Nothing other }
+        ensures long { length self.new ≡ length self.old }
+    {
+        clear_entry(&mut self.entries, offset);
+    }
+}
+
+impl Held {
+    /// Whether a thread starts at an offset.
+    pub(crate) fn has_thread(&self, offset: u32) -> bool
+        ensures { result ≡ is_thread_kind (kinds_by self.now offset) }
+    {
+        matches!(self.get(offset), Entry::Thread)
+    }
+
+    /// How many places there are where a thread may start.
+    pub(crate) fn count_threads(&self) -> u32
+        requires { length self.now ≤ 2 ^ 20 }
+        ensures { result ≡ length self.now / 32 }
+    {
+        (self.entries.len() / 32) as u32
     }
 }
 
 impl Layout for Held {
-    ghost places = { λ held. places_by (kind_by held.records held.threads) };
+    ghost places = { λ held. places_by (kinds_by held) };
 
     fn is_thread(&self, offset: u32) -> bool {
-        self.threads.has(offset)
+        self.has_thread(offset)
     }
 
     /// An object keeps the first and the last thread that wait at it in its first two words.
     fn head(&self, offset: u32) -> Option<u32> {
-        if self.threads.has(offset) {
-            return None;
-        }
-        match self.records.get(LEAST_SIZE, offset) {
-            Some(record) if has_queue(record) => Some(offset),
-            _ => None,
+        match self.get(offset) {
+            Entry::Endpoint | Entry::Notification => Some(offset),
+            Entry::Nothing
+            | Entry::Thread
+            | Entry::CNode { .. }
+            | Entry::Frame
+            | Entry::PageTable
+            | Entry::RootTable => None,
         }
     }
 }
 
-/// Whether threads may wait at an object.
-pub(crate) fn has_queue(kept: Record) -> bool
-    ensures { result ≡ has_queue kept }
+/// What starts at an offset in memory.
+fn entry_at(entries: &[Entry], offset: u32) -> Entry
+    ensures { result ≡ entry_in entries.now offset }
 {
-    match kept {
-        Record::Endpoint | Record::Notification { .. } => true,
-        Record::CNode { .. } | Record::Frame | Record::PageTable | Record::RootTable => false,
+    let index = (offset / LEAST_SIZE) as usize;
+    if offset % LEAST_SIZE == 0 && index < entries.len() {
+        entries[index]
+    } else {
+        Entry::Nothing
     }
 }
 
-/// A new object stands at an offset, at which nobody waits, if threads may.
-pub(crate) fn begin_queue<S: SlotStore>(store: &mut S, offset: u32, kept: Record)
-    requires { has_queue kept ≡ true → IsHeadAt (S.slots store.old) (length (S.memory store.old)) offset }
-    ensures bytes { S.memory store.new ≡ (if has_queue kept then with_ends (S.memory store.old) offset (record { first = None; last = None }) else S.memory store.old) }
-    ensures slots { S.slots store.new ≡ S.slots store.old }
-    ensures order { S.order store.new ≡ S.order store.old }
+/// Something starts at an offset that the table has an entry for.
+fn put_entry(entries: &mut [Entry], offset: u32, entry: Entry)
+    requires aligned { offset % 16 ≡ 0 }
+    requires within { offset / 16 < length entries.old }
+    ensures entries { (other : ℕ) → entry_in entries.new other ≡ put (entry_in entries.old) offset entry other }
+    ensures long { length entries.new ≡ length entries.old }
 {
-    if has_queue(kept) {
-        begin_head(store, offset);
+    entries[(offset / LEAST_SIZE) as usize] = entry;
+}
+
+/// Nothing starts at an offset any more.
+fn clear_entry(entries: &mut [Entry], offset: u32)
+    ensures entries { (other : ℕ) → entry_in entries.new other ≡ put (entry_in entries.old) offset Nothing other }
+    ensures long { length entries.new ≡ length entries.old }
+{
+    let index = (offset / LEAST_SIZE) as usize;
+    if offset % LEAST_SIZE == 0 && index < entries.len() {
+        entries[index] = Entry::Nothing;
+    }
+}
+
+/// The entry of a new object.
+pub(crate) fn entry_of(kind: Kind) -> Entry
+    ensures { result ≡ entry_of kind }
+{
+    match kind {
+        Kind::Thread => Entry::Thread,
+        Kind::Endpoint => Entry::Endpoint,
+        Kind::Notification => Entry::Notification,
+        Kind::CNode { radix } => Entry::CNode { radix },
+        Kind::Frame => Entry::Frame,
+        Kind::PageTable => Entry::PageTable,
+        Kind::RootTable => Entry::RootTable,
     }
 }

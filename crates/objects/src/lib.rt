@@ -3,17 +3,17 @@
 //! seL4 Reference Manual, "Kernel Services and Objects".
 #![tactic(auto)]
 
+mod beginnings;
 mod calls;
 mod held;
 mod line_calls;
-mod places;
 mod queue_calls;
 mod records;
+mod rights;
 mod scheduling_calls;
 mod state_laws;
 mod tables;
 mod thread_calls;
-mod thread_places;
 mod threads;
 mod waiting;
 

@@ -12,14 +12,15 @@ ghost use Rattle.objects.specs.Tables.{state_of};
 ghost use Rattle.thread_records.specs.Threads.{sender_of};
 ghost use Rattle.objects.specs.Waiting.{IsOneSided, ReceiverTaken, SenderTaken, StandsNowhere, WaiterTaken, with_receiver, with_sender, with_waiter, with_word};
 
-use crate::records::WaitingSender;
+use crate::beginnings::WORD;
+use crate::records::{Entry, WaitingSender};
 use crate::tables::Objects;
 use slots::SlotStore;
 use thread_records::Sending;
 
 impl Objects {
     /// A thread that waits nowhere waits behind the others at an endpoint where nobody receives, to send this.
-    #[tactic(auto, unfolding(crate::specs::Tables::state_of, crate::specs::Tables::told_by))]
+    #[tactic(auto, unfolding(crate::specs::Tables::state_of, crate::specs::Contents::contents_state))]
     pub fn push_sender<S: SlotStore>(
         &mut self,
         store: &mut S,
@@ -43,7 +44,7 @@ impl Objects {
     }
 
     /// A thread that waits nowhere waits behind the others at an endpoint where nobody sends, to receive.
-    #[tactic(auto, unfolding(crate::specs::Tables::state_of, crate::specs::Tables::told_by))]
+    #[tactic(auto, unfolding(crate::specs::Tables::state_of, crate::specs::Contents::contents_state))]
     pub fn push_receiver<S: SlotStore>(&mut self, store: &mut S, endpoint: u32, thread: u32)
         requires endpoint { kind_at (state_of self.old (S.slots store.old) (S.memory store.old)) endpoint ≡ Some NewEndpoint }
         requires there { kind_at (state_of self.old (S.slots store.old) (S.memory store.old)) thread ≡ Some NewThread }
@@ -61,7 +62,7 @@ impl Objects {
     }
 
     /// A thread that waits nowhere waits behind the others at a notification.
-    #[tactic(auto, unfolding(crate::specs::Tables::state_of, crate::specs::Tables::told_by))]
+    #[tactic(auto, unfolding(crate::specs::Tables::state_of, crate::specs::Contents::contents_state))]
     pub fn push_waiter<S: SlotStore>(&mut self, store: &mut S, notification: u32, thread: u32)
         requires notification { kind_at (state_of self.old (S.slots store.old) (S.memory store.old)) notification ≡ Some NewNotification }
         requires there { kind_at (state_of self.old (S.slots store.old) (S.memory store.old)) thread ≡ Some NewThread }
@@ -78,7 +79,7 @@ impl Objects {
     }
 
     /// Takes the first thread that waits at an endpoint to send, with what it sends.
-    #[tactic(auto, unfolding(crate::specs::Tables::state_of, crate::specs::Tables::told_by))]
+    #[tactic(auto, unfolding(crate::specs::Tables::state_of, crate::specs::Contents::contents_state))]
     pub fn take_sender<S: SlotStore>(
         &mut self,
         store: &mut S,
@@ -96,7 +97,7 @@ impl Objects {
         let Some(thread) = self.first_waiting(store, endpoint) else {
             return None;
         };
-        let Some(sending) = self.sending_of(thread) else {
+        let Some(sending) = self.sending_of(store, thread) else {
             return None;
         };
         self.serve(store, endpoint, thread);
@@ -104,7 +105,7 @@ impl Objects {
     }
 
     /// Takes the first thread that waits at an endpoint to receive.
-    #[tactic(auto, unfolding(crate::specs::Tables::state_of, crate::specs::Tables::told_by))]
+    #[tactic(auto, unfolding(crate::specs::Tables::state_of, crate::specs::Contents::contents_state))]
     pub fn take_receiver<S: SlotStore>(&mut self, store: &mut S, endpoint: u32) -> Option<u32>
         requires endpoint { kind_at (state_of self.old (S.slots store.old) (S.memory store.old)) endpoint ≡ Some NewEndpoint }
         requires one_sided { IsOneSided (endpoint_at (state_of self.old (S.slots store.old) (S.memory store.old)) endpoint) }
@@ -118,7 +119,7 @@ impl Objects {
         let Some(thread) = self.first_waiting(store, endpoint) else {
             return None;
         };
-        if self.sending_of(thread).is_some() {
+        if self.sending_of(store, thread).is_some() {
             return None;
         }
         self.serve(store, endpoint, thread);
@@ -126,7 +127,7 @@ impl Objects {
     }
 
     /// Takes the first thread that waits at a notification.
-    #[tactic(auto, unfolding(crate::specs::Tables::state_of, crate::specs::Tables::told_by))]
+    #[tactic(auto, unfolding(crate::specs::Tables::state_of, crate::specs::Contents::contents_state))]
     pub fn take_waiter<S: SlotStore>(&mut self, store: &mut S, notification: u32) -> Option<u32>
         requires there { kind_at (state_of self.old (S.slots store.old) (S.memory store.old)) notification ≡ Some NewNotification }
         requires stands { Standing self.old (S.slots store.old) (S.memory store.old) }
@@ -144,7 +145,7 @@ impl Objects {
     }
 
     /// Whether a thread waits at the object at an offset.
-    #[tactic(auto, unfolding(crate::specs::Tables::state_of, crate::specs::Tables::told_by))]
+    #[tactic(auto, unfolding(crate::specs::Tables::state_of, crate::specs::Contents::contents_state))]
     pub fn is_waited_at<S: SlotStore>(&self, store: &S, offset: u32) -> bool
         requires { Standing self.now (S.slots store.now) (S.memory store.now) }
         ensures { (result ≡ false) ↔ (waiting_at ((state_of self.now (S.slots store.now) (S.memory store.now)).objects offset) ≡ []) }
@@ -153,14 +154,19 @@ impl Objects {
     }
 
     /// The word of a notification, or 0 where none is.
+    #[tactic(auto, unfolding(crate::specs::Tables::state_of, crate::specs::Contents::contents_state))]
     pub fn word<S: SlotStore>(&self, store: &S, notification: u32) -> u32
+        requires { Standing self.now (S.slots store.now) (S.memory store.now) }
         ensures { result ≡ (notification_at (state_of self.now (S.slots store.now) (S.memory store.now)) notification).word }
     {
-        self.word_at(notification)
+        match self.held.get(notification) {
+            Entry::Notification => store.mem().read32(notification + WORD),
+            _ => 0,
+        }
     }
 
     /// Sets the word of a notification.
-    #[tactic(auto, unfolding(crate::specs::Tables::state_of, crate::specs::Tables::told_by))]
+    #[tactic(auto, unfolding(crate::specs::Tables::state_of, crate::specs::Contents::contents_state))]
     pub fn set_word<S: SlotStore>(&mut self, store: &mut S, notification: u32, word: u32)
         requires there { kind_at (state_of self.old (S.slots store.old) (S.memory store.old)) notification ≡ Some NewNotification }
         requires stands { Standing self.old (S.slots store.old) (S.memory store.old) }
@@ -171,6 +177,6 @@ impl Objects {
         ensures order { S.order store.new ≡ S.order store.old }
         ensures stands { Standing self.new (S.slots store.new) (S.memory store.new) }
     {
-        self.set_word_at(notification, word);
+        store.write32(notification + WORD, word);
     }
 }

@@ -1,4 +1,4 @@
-//! What the tables hold of objects.
+//! What stands where in memory, and who waits to send.
 
 use thread_records::Sending;
 
@@ -14,11 +14,13 @@ pub enum Kind {
     RootTable,
 }
 
-/// An object that is no thread.
+/// What starts at a place in memory, if anything does.
 #[derive(Clone, Copy, Debug)]
-pub(crate) enum Record {
+pub(crate) enum Entry {
+    Nothing,
+    Thread,
     Endpoint,
-    Notification { word: u32 },
+    Notification,
     CNode { radix: u8 },
     Frame,
     PageTable,

@@ -13,11 +13,10 @@ ghost use Rattle.objects.specs.Tables.{state_of};
 
 use crate::tables::Objects;
 use slots::SlotStore;
-use thread_records::{Status, Thread};
 
 impl Objects {
     /// The current thread: the first of the greatest priority, if any is ready.
-    #[tactic(auto, unfolding(crate::specs::Tables::state_of, crate::specs::Tables::told_by))]
+    #[tactic(auto, unfolding(crate::specs::Tables::state_of, crate::specs::Contents::contents_state))]
     pub fn current<S: SlotStore>(&self, store: &S) -> Option<u32>
         ensures { result ≡ current (state_of self.now (S.slots store.now) (S.memory store.now)) }
     {
@@ -26,13 +25,18 @@ impl Objects {
 
     /// How many ticks a thread runs on before it goes to the tail of its priority.
     pub fn slice<S: SlotStore>(&self, store: &S, thread: u32) -> u8
+        requires { Standing self.now (S.slots store.now) (S.memory store.now) }
         ensures { result ≡ (thread_at (state_of self.now (S.slots store.now) (S.memory store.now)) thread).slice }
     {
-        self.thread_or_new(thread).slice
+        if self.has_thread(thread) {
+            thread_records::slice(store, thread)
+        } else {
+            0
+        }
     }
 
     /// Sets how many ticks a thread runs on.
-    #[tactic(auto, unfolding(crate::specs::Tables::state_of, crate::specs::Tables::told_by))]
+    #[tactic(auto, unfolding(crate::specs::Tables::state_of, crate::specs::Contents::contents_state))]
     pub fn set_slice<S: SlotStore>(&mut self, store: &mut S, thread: u32, slice: u8)
         requires there { kind_at (state_of self.old (S.slots store.old) (S.memory store.old)) thread ≡ Some NewThread }
         requires stands { Standing self.old (S.slots store.old) (S.memory store.old) }
@@ -43,11 +47,11 @@ impl Objects {
         ensures order { S.order store.new ≡ S.order store.old }
         ensures stands { Standing self.new (S.slots store.new) (S.memory store.new) }
     {
-        self.set_slice_at(thread, slice);
+        self.set_slice_at(store, thread, slice);
     }
 
     /// A thread goes to the tail of its priority.
-    #[tactic(auto, unfolding(crate::specs::Tables::state_of, crate::specs::Tables::told_by))]
+    #[tactic(auto, unfolding(crate::specs::Tables::state_of, crate::specs::Contents::contents_state))]
     pub fn to_tail<S: SlotStore>(&mut self, store: &mut S, thread: u32)
         requires there { kind_at (state_of self.old (S.slots store.old) (S.memory store.old)) thread ≡ Some NewThread }
         requires stands { Standing self.old (S.slots store.old) (S.memory store.old) }
@@ -58,9 +62,7 @@ impl Objects {
         ensures order { S.order store.new ≡ S.order store.old }
         ensures stands { Standing self.new (S.slots store.new) (S.memory store.new) }
     {
-        let held = self.thread_or_new(thread);
-        self.ready.leave(&self.held, store, thread);
-        self.ready.push(&self.held, store, held.priority, thread);
+        self.to_tail_at(store, thread);
     }
 
     /// Sets the priority of a thread: one that runs goes to its tail, with the slice that it has.
@@ -74,19 +76,15 @@ impl Objects {
         ensures order { S.order store.new ≡ S.order store.old }
         ensures stands { Standing self.new (S.slots store.new) (S.memory store.new) }
     {
-        let held = self.thread_or_new(thread);
-        self.replace(thread, Thread { priority, ..held });
-        match held.status {
-            Status::Runnable => self.to_tail(store, thread),
-            Status::Inactive
-            | Status::Blocked { .. }
-            | Status::AwaitsReply
-            | Status::AwaitsHandler => {}
+        let runs = self.runs(store, thread);
+        self.set_priority_at(store, thread, priority);
+        if runs {
+            self.to_tail_at(store, thread);
         }
     }
 
     /// A thread leaves every queue and the ready list, and nobody has the right to reply to it any more.
-    #[tactic(auto, unfolding(crate::specs::Tables::state_of, crate::specs::Tables::told_by))]
+    #[tactic(auto, unfolding(crate::specs::Tables::state_of, crate::specs::Contents::contents_state))]
     pub fn leave<S: SlotStore>(&mut self, store: &mut S, thread: u32)
         requires there { kind_at (state_of self.old (S.slots store.old) (S.memory store.old)) thread ≡ Some NewThread }
         requires stands { Standing self.old (S.slots store.old) (S.memory store.old) }

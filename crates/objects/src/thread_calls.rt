@@ -11,56 +11,87 @@ ghost use Rattle.objects.specs.Standing.{Standing};
 ghost use Rattle.objects.specs.Tables.{state_of};
 ghost use Rattle.thread_records.specs.Threads.{status_of};
 
+use crate::rights::note;
 use crate::tables::Objects;
 use rv32_exec::Regs;
 use slots::SlotStore;
-use thread_records::{Status, Thread};
+use thread_records::Status;
 
 impl Objects {
     /// The registers of a thread: those of a new one, where none is.
     pub fn registers<S: SlotStore>(&self, store: &S, thread: u32) -> Regs
+        requires { Standing self.now (S.slots store.now) (S.memory store.now) }
         ensures { result ≡ (thread_at (state_of self.now (S.slots store.now) (S.memory store.now)) thread).registers }
     {
-        self.registers_at(thread)
+        if self.has_thread(thread) {
+            thread_records::registers(store, thread)
+        } else {
+            Regs::new()
+        }
     }
 
     /// The program counter of a thread: that of a new one, where none is.
     pub fn pc<S: SlotStore>(&self, store: &S, thread: u32) -> u32
+        requires { Standing self.now (S.slots store.now) (S.memory store.now) }
         ensures { result ≡ (thread_at (state_of self.now (S.slots store.now) (S.memory store.now)) thread).registers.pc }
     {
-        self.pc_at(thread)
+        if self.has_thread(thread) {
+            thread_records::pc(store, thread)
+        } else {
+            0
+        }
     }
 
     /// Whether a thread runs, and else what it waits for.
     pub fn status<S: SlotStore>(&self, store: &S, thread: u32) -> Status
+        requires { Standing self.now (S.slots store.now) (S.memory store.now) }
         ensures { status_of result ≡ (thread_at (state_of self.now (S.slots store.now) (S.memory store.now)) thread).status }
     {
-        self.thread_or_new(thread).status
+        if self.has_thread(thread) {
+            thread_records::status(store, thread)
+        } else {
+            Status::Inactive
+        }
     }
 
     /// The thread that a thread has the right to reply to.
     pub fn caller<S: SlotStore>(&self, store: &S, thread: u32) -> Option<u32>
+        requires { Standing self.now (S.slots store.now) (S.memory store.now) }
         ensures { result ≡ (thread_at (state_of self.now (S.slots store.now) (S.memory store.now)) thread).caller }
     {
-        self.thread_or_new(thread).caller
+        if self.has_thread(thread) {
+            thread_records::caller(store, thread)
+        } else {
+            None
+        }
     }
 
     /// The priority of a thread.
     pub fn priority<S: SlotStore>(&self, store: &S, thread: u32) -> u8
+        requires { Standing self.now (S.slots store.now) (S.memory store.now) }
         ensures { result ≡ (thread_at (state_of self.now (S.slots store.now) (S.memory store.now)) thread).priority }
     {
-        self.thread_or_new(thread).priority
+        if self.has_thread(thread) {
+            thread_records::priority(store, thread)
+        } else {
+            0
+        }
     }
 
     /// The capability address of the endpoint that takes a thread's faults, or 0.
     pub fn fault_address<S: SlotStore>(&self, store: &S, thread: u32) -> u32
+        requires { Standing self.now (S.slots store.now) (S.memory store.now) }
         ensures { result ≡ (thread_at (state_of self.now (S.slots store.now) (S.memory store.now)) thread).fault_address }
     {
-        self.thread_or_new(thread).fault_address
+        if self.has_thread(thread) {
+            thread_records::fault_address(store, thread)
+        } else {
+            0
+        }
     }
 
     /// Sets the registers of a thread.
-    #[tactic(auto, unfolding(crate::specs::Tables::state_of, crate::specs::Tables::told_by))]
+    #[tactic(auto, unfolding(crate::specs::Tables::state_of, crate::specs::Contents::contents_state))]
     pub fn set_registers<S: SlotStore>(&mut self, store: &mut S, thread: u32, registers: Regs)
         requires there { kind_at (state_of self.old (S.slots store.old) (S.memory store.old)) thread ≡ Some NewThread }
         requires stands { Standing self.old (S.slots store.old) (S.memory store.old) }
@@ -71,13 +102,14 @@ impl Objects {
         ensures order { S.order store.new ≡ S.order store.old }
         ensures stands { Standing self.new (S.slots store.new) (S.memory store.new) }
     {
-        self.set_registers_at(thread, registers);
+        thread_records::set_registers(store, thread, registers);
     }
 
-    /// A thread has the right to reply to this one, or no such right.
-    #[tactic(auto, unfolding(crate::specs::Tables::state_of, crate::specs::Tables::told_by))]
+    /// A thread has the right to reply to this one, which is there, or no such right.
+    #[tactic(auto, unfolding(crate::specs::Tables::state_of, crate::specs::Contents::contents_state))]
     pub fn set_caller<S: SlotStore>(&mut self, store: &mut S, thread: u32, caller: Option<u32>)
         requires there { kind_at (state_of self.old (S.slots store.old) (S.memory store.old)) thread ≡ Some NewThread }
+        requires caller { (named : ℕ) → caller ≡ Some named → kind_at (state_of self.old (S.slots store.old) (S.memory store.old)) named ≡ Some NewThread }
         requires stands { Standing self.old (S.slots store.old) (S.memory store.old) }
         ensures state { state_of self.new (S.slots store.new) (S.memory store.new)
             ≡ with_caller (state_of self.old (S.slots store.old) (S.memory store.old)) thread caller }
@@ -86,11 +118,12 @@ impl Objects {
         ensures order { S.order store.new ≡ S.order store.old }
         ensures stands { Standing self.new (S.slots store.new) (S.memory store.new) }
     {
-        self.set_caller_at(thread, caller);
+        note(&self.held, store, thread, caller);
+        thread_records::set_caller(store, thread, caller);
     }
 
     /// Sets the capability address of the endpoint that takes a thread's faults; 0 is none.
-    #[tactic(auto, unfolding(crate::specs::Tables::state_of, crate::specs::Tables::told_by))]
+    #[tactic(auto, unfolding(crate::specs::Tables::state_of, crate::specs::Contents::contents_state))]
     pub fn set_fault_address<S: SlotStore>(&mut self, store: &mut S, thread: u32, address: u32)
         requires there { kind_at (state_of self.old (S.slots store.old) (S.memory store.old)) thread ≡ Some NewThread }
         requires stands { Standing self.old (S.slots store.old) (S.memory store.old) }
@@ -101,11 +134,11 @@ impl Objects {
         ensures order { S.order store.new ≡ S.order store.old }
         ensures stands { Standing self.new (S.slots store.new) (S.memory store.new) }
     {
-        self.set_fault_address_at(thread, address);
+        thread_records::set_fault_address(store, thread, address);
     }
 
     /// A thread stops running, for this reason.
-    #[tactic(auto, unfolding(crate::specs::Tables::state_of, crate::specs::Tables::told_by))]
+    #[tactic(auto, unfolding(crate::specs::Tables::state_of, crate::specs::Contents::contents_state))]
     pub fn block<S: SlotStore>(&mut self, store: &mut S, thread: u32, status: Status)
         requires there { kind_at (state_of self.old (S.slots store.old) (S.memory store.old)) thread ≡ Some NewThread }
         requires stands { Standing self.old (S.slots store.old) (S.memory store.old) }
@@ -116,13 +149,12 @@ impl Objects {
         ensures order { S.order store.new ≡ S.order store.old }
         ensures stands { Standing self.new (S.slots store.new) (S.memory store.new) }
     {
-        let held = self.thread_or_new(thread);
-        self.replace(thread, Thread { status, ..held });
+        self.set_status_at(store, thread, status);
         self.unready(store, thread);
     }
 
     /// Makes a thread runnable that does not run: it goes to the tail of its priority, with a full slice.
-    #[tactic(auto, unfolding(crate::specs::Tables::state_of, crate::specs::Tables::told_by))]
+    #[tactic(auto, unfolding(crate::specs::Tables::state_of, crate::specs::Contents::contents_state))]
     pub fn wake<S: SlotStore>(&mut self, store: &mut S, thread: u32)
         requires there { kind_at (state_of self.old (S.slots store.old) (S.memory store.old)) thread ≡ Some NewThread }
         requires stands { Standing self.old (S.slots store.old) (S.memory store.old) }
@@ -133,7 +165,6 @@ impl Objects {
         ensures order { S.order store.new ≡ S.order store.old }
         ensures stands { Standing self.new (S.slots store.new) (S.memory store.new) }
     {
-        let held = self.thread_or_new(thread);
-        self.wake_at(store, thread, held);
+        self.wake_at(store, thread);
     }
 }

@@ -1,109 +1,75 @@
-//! What the tables hold of one thread, and how it changes while the thread stands where it stands.
+//! How one thread changes while it stands where it stands.
 
-ghost use Rattle.std.specs.Prelude.{ℕ, ◌≡◌, List, Some, true, is_some};
-ghost use Rattle.model.specs.Capabilities.Slots.{Slots};
-ghost use Rattle.model.specs.Kernel.Messages.{with_caller, with_registers};
+ghost use Rattle.std.specs.Prelude.{ℕ, ◌≡◌, Some};
+ghost use Rattle.model.specs.Kernel.Kinds.{kind_at};
 ghost use Rattle.model.specs.Kernel.Retype.{NewThread};
-ghost use Rattle.model.specs.Kernel.Scheduling.{unready};
+ghost use Rattle.model.specs.Kernel.Scheduling.{is_runnable, to_tail, unready};
 ghost use Rattle.model.specs.Kernel.State.{thread_at, with_thread};
 ghost use Rattle.objects.specs.Frames.{SameBesideRecords};
 ghost use Rattle.objects.specs.Standing.{Standing};
-ghost use Rattle.objects.specs.Tables.{kind_in, sending_in, state_of, thread_in};
-ghost use Rattle.thread_records.specs.Threads.{thread_state};
+ghost use Rattle.objects.specs.Tables.{state_of};
+ghost use Rattle.thread_records.specs.Threads.{status_of};
 
 use crate::tables::Objects;
-use rv32_exec::Regs;
 use slots::SlotStore;
-use thread_records::Thread;
+use thread_records::Status;
 
 impl Objects {
-    /// The thread at an offset, or a new one where none is.
-    pub(crate) fn thread_or_new(&self, offset: u32) -> Thread
-        ensures state { (slots : Slots) (memory : List ℕ)
-            → thread_state result ≡ thread_at (state_of self.now slots memory) offset }
-        ensures there { kind_in self.now offset ≡ Some NewThread
-            → thread_in self.now.threads offset ≡ Some result }
+    /// Sets whether a thread runs, and else what it waits for.
+    pub(crate) fn set_status_at<S: SlotStore>(&mut self, store: &mut S, offset: u32, status: Status)
+        requires there { kind_at (state_of self.old (S.slots store.old) (S.memory store.old)) offset ≡ Some NewThread }
+        requires stands { Standing self.old (S.slots store.old) (S.memory store.old) }
+        ensures state { state_of self.new (S.slots store.new) (S.memory store.new)
+            ≡ with_thread (state_of self.old (S.slots store.old) (S.memory store.old)) offset (record (thread_at (state_of self.old (S.slots store.old) (S.memory store.old)) offset) { status = status_of status }) }
+        ensures slots { S.slots store.new ≡ S.slots store.old }
+        ensures bytes { SameBesideRecords (state_of self.old (S.slots store.old) (S.memory store.old)) (S.memory store.old) (S.memory store.new) }
+        ensures order { S.order store.new ≡ S.order store.old }
+        ensures stands { Standing self.new (S.slots store.new) (S.memory store.new) }
     {
-        match self.thread_at(offset) {
-            Some(thread) => thread,
-            None => Thread::new(),
-        }
+        thread_records::set_status(store, offset, status);
     }
 
-    /// Puts a thread in the place of one that sends the same.
-    pub(crate) fn replace(&mut self, offset: u32, thread: Thread)
-        requires there { is_some (thread_in self.old.threads offset) ≡ true }
-        requires alike { sending_in self.old.threads offset ≡ thread.sending }
-        ensures state { (slots : Slots) (memory : List ℕ) → state_of self.new slots memory
-            ≡ with_thread (state_of self.old slots memory) offset (thread_state thread) }
-        ensures tables { self.new ≡ record self.old { threads = self.new.threads } }
+    /// Sets how many ticks a thread runs on.
+    pub(crate) fn set_slice_at<S: SlotStore>(&mut self, store: &mut S, offset: u32, slice: u8)
+        requires there { kind_at (state_of self.old (S.slots store.old) (S.memory store.old)) offset ≡ Some NewThread }
+        requires stands { Standing self.old (S.slots store.old) (S.memory store.old) }
+        ensures state { state_of self.new (S.slots store.new) (S.memory store.new)
+            ≡ with_thread (state_of self.old (S.slots store.old) (S.memory store.old)) offset (record (thread_at (state_of self.old (S.slots store.old) (S.memory store.old)) offset) { slice = slice }) }
+        ensures slots { S.slots store.new ≡ S.slots store.old }
+        ensures bytes { SameBesideRecords (state_of self.old (S.slots store.old) (S.memory store.old)) (S.memory store.old) (S.memory store.new) }
+        ensures order { S.order store.new ≡ S.order store.old }
+        ensures stands { Standing self.new (S.slots store.new) (S.memory store.new) }
     {
-        self.held.threads.put(offset, thread);
+        thread_records::set_slice(store, offset, slice);
     }
 
-    /// Sets the registers of a thread.
-    pub(crate) fn set_registers_at(&mut self, offset: u32, registers: Regs)
-        requires { kind_in self.old offset ≡ Some NewThread }
-        ensures state { (slots : Slots) (memory : List ℕ) → state_of self.new slots memory
-            ≡ with_registers (state_of self.old slots memory) offset registers }
-        ensures tables { self.new ≡ record self.old { threads = self.new.threads } }
+    /// Sets the priority of a thread, which may stand in the ready list at another one.
+    pub(crate) fn set_priority_at<S: SlotStore>(&mut self, store: &mut S, offset: u32, priority: u8)
+        requires there { kind_at (state_of self.old (S.slots store.old) (S.memory store.old)) offset ≡ Some NewThread }
+        requires stands { Standing self.old (S.slots store.old) (S.memory store.old) }
+        ensures state { state_of self.new (S.slots store.new) (S.memory store.new)
+            ≡ with_thread (state_of self.old (S.slots store.old) (S.memory store.old)) offset (record (thread_at (state_of self.old (S.slots store.old) (S.memory store.old)) offset) { priority = priority }) }
+        ensures slots { S.slots store.new ≡ S.slots store.old }
+        ensures bytes { SameBesideRecords (state_of self.old (S.slots store.old) (S.memory store.old)) (S.memory store.old) (S.memory store.new) }
+        ensures order { S.order store.new ≡ S.order store.old }
+        ensures stands { Standing self.new (S.slots store.new) (S.memory store.new) }
     {
-        self.held.threads.set_registers(offset, registers);
+        thread_records::set_priority(store, offset, priority);
     }
 
-    /// The registers of the thread at an offset: those of a new one where none is.
-    pub(crate) fn registers_at(&self, offset: u32) -> Regs
-        ensures { (slots : Slots) (memory : List ℕ) → result ≡ (thread_at (state_of self.now slots memory) offset).registers }
+    /// Whether a thread runs.
+    pub(crate) fn runs<S: SlotStore>(&self, store: &S, offset: u32) -> bool
+        requires there { kind_at (state_of self.now (S.slots store.now) (S.memory store.now)) offset ≡ Some NewThread }
+        requires stands { Standing self.now (S.slots store.now) (S.memory store.now) }
+        ensures { result ≡ is_runnable (thread_at (state_of self.now (S.slots store.now) (S.memory store.now)) offset).status }
     {
-        match self.held.threads.registers(offset) {
-            Some(registers) => registers,
-            None => Regs::new(),
-        }
-    }
-
-    /// The program counter of the thread at an offset: that of a new one where none is.
-    pub(crate) fn pc_at(&self, offset: u32) -> u32
-        ensures { (slots : Slots) (memory : List ℕ) → result ≡ (thread_at (state_of self.now slots memory) offset).registers.pc }
-    {
-        match self.held.threads.pc(offset) {
-            Some(pc) => pc,
-            None => 0,
-        }
-    }
-
-    /// A thread has the right to reply to this one, or no such right.
-    pub(crate) fn set_caller_at(&mut self, offset: u32, caller: Option<u32>)
-        requires { kind_in self.old offset ≡ Some NewThread }
-        ensures state { (slots : Slots) (memory : List ℕ) → state_of self.new slots memory
-            ≡ with_caller (state_of self.old slots memory) offset caller }
-        ensures tables { self.new ≡ record self.old { threads = self.new.threads } }
-    {
-        let thread = self.thread_or_new(offset);
-        self.replace(offset, Thread { caller, ..thread });
-    }
-
-    /// Sets the capability address of the endpoint that takes a thread's faults.
-    pub(crate) fn set_fault_address_at(&mut self, offset: u32, address: u32)
-        requires { kind_in self.old offset ≡ Some NewThread }
-        ensures state { (slots : Slots) (memory : List ℕ) → state_of self.new slots memory
-            ≡ with_thread (state_of self.old slots memory) offset (record (thread_at (state_of self.old slots memory) offset) { fault_address = address }) }
-        ensures tables { self.new ≡ record self.old { threads = self.new.threads } }
-    {
-        let thread = self.thread_or_new(offset);
-        self.replace(
-            offset,
-            Thread {
-                fault_address: address,
-                ..thread
-            },
-        );
+        is_running(thread_records::status(store, offset))
     }
 
     /// A thread leaves the ready list.
     pub(crate) fn unready<S: SlotStore>(&mut self, store: &mut S, offset: u32)
         requires stands { Standing self.old (S.slots store.old) (S.memory store.old) }
-        ensures state { state_of self.new (S.slots store.new) (S.memory store.new)
-            ≡ unready (state_of self.old (S.slots store.old) (S.memory store.old)) offset }
+        ensures state { state_of self.new (S.slots store.new) (S.memory store.new) ≡ unready (state_of self.old (S.slots store.old) (S.memory store.old)) offset }
         ensures slots { S.slots store.new ≡ S.slots store.old }
         ensures bytes { SameBesideRecords (state_of self.old (S.slots store.old) (S.memory store.old)) (S.memory store.old) (S.memory store.new) }
         ensures order { S.order store.new ≡ S.order store.old }
@@ -112,14 +78,25 @@ impl Objects {
         self.ready.leave(&self.held, store, offset);
     }
 
-    /// Sets how many ticks a thread runs on.
-    pub(crate) fn set_slice_at(&mut self, offset: u32, slice: u8)
-        requires { kind_in self.old offset ≡ Some NewThread }
-        ensures state { (slots : Slots) (memory : List ℕ) → state_of self.new slots memory
-            ≡ with_thread (state_of self.old slots memory) offset (record (thread_at (state_of self.old slots memory) offset) { slice = slice }) }
-        ensures tables { self.new ≡ record self.old { threads = self.new.threads } }
+    /// A thread goes to the tail of its priority.
+    pub(crate) fn to_tail_at<S: SlotStore>(&mut self, store: &mut S, offset: u32)
+        requires there { kind_at (state_of self.old (S.slots store.old) (S.memory store.old)) offset ≡ Some NewThread }
+        requires stands { Standing self.old (S.slots store.old) (S.memory store.old) }
+        ensures state { state_of self.new (S.slots store.new) (S.memory store.new) ≡ to_tail (state_of self.old (S.slots store.old) (S.memory store.old)) offset }
+        ensures slots { S.slots store.new ≡ S.slots store.old }
+        ensures bytes { SameBesideRecords (state_of self.old (S.slots store.old) (S.memory store.old)) (S.memory store.old) (S.memory store.new) }
+        ensures order { S.order store.new ≡ S.order store.old }
+        ensures stands { Standing self.new (S.slots store.new) (S.memory store.new) }
     {
-        let thread = self.thread_or_new(offset);
-        self.replace(offset, Thread { slice, ..thread });
+        let priority = thread_records::priority(store, offset);
+        self.ready.leave(&self.held, store, offset);
+        self.ready.push(&self.held, store, priority, offset);
     }
+}
+
+/// Whether a thread with this status runs.
+fn is_running(status: Status) -> bool
+    ensures { result ≡ is_runnable (status_of status) }
+{
+    matches!(status, Status::Runnable)
 }

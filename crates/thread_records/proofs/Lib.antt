@@ -1,2 +1,3 @@
 mod Fields
 mod WordLists
+pub mod Laws

@@ -1,5 +1,5 @@
 -- Only bytes of frames changed.
-use Rattle.objects.proofs.Following.{follows-frames}
+use Rattle.objects.proofs.StateLaws.{follows-frames}
 use Rattle.objects.proofs.state_laws.a_state_follows_its_frames.Goals as goal
 
 pub returns : goal.returns

@@ -1,5 +1,5 @@
 -- Only bytes of open slots changed.
-use Rattle.objects.proofs.Following.{follows}
+use Rattle.objects.proofs.StateLaws.{follows}
 use Rattle.objects.proofs.state_laws.a_state_follows_its_slots.Goals as goal
 
 pub returns : goal.returns

@@ -1,5 +1,5 @@
 -- No byte of a frame changed.
-use Rattle.objects.proofs.Following.{follows-kept}
+use Rattle.objects.proofs.StateLaws.{follows-kept}
 use Rattle.objects.proofs.state_laws.a_state_follows_other_bytes.Goals as goal
 
 pub returns : goal.returns

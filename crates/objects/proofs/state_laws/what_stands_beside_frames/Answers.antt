@@ -1,5 +1,5 @@
 -- Only bytes of frames changed.
-use Rattle.objects.proofs.Following.{stands-frames}
+use Rattle.objects.proofs.StateLaws.{stands-frames}
 use Rattle.objects.proofs.state_laws.what_stands_beside_frames.Goals as goal
 
 pub returns : goal.returns

@@ -1,5 +1,5 @@
 -- Only bytes of open slots changed.
-use Rattle.objects.proofs.Following.{stands-still}
+use Rattle.objects.proofs.StateLaws.{stands-still}
 use Rattle.objects.proofs.state_laws.what_stands_still_does.Goals as goal
 
 pub returns : goal.returns

@@ -1,24 +1,24 @@
 -- The thread leaves, if one is there.
-use Rattle.std.proofs.Common.{◌∙◌, ap, sym}
-use Rattle.objects.proofs.Ends.{left-itself, left-nobody, none-there}
-use Rattle.objects.proofs.Stepping.{nobody-there}
-use Rattle.objects.proofs.Told.{runners, waiters}
+use Rattle.std.proofs.Common.{◌∙◌, sym}
+use Rattle.objects.proofs.OneThread.{left-none, left-one, nobody-replies, nobody-runs, nobody-waits}
+use Rattle.objects.proofs.Told.{is-thread}
+use Rattle.objects.specs.Tables.{kind_in}
 use Rattle.objects.proofs.tables.Objects.forget_at.Goals as goal
-use Rattle.objects.specs.Tables.{Tables, ready_at, thread_in, waiting_of}
 
-pub returns-then-is_none-clause-state : goal.returns-then-is_none-clause-state
-returns-then-is_none-clause-state g c = left-nobody c.args.self.now c.args.offset (g.S.SlotMap.slots c.args.store.now) (g.S.SlotStore.memory c.args.store.now) (ap (λ (o : Tables). thread_in o.threads c.args.offset) (sym c.self.view_is) ∙ sym c.get.ensures ∙ none-there c.get.result c.if-is_none.ensures)
+pub forget-requires-clause-there : goal.forget-requires-clause-there
+forget-requires-clause-there g c = is-thread (kind_in c.args.self.now c.args.offset) (sym c.has_thread.ensures ∙ c.if-has_thread.true)
 
-pub returns-then-is_none-clause-waits_not : goal.returns-then-is_none-clause-waits_not
-returns-then-is_none-clause-waits_not g c =
-    nobody-there c.args.self.now (g.S.SlotMap.slots c.args.store.now) (g.S.SlotStore.memory c.args.store.now) c.args.offset (waiting_of c.args.self.now (g.S.SlotStore.memory c.args.store.now)) (waiters c.args.self.now (g.S.SlotMap.slots c.args.store.now) (g.S.SlotStore.memory c.args.store.now) c.requires.stands) (ap (λ (o : Tables). thread_in o.threads c.args.offset) (sym c.self.view_is) ∙ sym c.get.ensures ∙ none-there c.get.result c.if-is_none.ensures)
+pub returns-then-has_thread-clause-state : goal.returns-then-has_thread-clause-state
+returns-then-has_thread-clause-state g c = c.forget.ensures.state ∙ left-one c.args.self.now (g.S.SlotMap.slots c.args.store.now) (g.S.SlotStore.memory c.args.store.now) c.args.offset (sym c.has_thread.ensures ∙ c.if-has_thread.true)
 
-pub returns-then-is_none-clause-ready_not : goal.returns-then-is_none-clause-ready_not
-returns-then-is_none-clause-ready_not g c =
-    nobody-there c.args.self.now (g.S.SlotMap.slots c.args.store.now) (g.S.SlotStore.memory c.args.store.now) c.args.offset (ready_at c.args.self.now (g.S.SlotStore.memory c.args.store.now)) (runners c.args.self.now (g.S.SlotMap.slots c.args.store.now) (g.S.SlotStore.memory c.args.store.now) c.requires.stands) (ap (λ (o : Tables). thread_in o.threads c.args.offset) (sym c.self.view_is) ∙ sym c.get.ensures ∙ none-there c.get.result c.if-is_none.ensures)
+pub returns-else-has_thread-clause-state : goal.returns-else-has_thread-clause-state
+returns-else-has_thread-clause-state g c = left-none c.args.self.now (g.S.SlotMap.slots c.args.store.now) (g.S.SlotStore.memory c.args.store.now) c.requires.stands c.args.offset (sym c.has_thread.ensures ∙ c.if-has_thread.false)
 
-pub returns-clause-state : goal.returns-clause-state
-returns-clause-state g c =
-    c.forget.ensures.state
-    ∙ left-itself c.args.self.now c.args.offset (g.S.SlotMap.slots c.args.store.now) (g.S.SlotStore.memory c.args.store.now) c.get.result
-    (c.get.ensures ∙ ap (λ (o : Tables). thread_in o.threads c.args.offset) c.self.view_is) c.if-is_none.ensures
+pub returns-else-has_thread-clause-waits_not : goal.returns-else-has_thread-clause-waits_not
+returns-else-has_thread-clause-waits_not g c = nobody-waits c.args.self.now (g.S.SlotMap.slots c.args.store.now) (g.S.SlotStore.memory c.args.store.now) c.requires.stands c.args.offset (sym c.has_thread.ensures ∙ c.if-has_thread.false)
+
+pub returns-else-has_thread-clause-ready_not : goal.returns-else-has_thread-clause-ready_not
+returns-else-has_thread-clause-ready_not g c = nobody-runs c.args.self.now (g.S.SlotMap.slots c.args.store.now) (g.S.SlotStore.memory c.args.store.now) c.requires.stands c.args.offset (sym c.has_thread.ensures ∙ c.if-has_thread.false)
+
+pub returns-else-has_thread-clause-rights_not : goal.returns-else-has_thread-clause-rights_not
+returns-else-has_thread-clause-rights_not g c = nobody-replies c.args.self.now (g.S.SlotMap.slots c.args.store.now) (g.S.SlotStore.memory c.args.store.now) c.requires.stands c.args.offset (sym c.has_thread.ensures ∙ c.if-has_thread.false)

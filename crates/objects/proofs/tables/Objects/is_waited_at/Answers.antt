@@ -1,7 +1,7 @@
 -- The first of the queue that the object has, if it has one.
 use Rattle.std.proofs.Common.{◌∙◌, ◌&&◌, is_some, sym, ap}
 use Rattle.model.specs.Kernel.Scheduling.{head_of}
-use Rattle.objects.proofs.Endpoints.{waited-in}
+use Rattle.objects.proofs.PointsHere.{waited-in}
 use Rattle.objects.proofs.tables.Objects.is_waited_at.Goals as goal
 use Rattle.objects.specs.Tables.{waiting_of}
 

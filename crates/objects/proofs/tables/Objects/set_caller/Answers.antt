@@ -1,26 +1,48 @@
--- The tables change, and the store does not.
-use Rattle.std.proofs.Common.{◌∙◌, ap, sym}
+-- Who may reply is kept before the right is given.
+use Rattle.std.proofs.Common.{ℕ, ◌≡◌, ◌∙◌, Some, length, subst, sym}
 use Rattle.model.specs.Kernel.State.{ThreadObject}
-use Rattle.objects.proofs.Endpoints.{kind-state}
-use Rattle.objects.proofs.Frames.{moved-to, one-put, same-objects, same-records, stands-unmoved}
-use Rattle.objects.proofs.tables.Objects.set_caller.Goals as goal
+use Rattle.objects.proofs.Frames.{moved-to, one-put, same-objects}
+use Rattle.objects.proofs.Holding.{entry-there, threads-laid}
+use Rattle.objects.proofs.OneThread.{caller-done, of-state, record-there}
+use Rattle.objects.specs.Laid.{threads_by}
+use Rattle.objects.specs.Rights.{noted, replier_at}
 use Rattle.objects.specs.Tables.{Tables, state_of}
+use Rattle.thread_records.specs.Records.{IsRecordAt}
+use Rattle.objects.specs.contracts.tables.Objects.{the_view}
+use Rattle.objects.proofs.tables.Objects.set_caller.Goals as goal
 
-pub set_caller_at-requires : goal.set_caller_at-requires
-set_caller_at-requires g c = sym (kind-state c.args.self.now c.args.thread (g.S.SlotMap.slots c.args.store.now) (g.S.SlotStore.memory c.args.store.now)) ∙ c.requires.there
+pub note-requires-clause-laid : goal.note-requires-clause-laid
+note-requires-clause-laid g c =
+    let stands = rw (← c.self.view_is) at c.requires.stands in
+    threads-laid (the_view c.self.inside) (g.S.SlotMap.slots c.args.store.now) (g.S.SlotStore.memory c.args.store.now) stands
+
+pub note-requires-clause-there : goal.note-requires-clause-there
+note-requires-clause-there g c =
+    let there = rw (← c.self.view_is) at c.requires.there in
+    entry-there (the_view c.self.inside) c.args.thread (of-state (the_view c.self.inside) (g.S.SlotMap.slots c.args.store.now) (g.S.SlotStore.memory c.args.store.now) c.args.thread there)
+
+pub note-requires-clause-caller : goal.note-requires-clause-caller
+note-requires-clause-caller g c =
+    let caller = rw (← c.self.view_is) at c.requires.caller in
+    λ other found. entry-there (the_view c.self.inside) other (of-state (the_view c.self.inside) (g.S.SlotMap.slots c.args.store.now) (g.S.SlotStore.memory c.args.store.now) other (caller other found))
+
+pub set_caller-requires : goal.set_caller-requires
+set_caller-requires g c = record {
+  there = subst (λ slots. IsRecordAt slots (length (g.S.SlotStore.memory c.note.new.store)) c.args.thread) (sym c.note.ensures.slots)
+      (subst (λ size. IsRecordAt (g.S.SlotMap.slots c.args.store.now) size c.args.thread) (sym c.note.ensures.bytes.size) (record-there c.args.self.now (g.S.SlotMap.slots c.args.store.now) (g.S.SlotStore.memory c.args.store.now) c.requires.stands c.args.thread c.requires.there));
+}
 
 pub returns-clause-state : goal.returns-clause-state
-returns-clause-state g c = c.set_caller_at.ensures.state _ _
+returns-clause-state g c =
+    let note = subst (λ (o : Tables). (other : ℕ) → c.args.caller ≡ Some other → replier_at (g.S.SlotStore.memory c.note.new.store) other ≡ noted (threads_by o.entries (g.S.SlotStore.memory c.args.store.now)) c.args.thread other (replier_at (g.S.SlotStore.memory c.args.store.now) other)) c.self.view_is c.note.ensures.noted in
+    (caller-done c.args.self.now (g.S.SlotMap.slots c.args.store.now) (g.S.SlotMap.slots c.set_caller.new.store) (g.S.SlotStore.memory c.args.store.now) (g.S.SlotStore.memory c.set_caller.new.store) c.requires.stands (c.set_caller.ensures.slots ∙ c.note.ensures.slots) c.args.thread c.args.caller (g.S.SlotStore.memory c.note.new.store) c.requires.there c.requires.caller note c.note.ensures.bytes c.set_caller.ensures.bytes c.set_caller.ensures.record).0.state
 
 pub returns-clause-bytes : goal.returns-clause-bytes
 returns-clause-bytes g c =
-    let before = state_of c.args.self.now (g.S.SlotMap.slots c.args.store.now) (g.S.SlotStore.memory c.args.store.now) in
-    same-objects before _ (g.S.SlotStore.memory c.args.store.now) (g.S.SlotStore.memory c.args.store.now)
-    (moved-to before _ _ (c.set_caller_at.ensures.state _ _) (one-put before c.args.thread (ThreadObject _) c.requires.there)) (same-records before (g.S.SlotStore.memory c.args.store.now))
+    let note = subst (λ (o : Tables). (other : ℕ) → c.args.caller ≡ Some other → replier_at (g.S.SlotStore.memory c.note.new.store) other ≡ noted (threads_by o.entries (g.S.SlotStore.memory c.args.store.now)) c.args.thread other (replier_at (g.S.SlotStore.memory c.args.store.now) other)) c.self.view_is c.note.ensures.noted in
+    same-objects (state_of c.args.self.now (g.S.SlotMap.slots c.args.store.now) (g.S.SlotStore.memory c.args.store.now)) _ (g.S.SlotStore.memory c.args.store.now) _ (moved-to (state_of c.args.self.now (g.S.SlotMap.slots c.args.store.now) (g.S.SlotStore.memory c.args.store.now)) _ _ (caller-done c.args.self.now (g.S.SlotMap.slots c.args.store.now) (g.S.SlotMap.slots c.set_caller.new.store) (g.S.SlotStore.memory c.args.store.now) (g.S.SlotStore.memory c.set_caller.new.store) c.requires.stands (c.set_caller.ensures.slots ∙ c.note.ensures.slots) c.args.thread c.args.caller (g.S.SlotStore.memory c.note.new.store) c.requires.there c.requires.caller note c.note.ensures.bytes c.set_caller.ensures.bytes c.set_caller.ensures.record).0.state (one-put (state_of c.args.self.now (g.S.SlotMap.slots c.args.store.now) (g.S.SlotStore.memory c.args.store.now)) c.args.thread (ThreadObject _) c.requires.there)) (caller-done c.args.self.now (g.S.SlotMap.slots c.args.store.now) (g.S.SlotMap.slots c.set_caller.new.store) (g.S.SlotStore.memory c.args.store.now) (g.S.SlotStore.memory c.set_caller.new.store) c.requires.stands (c.set_caller.ensures.slots ∙ c.note.ensures.slots) c.args.thread c.args.caller (g.S.SlotStore.memory c.note.new.store) c.requires.there c.requires.caller note c.note.ensures.bytes c.set_caller.ensures.bytes c.set_caller.ensures.record).1
 
 pub returns-clause-stands : goal.returns-clause-stands
 returns-clause-stands g c =
-    let before = state_of c.args.self.now (g.S.SlotMap.slots c.args.store.now) (g.S.SlotStore.memory c.args.store.now) in
-    stands-unmoved c.args.self.now _ (g.S.SlotMap.slots c.args.store.now) (g.S.SlotStore.memory c.args.store.now) c.requires.stands
-    (ap (λ (o : Tables). o.ready) c.set_caller_at.ensures.tables)
-    (moved-to before _ _ (c.set_caller_at.ensures.state _ _) (one-put before c.args.thread (ThreadObject _) c.requires.there))
+    let note = subst (λ (o : Tables). (other : ℕ) → c.args.caller ≡ Some other → replier_at (g.S.SlotStore.memory c.note.new.store) other ≡ noted (threads_by o.entries (g.S.SlotStore.memory c.args.store.now)) c.args.thread other (replier_at (g.S.SlotStore.memory c.args.store.now) other)) c.self.view_is c.note.ensures.noted in
+    (caller-done c.args.self.now (g.S.SlotMap.slots c.args.store.now) (g.S.SlotMap.slots c.set_caller.new.store) (g.S.SlotStore.memory c.args.store.now) (g.S.SlotStore.memory c.set_caller.new.store) c.requires.stands (c.set_caller.ensures.slots ∙ c.note.ensures.slots) c.args.thread c.args.caller (g.S.SlotStore.memory c.note.new.store) c.requires.there c.requires.caller note c.note.ensures.bytes c.set_caller.ensures.bytes c.set_caller.ensures.record).0.stands

@@ -1,26 +1,17 @@
--- The tables change, and the store does not.
-use Rattle.std.proofs.Common.{◌∙◌, ap, sym}
-use Rattle.model.specs.Kernel.State.{ThreadObject}
-use Rattle.objects.proofs.Endpoints.{kind-state}
-use Rattle.objects.proofs.Frames.{moved-to, one-put, same-objects, same-records, stands-unmoved}
+-- One field of the thread changes.
+use Rattle.std.proofs.Common.{refl}
+use Rattle.model.specs.Kernel.State.{ThreadState}
+use Rattle.objects.proofs.OneThread.{field-done, field-objects, record-there}
 use Rattle.objects.proofs.tables.Objects.set_fault_address.Goals as goal
-use Rattle.objects.specs.Tables.{Tables, state_of}
 
-pub set_fault_address_at-requires : goal.set_fault_address_at-requires
-set_fault_address_at-requires g c = sym (kind-state c.args.self.now c.args.thread (g.S.SlotMap.slots c.args.store.now) (g.S.SlotStore.memory c.args.store.now)) ∙ c.requires.there
+pub set_fault_address-requires : goal.set_fault_address-requires
+set_fault_address-requires g c = record { there = record-there c.args.self.now (g.S.SlotMap.slots c.args.store.now) (g.S.SlotStore.memory c.args.store.now) c.requires.stands c.args.thread c.requires.there }
 
 pub returns-clause-state : goal.returns-clause-state
-returns-clause-state g c = c.set_fault_address_at.ensures.state _ _
+returns-clause-state g c = (field-done c.args.self.now (g.S.SlotMap.slots c.args.store.now) (g.S.SlotMap.slots c.set_fault_address.new.store) (g.S.SlotStore.memory c.args.store.now) (g.S.SlotStore.memory c.set_fault_address.new.store) c.requires.stands c.set_fault_address.ensures.slots c.args.thread c.requires.there c.set_fault_address.ensures.bytes _ c.set_fault_address.ensures.record refl refl (λ (t : ThreadState). record t { fault_address = c.args.address }) refl).0.state
 
 pub returns-clause-bytes : goal.returns-clause-bytes
-returns-clause-bytes g c =
-    let before = state_of c.args.self.now (g.S.SlotMap.slots c.args.store.now) (g.S.SlotStore.memory c.args.store.now) in
-    same-objects before _ (g.S.SlotStore.memory c.args.store.now) (g.S.SlotStore.memory c.args.store.now)
-    (moved-to before _ _ (c.set_fault_address_at.ensures.state _ _) (one-put before c.args.thread (ThreadObject _) c.requires.there)) (same-records before (g.S.SlotStore.memory c.args.store.now))
+returns-clause-bytes g c = field-objects c.args.self.now (g.S.SlotMap.slots c.args.store.now) (g.S.SlotMap.slots c.set_fault_address.new.store) (g.S.SlotStore.memory c.args.store.now) (g.S.SlotStore.memory c.set_fault_address.new.store) c.requires.stands c.set_fault_address.ensures.slots c.args.thread c.requires.there c.set_fault_address.ensures.bytes _ c.set_fault_address.ensures.record refl refl (λ (t : ThreadState). record t { fault_address = c.args.address }) refl
 
 pub returns-clause-stands : goal.returns-clause-stands
-returns-clause-stands g c =
-    let before = state_of c.args.self.now (g.S.SlotMap.slots c.args.store.now) (g.S.SlotStore.memory c.args.store.now) in
-    stands-unmoved c.args.self.now _ (g.S.SlotMap.slots c.args.store.now) (g.S.SlotStore.memory c.args.store.now) c.requires.stands
-    (ap (λ (o : Tables). o.ready) c.set_fault_address_at.ensures.tables)
-    (moved-to before _ _ (c.set_fault_address_at.ensures.state _ _) (one-put before c.args.thread (ThreadObject _) c.requires.there))
+returns-clause-stands g c = (field-done c.args.self.now (g.S.SlotMap.slots c.args.store.now) (g.S.SlotMap.slots c.set_fault_address.new.store) (g.S.SlotStore.memory c.args.store.now) (g.S.SlotStore.memory c.set_fault_address.new.store) c.requires.stands c.set_fault_address.ensures.slots c.args.thread c.requires.there c.set_fault_address.ensures.bytes _ c.set_fault_address.ensures.record refl refl (λ (t : ThreadState). record t { fault_address = c.args.address }) refl).0.stands

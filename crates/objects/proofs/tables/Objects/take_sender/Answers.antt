@@ -1,7 +1,8 @@
 -- Nobody waits, or the first is taken.
 use Rattle.std.proofs.Common.{◌∙◌, ap, refl, sym}
 use Rattle.model.specs.Kernel.State.{EndpointObject, endpoint_at, with_object}
-use Rattle.objects.proofs.Endpoints.{changed-endpoint, no-sender, nobody-sends, sender-first}
+use Rattle.objects.proofs.Endpoints.{changed-endpoint}
+use Rattle.objects.proofs.PointsHere.{no-sender, nobody-sends, sender-first}
 use Rattle.objects.proofs.Frames.{kind-served, moved-to, one-changed, same-objects}
 use Rattle.objects.proofs.tables.Objects.take_sender.Goals as goal
 use Rattle.objects.specs.Tables.{sending_in, state_of}
@@ -26,12 +27,12 @@ returns-clause-state g c =
     record {
       head = sender-first c.args.self.now c.args.endpoint (g.S.SlotMap.slots c.args.store.now) (g.S.SlotStore.memory c.args.store.now) c.requires.endpoint c.in-Some.thread (sym c.first_waiting.ensures ∙ c.in-Some.is) c.in-Some-sending_of.sending (sym c.sending_of.ensures ∙ c.in-Some-sending_of.is);
       there = c.serve.ensures.there;
-      state = c.serve.ensures.state ∙ changed-endpoint before c.args.endpoint (served (sending_in c.args.self.now.threads c.in-Some.thread)) c.requires.endpoint
+      state = c.serve.ensures.state ∙ changed-endpoint before c.args.endpoint (served (sending_in c.args.self.now (g.S.SlotStore.memory c.args.store.now) c.in-Some.thread)) c.requires.endpoint
           ∙ ap (λ sending. with_object before c.args.endpoint (served sending (EndpointObject (endpoint_at before c.args.endpoint)))) (sym c.sending_of.ensures ∙ c.in-Some-sending_of.is);
     }
 
 pub returns-clause-bytes : goal.returns-clause-bytes
 returns-clause-bytes g c =
     let before = state_of c.args.self.now (g.S.SlotMap.slots c.args.store.now) (g.S.SlotStore.memory c.args.store.now) in
-    same-objects before _ _ _ (moved-to before _ _ c.serve.ensures.state (one-changed before c.args.endpoint (served (sending_in c.args.self.now.threads c.in-Some.thread)) (kind-served (sending_in c.args.self.now.threads c.in-Some.thread))))
+    same-objects before _ _ _ (moved-to before _ _ c.serve.ensures.state (one-changed before c.args.endpoint (served (sending_in c.args.self.now (g.S.SlotStore.memory c.args.store.now) c.in-Some.thread)) (kind-served (sending_in c.args.self.now (g.S.SlotStore.memory c.args.store.now) c.in-Some.thread))))
     c.serve.ensures.bytes

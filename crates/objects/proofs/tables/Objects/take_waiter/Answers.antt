@@ -1,6 +1,7 @@
 -- Nobody waits, or the first is taken.
 use Rattle.std.proofs.Common.{◌∙◌, refl, sym}
-use Rattle.objects.proofs.Endpoints.{changed-notification, nobody-waits, waiter-first}
+use Rattle.objects.proofs.Endpoints.{changed-notification}
+use Rattle.objects.proofs.PointsHere.{nobody-waits, waiter-first}
 use Rattle.objects.proofs.Frames.{kind-served, moved-to, one-changed, same-objects}
 use Rattle.objects.proofs.tables.Objects.take_waiter.Goals as goal
 use Rattle.objects.specs.Tables.{sending_in, state_of}
@@ -18,11 +19,11 @@ returns-clause-state g c =
     record {
       head = waiter-first c.args.self.now c.args.notification (g.S.SlotMap.slots c.args.store.now) (g.S.SlotStore.memory c.args.store.now) c.requires.there c.in-Some.thread (sym c.first_waiting.ensures ∙ c.in-Some.is);
       there = c.serve.ensures.there;
-      state = c.serve.ensures.state ∙ changed-notification before c.args.notification (served (sending_in c.args.self.now.threads c.in-Some.thread)) c.requires.there;
+      state = c.serve.ensures.state ∙ changed-notification before c.args.notification (served (sending_in c.args.self.now (g.S.SlotStore.memory c.args.store.now) c.in-Some.thread)) c.requires.there;
     }
 
 pub returns-clause-bytes : goal.returns-clause-bytes
 returns-clause-bytes g c =
     let before = state_of c.args.self.now (g.S.SlotMap.slots c.args.store.now) (g.S.SlotStore.memory c.args.store.now) in
-    same-objects before _ _ _ (moved-to before _ _ c.serve.ensures.state (one-changed before c.args.notification (served (sending_in c.args.self.now.threads c.in-Some.thread)) (kind-served (sending_in c.args.self.now.threads c.in-Some.thread))))
+    same-objects before _ _ _ (moved-to before _ _ c.serve.ensures.state (one-changed before c.args.notification (served (sending_in c.args.self.now (g.S.SlotStore.memory c.args.store.now) c.in-Some.thread)) (kind-served (sending_in c.args.self.now (g.S.SlotStore.memory c.args.store.now) c.in-Some.thread))))
     c.serve.ensures.bytes

@@ -1,7 +1,0 @@
--- The table's answer is the state's, whoever waits there.
-use Rattle.objects.proofs.tables.Objects.is_thread.Goals as goal
-use Rattle.objects.specs.Tables.{state_of, told_by, waiting_of}
-
-pub returns : goal.returns
-unfolding state_of told_by
-returns g c = c.has_thread.ensures (waiting_of c.args.self.now (g.S.SlotStore.memory c.args.store.now))

@@ -1,0 +1,18 @@
+-- The bytes tell of the thread.
+use Rattle.std.proofs.Common.{◌∙◌, ap, sym}
+use Rattle.model.specs.Kernel.Scheduling.{is_runnable}
+use Rattle.model.specs.Kernel.State.{ThreadState}
+use Rattle.objects.proofs.OneThread.{of-state, place-there, read-there}
+use Rattle.objects.specs.Contents.{is_thread_kind}
+use Rattle.thread_records.specs.Threads.{status_of}
+use Rattle.thread_records.specs.declared.records.Status.{Status}
+use Rattle.objects.proofs.tables.Objects.runs.Goals as goal
+
+pub status-requires : goal.status-requires
+status-requires g c = record { within = (place-there c.args.self.now (g.S.SlotMap.slots c.args.store.now) (g.S.SlotStore.memory c.args.store.now) c.requires.stands c.args.offset c.requires.there).within }
+
+pub returns : goal.returns
+returns g c =
+    c.is_running.ensures ∙ ap (λ (x : Status). is_runnable (status_of x)) c.status.ensures
+    ∙ ap (λ (t : ThreadState). is_runnable t.status)
+    (sym (read-there c.args.self.now (g.S.SlotMap.slots c.args.store.now) (g.S.SlotStore.memory c.args.store.now) c.args.offset (ap is_thread_kind (of-state c.args.self.now (g.S.SlotMap.slots c.args.store.now) (g.S.SlotStore.memory c.args.store.now) c.args.offset c.requires.there))))

@@ -1,0 +1,2 @@
+-- What the crates above use of these proofs.
+pub use Rattle.thread_records.proofs.Fields.{record_stays}
