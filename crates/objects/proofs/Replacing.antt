@@ -17,8 +17,7 @@ use Rattle.thread_records.specs.Threads.{thread_state}
 use Rattle.objects.specs.Contents.{Record}
 use Rattle.objects.specs.Contents.{Endpoint, Notification, CNode, Frame, PageTable, RootTable}
 use Rattle.thread_records.specs.declared.records.Thread.{Thread}
-use Rattle.objects.proofs.Frames.{kind-put}
-use Rattle.objects.proofs.Told.{state_with, told, told-same}
+use Rattle.objects.proofs.Told.{state_with}
 
 -- ---- threads that are there
 
@@ -104,17 +103,6 @@ module _ (o : Contents) (threads : ℕ → Option Thread) (thread : ℕ) (after 
 
   pub replaced-with : (waiting ready : ℕ → List ℕ) (slots : Slots) (memory : List ℕ) → state_with now waiting ready slots memory ≡ with_thread (state_with o waiting ready slots memory) thread (thread_state after)
   replaced-with waiting ready slots memory = λ i. record (state_with o waiting ready slots memory) { objects = λ other. object-replaced waiting other i }
-
-  module _ (there : is_some (o.threads thread) ≡ true) where
-    pub kinds-replaced : (other : ℕ) → kind_in now other ≡ kind_in o other
-    kinds-replaced other =
-        ap (option_map kind_of) (object-replaced (λ queue. []) other)
-        ∙ kind-put (object_in o (λ queue. [])) thread (ThreadObject (thread_state after)) (some-kind (o.threads thread) _ there) other
-
-    pub replaced-state : (slots : Slots) (memory : List ℕ) → contents_state now slots memory ≡ with_thread (contents_state o slots memory) thread (thread_state after)
-    replaced-state slots memory =
-        told-same o now kinds-replaced slots memory ∙ replaced-with (waiting_of o memory) (ready_at o memory) slots memory
-        ∙ ap (λ (s : State). with_thread s thread (thread_state after)) (sym (told o slots memory))
 
 -- ---- the ready list
 

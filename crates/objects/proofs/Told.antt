@@ -82,9 +82,6 @@ is-thread (Some NewRootTable) is = absurd (let clash : false ≡ true = is in cc
 pub has-thread : (o : Contents) (offset : ℕ) → (places_of o).threads offset ≡ true → kind_in o offset ≡ Some NewThread
 has-thread o offset is = is-thread (kind_in o offset) is
 
-pub thread-has : (o : Contents) (offset : ℕ) → kind_in o offset ≡ Some NewThread → (places_of o).threads offset ≡ true
-thread-has o offset is = ap is_thread_kind is
-
 pub if-head : (b : Bool) (queue head : ℕ) → (if b then Some queue else None) ≡ Some head → (b ≡ true) × (head ≡ queue)
 if-head true queue head is = (refl, let e : Some queue ≡ Some head = is in let f : head ≡ queue = cc in f)
 if-head false queue head is = absurd (let clash : None ≡ Some head = is in cc)
@@ -94,9 +91,6 @@ head-at-point k queue is = ap (λ b. is_some (if b then Some queue else None)) i
 
 pub has-head : (o : Contents) (queue head : ℕ) → (places_of o).heads queue ≡ Some head → (has_waiting (kind_in o queue) ≡ true) × (head ≡ queue)
 has-head o queue head is = if-head (has_waiting (kind_in o queue)) queue head is
-
-pub head-has : (o : Contents) (queue : ℕ) → has_waiting (kind_in o queue) ≡ true → (places_of o).heads queue ≡ Some queue
-head-has o queue is = ap (λ b. if b then Some queue else None) is
 
 -- ---- the tables hold what a kind tells
 
