@@ -12,7 +12,7 @@ use Rattle.model.specs.Kernel.ThreadCalls.{with_priority}
 use Rattle.objects.proofs.Ends.{as-thread}
 use Rattle.objects.proofs.Kept.{put-here, put-there}
 use Rattle.objects.proofs.Lists.{receivers-by, senders-by}
-use Rattle.objects.specs.Contents.{Contents, kind_in, object_from, object_in, object_of, ready_at, sending_in, contents_state, waiting_of}
+use Rattle.objects.specs.Contents.{Contents, kind_in, object_from, object_in, object_of, ready_at, sending_in, contents_state, told_by, waiting_of}
 use Rattle.thread_records.specs.Threads.{thread_state}
 use Rattle.objects.specs.Contents.{Record}
 use Rattle.objects.specs.Contents.{Endpoint, Notification, CNode, Frame, PageTable, RootTable}
@@ -24,7 +24,7 @@ use Rattle.objects.proofs.Told.{state_with}
 -- the state's thread at an offset
 pub thread-state : (o : Contents) (offset : ℕ) (slots : Slots) (memory : List ℕ)
     → thread_at (contents_state o slots memory) offset ≡ option_map_or (λ t. t) (option_map thread_state (o.threads offset)) new_thread
-unfolding contents_state
+unfolding told_by
 thread-state o offset slots memory = ap (λ t. option_map_or (λ t. t) t new_thread) (as-thread o (waiting_of o memory) offset)
 
 pub thread-is : (o : Contents) (offset : ℕ) (t : Thread) (slots : Slots) (memory : List ℕ) → o.threads offset ≡ Some t
@@ -34,7 +34,7 @@ thread-is o offset t slots memory is =
 
 pub thread-kind : (o : Contents) (offset : ℕ) (t : Thread) (slots : Slots) (memory : List ℕ) → o.threads offset ≡ Some t
     → kind_at (contents_state o slots memory) offset ≡ Some NewThread
-unfolding contents_state
+unfolding told_by
 thread-kind o offset t slots memory is = ap (λ found. option_map kind_of (object_from found (option_map (object_of o.threads (waiting_of o memory offset)) (o.records offset)))) is
 
 no-thread-kind : (threads : ℕ → Option Thread) (waiting : List ℕ) (r : Option Record) → option_map kind_of (option_map (object_of threads waiting) r) ≡ Some NewThread → false ≡ true
@@ -108,7 +108,7 @@ module _ (o : Contents) (threads : ℕ → Option Thread) (thread : ℕ) (after 
 
 -- the ready list is the table's
 pub ready-is : (o : Contents) (slots : Slots) (memory : List ℕ) → (contents_state o slots memory).ready ≡ ready_at o memory
-unfolding contents_state
+unfolding told_by
 ready-is o slots memory = refl
 
 -- ---- priorities

@@ -16,7 +16,7 @@ use Rattle.linked_queues.specs.Ready.{ReadyStands, ready_of}
 use Rattle.linked_queues.proofs.Laws.{kinds_apart, ready_stays, waiting_stays}
 use Rattle.objects.specs.Frames.{FitsMemory, IsInRecord}
 use Rattle.objects.proofs.Linked.{AreContents, Linked}
-use Rattle.objects.specs.Contents.{Contents, is_thread_kind, kind_in, object_from, object_of, places_by, places_of, ready_at, contents_state, told_with, waiting_of}
+use Rattle.objects.specs.Contents.{Contents, is_thread_kind, kind_in, object_from, object_of, places_by, places_of, ready_at, contents_state, told_by, told_with, waiting_of}
 use Rattle.objects.specs.Waiting.{has_waiting}
 use Rattle.objects.specs.Contents.{Record}
 use Rattle.objects.specs.Contents.{Endpoint, Notification, CNode, Frame, PageTable, RootTable}
@@ -27,7 +27,7 @@ abbrev pub state_with : Contents → (ℕ → List ℕ) → (ℕ → List ℕ) �
 state_with o waiting ready slots memory = with_slots (told_with o waiting ready memory) slots
 
 pub told : (o : Contents) (slots : Slots) (memory : List ℕ) → contents_state o slots memory ≡ state_with o (waiting_of o memory) (ready_at o memory) slots memory
-unfolding contents_state
+unfolding told_by
 told o slots memory = refl
 
 -- who stands in a queue is a thread that is there, and waits where threads may
@@ -54,7 +54,7 @@ pub kind-with : (o : Contents) (waiting ready : ℕ → List ℕ) (slots : Slots
 kind-with o waiting ready slots memory offset = kind-from o.threads (waiting offset) (o.threads offset) (o.records offset)
 
 pub kind-state : (o : Contents) (offset : ℕ) (slots : Slots) (memory : List ℕ) → kind_at (contents_state o slots memory) offset ≡ kind_in o offset
-unfolding contents_state
+unfolding told_by
 kind-state o offset slots memory = kind-from o.threads (waiting_of o memory offset) (o.threads offset) (o.records offset)
 
 pub same-places : (o n : Contents) → ((offset : ℕ) → kind_in n offset ≡ kind_in o offset) → places_of n ≡ places_of o
@@ -63,7 +63,7 @@ same-places o n same = λ i. places_by (λ offset. same offset i)
 -- tables of the same kinds have the same queues
 pub told-same : (o n : Contents) → ((offset : ℕ) → kind_in n offset ≡ kind_in o offset) → (slots : Slots) (memory : List ℕ)
     → contents_state n slots memory ≡ state_with n (waiting_of o memory) (ready_of (places_of o) n.ready memory) slots memory
-unfolding contents_state
+unfolding told_by
 told-same o n same slots memory = λ i. state_with n (queue_of (same-places o n same i) memory) (ready_of (same-places o n same i) n.ready memory) slots memory
 
 -- ---- threads and what they wait at
@@ -140,11 +140,11 @@ not-open slots slot closed = elim (slots slot) as (λ e. slots slot ≡ e → sl
 ] refl
 
 pub own-slots : (o : Contents) (slots : Slots) (memory : List ℕ) → (contents_state o slots memory).slots ≡ slots
-unfolding contents_state
+unfolding told_by
 own-slots o slots memory = refl
 
 pub own-bits : (o : Contents) (slots : Slots) (memory : List ℕ) → (contents_state o slots memory).memory_bits ≡ o.bits
-unfolding contents_state
+unfolding told_by
 own-bits o slots memory = refl
 
 module _ (o : Contents) (slots : Slots) (memory : List ℕ) (are : AreContents o) (fits : FitsMemory (contents_state o slots memory) memory) where
