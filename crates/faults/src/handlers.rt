@@ -7,6 +7,7 @@ ghost use Rattle.model.specs.Capabilities.Rights.{may_grant_reply, may_write};
 ghost use Rattle.model.specs.Capabilities.Slots.{capability_at};
 ghost use Rattle.model.specs.Kernel.Faults.{handler, handler_in, handler_of};
 ghost use Rattle.model.specs.Kernel.State.{State, cspace_slot};
+ghost use Rattle.objects.specs.Standing.{Standing};
 ghost use Rattle.objects.specs.Tables.{state_of};
 
 use cspace::called_slot;
@@ -70,7 +71,8 @@ pub(crate) fn find_handler<S: SlotStore>(
     objects: &Objects,
     thread: u32,
 ) -> Option<Handler>
-    requires { thread < 2 ^ 24 }
+    requires small { thread < 2 ^ 24 }
+    requires stands { Standing objects.now (S.slots store.now) (S.memory store.now) }
     ensures { option_map handler_told result
         ≡ handler (state_of objects.now (S.slots store.now) (S.memory store.now)) thread }
 {

@@ -86,6 +86,7 @@ pub(crate) fn message_sent<S: SlotStore>(
     objects: &Objects,
     sender: &WaitingSender,
 ) -> Message
+    requires { Standing objects.now (S.slots store.now) (S.memory store.now) }
     ensures { result ≡ message_sent (state_of objects.now (S.slots store.now) (S.memory store.now)) (sender_of sender.now.thread sender.now.sending) (sent_of sender.now.sending.sent) }
 {
     match sender.sending.sent {

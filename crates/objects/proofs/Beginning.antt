@@ -13,7 +13,7 @@ use Rattle.objects.proofs.Kept.{put-here, put-there}
 use Rattle.objects.proofs.Vacating.{other-same}
 use Rattle.objects.specs.Changes.{begun, is_frame_kind}
 use Rattle.objects.proofs.Linked.{Linked}
-use Rattle.objects.specs.Contents.{Contents, byte_in, is_frame, object_from, object_in, object_of, sending_in, contents_state, waiting_of}
+use Rattle.objects.specs.Contents.{Contents, byte_in, is_frame, object_from, object_in, object_of, sending_in, contents_state, told_by, waiting_of}
 use Rattle.objects.specs.Threads.{new_object}
 use Rattle.thread_records.specs.Threads.{thread_state}
 use Rattle.objects.specs.Waiting.{has_waiting}
@@ -70,7 +70,7 @@ never false x y = refl
 
 module _ (o : Contents) (slots : Slots) (memory : List ℕ) (offset : ℕ) (stands : Linked o slots memory) (free : (contents_state o slots memory).objects offset ≡ None) where
   free-object : object_in o (waiting_of o memory) offset ≡ None
-  unfolding contents_state
+  unfolding told_by
   free-object = free
 
   -- nobody is there, and nobody waits there

@@ -11,16 +11,15 @@ use Rattle.model.specs.Kernel.Soundness.{waiting_at}
 use Rattle.model.specs.Kernel.State.{CNodeObject, EndpointObject, EndpointState, FrameObject, NotificationObject, NotificationState, Object, PageTableObject, RootTableObject, State, ThreadObject, Sender, as_endpoint, as_notification, endpoint_at, new_endpoint, new_notification, notification_at, put, with_object}
 use Rattle.objects.proofs.Kept.{put-here, put-there}
 use Rattle.objects.proofs.Serving.{first-receives, first-sends}
-use Rattle.objects.specs.Contents.{Contents, is_frame, kind_in, object_from, object_in, object_of, ready_at, receivers_in, senders_in, sending_in, contents_state, waiting_of}
+use Rattle.objects.specs.Contents.{Contents, is_frame, kind_in, object_from, object_in, object_of, receivers_in, senders_in, sending_in, contents_state, told_by, waiting_of}
 use Rattle.thread_records.specs.Threads.{sender_of}
 use Rattle.objects.specs.Waiting.{IsOneSided, changed_at, has_waiting, with_word}
 use Rattle.objects.specs.Contents.{Record}
 use Rattle.objects.specs.Contents.{Endpoint, Notification, CNode, Frame, PageTable, RootTable}
 use Rattle.thread_records.specs.declared.records.Sending.{Sending}
 use Rattle.thread_records.specs.declared.records.Thread.{Thread}
-use Rattle.objects.proofs.Frames.{kind-put}
 use Rattle.objects.proofs.Lists.{head-rest}
-use Rattle.objects.proofs.Told.{kind-from, state_with, told, told-same}
+use Rattle.objects.proofs.Told.{kind-from, state_with}
 pub use Rattle.objects.proofs.Told.{kind-state}
 
 -- ---- in any state
@@ -101,7 +100,7 @@ module _ (o : Contents) (endpoint : ℕ) (slots : Slots) (memory : List ℕ) (is
   waiting = waiting_of o memory endpoint
 
   endpoint-in : e ≡ record { senders = senders_in o.threads waiting; receivers = receivers_in o.threads waiting }
-  unfolding contents_state
+  unfolding told_by
   endpoint-in = endpoint-from o.threads waiting (o.threads endpoint) (o.records endpoint) is
 
   pub nobody-sends : head_of waiting ≡ None → e.senders ≡ []
@@ -144,7 +143,7 @@ module _ (o : Contents) (notification : ℕ) (slots : Slots) (memory : List ℕ)
   queue = waiting_of o memory notification
 
   waiters-in : n.waiters ≡ queue
-  unfolding contents_state
+  unfolding told_by
   waiters-in = waiters-from o.threads queue (o.threads notification) (o.records notification) is
 
   pub nobody-waits : head_of queue ≡ None → n.waiters ≡ []
@@ -181,7 +180,7 @@ waited-from threads waiting None (Some RootTable) = (λ _. refl, λ _. refl)
 
 pub waited-in : (o : Contents) (slots : Slots) (memory : List ℕ) (offset : ℕ) (waited : Bool) → waited ≡ (has_waiting (kind_in o offset) && is_some (head_of (waiting_of o memory offset)))
     → (waited ≡ false) ↔ (waiting_at ((contents_state o slots memory).objects offset) ≡ [])
-unfolding contents_state
+unfolding told_by
 waited-in o slots memory offset waited is =
     let same = waited-from o.threads (waiting_of o memory offset) (o.threads offset) (o.records offset) in
     (λ none. same.0 (sym is ∙ none), λ none. is ∙ same.1 none)
@@ -252,11 +251,3 @@ module _ (o : Contents) (records : ℕ → Option Record) (notification word : �
     objects = λ other. object-word waiting other i;
     bytes = λ place. ap (λ b. if b then Some (slice_index memory place) else None) (frame-word (frame_around place)) i;
   }
-
-  kinds-word : (other : ℕ) → kind_in now other ≡ kind_in o other
-  kinds-word other = ap (option_map kind_of) (object-word (λ queue. []) other) ∙ kind-put (object_in o (λ queue. [])) notification (value (λ queue. [])) is other
-
-  pub word-state : (slots : Slots) (memory : List ℕ) → contents_state now slots memory ≡ with_word (contents_state o slots memory) notification word
-  word-state slots memory =
-      told-same o now kinds-word slots memory ∙ word-with (waiting_of o memory) (ready_at o memory) slots memory
-      ∙ ap (λ (s : State). with_word s notification word) (sym (told o slots memory))

@@ -6,7 +6,7 @@ use Rattle.std.proofs.lemmas.Bool.Decides.{eqb_tells}
 use Rattle.model.specs.Capabilities.Slots.{Slots}
 use Rattle.model.specs.Kernel.Scheduling.{all_leave, leaves, without_threads}
 use Rattle.model.specs.Kernel.State.{Object, State, ThreadState, as_thread}
-use Rattle.objects.specs.Contents.{Contents, object_from, object_in, object_of, contents_state, waiting_of}
+use Rattle.objects.specs.Contents.{Contents, object_from, object_in, object_of, contents_state, told_by, waiting_of}
 use Rattle.thread_records.specs.Threads.{thread_state}
 use Rattle.objects.specs.Contents.{Record}
 use Rattle.objects.specs.Contents.{Endpoint, Notification, CNode, Frame, PageTable, RootTable}
@@ -49,7 +49,7 @@ module _ (o : Contents) (offset : ℕ) (slots : Slots) (memory : List ℕ) where
   s = contents_state o slots memory
 
   ends-at : (other : ℕ) → ends_thread s offset other ≡ option_map_or (λ _. offset == other) (option_map thread_state (o.threads other)) false
-  unfolding contents_state
+  unfolding told_by
   ends-at other = ap (λ t. option_map_or (λ _. offset == other) t false) (as-thread o (waiting_of o memory) other)
 
   ends-elsewhere : (other : ℕ) → (offset == other) ≡ false → ends_thread s offset other ≡ false

@@ -8,7 +8,7 @@ use Rattle.model.specs.Kernel.State.{State, with_slots}
 use Rattle.model.specs.declared.slot_entries.Entry.{Entry}
 use Rattle.objects.specs.Frames.{FitsMemory, IsInRecord, SameBesideFrames, SameKept}
 use Rattle.objects.proofs.Linked.{Linked}
-use Rattle.objects.specs.Contents.{Contents, byte_in, is_frame, object_with, ready_at, contents_state, waiting_of}
+use Rattle.objects.specs.Contents.{Contents, byte_in, is_frame, object_with, ready_at, contents_state, told_by, waiting_of}
 use Rattle.objects.proofs.Told.{ready-on, ready-same, state_with, waiting-on, waiting-same}
 pub use Rattle.objects.proofs.Told.{not-open, own-slots}
 
@@ -38,19 +38,19 @@ module _ (o : Contents) (slots : Slots) (old new : List ℕ) where
       ] refl
 
   own-bytes : (place : ℕ) → s.bytes place ≡ byte_in o.records old place
-  unfolding contents_state
+  unfolding told_by
   own-bytes place = refl
 
   -- where the bytes of frames are the same, the state is that of the bytes before, with those that wait and are ready now
   pub follows-bytes : (now : Slots) → ((place byte : ℕ) → byte_in o.records old place ≡ Some byte → slice_index new place ≡ slice_index old place)
       → contents_state o now new ≡ state_with o (waiting_of o new) (ready_at o new) now old
-  unfolding contents_state
+  unfolding told_by
   follows-bytes now same = λ i. record (contents_state o now new) { bytes = λ place. byte-same same place i }
 
   -- ---- the bytes of frames and of records are the same
 
   pub follows-kept : (now : Slots) → Linked o slots old → SameKept s old new → contents_state o now new ≡ with_slots s now
-  unfolding contents_state
+  unfolding told_by
   follows-kept now stands same = λ i. record (contents_state o now new) {
     objects = λ offset. object_with o (waiting-same o slots old new stands same.size same.records offset i) offset;
     ready = λ priority. ready-same o slots old new stands same.size same.records priority i;
@@ -106,7 +106,7 @@ module _ (o : Contents) (slots : Slots) (old new : List ℕ) where
 
   pub follows-frames : Linked o slots old → SameBesideFrames s old new
       → contents_state o slots new ≡ record s { bytes = λ place. option_map (λ _. slice_index new place) (s.bytes place) }
-  unfolding contents_state
+  unfolding told_by
   follows-frames stands same = λ i. record s {
     objects = λ offset. object_with o (waiting-same o slots old new stands same.size (beside-records stands same) offset i) offset;
     ready = λ priority. ready-same o slots old new stands same.size (beside-records stands same) priority i;
@@ -135,5 +135,5 @@ framed-byte false now byte is = absurd (let clash : None ≡ Some byte = is in c
 
 -- where a state has a byte, memory has it
 pub byte-there : (o : Contents) (slots : Slots) (memory : List ℕ) (place byte : ℕ) → (contents_state o slots memory).bytes place ≡ Some byte → byte ≡ slice_index memory place
-unfolding contents_state
+unfolding told_by
 byte-there o slots memory place byte is = framed-byte (option_map_or is_frame (o.records (frame_around place)) false) (slice_index memory place) byte is

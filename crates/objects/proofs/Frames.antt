@@ -1,24 +1,15 @@
 -- Calls that change records of objects leave the same objects, and what stands stands.
-use Rattle.std.proofs.Common.{ℕ, ◌≡◌, ◌∙◌, ◌+◌, ◌/◌, ◌^◌, ◌<◌, ◌≤◌, ◌⊎◌, inl, inr, Bool, true, false, if◌then◌else◌, Option, Some, None, option_map, List, length, refl, sym, ap, subst, arith}
+use Rattle.std.proofs.Common.{ℕ, ◌≡◌, ◌∙◌, ◌+◌, ◌/◌, ◌^◌, ◌<◌, ◌≤◌, ◌⊎◌, inl, inr, Bool, true, if◌then◌else◌, Option, Some, None, option_map, List, length, refl, sym, ap, subst, arith}
 use Rattle.std.proofs.lemmas.Bool.Decides.{eqb_tells}
-use Rattle.model.specs.Capabilities.Slots.{IsOpen, Slots}
+use Rattle.model.specs.Capabilities.Slots.{IsOpen}
 use Rattle.model.specs.Kernel.Kinds.{kind_at, kind_of}
-use Rattle.model.specs.Kernel.Retype.{NewObject, NewEndpoint, NewNotification, NewThread, object_bits}
-use Rattle.model.specs.Kernel.Scheduling.{at_tail, is_runnable, unready, without_threads}
-use Rattle.model.specs.Kernel.State.{Object, CNodeObject, EndpointObject, FrameObject, NotificationObject, PageTableObject, RootTableObject, State, ThreadObject, ThreadState, put, thread_at, with_object, with_thread}
-use Rattle.model.specs.Kernel.ThreadCalls.{with_priority}
+use Rattle.model.specs.Kernel.Retype.{NewObject, object_bits}
+use Rattle.model.specs.Kernel.Scheduling.{without_threads}
+use Rattle.model.specs.Kernel.State.{Object, CNodeObject, EndpointObject, FrameObject, NotificationObject, PageTableObject, RootTableObject, State, ThreadObject, put, with_object}
 use Rattle.objects.proofs.Kept.{put-there}
-use Rattle.objects.proofs.Told.{kind-state, same-places}
 use Rattle.objects.specs.Frames.{FitsMemory, IsInRecord, SameBesideObjects, SameBesideRecords, SameElsewhere, SameObjects, has_record}
-use Rattle.objects.proofs.Linked.{Linked}
-use Rattle.objects.specs.Contents.{Contents, places_of, contents_state}
-use Rattle.objects.specs.Waiting.{ReceiverTaken, SenderTaken, WaiterTaken, changed_at, joined, served}
+use Rattle.objects.specs.Waiting.{changed_at, joined, served}
 use Rattle.thread_records.specs.declared.records.Sending.{Sending}
-use Rattle.objects.specs.declared.records.WaitingSender.{WaitingSender}
-use Rattle.queues.specs.Layout.{Places}
-use Rattle.queues.specs.Queues.{QueuesStand}
-use Rattle.queues.specs.Ready.{ReadyStands}
-use Rattle.queues.specs.declared.words.Ends.{Ends}
 
 -- ---- kinds
 
@@ -96,29 +87,6 @@ one-changed s place change same = record {
   bits = refl;
 }
 
-pub with-priority : (s : State) (thread priority : ℕ) → kind_at s thread ≡ Some NewThread → Unmoved s (with_priority s thread priority)
-with-priority s thread priority is =
-    let t : ThreadState = record (thread_at s thread) { priority = priority } in
-    elim (is_runnable t.status) as (λ b. Unmoved s (if b then at_tail (with_thread (unready s thread) thread t) thread else with_thread s thread t)) [
-      | true ↦ record { kinds = kind-put s.objects thread (ThreadObject t) is; bytes = refl; slots = refl; bits = refl }
-      | false ↦ record { kinds = kind-put s.objects thread (ThreadObject t) is; bytes = refl; slots = refl; bits = refl }
-    ]
-
-pub sender-taken : (s : State) (endpoint : ℕ) (result : Option WaitingSender) (t : State) → kind_at s endpoint ≡ Some NewEndpoint
-    → SenderTaken s endpoint result t → Unmoved s t
-sender-taken s endpoint None t is taken = moved-to s t s taken.state (same-state s)
-sender-taken s endpoint (Some w) t is taken = moved-to s t _ taken.state (one-put s endpoint (EndpointObject _) is)
-
-pub receiver-taken : (s : State) (endpoint : ℕ) (result : Option ℕ) (t : State) → kind_at s endpoint ≡ Some NewEndpoint
-    → ReceiverTaken s endpoint result t → Unmoved s t
-receiver-taken s endpoint None t is taken = moved-to s t s taken.state (same-state s)
-receiver-taken s endpoint (Some thread) t is taken = moved-to s t _ taken.state (one-put s endpoint (EndpointObject _) is)
-
-pub waiter-taken : (s : State) (notification : ℕ) (result : Option ℕ) (t : State) → kind_at s notification ≡ Some NewNotification
-    → WaiterTaken s notification result t → Unmoved s t
-waiter-taken s notification None t is taken = moved-to s t s taken.state (same-state s)
-waiter-taken s notification (Some thread) t is taken = moved-to s t _ taken.state (one-put s notification (NotificationObject _) is)
-
 -- ---- one call
 
 pub same-records : (s : State) (memory : List ℕ) → SameBesideRecords s memory memory
@@ -181,20 +149,6 @@ fits-less s t old new fits bits long opens none kinds =
       records = λ place is_open held. fits.records place (opens (place / 16) is_open) (before place held);
       apart = λ place held. none place (fits.apart place (before place held));
       alone = λ place one two. fits.alone place (before place one) (before place two);
-    }
-
--- the tables change but for the queues, and the store does not
-pub stands-unmoved : (o n : Contents) (slots : Slots) (memory : List ℕ) → Linked o slots memory → n.ready ≡ o.ready
-    → Unmoved (contents_state o slots memory) (contents_state n slots memory) → Linked n slots memory
-stands-unmoved o n slots memory stands ready unmoved =
-    let same = same-places o n (λ offset. sym (kind-state n offset slots memory) ∙ unmoved.kinds offset ∙ kind-state o offset slots memory) in
-    record {
-      fits = fits-less (contents_state o slots memory) (contents_state n slots memory) memory memory stands.fits unmoved.bits refl
-          (λ slot is_open. subst (λ (f : Slots). IsOpen f slot) unmoved.slots is_open)
-          (λ place none. ap (λ (f : ℕ → Option ℕ). f place) unmoved.bytes ∙ none)
-          (λ offset kind is. sym (unmoved.kinds offset) ∙ is);
-      waiting = subst (λ (p : Places). QueuesStand p memory) (sym same) stands.waiting;
-      ready = subst (λ (p : Places). ReadyStands p n.ready memory) (sym same) (subst (λ (e : List Ends). ReadyStands (places_of o) e memory) (sym ready) stands.ready);
     }
 
 -- ---- one call after another

@@ -16,7 +16,7 @@ use Rattle.queues.specs.declared.words.Ends.{Ends}
 use Rattle.queues.proofs.Laws.{begins_empty}
 use Rattle.objects.proofs.Holding.{placed-here}
 use Rattle.objects.specs.Contents as contents
-use Rattle.objects.specs.Contents.{byte_in, contents_state, is_frame, is_thread_kind, object_from, object_in, object_of}
+use Rattle.objects.specs.Contents.{byte_in, contents_state, told_by, is_frame, is_thread_kind, object_from, object_in, object_of}
 use Rattle.objects.specs.Frames.{FitsMemory}
 use Rattle.objects.specs.Rights.{has_right}
 use Rattle.objects.specs.Standing.{Standing}
@@ -86,7 +86,7 @@ module _ (bits radix : ℕ) (ready : List Ends) (nobody : (places : Places) (mem
   no-kind offset = ap kind_of_entry (nothing offset)
 
   pub fresh-state : (slots : Slots) (memory : List ℕ) → state_of o slots memory ≡ with_slots (boot_area bits radix) slots
-  unfolding state_of contents_state boot_area
+  unfolding state_of told_by boot_area
   fresh-state slots memory = λ i. record (with_slots (boot_area bits radix) slots) {
     objects = λ offset. no-object memory (contents.waiting_of (contents_of o memory) memory) offset i;
     ready = λ priority. nobody (contents.places_of (contents_of o memory)) memory priority i;

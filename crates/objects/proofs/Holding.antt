@@ -47,10 +47,6 @@ kind-as o memory offset = entry-kind (contents_of o memory).threads (entry_in o.
 pub places-as : (o : Tables) (memory : List ℕ) → contents.places_of (contents_of o memory) ≡ places_of o
 places-as o memory = λ i. places_by (λ offset. kind-as o memory offset i)
 
-pub state-as : (o : Tables) (slots : Slots) (memory : List ℕ) → state_of o slots memory ≡ contents_state (contents_of o memory) slots memory
-unfolding state_of
-state-as o slots memory = refl
-
 pub kind-state : (o : Tables) (offset : ℕ) (slots : Slots) (memory : List ℕ) → kind_at (state_of o slots memory) offset ≡ kind_in o offset
 unfolding state_of
 kind-state o offset slots memory = told.kind-state (contents_of o memory) offset slots memory ∙ kind-as o memory offset

@@ -1,5 +1,5 @@
 -- Lists without a thread, and the bytes of links.
-use Rattle.std.proofs.Common.{ℕ, ◌≡◌, ◌∙◌, ◌+◌, ◌<◌, ◌≤◌, if◌then◌else◌, Some, None, List, [], ◌∷◌, drop, refl, ap, arith}
+use Rattle.std.proofs.Common.{ℕ, ◌≡◌, ◌∙◌, ◌+◌, ◌<◌, ◌≤◌, if◌then◌else◌, Some, None, List, [], ◌∷◌, refl, ap, arith}
 use Rattle.std.proofs.lemmas.Bool.{eq-eqb}
 use Rattle.std.proofs.lemmas.Bool.Decides.{nat_tests}
 use Rattle.model.specs.Kernel.Scheduling.{head_of}
@@ -22,10 +22,6 @@ times-less (t ∷ rest) gone thread = grind (arith, nat_tests, times-less rest g
 pub times-gone : (threads : List ℕ) (gone : ℕ) → times_in (without gone threads) gone ≡ 0
 times-gone [] gone = refl
 times-gone (t ∷ rest) gone = grind (arith, nat_tests, times-gone rest gone)
-
-times-drop : (threads : List ℕ) (thread : ℕ) → times_in (drop 1 threads) thread ≤ times_in threads thread
-times-drop [] thread = omega arith
-times-drop (t ∷ rest) thread = grind (arith, nat_tests)
 
 pub times-first : (threads : List ℕ) (thread : ℕ) → head_of threads ≡ Some thread → 0 < times_in threads thread
 times-first [] thread first = absurd (let clash : None ≡ Some thread = first in cc)

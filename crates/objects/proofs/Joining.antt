@@ -12,7 +12,7 @@ use Rattle.objects.proofs.Kept.{put-here, put-there}
 use Rattle.objects.proofs.Lists.{receivers-by, receivers-same, senders-by, senders-same}
 use Rattle.objects.proofs.Vacating.{other-same}
 use Rattle.objects.proofs.Linked.{Linked}
-use Rattle.objects.specs.Contents.{Contents, object_from, object_in, object_of, sending_in, contents_state, waiting_of}
+use Rattle.objects.specs.Contents.{Contents, object_from, object_in, object_of, sending_in, contents_state, told_by, waiting_of}
 use Rattle.thread_records.specs.Threads.{sender_of}
 use Rattle.objects.specs.Waiting.{StandsNowhere, changed_at, has_waiting, joined}
 use Rattle.objects.specs.Contents.{Record}
@@ -71,7 +71,7 @@ no-thread-waits (Some t) p is = absurd (let clash : false ≡ true = is in cc)
 no-thread-waits None p is = refl
 
 pub free-queue : (o : Contents) (slots : Slots) (memory : List ℕ) (queue : ℕ) → has_waiting (kind_at (contents_state o slots memory) queue) ≡ true → o.threads queue ≡ None
-unfolding contents_state
+unfolding told_by
 free-queue o slots memory queue = no-thread-waits (o.threads queue) _
 
 -- who waits at an object stands in its queue
@@ -90,7 +90,7 @@ waits-queued threads waiting thread None (Some RootTable) is = absurd (let clash
 -- so who waits at no object stands in no queue
 pub nowhere-queued : (o : Contents) (slots : Slots) (memory : List ℕ) (thread : ℕ) → Linked o slots memory → StandsNowhere (contents_state o slots memory).objects thread
     → (queue : ℕ) → times_in (waiting_of o memory queue) thread ≡ 0
-unfolding contents_state
+unfolding told_by
 nowhere-queued o slots memory thread stands apart queue = elim (cases_lt 0 (times_in (waiting_of o memory queue) thread)) [
   | inl some ↦
       let waits = waits-queued o.threads (waiting_of o memory queue) thread (o.threads queue) (o.records queue) (waited o slots memory stands queue thread some) in

@@ -5,7 +5,7 @@ use Rattle.std.proofs.lemmas.List.{get_or-set_other, get_or-set_same}
 use Rattle.model.specs.Capabilities.Slots.{Slots}
 use Rattle.model.specs.Kernel.Interrupts.{with_pending}
 use Rattle.model.specs.Kernel.State.{put}
-use Rattle.objects.specs.Contents.{contents_state}
+use Rattle.objects.specs.Contents.{told_by}
 use Rattle.objects.specs.Standing.{Standing}
 use Rattle.objects.specs.Tables.{Tables, state_of}
 
@@ -24,7 +24,7 @@ module _ (o before : Tables) (index line : ℕ) (bit : Bool) (here : index ≡ l
   masked-at : index < length o.masked
       → state_of (record o { masked = set o.masked index bit }) slots memory
       ≡ record (state_of o slots memory) { masked = put (state_of o slots memory).masked index bit }
-  unfolding state_of contents_state
+  unfolding state_of told_by
   masked-at less = λ i. record (state_of o slots memory) { masked = λ other. bit-set o.masked index bit less other i }
 
   pub masked-state : index < length o.masked
@@ -37,7 +37,7 @@ module _ (o before : Tables) (index line : ℕ) (bit : Bool) (here : index ≡ l
 
   pending-at : index < length o.pending
       → state_of (record o { pending = set o.pending index bit }) slots memory ≡ with_pending (state_of o slots memory) index bit
-  unfolding state_of contents_state
+  unfolding state_of told_by
   pending-at less = λ i. record (state_of o slots memory) { pending = λ other. bit-set o.pending index bit less other i }
 
   pub pending-state : index < length o.pending
@@ -48,7 +48,7 @@ module _ (o before : Tables) (index line : ℕ) (bit : Bool) (here : index ≡ l
 -- what stands does with other lines
 pub lines-stand : (o : Tables) (masked pending : List Bool) (slots : Slots) (memory : List ℕ) → Standing o slots memory
     → Standing (record o { masked = masked; pending = pending }) slots memory
-unfolding state_of contents_state
+unfolding state_of told_by
 lines-stand o masked pending slots memory stands = record {
   placed = stands.placed;
   fits = record { size = stands.fits.size; frames = stands.fits.frames; records = stands.fits.records; apart = stands.fits.apart; alone = stands.fits.alone };

@@ -3,7 +3,6 @@ use Rattle.std.proofs.Common.{ℕ, ◌≡◌, ◌∙◌, ◌+◌, ◌*◌, ◌<�
 use Rattle.std.specs.Prelude.{slice_index}
 use Rattle.std.proofs.lemmas.Bool.{cases_lt}
 use Rattle.model.proofs.BytesLemmas.{length-written, slice_index-written_before, slice_index-written_behind, word_at-same, word_at-written, word_at-written_before}
-use Rattle.model.specs.Kernel.Kinds.{kind_of}
 use Rattle.model.specs.Kernel.State.{new_thread}
 use Rattle.model.specs.Shared.Bytes.{word_at, word_bytes, written}
 use Rattle.queues.specs.Ready.{nobody}
@@ -11,9 +10,6 @@ use Rattle.queues.specs.Words.{end_at, link_at, somebody, with_ends, without_lin
 use Rattle.queues.proofs.Laws.{begins_empty}
 use Rattle.objects.specs.Laid.{BegunAt, SameBesidePoint}
 use Rattle.objects.specs.Rights.{SameBesideReplier}
-use Rattle.objects.specs.Threads.{new_object}
-use Rattle.objects.specs.Waiting.{has_waiting}
-use Rattle.objects.specs.declared.records.Kind.{Kind}
 use Rattle.objects.specs.declared.records.Kind.TheVariants as kinds
 use Rattle.thread_records.proofs.Laws.{record_stays}
 use Rattle.thread_records.specs.Records as thread_words
@@ -90,27 +86,3 @@ module _ (old a new : List ℕ) (offset : ℕ) (within : offset + 16 ≤ length 
 
   pub point-word : word_at new (offset + 8) ≡ 0
   point-word = ap (λ (m : List ℕ). word_at m (offset + 8)) bytes ∙ word_at-written a (offset + 8) 0 inside (omega arith)
-
-pub point-made : (kind : Kind) (old new : List ℕ) (offset : ℕ) → has_waiting (Some (kind_of (new_object kind))) ≡ true → SameBesidePoint offset old new
-    → ((number : ℕ) → number < 2 → end_at new offset number ≡ None) → word_at new (offset + 8) ≡ 0 → BegunAt kind offset old new
-point-made kinds.Endpoint old new offset waits same unwaited word = record {
-  size = same.size;
-  bytes = λ place apart. same.bytes place (λ from below. apart (omega (arith, from)) (omega (arith, below)) refl);
-  thread = λ clash. absurd cc;
-  unlinked = λ clash. absurd (let e : false ≡ true = clash in cc);
-  unwaited = λ _. unwaited;
-  word = λ _. word;
-}
-point-made kinds.Notification old new offset waits same unwaited word = record {
-  size = same.size;
-  bytes = λ place apart. same.bytes place (λ from below. apart (omega (arith, from)) (omega (arith, below)) refl);
-  thread = λ clash. absurd cc;
-  unlinked = λ clash. absurd (let e : false ≡ true = clash in cc);
-  unwaited = λ _. unwaited;
-  word = λ _. word;
-}
-point-made kinds.Thread old new offset waits same unwaited word = absurd (let clash : false ≡ true = waits in cc)
-point-made (kinds.CNode radix) old new offset waits same unwaited word = absurd (let clash : false ≡ true = waits in cc)
-point-made kinds.Frame old new offset waits same unwaited word = absurd (let clash : false ≡ true = waits in cc)
-point-made kinds.PageTable old new offset waits same unwaited word = absurd (let clash : false ≡ true = waits in cc)
-point-made kinds.RootTable old new offset waits same unwaited word = absurd (let clash : false ≡ true = waits in cc)

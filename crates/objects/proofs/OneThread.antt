@@ -28,7 +28,7 @@ use Rattle.removal_laws.specs.Steps.{ends_thread}
 use Rattle.std.proofs.lemmas.Bool.{cases_lt}
 use Rattle.objects.proofs.Stranded.{stranded-at, stranded-nobody}
 use Rattle.objects.specs.Contents as contents
-use Rattle.objects.specs.Contents.{contents_state, is_thread_kind, object_in}
+use Rattle.objects.specs.Contents.{contents_state, told_by, is_thread_kind, object_in}
 use Rattle.removal_laws.specs.Finishing.{is_stranded, waits_nowhere}
 use Rattle.objects.specs.Frames.{SameBesideRecords, SameObjects}
 use Rattle.objects.specs.Laid.{IsThreadPlace}
@@ -103,7 +103,7 @@ module _ (o : Tables) (slots : Slots) (memory : List ℕ) where
 
   -- objects, and who is stranded
   pub objects-of : (x : ℕ) → (state_of o slots memory).objects x ≡ object_in (contents_of o memory) (contents.waiting_of (contents_of o memory) memory) x
-  unfolding state_of contents_state
+  unfolding state_of told_by
   objects-of x = refl
 
   pub stranded-there : (thread : ℕ) → is_thread_kind (kind_in o thread) ≡ true

@@ -25,7 +25,7 @@ use Rattle.objects.proofs.Told.{laid-out, state_with, told}
 use Rattle.objects.proofs.Writing.{threads-record, threads-replier, void-fewer, void-gone}
 use Rattle.objects.specs.Changes.{vacated, voided}
 use Rattle.objects.specs.Contents as contents
-use Rattle.objects.specs.Contents.{Contents, Record, contents_state, places_by}
+use Rattle.objects.specs.Contents.{Contents, Record, contents_state, told_by, places_by}
 use Rattle.objects.specs.Frames.{SameBesideRecords}
 use Rattle.objects.specs.Laid.{AreThreadsPlaced, SameBesideThreads}
 use Rattle.objects.specs.Rights.{AreKnown, has_right}
@@ -86,7 +86,7 @@ module _ (o : Tables) (before after : Slots) (old : List ℕ) (stands : Standing
     runs-there = subst (λ (q : Places). ReadyStands q x.ready a) places-of left.stands.ready
 
     carry : SameBesideContents o a b → Left x after b t
-    unfolding contents_state
+    unfolding told_by
     carry same =
         let u : State = contents_state x after a in
         let waits : (queue : ℕ) → queue_of (contents.places_of x) b queue ≡ queue_of (contents.places_of x) a queue =

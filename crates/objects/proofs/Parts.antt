@@ -149,14 +149,6 @@ module _ (o : Tables) (slots : Slots) (memory : List ℕ) (fits : FitsMemory (st
         let at = same-point queue other place waits waits' (omega (arith, held.0), omega (arith, held.1)) (held'.0, omega (arith, held'.1)) in
         absurd (omega (arith, held.0, held'.1, at)))
 
-    pub links-records : SameBesideRecords s old new
-    links-records = record {
-      size = same.size;
-      bytes = λ place apart. same.bytes place
-          (λ thread is held. apart (in-thread s thread place (thread-is thread is) (omega (arith, held.0)) (omega (arith, held.1))))
-          (λ queue waits held. apart (in-point s queue place (point-is queue waits) (omega (arith, held.0)) (omega (arith, held.1))).0);
-    }
-
   -- ---- only contents change
 
   module _ (old new : List ℕ) (same : SameBesideContents o old new) where

@@ -12,20 +12,19 @@ use Rattle.model.specs.Kernel.ThreadCalls.{with_priority}
 use Rattle.objects.proofs.Ends.{as-thread}
 use Rattle.objects.proofs.Kept.{put-here, put-there}
 use Rattle.objects.proofs.Lists.{receivers-by, senders-by}
-use Rattle.objects.specs.Contents.{Contents, kind_in, object_from, object_in, object_of, ready_at, sending_in, contents_state, waiting_of}
+use Rattle.objects.specs.Contents.{Contents, kind_in, object_from, object_in, object_of, ready_at, sending_in, contents_state, told_by, waiting_of}
 use Rattle.thread_records.specs.Threads.{thread_state}
 use Rattle.objects.specs.Contents.{Record}
 use Rattle.objects.specs.Contents.{Endpoint, Notification, CNode, Frame, PageTable, RootTable}
 use Rattle.thread_records.specs.declared.records.Thread.{Thread}
-use Rattle.objects.proofs.Frames.{kind-put}
-use Rattle.objects.proofs.Told.{state_with, told, told-same}
+use Rattle.objects.proofs.Told.{state_with}
 
 -- ---- threads that are there
 
 -- the state's thread at an offset
 pub thread-state : (o : Contents) (offset : ℕ) (slots : Slots) (memory : List ℕ)
     → thread_at (contents_state o slots memory) offset ≡ option_map_or (λ t. t) (option_map thread_state (o.threads offset)) new_thread
-unfolding contents_state
+unfolding told_by
 thread-state o offset slots memory = ap (λ t. option_map_or (λ t. t) t new_thread) (as-thread o (waiting_of o memory) offset)
 
 pub thread-is : (o : Contents) (offset : ℕ) (t : Thread) (slots : Slots) (memory : List ℕ) → o.threads offset ≡ Some t
@@ -35,7 +34,7 @@ thread-is o offset t slots memory is =
 
 pub thread-kind : (o : Contents) (offset : ℕ) (t : Thread) (slots : Slots) (memory : List ℕ) → o.threads offset ≡ Some t
     → kind_at (contents_state o slots memory) offset ≡ Some NewThread
-unfolding contents_state
+unfolding told_by
 thread-kind o offset t slots memory is = ap (λ found. option_map kind_of (object_from found (option_map (object_of o.threads (waiting_of o memory offset)) (o.records offset)))) is
 
 no-thread-kind : (threads : ℕ → Option Thread) (waiting : List ℕ) (r : Option Record) → option_map kind_of (option_map (object_of threads waiting) r) ≡ Some NewThread → false ≡ true
@@ -105,22 +104,11 @@ module _ (o : Contents) (threads : ℕ → Option Thread) (thread : ℕ) (after 
   pub replaced-with : (waiting ready : ℕ → List ℕ) (slots : Slots) (memory : List ℕ) → state_with now waiting ready slots memory ≡ with_thread (state_with o waiting ready slots memory) thread (thread_state after)
   replaced-with waiting ready slots memory = λ i. record (state_with o waiting ready slots memory) { objects = λ other. object-replaced waiting other i }
 
-  module _ (there : is_some (o.threads thread) ≡ true) where
-    pub kinds-replaced : (other : ℕ) → kind_in now other ≡ kind_in o other
-    kinds-replaced other =
-        ap (option_map kind_of) (object-replaced (λ queue. []) other)
-        ∙ kind-put (object_in o (λ queue. [])) thread (ThreadObject (thread_state after)) (some-kind (o.threads thread) _ there) other
-
-    pub replaced-state : (slots : Slots) (memory : List ℕ) → contents_state now slots memory ≡ with_thread (contents_state o slots memory) thread (thread_state after)
-    replaced-state slots memory =
-        told-same o now kinds-replaced slots memory ∙ replaced-with (waiting_of o memory) (ready_at o memory) slots memory
-        ∙ ap (λ (s : State). with_thread s thread (thread_state after)) (sym (told o slots memory))
-
 -- ---- the ready list
 
 -- the ready list is the table's
 pub ready-is : (o : Contents) (slots : Slots) (memory : List ℕ) → (contents_state o slots memory).ready ≡ ready_at o memory
-unfolding contents_state
+unfolding told_by
 ready-is o slots memory = refl
 
 -- ---- priorities

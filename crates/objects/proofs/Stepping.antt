@@ -1,7 +1,6 @@
 -- A call that changes queues leaves a state, and what stands stands.
-use Rattle.std.proofs.Common.{ℕ, ◌≡◌, ◌≢◌, ◌∙◌, ◌==◌, inl, inr, true, false, if◌then◌else◌, Option, Some, None, is_some, option_map, List, [], ◌∷◌, ◌++◌, drop, length, refl, sym, ap, subst, arith}
+use Rattle.std.proofs.Common.{ℕ, ◌≡◌, ◌≢◌, ◌∙◌, ◌==◌, inl, inr, true, false, if◌then◌else◌, Option, Some, None, option_map, List, [], ◌∷◌, ◌++◌, drop, length, refl, sym, ap, subst}
 use Rattle.std.specs.Prelude.{slice_index}
-use Rattle.std.proofs.lemmas.Bool.{cases_lt}
 use Rattle.std.proofs.lemmas.Bool.Decides.{eqb_tells}
 use Rattle.model.specs.Capabilities.Slots.{IsOpen, Slots}
 use Rattle.model.specs.Kernel.Kinds.{frame_around, kind_at, kind_of}
@@ -21,9 +20,9 @@ use Rattle.objects.proofs.Frames.{Unmoved, fits-less, kind-joined, kind-left, ki
 use Rattle.objects.proofs.InQueues.{ready-records, times-gone, waiting-records}
 use Rattle.objects.proofs.Joining.{free-queue, joined-state, nowhere-queued}
 use Rattle.objects.proofs.Leaving.{left-state}
-use Rattle.objects.proofs.Replacing.{ready-is, thread-there}
+use Rattle.objects.proofs.Replacing.{ready-is}
 use Rattle.objects.proofs.Serving.{served-state}
-use Rattle.objects.proofs.Told.{AreThere, kind-state, kind-with, same-places, state_with, told}
+use Rattle.objects.proofs.Told.{kind-state, kind-with, same-places, state_with, told}
 use Rattle.objects.proofs.Vacating.{vacated-state}
 use Rattle.objects.specs.Changes.{vacated, voided}
 use Rattle.objects.specs.Frames.{FitsMemory, SameBesideRecords}
@@ -339,13 +338,3 @@ module _ (o : Contents) (before after : Slots) (old new : List ℕ) (stands : Li
               (ready_stays.stands p (places_of n) o.ready new new refl keep-runs ready_new),
           same,
         )
-
--- who is no thread stands in no queue
-pub nobody-there : (o : Contents) (slots : Slots) (memory : List ℕ) (offset : ℕ) (queues : ℕ → List ℕ) → AreThere (contents_state o slots memory) queues
-    → o.threads offset ≡ None → (queue : ℕ) → times_in (queues queue) offset ≡ 0
-nobody-there o slots memory offset queues there none queue = elim (cases_lt 0 (times_in (queues queue) offset)) [
-  | inl some ↦
-      let is_thread = thread-there o offset (sym (kind-state o offset slots memory) ∙ there queue offset some) in
-      absurd (let clash : false ≡ true = sym (ap is_some none) ∙ is_thread in cc)
-  | inr few ↦ omega (arith, few)
-]

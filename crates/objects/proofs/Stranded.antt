@@ -14,7 +14,7 @@ use Rattle.objects.specs.Frames.{SameBesideRecords}
 use Rattle.objects.proofs.Holding.{thread-some}
 use Rattle.objects.specs.Standing.{Standing}
 use Rattle.objects.specs.Tables.{Tables, contents_of, state_of, thread_in}
-use Rattle.objects.specs.Contents.{Contents, contents_state, waiting_of}
+use Rattle.objects.specs.Contents.{Contents, contents_state, told_by, waiting_of}
 use Rattle.thread_records.specs.Threads.{status_of, thread_state}
 use Rattle.thread_records.specs.declared.records.Thread.{Thread}
 use Rattle.removal_laws.specs.Finishing.{is_stranded, waits_nowhere, woken}
@@ -23,13 +23,13 @@ use Rattle.removal_laws.specs.Finishing.{is_stranded, waits_nowhere, woken}
 
 pub stranded-at : (o : Contents) (offset : ℕ) (t : Thread) (slots : Slots) (memory : List ℕ) → o.threads offset ≡ Some t
     → is_stranded (contents_state o slots memory) offset ≡ waits_nowhere (contents_state o slots memory) (status_of t.status)
-unfolding contents_state
+unfolding told_by
 stranded-at o offset t slots memory there =
     ap (λ p. option_map_or (λ x. waits_nowhere (contents_state o slots memory) x.status) p false) (as-thread o (waiting_of o memory) offset ∙ ap (option_map thread_state) there)
 
 pub stranded-nobody : (o : Contents) (offset : ℕ) (slots : Slots) (memory : List ℕ) → o.threads offset ≡ None
     → is_stranded (contents_state o slots memory) offset ≡ false
-unfolding contents_state
+unfolding told_by
 stranded-nobody o offset slots memory none =
     ap (λ p. option_map_or (λ x. waits_nowhere (contents_state o slots memory) x.status) p false) (as-thread o (waiting_of o memory) offset ∙ ap (option_map thread_state) none)
 
@@ -109,7 +109,7 @@ skip t (suc count) first rest none =
 -- all places are those of all threads
 pub swept-all : (o : Tables) (slots : Slots) (memory : List ℕ) (count : ℕ) → 512 * count ≡ 2 ^ o.bits
     → swept (state_of o slots memory) (32 * 0) (32 * count - 32 * 0) ≡ woken (state_of o slots memory)
-unfolding state_of contents_state slot_numbers
+unfolding state_of told_by slot_numbers
 swept-all o slots memory count is =
     let all : 32 * count - 32 * 0 ≡ 2 ^ o.bits / 16 = omega (arith, is) in
     ap (λ (n : ℕ). swept (state_of o slots memory) n (32 * count - 32 * 0)) (let e : 32 * 0 ≡ 0 = omega arith in e) ∙ ap (λ (n : ℕ). swept (state_of o slots memory) 0 n) all

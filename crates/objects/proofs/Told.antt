@@ -16,7 +16,7 @@ use Rattle.queues.specs.Ready.{ReadyStands, ready_of}
 use Rattle.queues.proofs.Laws.{kinds_apart, ready_stays, waiting_stays}
 use Rattle.objects.specs.Frames.{FitsMemory, IsInRecord}
 use Rattle.objects.proofs.Linked.{AreContents, Linked}
-use Rattle.objects.specs.Contents.{Contents, is_thread_kind, kind_in, object_from, object_of, places_by, places_of, ready_at, contents_state, told_with, waiting_of}
+use Rattle.objects.specs.Contents.{Contents, is_thread_kind, kind_in, object_from, object_of, places_by, places_of, ready_at, contents_state, told_by, told_with, waiting_of}
 use Rattle.objects.specs.Waiting.{has_waiting}
 use Rattle.objects.specs.Contents.{Record}
 use Rattle.objects.specs.Contents.{Endpoint, Notification, CNode, Frame, PageTable, RootTable}
@@ -27,7 +27,7 @@ abbrev pub state_with : Contents → (ℕ → List ℕ) → (ℕ → List ℕ) �
 state_with o waiting ready slots memory = with_slots (told_with o waiting ready memory) slots
 
 pub told : (o : Contents) (slots : Slots) (memory : List ℕ) → contents_state o slots memory ≡ state_with o (waiting_of o memory) (ready_at o memory) slots memory
-unfolding contents_state
+unfolding told_by
 told o slots memory = refl
 
 -- who stands in a queue is a thread that is there, and waits where threads may
@@ -54,7 +54,7 @@ pub kind-with : (o : Contents) (waiting ready : ℕ → List ℕ) (slots : Slots
 kind-with o waiting ready slots memory offset = kind-from o.threads (waiting offset) (o.threads offset) (o.records offset)
 
 pub kind-state : (o : Contents) (offset : ℕ) (slots : Slots) (memory : List ℕ) → kind_at (contents_state o slots memory) offset ≡ kind_in o offset
-unfolding contents_state
+unfolding told_by
 kind-state o offset slots memory = kind-from o.threads (waiting_of o memory offset) (o.threads offset) (o.records offset)
 
 pub same-places : (o n : Contents) → ((offset : ℕ) → kind_in n offset ≡ kind_in o offset) → places_of n ≡ places_of o
@@ -63,7 +63,7 @@ same-places o n same = λ i. places_by (λ offset. same offset i)
 -- tables of the same kinds have the same queues
 pub told-same : (o n : Contents) → ((offset : ℕ) → kind_in n offset ≡ kind_in o offset) → (slots : Slots) (memory : List ℕ)
     → contents_state n slots memory ≡ state_with n (waiting_of o memory) (ready_of (places_of o) n.ready memory) slots memory
-unfolding contents_state
+unfolding told_by
 told-same o n same slots memory = λ i. state_with n (queue_of (same-places o n same i) memory) (ready_of (same-places o n same i) n.ready memory) slots memory
 
 -- ---- threads and what they wait at
@@ -82,9 +82,6 @@ is-thread (Some NewRootTable) is = absurd (let clash : false ≡ true = is in cc
 pub has-thread : (o : Contents) (offset : ℕ) → (places_of o).threads offset ≡ true → kind_in o offset ≡ Some NewThread
 has-thread o offset is = is-thread (kind_in o offset) is
 
-pub thread-has : (o : Contents) (offset : ℕ) → kind_in o offset ≡ Some NewThread → (places_of o).threads offset ≡ true
-thread-has o offset is = ap is_thread_kind is
-
 pub if-head : (b : Bool) (queue head : ℕ) → (if b then Some queue else None) ≡ Some head → (b ≡ true) × (head ≡ queue)
 if-head true queue head is = (refl, let e : Some queue ≡ Some head = is in let f : head ≡ queue = cc in f)
 if-head false queue head is = absurd (let clash : None ≡ Some head = is in cc)
@@ -94,9 +91,6 @@ head-at-point k queue is = ap (λ b. is_some (if b then Some queue else None)) i
 
 pub has-head : (o : Contents) (queue head : ℕ) → (places_of o).heads queue ≡ Some head → (has_waiting (kind_in o queue) ≡ true) × (head ≡ queue)
 has-head o queue head is = if-head (has_waiting (kind_in o queue)) queue head is
-
-pub head-has : (o : Contents) (queue : ℕ) → has_waiting (kind_in o queue) ≡ true → (places_of o).heads queue ≡ Some queue
-head-has o queue is = ap (λ b. if b then Some queue else None) is
 
 -- ---- the tables hold what a kind tells
 
@@ -146,11 +140,11 @@ not-open slots slot closed = elim (slots slot) as (λ e. slots slot ≡ e → sl
 ] refl
 
 pub own-slots : (o : Contents) (slots : Slots) (memory : List ℕ) → (contents_state o slots memory).slots ≡ slots
-unfolding contents_state
+unfolding told_by
 own-slots o slots memory = refl
 
 pub own-bits : (o : Contents) (slots : Slots) (memory : List ℕ) → (contents_state o slots memory).memory_bits ≡ o.bits
-unfolding contents_state
+unfolding told_by
 own-bits o slots memory = refl
 
 module _ (o : Contents) (slots : Slots) (memory : List ℕ) (are : AreContents o) (fits : FitsMemory (contents_state o slots memory) memory) where

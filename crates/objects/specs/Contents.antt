@@ -145,6 +145,9 @@ told_with o waiting ready memory = record {
   pending = λ line. slice_index_or o.pending line false;
 }
 
+unfoldable pub told_by : Contents → List ℕ → State
+told_by o memory = told_with o (waiting_of o memory) (ready_at o memory) memory
+
 -- with the slots of the store
-unfoldable pub contents_state : Contents → Slots → List ℕ → State
-contents_state o slots memory = with_slots (told_with o (waiting_of o memory) (ready_at o memory) memory) slots
+abbrev pub contents_state : Contents → Slots → List ℕ → State
+contents_state o slots memory = with_slots (told_by o memory) slots

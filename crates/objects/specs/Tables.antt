@@ -3,9 +3,9 @@
 use Rattle.std.specs.Prelude.{ℕ, ◌≡◌, ◌==◌, ◌+◌, ◌*◌, ◌/◌, ◌%◌, ◌^◌, ◌≤◌, Bool, if◌then◌else◌, Option, Some, None, option_and_then, List, length, slice_index_or}
 use Rattle.model.specs.Capabilities.Slots.{Slots}
 use Rattle.model.specs.Kernel.Retype.{NewObject, NewThread, NewEndpoint, NewNotification, NewCNode, NewFrame, NewPageTable, NewRootTable}
-use Rattle.model.specs.Kernel.State.{State}
+use Rattle.model.specs.Kernel.State.{State, with_slots}
 use Rattle.model.specs.Shared.Bytes.{word_at}
-use Rattle.objects.specs.Contents.{Contents, Record, Endpoint, Notification, CNode, Frame, PageTable, RootTable, contents_state, places_by}
+use Rattle.objects.specs.Contents.{Contents, Record, Endpoint, Notification, CNode, Frame, PageTable, RootTable, places_by, told_by}
 use Rattle.objects.specs.declared.records.Entry.{Entry}
 use Rattle.objects.specs.declared.records.Entry.TheVariants as entries
 use Rattle.objects.specs.declared.records.Kind.{Kind}
@@ -118,7 +118,7 @@ ready_at o memory = ready_of (places_of o) o.ready memory
 
 -- whatever the form of the tables is, the slots are the store's
 unfoldable pub state_of : Tables → Slots → List ℕ → State
-state_of o slots memory = contents_state (contents_of o memory) slots memory
+state_of o slots memory = with_slots (told_by (contents_of o memory) memory) slots
 
 -- ---- what is always true of the tables
 

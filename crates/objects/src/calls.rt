@@ -32,7 +32,7 @@ impl Objects {
     }
 
     /// The boot CNode has 2^`radix` slots.
-    #[tactic(auto, unfolding(crate::specs::Tables::state_of, crate::specs::Contents::contents_state))]
+    #[tactic(auto, unfolding(crate::specs::Tables::state_of, crate::specs::Contents::told_by))]
     pub fn boot_radix(&self) -> u32
         ensures value { (slots : Slots) (memory : List ℕ) → result ≡ (state_of self.now slots memory).boot_radix }
         ensures most { result ≤ 14 }
@@ -41,7 +41,7 @@ impl Objects {
     }
 
     /// How many slots the object has that starts at an offset: none, where there is no object.
-    #[tactic(auto, unfolding(crate::specs::Tables::state_of, crate::specs::Contents::contents_state))]
+    #[tactic(auto, unfolding(crate::specs::Tables::state_of, crate::specs::Contents::told_by))]
     pub fn slots_of<S: SlotStore>(&self, store: &S, offset: u32) -> u32
         ensures { result ≡ slot_count ((state_of self.now (S.slots store.now) (S.memory store.now)).objects offset) }
     {
@@ -49,7 +49,7 @@ impl Objects {
     }
 
     /// Whether the object at an offset is a thread.
-    #[tactic(auto, unfolding(crate::specs::Tables::state_of, crate::specs::Contents::contents_state))]
+    #[tactic(auto, unfolding(crate::specs::Tables::state_of, crate::specs::Contents::told_by))]
     pub fn is_thread<S: SlotStore>(&self, store: &S, offset: u32) -> bool
         ensures { result ≡ is_some (as_thread ((state_of self.now (S.slots store.now) (S.memory store.now)).objects offset)) }
     {
@@ -57,7 +57,7 @@ impl Objects {
     }
 
     /// Whether the object at an offset is a frame.
-    #[tactic(auto, unfolding(crate::specs::Tables::state_of, crate::specs::Contents::contents_state))]
+    #[tactic(auto, unfolding(crate::specs::Tables::state_of, crate::specs::Contents::told_by))]
     pub fn is_frame<S: SlotStore>(&self, store: &S, offset: u32) -> bool
         ensures { result ≡ is_frame_object ((state_of self.now (S.slots store.now) (S.memory store.now)).objects offset) }
     {
@@ -65,7 +65,7 @@ impl Objects {
     }
 
     /// The byte at a place in memory, if a frame is there.
-    #[tactic(auto, unfolding(crate::specs::Tables::state_of, crate::specs::Contents::contents_state))]
+    #[tactic(auto, unfolding(crate::specs::Tables::state_of, crate::specs::Contents::told_by))]
     pub fn byte<S: SlotStore>(&self, store: &S, place: u32) -> Option<u8>
         requires size { 2 ^ (state_of self.now (S.slots store.now) (S.memory store.now)).memory_bits ≡ length (S.memory store.now) }
         ensures { result ≡ (state_of self.now (S.slots store.now) (S.memory store.now)).bytes place }
@@ -93,7 +93,7 @@ impl Objects {
     }
 
     /// A new object stands at an offset where nothing does. What memory holds there are the bytes of a frame.
-    #[tactic(auto, unfolding(crate::specs::Tables::state_of, crate::specs::Contents::contents_state))]
+    #[tactic(auto, unfolding(crate::specs::Tables::state_of, crate::specs::Contents::told_by))]
     pub fn begin<S: SlotStore>(&mut self, store: &mut S, offset: u32, kind: Kind)
         requires free { (state_of self.old (S.slots store.old) (S.memory store.old)).objects offset ≡ None }
         requires fits { MayStand (state_of self.old (S.slots store.old) (S.memory store.old)).memory_bits kind offset }

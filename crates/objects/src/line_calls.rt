@@ -14,7 +14,7 @@ use slots::SlotStore;
 
 impl Objects {
     /// Whether the interrupts of a line, 0 to 63, wait for an acknowledgement.
-    #[tactic(auto, unfolding(crate::specs::Tables::state_of, crate::specs::Contents::contents_state))]
+    #[tactic(auto, unfolding(crate::specs::Tables::state_of, crate::specs::Contents::told_by))]
     pub fn is_masked<S: SlotStore>(&self, store: &S, line: u8) -> bool
         requires { line < 64 }
         ensures { result ≡ (state_of self.now (S.slots store.now) (S.memory store.now)).masked line }
@@ -23,7 +23,7 @@ impl Objects {
     }
 
     /// Masks a line, 0 to 63, or takes its mask away.
-    #[tactic(auto, unfolding(crate::specs::Tables::state_of, crate::specs::Contents::contents_state))]
+    #[tactic(auto, unfolding(crate::specs::Tables::state_of, crate::specs::Contents::told_by))]
     pub fn set_masked<S: SlotStore>(&mut self, store: &mut S, line: u8, bit: bool)
         requires line { line < 64 }
         requires stands { Standing self.old (S.slots store.old) (S.memory store.old) }
@@ -38,7 +38,7 @@ impl Objects {
     }
 
     /// Whether a line, 0 to 63, was raised while its interrupt could not be delivered.
-    #[tactic(auto, unfolding(crate::specs::Tables::state_of, crate::specs::Contents::contents_state))]
+    #[tactic(auto, unfolding(crate::specs::Tables::state_of, crate::specs::Contents::told_by))]
     pub fn is_pending<S: SlotStore>(&self, store: &S, line: u8) -> bool
         requires { line < 64 }
         ensures { result ≡ (state_of self.now (S.slots store.now) (S.memory store.now)).pending line }
@@ -47,7 +47,7 @@ impl Objects {
     }
 
     /// An interrupt of a line, 0 to 63, stands pending, or none does.
-    #[tactic(auto, unfolding(crate::specs::Tables::state_of, crate::specs::Contents::contents_state))]
+    #[tactic(auto, unfolding(crate::specs::Tables::state_of, crate::specs::Contents::told_by))]
     pub fn set_pending<S: SlotStore>(&mut self, store: &mut S, line: u8, bit: bool)
         requires line { line < 64 }
         requires stands { Standing self.old (S.slots store.old) (S.memory store.old) }

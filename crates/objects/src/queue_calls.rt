@@ -20,7 +20,7 @@ use thread_records::Sending;
 
 impl Objects {
     /// A thread that waits nowhere waits behind the others at an endpoint where nobody receives, to send this.
-    #[tactic(auto, unfolding(crate::specs::Tables::state_of, crate::specs::Contents::contents_state))]
+    #[tactic(auto, unfolding(crate::specs::Tables::state_of, crate::specs::Contents::told_by))]
     pub fn push_sender<S: SlotStore>(
         &mut self,
         store: &mut S,
@@ -44,7 +44,7 @@ impl Objects {
     }
 
     /// A thread that waits nowhere waits behind the others at an endpoint where nobody sends, to receive.
-    #[tactic(auto, unfolding(crate::specs::Tables::state_of, crate::specs::Contents::contents_state))]
+    #[tactic(auto, unfolding(crate::specs::Tables::state_of, crate::specs::Contents::told_by))]
     pub fn push_receiver<S: SlotStore>(&mut self, store: &mut S, endpoint: u32, thread: u32)
         requires endpoint { kind_at (state_of self.old (S.slots store.old) (S.memory store.old)) endpoint ≡ Some NewEndpoint }
         requires there { kind_at (state_of self.old (S.slots store.old) (S.memory store.old)) thread ≡ Some NewThread }
@@ -62,7 +62,7 @@ impl Objects {
     }
 
     /// A thread that waits nowhere waits behind the others at a notification.
-    #[tactic(auto, unfolding(crate::specs::Tables::state_of, crate::specs::Contents::contents_state))]
+    #[tactic(auto, unfolding(crate::specs::Tables::state_of, crate::specs::Contents::told_by))]
     pub fn push_waiter<S: SlotStore>(&mut self, store: &mut S, notification: u32, thread: u32)
         requires notification { kind_at (state_of self.old (S.slots store.old) (S.memory store.old)) notification ≡ Some NewNotification }
         requires there { kind_at (state_of self.old (S.slots store.old) (S.memory store.old)) thread ≡ Some NewThread }
@@ -79,7 +79,7 @@ impl Objects {
     }
 
     /// Takes the first thread that waits at an endpoint to send, with what it sends.
-    #[tactic(auto, unfolding(crate::specs::Tables::state_of, crate::specs::Contents::contents_state))]
+    #[tactic(auto, unfolding(crate::specs::Tables::state_of, crate::specs::Contents::told_by))]
     pub fn take_sender<S: SlotStore>(
         &mut self,
         store: &mut S,
@@ -105,7 +105,7 @@ impl Objects {
     }
 
     /// Takes the first thread that waits at an endpoint to receive.
-    #[tactic(auto, unfolding(crate::specs::Tables::state_of, crate::specs::Contents::contents_state))]
+    #[tactic(auto, unfolding(crate::specs::Tables::state_of, crate::specs::Contents::told_by))]
     pub fn take_receiver<S: SlotStore>(&mut self, store: &mut S, endpoint: u32) -> Option<u32>
         requires endpoint { kind_at (state_of self.old (S.slots store.old) (S.memory store.old)) endpoint ≡ Some NewEndpoint }
         requires one_sided { IsOneSided (endpoint_at (state_of self.old (S.slots store.old) (S.memory store.old)) endpoint) }
@@ -127,7 +127,7 @@ impl Objects {
     }
 
     /// Takes the first thread that waits at a notification.
-    #[tactic(auto, unfolding(crate::specs::Tables::state_of, crate::specs::Contents::contents_state))]
+    #[tactic(auto, unfolding(crate::specs::Tables::state_of, crate::specs::Contents::told_by))]
     pub fn take_waiter<S: SlotStore>(&mut self, store: &mut S, notification: u32) -> Option<u32>
         requires there { kind_at (state_of self.old (S.slots store.old) (S.memory store.old)) notification ≡ Some NewNotification }
         requires stands { Standing self.old (S.slots store.old) (S.memory store.old) }
@@ -145,7 +145,7 @@ impl Objects {
     }
 
     /// Whether a thread waits at the object at an offset.
-    #[tactic(auto, unfolding(crate::specs::Tables::state_of, crate::specs::Contents::contents_state))]
+    #[tactic(auto, unfolding(crate::specs::Tables::state_of, crate::specs::Contents::told_by))]
     pub fn is_waited_at<S: SlotStore>(&self, store: &S, offset: u32) -> bool
         requires { Standing self.now (S.slots store.now) (S.memory store.now) }
         ensures { (result ≡ false) ↔ (waiting_at ((state_of self.now (S.slots store.now) (S.memory store.now)).objects offset) ≡ []) }
@@ -154,7 +154,7 @@ impl Objects {
     }
 
     /// The word of a notification, or 0 where none is.
-    #[tactic(auto, unfolding(crate::specs::Tables::state_of, crate::specs::Contents::contents_state))]
+    #[tactic(auto, unfolding(crate::specs::Tables::state_of, crate::specs::Contents::told_by))]
     pub fn word<S: SlotStore>(&self, store: &S, notification: u32) -> u32
         requires { Standing self.now (S.slots store.now) (S.memory store.now) }
         ensures { result ≡ (notification_at (state_of self.now (S.slots store.now) (S.memory store.now)) notification).word }
@@ -166,7 +166,7 @@ impl Objects {
     }
 
     /// Sets the word of a notification.
-    #[tactic(auto, unfolding(crate::specs::Tables::state_of, crate::specs::Contents::contents_state))]
+    #[tactic(auto, unfolding(crate::specs::Tables::state_of, crate::specs::Contents::told_by))]
     pub fn set_word<S: SlotStore>(&mut self, store: &mut S, notification: u32, word: u32)
         requires there { kind_at (state_of self.old (S.slots store.old) (S.memory store.old)) notification ≡ Some NewNotification }
         requires stands { Standing self.old (S.slots store.old) (S.memory store.old) }

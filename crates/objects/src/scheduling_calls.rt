@@ -16,7 +16,7 @@ use slots::SlotStore;
 
 impl Objects {
     /// The current thread: the first of the greatest priority, if any is ready.
-    #[tactic(auto, unfolding(crate::specs::Tables::state_of, crate::specs::Contents::contents_state))]
+    #[tactic(auto, unfolding(crate::specs::Tables::state_of, crate::specs::Contents::told_by))]
     pub fn current<S: SlotStore>(&self, store: &S) -> Option<u32>
         ensures { result ≡ current (state_of self.now (S.slots store.now) (S.memory store.now)) }
     {
@@ -36,7 +36,7 @@ impl Objects {
     }
 
     /// Sets how many ticks a thread runs on.
-    #[tactic(auto, unfolding(crate::specs::Tables::state_of, crate::specs::Contents::contents_state))]
+    #[tactic(auto, unfolding(crate::specs::Tables::state_of, crate::specs::Contents::told_by))]
     pub fn set_slice<S: SlotStore>(&mut self, store: &mut S, thread: u32, slice: u8)
         requires there { kind_at (state_of self.old (S.slots store.old) (S.memory store.old)) thread ≡ Some NewThread }
         requires stands { Standing self.old (S.slots store.old) (S.memory store.old) }
@@ -51,7 +51,7 @@ impl Objects {
     }
 
     /// A thread goes to the tail of its priority.
-    #[tactic(auto, unfolding(crate::specs::Tables::state_of, crate::specs::Contents::contents_state))]
+    #[tactic(auto, unfolding(crate::specs::Tables::state_of, crate::specs::Contents::told_by))]
     pub fn to_tail<S: SlotStore>(&mut self, store: &mut S, thread: u32)
         requires there { kind_at (state_of self.old (S.slots store.old) (S.memory store.old)) thread ≡ Some NewThread }
         requires stands { Standing self.old (S.slots store.old) (S.memory store.old) }
@@ -84,7 +84,7 @@ impl Objects {
     }
 
     /// A thread leaves every queue and the ready list, and nobody has the right to reply to it any more.
-    #[tactic(auto, unfolding(crate::specs::Tables::state_of, crate::specs::Contents::contents_state))]
+    #[tactic(auto, unfolding(crate::specs::Tables::state_of, crate::specs::Contents::told_by))]
     pub fn leave<S: SlotStore>(&mut self, store: &mut S, thread: u32)
         requires there { kind_at (state_of self.old (S.slots store.old) (S.memory store.old)) thread ≡ Some NewThread }
         requires stands { Standing self.old (S.slots store.old) (S.memory store.old) }

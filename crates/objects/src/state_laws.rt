@@ -8,7 +8,7 @@ ghost use Rattle.objects.specs.Standing.{Standing};
 ghost use Rattle.objects.specs.Tables.{Tables, state_of};
 
 /// The state's slots are the store's.
-#[tactic(auto, unfolding(crate::specs::Tables::state_of, crate::specs::Contents::contents_state))]
+#[tactic(auto, unfolding(crate::specs::Tables::state_of, crate::specs::Contents::told_by))]
 pub fn a_state_has_its_slots()
     ensures { (o : Tables) (slots : Slots) (memory : List ℕ) → (state_of o slots memory).slots ≡ slots }
 {}

@@ -76,7 +76,7 @@ impl Model for Objects {
 impl Objects {
     /// No objects yet in memory of 2^`bits` bytes, with room for all that may come; the boot CNode has
     /// 2^`radix` slots.
-    #[tactic(auto, unfolding(crate::specs::Tables::state_of, crate::specs::Contents::contents_state, model::specs::Kernel::Setup::boot_area))]
+    #[tactic(auto, unfolding(crate::specs::Tables::state_of, crate::specs::Contents::told_by, model::specs::Kernel::Setup::boot_area))]
     pub fn new(alloc: Global, bits: u32, radix: u32) -> Result<Self, AllocError>
         requires least { 16 ≤ bits }
         requires most { bits ≤ 24 }
@@ -96,7 +96,7 @@ impl Objects {
     }
 
     /// The slot of the interrupt table that holds what a line signals.
-    #[tactic(auto, unfolding(crate::specs::Tables::state_of, crate::specs::Contents::contents_state))]
+    #[tactic(auto, unfolding(crate::specs::Tables::state_of, crate::specs::Contents::told_by))]
     pub(crate) fn binding_of(&self, line: u8) -> Slot
         requires { line < 64 }
         ensures { (slots : Slots) (memory : List ℕ) → result ≡ binding_slot (state_of self.now slots memory) line }
@@ -236,7 +236,7 @@ impl Objects {
     }
 
     /// Whether a thread waits at an object that is gone.
-    #[tactic(auto, unfolding(crate::specs::Tables::state_of, crate::specs::Contents::contents_state))]
+    #[tactic(auto, unfolding(crate::specs::Tables::state_of, crate::specs::Contents::told_by))]
     fn waits_nowhere(&self, status: Status) -> bool
         ensures { (slots : Slots) (memory : List ℕ) → result ≡ waits_nowhere (state_of self.now slots memory) (status_of status) }
     {
@@ -257,7 +257,7 @@ impl Objects {
     }
 
     /// Wakes the thread at an offset, if one is there that waits at an object that is gone.
-    #[tactic(auto, unfolding(crate::specs::Tables::state_of, crate::specs::Contents::contents_state))]
+    #[tactic(auto, unfolding(crate::specs::Tables::state_of, crate::specs::Contents::told_by))]
     pub(crate) fn wake_if_stranded<S: SlotStore>(&mut self, store: &mut S, offset: u32)
         requires stands { Standing self.old (S.slots store.old) (S.memory store.old) }
         ensures state { state_of self.new (S.slots store.new) (S.memory store.new)

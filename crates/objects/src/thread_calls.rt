@@ -91,7 +91,7 @@ impl Objects {
     }
 
     /// Sets the registers of a thread.
-    #[tactic(auto, unfolding(crate::specs::Tables::state_of, crate::specs::Contents::contents_state))]
+    #[tactic(auto, unfolding(crate::specs::Tables::state_of, crate::specs::Contents::told_by))]
     pub fn set_registers<S: SlotStore>(&mut self, store: &mut S, thread: u32, registers: Regs)
         requires there { kind_at (state_of self.old (S.slots store.old) (S.memory store.old)) thread ≡ Some NewThread }
         requires stands { Standing self.old (S.slots store.old) (S.memory store.old) }
@@ -106,7 +106,7 @@ impl Objects {
     }
 
     /// A thread has the right to reply to this one, which is there, or no such right.
-    #[tactic(auto, unfolding(crate::specs::Tables::state_of, crate::specs::Contents::contents_state))]
+    #[tactic(auto, unfolding(crate::specs::Tables::state_of, crate::specs::Contents::told_by))]
     pub fn set_caller<S: SlotStore>(&mut self, store: &mut S, thread: u32, caller: Option<u32>)
         requires there { kind_at (state_of self.old (S.slots store.old) (S.memory store.old)) thread ≡ Some NewThread }
         requires caller { (named : ℕ) → caller ≡ Some named → kind_at (state_of self.old (S.slots store.old) (S.memory store.old)) named ≡ Some NewThread }
@@ -123,7 +123,7 @@ impl Objects {
     }
 
     /// Sets the capability address of the endpoint that takes a thread's faults; 0 is none.
-    #[tactic(auto, unfolding(crate::specs::Tables::state_of, crate::specs::Contents::contents_state))]
+    #[tactic(auto, unfolding(crate::specs::Tables::state_of, crate::specs::Contents::told_by))]
     pub fn set_fault_address<S: SlotStore>(&mut self, store: &mut S, thread: u32, address: u32)
         requires there { kind_at (state_of self.old (S.slots store.old) (S.memory store.old)) thread ≡ Some NewThread }
         requires stands { Standing self.old (S.slots store.old) (S.memory store.old) }
@@ -138,7 +138,7 @@ impl Objects {
     }
 
     /// A thread stops running, for this reason.
-    #[tactic(auto, unfolding(crate::specs::Tables::state_of, crate::specs::Contents::contents_state))]
+    #[tactic(auto, unfolding(crate::specs::Tables::state_of, crate::specs::Contents::told_by))]
     pub fn block<S: SlotStore>(&mut self, store: &mut S, thread: u32, status: Status)
         requires there { kind_at (state_of self.old (S.slots store.old) (S.memory store.old)) thread ≡ Some NewThread }
         requires stands { Standing self.old (S.slots store.old) (S.memory store.old) }
@@ -154,7 +154,7 @@ impl Objects {
     }
 
     /// Makes a thread runnable that does not run: it goes to the tail of its priority, with a full slice.
-    #[tactic(auto, unfolding(crate::specs::Tables::state_of, crate::specs::Contents::contents_state))]
+    #[tactic(auto, unfolding(crate::specs::Tables::state_of, crate::specs::Contents::told_by))]
     pub fn wake<S: SlotStore>(&mut self, store: &mut S, thread: u32)
         requires there { kind_at (state_of self.old (S.slots store.old) (S.memory store.old)) thread ≡ Some NewThread }
         requires stands { Standing self.old (S.slots store.old) (S.memory store.old) }

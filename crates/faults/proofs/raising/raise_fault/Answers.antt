@@ -7,8 +7,8 @@ use Rattle.faults.specs.Handlers.{handler_told}
 use Rattle.ipc.proofs.Laws.{runs-there}
 use Rattle.objects.specs.Tables.{state_of}
 
-pub find_handler-requires : goal.find_handler-requires
-find_handler-requires g c =
+pub find_handler-requires-clause-small : goal.find_handler-requires-clause-small
+find_handler-requires-clause-small g c =
     let before = state_of c.args.objects.now (g.S.SlotMap.slots c.args.store.now) (g.S.SlotStore.memory c.args.store.now) in
     thread-inside before c.args.thread c.requires.sound (runs-there before c.args.thread c.requires.runs)
 
