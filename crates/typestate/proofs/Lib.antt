@@ -1,6 +1,7 @@
 mod SlotLists
 mod Lookups
 mod SlotMaps
+mod FoundWindows
 mod CalledCaps
 mod Words
 mod Forms

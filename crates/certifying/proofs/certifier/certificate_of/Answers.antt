@@ -8,7 +8,7 @@ use Rattle.thread_spaces.specs.Given.{IsListed}
 use Rattle.typestate.specs.Orders.{Rise}
 use Rattle.typestate.specs.Strays.{is_stray_in}
 use Rattle.typestate.specs.Unlinked.{AreUnlinked}
-use Rattle.typestate.specs.declared.windows.Space.{Space}
+use Rattle.typestate.specs.declared.spaces.Space.{Space}
 use Rattle.typestate.proofs.Laws.{image-unlinked}
 use Rattle.certifying.proofs.certifier.certificate_of.Goals as goal
 

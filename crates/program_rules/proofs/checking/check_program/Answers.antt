@@ -12,7 +12,7 @@ use Rattle.typestate.proofs.Laws.{image-unlinked}
 use Rattle.typestate.specs.Orders.{Rise}
 use Rattle.typestate.specs.Strays.{is_stray_in}
 use Rattle.typestate.specs.Unlinked.{AreUnlinked}
-use Rattle.typestate.specs.declared.windows.Space.{Space}
+use Rattle.typestate.specs.declared.spaces.Space.{Space}
 
 pub invariant_of-program : goal.invariant_of-program
 invariant_of-program c =

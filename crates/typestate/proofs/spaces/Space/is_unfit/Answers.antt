@@ -4,7 +4,7 @@ use Rattle.model.specs.Acceptance.NotedStates.{is_foreign, is_own}
 use Rattle.model.specs.Capabilities.CapabilityFields.{is_capability}
 use Rattle.typestate.specs.Strays.{cnodes_of, is_unfit}
 use Rattle.typestate.proofs.GivenFacts.{decides-test}
-use Rattle.typestate.proofs.windows.Space.is_unfit.Goals as goal
+use Rattle.typestate.proofs.spaces.Space.is_unfit.Goals as goal
 
 unfit-by : (own foreign valid : Bool) → own ≡ true → valid ≡ true → foreign ≡ (not own || foreign || not valid)
 unfit-by true true valid mine fits = refl

@@ -4,7 +4,7 @@ use Rattle.model.specs.Acceptance.NotedStates.{notes_outside, is_own, entry_key}
 use Rattle.std.proofs.Common.{not}
 use Rattle.std.specs.List.{list_any}
 use Rattle.typestate.specs.Strays.{cnodes_of}
-use Rattle.typestate.proofs.windows.Space.notes_outside.Given as goal
+use Rattle.typestate.proofs.spaces.Space.notes_outside.Given as goal
 
 abbrev pub invariant-loop-entry : goal.invariant-loop-entry
 invariant-loop-entry l =

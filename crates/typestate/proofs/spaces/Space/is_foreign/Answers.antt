@@ -5,7 +5,7 @@ use Rattle.model.specs.Acceptance.NotedStates.{is_foreign}
 use Rattle.typestate.specs.Strays.{cnodes_of}
 use Rattle.typestate.proofs.GivenFacts.{space-of}
 use Rattle.typestate.proofs.OwnKeys.{own-cnode-told}
-use Rattle.typestate.proofs.windows.Space.is_foreign.Goals as goal
+use Rattle.typestate.proofs.spaces.Space.is_foreign.Goals as goal
 
 pub returns-in-CNode : goal.returns-in-CNode
 returns-in-CNode c =
