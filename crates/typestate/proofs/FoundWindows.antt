@@ -1,6 +1,7 @@
 -- A CNode that is looked at first tells what a look at all of them would.
-use Rattle.std.proofs.Common.{ℕ, zero, suc, ◌≡◌, ◌∙◌, ◌==◌, ◌+◌, ◌/◌, ◌^◌, ◌<◌, ◌||◌, Bool, true, false, if◌then◌else◌, Option, Some, None, List, [], ◌∷◌, pow_pos, refl, sym, ap, subst, arith}
-use Rattle.std.specs.Prelude.{slice_get}
+use Rattle.std.proofs.Common.{ℕ, zero, suc, ◌≡◌, ◌∙◌, ◌==◌, ◌+◌, ◌/◌, ◌^◌, ◌<◌, ◌≤◌, ◌||◌, Bool, true, false, if◌then◌else◌, Option, Some, None, List, [], ◌∷◌, pow_pos, refl, sym, ap, subst, arith}
+use Rattle.std.specs.Prelude.{is_some, slice_get}
+use Rattle.std.specs.Coded.{le_prop}
 use Rattle.std.specs.List.{find, list_any}
 use Rattle.std.proofs.lemmas.Bool.{and_parts, eq-eqb, eqb-true}
 use Rattle.std.proofs.lemmas.Bool.Decides.{nat_tests}
@@ -28,18 +29,25 @@ any-at test (v ∷ vs) (suc n) w at is = or-second (test v) (list_any test vs) (
 pub any-there : (test : Window → Bool) (ws : List Window) (w : Window) → IsThere ws w → test w ≡ true → list_any test ws ≡ true
 any-there test ws w there is = any-at test ws there.0 w there.1 is
 
+pub some-found : (test : Window → Bool) (ws : List Window) → is_some (find test ws) ≡ list_any test ws
+some-found test [] = refl
+some-found test (w ∷ ws) = elim (test w) as (λ b. is_some (if b then Some w else find test ws) ≡ (b || list_any test ws)) [
+  | true ↦ refl
+  | false ↦ some-found test ws
+]
+
 -- it is found if no other one passes
 only-passes : (test : Window → Bool) (ws : List Window) (n : ℕ) (w : Window) → slice_get ws n ≡ Some w → test w ≡ true
     → ((m : ℕ) (v : Window) → slice_get ws m ≡ Some v → test v ≡ true → v ≡ w) → find test ws ≡ Some w
 only-passes test [] n w at is only = absurd (let clash : None ≡ Some w = at in cc)
 only-passes test (v ∷ vs) n w at is only = elim (test v) as (λ b. test v ≡ b → (if b then Some v else find test vs) ≡ Some w) [
   | true ↦ λ here. ap (λ (x : Window). Some x) (only zero v refl here)
-  | false ↦ λ off. behind n at off
+  | false ↦ λ off. behind n (λ k there. only-passes test vs k w there is (λ m x at passes. only (suc m) x at passes)) at off
 ] refl
   where
-    behind : (k : ℕ) → slice_get (v ∷ vs) k ≡ Some w → test v ≡ false → find test vs ≡ Some w
-    behind zero at off = absurd (let same : v ≡ w = (let both : Some v ≡ Some w = at in cc) in let clash : false ≡ true = sym off ∙ ap test same ∙ is in cc)
-    behind (suc k) at off = only-passes test vs k w at is (λ m x there passes. only (suc m) x there passes)
+    behind : (k : ℕ) → ((j : ℕ) → slice_get vs j ≡ Some w → find test vs ≡ Some w) → slice_get (v ∷ vs) k ≡ Some w → test v ≡ false → find test vs ≡ Some w
+    behind zero rest at off = absurd (let same : v ≡ w = (let both : Some v ≡ Some w = at in cc) in let clash : false ≡ true = sym off ∙ ap test same ∙ is in cc)
+    behind (suc k) rest at off = rest k at
 
 -- ---- CNodes that stand apart
 
@@ -85,7 +93,15 @@ same-window image v w same one other =
     let here : IsWindow image w.cnode v = subst (λ n. IsWindow image n v) same one in
     let offset : v.offset ≡ w.offset = here.place ∙ sym other.place in
     let radix : v.radix ≡ w.radix = (let both : Some v.radix ≡ Some w.radix = sym here.size ∙ other.size in cc) in
-    cc
+    ap (λ n. let x : Window = record { cnode = n; offset = v.offset; radix = v.radix; small = v.small } in x) same
+    ∙ ap (λ n. let x : Window = record { cnode = w.cnode; offset = n; radix = v.radix; small = v.small } in x) offset
+    ∙ same-radix w.cnode w.offset v.radix w.radix v.small radix w.small
+  where
+    same-radix : (cnode offset v w : ℕ) (small : v ≤ 14) → v ≡ w → (few : w ≤ 14)
+        → (let x : Window = record { cnode = cnode; offset = offset; radix = v; small = small } in x) ≡ (let x : Window = record { cnode = cnode; offset = offset; radix = w; small = few } in x)
+    same-radix cnode offset v w small same =
+        subst (λ (n : ℕ). (few : n ≤ 14) → (let x : Window = record { cnode = cnode; offset = offset; radix = v; small = small } in x) ≡ (let x : Window = record { cnode = cnode; offset = offset; radix = n; small = few } in x)) same
+        (λ few. ap (λ (s : v ≤ 14). let x : Window = record { cnode = cnode; offset = offset; radix = v; small = s } in x) (le_prop small few))
 
 pub windows-apart : (image : Image) (t : Thread) (ws : List Window) → StandsApart image t → AreWindows image (reached image t) ws → AreApart ws
 windows-apart image t ws apart are slot n w at stands =

@@ -1,6 +1,6 @@
 //! A thread's CNodes, found by their numbers and by the slots that stand in them.
 
-ghost use Rattle.std.specs.Prelude.{◌≡◌, IfOk, IfSome};
+ghost use Rattle.std.specs.Prelude.{◌≡◌, ◌/◌, ◌^◌, ◌≤◌, IfOk, IfSome};
 ghost use Rattle.std.specs.List.{find, list_any};
 ghost use Rattle.typestate.specs.GivenSpaces.{AreApart, IsThere, stands_within};
 ghost use Rattle.typestate.specs.Spaces.{key_in, key_within};
@@ -174,35 +174,38 @@ impl Windows {
     pub(crate) fn have_key(&self, key: SlotKey) -> bool
         ensures { result ≡ list_any (has_key key) self.now }
     {
+        let all = &self.list;
         if let Some(window) = self.numbered(key.cnode) {
             if window.has_key(key) {
                 return true;
             }
         }
-        have_key(&self.list, key)
+        have_key(all, key)
     }
 
     /// The CNode of an offset and a radix.
     pub(crate) fn at(&self, offset: u32, radix: u8) -> Option<Window>
         ensures { result ≡ find (is_at offset radix) self.now }
     {
+        let all = &self.list;
         if let Some(window) = self.near(offset / 16) {
             if window.is_at(offset, radix) {
                 return Some(window);
             }
         }
-        window_at(&self.list, offset, radix)
+        window_at(all, offset, radix)
     }
 
     /// The CNode and the index of a slot, if it stands in one of the CNodes.
     pub fn key(&self, slot: u32) -> Option<SlotKey>
         ensures { result ≡ key_in self.now slot }
     {
+        let all = &self.list;
         if let Some(window) = self.near(slot) {
             if window.has(slot) {
                 return Some(window.key(slot));
             }
         }
-        key_in(&self.list, slot)
+        key_in(all, slot)
     }
 }

@@ -1,6 +1,7 @@
 -- What is reached are CNodes.
 use Rattle.std.proofs.Common.{◌+◌, take, sym, subst}
 use Rattle.typestate.specs.Spaces.{AreWindows}
+use Rattle.typestate.proofs.Laws.{windows-apart}
 use Rattle.thread_spaces.proofs.GivenCNodes.{cnode-at}
 use Rattle.thread_spaces.proofs.WindowLists.{windows-more}
 use Rattle.thread_spaces.proofs.windows.windows_of.Goals as goal
@@ -13,3 +14,6 @@ pub cnodes-preserved : goal.cnodes-preserved
 cnodes-preserved c =
     subst (AreWindows c.args.image.now (take (c.cnodes.place + 1) c.args.cnodes.now)) (sym c.in_ok-push.ensures.items)
     (windows-more c.args.image.now c.args.cnodes.now c.cnodes.windows.items c.cnodes.place c.at.result c.window_of.result c.at.ensures c.cnodes.invariant c.window_of.ensures)
+
+pub new-requires : goal.new-requires
+new-requires c = ?
