@@ -28,6 +28,7 @@ mod Inside
 mod KernelDepths
 mod PutPlaces
 mod Puts
+mod NarrowChanges
 mod CopyCalls
 mod Allowed
 mod MoveCalls
