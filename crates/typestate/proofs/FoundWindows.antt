@@ -107,7 +107,7 @@ pub windows-apart : (image : Image) (t : Thread) (ws : List Window) → StandsAp
 windows-apart image t ws apart are slot n w at stands =
     let mine = listed-at image (reached image t) ws n w are at in
     only-passes (stands_within slot) ws n w at stands (λ m v there passes.
-        let other = listed-at image (reached image t) ws m v are there in
-        same-window image v w
-        (apart.apart v.cnode w.cnode slot other.mine mine.mine (sym (stands-same image v.cnode v slot other.window) ∙ passes) (sym (stands-same image w.cnode w slot mine.window) ∙ stands))
-        other.window mine.window)
+    let other = listed-at image (reached image t) ws m v are there in
+    same-window image v w
+    (apart.apart v.cnode w.cnode slot other.mine mine.mine (sym (stands-same image v.cnode v slot other.window) ∙ passes) (sym (stands-same image w.cnode w slot mine.window) ∙ stands))
+    other.window mine.window)
