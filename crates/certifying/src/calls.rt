@@ -10,7 +10,7 @@ use ranges::Bounds;
 use std::alloc::{AllocError, Global};
 use thread_spaces::slots_are_own;
 use typestate::{
-    Behind, NotedSlot, NotedSlots, Part, ShownPart, SlotLog, Space, ThreadSlots,
+    Behind, NotedSlot, NotedSlots, Part, ShownPart, SlotLog, Space, ThreadSlots, ToldSlots,
     no_stray_slot_leads_outside,
 };
 
@@ -101,10 +101,13 @@ impl Given<'_, '_> {
         requires image { slots.now.image.now ≡ self.now.slots.now }
         requires none { made.old.items ≡ [] }
     {
-        if self
-            .space
-            .has_stray_slots(slots, None, self.lists_stray, false)
-        {
+        let told = ToldSlots {
+            space: self.space,
+            slots: *slots,
+            lists_stray: self.lists_stray,
+            is_clean: false,
+        };
+        if told.has_stray_slots(None) {
             return Err(Fault::refused(at.point, Refusal::CapNotThere(at)));
         }
         no_stray_slot_leads_outside();

@@ -8,7 +8,7 @@ use Rattle.typestate.specs.Orders.{Rise}
 use Rattle.typestate.specs.Spaces.{IsSpace}
 use Rattle.typestate.specs.Strays.{is_stray_in}
 use Rattle.typestate.specs.Unlinked.{AreUnlinked}
-use Rattle.typestate.specs.declared.windows.Space.{Space}
+use Rattle.typestate.specs.declared.spaces.Space.{Space}
 
 pub record IsGiven (space : Space) (slots : List NotedSlot) (lists_stray : Bool) : Type 0 where
   pub formed : IsWellFormed space.image.now

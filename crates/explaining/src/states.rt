@@ -1,7 +1,9 @@
 //! What is known at a point: by its record, or by what follows from the point before it.
 
-ghost use Rattle.explaining.specs.Given.{IsGiven};
 ghost use Rattle.std.specs.Prelude.{◌≡◌, []};
+ghost use Rattle.explaining.specs.Given.{IsGiven};
+ghost use Rattle.model.specs.Acceptance.NotedStates.{PointState, has_stray_slots};
+ghost use Rattle.typestate.specs.Differences.{slots_of};
 
 use crate::scenes::{Scene, record_at, shown, told};
 use image::RecordRef;
@@ -13,7 +15,8 @@ use rv32_isa::decode;
 use std::alloc::AllocError;
 use thread_spaces::slots_are_own;
 use typestate::{
-    Behind, NotedSlot, NotedSlots, Part, SlotLog, ThreadSlots, no_stray_slot_leads_outside,
+    Behind, NotedSlot, NotedSlots, Part, SlotLog, ThreadSlots, ToldSlots,
+    no_stray_slot_leads_outside,
 };
 
 /// What is known at a point. The slots are the image's with some changes.
@@ -177,6 +180,22 @@ impl<'a> Scene<'a, '_, '_, '_, '_> {
         Ok(Ok(Called { behind, changes }))
     }
 
+    /// Whether one of some slots at a point is one that the thread may not have, or its record notes one outside of its CNodes.
+    fn have_stray_slot(&self, point: u32, slots: &NotedSlots<'_>) -> bool
+        requires given { IsGiven self.now.space self.now.slots.now self.now.lists_stray }
+        requires image { slots.now.image.now ≡ self.now.slots.now }
+        ensures { (state : PointState) → state.slots ≡ slots_of slots.now → result ≡ has_stray_slots self.now.space.image.now self.now.space.thread.now point state }
+    {
+        let noted = record_at(self.space.thread, point);
+        let told = ToldSlots {
+            space: self.space,
+            slots: *slots,
+            lists_stray: self.lists_stray,
+            is_clean: false,
+        };
+        told.has_stray_slots(noted.as_ref())
+    }
+
     /// Whether a slot at a point is one that the thread may not have, or its record notes one outside of its CNodes.
     pub(crate) fn has_stray_slots(&self, point: u32, state: &State) -> Result<bool, AllocError>
         requires { IsGiven self.now.space self.now.slots.now self.now.lists_stray }
@@ -184,15 +203,7 @@ impl<'a> Scene<'a, '_, '_, '_, '_> {
         let mut log = SlotLog::new(self.alloc);
         let part = log.follow(Part { first: 0, end: 0 }, &state.changes)?;
         let here = shown(self.alloc, &log, part)?;
-        let noted = record_at(self.space.thread, point);
-        Ok(
-            self.space.has_stray_slots(
-                &here.slots(self.slots),
-                noted.as_ref(),
-                self.lists_stray,
-                false,
-            ),
-        )
+        Ok(self.have_stray_slot(point, &here.slots(self.slots)))
     }
 
     /// What the system call at a point leaves of the registers. The slots that it changes are put into the list, which is empty.
@@ -207,11 +218,7 @@ impl<'a> Scene<'a, '_, '_, '_, '_> {
         requires image { slots.now.image.now ≡ self.now.slots.now }
         requires none { made.old.items ≡ [] }
     {
-        let noted = record_at(self.space.thread, at.point);
-        if self
-            .space
-            .has_stray_slots(slots, noted.as_ref(), self.lists_stray, false)
-        {
+        if self.have_stray_slot(at.point, slots) {
             return Ok(Err(Refusal::CapNotThere(at)));
         }
         no_stray_slot_leads_outside();

@@ -58,19 +58,10 @@ impl Scene<'_, '_, '_, '_, '_> {
         let Ok(slot) = called_slot(&own, self.space.root, address) else {
             return Ok(None);
         };
-        let number = slot.number();
-        for window in self.space.windows {
-            let first = window.offset / 16;
-            let count = 1u32 << (window.radix & 31);
-            if first <= number && number.wrapping_sub(first) < count {
-                let key = SlotKey {
-                    cnode: window.cnode,
-                    index: number.wrapping_sub(first),
-                };
-                return Ok(Some((key, own.capability(slot))));
-            }
-        }
-        Ok(None)
+        let Some(key) = self.space.windows.key(slot.number()) else {
+            return Ok(None);
+        };
+        Ok(Some((key, own.capability(slot))))
     }
 
     /// Puts the name of a register of a call.

@@ -17,7 +17,9 @@ use model::Refusal;
 use ranges::Bounds;
 use std::alloc::AllocError;
 use thread_spaces::slots_are_own;
-use typestate::{Behind, NotedSlot, NotedSlots, ThreadSlots, no_stray_slot_leads_outside};
+use typestate::{
+    Behind, NotedSlot, NotedSlots, ThreadSlots, ToldSlots, no_stray_slot_leads_outside,
+};
 
 impl Program<'_, '_> {
     /// Whether some slot at a point is one that the thread may not have, or the point's record notes one outside of the
@@ -34,8 +36,13 @@ impl Program<'_, '_> {
         requires clean { is_clean ≡ true → NoneStray self.now.space.image.now self.now.space.thread.now (slots_of slots.now) }
         ensures { (ranges : List Range) (measure : Measure) → result ≡ has_stray_slots self.now.space.image.now self.now.space.thread.now point (known_with ranges (slots_of slots.now) measure) }
     {
-        self.space
-            .has_stray_slots(slots, noted, self.lists_stray, is_clean)
+        let told = ToldSlots {
+            space: self.space,
+            slots: *slots,
+            lists_stray: self.lists_stray,
+            is_clean,
+        };
+        told.has_stray_slots(noted)
     }
 
     /// What the system call at a point leaves, or why it is refused, and whether it is known to leave no slot that the thread

@@ -27,9 +27,10 @@ use Rattle.model.specs.Images.Places.{interrupt_of, is_handler, offset_of, type_
 use Rattle.model.specs.Kernel.AddressSpaces.{page_size, region_pages}
 use Rattle.model.specs.Kernel.Retype.{NewObject, NewUntyped, NewThread, NewEndpoint, NewNotification, NewCNode, NewFrame, NewPageTable, NewRootTable, first_capability}
 use Rattle.typestate.specs.Differences.{changed}
+use Rattle.typestate.specs.Orders.{is_narrow}
 use Rattle.typestate.specs.Spaces.{AreOwn, is_own_slot}
 use Rattle.typestate.proofs.Laws.{found-all, found-key}
-use Rattle.thread_spaces.specs.Given.{IsListed, is_narrow}
+use Rattle.thread_spaces.specs.Given.{IsListed}
 use Rattle.thread_spaces.proofs.GivenCNodes.{reached-cnode}
 use Rattle.thread_spaces.proofs.ListedCapabilities.{source-inside}
 use Rattle.thread_spaces.proofs.ListedSlots.{slots_in}

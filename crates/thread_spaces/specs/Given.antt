@@ -1,9 +1,7 @@
 -- What an image gives a thread.
-use Rattle.std.specs.Prelude.{ℕ, ◌≡◌, ◌<◌, ◌≤◌, ◌^◌, Bool, true, nat_lt, Some, List, length, slice_get, slice_index}
-use Rattle.std.specs.Option.{option_map_or}
+use Rattle.std.specs.Prelude.{ℕ, ◌≡◌, ◌<◌, ◌≤◌, Some, List, length, slice_get, slice_index}
 use Rattle.model.specs.declared.entries.CapabilityEntry.{CapabilityEntry}
 use Rattle.model.specs.Images.Image.{Image, Thread}
-use Rattle.model.specs.Acceptance.NotedStates.{NotedSlot}
 use Rattle.model.specs.Acceptance.WellFormed.{radix_of}
 use Rattle.model.specs.Images.Places.{offset_of, type_at}
 
@@ -29,7 +27,3 @@ pub record IsCNode (image : Image) (number : ℕ) : Type 0 where
 pub record IsEntry (image : Image) (c : CapabilityEntry) : Type 0 where
   pub number : ℕ
   pub listed : slice_get image.capabilities number ≡ Some c
-
--- what the slot was derived from has an index of 32 bits
-abbrev pub is_narrow : NotedSlot → Bool
-is_narrow s = option_map_or (λ key. nat_lt key.index (2 ^ 32)) s.parent true

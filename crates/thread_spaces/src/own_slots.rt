@@ -1,40 +1,14 @@
 //! Slots at a point where none is stray.
 
-ghost use Rattle.std.specs.Prelude.{ℕ, ◌≡◌, ◌^◌, false, nat_lt, true};
-ghost use Rattle.std.specs.List.{list_all};
+ghost use Rattle.std.specs.Prelude.{ℕ, ◌≡◌, false};
 ghost use Rattle.model.specs.Acceptance.Accepted.{IsWellFormed};
 ghost use Rattle.model.specs.Acceptance.NotedStates.{PointState, has_stray_slots, image_slots};
-ghost use Rattle.thread_spaces.specs.Given.{IsListed, is_narrow};
+ghost use Rattle.thread_spaces.specs.Given.{IsListed};
 ghost use Rattle.typestate.specs.Differences.{slots_of};
 ghost use Rattle.typestate.specs.Spaces.{AreOwn};
 
 use image::{ImageRef, ThreadRef};
-use typestate::{NotedSlot, NotedSlots};
-
-/// An index has 32 bits.
-fn low(index: u32)
-    ensures { nat_lt index (2 ^ 32) ≡ true }
-{
-    let _ = index;
-}
-
-/// What a slot was derived from has an index of 32 bits, as its type says.
-fn narrow(slot: &NotedSlot)
-    ensures { is_narrow slot.now ≡ true }
-{
-    if let Some(key) = slot.parent {
-        low(key.index);
-    }
-}
-
-/// What these slots were derived from has indices of 32 bits.
-fn all_narrow(slots: &[NotedSlot])
-    ensures { list_all is_narrow slots.now ≡ true }
-{
-    for slot in slots {
-        narrow(slot);
-    }
-}
+use typestate::NotedSlots;
 
 /// Where no slot is one that the thread may not have, each is full and one of its CNodes', and so is what it was derived
 /// from, if that does not stand in the boot CNode.
@@ -45,5 +19,4 @@ pub fn slots_are_own(image: &ImageRef<'_>, thread: &ThreadRef<'_>, slots: &Noted
     ensures { (point : ℕ) (state : PointState) → state.slots ≡ slots_of slots.now → has_stray_slots image.now thread.now point state ≡ false → AreOwn image.now thread.now (slots_of slots.now) }
 {
     let _ = image.header();
-    all_narrow(slots.changes);
 }

@@ -26,9 +26,7 @@ fn put(numbers: &mut BTreeSet<u32>, number: u32) -> Result<(), Refusal>
     ensures put { OnOk result ((n : ℕ) → is_among numbers.new.keys n ≡ (number == n || is_among numbers.old.keys n)) }
     ensures memory { IfErr result (λ refusal. refusal ≡ OutOfMemory) }
 {
-    if numbers.insert(number).is_err() {
-        return Err(Refusal::OutOfMemory);
-    }
+    numbers.insert(number)?;
     Ok(())
 }
 

@@ -12,7 +12,7 @@ ghost use Rattle.typestate.specs.Spaces.{AreWindows, IsSpace};
 use crate::space_laws::{mappings_are_listed, threads_stand_apart};
 use image::{ImageRef, ThreadRef};
 use model::Cap;
-use typestate::{Space, Window};
+use typestate::{Space, Windows};
 use wellformed::{object_at, radix_of};
 
 /// The root of a thread's capability space: its CNode, with its guard word.
@@ -50,7 +50,7 @@ pub fn given_space<'a, 's>(
     image: &'s ImageRef<'a>,
     thread: &'s ThreadRef<'a>,
     offsets: &[u32],
-    windows: &'s [Window],
+    windows: &'s Windows,
 ) -> Space<'a, 's>
     requires formed { IsWellFormed image.now }
     requires listed { IsListed image.now thread.now }

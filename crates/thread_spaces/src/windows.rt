@@ -6,9 +6,10 @@ ghost use Rattle.model.specs.Acceptance.ThreadRules.{reached};
 ghost use Rattle.thread_spaces.specs.Given.{AreOffsets, IsCNode, IsListed};
 ghost use Rattle.typestate.specs.Spaces.{AreWindows, IsWindow};
 
+use crate::space_laws::threads_stand_apart;
 use image::{ImageRef, ThreadRef};
 use std::alloc::{AllocError, Global};
-use typestate::Window;
+use typestate::{Window, Windows};
 use wellformed::{NumberSet, object_at, radix_of};
 
 /// Where a CNode stands.
@@ -34,17 +35,18 @@ pub fn windows_of(
     thread: &ThreadRef<'_>,
     offsets: &[u32],
     cnodes: &NumberSet,
-) -> Result<Vec<Window>, AllocError>
+) -> Result<Windows, AllocError>
     requires formed { IsWellFormed image.now }
     requires listed { IsListed image.now thread.now }
     requires offsets { AreOffsets image.now image.now.header.objects offsets.now }
     requires cnodes { cnodes.now ≡ reached image.now thread.now }
-    ensures { IfOk result (λ windows. AreWindows image.now (reached image.now thread.now) windows.items) }
+    ensures { IfOk result (λ windows. AreWindows image.now (reached image.now thread.now) windows) }
 {
     let _ = image.header();
+    threads_stand_apart();
     let mut windows = Vec::new(alloc);
     'cnodes: for place in 0..cnodes.len() {
         windows.push(window_of(image, offsets, cnodes.at(place)))?;
     }
-    Ok(windows)
+    Windows::new(alloc, windows)
 }

@@ -14,7 +14,7 @@ use Rattle.model.specs.Images.Format.{◌>>=◌}
 use Rattle.model.specs.Kernel.Messages.{a0, a7}
 use Rattle.model.specs.Kernel.Steps.{call_of}
 use Rattle.model.specs.Images.Image.{Image, Thread}
-use Rattle.typestate.specs.declared.windows.Space.{Space}
+use Rattle.typestate.specs.declared.spaces.Space.{Space}
 use Rattle.typestate.specs.Calls.{by_kind, found_call, ruled_by, slot_called}
 use Rattle.typestate.specs.declared.system_calls.Kind.{Kind}
 use Rattle.typestate.specs.Spaces.{IsSpace, NothingLeadsOutside, own_slots}

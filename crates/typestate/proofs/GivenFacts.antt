@@ -21,7 +21,7 @@ use Rattle.typestate.specs.GivenSpaces.{AreWindows, HeldInBoot, StandsApart}
 use Rattle.typestate.specs.Mappings.{MappingsAreListed}
 use Rattle.typestate.specs.Spaces.{IsSpace}
 use Rattle.typestate.specs.declared.window.Window.{Window}
-use Rattle.typestate.specs.declared.windows.Space.{Space}
+use Rattle.typestate.specs.declared.spaces.Space.{Space}
 
 -- ---- what is found
 

@@ -1,6 +1,7 @@
 -- What the crates above use of these proofs.
 pub use Rattle.typestate.proofs.Allowed.{slots_allowed}
 pub use Rattle.typestate.proofs.Compared.{decided}
+pub use Rattle.typestate.proofs.FoundWindows.{windows-apart}
 pub use Rattle.typestate.proofs.HeldCaps.{none-among, root-near, some-taken}
 pub use Rattle.typestate.proofs.KernelDepths.{depth-is, stays-there}
 pub use Rattle.typestate.proofs.Lookups.{index-below}

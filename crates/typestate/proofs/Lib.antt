@@ -1,6 +1,7 @@
 mod SlotLists
 mod Lookups
 mod SlotMaps
+mod FoundWindows
 mod CalledCaps
 mod Words
 mod Forms
@@ -27,6 +28,7 @@ mod Inside
 mod KernelDepths
 mod PutPlaces
 mod Puts
+mod NarrowChanges
 mod CopyCalls
 mod Allowed
 mod MoveCalls

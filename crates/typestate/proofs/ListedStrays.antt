@@ -3,7 +3,7 @@ use Rattle.std.proofs.Common.{ℕ, zero, suc, ◌≡◌, ◌||◌, Bool, true, f
 use Rattle.std.specs.List.{list_any}
 use Rattle.model.specs.Acceptance.NotedStates.{NotedSlot, SlotKey, is_foreign, is_own, leads_to_boot}
 use Rattle.model.specs.Capabilities.CapabilityFields.{is_capability}
-use Rattle.typestate.specs.declared.windows.Space.{Space}
+use Rattle.typestate.specs.declared.spaces.Space.{Space}
 use Rattle.typestate.specs.Strays.{cnodes_of, is_stray_in}
 
 leads-beside : (n : ℕ) (slots : List NotedSlot) (parent : Option SlotKey) → leads_to_boot 0 [] parent ≡ true → leads_to_boot n slots parent ≡ true

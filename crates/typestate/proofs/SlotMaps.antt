@@ -24,7 +24,7 @@ use Rattle.typestate.proofs.Lookups.{AgreeInside}
 abbrev key_at : Image → ℕ → ℕ → SlotKey
 key_at image slot cnode = record { cnode = cnode; index = slot - cnode_slot image cnode 0 }
 
-stands-same : (image : Image) (cnode : ℕ) (w : Window) (slot : ℕ) → IsWindow image cnode w → stands_within slot w ≡ stands_in image slot cnode
+pub stands-same : (image : Image) (cnode : ℕ) (w : Window) (slot : ℕ) → IsWindow image cnode w → stands_within slot w ≡ stands_in image slot cnode
 stands-same image cnode w slot is =
     ap (λ offset. is_within (slot_of offset 0) (2 ^ w.radix) slot) is.place
     ∙ ap (λ (radix : Option ℕ). is_within (cnode_slot image cnode 0) (option_map_or (λ r. 2 ^ r) radix 0) slot) (sym is.size)

@@ -14,7 +14,7 @@ use Rattle.typestate.specs.SlotChanges.{emptied, followed, heir, is_parent, is_r
 use Rattle.typestate.specs.Strays.{NoneStray, cnodes_of, is_stray_in, is_tidy, is_tidy_put, is_unfit, keeps_line, keeps_parent}
 use Rattle.typestate.specs.declared.slot_changes.SlotChange.{SlotChange}
 use Rattle.typestate.specs.declared.slot_changes.SlotChange.TheVariants.{Nothing, Puts, Moves, Removes}
-use Rattle.typestate.specs.declared.windows.Space.{Space}
+use Rattle.typestate.specs.declared.spaces.Space.{Space}
 use Rattle.typestate.proofs.Compared.{same-place}
 use Rattle.typestate.proofs.LevelByLevel.{removed-same}
 use Rattle.typestate.proofs.MoveCalls.{follows-keeps, map-at, map-rises}

@@ -1,5 +1,5 @@
 -- What a well-formed image gives a thread: the places of its CNodes, how they stand among all slots, and what is mapped.
-use Rattle.std.specs.Prelude.{ℕ, ◌≡◌, ◌/◌, ◌^◌, ◌<◌, ◌≤◌, ◌⊎◌, Bool, true, false, None, Some, List, [], ◌∷◌}
+use Rattle.std.specs.Prelude.{ℕ, ◌≡◌, ◌/◌, ◌^◌, ◌<◌, ◌≤◌, ◌⊎◌, Bool, true, false, None, Some, List, [], ◌∷◌, find, slice_get}
 use Rattle.model.specs.declared.capabilities.Cap.{Cap}
 use Rattle.model.specs.declared.capabilities.Cap.TheVariants.{Empty, CNode, Untyped}
 use Rattle.model.specs.Acceptance.NotedKernel.{boot_parent, key_of, slots_of_cnode, stands_in}
@@ -8,12 +8,12 @@ use Rattle.model.specs.Acceptance.ThreadRules.{is_member, reached}
 use Rattle.model.specs.Acceptance.WellFormed.{radix_of}
 use Rattle.model.specs.Capabilities.CapabilityKinds.{is_handler_of, is_untyped, names_object}
 use Rattle.model.specs.Capabilities.CapabilityWords.{IsCapability}
-use Rattle.model.specs.Capabilities.Slots.{capability_at, parent_at}
+use Rattle.model.specs.Capabilities.Slots.{capability_at, is_within, parent_at}
 use Rattle.model.specs.Images.Described.{described}
 use Rattle.model.specs.Images.Image.{Image, Thread}
 use Rattle.model.specs.Images.Places.{offset_of, type_at}
 use Rattle.model.specs.Kernel.Removal.{is_root_at, slot_count}
-use Rattle.model.specs.Kernel.State.{boot_area_slots, line_slot}
+use Rattle.model.specs.Kernel.State.{boot_area_slots, line_slot, slot_of}
 use Rattle.typestate.specs.Mappings.{MappingsAreListed}
 use Rattle.typestate.specs.declared.window.Window.{Window}
 
@@ -30,6 +30,17 @@ AreWindows image [] [] = Unit {0}
 AreWindows image [] (w ∷ ws) = ⊥
 AreWindows image (cnode ∷ cnodes) [] = ⊥
 AreWindows image (cnode ∷ cnodes) (w ∷ ws) = IsWindow image cnode w × AreWindows image cnodes ws
+
+-- one of these
+abbrev pub IsThere : List Window → Window → Type 0
+IsThere windows w = (n : ℕ) × (slice_get windows n ≡ Some w)
+
+abbrev pub stands_within : ℕ → Window → Bool
+stands_within slot w = is_within (slot_of w.offset 0) (2 ^ w.radix) slot
+
+-- no slot stands in two of these: each is the one that is found for its slots
+abbrev pub AreApart : List Window → Type 0
+AreApart windows = (slot n : ℕ) (w : Window) → slice_get windows n ≡ Some w → stands_within slot w ≡ true → find (stands_within slot) windows ≡ Some w
 
 -- a capability, if it is to a CNode, is to one of these by offset and radix
 abbrev pub is_among : (ℕ → ℕ → Bool) → Cap → Bool

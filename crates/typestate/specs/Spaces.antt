@@ -8,18 +8,15 @@ use Rattle.model.specs.Acceptance.NotedKernel.{noted_root}
 use Rattle.model.specs.Acceptance.NotedStates.{NotedSlot, SlotKey, is_foreign, is_own, slot_at}
 use Rattle.model.specs.Acceptance.ThreadRules.{reached}
 use Rattle.model.specs.Capabilities.CapabilityWords.{IsCapability}
-use Rattle.model.specs.Capabilities.Slots.{Slots, is_empty, is_within}
+use Rattle.model.specs.Capabilities.Slots.{Slots, is_empty}
 use Rattle.model.specs.Images.Image.{Image, Thread}
 use Rattle.model.specs.Images.Places.{offset_of}
 use Rattle.model.specs.Kernel.State.{slot_of}
-pub use Rattle.typestate.specs.GivenSpaces.{AreWindows, HeldInBoot, IsWindow, StandsApart, is_among, is_inside}
+pub use Rattle.typestate.specs.GivenSpaces.{AreApart, AreWindows, HeldInBoot, IsThere, IsWindow, StandsApart, is_among, is_inside, stands_within}
 use Rattle.typestate.specs.declared.window.Window.{Window}
-use Rattle.typestate.specs.declared.windows.Space.{Space}
+use Rattle.typestate.specs.declared.spaces.Space.{Space}
 
 -- ---- from numbers to keys
-
-abbrev pub stands_within : ℕ → Window → Bool
-stands_within slot w = is_within (slot_of w.offset 0) (2 ^ w.radix) slot
 
 abbrev pub key_within : ℕ → Window → SlotKey
 key_within slot w = record { cnode = w.cnode; index = slot - slot_of w.offset 0 }

@@ -14,7 +14,7 @@ use Rattle.typestate.specs.declared.behind.Behind.{Behind}
 use Rattle.typestate.specs.declared.slot_changes.SlotChange.{SlotChange}
 use Rattle.typestate.specs.declared.slot_changes.SlotChange.TheVariants.{Nothing, Puts, Moves, Removes}
 use Rattle.typestate.specs.declared.window.Window.{Window}
-use Rattle.typestate.specs.declared.windows.Space.{Space}
+use Rattle.typestate.specs.declared.spaces.Space.{Space}
 
 -- whether a slot of this key stands in the CNode
 abbrev pub has_key : SlotKey → Window → Bool

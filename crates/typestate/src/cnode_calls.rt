@@ -18,7 +18,6 @@ ghost use Rattle.typestate.specs.SlotChanges.{left_or_refused};
 ghost use Rattle.typestate.specs.Spaces.{AreOwn, StandsApart};
 
 use crate::roots::OwnRoot;
-use crate::spaces::key_in;
 use crate::{NotedSlot, NotedSlots, OwnSlots, Removed, SlotChange, SlotKey, ThreadSlots};
 use cap_copies::{copy_of, minted_copy_of};
 use cspace::argument_slot;
@@ -101,7 +100,7 @@ impl OwnRoot<'_, '_, '_> {
             Ok(slot) => slot,
             Err(error) => return Err(error),
         };
-        match key_in(self.own.space.windows, slot.number()) {
+        match self.own.space.windows.key(slot.number()) {
             Some(key) => Ok((key, self.own.slots.capability(key))),
             None => unreachable!(),
         }

@@ -13,7 +13,6 @@ ghost use Rattle.typestate.specs.Spaces.{own_slots};
 use crate::held_slots::HeldSlot;
 use crate::pools::Pool;
 use crate::roots::OwnRoot;
-use crate::spaces::key_in;
 use crate::{NotedSlot, SlotChange, ThreadSlots, tidy_changes_leave_no_stray_slot};
 use model::{Invocation, Point, Refusal};
 use std::alloc::AllocError;
@@ -47,7 +46,7 @@ impl ThreadSlots<'_, '_, '_> {
         ensures held { slot_at (slots_of self.now.slots) result.key ≡ Some result }
         ensures capability { result.capability ≡ capability_at (own_slots self.now.space.windows.now (slots_of self.now.slots)) slot }
     {
-        let Some(key) = key_in(self.space.windows, slot) else {
+        let Some(key) = self.space.windows.key(slot) else {
             unreachable!()
         };
         let Some(held) = self.slots.at(key) else {

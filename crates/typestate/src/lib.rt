@@ -21,6 +21,7 @@ mod messages;
 mod near;
 mod new_objects;
 mod noted;
+mod own_slots;
 mod plain_calls;
 mod points;
 mod pool_calls;
@@ -39,6 +40,7 @@ mod strays;
 mod system_calls;
 mod thread_slots;
 mod tidy;
+mod told_slots;
 mod window;
 mod windows;
 
@@ -49,6 +51,7 @@ pub use keys::{NotedSlot, SlotKey};
 pub use logs::{Part, ShownPart, SlotLog};
 pub use mapped_pages::MappedPages;
 pub use messages::message_call;
+pub use own_slots::OwnSlots;
 pub use points::NotedSlots;
 pub use records::note_record;
 pub use slot_changes::{
@@ -59,8 +62,9 @@ pub use slot_laws::{
     no_stray_slot_leads_outside, points_without_stray_slots_have_none, records_note_changes,
     tidy_changes_leave_no_stray_slot, tidy_puts_leave_no_stray_slot,
 };
-pub use spaces::OwnSlots;
+pub use spaces::Space;
 pub use system_calls::SystemCall;
 pub use thread_slots::ThreadSlots;
+pub use told_slots::ToldSlots;
 pub use window::Window;
-pub use windows::Space;
+pub use windows::Windows;

@@ -3,7 +3,7 @@
 ghost use Rattle.std.specs.Prelude.{[]};
 ghost use Rattle.std.specs.Option.{option_map_or};
 ghost use Rattle.typestate.specs.Families.{AreLinked};
-ghost use Rattle.typestate.specs.Orders.{Rise};
+ghost use Rattle.typestate.specs.Orders.{AreNarrow, Rise};
 ghost use Rattle.typestate.specs.Pages.{ArePaged};
 ghost use Rattle.typestate.specs.Unlinked.{AreUnlinked};
 
@@ -22,6 +22,7 @@ pub struct NotedSlots<'s> {
     pub pages: Option<&'s MappedPages>,
     ghost rising: { Rise image.now },
     ghost ordered: { Rise changes.now },
+    ghost narrow: { AreNarrow changes.now },
     ghost unlinked: { AreUnlinked image.now },
     ghost linked: { AreLinked changes.now (option_map_or (λ f. f.now.links.keys) families []) },
     ghost paged: { ArePaged changes.now (option_map_or (λ p. p.now.slots.keys) pages []) },

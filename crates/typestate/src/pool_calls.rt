@@ -138,18 +138,6 @@ impl Window {
     }
 }
 
-/// The CNode of an offset and a radix.
-fn window_at(windows: &[Window], offset: u32, radix: u8) -> Option<Window>
-    ensures { result ≡ find (is_at offset radix) windows.now }
-{
-    for window in windows {
-        if window.is_at(offset, radix) {
-            return Some(*window);
-        }
-    }
-    None
-}
-
 impl NewObjects {
     /// The slot with the first capability to the object of a number.
     fn made_slot(&self, i: u32) -> NotedSlot
@@ -198,7 +186,7 @@ impl OwnRoot<'_, '_, '_> {
         let Cap::CNode { offset, radix, .. } = self.root else {
             return Err(KError::FailedLookup);
         };
-        match window_at(self.own.space.windows, offset, radix) {
+        match self.own.space.windows.at(offset, radix) {
             Some(window) => Ok(window),
             None => unreachable!(),
         }

@@ -1,9 +1,9 @@
 //! Changes by their slots, by what these were derived from, and by the pages that they map.
 
-ghost use Rattle.std.specs.Prelude.{◌≡◌, [], IfErr, IfOk, Some, List, if◌then◌else◌};
+ghost use Rattle.std.specs.Prelude.{◌≡◌, ◌^◌, [], IfErr, IfOk, Some, List, if◌then◌else◌, nat_lt, true};
 ghost use Rattle.model.specs.Acceptance.NotedStates.{NotedSlot, SlotKey, is_same_key, slot_at};
 ghost use Rattle.typestate.specs.Differences.{changed, slots_of};
-ghost use Rattle.typestate.specs.Orders.{Rise};
+ghost use Rattle.typestate.specs.Orders.{AreNarrow, Rise, is_narrow};
 ghost use Rattle.typestate.specs.Unlinked.{AreUnlinked};
 
 use crate::noted::listed;
@@ -20,13 +20,31 @@ pub struct ShownChanges {
     pages: MappedPages,
 }
 
+/// An index has 32 bits.
+fn low(index: u32)
+    ensures { nat_lt index (2 ^ 32) ≡ true }
+{
+    let _ = index;
+}
+
+/// What a slot was derived from has an index of 32 bits, as its type says.
+fn narrow(slot: &NotedSlot)
+    ensures { is_narrow slot.now ≡ true }
+{
+    if let Some(key) = slot.parent {
+        low(key.index);
+    }
+}
+
 /// Puts a change among changes whose keys rise, in place of one to the same slot. Memory may be refused.
 pub(crate) fn put(changes: &mut Vec<NotedSlot>, change: NotedSlot) -> Result<(), AllocError>
     requires { Rise changes.old.items }
     ensures rising { IfOk result (λ _. Rise changes.new.items) }
     ensures same { IfOk result (λ _. (key : SlotKey) → slot_at changes.new.items key ≡ (if is_same_key change.key key then Some change else slot_at changes.old.items key)) }
+    ensures narrow { IfOk result (λ _. AreNarrow changes.old.items → AreNarrow changes.new.items) }
     ensures kept { IfErr result (λ _. changes.new.items ≡ changes.old.items) }
 {
+    narrow(&change);
     match changes.binary_search_by_key(&change.key.number(), |slot| slot.key.number()) {
         Ok(place) => changes[place] = change,
         Err(place) => changes.insert(place, change)?,
@@ -38,13 +56,14 @@ impl Model for ShownChanges {
     ghost use Rattle.std.specs.Prelude.{List};
     ghost use Rattle.model.specs.Acceptance.NotedStates.{NotedSlot};
     ghost use Rattle.typestate.specs.Families.{AreLinked};
+    ghost use Rattle.typestate.specs.Orders.{AreNarrow};
     ghost use Rattle.typestate.specs.Pages.{ArePaged};
 
     ghost Value = { List NotedSlot };
 
     ghost view = { λ shown. shown.changes.items };
 
-    ghost invariant = { λ shown. AreLinked shown.changes.items shown.families.links.keys × ArePaged shown.changes.items shown.pages.slots.keys };
+    ghost invariant = { λ shown. AreLinked shown.changes.items shown.families.links.keys × ArePaged shown.changes.items shown.pages.slots.keys × AreNarrow shown.changes.items };
 }
 
 impl ShownChanges {

@@ -10,7 +10,7 @@ ghost use Rattle.typestate.specs.SlotChanges.{slots_left};
 ghost use Rattle.typestate.specs.Spaces.{NothingLeadsOutside};
 ghost use Rattle.typestate.specs.Strays.{NoneStray, is_tidy, is_tidy_put};
 ghost use Rattle.typestate.specs.declared.slot_changes.SlotChange.{SlotChange};
-ghost use Rattle.typestate.specs.declared.windows.Space.{Space};
+ghost use Rattle.typestate.specs.declared.spaces.Space.{Space};
 
 /// The slots of a record are the image's with the slots that it notes as changes.
 pub fn records_note_changes()

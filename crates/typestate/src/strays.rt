@@ -1,45 +1,15 @@
 //! Slots that a thread may not have.
 
-ghost use Rattle.std.specs.Prelude.{ℕ, ◌≡◌, ◌||◌, [], length, option_map, true};
+ghost use Rattle.std.specs.Prelude.{ℕ, ◌≡◌, ◌||◌, [], length, option_map};
 ghost use Rattle.std.specs.List.{list_any};
 ghost use Rattle.model.specs.Acceptance.NotedStates.{PointState, has_stray_slots, is_foreign, is_own, leads_to_boot, notes_outside, record_of};
 ghost use Rattle.typestate.specs.Differences.{slots_of};
-ghost use Rattle.typestate.specs.Strays.{cnodes_of, has_key, is_at, NoneStray, is_stray_at, is_stray_in, is_unfit};
+ghost use Rattle.typestate.specs.Strays.{cnodes_of, is_stray_at, is_stray_in, is_unfit};
 
 use crate::records::key_of;
-use crate::{NotedSlot, NotedSlots, SlotKey, Space, Window};
+use crate::{NotedSlot, NotedSlots, SlotKey, Space, ToldSlots};
 use image::RecordRef;
 use model::Cap;
-
-impl Window {
-    /// Whether a slot of this key stands in the CNode.
-    fn has_key(&self, key: SlotKey) -> bool
-        ensures { result ≡ has_key key self.now }
-    {
-        key.cnode == self.cnode && key.index < self.slot_count()
-    }
-
-    /// Whether this is the CNode of an offset and a radix.
-    pub(crate) fn is_at(&self, offset: u32, radix: u8) -> bool
-        ensures { result ≡ is_at offset radix self.now }
-    {
-        self.offset == offset && self.radix == radix
-    }
-}
-
-/// Whether a slot of this key stands in one of these CNodes.
-fn have_key(windows: &[Window], key: SlotKey) -> bool
-    ensures { result ≡ list_any (has_key key) windows.now }
-{
-    windows.iter().any(|window| window.has_key(key))
-}
-
-/// Whether one of these is the CNode of an offset and a radix.
-fn are_at(windows: &[Window], offset: u32, radix: u8) -> bool
-    ensures { result ≡ list_any (is_at offset radix) windows.now }
-{
-    windows.iter().any(|window| window.is_at(offset, radix))
-}
 
 impl NotedSlots<'_> {
     /// Whether parents lead from a slot to the boot CNode. They may go round: no line is longer than there are slots.
@@ -65,7 +35,7 @@ impl Space<'_, '_> {
     pub fn is_own(&self, key: SlotKey) -> bool
         ensures { result ≡ is_own self.now.image.now (cnodes_of self.now) key }
     {
-        have_key(self.windows, key)
+        self.windows.have_key(key)
     }
 
     /// Whether a capability is none that the thread may have: one to a thread, a page table or interrupt control, or one
@@ -75,7 +45,7 @@ impl Space<'_, '_> {
     {
         match capability {
             Cap::Tcb { .. } | Cap::PageTable { .. } | Cap::InterruptControl => true,
-            Cap::CNode { offset, radix, .. } => !are_at(self.windows, offset, radix),
+            Cap::CNode { offset, radix, .. } => self.windows.at(offset, radix).is_none(),
             Cap::RootTable { offset } => offset != self.table,
             _ => false,
         }
@@ -135,29 +105,6 @@ impl Space<'_, '_> {
         false
     }
 
-    /// Whether a slot that the image lists is one that the thread may not have. Where none is by itself, none is beside others
-    /// either: what was told of them once is not asked again.
-    fn keeps_stray(&self, slots: &NotedSlots<'_>, lists_stray: bool) -> bool
-        requires listed { lists_stray ≡ list_any (is_stray_in self.now []) slots.now.image.now }
-        ensures { (result || list_any (λ k. is_stray_at self.now (slots_of slots.now) k.key) slots.now.changes.now) ≡ list_any (is_stray_in self.now (slots_of slots.now)) (slots_of slots.now) }
-    {
-        if lists_stray {
-            self.one_stray(slots, slots.image)
-        } else {
-            false
-        }
-    }
-
-    /// Whether some slot is one that the thread may not have.
-    fn has_stray(&self, slots: &NotedSlots<'_>, lists_stray: bool) -> bool
-        requires listed { lists_stray ≡ list_any (is_stray_in self.now []) slots.now.image.now }
-        ensures { result ≡ list_any (is_stray_in self.now (slots_of slots.now)) (slots_of slots.now) }
-    {
-        let listed = self.keeps_stray(slots, lists_stray);
-        let changed = self.one_stray(slots, slots.changes);
-        listed || changed
-    }
-
     /// Whether a record notes a slot outside of the thread's CNodes, be it full or empty.
     fn notes_outside(&self, noted: &RecordRef<'_>) -> bool
         ensures { result ≡ notes_outside self.now.image.now (cnodes_of self.now) noted.now }
@@ -169,27 +116,41 @@ impl Space<'_, '_> {
         }
         false
     }
+}
+
+impl ToldSlots<'_, '_, '_> {
+    /// Whether a slot that the image lists is one that the thread may not have. Where none is by itself, none is beside others
+    /// either: what was told of them once is not asked again.
+    fn keeps_stray(&self) -> bool
+        ensures { (result || list_any (λ k. is_stray_at self.now.space (slots_of self.now.slots) k.key) self.now.slots.changes.now) ≡ list_any (is_stray_in self.now.space (slots_of self.now.slots)) (slots_of self.now.slots) }
+    {
+        if self.lists_stray {
+            self.space.one_stray(&self.slots, self.slots.image)
+        } else {
+            false
+        }
+    }
+
+    /// Whether some slot is one that the thread may not have.
+    fn has_stray(&self) -> bool
+        ensures { result ≡ list_any (is_stray_in self.now.space (slots_of self.now.slots)) (slots_of self.now.slots) }
+    {
+        let listed = self.keeps_stray();
+        let changed = self.space.one_stray(&self.slots, self.slots.changes);
+        listed || changed
+    }
 
     /// Whether some noted slot of a point is one that the thread may not have, or the point's record, if it has one, notes a
-    /// slot outside of the thread's CNodes. Of the slots that the image lists it is told beforehand, and of all where it is
-    /// known that none is.
-    pub fn has_stray_slots(
-        &self,
-        slots: &NotedSlots<'_>,
-        noted: Option<&RecordRef<'_>>,
-        lists_stray: bool,
-        is_clean: bool,
-    ) -> bool
-        requires listed { lists_stray ≡ list_any (is_stray_in self.now []) slots.now.image.now }
-        requires clean { is_clean ≡ true → NoneStray self.now.image.now self.now.thread.now (slots_of slots.now) }
-        ensures { (point : ℕ) (state : PointState) → state.slots ≡ slots_of slots.now → record_of self.now.thread.now point ≡ option_map (λ r. r.now) noted.entry
-            → result ≡ has_stray_slots self.now.image.now self.now.thread.now point state }
+    /// slot outside of the thread's CNodes.
+    pub fn has_stray_slots(&self, noted: Option<&RecordRef<'_>>) -> bool
+        ensures { (point : ℕ) (state : PointState) → state.slots ≡ slots_of self.now.slots → record_of self.now.space.thread.now point ≡ option_map (λ r. r.now) noted.entry
+            → result ≡ has_stray_slots self.now.space.image.now self.now.space.thread.now point state }
     {
-        if !is_clean && self.has_stray(slots, lists_stray) {
+        if !self.is_clean && self.has_stray() {
             return true;
         }
         match noted {
-            Some(noted) => self.notes_outside(noted),
+            Some(noted) => self.space.notes_outside(noted),
             None => false,
         }
     }

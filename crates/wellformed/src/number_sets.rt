@@ -72,12 +72,10 @@ impl NumberSet {
             return Ok(());
         }
         let place = number as usize;
-        if self.marks.len() <= place && self.marks.resize(place + 1, false).is_err() {
-            return Err(Refusal::OutOfMemory);
+        if self.marks.len() <= place {
+            self.marks.resize(place + 1, false)?;
         }
-        if self.numbers.push(number).is_err() {
-            return Err(Refusal::OutOfMemory);
-        }
+        self.numbers.push(number)?;
         self.marks[place] = true;
         Ok(())
     }

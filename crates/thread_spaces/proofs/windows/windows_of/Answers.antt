@@ -1,6 +1,8 @@
 -- What is reached are CNodes.
-use Rattle.std.proofs.Common.{◌+◌, take, sym, subst}
+use Rattle.std.proofs.Common.{ℕ, ◌∙◌, ◌+◌, ◌≤◌, List, length, take, take_all, sym, subst}
 use Rattle.typestate.specs.Spaces.{AreWindows}
+use Rattle.typestate.proofs.Laws.{windows-apart}
+use Rattle.typestate.proofs.Laws.{windows-apart}
 use Rattle.thread_spaces.proofs.GivenCNodes.{cnode-at}
 use Rattle.thread_spaces.proofs.WindowLists.{windows-more}
 use Rattle.thread_spaces.proofs.windows.windows_of.Goals as goal
@@ -13,3 +15,13 @@ pub cnodes-preserved : goal.cnodes-preserved
 cnodes-preserved c =
     subst (AreWindows c.args.image.now (take (c.cnodes.place + 1) c.args.cnodes.now)) (sym c.in_ok-push.ensures.items)
     (windows-more c.args.image.now c.args.cnodes.now c.cnodes.windows.items c.cnodes.place c.at.result c.window_of.result c.at.ensures c.cnodes.invariant c.window_of.ensures)
+
+pub new-requires : goal.new-requires
+new-requires c =
+    let image = c.args.image.now in
+    let t = c.args.thread.now in
+    let apart = c.threads_stand_apart.ensures image t c.header.ensures.fits c.requires.formed c.requires.listed in
+    let windows = c.cnodes.windows.items in
+    let place = c.cnodes.place in
+    let all : length c.args.cnodes.now ≤ place = subst (λ (n : ℕ). n ≤ place) c.len-place-end.ensures c.cnodes-test.false in
+    windows-apart image t windows apart (subst (λ (cnodes : List ℕ). AreWindows image cnodes windows) (take_all place c.args.cnodes.now all ∙ c.requires.cnodes) c.cnodes.invariant)

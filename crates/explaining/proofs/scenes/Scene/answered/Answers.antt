@@ -14,7 +14,7 @@ invariant_of-own c =
     let state = known_with c.args.bounds.now (slots_of c.args.slots.now) nothing in
     record {
       inside = c.no_stray_slot_leads_outside.ensures c.args.self.now.space.image.now c.args.self.now.space.thread.now c.args.at.point state
-          (sym (c.has_stray_slots.ensures c.args.at.point state refl (sym (c.as_ref.ensures.value ∙ c.record_at-noted.ensures))) ∙ c.if-has_stray_slots.false);
+          (sym (c.have_stray_slot.ensures state refl) ∙ c.if-have_stray_slot.false);
       own = c.slots_are_own.ensures c.args.at.point state refl
-          (sym (c.has_stray_slots.ensures c.args.at.point state refl (sym (c.as_ref.ensures.value ∙ c.record_at-noted.ensures))) ∙ c.if-has_stray_slots.false);
+          (sym (c.have_stray_slot.ensures state refl) ∙ c.if-have_stray_slot.false);
     }

@@ -5,6 +5,8 @@ use Rattle.model.specs.Acceptance.NotedStates.{NotedSlot}
 use Rattle.program_rules.proofs.programs.Program.has_stray_slots.Goals as goal
 use Rattle.typestate.specs.Strays.{is_stray_in}
 
-pub has_stray_slots-requires-clause-listed : goal.has_stray_slots-requires-clause-listed
-has_stray_slots-requires-clause-listed c =
-    c.args.self.now.told ∙ ap (λ (slots : List NotedSlot). list_any (is_stray_in c.args.self.now.space []) slots) (sym c.requires.image)
+pub invariant_of-told : goal.invariant_of-told
+invariant_of-told c = record {
+  listed = c.args.self.now.told ∙ ap (λ (slots : List NotedSlot). list_any (is_stray_in c.args.self.now.space []) slots) (sym c.requires.image);
+  clean = c.requires.clean;
+}
