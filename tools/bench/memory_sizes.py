@@ -5,7 +5,7 @@
 
 The key store of the gallery in memory of 2^18 and 2^24 bytes, 60,000 steps with its events over and over: instructions of the whole run, by
 valgrind's callgrind, less those of one step. The smallest sample in memory of 2^16 and 2^24 bytes, one step: instructions, user and system
-seconds (the least of ten runs), and the most memory that the process had.
+seconds (the least of ten runs), and the most memory that the process had; that is no less than what the interpreter of this script has.
 """
 import argparse
 import os
