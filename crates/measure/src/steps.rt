@@ -34,7 +34,7 @@ impl Step for Unchanged {
 }
 
 /// A register that an instruction writes, and what it becomes.
-#[derive(Clone, Copy, Debug)]
+#[derive(Clone, Copy)]
 struct Written {
     register: Register,
     value: Value,

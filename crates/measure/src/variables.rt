@@ -7,7 +7,7 @@ ghost use Rattle.measure.specs.Variables.{is_named};
 use crate::Value;
 
 /// Some of the variables 0 to 63 on an edge: a form counts few of them, so that extremes need not look at the others.
-#[derive(Clone, Copy, Debug)]
+#[derive(Clone, Copy)]
 pub(crate) struct Variables {
     named: [bool; 64],
 }

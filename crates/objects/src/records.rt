@@ -15,7 +15,7 @@ pub enum Kind {
 }
 
 /// What starts at a place in memory, if anything does.
-#[derive(Clone, Copy, Debug)]
+#[derive(Clone, Copy)]
 pub(crate) enum Entry {
     Nothing,
     Thread,

@@ -16,7 +16,7 @@ use std::alloc::{AllocError, Global};
 use typestate::{NotedSlot, Part, ShownPart, SlotLog};
 
 /// A state: its slots are the image's with a part of a log of changes made.
-#[derive(Clone, Copy, Debug)]
+#[derive(Clone, Copy)]
 pub(crate) struct Known {
     pub(crate) bounds: Bounds,
     pub(crate) measure: Measure,
@@ -26,7 +26,7 @@ pub(crate) struct Known {
 }
 
 /// What is noted of a point.
-#[derive(Clone, Copy, Debug)]
+#[derive(Clone, Copy)]
 pub(crate) enum Kept {
     Known(Known),
     /// It has no state.

@@ -10,7 +10,7 @@ use model::{BranchOp, Range, Register};
 use std::marker::Model;
 
 /// A range that may be empty: its low end, up to 2^32, is above its high end then. A clause sees a range.
-#[derive(Clone, Copy, Debug)]
+#[derive(Clone, Copy)]
 struct Side {
     low: u64,
     high: u32,

@@ -14,7 +14,7 @@ use wellformed::{bits_of, header_of, object_of, power, untyped_of};
 const UNTYPEDS: usize = 64;
 
 /// An object's place.
-#[derive(Clone, Copy, Debug)]
+#[derive(Clone, Copy)]
 struct Place {
     /// Where it begins, from the start of physical memory.
     offset: u32,

@@ -24,7 +24,7 @@ use cspace::argument_slot;
 use model::{CNodeCall, Cap, KError, Point, Refusal, SlotName};
 
 /// An empty slot, and a full one with what it holds.
-#[derive(Clone, Copy, Debug)]
+#[derive(Clone, Copy)]
 struct Ends {
     to: SlotKey,
     from: SlotKey,

@@ -11,7 +11,7 @@ use crate::pool_calls::Makeable;
 use crate::slot_runs::SlotRun;
 
 /// Objects of a type, one behind another in memory from an offset on, a slot for each of them, and the slot of the pool.
-#[derive(Clone, Copy, Debug)]
+#[derive(Clone, Copy)]
 pub(crate) struct NewObjects {
     pub(crate) kind: Makeable,
     pub(crate) offset: u32,

@@ -30,7 +30,7 @@ use std::alloc::AllocError;
 use untyped::place;
 
 /// The types of new objects that a program may make.
-#[derive(Clone, Copy, Debug)]
+#[derive(Clone, Copy)]
 pub(crate) enum Makeable {
     Endpoint,
     Notification,
@@ -38,7 +38,7 @@ pub(crate) enum Makeable {
 }
 
 /// Where new objects stand: the first in memory, the pool's watermark behind them, and the slot of the first capability.
-#[derive(Clone, Copy, Debug)]
+#[derive(Clone, Copy)]
 struct NewPlace {
     offset: u32,
     watermark: u32,

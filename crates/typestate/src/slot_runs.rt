@@ -5,7 +5,7 @@ ghost use Rattle.std.specs.Prelude.{◌≡◌, ◌+◌, ◌<◌, ◌^◌};
 use crate::SlotKey;
 
 /// So many slots of a CNode from one on.
-#[derive(Clone, Copy, Debug)]
+#[derive(Clone, Copy)]
 pub(crate) struct SlotRun {
     pub(crate) first: SlotKey,
     pub(crate) count: u32,

@@ -26,7 +26,7 @@ use ranges::Bounds;
 use slots::SlotMap;
 
 /// What a system call asks for.
-#[derive(Clone, Copy, Debug)]
+#[derive(Clone, Copy)]
 pub(crate) enum Kind {
     /// Call, Send and NBSend.
     Sends(SendCall),
