@@ -2,14 +2,6 @@
 #![tactic(auto)]
 
 mod assembling;
-mod assembly;
-mod declarations;
-mod faults;
-mod keys;
-mod labels;
-mod names;
-mod open_threads;
 
 pub use assembling::assemble;
-pub use faults::SourceFault;
-pub use image::Image;
+pub use assembly::{Image, SourceFault};

@@ -1,6 +1,8 @@
-//! The words of the command line.
+//! The words of the command lines of both programs.
 #![tactic(auto)]
 
 mod requests;
+mod tool_requests;
 
 pub use requests::{Request, WordsFault, parse};
+pub use tool_requests::{ToolRequest, parse_words};

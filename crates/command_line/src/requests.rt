@@ -68,7 +68,7 @@ fn program<'a>(alloc: Global) -> Result<Command<'a>, AllocError> {
 }
 
 /// The name of a file, which has to be there.
-fn file<'a>(alloc: Global, name: &'a str) -> Arg<'a> {
+pub(crate) fn file<'a>(alloc: Global, name: &'a str) -> Arg<'a> {
     Arg::new(alloc, name).required(true)
 }
 

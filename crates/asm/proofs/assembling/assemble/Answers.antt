@@ -5,12 +5,10 @@ use Rattle.std.specs.Str.Lines.{lines}
 use Rattle.model.specs.Images.Image.{Image}
 use Rattle.model.specs.Images.Listing.{Text, listing}
 use Rattle.asm_line.specs.Listed.{Lists}
-use Rattle.asm.specs.Labels.{FoundLabels, labels_in}
-use Rattle.asm.specs.Reading.{IsInPlace, with_line}
+use Rattle.assembly.specs.Labels.{FoundLabels, labels_in}
+use Rattle.assembly.specs.Reading.{IsInPlace, with_line}
 use Rattle.asm.proofs.DraftLeft.{all-to-read, behind-all, behind-line, line-here}
-use Rattle.asm.proofs.ReadBack.{IsReadBack, read-back}
-use Rattle.asm.proofs.ReadBack.{read-back}
-use Rattle.asm.proofs.Steps.{told-by}
+use Rattle.assembly.proofs.Laws.{IsReadBack, read-back, told-by}
 use Rattle.asm.proofs.assembling.assemble.Goals as goal
 
 -- a text that is a listing has its lines

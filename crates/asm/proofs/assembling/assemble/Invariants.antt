@@ -3,9 +3,9 @@ use Rattle.std.specs.List.{AllZip}
 use Rattle.std.specs.Str.Lines.{lines}
 use Rattle.asm_line.specs.Listed.{Lists}
 use Rattle.asm_line.specs.declared.lines.Line.{Line}
-use Rattle.asm.specs.Drafts.{nothing_read}
-use Rattle.asm.specs.Labels.{labels_in}
-use Rattle.asm.specs.Reading.{AreInPlace}
+use Rattle.assembly.specs.Drafts.{nothing_read}
+use Rattle.assembly.specs.Labels.{labels_in}
+use Rattle.assembly.specs.Reading.{AreInPlace}
 use Rattle.asm.proofs.DraftLeft.{DraftLeft}
 use Rattle.asm.proofs.assembling.assemble.Given as goal
 

@@ -1,0 +1,26 @@
+mod ContentWords
+mod EntryLines
+mod Finished
+mod Joins
+mod LabelSearch
+mod LabelsLeft
+mod LinesLeft
+mod ListedImages
+mod ListedSections
+mod NameLines
+mod NumberedNames
+mod Orders
+mod PlaceLines
+mod PointLines
+mod ReadBack
+mod RecordLines
+mod RecordTerms
+mod Said
+mod SectionFits
+mod Shown
+mod Stages
+mod Steps
+mod TextLines
+mod ThreadLines
+mod ThreadParts
+pub mod Laws

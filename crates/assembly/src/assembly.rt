@@ -1,0 +1,238 @@
+//! An image whose lines are being read.
+
+ghost use Rattle.std.specs.Prelude.{◌≡◌, ◌<◌, true, length, IfOk, Some};
+ghost use Rattle.model.specs.Images.Image as described;
+ghost use Rattle.model.specs.Images.Image.{whole_image};
+ghost use Rattle.assembly.specs.Drafts.{draft_of, nothing_read};
+ghost use Rattle.assembly.specs.Outcomes.{Gives};
+ghost use Rattle.assembly.specs.Reading.{IsDeclaration, IsFirst, IsInPlace, IsThreadLine, MayBeginThread, labels_at, with_declaration, with_first, with_line, with_thread_line};
+ghost use Rattle.assembly.specs.Threads.{thread_begun};
+
+use crate::declarations::Declarations;
+use crate::faults::Fault;
+use crate::labels::Labels;
+use crate::open_threads::OpenThread;
+use asm_line::{Line, ThreadLine};
+use image::{Image, Parts, ThreadParts};
+use std::alloc::Global;
+use std::marker::Model;
+
+/// How many threads an image has at most.
+const MOST_THREADS: usize = 64;
+
+/// The version of the format of image files.
+const VERSION: u32 = 1;
+
+/// What the line `memory` says.
+#[derive(Clone, Copy)]
+struct Memory {
+    bits: u32,
+    boot_radix: u32,
+}
+
+/// What is known of an image behind some of its lines.
+#[derive(Drop)]
+pub struct Assembly<'a> {
+    alloc: Global,
+    memory: Option<Memory>,
+    declared: Declarations<'a>,
+    threads: Vec<ThreadParts>,
+    /// The thread that is not at its end.
+    open: Option<OpenThread>,
+}
+
+impl<'a> Model for Assembly<'a> {
+    ghost use Rattle.assembly.specs.Drafts.{Draft};
+
+    ghost Value = { Draft };
+
+    ghost view = { λ a. record { memory = a.memory; declared = a.declared; threads = a.threads.items; open_thread = a.open } };
+}
+
+impl<'a> Assembly<'a> {
+    /// An image of which nothing is read.
+    pub fn new(alloc: Global) -> Assembly<'a>
+        ensures { result ≡ nothing_read }
+    {
+        Assembly {
+            alloc,
+            memory: None,
+            declared: Declarations::new(alloc),
+            threads: Vec::new(alloc),
+            open: None,
+        }
+    }
+
+    /// Adds what a line says. `number` counts the lines from 1, and `labels` are those of each thread.
+    ///
+    /// # Errors
+    ///
+    /// What the line is at fault for. What is known of the image is then of no use.
+    pub fn add(&mut self, line: Line<'a>, number: u64, labels: &[Labels<'a>]) -> Result<(), Fault>
+        ensures { IsInPlace labels.now number self.old line.entry → Gives result (λ _. self.new ≡ with_line labels.now self.old line.entry) }
+    {
+        if let Line::Blank = &line {
+            return Ok(());
+        }
+        if self.memory.is_none() {
+            return self.begin(line);
+        }
+        match self.open.take() {
+            Some(thread) => self.add_to_thread(thread, line, number, labels),
+            None => self.declare(line, labels),
+        }
+    }
+
+    /// Adds the first line.
+    fn begin(&mut self, line: Line<'a>) -> Result<(), Fault>
+        ensures { IsFirst line.entry → Gives result (λ _. self.new ≡ with_first self.old line.entry) }
+    {
+        match line {
+            Line::Memory {
+                memory_bits: bits,
+                boot_radix,
+            } => {
+                self.memory = Some(Memory { bits, boot_radix });
+                Ok(())
+            }
+            _ => Err(Fault::Syntax),
+        }
+    }
+
+    /// Adds the first line of a thread.
+    fn begin_thread(&mut self, line: ThreadLine<'a>, labels: &[Labels<'a>]) -> Result<(), Fault>
+        ensures { MayBeginThread labels.now self.old line.entry → Gives result (λ _. self.new ≡ record self.old { open_thread = Some (thread_begun self.old.declared.names (labels_at labels.now (length self.old.threads)) line.entry) }) }
+    {
+        let Some(labels) = labels.get(self.threads.len()) else {
+            return Err(Fault::UnknownName);
+        };
+        let thread = OpenThread::begin(self.alloc, line, &self.declared.names, labels)?;
+        if MOST_THREADS <= self.threads.len() {
+            return Err(Fault::Range);
+        }
+        self.open = Some(thread);
+        Ok(())
+    }
+
+    /// Adds a line that stands in no thread.
+    fn declare(&mut self, line: Line<'a>, labels: &[Labels<'a>]) -> Result<(), Fault>
+        ensures { IsDeclaration labels.now self.old line.entry → Gives result (λ _. self.new ≡ with_declaration labels.now self.old line.entry) }
+    {
+        match line {
+            Line::Untyped { name, entry } => self.declared.add_untyped(name, entry),
+            Line::Object {
+                name,
+                untyped,
+                kind,
+                size,
+            } => self.declared.add_object(name, untyped, kind, size),
+            Line::Interrupt {
+                name,
+                line,
+                notification,
+                badge,
+            } => self.declared.add_interrupt(name, line, notification, badge),
+            Line::Capability {
+                cnode,
+                index,
+                source,
+                rights,
+                payload,
+            } => self
+                .declared
+                .add_capability(cnode, index, source, rights, payload),
+            Line::Table {
+                root,
+                address,
+                table,
+            } => self.declared.add_table(root, address, table),
+            Line::Frame {
+                root,
+                address,
+                frame,
+                rights,
+            } => self.declared.add_frame(root, address, frame, rights),
+            Line::Content { frame, words } => self.declared.add_content(self.alloc, frame, words),
+            Line::Thread(line) => self.begin_thread(line, labels),
+            _ => Err(Fault::Syntax),
+        }
+    }
+
+    /// Adds a line that stands in a thread.
+    fn add_to_thread(
+        &mut self,
+        mut thread: OpenThread,
+        line: Line<'a>,
+        number: u64,
+        labels: &[Labels<'a>],
+    ) -> Result<(), Fault>
+        ensures { length self.old.threads < length labels.now → IsThreadLine (labels_at labels.now (length self.old.threads)) number self.old.declared.names thread line.entry → Gives result (λ _. self.new ≡ with_thread_line self.old thread line.entry) }
+    {
+        let Some(labels) = labels.get(self.threads.len()) else {
+            return Err(Fault::UnknownName);
+        };
+        match line {
+            Line::Register(entry) => thread.add_register(entry)?,
+            Line::Measure { constant, terms } => thread.add_measure(self.alloc, constant, terms)?,
+            Line::Range(entry) => thread.add_range(entry)?,
+            Line::Slot {
+                cnode,
+                index,
+                word0,
+                word1,
+                parent,
+            } => thread.add_slot(&self.declared.names, cnode, index, [word0, word1], parent)?,
+            Line::Label(name) => labels.check_first(&name, number)?,
+            Line::Code { label, code } => {
+                if let Some(name) = label {
+                    labels.check_first(&name, number)?;
+                }
+                thread.add_code(code, labels)?;
+            }
+            Line::End => {
+                self.threads.push(thread.end()?)?;
+                return Ok(());
+            }
+            _ => return Err(Fault::Syntax),
+        }
+        self.open = Some(thread);
+        Ok(())
+    }
+
+    /// The image behind the last line.
+    ///
+    /// # Errors
+    ///
+    /// `Fault::Syntax` where the first line or the end of a thread is missing, `Fault::Range` where the entries make no
+    /// image, `Fault::UnknownName` where a capability has no source, and `Fault::Memory`.
+    pub fn finish(self) -> Result<Image, Fault>
+        ensures fits { IfOk result (λ image. whole_image.fits image ≡ true) }
+        ensures listed { (listed : described.Image) → whole_image.fits listed ≡ true → self.entry ≡ draft_of listed → Gives result (λ image. image ≡ listed) }
+    {
+        let Some(memory) = self.memory else {
+            return Err(Fault::Syntax);
+        };
+        if self.open.is_some() {
+            return Err(Fault::Syntax);
+        }
+        let capabilities = self.declared.capability_entries(self.alloc)?;
+        let declared = self.declared;
+        let parts = Parts {
+            version: VERSION,
+            memory_bits: memory.bits,
+            boot_radix: memory.boot_radix,
+            untypeds: declared.untypeds,
+            objects: declared.objects,
+            capabilities,
+            interrupts: declared.interrupts,
+            tables: declared.tables,
+            frames: declared.frames,
+            contents: declared.contents,
+            threads: self.threads,
+        };
+        match Image::checked(parts) {
+            Ok(image) => Ok(image),
+            Err(_) => Err(Fault::Range),
+        }
+    }
+}

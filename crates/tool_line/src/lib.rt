@@ -1,7 +1,0 @@
-//! The words of the command line of the program for makers.
-#![tactic(auto)]
-
-mod requests;
-
-pub use command_line::WordsFault;
-pub use requests::{ToolRequest, parse_words};
