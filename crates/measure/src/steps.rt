@@ -34,7 +34,7 @@ impl Step for Unchanged {
 }
 
 /// A register that an instruction writes, and what it becomes.
-#[derive(Clone, Copy)]
+#[derive(Clone, Copy, Debug)]
 struct Written {
     register: Register,
     value: Value,
