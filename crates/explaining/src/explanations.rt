@@ -1,14 +1,13 @@
 //! Texts and why they are refused.
 
 use crate::faults::{ExplainFault, Explained};
-use crate::item_gaps::tell_item;
 use crate::programs::{point_of, tell_program};
-use crate::syntax::tell_fault;
 use asm::assemble;
 use image::{ImageRef, read, write};
 use model::Refusal;
 use progress::{Progress, Stage};
 use sinks::{Sink, put_all};
+use source_gaps::{tell_fault, tell_item};
 use source_texts::SourceText;
 use std::alloc::{AllocError, Global};
 use verify::verify;

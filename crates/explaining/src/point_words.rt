@@ -1,10 +1,10 @@
 //! Ranges, measures and states in words.
 
-use crate::lines::code_on;
 use crate::scenes::Scene;
 use crate::states::State;
 use measure::Measure;
 use model::{Range, Register};
+use source_gaps::code_on;
 use std::alloc::AllocError;
 
 /// From here on numbers are told in hexadecimal digits.

@@ -15,7 +15,7 @@ pub(crate) fn line_of(text: &str, number: u64) -> &str {
 }
 
 /// What a line says, without its comment and the blanks around.
-pub(crate) fn said_on(text: &str, number: u64) -> &str {
+fn said_on(text: &str, number: u64) -> &str {
     let line = line_of(text, number);
     match line.split_once('#') {
         Some((said, _)) => said.trim(),
@@ -23,8 +23,8 @@ pub(crate) fn said_on(text: &str, number: u64) -> &str {
     }
 }
 
-/// The instruction on a line, without the label before it.
-pub(crate) fn code_on(text: &str, number: u64) -> &str {
+/// The instruction on a line by its number, from 1, without the label before it and the comment behind it.
+pub fn code_on(text: &str, number: u64) -> &str {
     let said = said_on(text, number);
     match said.split_once(':') {
         Some((_, code)) => code.trim(),

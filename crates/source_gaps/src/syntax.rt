@@ -3,8 +3,8 @@
 use crate::forms::{WORDS, form_of, long_form, register_name};
 use crate::lines::{line_of, push_line};
 use crate::nearest::Nearest;
-use asm::SourceFault;
 use asm_line::parse_line;
+use assembly::SourceFault;
 use source_texts::{has_automatic_budget, word_at};
 use std::alloc::AllocError;
 
@@ -344,12 +344,12 @@ impl<'t> Fault<'t> {
     }
 }
 
-/// Tells what is wrong with a text that makes no image.
-pub(crate) fn tell_fault(
-    to: &mut String,
-    text: &str,
-    found: SourceFault,
-) -> Result<(), AllocError> {
+/// Puts what is wrong with a text that makes no image.
+///
+/// # Errors
+///
+/// Want of memory.
+pub fn tell_fault(to: &mut String, text: &str, found: SourceFault) -> Result<(), AllocError> {
     let line = line_of(text, found.line);
     let first = word_at(line, 0).unwrap_or("");
     let fault = Fault {

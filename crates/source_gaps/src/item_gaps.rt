@@ -419,8 +419,12 @@ impl Items<'_, '_, '_, '_, '_> {
     }
 }
 
-/// Tells what is refused of a text before any program is looked at.
-pub(crate) fn tell_item(
+/// Puts what the image of a text is refused for before any program is looked at.
+///
+/// # Errors
+///
+/// Want of memory.
+pub fn tell_item(
     alloc: Global,
     to: &mut String,
     text: &str,
