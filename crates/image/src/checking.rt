@@ -4,6 +4,7 @@ ghost use Rattle.std.specs.Prelude.{◌≡◌, ℕ, ◌+◌, ◌&&◌, if◌then
 ghost use Rattle.model.specs.Images.Format.{many_fit, field, number, signed};
 ghost use Rattle.model.specs.Images.Image.{anything, between, content_format, header_format, image_with, record_format, record_header_format, sections_format, slots_format, thread_format, thread_header_format, whole_image};
 
+use crate::headers::radix_limit;
 use crate::listed::{Limits, Listed, all_fit};
 use crate::parts::{Content, Parts, RecordParts, ThreadParts};
 use std::marker::Model;
@@ -80,15 +81,37 @@ fn parts_fit(parts: &Parts) -> bool
     all_fit(&parts.threads, limits, 0)
 }
 
-/// A number from `low` to `high`, or none.
-fn within(number: usize, low: u32, high: u32) -> Option<u32>
-    ensures { result ≡ (if (field (between low high)).fits number then Some number else None) }
+/// Whether a number is one from `low` to `high`.
+fn is_within(number: usize, low: u32, high: u32) -> bool
+    ensures { result ≡ (field (between low high)).fits number }
 {
-    if low as usize <= number && number <= high as usize {
-        Some(number as u32)
-    } else {
-        None
-    }
+    low as usize <= number && number <= high as usize
+}
+
+/// Whether the last four counts of the image's head are in their ranges.
+fn last_counts_fit(parts: &Parts) -> bool
+    ensures { let h = parts.now.header in result ≡ ((field (between 0 1024)).fits h.tables && ((field (between 0 4096)).fits h.frames
+        && ((field (between 0 4096)).fits h.contents && (field (between 1 64)).fits h.threads))) }
+{
+    is_within(parts.tables.len(), 0, 1024)
+        && is_within(parts.frames.len(), 0, 4096)
+        && is_within(parts.contents.len(), 0, 4096)
+        && is_within(parts.threads.len(), 1, 64)
+}
+
+/// Whether the numbers of the image's head are in their ranges.
+#[tactic(auto, unfolding(model::specs::Images::Image::header_format))]
+fn head_fits(parts: &Parts) -> bool
+    ensures { result ≡ header_format.fits parts.now.header }
+{
+    parts.version == 1
+        && is_within(parts.memory_bits as usize, 16, 24)
+        && is_within(parts.boot_radix as usize, 1, radix_limit(parts.memory_bits))
+        && is_within(parts.untypeds.len(), 1, 64)
+        && is_within(parts.objects.len(), 0, 4096)
+        && is_within(parts.capabilities.len(), 0, 16384)
+        && is_within(parts.interrupts.len(), 0, 64)
+        && last_counts_fit(parts)
 }
 
 /// What the numbers of the entries lie below, if the numbers of the image's head are in their ranges.
@@ -97,23 +120,13 @@ fn limits_of(parts: &Parts) -> Option<Limits>
     ensures { let h = parts.now.header in result ≡ (if header_format.fits h
         then Some (record { untypeds = h.untypeds; objects = h.objects; interrupts = h.interrupts; words = 0 }) else None) }
 {
-    if parts.version != 1 {
+    if !head_fits(parts) {
         return None;
     }
-    let memory_bits = within(parts.memory_bits as usize, 16, 24)?;
-    within(parts.boot_radix as usize, 1, 14.min(memory_bits - 5))?;
-    let untypeds = within(parts.untypeds.len(), 1, 64)?;
-    let objects = within(parts.objects.len(), 0, 4096)?;
-    within(parts.capabilities.len(), 0, 16384)?;
-    let interrupts = within(parts.interrupts.len(), 0, 64)?;
-    within(parts.tables.len(), 0, 1024)?;
-    within(parts.frames.len(), 0, 4096)?;
-    within(parts.contents.len(), 0, 4096)?;
-    within(parts.threads.len(), 1, 64)?;
     Some(Limits {
-        untypeds,
-        objects,
-        interrupts,
+        untypeds: parts.untypeds.len() as u32,
+        objects: parts.objects.len() as u32,
+        interrupts: parts.interrupts.len() as u32,
         words: 0,
     })
 }
@@ -143,8 +156,7 @@ impl Listed for Content {
         if key < least || limits.objects <= self.frame {
             return None;
         }
-        within(self.words.len(), 1, 1024)?;
-        if words_fit(&self.words) {
+        if is_within(self.words.len(), 1, 1024) && words_fit(&self.words) {
             Some(key + 1)
         } else {
             None
@@ -185,28 +197,36 @@ impl Listed for RecordParts {
     }
 }
 
+/// Whether the numbers of a thread's head are in their ranges.
+#[tactic(auto, unfolding(model::specs::Images::Image::thread_header_format))]
+fn thread_header_fits(thread: &ThreadParts, objects: u32) -> bool
+    ensures { result ≡ (thread_header_format objects).fits thread.now.header }
+{
+    thread.tcb < objects
+        && thread.cnode < objects
+        && is_word(thread.guard)
+        && thread.root < objects
+        && is_within(thread.priority as usize, 0, 255)
+        && 1 <= thread.budget
+        && thread.budget <= 1 << 62
+        && is_word(thread.fault)
+        && is_word(thread.entry)
+        && is_word(thread.base)
+        && is_within(thread.registers.len(), 0, 31)
+        && is_within(thread.words.len(), 1, 65536)
+        && thread.records.len() <= thread.words.len()
+}
+
 /// How many words a thread's program has, if the numbers of the thread's head are in their ranges.
 #[tactic(auto, unfolding(model::specs::Images::Image::thread_header_format))]
 fn program_length(thread: &ThreadParts, objects: u32) -> Option<u32>
     ensures { let h = thread.now.header in result ≡ (if (thread_header_format objects).fits h then Some h.words else None) }
 {
-    if objects <= thread.tcb || objects <= thread.cnode || !is_word(thread.guard) {
-        return None;
+    if thread_header_fits(thread, objects) {
+        Some(thread.words.len() as u32)
+    } else {
+        None
     }
-    if objects <= thread.root {
-        return None;
-    }
-    within(thread.priority as usize, 0, 255)?;
-    if thread.budget < 1 || 1 << 62 < thread.budget {
-        return None;
-    }
-    if !is_word(thread.fault) || !is_word(thread.entry) || !is_word(thread.base) {
-        return None;
-    }
-    within(thread.registers.len(), 0, 31)?;
-    let words = within(thread.words.len(), 1, 65536)?;
-    within(thread.records.len(), 0, words)?;
-    Some(words)
 }
 
 #[tactic(auto, unfolding(model::specs::Images::Image::thread_format, model::specs::Images::Image::registers_format, model::specs::Images::Image::words_format, model::specs::Images::Image::records_format))]

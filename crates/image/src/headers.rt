@@ -10,7 +10,7 @@ use crate::fields::{
 use model::{ImageHeader, RecordHeader, Refusal, ThreadHeader};
 
 /// The largest radix of the boot CNode in memory of this size.
-fn radix_limit(memory_bits: u32) -> u32
+pub(crate) fn radix_limit(memory_bits: u32) -> u32
     ensures { result ≡ min 14 (memory_bits - 5) }
 {
     memory_bits.saturating_sub(5).min(14)

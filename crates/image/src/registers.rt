@@ -1,6 +1,7 @@
 //! Entries whose key is a register, 1 to 31.
 
-ghost use Rattle.std.specs.Prelude.{◌≡◌, ◌+◌};
+ghost use Rattle.std.specs.Prelude.{◌≡◌, ◌+◌, ◌-◌, ◌^◌, ◌&&◌, ◌||◌, nat_le, nat_lt};
+ghost use Rattle.model.specs.Images.Format.{field};
 ghost use Rattle.model.specs.Images.Image.{register_format, range_format, term_format};
 
 use crate::entries::{Counts, Entry};
@@ -32,6 +33,25 @@ impl Entry for RegisterEntry {
     }
 }
 
+/// Whether these are the ends of a range that is not the full one.
+fn are_ends(low: u32, high: u32) -> bool
+    ensures { result ≡ (nat_le low high && (nat_lt 0 low || nat_lt high (2 ^ 32 - 1))) }
+{
+    low <= high && (0 < low || high < u32::MAX)
+}
+
+/// The 4 bytes at `at` as the high end of a range that is not the full one, and the offset behind them.
+fn range_end(bytes: &[u8], at: usize, low: u32) -> Result<(u32, usize), Refusal>
+    ensures { result ≡ (field (λ high. nat_le low high && (nat_lt 0 low || nat_lt high (2 ^ 32 - 1)))).reads bytes.now at }
+{
+    let (high, next) = any_word(bytes, at)?;
+    if are_ends(low, high) {
+        Ok((high, next))
+    } else {
+        Err(Refusal::Limit { offset: at as u64 })
+    }
+}
+
 #[tactic(auto, unfolding(model::specs::Images::Image::range_format))]
 impl Entry for RangeEntry {
     ghost format = { λ _. range_format };
@@ -46,19 +66,15 @@ impl Entry for RangeEntry {
     ) -> Result<(RangeEntry, usize), Refusal> {
         let (register, at) = word_between(bytes, at, least, 31)?;
         let (low, at) = any_word(bytes, at)?;
-        let (high, next) = any_word(bytes, at)?;
-        if low <= high && (0 < low || high < u32::MAX) {
-            Ok((
-                RangeEntry {
-                    register,
-                    low,
-                    high,
-                },
-                next,
-            ))
-        } else {
-            Err(Refusal::Limit { offset: at as u64 })
-        }
+        let (high, at) = range_end(bytes, at, low)?;
+        Ok((
+            RangeEntry {
+                register,
+                low,
+                high,
+            },
+            at,
+        ))
     }
 
     fn least_behind(&self) -> u64 {
