@@ -1,8 +1,7 @@
 //! What system calls leave, by the rules of acceptance.
 
-ghost use Rattle.std.specs.Prelude.{◌≡◌, [], IfOk};
+ghost use Rattle.std.specs.Prelude.{◌≡◌, []};
 ghost use Rattle.certifying.specs.Given.{IsGiven};
-ghost use Rattle.typestate.specs.Logs.{Holds, Shows};
 
 use crate::Fault;
 use model::{Point, Refusal};
@@ -10,7 +9,7 @@ use ranges::Bounds;
 use std::alloc::{AllocError, Global};
 use thread_spaces::slots_are_own;
 use typestate::{
-    Behind, NotedSlot, NotedSlots, Part, ShownPart, SlotLog, Space, ThreadSlots, ToldSlots,
+    Behind, NotedSlot, NotedSlots, Part, SlotLog, Space, ThreadSlots, ToldSlots,
     no_stray_slot_leads_outside,
 };
 
@@ -31,16 +30,6 @@ pub(crate) struct Given<'a, 's> {
 pub(crate) struct Called {
     pub(crate) behind: Behind,
     pub(crate) changes: Vec<NotedSlot>,
-}
-
-/// A part of a log by its slots.
-fn shown(alloc: Global, log: &SlotLog, part: Part) -> Result<ShownPart, AllocError>
-    requires { Holds log.now part }
-    ensures { IfOk result (Shows log.now part) }
-{
-    let mut shown = ShownPart::new(alloc);
-    log.show(&mut shown, part)?;
-    Ok(shown)
 }
 
 /// The changes that make a difference to the image's slots.
@@ -81,10 +70,10 @@ impl Given<'_, '_> {
         let mut log = SlotLog::new(self.alloc);
         let part = log.follow(Part { first: 0, end: 0 }, changes)?;
         let mut made = Vec::new(self.alloc);
-        let before = shown(self.alloc, &log, part)?;
+        let before = log.shown(part)?;
         let behind = self.answered(at, bounds, &before.slots(self.slots), &mut made)?;
         let part = log.follow(part, &made)?;
-        let left = shown(self.alloc, &log, part)?;
+        let left = log.shown(part)?;
         let changes = told(self.alloc, &left.slots(self.slots))?;
         Ok(Called { behind, changes })
     }

@@ -1,14 +1,13 @@
 //! A thread whose program is looked at.
 
-ghost use Rattle.std.specs.Prelude.{◌≡◌, IfOk};
+ghost use Rattle.std.specs.Prelude.{◌≡◌};
 ghost use Rattle.model.specs.Acceptance.NotedStates.{record_of};
-ghost use Rattle.typestate.specs.Logs.{Holds, Shows};
 
 use image::{RecordRef, ThreadRef};
 use model::Cap;
 use source_texts::{SourceText, SourceThread};
 use std::alloc::{AllocError, Global};
-use typestate::{NotedSlot, NotedSlots, Part, ShownPart, SlotKey, SlotLog, Space};
+use typestate::{NotedSlot, NotedSlots, SlotKey, Space};
 
 /// A thread of a well-formed image whose program is looked at, with what the text says of it.
 #[derive(Clone, Copy)]
@@ -47,16 +46,6 @@ fn listed(slots: &[NotedSlot], key: SlotKey) -> Cap {
         }
     }
     Cap::Empty
-}
-
-/// A part of a log by its slots.
-pub(crate) fn shown(alloc: Global, log: &SlotLog, part: Part) -> Result<ShownPart, AllocError>
-    requires { Holds log.now part }
-    ensures { IfOk result (Shows log.now part) }
-{
-    let mut shown = ShownPart::new(alloc);
-    log.show(&mut shown, part)?;
-    Ok(shown)
 }
 
 /// The changes that make a difference to the image's slots.

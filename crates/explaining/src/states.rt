@@ -5,7 +5,7 @@ ghost use Rattle.explaining.specs.Given.{IsGiven};
 ghost use Rattle.model.specs.Acceptance.NotedStates.{PointState, has_stray_slots};
 ghost use Rattle.typestate.specs.Differences.{slots_of};
 
-use crate::scenes::{Scene, record_at, shown, told};
+use crate::scenes::{Scene, record_at, told};
 use image::RecordRef;
 use measure::Measure;
 use model::{Instr, Point, Range, Refusal, Register};
@@ -103,7 +103,7 @@ impl<'a> Scene<'a, '_, '_, '_, '_> {
     {
         let mut log = SlotLog::new(self.alloc);
         let part = log.note(record)?;
-        let noted = shown(self.alloc, &log, part)?;
+        let noted = log.shown(part)?;
         Ok(State {
             bounds: bounds_of(record),
             measure: measure_of(record),
@@ -167,7 +167,7 @@ impl<'a> Scene<'a, '_, '_, '_, '_> {
         };
         let mut log = SlotLog::new(self.alloc);
         let part = log.follow(Part { first: 0, end: 0 }, &state.changes)?;
-        let before = shown(self.alloc, &log, part)?;
+        let before = log.shown(part)?;
         let mut made = Vec::new(self.alloc);
         let answer = self.answered(at, &state.bounds, &before.slots(self.slots), &mut made)?;
         let behind = match answer {
@@ -175,7 +175,7 @@ impl<'a> Scene<'a, '_, '_, '_, '_> {
             Err(refusal) => return Ok(Err(refusal)),
         };
         let part = log.follow(part, &made)?;
-        let left = shown(self.alloc, &log, part)?;
+        let left = log.shown(part)?;
         let changes = told(self.alloc, &left.slots(self.slots))?;
         Ok(Ok(Called { behind, changes }))
     }
@@ -202,7 +202,7 @@ impl<'a> Scene<'a, '_, '_, '_, '_> {
     {
         let mut log = SlotLog::new(self.alloc);
         let part = log.follow(Part { first: 0, end: 0 }, &state.changes)?;
-        let here = shown(self.alloc, &log, part)?;
+        let here = log.shown(part)?;
         Ok(self.have_stray_slot(point, &here.slots(self.slots)))
     }
 

@@ -4,7 +4,7 @@ ghost use Rattle.explaining.specs.Given.{IsGiven};
 
 use crate::call_words::{call_name, check_words, error_name, has_label, label_name, words_wanted};
 use crate::point_words::{push_number, push_range};
-use crate::scenes::{Scene, shown};
+use crate::scenes::Scene;
 use crate::states::State;
 use cspace::called_slot;
 use model::{Cap, KError, Register, Rights};
@@ -50,7 +50,7 @@ impl Scene<'_, '_, '_, '_, '_> {
     {
         let mut log = SlotLog::new(self.alloc);
         let part = log.follow(Part { first: 0, end: 0 }, &state.changes)?;
-        let here = shown(self.alloc, &log, part)?;
+        let here = log.shown(part)?;
         let own = OwnSlots {
             windows: self.space.windows,
             slots: here.slots(self.slots),

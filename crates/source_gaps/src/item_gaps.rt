@@ -18,19 +18,22 @@ pub(crate) struct Items<'t, 'm, 'x, 'j, 'i> {
 /// How many slots a boot CNode has besides those of its radix.
 const KEPT: u64 = 64;
 
+/// What each kind of objects is.
+const KINDS: [&str; 9] = [
+    "no object",
+    "untyped memory",
+    "a TCB",
+    "an endpoint",
+    "a notification",
+    "a CNode",
+    "a frame",
+    "a page table",
+    "a root table",
+];
+
 /// What a kind of objects is.
 fn kind_name(kind: u32) -> &'static str {
-    match kind {
-        1 => "untyped memory",
-        2 => "a TCB",
-        3 => "an endpoint",
-        4 => "a notification",
-        5 => "a CNode",
-        6 => "a frame",
-        7 => "a page table",
-        8 => "a root table",
-        _ => "no object",
-    }
+    KINDS.get(kind as usize).copied().unwrap_or("no object")
 }
 
 /// An object has 2 to the power of so many bytes.
@@ -46,7 +49,7 @@ fn bits_of(object: &ObjectLine<'_>) -> u32 {
 
 /// 2 to the power of so many.
 fn power(bits: u32) -> u64 {
-    1u64 << (bits & 63)
+    1u64.wrapping_shl(bits)
 }
 
 impl Items<'_, '_, '_, '_, '_> {

@@ -54,6 +54,15 @@ fn label_at(keyword: &str) -> Option<usize> {
     }
 }
 
+/// The word with which lines begin that is most like another.
+fn nearest_word(keyword: &str) -> Option<&'static str> {
+    let mut nearest = Nearest::to(keyword);
+    for word in &WORDS {
+        nearest.consider(keyword, *word);
+    }
+    nearest.name
+}
+
 /// The name that a line declares, if it is one of untyped memory, of an object or of an interrupt.
 fn declared_on(line: &str) -> Option<&str> {
     match word_at(line, 0)? {
@@ -227,12 +236,8 @@ impl<'t> Fault<'t> {
         if let Some(long) = long_form(keyword) {
             return write!(to, "there is no `{keyword}`: write {long}\n");
         }
-        let mut nearest = Nearest::to(keyword);
-        for word in WORDS {
-            nearest.consider(keyword, word);
-        }
         write!(to, "no line begins with `{keyword}`")?;
-        self.push_nearest(to, nearest.name)
+        self.push_nearest(to, nearest_word(keyword))
     }
 
     /// A name that nothing has.

@@ -65,6 +65,11 @@ impl Items<'_, '_, '_, '_, '_> {
         }
     }
 
+    /// Whether an object is a root table, and another one than this.
+    fn is_other_root(&self, number: usize, root: usize) -> bool {
+        self.source.kind(number) == ROOT && number != root
+    }
+
     /// Tells which root table a thread shares, or holds beside its own.
     pub(crate) fn tell_shared_root(&self, to: &mut String, item: u32) -> Result<(), AllocError> {
         let Some(thread) = self.source.threads.get(item as usize) else {
@@ -86,12 +91,9 @@ impl Items<'_, '_, '_, '_, '_> {
         }
         let own = self.reached(&self.image.thread(item))?;
         for capability in &self.source.capabilities {
+            let cnode = u32::try_from(capability.cnode).unwrap_or(u32::MAX);
             if let source_texts::Source::Object(number) = capability.source {
-                let cnode = u32::try_from(capability.cnode).unwrap_or(u32::MAX);
-                if self.source.kind(number) == ROOT
-                    && number != thread.root
-                    && own.contains(cnode)
-                {
+                if self.is_other_root(number, thread.root) && own.contains(cnode) {
                     let name = self.source.object_name(number);
                     let line = capability.line;
                     return write!(
@@ -137,6 +139,16 @@ impl Items<'_, '_, '_, '_, '_> {
         self.tell_place(to, thread)
     }
 
+    /// Whether a page is mapped under a root table with the right to execute.
+    fn is_executed(&self, root: usize, address: u64) -> bool {
+        for page in &self.source.frames {
+            if page.root == root && u64::from(page.address) == address && page.rights & 4 != 0 {
+                return true;
+            }
+        }
+        false
+    }
+
     /// Tells what does not fit of a thread's program and its entry.
     fn tell_place(&self, to: &mut String, thread: &SourceThread<'_>) -> Result<(), AllocError> {
         let base = thread.base;
@@ -158,16 +170,7 @@ impl Items<'_, '_, '_, '_, '_> {
         let pages = end.saturating_sub(u64::from(base)).saturating_add(4095) / 4096;
         for place in 0..pages {
             let address = u64::from(base).saturating_add(place.saturating_mul(4096));
-            let mut is_mapped = false;
-            for page in &self.source.frames {
-                if page.root == thread.root
-                    && u64::from(page.address) == address
-                    && page.rights & 4 != 0
-                {
-                    is_mapped = true;
-                }
-            }
-            if !is_mapped {
+            if !self.is_executed(thread.root, address) {
                 return write!(
                     to,
                     "has {count} instructions from {base:#x} on, and the page {address:#x} is not mapped under `{root}` with execute (4)\n"

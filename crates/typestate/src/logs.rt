@@ -195,4 +195,14 @@ impl SlotLog {
         }
         self.show_more(shown, part)
     }
+
+    /// A part by its slots. Memory may be refused.
+    pub fn shown(&self, part: Part) -> Result<ShownPart, AllocError>
+        requires { Holds self.now part }
+        ensures { IfOk result (Shows self.now part) }
+    {
+        let mut shown = ShownPart::new(self.alloc);
+        self.show(&mut shown, part)?;
+        Ok(shown)
+    }
 }
