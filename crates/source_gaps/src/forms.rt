@@ -187,13 +187,13 @@ const REGISTER_NAMES: [&str; 32] = [
 
 /// The number of a register by its usual name.
 pub(crate) fn register_name(word: &str) -> Option<u32> {
-    let word = if word == "fp" { "s0" } else { word };
-    let mut number = 0u32;
-    for name in &REGISTER_NAMES {
-        if *name == word {
+    if word == "fp" {
+        return Some(8);
+    }
+    for number in 0..32 {
+        if REGISTER_NAMES[number as usize] == word {
             return Some(number);
         }
-        number = number.saturating_add(1);
     }
     None
 }
