@@ -9,8 +9,8 @@ qemu-user. The table is committed, so no other tool of the repository needs eith
 
 Each row is one instruction at its own address. Before it x5 and x6 hold the row's operands, x7 holds
 what x5 does, and memory at BASE holds the two words MEMORY. Behind it stand x7, the address where
-the program went on, and the two words of memory. The table has of these what the instruction can
-change.
+the program went on, and the two words of memory. What does not go by its address has PLACE for it in
+the table.
 """
 import re
 import struct
@@ -20,6 +20,7 @@ from pathlib import Path
 
 PREFIX = "riscv64-unknown-elf-"
 BASE = 0x20000
+PLACE = 0x1000
 MEMORY = (0x80FF7F01, 0x8001FE7F)
 
 WORDS = [(0, 0), (1, 0xFFFFFFFF), (0x80000000, 1), (0x7FFFFFFF, 0x80000000), (0xFFFFFFFF, 31), (0x80000001, 33)]
@@ -114,39 +115,27 @@ def run(rows):
             yield (pc, word) + struct.unpack_from("<6I", results, 24 * n)
 
 
-def table(name, doc, rows):
-    """A table of numbers, each row below the instruction's text, in the layout of rt fmt."""
-    print()
-    for line in doc:
-        print(f"/// {line}")
-    print(f"pub static {name}: [[u32; {len(rows[0][1])}]; {len(rows)}] = [")
-    for text, numbers in rows:
-        print(f"    // {text}")
-        line = ", ".join(f"0x{n:08X}" for n in numbers)
-        print(f"    [{line}]," if len(numbers) < 6 else f"    [\n        {line},\n    ],")
-    print("];")
+def printed(rows):
+    """The rows of the table: numbers, and behind them the instruction's text."""
+    for (text, _, _), (pc, word, a, b, c, behind, low, high) in zip(rows, run(rows)):
+        op = text.split()[0]
+        assert op in STORES or (low, high) == MEMORY
+        if op not in JUMPS:
+            assert behind == pc + 4
+            pc, behind = PLACE, PLACE + 4
+        yield " ".join(f"0x{n:08X}" for n in (word, pc, a, b, c, behind, low, high)) + f" | {text}"
 
 
 def main():
-    rows = list(instructions())
-    jumps, stores, others = [], [], []
-    for (text, _, _), (pc, word, a, b, c, behind, low, high) in zip(rows, run(rows)):
-        op = text.split()[0]
-        if op in STORES:
-            stores.append((text, (word, a, b, low, high)))
-        elif op in JUMPS:
-            jumps.append((text, (word, pc, a, b, c, behind)))
-        else:
-            others.append((text, (word, a, b, c)))
-        assert op in STORES or (low, high) == MEMORY
-        assert op in JUMPS or behind == pc + 4
+    rows = list(printed(list(instructions())))
     print("//! Words and results of RV32I instructions, made by tools/rv32i_table.py with")
     for tool in (PREFIX + "as", "qemu-riscv32"):
         version = subprocess.run([tool, "--version"], check=True, capture_output=True, text=True).stdout
         print(f"//! {version.splitlines()[0]}.")
-    table("OTHERS", ["The word; x5 and x6; x7 behind it."], others)
-    table("STORES", ["The word; x5 and x6; the two words of memory behind it."], stores)
-    table("JUMPS", ["What goes by the pc: the word and its address; x5 and x6; x7 and the pc behind it."], jumps)
+    print()
+    print("/// The word and its address; x5 and x6; behind it x7, the pc, and the two words of memory.")
+    print('pub const ROWS: &str = "\\')
+    print("\n".join(rows) + '";')
 
 
 main()

@@ -1,23 +1,22 @@
 //! Instructions over a flat memory.
 
+use crate::rows::row;
 use crate::{Flat, table};
 use rv32_exec::{Access, AccessSize, Cause, Exec, MemoryFault, Register, Regs, View, exec};
 use rv32_isa::{decode, encode};
+use std::test::Fail;
 
 /// What stands beside the memory.
 const BESIDE: u32 = 7;
 
 #[test]
 fn a_loop_of_four_words(rt: HostRuntime) {
-    let program = [
-        (Flat::BASE, 0x0010_0513),
-        (Flat::BASE + 4, 0x0050_0893),
-        (Flat::BASE + 8, 0x0000_0073),
-        (Flat::BASE + 12, 0xFF5F_F06F),
-    ];
+    let program = [0x0010_0513, 0x0050_0893, 0x0000_0073, 0xFF5F_F06F];
     let mut memory = Flat::new(BESIDE);
-    for (address, word) in program {
+    let mut address = Flat::BASE;
+    for word in program {
         assert_eq!(rt; memory.store(address, AccessSize::Word, word), Ok(()));
+        address = address.wrapping_add(4);
     }
     let mut regs = Regs::new();
     regs.set_pc(Flat::BASE);
@@ -59,58 +58,23 @@ fn a_store_across_the_end_changes_nothing(rt: HostRuntime) {
     assert_eq!(rt; memory.load(Flat::END - 2, AccessSize::Halfword), Ok(0));
 }
 
-/// The words that memory has before each row of the tables.
+/// The words that memory has before each row of the table.
 const LOW: u32 = 0x80FF_7F01;
 
 const HIGH: u32 = 0x8001_FE7F;
 
 #[test]
-fn results_of_another_machine(rt: HostRuntime) {
-    for [word, a, b, c] in table::OTHERS {
-        assert_eq!(rt;
-            behind(word, 0x1000, a, b),
-            Some([c, 0x1004, LOW, HIGH]),
-            "{word:#010x}"
-        );
+fn results_of_another_machine(rt: HostRuntime) -> Result<(), Fail> {
+    for line in table::ROWS.lines() {
+        let ([word, pc, a, b, x7, next, low, high], _) = row::<8>(line)?;
+        assert_eq!(rt; encode(decode(word).ok_or(line)?), word, "{line}");
+        let found = behind(word, pc, a, b).ok_or(line)?;
+        assert_eq!(rt; found, [x7, next, low, high], "{line}");
     }
+    Ok(())
 }
 
-#[test]
-fn stores_of_another_machine(rt: HostRuntime) {
-    for [word, a, b, low, high] in table::STORES {
-        assert_eq!(rt;
-            behind(word, 0x1000, a, b),
-            Some([a, 0x1004, low, high]),
-            "{word:#010x}"
-        );
-    }
-}
-
-#[test]
-fn jumps_of_another_machine(rt: HostRuntime) {
-    for [word, pc, a, b, c, target] in table::JUMPS {
-        assert_eq!(rt;
-            behind(word, pc, a, b),
-            Some([c, target, LOW, HIGH]),
-            "{word:#010x}"
-        );
-    }
-}
-
-#[test]
-fn words_of_another_assembler(rt: HostRuntime) {
-    for [word, ..] in table::OTHERS {
-        assert_eq!(rt; encoded_again(word), Some(word));
-    }
-    for [word, ..] in table::STORES {
-        assert_eq!(rt; encoded_again(word), Some(word));
-    }
-    for [word, ..] in table::JUMPS {
-        assert_eq!(rt; encoded_again(word), Some(word));
-    }
-}
-
-/// x7, the pc and the two words of memory behind one word of a table.
+/// x7, the pc and the two words of memory behind one word of the table.
 fn behind(word: u32, pc: u32, a: u32, b: u32) -> Option<[u32; 4]> {
     let mut memory = Flat::new(BESIDE);
     memory.store(Flat::BASE, AccessSize::Word, LOW).ok()?;
@@ -124,11 +88,6 @@ fn behind(word: u32, pc: u32, a: u32, b: u32) -> Option<[u32; 4]> {
     let low = memory.load(Flat::BASE, AccessSize::Word).ok()?;
     let high = memory.load(Flat::BASE + 4, AccessSize::Word).ok()?;
     Some([regs.read(Register(7)), regs.pc(), low, high])
-}
-
-/// The word that spells what a word spells.
-fn encoded_again(word: u32) -> Option<u32> {
-    Some(encode(decode(word)?))
 }
 
 /// Fetches one word and runs it.

@@ -2,9 +2,11 @@
 //! walks, placing, and the lines of labels.
 #![tactic(auto)]
 
+#[cfg(test)]
 mod flat;
 
-pub use flat::Flat;
+#[cfg(test)]
+use flat::Flat;
 
 #[cfg(test)]
 mod capability_words;
@@ -20,6 +22,8 @@ mod memory;
 mod placing;
 #[cfg(test)]
 mod range_rows;
+#[cfg(test)]
+mod rows;
 #[cfg(test)]
 mod small_program;
 #[cfg(test)]

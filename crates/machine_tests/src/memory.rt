@@ -6,7 +6,6 @@ use std::test::Fail;
 #[test]
 fn a_word_stands_in_four_bytes_lowest_first(rt: HostRuntime) -> Result<(), Fail> {
     let mut memory = Mem::new(rt.alloc(), 16)?;
-    assert_eq!(rt; memory.len(), 0x1_0000);
     assert!(rt; memory.len() == 0x1_0000);
     memory.write32(0x1001, 0x1234_5678);
     assert_eq!(rt; memory.read8(0x1001), 0x78);
@@ -16,11 +15,7 @@ fn a_word_stands_in_four_bytes_lowest_first(rt: HostRuntime) -> Result<(), Fail>
     assert_eq!(rt; memory.read32(0x1001), 0x1234_ff78);
     memory.zero(0x1002, 2);
     assert_eq!(rt; memory.read32(0x1001), 0x1200_0078);
-    Ok(())
-}
-
-#[test]
-fn the_greatest_memory_is_all_zero(rt: HostRuntime) -> Result<(), Fail> {
+    // The greatest memory is all zero.
     let memory = Mem::new(rt.alloc(), 24)?;
     assert!(rt; memory.len() == 0x100_0000);
     assert_eq!(rt; memory.read32(0xff_fffc), 0);

@@ -1,110 +1,65 @@
 //! Walks through tables in a memory of 2^17 bytes. The root table stands at 0x9000, another table at
 //! 0xA000, and a page at 0x11000.
 
+use crate::rows::row;
 use model::Rights;
 use pmem::Mem;
-use std::alloc::{AllocError, Global};
 use std::test::Fail;
-use sv32::{Access, PageFault, Pte, walk};
+use sv32::{Access, Pte, walk};
 
-// A pointer to the table, and the leaf of the page, readable and writable.
-const TABLE: u32 = 0x2000_2801;
+/// The root table's entry 1 and the other table's entry 1; the root and the address of the walk (0x00401004 has 1 and 1
+/// for the entries, and 4 for the byte); the place that it comes to, or -1 if there is none.
+const LOADS: &str = "\
+0x20002801 0x200044D7 0x9000 0x00401FFF 0x11FFF | the last byte of the page
+0x20002801 0x200044D7 0x9000 0x00402000 -1 | the other table has no entry 2
+0x20002801 0x200044D7 0x9000 0x00801004 -1 | the root table has no entry 2
+0x20002801 0x200044D7 0x20000 0x00401004 -1 | the root stands behind memory
+0x20002801 0x200044D7 0x9000 0x00401004 0x11004 | a leaf to read and write
+0x20002801 0x200044C7 0x9000 0x00401004 -1 | a leaf that is not the user's
+0x20002801 0x20004497 0x9000 0x00401004 -1 | a leaf that is not accessed
+0x20002801 0x20004457 0x9000 0x00401004 0x11004 | a leaf that is not dirty
+0x200028F1 0x200044D7 0x9000 0x00401004 0x11004 | a pointer with these three bits
+0x200000D7 0 0x9000 0x00401004 0x1004 | a leaf of 4 MiB from the start of memory
+0x200004D7 0 0x9000 0x00401004 -1 | a leaf of 4 MiB from the second page of memory
+0x20002801 0x20004401 0x9000 0x00401004 -1 | a pointer where a leaf has to be
+0x20002801 0xA00044D7 0x9000 0x00401004 -1 | a page that is none of memory's by its highest bit
+0x20002801 0x000044D7 0x9000 0x00401004 -1 | a page before memory
+0x20002801 0x200080D7 0x9000 0x00401004 -1 | a page behind memory
+0xA0002801 0x200044D7 0x9000 0x00401004 -1 | a table that is none of memory's by its highest bit
+0x00002801 0x200044D7 0x9000 0x00401004 -1 | a table before memory";
 
-const LEAF: u32 = 0x2000_44d7;
+const STORES: &str = "\
+0x20002801 0x200044D7 0x9000 0x00401004 0x11004 | a leaf to read and write
+0x20002801 0x200044D5 0x9000 0x00401004 -1 | a leaf to write without read
+0x20002801 0x20004457 0x9000 0x00401004 -1 | a leaf that is not dirty";
 
-// What the address 0x00401004 names by these two entries: it has 1 for the root table's entry, 1 for
-// the next table's, and 4 for the byte.
-fn reached(alloc: Global, top: u32, last: u32, access: Access) -> Result<Option<u32>, AllocError> {
-    let mut memory = Mem::new(alloc, 17)?;
-    if memory.len() == 0x2_0000 {
-        memory.write32(0x9004, top);
-        memory.write32(0xa004, last);
-    }
-    Ok(walk(&memory, 0x9000, 0x0040_1004, access).ok())
-}
+const FETCHES: &str = "\
+0x20002801 0x200044D7 0x9000 0x00401004 -1 | a leaf to read and write
+0x20002801 0x200044D9 0x9000 0x00401004 0x11004 | a leaf to execute";
 
 #[test]
 fn the_kernel_writes_these_entries(rt: HostRuntime) {
-    assert_eq!(rt; Pte::leaf(0x1_1000, Rights(3)).0, LEAF);
+    assert_eq!(rt; Pte::leaf(0x1_1000, Rights(3)).0, 0x2000_44d7);
     assert_eq!(rt; Pte::leaf(0x1_1000, Rights(4)).0, 0x2000_44d9);
-    assert_eq!(rt; Pte::table(0xa000).0, TABLE);
+    assert_eq!(rt; Pte::table(0xa000).0, 0x2000_2801);
 }
 
 #[test]
-fn an_address_without_an_entry_has_no_place(rt: HostRuntime) -> Result<(), Fail> {
+fn walks_come_to_these_places(rt: HostRuntime) -> Result<(), Fail> {
     let mut memory = Mem::new(rt.alloc(), 17)?;
-    assert!(rt; memory.len() == 0x2_0000);
-    memory.write32(0x9004, TABLE);
-    memory.write32(0xa004, LEAF);
-    assert_eq!(rt;
-        walk(&memory, 0x9000, 0x0040_1fff, Access::Load),
-        Ok(0x1_1fff)
-    );
-    assert_eq!(rt;
-        walk(&memory, 0x9000, 0x0040_2000, Access::Load),
-        Err(PageFault)
-    );
-    assert_eq!(rt;
-        walk(&memory, 0x9000, 0x0080_1004, Access::Load),
-        Err(PageFault)
-    );
-    assert_eq!(rt;
-        walk(&memory, 0x2_0000, 0x0040_1004, Access::Load),
-        Err(PageFault)
-    );
-    Ok(())
-}
-
-#[test]
-fn the_leaf_says_what_is_allowed(rt: HostRuntime) -> Result<(), Fail> {
-    let alloc = rt.alloc();
-    let place = Some(0x1_1004);
-    assert_eq!(rt; reached(alloc, TABLE, LEAF, Access::Load)?, place);
-    assert_eq!(rt; reached(alloc, TABLE, LEAF, Access::Store)?, place);
-    assert_eq!(rt; reached(alloc, TABLE, LEAF, Access::Fetch)?, None);
-    assert_eq!(rt; reached(alloc, TABLE, 0x2000_44d9, Access::Fetch)?, place);
-    // write without read
-    assert_eq!(rt; reached(alloc, TABLE, 0x2000_44d5, Access::Store)?, None);
-    Ok(())
-}
-
-#[test]
-fn user_accessed_and_dirty_count_in_leaves_alone(rt: HostRuntime) -> Result<(), Fail> {
-    let alloc = rt.alloc();
-    assert_eq!(rt; reached(alloc, TABLE, 0x2000_44c7, Access::Load)?, None);
-    assert_eq!(rt; reached(alloc, TABLE, 0x2000_4497, Access::Load)?, None);
-    assert_eq!(rt;
-        reached(alloc, TABLE, 0x2000_4457, Access::Load)?,
-        Some(0x1_1004)
-    );
-    assert_eq!(rt; reached(alloc, TABLE, 0x2000_4457, Access::Store)?, None);
-    assert_eq!(rt;
-        reached(alloc, 0x2000_28f1, LEAF, Access::Load)?,
-        Some(0x1_1004)
-    );
-    Ok(())
-}
-
-#[test]
-fn leaves_and_pointers_at_the_other_level(rt: HostRuntime) -> Result<(), Fail> {
-    let alloc = rt.alloc();
-    // a leaf of 4 MiB from the start of memory, and one from its second page
-    assert_eq!(rt; reached(alloc, 0x2000_00d7, 0, Access::Load)?, Some(0x1004));
-    assert_eq!(rt; reached(alloc, 0x2000_04d7, 0, Access::Load)?, None);
-    // a pointer where a leaf has to be
-    assert_eq!(rt; reached(alloc, TABLE, 0x2000_4401, Access::Load)?, None);
-    Ok(())
-}
-
-#[test]
-fn all_bits_of_a_physical_address_count(rt: HostRuntime) -> Result<(), Fail> {
-    let alloc = rt.alloc();
-    // a page that is none of memory's by its highest bit, one before memory, and one behind it
-    assert_eq!(rt; reached(alloc, TABLE, 0xa000_44d7, Access::Load)?, None);
-    assert_eq!(rt; reached(alloc, TABLE, 0x0000_44d7, Access::Load)?, None);
-    assert_eq!(rt; reached(alloc, TABLE, 0x2000_80d7, Access::Load)?, None);
-    // tables likewise
-    assert_eq!(rt; reached(alloc, 0xa000_2801, LEAF, Access::Load)?, None);
-    assert_eq!(rt; reached(alloc, 0x0000_2801, LEAF, Access::Load)?, None);
+    for (rows, access) in [
+        (LOADS, Access::Load),
+        (STORES, Access::Store),
+        (FETCHES, Access::Fetch),
+    ] {
+        for line in rows.lines() {
+            let ([top, last, root, address, place], _) = row::<5>(line)?;
+            assert!(rt; memory.len() == 0x2_0000);
+            memory.write32(0x9004, top);
+            memory.write32(0xa004, last);
+            let found = walk(&memory, root, address, access);
+            assert_eq!(rt; found.unwrap_or(u32::MAX), place, "{line}");
+        }
+    }
     Ok(())
 }
