@@ -110,18 +110,11 @@ fn is_in_order(untyped: u32, objects: &[ObjectEntry]) -> bool
     }
 }
 
-/// Whether an interrupt comes on a line.
-fn is_on(interrupt: &InterruptEntry, line: u32) -> bool
-    ensures { result ≡ on_line line interrupt.now }
-{
-    interrupt.line == line
-}
-
 /// Where the interrupt on a line stands.
 fn place_on_line(line: u32, interrupts: &[InterruptEntry]) -> Option<usize>
     ensures { result ≡ position (on_line line) interrupts.now }
 {
-    interrupts.iter().position(|entry| is_on(entry, line))
+    interrupts.iter().position(|entry| entry.line == line)
 }
 
 /// The number of what stands at a place behind so many objects.

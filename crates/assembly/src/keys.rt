@@ -1,6 +1,6 @@
 //! Entries in rising order of their keys.
 
-ghost use Rattle.std.specs.Prelude.{◌≡◌, ℕ, ◌+◌, ◌<◌, ◌≤◌, [], ◌∷◌, ◌++◌, true, length, nat_lt, OnOk, IsOkUnless};
+ghost use Rattle.std.specs.Prelude.{◌≡◌, ℕ, ◌+◌, ◌<◌, ◌≤◌, [], ◌∷◌, ◌++◌, true, length, OnOk, IsOkUnless};
 ghost use Rattle.model.specs.Images.Image.{pair_key};
 ghost use Rattle.assembly.specs.declared.faults.Fault.{Fault};
 ghost use Rattle.assembly.specs.Keys.{is_behind};
@@ -100,19 +100,12 @@ impl Keyed for TermEntry {
     }
 }
 
-/// Whether an entry's key is less.
-fn is_less<E: Keyed>(entry: &E, key: u64) -> bool
-    ensures { result ≡ nat_lt (E.key_of entry.now) key }
-{
-    entry.key() < key
-}
-
 /// Whether the last key, if there is one, is below this one.
 fn is_behind<E: Keyed>(entries: &[E], key: u64) -> bool
     ensures { result ≡ is_behind E.key_of key entries.now }
 {
     match entries.last() {
-        Some(last) => is_less(last, key),
+        Some(last) => last.key() < key,
         None => true,
     }
 }
