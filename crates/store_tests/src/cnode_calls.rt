@@ -1,142 +1,29 @@
-//! Copy, Mint, Move and Mutate, from the words of a message on. A CNode of 512 slots at 0x4000 holds itself
-//! in slot 0, and in the slots behind it a capability of each kind.
+//! Copy, Mint, Move and Mutate, from the words of a message on.
 
-ghost use Rattle.std.specs.Prelude.{◌≡◌, ◌+◌, ◌^◌, ◌<◌, IfOk};
-ghost use Rattle.cnode_ops.specs.Nodes.{CNodesAreOpen};
-ghost use Rattle.slots.specs.Table.{table_slots};
+ghost use Rattle.cnode_ops.specs.Nodes.{CNodesAreOpen, HasOpenSlots};
+ghost use Rattle.model.specs.Capabilities.CapabilityWords.{IsCapability};
 
-use crate::machine::put;
+use crate::asking::slot;
 use crate::nodes::{has_open_slots, nodes_are_open};
+use crate::rows::check_tables;
 use cnode_ops::{NodeCall, copy, mint, move_cap, mutate};
 use invoke::decode_call;
-use model::{CNodeCall, Cap, FrameMapping, Invocation, KError, Rights, Slot};
-use slots::{PlainSlots, SlotMap, SlotStore};
-use std::alloc::Global;
+use model::{CNodeCall, Invocation, KError};
+use slots::SlotStore;
 use std::process::Abort;
 use std::test::Fail;
 
-// The CNode. Its guard has 23 bits, all 0, so that a name of 32 bits is the number of a slot in it.
-const NODE: Cap = Cap::CNode {
-    offset: 0x4000,
-    radix: 9,
-    guard: 23,
-};
-
-const ENDPOINT: u32 = 1;
-
-const BADGED: u32 = 2;
-
-const NOTIFICATION: u32 = 3;
-
-const FRAME: u32 = 4;
-
-const UNTYPED: u32 = 5;
-
-const TABLE: u32 = 6;
-
-const CONTROL: u32 = 7;
-
-const ROOT: u32 = 8;
-
-// The first empty slot.
-const FREE: u32 = 20;
-
-const COPY: u32 = 7;
-
-const MINT: u32 = 8;
-
-const MOVE: u32 = 9;
-
-const MUTATE: u32 = 10;
-
-// The guard 5 of 3 bits.
-const GUARD: u32 = 163;
-
-const UNTYPED_CAP: Cap = Cap::Untyped {
-    offset: 0x8000,
-    bits: 12,
-    watermark: 0x40,
-};
-
-const MAPPING: FrameMapping = FrameMapping {
-    root: 0x9000,
-    page: 0x401,
-    rights: Rights(3),
-};
-
-fn endpoint(rights: u8, badge: u32) -> Cap
-    ensures { result ≡ Cap.Endpoint 32 (record { 0 = rights }) badge }
+fn perform<S: SlotStore>(
+    rt: &impl Abort,
+    store: &mut S,
+    on: NodeCall,
+    call: CNodeCall,
+) -> Result<(), KError>
+    requires root { IsCapability on.root }
+    requires node { IsCapability on.node }
+    requires there { HasOpenSlots (S.slots store.old) on.node }
+    requires nodes { CNodesAreOpen (S.slots store.old) }
 {
-    Cap::Endpoint {
-        offset: 0x20,
-        rights: Rights(rights),
-        badge,
-    }
-}
-
-fn frame(rights: u8, mapping: Option<FrameMapping>) -> Cap
-    ensures { result ≡ Cap.Frame 0x7000 (record { 0 = rights }) mapping }
-{
-    Cap::Frame {
-        offset: 0x7000,
-        rights: Rights(rights),
-        mapping,
-    }
-}
-
-fn node(guard: u32) -> Cap {
-    Cap::CNode {
-        offset: 0x4000,
-        radix: 9,
-        guard,
-    }
-}
-
-fn slot(rt: &impl Abort, index: u32) -> Slot {
-    assert!(rt; index < 0x200);
-    Slot::new(0x400 + index)
-}
-
-fn fill(rt: &impl Abort, store: &mut PlainSlots) {
-    put(rt, store, slot(rt, 0), NODE);
-    put(rt, store, slot(rt, ENDPOINT), endpoint(11, 0));
-    put(rt, store, slot(rt, BADGED), endpoint(11, 5));
-    let notification = Cap::Notification {
-        offset: 0x30,
-        rights: Rights(3),
-        badge: 0,
-    };
-    put(rt, store, slot(rt, NOTIFICATION), notification);
-    put(rt, store, slot(rt, FRAME), frame(3, Some(MAPPING)));
-    put(rt, store, slot(rt, UNTYPED), UNTYPED_CAP);
-    let table = Cap::PageTable {
-        offset: 0xa000,
-        mapping: None,
-    };
-    put(rt, store, slot(rt, TABLE), table);
-    put(rt, store, slot(rt, CONTROL), Cap::InterruptControl);
-    put(rt, store, slot(rt, ROOT), Cap::RootTable { offset: 0x9000 });
-}
-
-fn space(rt: &impl Abort, alloc: Global) -> Result<PlainSlots, Fail>
-    ensures { IfOk result (λ store. CNodesAreOpen (table_slots store.1)) }
-{
-    let mut store = PlainSlots::new(alloc, 16)?;
-    store.open_range(Slot::new(0x400), 0x200);
-    fill(rt, &mut store);
-    assert!(rt; nodes_are_open(&store));
-    Ok(store)
-}
-
-fn perform(rt: &impl Abort, store: &mut PlainSlots, call: CNodeCall) -> Result<(), KError>
-    requires { CNodesAreOpen (table_slots store.old.1) }
-    ensures { CNodesAreOpen (table_slots store.new.1) }
-{
-    assert!(rt; has_open_slots(store, NODE));
-    let on = NodeCall {
-        root: NODE,
-        node: NODE,
-    };
     match call {
         CNodeCall::Copy {
             destination,
@@ -162,318 +49,185 @@ fn perform(rt: &impl Abort, store: &mut PlainSlots, call: CNodeCall) -> Result<(
     }
 }
 
-fn invoke(
+/// What the message of these words answers on the CNode in slot 0x400.
+pub(crate) fn call<S: SlotStore>(
     rt: &impl Abort,
-    store: &mut PlainSlots,
+    store: &mut S,
     label: u32,
     words: [u32; 6],
-) -> Result<(), KError>
-    requires { CNodesAreOpen (table_slots store.old.1) }
-    ensures { CNodesAreOpen (table_slots store.new.1) }
-{
-    match decode_call(NODE, label, 0, &words) {
-        Ok(Invocation::OnCNode { call }) => perform(rt, store, call),
-        Ok(_) => panic!(rt; "no call on a CNode"),
-        Err(error) => Err(error),
+) -> Result<u32, KError> {
+    let node = store.capability(slot(rt, 0x400));
+    assert!(rt; nodes_are_open(store) && has_open_slots(store, node));
+    let on = NodeCall { root: node, node };
+    match decode_call(node, label, 0, &words)? {
+        Invocation::OnCNode { call } => perform(rt, store, on, call)?,
+        _ => panic!(rt; "no call on a CNode"),
     }
+    Ok(1)
 }
 
-// The number of the slot that another was derived from.
-fn parent(store: &PlainSlots, at: Slot) -> Option<u32> {
-    if !store.is_open(at) {
-        return None;
-    }
-    let (_held, parent) = store.get(at);
-    parent.map(|above| above.number())
-}
-
-fn is_same(a: &PlainSlots, b: &PlainSlots) -> bool {
-    'slots: for number in 0..0x1000u32 {
-        let at = Slot::new(number);
-        if a.capability(at) != b.capability(at) || parent(a, at) != parent(b, at) {
-            return false;
-        }
-    }
-    true
-}
-
-// The call is refused, and no slot differs from those of the other store.
-fn assert_refused(
+/// Each of so many slots behind the first one gets a copy of the slot before it.
+pub(crate) fn line_of_copies<S: SlotStore>(
     rt: &impl Abort,
-    store: &mut PlainSlots,
-    other: &PlainSlots,
-    label: u32,
-    words: [u32; 6],
-    wanted: KError,
-)
-    requires { CNodesAreOpen (table_slots store.old.1) }
-    ensures { CNodesAreOpen (table_slots store.new.1) }
-{
-    assert_eq!(rt; invoke(rt, store, label, words), Err(wanted));
-    assert!(rt; is_same(store, other));
-}
-
-// The same of a call from one slot to the first empty one.
-fn assert_no(
-    rt: &impl Abort,
-    store: &mut PlainSlots,
-    other: &PlainSlots,
-    call: [u32; 4],
-    wanted: KError,
-)
-    requires { CNodesAreOpen (table_slots store.old.1) }
-    ensures { CNodesAreOpen (table_slots store.new.1) }
-{
-    let words = [FREE, 32, call[1], 32, call[2], call[3]];
-    assert_refused(rt, store, other, call[0], words, wanted);
-}
-
-// The call is made, with two more words behind the names of the slots.
-fn assert_done(
-    rt: &impl Abort,
-    store: &mut PlainSlots,
-    label: u32,
-    names: [u32; 2],
-    words: [u32; 2],
-)
-    requires { CNodesAreOpen (table_slots store.old.1) }
-    ensures { CNodesAreOpen (table_slots store.new.1) }
-{
-    let words = [names[0], 32, names[1], 32, words[0], words[1]];
-    assert_eq!(rt; invoke(rt, store, label, words), Ok(()));
-}
-
-fn assert_held(rt: &impl Abort, store: &PlainSlots, index: u32, wanted: Cap, above: Option<u32>) {
-    let at = slot(rt, index);
-    assert_eq!(rt; store.capability(at), wanted);
-    assert_eq!(rt; parent(store, at), above);
-}
-
-// Names are looked at before all else, the destination's before the source's.
-fn assert_names(rt: &impl Abort, store: &mut PlainSlots, other: &PlainSlots, label: u32)
-    requires { CNodesAreOpen (table_slots store.old.1) }
-    ensures { CNodesAreOpen (table_slots store.new.1) }
-{
-    let range = KError::RangeError;
-    let lookup = KError::FailedLookup;
-    assert_refused(rt, store, other, label, [FREE, 0, CONTROL, 0, 0, 0], range);
-    assert_refused(rt, store, other, label, [FREE, 33, CONTROL, 0, 0, 0], range);
-    assert_refused(
-        rt,
-        store,
-        other,
-        label,
-        [0x200, 32, CONTROL, 0, 0, 0],
-        lookup,
-    );
-    assert_refused(
-        rt,
-        store,
-        other,
-        label,
-        [FREE, 31, CONTROL, 0, 0, 0],
-        lookup,
-    );
-    assert_refused(
-        rt,
-        store,
-        other,
-        label,
-        [ROOT, 32, CONTROL, 0, 0, 0],
-        KError::DeleteFirst,
-    );
-    assert_refused(rt, store, other, label, [FREE, 32, CONTROL, 0, 0, 0], range);
-    assert_refused(
-        rt,
-        store,
-        other,
-        label,
-        [FREE, 32, CONTROL, 33, 0, 0],
-        range,
-    );
-    assert_refused(rt, store, other, label, [FREE, 32, 0x200, 32, 0, 0], lookup);
-    assert_refused(rt, store, other, label, [FREE, 32, FREE, 32, 0, 0], lookup);
-}
-
-#[test]
-fn names_are_looked_at_first(rt: HostRuntime) -> Result<(), Fail> {
-    let mut store = space(&rt, rt.alloc())?;
-    let other = space(&rt, rt.alloc())?;
-    assert_names(&rt, &mut store, &other, COPY);
-    assert_names(&rt, &mut store, &other, MINT);
-    assert_names(&rt, &mut store, &other, MOVE);
-    assert_names(&rt, &mut store, &other, MUTATE);
-    Ok(())
-}
-
-#[test]
-fn some_capabilities_are_not_copied(rt: HostRuntime) -> Result<(), Fail> {
-    let mut store = space(&rt, rt.alloc())?;
-    let other = space(&rt, rt.alloc())?;
-    let illegal = KError::IllegalOperation;
-    assert_no(&rt, &mut store, &other, [COPY, UNTYPED, 3, 0], illegal);
-    assert_no(&rt, &mut store, &other, [COPY, TABLE, 3, 0], illegal);
-    assert_no(&rt, &mut store, &other, [COPY, CONTROL, 3, 0], illegal);
-    assert_no(&rt, &mut store, &other, [MINT, UNTYPED, 3, 0], illegal);
-    assert_no(&rt, &mut store, &other, [MINT, TABLE, 3, 0], illegal);
-    assert_no(&rt, &mut store, &other, [MINT, CONTROL, 3, 0], illegal);
-    Ok(())
-}
-
-#[test]
-fn a_badge_is_given_once_and_has_28_bits(rt: HostRuntime) -> Result<(), Fail> {
-    let mut store = space(&rt, rt.alloc())?;
-    let other = space(&rt, rt.alloc())?;
-    let range = KError::RangeError;
-    assert_no(
-        &rt,
-        &mut store,
-        &other,
-        [MINT, BADGED, 3, 7],
-        KError::IllegalOperation,
-    );
-    assert_no(
-        &rt,
-        &mut store,
-        &other,
-        [MINT, BADGED, 3, 0x1000_0000],
-        KError::IllegalOperation,
-    );
-    assert_no(
-        &rt,
-        &mut store,
-        &other,
-        [MINT, ENDPOINT, 3, 0x1000_0000],
-        range,
-    );
-    assert_no(
-        &rt,
-        &mut store,
-        &other,
-        [MINT, NOTIFICATION, 3, 0xffff_ffff],
-        range,
-    );
-    assert_done(&rt, &mut store, MINT, [FREE, ENDPOINT], [3, 0xfff_ffff]);
-    assert_held(&rt, &store, FREE, endpoint(3, 0xfff_ffff), Some(0x401));
-    Ok(())
-}
-
-#[test]
-fn a_guard_word_fits_its_cnode(rt: HostRuntime) -> Result<(), Fail> {
-    let mut store = space(&rt, rt.alloc())?;
-    let other = space(&rt, rt.alloc())?;
-    let illegal = KError::IllegalOperation;
-    assert_no(&rt, &mut store, &other, [MINT, 0, 3, 24], illegal);
-    assert_no(&rt, &mut store, &other, [MINT, 0, 3, 259], illegal);
-    assert_no(&rt, &mut store, &other, [MINT, 0, 3, 0x80_0017], illegal);
-    assert_no(&rt, &mut store, &other, [MUTATE, 0, 24, 0], illegal);
-    assert_no(&rt, &mut store, &other, [MUTATE, 0, 259, 0], illegal);
-    assert_done(&rt, &mut store, MINT, [FREE, 0], [3, GUARD]);
-    assert_held(&rt, &store, FREE, node(GUARD), Some(0x400));
-    Ok(())
-}
-
-#[test]
-fn what_carries_messages_is_not_mutated(rt: HostRuntime) -> Result<(), Fail> {
-    let mut store = space(&rt, rt.alloc())?;
-    let other = space(&rt, rt.alloc())?;
-    let illegal = KError::IllegalOperation;
-    assert_no(&rt, &mut store, &other, [MUTATE, ENDPOINT, 0, 0], illegal);
-    assert_no(&rt, &mut store, &other, [MUTATE, BADGED, 5, 0], illegal);
-    assert_no(
-        &rt,
-        &mut store,
-        &other,
-        [MUTATE, NOTIFICATION, 0, 0],
-        illegal,
-    );
-    Ok(())
-}
-
-#[test]
-fn a_copy_has_common_rights_and_no_mapping(rt: HostRuntime) -> Result<(), Fail> {
-    let mut store = space(&rt, rt.alloc())?;
-    assert_done(&rt, &mut store, COPY, [FREE, FRAME], [0xffff_fff6, 0]);
-    assert_held(&rt, &store, FREE, frame(2, None), Some(0x404));
-    assert_held(&rt, &store, FRAME, frame(3, Some(MAPPING)), None);
-    assert_done(&rt, &mut store, COPY, [21, BADGED], [6, 0]);
-    assert_held(&rt, &store, 21, endpoint(2, 5), Some(0x402));
-    assert_done(&rt, &mut store, COPY, [22, 21], [0xf, 0]);
-    assert_held(&rt, &store, 22, endpoint(2, 5), Some(0x415));
-    assert_done(&rt, &mut store, MINT, [23, ROOT], [0, 0xffff_ffff]);
-    assert_held(
-        &rt,
-        &store,
-        23,
-        Cap::RootTable { offset: 0x9000 },
-        Some(0x408),
-    );
-    Ok(())
-}
-
-#[test]
-fn a_move_takes_parent_children_and_mapping_along(rt: HostRuntime) -> Result<(), Fail> {
-    let mut store = space(&rt, rt.alloc())?;
-    assert_done(&rt, &mut store, MINT, [FREE, ENDPOINT], [3, 7]);
-    assert_done(&rt, &mut store, COPY, [21, FREE], [1, 0]);
-    assert_done(&rt, &mut store, MOVE, [30, FREE], [0, 0]);
-    assert_held(&rt, &store, FREE, Cap::Empty, None);
-    assert_held(&rt, &store, 30, endpoint(3, 7), Some(0x401));
-    assert_held(&rt, &store, 21, endpoint(1, 7), Some(0x41e));
-    assert_done(&rt, &mut store, MOVE, [31, FRAME], [0, 0]);
-    assert_held(&rt, &store, 31, frame(3, Some(MAPPING)), None);
-    Ok(())
-}
-
-#[test]
-fn a_mutation_changes_the_guard_alone(rt: HostRuntime) -> Result<(), Fail> {
-    let mut store = space(&rt, rt.alloc())?;
-    assert_done(&rt, &mut store, COPY, [FREE, 0], [0, 0]);
-    assert_done(&rt, &mut store, COPY, [21, FREE], [0, 0]);
-    assert_done(&rt, &mut store, MUTATE, [30, FREE], [GUARD, 0]);
-    assert_held(&rt, &store, FREE, Cap::Empty, None);
-    assert_held(&rt, &store, 30, node(GUARD), Some(0x400));
-    assert_held(&rt, &store, 21, NODE, Some(0x41e));
-    assert_done(&rt, &mut store, MUTATE, [31, UNTYPED], [0xffff_ffff, 0]);
-    assert_held(&rt, &store, 31, UNTYPED_CAP, None);
-    Ok(())
-}
-
-// Each of so many slots behind the first one gets a copy of the slot before it.
-fn copy_on(rt: &impl Abort, store: &mut PlainSlots, first: u32, count: u32)
-    requires nodes { CNodesAreOpen (table_slots store.old.1) }
-    requires few { first + count < 2 ^ 32 }
-    ensures { CNodesAreOpen (table_slots store.new.1) }
-{
-    'slots: for index in first..first + count {
-        assert_done(rt, store, COPY, [index + 1, index], [0xf, 0]);
+    store: &mut S,
+    first: u32,
+    count: u32,
+) -> Result<u32, KError> {
+    for index in first..first.saturating_add(count) {
+        call(
+            rt,
+            store,
+            7,
+            [index.saturating_add(1), 32, index, 32, 0xf, 0],
+        )?;
     }
+    Ok(1)
 }
 
+/// A CNode of 512 slots holds itself in its slot 0, which is slot 0x400. Its guard has 23 bits, all 0, so that a name of
+/// 32 (0x20) bits is the number of a slot in it. Behind it stands a capability of each kind.
+const FRONT: &str = "open 400 200 = 1
+put 400 = cnode 4000 9 17
+put 401 = endpoint 20 b 0
+put 402 = endpoint 20 b 5
+put 403 = notification 30 3 0
+put 404 = frame 7000 3 0 9000 401 3
+put 405 = untyped 8000 c 40
+put 406 = table a000
+put 407 = control
+put 408 = root 9000";
+
+/// A call has the name of its destination, the name of its source, and up to two more words: the rights and the badge or
+/// guard of Copy and Mint, and the guard of Mutate.
+const TABLES: [&str; 9] = [
+    // Names are looked at before all else, the destination's before the source's.
+    "copy 14 0 7 0 0 0 = RangeError
+copy 14 21 7 0 0 0 = RangeError
+copy 200 20 7 0 0 0 = FailedLookup
+copy 14 1f 7 0 0 0 = FailedLookup
+copy 8 20 7 0 0 0 = DeleteFirst
+copy 14 20 7 0 0 0 = RangeError
+copy 14 20 7 21 0 0 = RangeError
+copy 14 20 200 20 0 0 = FailedLookup
+copy 14 20 14 20 0 0 = FailedLookup
+mint 14 0 7 0 0 0 = RangeError
+mint 14 21 7 0 0 0 = RangeError
+mint 200 20 7 0 0 0 = FailedLookup
+mint 14 1f 7 0 0 0 = FailedLookup
+mint 8 20 7 0 0 0 = DeleteFirst
+mint 14 20 7 0 0 0 = RangeError
+mint 14 20 7 21 0 0 = RangeError
+mint 14 20 200 20 0 0 = FailedLookup
+mint 14 20 14 20 0 0 = FailedLookup
+move 14 0 7 0 0 0 = RangeError
+move 14 21 7 0 0 0 = RangeError
+move 200 20 7 0 0 0 = FailedLookup
+move 14 1f 7 0 0 0 = FailedLookup
+move 8 20 7 0 0 0 = DeleteFirst
+move 14 20 7 0 0 0 = RangeError
+move 14 20 7 21 0 0 = RangeError
+move 14 20 200 20 0 0 = FailedLookup
+move 14 20 14 20 0 0 = FailedLookup
+mutate 14 0 7 0 0 0 = RangeError
+mutate 14 21 7 0 0 0 = RangeError
+mutate 200 20 7 0 0 0 = FailedLookup
+mutate 14 1f 7 0 0 0 = FailedLookup
+mutate 8 20 7 0 0 0 = DeleteFirst
+mutate 14 20 7 0 0 0 = RangeError
+mutate 14 20 7 21 0 0 = RangeError
+mutate 14 20 200 20 0 0 = FailedLookup
+mutate 14 20 14 20 0 0 = FailedLookup
+held 414 = empty",
+    // Some capabilities are not copied.
+    "copy 14 20 5 20 3 0 = IllegalOperation
+copy 14 20 6 20 3 0 = IllegalOperation
+copy 14 20 7 20 3 0 = IllegalOperation
+mint 14 20 5 20 3 0 = IllegalOperation
+mint 14 20 6 20 3 0 = IllegalOperation
+mint 14 20 7 20 3 0 = IllegalOperation
+held 414 = empty",
+    // A badge is given once and has 28 bits.
+    "mint 14 20 2 20 3 7 = IllegalOperation
+mint 14 20 2 20 3 10000000 = IllegalOperation
+mint 14 20 1 20 3 10000000 = RangeError
+mint 14 20 3 20 3 ffffffff = RangeError
+held 414 = empty
+mint 14 20 1 20 3 fffffff = 1
+held 414 = endpoint 20 3 fffffff
+parent 414 = 401",
+    // A guard word fits its CNode: a3 is the guard 5 of 3 bits.
+    "mint 14 20 0 20 3 18 = IllegalOperation
+mint 14 20 0 20 3 103 = IllegalOperation
+mint 14 20 0 20 3 800017 = IllegalOperation
+mutate 14 20 0 20 18 0 = IllegalOperation
+mutate 14 20 0 20 103 0 = IllegalOperation
+held 414 = empty
+mint 14 20 0 20 3 a3 = 1
+held 414 = cnode 4000 9 a3
+parent 414 = 400",
+    // What carries messages is not mutated.
+    "mutate 14 20 1 20 0 0 = IllegalOperation
+mutate 14 20 2 20 5 0 = IllegalOperation
+mutate 14 20 3 20 0 0 = IllegalOperation
+held 414 = empty",
+    // A copy has common rights and no mapping.
+    "copy 14 20 4 20 fffffff6 0 = 1
+held 414 = frame 7000 2 0
+parent 414 = 404
+held 404 = frame 7000 3 0 9000 401 3
+parent 404 = none
+copy 15 20 2 20 6 0 = 1
+held 415 = endpoint 20 2 5
+parent 415 = 402
+copy 16 20 15 20 f 0 = 1
+held 416 = endpoint 20 2 5
+parent 416 = 415
+mint 17 20 8 20 0 ffffffff = 1
+held 417 = root 9000
+parent 417 = 408",
+    // A move takes parent, children and mapping along.
+    "mint 14 20 1 20 3 7 = 1
+copy 15 20 14 20 1 0 = 1
+move 1e 20 14 20 0 0 = 1
+held 414 = empty
+parent 414 = none
+held 41e = endpoint 20 3 7
+parent 41e = 401
+held 415 = endpoint 20 1 7
+parent 415 = 41e
+move 1f 20 4 20 0 0 = 1
+held 41f = frame 7000 3 0 9000 401 3
+parent 41f = none",
+    // A mutation changes the guard alone.
+    "copy 14 20 0 20 0 0 = 1
+copy 15 20 14 20 0 0 = 1
+mutate 1e 20 14 20 a3 0 = 1
+held 414 = empty
+parent 414 = none
+held 41e = cnode 4000 9 a3
+parent 41e = 400
+held 415 = cnode 4000 9 17
+parent 415 = 41e
+mutate 1f 20 5 20 ffffffff 0 = 1
+held 41f = untyped 8000 c 40
+parent 41f = none",
+    // No copy is deeper than 255. From the slot of depth 2 on there are 253 (0xfd) more.
+    "copy 64 20 1 20 f 0 = 1
+copy 65 20 64 20 f 0 = 1
+copies 65 fd = 1
+held 562 = endpoint 20 b 0
+parent 562 = 561
+copy 163 20 162 20 f 0 = IllegalOperation
+mint 163 20 162 20 f 1 = IllegalOperation
+mint 163 20 162 20 f 10000000 = RangeError
+held 563 = empty
+parent 563 = none
+move 163 20 162 20 0 0 = 1
+held 563 = endpoint 20 b 0
+parent 563 = 561",
+];
+
 #[test]
-fn no_copy_is_deeper_than_255(rt: HostRuntime) -> Result<(), Fail> {
-    let mut store = space(&rt, rt.alloc())?;
-    assert_done(&rt, &mut store, COPY, [100, ENDPOINT], [0xf, 0]);
-    assert_done(&rt, &mut store, COPY, [101, 100], [0xf, 0]);
-    // From the slot of depth 2 on.
-    copy_on(&rt, &mut store, 101, 253);
-    assert_held(&rt, &store, 354, endpoint(11, 0), Some(0x400 + 353));
-    let illegal = KError::IllegalOperation;
-    assert_eq!(rt;
-        invoke(&rt, &mut store, COPY, [355, 32, 354, 32, 0xf, 0]),
-        Err(illegal)
-    );
-    assert_eq!(rt;
-        invoke(&rt, &mut store, MINT, [355, 32, 354, 32, 0xf, 1]),
-        Err(illegal)
-    );
-    // The badge is looked at before the depth.
-    assert_eq!(rt;
-        invoke(&rt, &mut store, MINT, [355, 32, 354, 32, 0xf, 0x1000_0000]),
-        Err(KError::RangeError)
-    );
-    assert_held(&rt, &store, 355, Cap::Empty, None);
-    assert_done(&rt, &mut store, MOVE, [355, 354], [0, 0]);
-    assert_held(&rt, &store, 355, endpoint(11, 0), Some(0x400 + 353));
-    Ok(())
+fn copies_and_moves(rt: HostRuntime) -> Result<(), Fail> {
+    check_tables(&rt, FRONT, &TABLES)
 }

@@ -3,6 +3,10 @@
 #![tactic(auto)]
 
 #[cfg(test)]
+mod asking;
+#[cfg(test)]
+mod changes;
+#[cfg(test)]
 mod cnode_calls;
 #[cfg(test)]
 mod decoding;
@@ -11,14 +15,12 @@ mod fresh;
 #[cfg(test)]
 mod lookups;
 #[cfg(test)]
-mod machine;
-#[cfg(test)]
 mod mappings;
 #[cfg(test)]
 mod nodes;
 #[cfg(test)]
-mod side_by_side;
+mod rows;
 #[cfg(test)]
-mod tables;
+mod side_by_side;
 #[cfg(test)]
 mod trees;

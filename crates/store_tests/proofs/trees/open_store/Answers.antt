@@ -1,5 +1,0 @@
--- Nothing is open in a new store.
-use Rattle.store_tests.proofs.trees.open_store.Goals as goal
-
-pub open_range-requires-clause-closed : goal.open_range-requires-clause-closed
-open_range-requires-clause-closed c = λ s low high. c.in_ok-store.ensures.slots s
