@@ -1,6 +1,6 @@
 #!/usr/bin/env bash
 # Outside the gate: 200 random programs of loops, of which 95 per cent have to get certificates, and a text of 65,536 instructions,
-# which has to get one within 20 seconds. What is written is built and verified once more by `microsys`. Asks for `make build` before.
+# which has to get one within 20 seconds. What is written is built and verified once more by `microsys`. Asks for `make build tool` before.
 # With a number as its word other programs are made: each number gives its own.
 set -euo pipefail
 here="$(cd "$(dirname "$0")" && pwd)"

@@ -31,6 +31,8 @@ def toolchain():
 
 RT = toolchain()
 SUMS = {}
+# A crate's command gives way to those of crates with a longer chain of others behind them.
+NICENESS = {}
 
 
 def sum_of(crate):
@@ -55,7 +57,7 @@ def build(crate, flags, anew):
     shutil.rmtree(folder, ignore_errors=True)
     os.makedirs(folder)
     words = [*crate.words(flags, keeps=False), "--statements", "--empty-contracts", "-o", crate.rlib]
-    status = crate.call(RT.rtlib.RATTLE, "build", *words)
+    status = crate.call("nice", "-n", str(NICENESS.get(crate.name, 0)), RT.rtlib.RATTLE, "build", *words)
     if status == 0:
         with open(f"{folder}/stamp", "w", encoding="utf-8") as kept:
             kept.write(sum_of(crate))
@@ -77,10 +79,13 @@ def build_logged(crate, jobs):
 
 
 def build_all(names):
-    """Builds each library once those below it stand, first those with the most work behind them."""
+    """Builds each library once those below it stand, first those with the longest chain of others behind them."""
     crates = [it for it in RT.rtlib.crates_below(os.getcwd()) if not names or it.name in names]
     left = list({it.name: it for crate in crates for it in [*crate.below(), crate] if it.makes_rlib()}.values())
-    behind = {it.name: sum(above.count(rb"\n") for above in left if it in above.below()) for it in left}
+    behind = {it.name: it.count(rb"\n") for it in left}
+    for it in reversed(left):
+        for below in it.deps:
+            behind[below.name] = max(behind[below.name], behind[it.name] + below.count(rb"\n"))
     os.makedirs(LOGS, exist_ok=True)
     RT.rtlib.guarded()
     lanes, built, running = os.cpu_count() or 1, set(), {}
@@ -90,6 +95,8 @@ def build_all(names):
             for crate in ready[: lanes - len(running)]:
                 left.remove(crate)
                 # (each may use all processors: else the longest chain waits for a large crate that has one of them)
+                is_last = any(behind[name] > behind[crate.name] for name in running.values())
+                NICENESS[crate.name] = 10 if is_last else 0
                 running[pool.submit(build_logged, crate, lanes)] = crate.name
             if not running:
                 break

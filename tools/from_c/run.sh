@@ -1,7 +1,7 @@
 #!/usr/bin/env bash
 # Makes texts of the programs and systems from C, has them certified, builds, verifies and runs them, and compares the
 # bytes that they put with what was worked out by hand; and compares what is said of C that cannot be converted.
-# Usage: tools/from_c/run.sh [CERTIFIER [MICROSYS]], after `make build`. CERTIFIER is called as `CERTIFIER certify SRC
+# Usage: tools/from_c/run.sh [CERTIFIER [MICROSYS]], after `make build tool`. CERTIFIER is called as `CERTIFIER certify SRC
 # OUT`. It is no part of the gate: it needs Debian's gcc for RISC-V (docs/FROM_C.md).
 set -u
 here="$(cd "$(dirname "$0")" && pwd)"
