@@ -1,436 +1,242 @@
 //! The nine system calls on an endpoint where nobody waits, or a sender, a caller, a thread that faulted, or a receiver.
 //! seL4 Reference Manual, "Message Passing (IPC)" and "Faults"; numbers of calls, words and labels are this project's own.
 
-use crate::programs::{A1, A2, A3, A4, A5, A7, CALL, ECALL, RECV, REPLY, SEND, STAY, set};
-use crate::systems::{
-    ENDPOINT_SLOT, READ, Start, WRITE, WRITE_GRANT_REPLY, begin_with, give, goes_on, has,
-    has_arguments, idles, runs, set_register, stands_at, system_of, ticks,
-};
-use kernel::{Setup, System};
-use model::{FaultKind, Outcome};
-use std::alloc::Global;
-use std::process::Abort;
+use crate::systems::{OBJECTS, plays};
 use std::test::Fail;
 
-const PARTNER: u8 = 0;
+// The partner (thread 0) and the caller (thread 1) begin at 0x1000 and have one priority. The lengths 3 and 2 stand
+// beside bits that no message has.
+const BOTH: &str = "
+    code ecall stay
+    call tcb0 set_priority 100
+    set tcb0 pc 0x1000 a0 1 a1 0x7F83 a2 11 a3 12 a4 13 a5 14
+    call cnode1 mint 1 4 endpoint 32 all 6
+    call tcb1 configure 0 cnode1 32 root 32 28
+    call tcb1 set_priority 100
+    set tcb1 pc 0x1000 a0 1 a1 0x5F82 a2 21 a3 22 a4 23 a5 24
+";
 
-const CALLER: u8 = 1;
+// The partner's system call is the first one; its badge is 5. FAULTS stops by a fault that nobody handles, and HANDLED
+// has the endpoint for its fault address.
+//
+// Behind its name and what comes of its call stands what comes of the caller's, for each of Call, ReplyRecv, Send,
+// NBSend, Recv, Reply, Yield, NBRecv and PutChar.
+const ROWS: &str = "
+    FAULTS   fault blocks blocks      blocks passes blocks      passes passes finds_nothing prints
+    SENDS    wait  blocks from_sender blocks passes from_sender passes passes polls_sender  prints
+    CALLS    wait  blocks from_caller blocks passes from_caller passes passes polls_caller  prints
+    NO_REPLY wait  blocks from_caller blocks passes from_caller passes passes polls_caller  prints
+    HANDLED  fault blocks from_fault  blocks passes from_fault  passes passes polls_fault   prints
+    RECEIVES wait  calls_receiver blocks to_receiver polled_to_receiver blocks passes passes finds_nothing prints
+";
 
-// A number that no system call has.
-const UNKNOWN: u32 = 10;
+// What the names of the rows stand for: of a partner its setting up; of what comes of a call the label, the caller and
+// the partner behind it, and who runs next and five ticks later. Who is ready jumps to where it is.
+//
+// `blocks`: the caller joins the list of the endpoint. `passes`: nothing else happens. `prints`: the low byte of a0.
+// `finds_nothing`: with nothing there a0 becomes 0. `from_sender`: by badge 5, with the label 7 and three words, and the
+// sender passes behind the caller. `from_caller`: who called waits for the reply, or stops. `from_fault`: by badge 5, with
+// the label 2 and two words, where the thread was and the number in its a7; it waits for its handler's reply.
+// `to_receiver`: by badge 6, with the label 5 and two words, and the receiver passes behind the caller. `calls_receiver`:
+// the caller waits for the reply. `polls_..` and `polled_..` are the same by a call that does not wait.
+const PARTS: &str = "
+FAULTS
+    call cnode0 mint 1 4 endpoint 32 write_reply 5
+    call tcb0 configure 0 cnode0 32 root 32 28
+    set tcb0 a7 Unknown
 
-// All rights of an endpoint.
-const ALL: u32 = 11;
+SENDS
+    call cnode0 mint 1 4 endpoint 32 write 5
+    call tcb0 configure 0 cnode0 32 root 32 28
+    set tcb0 a7 Send
 
-// What the partner does before the caller's call.
-#[derive(Clone, Copy)]
-struct Partner {
-    // Its system call.
-    call: u32,
-    // The rights of its capability to the endpoint.
-    rights: u32,
-    // Its fault address: 0, or 1 for the endpoint.
-    fault_address: u32,
-    outcome: Outcome,
-}
+CALLS
+    call cnode0 mint 1 4 endpoint 32 write_reply 5
+    call tcb0 configure 0 cnode0 32 root 32 28
+    set tcb0 a7 Call
 
-// It stops by a fault that nobody handles.
-const STOPPED: Partner = Partner {
-    call: UNKNOWN,
-    rights: WRITE_GRANT_REPLY,
-    fault_address: 0,
-    outcome: Outcome::Faulted(FaultKind::UnknownCall),
-};
+NO_REPLY
+    call cnode0 mint 1 4 endpoint 32 write 5
+    call tcb0 configure 0 cnode0 32 root 32 28
+    set tcb0 a7 Call
 
-const SENDER: Partner = Partner {
-    call: SEND,
-    rights: WRITE,
-    fault_address: 0,
-    outcome: Outcome::Waited,
-};
+HANDLED
+    call cnode0 mint 1 4 endpoint 32 write_reply 5
+    call tcb0 configure 1 cnode0 32 root 32 28
+    set tcb0 a7 Unknown
 
-const CALLS: Partner = Partner {
-    call: CALL,
-    rights: WRITE_GRANT_REPLY,
-    fault_address: 0,
-    outcome: Outcome::Waited,
-};
+RECEIVES
+    call cnode0 mint 1 4 endpoint 32 read 5
+    call tcb0 configure 0 cnode0 32 root 32 28
+    set tcb0 a7 Recv
 
-const CALLS_WITHOUT_REPLY: Partner = Partner {
-    call: CALL,
-    rights: WRITE,
-    fault_address: 0,
-    outcome: Outcome::Waited,
-};
+fault
+    80013000 00001000 fault 2
 
-const FAULTING: Partner = Partner {
-    call: UNKNOWN,
-    rights: WRITE_GRANT_REPLY,
-    fault_address: 1,
-    outcome: Outcome::Faulted(FaultKind::UnknownCall),
-};
+wait
+    80013000 00001000 wait
 
-const RECEIVER: Partner = Partner {
-    call: RECV,
-    rights: READ,
-    fault_address: 0,
-    outcome: Outcome::Waited,
-};
+blocks
+    80013200 00001000 wait
+    reg t1 pc a0 a1 a2 a3 a4 a5 = 0x1000 1 0x5F82 21 22 23 24
+    reg t0 pc a0 a1 a2 a3 a4 a5 = 0x1000 1 0x7F83 11 12 13 14
+    idle
+    tick; tick; tick; tick; tick
+    idle
 
-// A thread after the call: the word where it stands, and a0 to a5.
-#[derive(Clone, Copy)]
-struct After {
-    word: u8,
-    arguments: [u32; 6],
-}
+passes
+    80013200 00001000 plain
+    reg t1 pc a0 a1 a2 a3 a4 a5 = 0x1004 1 0x5F82 21 22 23 24
+    reg t0 pc a0 a1 a2 a3 a4 a5 = 0x1000 1 0x7F83 11 12 13 14
+    80013200 00001004 plain
+    tick; tick; tick; tick; tick
+    80013200 00001004 plain
 
-// What the registers hold before the call. The length 3 stands beside bits that no message has.
-const CALLER_BEFORE: [u32; 6] = [1, 0x5F82, 21, 22, 23, 24];
+prints
+    80013200 00001000 byte 01
+    reg t1 pc a0 a1 a2 a3 a4 a5 = 0x1004 1 0x5F82 21 22 23 24
+    reg t0 pc a0 a1 a2 a3 a4 a5 = 0x1000 1 0x7F83 11 12 13 14
+    80013200 00001004 plain
+    tick; tick; tick; tick; tick
+    80013200 00001004 plain
 
-const PARTNER_BEFORE: [u32; 6] = [1, 0x7F83, 11, 12, 13, 14];
+finds_nothing
+    80013200 00001000 plain
+    reg t1 pc a0 a1 a2 a3 a4 a5 = 0x1004 0 0x5F82 21 22 23 24
+    reg t0 pc a0 a1 a2 a3 a4 a5 = 0x1000 1 0x7F83 11 12 13 14
+    80013200 00001004 plain
+    tick; tick; tick; tick; tick
+    80013200 00001004 plain
 
-// What comes of a call.
-#[derive(Clone, Copy)]
-struct Row {
-    outcome: Outcome,
-    caller: After,
-    partner: After,
-    // Who runs next, and who five ticks later.
-    ready: [Option<u8>; 2],
-}
+from_sender
+    80013200 00001000 wait
+    reg t1 pc a0 a1 a2 a3 a4 a5 = 0x1004 5 0x7003 11 12 13 24
+    reg t0 pc a0 a1 a2 a3 a4 a5 = 0x1004 1 0x7F83 11 12 13 14
+    80013200 00001004 plain
+    tick; tick; tick; tick; tick
+    80013000 00001004 plain
 
-const CALLER_STAYS: After = After {
-    word: 0,
-    arguments: CALLER_BEFORE,
-};
+polls_sender
+    80013200 00001000 plain
+    reg t1 pc a0 a1 a2 a3 a4 a5 = 0x1004 5 0x7003 11 12 13 24
+    reg t0 pc a0 a1 a2 a3 a4 a5 = 0x1004 1 0x7F83 11 12 13 14
+    80013200 00001004 plain
+    tick; tick; tick; tick; tick
+    80013000 00001004 plain
 
-const CALLER_PASSES: After = After {
-    word: 1,
-    arguments: CALLER_BEFORE,
-};
+from_caller
+    80013200 00001000 wait
+    reg t1 pc a0 a1 a2 a3 a4 a5 = 0x1004 5 0x7003 11 12 13 24
+    reg t0 pc a0 a1 a2 a3 a4 a5 = 0x1000 1 0x7F83 11 12 13 14
+    80013200 00001004 plain
+    tick; tick; tick; tick; tick
+    80013200 00001004 plain
 
-const PARTNER_STAYS: After = After {
-    word: 0,
-    arguments: PARTNER_BEFORE,
-};
+polls_caller
+    80013200 00001000 plain
+    reg t1 pc a0 a1 a2 a3 a4 a5 = 0x1004 5 0x7003 11 12 13 24
+    reg t0 pc a0 a1 a2 a3 a4 a5 = 0x1000 1 0x7F83 11 12 13 14
+    80013200 00001004 plain
+    tick; tick; tick; tick; tick
+    80013200 00001004 plain
 
-const PARTNER_PASSES: After = After {
-    word: 1,
-    arguments: PARTNER_BEFORE,
-};
+from_fault
+    80013200 00001000 wait
+    reg t1 pc a0 a1 a2 a3 a4 a5 = 0x1004 5 0x2002 0x1000 Unknown 23 24
+    reg t0 pc a0 a1 a2 a3 a4 a5 = 0x1000 1 0x7F83 11 12 13 14
+    80013200 00001004 plain
+    tick; tick; tick; tick; tick
+    80013200 00001004 plain
 
-// By badge 5, with the label 7 and three words.
-const GETS_MESSAGE: After = After {
-    word: 1,
-    arguments: [5, 0x7003, 11, 12, 13, 24],
-};
+polls_fault
+    80013200 00001000 plain
+    reg t1 pc a0 a1 a2 a3 a4 a5 = 0x1004 5 0x2002 0x1000 Unknown 23 24
+    reg t0 pc a0 a1 a2 a3 a4 a5 = 0x1000 1 0x7F83 11 12 13 14
+    80013200 00001004 plain
+    tick; tick; tick; tick; tick
+    80013200 00001004 plain
 
-// By badge 5, with the label 2 and two words: where the thread was, and the number in its a7.
-const GETS_FAULT: After = After {
-    word: 1,
-    arguments: [5, 0x2002, 0x1000, UNKNOWN, 23, 24],
-};
+to_receiver
+    80013200 00001000 wait
+    reg t1 pc a0 a1 a2 a3 a4 a5 = 0x1004 1 0x5F82 21 22 23 24
+    reg t0 pc a0 a1 a2 a3 a4 a5 = 0x1004 6 0x5002 21 22 13 14
+    80013200 00001004 plain
+    tick; tick; tick; tick; tick
+    80013000 00001004 plain
 
-// By badge 6, with the label 5 and two words.
-const PARTNER_GETS_MESSAGE: After = After {
-    word: 1,
-    arguments: [6, 0x5002, 21, 22, 13, 14],
-};
+polled_to_receiver
+    80013200 00001000 plain
+    reg t1 pc a0 a1 a2 a3 a4 a5 = 0x1004 1 0x5F82 21 22 23 24
+    reg t0 pc a0 a1 a2 a3 a4 a5 = 0x1004 6 0x5002 21 22 13 14
+    80013200 00001004 plain
+    tick; tick; tick; tick; tick
+    80013000 00001004 plain
 
-const NOBODY: [Option<u8>; 2] = [None, None];
+calls_receiver
+    80013200 00001000 wait
+    reg t1 pc a0 a1 a2 a3 a4 a5 = 0x1000 1 0x5F82 21 22 23 24
+    reg t0 pc a0 a1 a2 a3 a4 a5 = 0x1004 6 0x5002 21 22 13 14
+    80013000 00001004 plain
+    tick; tick; tick; tick; tick
+    80013000 00001004 plain
+";
 
-const CALLER_ALONE: [Option<u8>; 2] = [Some(CALLER), Some(CALLER)];
-
-const PARTNER_ALONE: [Option<u8>; 2] = [Some(PARTNER), Some(PARTNER)];
-
-const CALLER_FIRST: [Option<u8>; 2] = [Some(CALLER), Some(PARTNER)];
-
-// The caller joins the list of the endpoint.
-const BLOCKS: Row = Row {
-    outcome: Outcome::Waited,
-    caller: CALLER_STAYS,
-    partner: PARTNER_STAYS,
-    ready: NOBODY,
-};
-
-// The caller goes on, and nothing else happens.
-const PASSES: Row = Row {
-    outcome: Outcome::Plain,
-    caller: CALLER_PASSES,
-    partner: PARTNER_STAYS,
-    ready: CALLER_ALONE,
-};
-
-// The low byte of a0.
-const PRINTS: Row = Row {
-    outcome: Outcome::Put(1),
-    ..PASSES
-};
-
-// With nothing there a0 becomes 0.
-const FINDS_NOTHING: Row = Row {
-    outcome: Outcome::Plain,
-    caller: After {
-        word: 1,
-        arguments: [0, 0x5F82, 21, 22, 23, 24],
-    },
-    partner: PARTNER_STAYS,
-    ready: CALLER_ALONE,
-};
-
-// A sender passes behind the caller.
-const FROM_SENDER: Row = Row {
-    outcome: Outcome::Waited,
-    caller: GETS_MESSAGE,
-    partner: PARTNER_PASSES,
-    ready: CALLER_FIRST,
-};
-
-// Who called waits for the reply, or stops.
-const FROM_CALLS: Row = Row {
-    outcome: Outcome::Waited,
-    caller: GETS_MESSAGE,
-    partner: PARTNER_STAYS,
-    ready: CALLER_ALONE,
-};
-
-// A thread that faulted waits for its handler's reply.
-const FROM_FAULTING: Row = Row {
-    outcome: Outcome::Waited,
-    caller: GETS_FAULT,
-    partner: PARTNER_STAYS,
-    ready: CALLER_ALONE,
-};
-
-// The receiver passes behind the caller.
-const TO_RECEIVER: Row = Row {
-    outcome: Outcome::Waited,
-    caller: CALLER_PASSES,
-    partner: PARTNER_GETS_MESSAGE,
-    ready: CALLER_FIRST,
-};
-
-// The caller waits for the reply.
-const CALLS_RECEIVER: Row = Row {
-    outcome: Outcome::Waited,
-    caller: CALLER_STAYS,
-    partner: PARTNER_GETS_MESSAGE,
-    ready: PARTNER_ALONE,
-};
-
-// The same by a call that does not wait.
-fn polled(row: Row) -> Row {
-    Row {
-        outcome: Outcome::Plain,
-        ..row
+/// The part of a name.
+fn part(name: &str) -> Result<&'static str, Fail> {
+    for text in PARTS.split("\n\n") {
+        if let Some((head, part)) = text.trim().split_once('\n') {
+            if head == name {
+                return Ok(part);
+            }
+        }
     }
+    Err("no such part")?
 }
 
-fn give_words(rt: &impl Abort, setup: &mut Setup, thread: u8, values: [u32; 6]) {
-    let [_, info, first, second, third, fourth] = values;
-    set_register(rt, setup, thread, A1, info);
-    set_register(rt, setup, thread, A2, first);
-    set_register(rt, setup, thread, A3, second);
-    set_register(rt, setup, thread, A4, third);
-    set_register(rt, setup, thread, A5, fourth);
-}
-
-// Both threads begin with word 0 and have one priority. The partner has made its call, which is the first one; its
-// badge is 5, and the caller's 6.
-fn called_before(
-    rt: &impl Abort,
-    alloc: Global,
-    code: &[u32],
-    partner: Partner,
-    call: u32,
-) -> Result<System, Fail> {
-    let mut setup = system_of(rt, alloc, code)?;
-    give(rt, &mut setup, PARTNER, 1, ENDPOINT_SLOT, partner.rights, 5);
-    give(rt, &mut setup, CALLER, 1, ENDPOINT_SLOT, ALL, 6);
-    give_words(rt, &mut setup, PARTNER, PARTNER_BEFORE);
-    give_words(rt, &mut setup, CALLER, CALLER_BEFORE);
-    let first = start(PARTNER, partner.call);
-    begin_with(rt, &mut setup, first, partner.fault_address);
-    begin_with(rt, &mut setup, start(CALLER, call), 0);
-    let mut system = setup.start();
-    runs(rt, &mut system, PARTNER, 0, partner.outcome);
-    Ok(system)
-}
-
-fn start(thread: u8, call: u32) -> Start {
-    Start {
-        thread,
-        priority: 100,
-        word: 0,
-        call,
-        capability: 1,
-    }
-}
-
-fn is_after(rt: &impl Abort, system: &System, thread: u8, after: After) {
-    let [a0, a1, a2, a3, a4, a5] = after.arguments;
-    stands_at(rt, system, thread, after.word);
-    has_arguments(rt, system, thread, [a0, a1, a2, a3]);
-    has(rt, system, thread, A4, a4);
-    has(rt, system, thread, A5, a5);
-}
-
-// Who is ready jumps to where it is, at word 1.
-fn next_is(rt: &impl Abort, system: &mut System, thread: Option<u8>) {
-    match thread {
-        Some(thread) => runs(rt, system, thread, 1, Outcome::Plain),
-        None => idles(rt, system),
-    }
-}
-
-fn one_call(
-    rt: &impl Abort,
-    alloc: Global,
-    partner: Partner,
-    call: u32,
-    wanted: Row,
-) -> Result<(), Fail> {
-    let mut system = called_before(rt, alloc, &[ECALL, STAY], partner, call)?;
-    runs(rt, &mut system, CALLER, 0, wanted.outcome);
-    is_after(rt, &system, CALLER, wanted.caller);
-    is_after(rt, &system, PARTNER, wanted.partner);
-    let [now, later] = wanted.ready;
-    next_is(rt, &mut system, now);
-    for _tick in 0..5 {
-        ticks(rt, &mut system);
-    }
-    next_is(rt, &mut system, later);
-    Ok(())
-}
-
-// The calls by their numbers: Call, ReplyRecv, Send, NBSend, Recv, Reply, Yield, NBRecv and PutChar.
-fn nine_calls(
-    rt: &impl Abort,
-    alloc: Global,
-    partner: Partner,
-    rows: [Row; 9],
-) -> Result<(), Fail> {
-    let mut number = 0u32;
-    for wanted in rows {
-        number = number.wrapping_add(1);
-        one_call(rt, alloc, partner, number, wanted)?;
+#[test]
+fn calls_of_each_number(rt: HostRuntime) -> Result<(), Fail> {
+    for line in ROWS.trim().lines() {
+        let mut names = line.split_whitespace();
+        let partner = part(names.next().unwrap_or(""))?;
+        let first = part(names.next().unwrap_or(""))?;
+        let mut number = 0u32;
+        for name in names {
+            number = number.wrapping_add(1);
+            let row = format!(in rt.alloc(); "{partner}\nset tcb1 a7 {number}\n{RESUMED}")?;
+            let before = [OBJECTS, BOTH, row.as_str()];
+            plays(&rt, before.as_slice(), &[first, part(name)?])?;
+        }
+        assert_eq!(rt; number, 9, "{line}");
     }
     Ok(())
 }
 
-#[test]
-fn calls_where_nobody_waits(rt: HostRuntime) -> Result<(), Fail> {
-    let rows = [
-        BLOCKS,
-        BLOCKS,
-        BLOCKS,
-        PASSES,
-        BLOCKS,
-        PASSES,
-        PASSES,
-        FINDS_NOTHING,
-        PRINTS,
-    ];
-    nine_calls(&rt, rt.alloc(), STOPPED, rows)
-}
+const RESUMED: &str = "
+    call tcb0 resume
+    call tcb1 resume
+";
 
-#[test]
-fn calls_where_a_sender_waits(rt: HostRuntime) -> Result<(), Fail> {
-    let rows = [
-        BLOCKS,
-        FROM_SENDER,
-        BLOCKS,
-        PASSES,
-        FROM_SENDER,
-        PASSES,
-        PASSES,
-        polled(FROM_SENDER),
-        PRINTS,
-    ];
-    nine_calls(&rt, rt.alloc(), SENDER, rows)
-}
-
-#[test]
-fn calls_where_a_caller_waits(rt: HostRuntime) -> Result<(), Fail> {
-    let rows = [
-        BLOCKS,
-        FROM_CALLS,
-        BLOCKS,
-        PASSES,
-        FROM_CALLS,
-        PASSES,
-        PASSES,
-        polled(FROM_CALLS),
-        PRINTS,
-    ];
-    nine_calls(&rt, rt.alloc(), CALLS, rows)
-}
-
-#[test]
-fn calls_where_a_caller_without_reply_waits(rt: HostRuntime) -> Result<(), Fail> {
-    let rows = [
-        BLOCKS,
-        FROM_CALLS,
-        BLOCKS,
-        PASSES,
-        FROM_CALLS,
-        PASSES,
-        PASSES,
-        polled(FROM_CALLS),
-        PRINTS,
-    ];
-    nine_calls(&rt, rt.alloc(), CALLS_WITHOUT_REPLY, rows)
-}
-
-#[test]
-fn calls_where_a_fault_waits(rt: HostRuntime) -> Result<(), Fail> {
-    let rows = [
-        BLOCKS,
-        FROM_FAULTING,
-        BLOCKS,
-        PASSES,
-        FROM_FAULTING,
-        PASSES,
-        PASSES,
-        polled(FROM_FAULTING),
-        PRINTS,
-    ];
-    nine_calls(&rt, rt.alloc(), FAULTING, rows)
-}
-
-#[test]
-fn calls_where_a_receiver_waits(rt: HostRuntime) -> Result<(), Fail> {
-    let rows = [
-        CALLS_RECEIVER,
-        BLOCKS,
-        TO_RECEIVER,
-        polled(TO_RECEIVER),
-        BLOCKS,
-        PASSES,
-        PASSES,
-        FINDS_NOTHING,
-        PRINTS,
-    ];
-    nine_calls(&rt, rt.alloc(), RECEIVER, rows)
-}
-
-// The caller receives from the partner, and replies with the message that it got.
-fn replied(rt: &impl Abort, alloc: Global, partner: Partner, wanted: After) -> Result<(), Fail> {
-    let code = [ECALL, set(A7, REPLY), ECALL, STAY];
-    let mut system = called_before(rt, alloc, &code, partner, RECV)?;
-    runs(rt, &mut system, CALLER, 0, Outcome::Waited);
-    goes_on(rt, &mut system, CALLER, 1, 3);
-    is_after(rt, &system, PARTNER, wanted);
-    Ok(())
-}
-
-// Only a caller with the right to a reply gets one: badge 0, and the three words that it sent.
+// The caller receives from the partner, and replies with the message that it got. Only a caller with the right to a
+// reply gets one: badge 0, and the three words that it sent.
 #[test]
 fn a_reply_goes_to_who_waits_for_it(rt: HostRuntime) -> Result<(), Fail> {
-    let reply = After {
-        word: 1,
-        arguments: [0, 0x7003, 11, 12, 13, 14],
-    };
-    replied(&rt, rt.alloc(), CALLS, reply)?;
-    replied(&rt, rt.alloc(), CALLS_WITHOUT_REPLY, PARTNER_STAYS)
+    let replies = "
+        code ecall a7=Reply ecall stay
+        set tcb1 a7 Recv
+    ";
+    let run = "
+        80013000 00001000 wait
+        80013200 00001000 wait
+        80013200 00001004 plain
+        80013200 00001008 plain
+    ";
+    let replied = "reg t0 pc a0 a1 a2 a3 a4 a5 = 0x1004 0 0x7003 11 12 13 14";
+    let none = "reg t0 pc a0 a1 a2 a3 a4 a5 = 0x1000 1 0x7F83 11 12 13 14";
+    let [caller, other] = [part("CALLS")?, part("NO_REPLY")?];
+    plays(
+        &rt,
+        &[OBJECTS, BOTH, caller, RESUMED, replies],
+        &[run, replied],
+    )?;
+    plays(&rt, &[OBJECTS, BOTH, other, RESUMED, replies], &[run, none])
 }

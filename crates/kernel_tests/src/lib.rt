@@ -2,8 +2,6 @@
 #![tactic(auto)]
 
 #[cfg(test)]
-mod boot_calls;
-#[cfg(test)]
 mod endpoint_calls;
 #[cfg(test)]
 mod handlers;
@@ -16,9 +14,9 @@ mod messages;
 #[cfg(test)]
 mod pools;
 #[cfg(test)]
-mod programs;
-#[cfg(test)]
 mod rows;
+#[cfg(test)]
+mod scripts;
 #[cfg(test)]
 mod setups;
 #[cfg(test)]
@@ -27,3 +25,5 @@ mod signals;
 mod systems;
 #[cfg(test)]
 mod turns;
+#[cfg(test)]
+mod words;

@@ -1,48 +1,34 @@
 //! Signals to a notification before a thread waits for it.
 //! seL4 Reference Manual, "Notifications".
 
-use crate::programs::{A0, A7, ECALL, RECV, SEND, set};
-use crate::systems::{
-    NOTIFICATION_SLOT, READ, Start, WRITE, begin, give, goes_on, has, idles, runs, stands_at,
-    system_of,
-};
-use model::Outcome;
+use crate::systems::{OBJECTS, plays};
 use std::test::Fail;
-
-const THREAD: u8 = 0;
 
 // Badges 1 and 4 are one word. The next receive waits.
 #[test]
 fn badges_of_signals_are_joined(rt: HostRuntime) -> Result<(), Fail> {
-    let code = [
-        ECALL,
-        set(A0, 2),
-        ECALL,
-        set(A0, 3),
-        set(A7, RECV),
-        ECALL,
-        set(A0, 3),
-        ECALL,
-    ];
-    let mut setup = system_of(&rt, rt.alloc(), &code)?;
-    give(&rt, &mut setup, THREAD, 1, NOTIFICATION_SLOT, WRITE, 1);
-    give(&rt, &mut setup, THREAD, 2, NOTIFICATION_SLOT, WRITE, 4);
-    give(&rt, &mut setup, THREAD, 3, NOTIFICATION_SLOT, READ, 0);
-    let sender = Start {
-        thread: THREAD,
-        priority: 100,
-        word: 0,
-        call: SEND,
-        capability: 1,
-    };
-    begin(&rt, &mut setup, sender);
-    let mut system = setup.start();
-    goes_on(&rt, &mut system, THREAD, 0, 5);
-    runs(&rt, &mut system, THREAD, 5, Outcome::Waited);
-    has(&rt, &system, THREAD, A0, 5);
-    goes_on(&rt, &mut system, THREAD, 6, 7);
-    runs(&rt, &mut system, THREAD, 7, Outcome::Waited);
-    idles(&rt, &mut system);
-    stands_at(&rt, &system, THREAD, 7);
-    Ok(())
+    let thread = "
+        code ecall a0=2 ecall a0=3 a7=Recv ecall a0=3 ecall
+        call cnode0 mint 1 4 notification 32 write 1
+        call cnode0 mint 2 4 notification 32 write 4
+        call cnode0 mint 3 4 notification 32 read 0
+        call tcb0 configure 0 cnode0 32 root 32 28
+        call tcb0 set_priority 100
+        set tcb0 pc 0x1000 a0 1 a7 Send
+        call tcb0 resume
+    ";
+    let signals = "
+        80013000 00001000 plain
+        80013000 00001004 plain
+        80013000 00001008 plain
+        80013000 0000100c plain
+        80013000 00001010 plain
+        80013000 00001014 wait
+        reg t0 a0 = 5
+        80013000 00001018 plain
+        80013000 0000101c wait
+        idle
+        reg t0 pc = 0x101c
+    ";
+    plays(&rt, &[OBJECTS, thread], &[signals])
 }
