@@ -1,6 +1,7 @@
 //! The words of the command lines of both programs.
 #![tactic(auto)]
 
+mod commands;
 mod requests;
 mod tool_requests;
 

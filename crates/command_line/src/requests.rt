@@ -1,9 +1,26 @@
 //! What the program is asked to do.
 
+use crate::commands::{Form, program};
+use clap::ArgMatches;
 use clap::error::ErrorKind;
-use clap::{Arg, ArgAction, ArgMatches, Command};
-use std::alloc::{AllocError, Global};
+use std::alloc::Global;
 use std::convert::AsStr;
+
+/// The commands of the program.
+const COMMANDS: [Form<'_>; 3] = [
+    Form {
+        name: "verify",
+        words: &["image"],
+    },
+    Form {
+        name: "run",
+        words: &["image", "events", "--unverified"],
+    },
+    Form {
+        name: "build",
+        words: &["source", "image"],
+    },
+];
 
 /// What the program is asked to do, with the names of its files.
 #[derive(Clone, Copy, Debug, PartialEq, Eq)]
@@ -38,7 +55,7 @@ pub enum WordsFault {
 
 /// The request that the words behind the program's name make.
 pub fn parse<'a, S: AsStr>(alloc: Global, words: &'a [S]) -> Result<Request<'a>, WordsFault> {
-    let program = match program(alloc) {
+    let program = match program(alloc, "microsys", &COMMANDS) {
         Ok(program) => program,
         Err(_) => return Err(WordsFault::OutOfMemory),
     };
@@ -47,34 +64,6 @@ pub fn parse<'a, S: AsStr>(alloc: Global, words: &'a [S]) -> Result<Request<'a>,
         Err(error) if error.kind() == ErrorKind::OutOfMemory => Err(WordsFault::OutOfMemory),
         Err(_) => Err(WordsFault::Usage),
     }
-}
-
-/// The words that the program takes.
-fn program<'a>(alloc: Global) -> Result<Command<'a>, AllocError> {
-    let verify = Command::new(alloc, "verify").arg(file(alloc, "image"))?;
-    let run = Command::new(alloc, "run")
-        .arg(file(alloc, "image"))?
-        .arg(file(alloc, "events"))?
-        .arg(flag(alloc, "unverified"))?;
-    let build = Command::new(alloc, "build")
-        .arg(file(alloc, "source"))?
-        .arg(file(alloc, "image"))?;
-    Command::new(alloc, "microsys")
-        .no_binary_name(true)
-        .subcommand_required(true)
-        .subcommand(verify)?
-        .subcommand(run)?
-        .subcommand(build)
-}
-
-/// The name of a file, which has to be there.
-pub(crate) fn file<'a>(alloc: Global, name: &'a str) -> Arg<'a> {
-    Arg::new(alloc, name).required(true)
-}
-
-/// A word with two hyphens, which may be there once.
-fn flag<'a>(alloc: Global, name: &'a str) -> Arg<'a> {
-    Arg::new(alloc, name).long(name).action(ArgAction::SetTrue)
 }
 
 /// The request of words that were taken.

@@ -1,10 +1,31 @@
 //! What the program for makers is asked to do.
 
-use crate::requests::{WordsFault, file};
+use crate::commands::{Form, program};
+use crate::requests::WordsFault;
+use clap::ArgMatches;
 use clap::error::ErrorKind;
-use clap::{ArgMatches, Command};
-use std::alloc::{AllocError, Global};
+use std::alloc::Global;
 use std::convert::AsStr;
+
+/// The commands of the program.
+const COMMANDS: [Form<'_>; 4] = [
+    Form {
+        name: "certify",
+        words: &["source", "certified"],
+    },
+    Form {
+        name: "explain",
+        words: &["source"],
+    },
+    Form {
+        name: "draw",
+        words: &["source"],
+    },
+    Form {
+        name: "chart",
+        words: &["trace"],
+    },
+];
 
 /// What the program is asked to do, with the names of its files.
 #[derive(Clone, Copy, Debug, PartialEq, Eq)]
@@ -34,7 +55,7 @@ pub fn parse_words<'a, S: AsStr>(
     alloc: Global,
     words: &'a [S],
 ) -> Result<ToolRequest<'a>, WordsFault> {
-    let program = match program(alloc) {
+    let program = match program(alloc, "microsys_tool", &COMMANDS) {
         Ok(program) => program,
         Err(_) => return Err(WordsFault::OutOfMemory),
     };
@@ -43,23 +64,6 @@ pub fn parse_words<'a, S: AsStr>(
         Err(error) if error.kind() == ErrorKind::OutOfMemory => Err(WordsFault::OutOfMemory),
         Err(_) => Err(WordsFault::Usage),
     }
-}
-
-/// The words that the program takes.
-fn program<'a>(alloc: Global) -> Result<Command<'a>, AllocError> {
-    let certify = Command::new(alloc, "certify")
-        .arg(file(alloc, "source"))?
-        .arg(file(alloc, "certified"))?;
-    let explain = Command::new(alloc, "explain").arg(file(alloc, "source"))?;
-    let draw = Command::new(alloc, "draw").arg(file(alloc, "source"))?;
-    let chart = Command::new(alloc, "chart").arg(file(alloc, "trace"))?;
-    Command::new(alloc, "microsys_tool")
-        .no_binary_name(true)
-        .subcommand_required(true)
-        .subcommand(certify)?
-        .subcommand(explain)?
-        .subcommand(draw)?
-        .subcommand(chart)
 }
 
 /// The request of words that were taken.
