@@ -1,11 +1,11 @@
 #!/usr/bin/env python3
-"""Makes crates/machine_tests/src/table.rt: words and results of RV32I instructions.
+"""Makes crates/kernel_tests/src/machine/table.rt: words and results of RV32I instructions.
 
 The words come from GNU as and ld, the results from a run of the linked program under QEMU's user
 mode. Nothing of this repository takes part. Debian packages: binutils-riscv64-unknown-elf and
 qemu-user. The table is committed, so no other tool of the repository needs either.
 
-    tools/rv32i_table.py > crates/machine_tests/src/table.rt
+    tools/rv32i_table.py > crates/kernel_tests/src/machine/table.rt
 
 Each row is one instruction at its own address. Before it x5 and x6 hold the row's operands, x7 holds
 what x5 does, and memory at BASE holds the two words MEMORY. Behind it stand x7, the address where

@@ -1,29 +1,9 @@
-//! Tests of the public calls of the kernel.
+//! Tests on the public calls of the machine, of the store of capability slots, and of the kernel.
 #![tactic(auto)]
 
 #[cfg(test)]
-mod endpoint_calls;
+mod kernel_calls;
 #[cfg(test)]
-mod handlers;
+mod machine;
 #[cfg(test)]
-mod interrupt_lines;
-#[cfg(test)]
-mod looks;
-#[cfg(test)]
-mod messages;
-#[cfg(test)]
-mod pools;
-#[cfg(test)]
-mod rows;
-#[cfg(test)]
-mod scripts;
-#[cfg(test)]
-mod setups;
-#[cfg(test)]
-mod signals;
-#[cfg(test)]
-mod systems;
-#[cfg(test)]
-mod turns;
-#[cfg(test)]
-mod words;
+mod store;

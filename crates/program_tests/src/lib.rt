@@ -1,28 +1,20 @@
-//! Tests on the public calls of the program's layers. What no clause says: the printed rows over real
-//! files, the reading of words and event lists, and the refusals at the edges of the file.
+//! Tests on the public calls of both programs and of the layers that they stand on. What no clause says: the printed rows
+//! over real files, the reading of words, texts and event lists, verdicts on images, and refusals at the edges of files.
 #![tactic(auto)]
 
 #[cfg(test)]
-mod builds;
+mod assembling;
 #[cfg(test)]
-mod edges;
+mod certification;
 #[cfg(test)]
-mod event_lines;
+mod damage;
 #[cfg(test)]
-mod instructions;
+mod explanations;
 #[cfg(test)]
-mod outputs;
+mod images;
 #[cfg(test)]
-mod pairs;
+mod running;
 #[cfg(test)]
-mod rows;
+mod texts;
 #[cfg(test)]
-mod sample_files;
-#[cfg(test)]
-mod unverified;
-#[cfg(test)]
-mod verified;
-#[cfg(test)]
-mod words;
-#[cfg(test)]
-mod workers;
+mod verdicts;

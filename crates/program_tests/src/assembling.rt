@@ -1,0 +1,6 @@
+//! The text form: lines, instructions, and whole texts.
+
+mod images;
+mod instructions;
+mod lines;
+mod texts;

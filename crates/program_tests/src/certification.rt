@@ -1,0 +1,7 @@
+//! The program for makers: texts without certificates come back accepted, and what has none is told by its line.
+
+mod answers;
+mod delays;
+mod loops;
+mod rows;
+mod samples;

@@ -1,0 +1,12 @@
+//! The program over real files, and what it runs.
+
+mod builds;
+mod edges;
+mod event_lines;
+mod outputs;
+pub mod sessions;
+mod unverified;
+mod usage;
+mod verified;
+mod words;
+mod workers;
