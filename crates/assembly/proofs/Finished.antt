@@ -7,7 +7,6 @@ use Rattle.std.proofs.lemmas.List.Elements.{All-map}
 use Rattle.std.proofs.lemmas.Option.{slice_get-get_or, same_Some}
 use Rattle.std.proofs.lemmas.List.Sums.{position_or_len_is}
 use Rattle.model.specs.declared.entries.CapabilityEntry.{CapabilityEntry}
-use Rattle.model.specs.declared.entries.ImageHeader.{ImageHeader}
 use Rattle.model.specs.declared.entries.InterruptEntry.{InterruptEntry}
 use Rattle.model.specs.Images.Image.{Image, Thread, content_format, whole_image}
 use Rattle.model.specs.Images.Places.{is_handler, interrupt_of}
@@ -17,7 +16,7 @@ use Rattle.assembly.specs.declared.assembly.Memory.{Memory}
 use Rattle.assembly.specs.declared.declarations.Capability.{Capability}
 use Rattle.assembly.specs.declared.names.Source.{Source}
 use Rattle.assembly.specs.declared.names.Source.TheVariants.{Object, Handler}
-use Rattle.assembly.specs.Drafts.{Draft, capability_of, declared_of, draft_of, line_of_interrupt, source_said}
+use Rattle.assembly.specs.Drafts.{Draft, assembled, capability_of, counted_header, declared_of, draft_of, line_of_interrupt, source_said}
 use Rattle.assembly.specs.Sections.{Declared, HasNumber, entry_of, number_of_source, on_line}
 use Rattle.assembly.proofs.SectionFits.{SectionsFit, sections-fit}
 
@@ -65,34 +64,6 @@ sources-told image fits = All-map (λ (c : Capability). HasNumber (declared_of i
     (λ k d less. (source-told image fits (slice_index_or image.capabilities k d).source (fits.capability k _ (slice_get-get_or image.capabilities k d less)).source).0)
 
 -- ---- the whole
-
-abbrev pub counted_header : Memory → Declared → List CapabilityEntry → List Thread → ImageHeader
-counted_header m d cs ts = record {
-  version = 1;
-  memory_bits = m.bits;
-  boot_radix = m.boot_radix;
-  untypeds = length d.untypeds;
-  objects = length d.objects;
-  capabilities = length cs;
-  interrupts = length d.interrupts;
-  tables = length d.tables;
-  frames = length d.frames;
-  contents = length d.contents;
-  threads = length ts;
-}
-
-abbrev pub assembled : Memory → Declared → List CapabilityEntry → List Thread → Image
-assembled m d cs ts = record {
-  header = counted_header m d cs ts;
-  untypeds = d.untypeds;
-  objects = d.objects;
-  capabilities = cs;
-  interrupts = d.interrupts;
-  tables = d.tables;
-  frames = d.frames;
-  contents = d.contents;
-  threads = ts;
-}
 
 same-header : (image : Image) → IsFitting image → SectionsFit image
     → counted_header (record { bits = image.header.memory_bits; boot_radix = image.header.boot_radix }) (declared_of image) image.capabilities image.threads ≡ image.header

@@ -2,6 +2,7 @@
 use Rattle.std.specs.Prelude.{ℕ, List, [], length, map, Option, Some, None, slice_index_or, if◌then◌else◌}
 use Rattle.std.specs.List.{range_with_len}
 use Rattle.model.specs.declared.entries.CapabilityEntry.{CapabilityEntry}
+use Rattle.model.specs.declared.entries.ImageHeader.{ImageHeader}
 use Rattle.model.specs.declared.entries.InterruptEntry.{InterruptEntry}
 use Rattle.model.specs.Images.Described.{numbered}
 use Rattle.model.specs.Images.Image.{Image, Thread}
@@ -65,4 +66,34 @@ draft_of image = record {
   declared = declared_of image;
   threads = image.threads;
   open_thread = None;
+}
+
+-- ---- what is put together behind the last line
+
+abbrev pub counted_header : Memory → Declared → List CapabilityEntry → List Thread → ImageHeader
+counted_header m d cs ts = record {
+  version = 1;
+  memory_bits = m.bits;
+  boot_radix = m.boot_radix;
+  untypeds = length d.untypeds;
+  objects = length d.objects;
+  capabilities = length cs;
+  interrupts = length d.interrupts;
+  tables = length d.tables;
+  frames = length d.frames;
+  contents = length d.contents;
+  threads = length ts;
+}
+
+abbrev pub assembled : Memory → Declared → List CapabilityEntry → List Thread → Image
+assembled m d cs ts = record {
+  header = counted_header m d cs ts;
+  untypeds = d.untypeds;
+  objects = d.objects;
+  capabilities = cs;
+  interrupts = d.interrupts;
+  tables = d.tables;
+  frames = d.frames;
+  contents = d.contents;
+  threads = ts;
 }

@@ -3,7 +3,7 @@
 ghost use Rattle.std.specs.Prelude.{◌≡◌, ◌<◌, true, length, IfOk, Some};
 ghost use Rattle.model.specs.Images.Image as described;
 ghost use Rattle.model.specs.Images.Image.{whole_image};
-ghost use Rattle.assembly.specs.Drafts.{draft_of, nothing_read};
+ghost use Rattle.assembly.specs.Drafts.{assembled, draft_of, nothing_read};
 ghost use Rattle.assembly.specs.Outcomes.{Gives};
 ghost use Rattle.assembly.specs.Reading.{IsDeclaration, IsFirst, IsInPlace, IsThreadLine, MayBeginThread, labels_at, with_declaration, with_first, with_line, with_thread_line};
 ghost use Rattle.assembly.specs.Threads.{thread_begun};
@@ -14,6 +14,7 @@ use crate::labels::Labels;
 use crate::open_threads::OpenThread;
 use asm_line::{Line, ThreadLine};
 use image::{Image, Parts, ThreadParts};
+use model::CapabilityEntry;
 use std::alloc::Global;
 use std::marker::Model;
 
@@ -216,23 +217,34 @@ impl<'a> Assembly<'a> {
             return Err(Fault::Syntax);
         }
         let capabilities = self.declared.capability_entries(self.alloc)?;
-        let declared = self.declared;
-        let parts = Parts {
-            version: VERSION,
-            memory_bits: memory.bits,
-            boot_radix: memory.boot_radix,
-            untypeds: declared.untypeds,
-            objects: declared.objects,
-            capabilities,
-            interrupts: declared.interrupts,
-            tables: declared.tables,
-            frames: declared.frames,
-            contents: declared.contents,
-            threads: self.threads,
-        };
+        let parts = parts_of(memory, self.declared, capabilities, self.threads);
         match Image::checked(parts) {
             Ok(image) => Ok(image),
             Err(_) => Err(Fault::Range),
         }
+    }
+}
+
+/// The parts of the image of what was read.
+fn parts_of(
+    memory: Memory,
+    declared: Declarations<'_>,
+    capabilities: Vec<CapabilityEntry>,
+    threads: Vec<ThreadParts>,
+) -> Parts
+    ensures { result ≡ assembled memory declared.entry capabilities.items threads.items }
+{
+    Parts {
+        version: VERSION,
+        memory_bits: memory.bits,
+        boot_radix: memory.boot_radix,
+        untypeds: declared.untypeds,
+        objects: declared.objects,
+        capabilities,
+        interrupts: declared.interrupts,
+        tables: declared.tables,
+        frames: declared.frames,
+        contents: declared.contents,
+        threads,
     }
 }

@@ -1,8 +1,7 @@
 use Rattle.std.proofs.Common.{◌≡◌, true, false, ap, sym, ◌∙◌}
 use Rattle.model.specs.Images.Image.{whole_image}
-use Rattle.assembly.specs.Drafts.{Draft, draft_of}
-use Rattle.assembly.specs.Sections.{Declared}
-use Rattle.assembly.proofs.Finished.{assembled, is-listed, sources-here}
+use Rattle.assembly.specs.Drafts.{Draft, assembled, draft_of}
+use Rattle.assembly.proofs.Finished.{is-listed, sources-here}
 use Rattle.assembly.proofs.Steps.{refused-by}
 use Rattle.assembly.proofs.assembly.Assembly.finish.Goals as goal
 
@@ -18,7 +17,7 @@ returns-in-Ok-clause-listed c listed is same =
     let draft : Draft = record { memory = c.self.inside.memory; declared = c.self.inside.declared; threads = c.self.inside.threads.items; open_thread = c.self.inside.open } in
     let said : draft ≡ draft_of listed = c.self.view_is ∙ same in
     let entries = c.in_ok-capabilities.ensures (sources-here listed is draft said) in
-    c.in-Ok.ensures.ok.0 ∙ ap (λ (d : Declared). assembled c.in-Some.memory d c.in_ok-capabilities.capabilities.items draft.threads) c.declared.view_is
+    c.in-Ok.ensures.ok.0 ∙ c.parts_of-parts.ensures
     ∙ is-listed listed is draft said c.in-Some.memory c.in-Some.is c.in_ok-capabilities.capabilities.items entries
 
 pub returns-clause-listed : goal.returns-clause-listed
@@ -26,7 +25,7 @@ returns-clause-listed c listed is same =
     let draft : Draft = record { memory = c.self.inside.memory; declared = c.self.inside.declared; threads = c.self.inside.threads.items; open_thread = c.self.inside.open } in
     let said : draft ≡ draft_of listed = c.self.view_is ∙ same in
     let entries = c.in_ok-capabilities.ensures (sources-here listed is draft said) in
-    let whole = ap (λ (d : Declared). assembled c.in-Some.memory d c.in_ok-capabilities.capabilities.items draft.threads) c.declared.view_is
+    let whole = c.parts_of-parts.ensures
     ∙ is-listed listed is draft said c.in-Some.memory c.in-Some.is c.in_ok-capabilities.capabilities.items entries in
     let clash : false ≡ true = sym c.in-Err.ensures.err.1 ∙ ap (λ i. whole_image.fits i) whole ∙ is in
     absurd (cc)
