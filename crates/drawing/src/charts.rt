@@ -53,6 +53,15 @@ fn colour(lane: usize) -> &'static str {
     COLOURS[lane % COLOURS.len()]
 }
 
+/// How a thread rests behind an instruction.
+fn rest_behind(mark: Mark, pc: u32) -> Rest {
+    match mark {
+        Mark::Wait => Rest::Waits { pc },
+        Mark::Faulted(_) => Rest::Faulted,
+        _ => Rest::Ready,
+    }
+}
+
 /// A character that may stand in the chart for a byte.
 fn is_shown(byte: u8) -> bool {
     byte > b' ' && byte < 127 && byte != b'<' && byte != b'>' && byte != b'&'
@@ -73,22 +82,32 @@ impl Canvas<'_> {
             "<text class=\"n\" x=\"{LEFT}\" y=\"{tick_line}\" text-anchor=\"end\" dx=\"-8\">events</text>\n"
         )?;
         for lane in 0..self.lanes.len() {
-            let y = lane_top(self.band, lane, self.lanes.len());
-            let width = RIGHT - LEFT;
-            let fill = if lane % 2 == 0 { "#f6f7f9" } else { "#eceff3" };
-            write!(
-                self.svg,
-                "<rect x=\"{LEFT}\" y=\"{y}\" width=\"{width}\" height=\"{LANE}\" fill=\"{fill}\"/>\n"
-            )?;
-            let base = y.saturating_add(17);
-            let thread = self.cells.threads.get(lane).copied().unwrap_or(0);
-            let fill = colour(lane);
-            write!(
-                self.svg,
-                "<text class=\"t\" x=\"{LEFT}\" y=\"{base}\" dx=\"-8\" fill=\"{fill}\">{thread:08x}</text>\n"
-            )?;
+            self.push_lane(lane)?;
+            self.push_name(lane)?;
         }
         Ok(())
+    }
+
+    /// The ground of a lane.
+    fn push_lane(&mut self, lane: usize) -> Result<(), AllocError> {
+        let y = lane_top(self.band, lane, self.lanes.len());
+        let width = RIGHT - LEFT;
+        let fill = if lane % 2 == 0 { "#f6f7f9" } else { "#eceff3" };
+        write!(
+            self.svg,
+            "<rect x=\"{LEFT}\" y=\"{y}\" width=\"{width}\" height=\"{LANE}\" fill=\"{fill}\"/>\n"
+        )
+    }
+
+    /// The name of a lane.
+    fn push_name(&mut self, lane: usize) -> Result<(), AllocError> {
+        let base = lane_top(self.band, lane, self.lanes.len()).saturating_add(17);
+        let thread = self.cells.threads.get(lane).copied().unwrap_or(0);
+        let fill = colour(lane);
+        write!(
+            self.svg,
+            "<text class=\"t\" x=\"{LEFT}\" y=\"{base}\" dx=\"-8\" fill=\"{fill}\">{thread:08x}</text>\n"
+        )
     }
 
     /// How a thread rested up to here in the band at hand.
@@ -111,15 +130,18 @@ impl Canvas<'_> {
             "<path class=\"{class}\" d=\"M{from} {y}H{until}\"/>\n"
         )?;
         match rest {
-            Rest::Waits { pc } if until - since >= LABEL_WIDTH => {
-                let base = y.saturating_sub(3);
-                write!(
-                    self.svg,
-                    "<text class=\"l\" x=\"{from}\" y=\"{base}\" dx=\"3\">waits at {pc:#x}</text>\n"
-                )
-            }
+            Rest::Waits { pc } if until - since >= LABEL_WIDTH => self.push_waits(from, y, pc),
             _ => Ok(()),
         }
+    }
+
+    /// Where a thread waits, above its line.
+    fn push_waits(&mut self, x: u32, y: u32, pc: u32) -> Result<(), AllocError> {
+        let base = y.saturating_sub(3);
+        write!(
+            self.svg,
+            "<text class=\"l\" x=\"{x}\" y=\"{base}\" dx=\"3\">waits at {pc:#x}</text>\n"
+        )
     }
 
     /// The thread of a lane runs from here to there, and then rests like this.
@@ -180,58 +202,69 @@ impl Canvas<'_> {
         width: u32,
         mark: Mark,
     ) -> Result<(), AllocError> {
-        let y = self.bar_top(lane);
-        let middle = x.saturating_add(width / 2);
-        let base = y.saturating_add(11);
         match mark {
             Mark::Plain => self.push_bar(lane, x, width, colour(lane)),
-            Mark::Wait => {
-                self.push_bar(lane, x, width, colour(lane))?;
-                let edge = x.saturating_add(width).saturating_sub(2);
-                let high = y.saturating_sub(4);
-                write!(
-                    self.svg,
-                    "<rect x=\"{edge}\" y=\"{high}\" width=\"3\" height=\"22\" fill=\"#222\"/>\n"
-                )
-            }
-            Mark::Completed => {
-                self.push_bar(lane, x, width, colour(lane))?;
-                let centre = y.saturating_add(7);
-                write!(
-                    self.svg,
-                    "<circle cx=\"{middle}\" cy=\"{centre}\" r=\"3\" fill=\"#fff\"/>\n"
-                )
-            }
+            Mark::Wait => self.push_wait(lane, x, width),
+            Mark::Completed => self.push_completed(lane, x, width),
             Mark::Put(byte) => {
-                self.push_bar(lane, x, width, "#222")?;
-                if is_shown(byte) {
-                    let shown = char::from(byte);
-                    write!(
-                        self.svg,
-                        "<text class=\"b\" x=\"{middle}\" y=\"{base}\">{shown}</text>\n"
-                    )
-                } else {
-                    write!(
-                        self.svg,
-                        "<text class=\"b\" x=\"{middle}\" y=\"{base}\">{byte:02x}</text>\n"
-                    )
-                }
+                self.push_written(lane, x, width, "#222")?;
+                self.push_byte(byte)
             }
             Mark::Refused(number) => {
-                self.push_bar(lane, x, width, "#d02f2f")?;
-                write!(
-                    self.svg,
-                    "<text class=\"b\" x=\"{middle}\" y=\"{base}\">e{number}</text>\n"
-                )
+                self.push_written(lane, x, width, "#d02f2f")?;
+                write!(self.svg, "e{number}</text>\n")
             }
             Mark::Faulted(number) => {
-                self.push_bar(lane, x, width, "#7d0f0f")?;
-                write!(
-                    self.svg,
-                    "<text class=\"b\" x=\"{middle}\" y=\"{base}\">f{number}</text>\n"
-                )
+                self.push_written(lane, x, width, "#7d0f0f")?;
+                write!(self.svg, "f{number}</text>\n")
             }
         }
+    }
+
+    /// A wait: a bar with an edge at its end.
+    fn push_wait(&mut self, lane: usize, x: u32, width: u32) -> Result<(), AllocError> {
+        self.push_bar(lane, x, width, colour(lane))?;
+        let edge = x.saturating_add(width).saturating_sub(2);
+        let high = self.bar_top(lane).saturating_sub(4);
+        write!(
+            self.svg,
+            "<rect x=\"{edge}\" y=\"{high}\" width=\"3\" height=\"22\" fill=\"#222\"/>\n"
+        )
+    }
+
+    /// A call that is done: a bar with a dot.
+    fn push_completed(&mut self, lane: usize, x: u32, width: u32) -> Result<(), AllocError> {
+        self.push_bar(lane, x, width, colour(lane))?;
+        let middle = x.saturating_add(width / 2);
+        let centre = self.bar_top(lane).saturating_add(7);
+        write!(
+            self.svg,
+            "<circle cx=\"{middle}\" cy=\"{centre}\" r=\"3\" fill=\"#fff\"/>\n"
+        )
+    }
+
+    /// A bar in which something is written, up to there.
+    fn push_written(
+        &mut self,
+        lane: usize,
+        x: u32,
+        width: u32,
+        fill: &str,
+    ) -> Result<(), AllocError> {
+        self.push_bar(lane, x, width, fill)?;
+        let middle = x.saturating_add(width / 2);
+        let base = self.bar_top(lane).saturating_add(11);
+        write!(self.svg, "<text class=\"b\" x=\"{middle}\" y=\"{base}\">")
+    }
+
+    /// A byte, as what it shows or as two digits, and the end of what is written.
+    fn push_byte(&mut self, byte: u8) -> Result<(), AllocError> {
+        if is_shown(byte) {
+            self.svg.push(char::from(byte))?;
+        } else {
+            write!(self.svg, "{byte:02x}")?;
+        }
+        self.svg.push_str("</text>\n")
     }
 
     /// A tick or an interrupt, above the lanes, with a line down through them.
@@ -264,30 +297,27 @@ impl Canvas<'_> {
         match cell.shape {
             Shape::Tick => self.push_above(x, None),
             Shape::Interrupt(number) => self.push_above(x, Some(number)),
-            Shape::Idle { .. } => {
-                let top = lane_top(self.band, 0, self.lanes.len());
-                let height = lane_top(self.band, self.lanes.len(), self.lanes.len()).saturating_sub(
-                    top,
-                );
-                write!(
-                    self.svg,
-                    "<rect class=\"o\" x=\"{x}\" y=\"{top}\" width=\"{width}\" height=\"{height}\"/>\n"
-                )
-            }
+            Shape::Idle { .. } => self.push_idle(x, width),
             Shape::Run { lane, .. } => {
                 self.run(lane, x, end, Rest::Ready)?;
                 self.push_bar(lane, x, width, colour(lane))
             }
             Shape::Event { lane, pc, mark } => {
-                let rest = match mark {
-                    Mark::Wait => Rest::Waits { pc },
-                    Mark::Faulted(_) => Rest::Faulted,
-                    _ => Rest::Ready,
-                };
-                self.run(lane, x, end, rest)?;
+                self.run(lane, x, end, rest_behind(mark, pc))?;
                 self.push_event(lane, x, width, mark)
             }
         }
+    }
+
+    /// A time in which nobody runs.
+    fn push_idle(&mut self, x: u32, width: u32) -> Result<(), AllocError> {
+        let lanes = self.lanes.len();
+        let top = lane_top(self.band, 0, lanes);
+        let height = lane_top(self.band, lanes, lanes).saturating_sub(top);
+        write!(
+            self.svg,
+            "<rect class=\"o\" x=\"{x}\" y=\"{top}\" width=\"{width}\" height=\"{height}\"/>\n"
+        )
     }
 
     /// All cells, and how the threads rest at the end.
@@ -314,41 +344,12 @@ impl Canvas<'_> {
 const STYLE: &str =
     "<style>text{font-family:Helvetica,Arial,sans-serif;font-size:10px}.n{fill:#777}.t{font-size:11px;text-anchor:end;font-weight:bold}.l{fill:#666;font-size:9px;paint-order:stroke;stroke:#f2f4f6;stroke-width:3px}.b{fill:#fff;text-anchor:middle;font-weight:bold}.q{fill:#8d3b70;font-weight:bold}.r{stroke:#9aa4ad;stroke-width:2}.w{stroke:#777;stroke-width:1.5;stroke-dasharray:2 3}.f{stroke:#d02f2f;stroke-width:2;stroke-dasharray:6 3}.g{stroke:#bbb}.k{stroke:#aaa;stroke-dasharray:1 3}.i{stroke:#8d3b70;stroke-width:1.5}.o{fill:#fff;fill-opacity:.75}</style>\n";
 
-/// What the signs mean, below the last band.
-fn push_legend(svg: &mut String, y: u32) -> Result<(), AllocError> {
-    let (bar, middle, base) = (y, y.saturating_add(7), y.saturating_add(11));
-    write!(
-        svg,
-        "<g transform=\"translate({LEFT} 0)\"><rect x=\"0\" y=\"{bar}\" width=\"22\" height=\"14\" fill=\"#3b78b5\"/><text x=\"28\" y=\"{base}\">runs</text>"
-    )?;
-    write!(
-        svg,
-        "<path class=\"r\" d=\"M70 {middle}H96\"/><text x=\"102\" y=\"{base}\">ready</text><path class=\"w\" d=\"M150 {middle}H176\"/><text x=\"182\" y=\"{base}\">waits</text>"
-    )?;
-    write!(
-        svg,
-        "<rect x=\"230\" y=\"{bar}\" width=\"14\" height=\"14\" fill=\"#3b78b5\"/><circle cx=\"237\" cy=\"{middle}\" r=\"3\" fill=\"#fff\"/><text x=\"250\" y=\"{base}\">call done</text>"
-    )?;
-    write!(
-        svg,
-        "<rect x=\"320\" y=\"{bar}\" width=\"18\" height=\"14\" fill=\"#222\"/><text class=\"b\" x=\"329\" y=\"{base}\">A</text><text x=\"344\" y=\"{base}\">byte put</text>"
-    )?;
-    write!(
-        svg,
-        "<rect x=\"410\" y=\"{bar}\" width=\"18\" height=\"14\" fill=\"#d02f2f\"/><text class=\"b\" x=\"419\" y=\"{base}\">e3</text><text x=\"434\" y=\"{base}\">call refused</text>"
-    )?;
-    write!(
-        svg,
-        "<rect x=\"520\" y=\"{bar}\" width=\"18\" height=\"14\" fill=\"#7d0f0f\"/><text class=\"b\" x=\"529\" y=\"{base}\">f4</text><text x=\"544\" y=\"{base}\">fault</text>"
-    )?;
-    write!(
-        svg,
-        "<text class=\"n\" x=\"600\" y=\"{base}\">numbers: lines of the trace; long runs are drawn shorter; white: nobody runs</text></g>\n"
-    )
-}
+/// What the signs mean, from the height of their bars on.
+const LEGEND: &str =
+    "<rect x=\"0\" y=\"0\" width=\"22\" height=\"14\" fill=\"#3b78b5\"/><text x=\"28\" y=\"11\">runs</text><path class=\"r\" d=\"M70 7H96\"/><text x=\"102\" y=\"11\">ready</text><path class=\"w\" d=\"M150 7H176\"/><text x=\"182\" y=\"11\">waits</text><rect x=\"230\" y=\"0\" width=\"14\" height=\"14\" fill=\"#3b78b5\"/><circle cx=\"237\" cy=\"7\" r=\"3\" fill=\"#fff\"/><text x=\"250\" y=\"11\">call done</text><rect x=\"320\" y=\"0\" width=\"18\" height=\"14\" fill=\"#222\"/><text class=\"b\" x=\"329\" y=\"11\">A</text><text x=\"344\" y=\"11\">byte put</text><rect x=\"410\" y=\"0\" width=\"18\" height=\"14\" fill=\"#d02f2f\"/><text class=\"b\" x=\"419\" y=\"11\">e3</text><text x=\"434\" y=\"11\">call refused</text><rect x=\"520\" y=\"0\" width=\"18\" height=\"14\" fill=\"#7d0f0f\"/><text class=\"b\" x=\"529\" y=\"11\">f4</text><text x=\"544\" y=\"11\">fault</text><text class=\"n\" x=\"600\" y=\"11\">numbers: lines of the trace; long runs are drawn shorter; white: nobody runs</text></g>\n</svg>\n";
 
-/// The chart of a trace.
-fn chart_of(alloc: Global, cells: &Cells) -> Result<String, AllocError> {
+/// The canvas of a chart, on which nothing stands so far.
+fn empty_canvas(alloc: Global, cells: &Cells) -> Result<Canvas<'_>, AllocError> {
     let mut lanes = Vec::new(alloc);
     for _ in 0..cells.threads.len() {
         lanes.push(Lane {
@@ -356,28 +357,39 @@ fn chart_of(alloc: Global, cells: &Cells) -> Result<String, AllocError> {
             since: LEFT,
         })?;
     }
-    let count = lanes.len();
-    let foot = band_top(bands_of(&cells.cells), count);
-    let height = foot.saturating_add(FOOT);
-    let mut chart = Canvas {
+    Ok(Canvas {
         cells,
         lanes,
         band: 0,
         number_from: 0,
         svg: String::new(alloc),
-    };
-    let width = RIGHT + 8;
+    })
+}
+
+/// What stands before the first band of a chart whose last band ends there.
+fn push_head(svg: &mut String, foot: u32) -> Result<(), AllocError> {
+    let (width, height) = (RIGHT + 8, foot.saturating_add(FOOT));
     write!(
-        chart.svg,
+        svg,
         "<svg xmlns=\"http://www.w3.org/2000/svg\" width=\"{width}\" height=\"{height}\" viewBox=\"0 0 {width} {height}\">\n"
     )?;
-    chart.svg.push_str(STYLE)?;
-    chart
-        .svg
-        .push_str("<rect width=\"100%\" height=\"100%\" fill=\"#fff\"/>\n")?;
+    svg.push_str(STYLE)?;
+    svg.push_str("<rect width=\"100%\" height=\"100%\" fill=\"#fff\"/>\n")
+}
+
+/// What the signs mean, and the end of the chart.
+fn push_legend(svg: &mut String, y: u32) -> Result<(), AllocError> {
+    write!(svg, "<g transform=\"translate({LEFT} {y})\">")?;
+    svg.push_str(LEGEND)
+}
+
+/// The chart of a trace.
+fn chart_of(alloc: Global, cells: &Cells) -> Result<String, AllocError> {
+    let mut chart = empty_canvas(alloc, cells)?;
+    let foot = band_top(bands_of(&cells.cells), chart.lanes.len());
+    push_head(&mut chart.svg, foot)?;
     chart.push_cells()?;
     push_legend(&mut chart.svg, foot.saturating_add(6))?;
-    chart.svg.push_str("</svg>\n")?;
     Ok(chart.svg)
 }
 

@@ -24,21 +24,41 @@ fn graph_of(alloc: Global, text: &SourceText<'_>, automatic: &[u64]) -> Result<S
         graph: String::new(alloc),
     };
     scene.graph.push_str(HEAD)?;
-    for thread in &text.threads {
-        scene.push_thread(thread)?;
-    }
-    for number in 0..text.objects.len() {
-        let kind = text.kind(number);
-        if (is_drawn(kind) && scene.is_named(number)) || (kind == 6 && scene.is_shared(number)) {
-            scene.push_object(number)?;
-        }
-    }
+    scene.push_threads()?;
+    scene.push_objects()?;
     scene.push_interrupts()?;
-    for thread in &text.threads {
-        scene.push_links(alloc, thread)?;
-    }
+    scene.push_all_links(alloc)?;
     scene.graph.push_str("}\n")?;
     Ok(scene.graph)
+}
+
+impl Scene<'_, '_, '_> {
+    /// All threads.
+    fn push_threads(&mut self) -> Result<(), AllocError> {
+        for thread in &self.text.threads {
+            self.push_thread(thread)?;
+        }
+        Ok(())
+    }
+
+    /// All objects that are drawn.
+    fn push_objects(&mut self) -> Result<(), AllocError> {
+        for number in 0..self.text.objects.len() {
+            let kind = self.text.kind(number);
+            if (is_drawn(kind) && self.is_named(number)) || (kind == 6 && self.is_shared(number)) {
+                self.push_object(number)?;
+            }
+        }
+        Ok(())
+    }
+
+    /// What each thread holds.
+    fn push_all_links(&mut self, alloc: Global) -> Result<(), AllocError> {
+        for thread in &self.text.threads {
+            self.push_links(alloc, thread)?;
+        }
+        Ok(())
+    }
 }
 
 /// Puts the system that a text describes as text for Graphviz: threads with priority, budget and the pages that are theirs alone;
