@@ -56,24 +56,75 @@ const BARE: Form = Form {
     ranges: "nothing stands behind it",
 };
 
+const JUMP: Form = Form {
+    operands: "xD LABEL",
+    ranges: "the label's line is less than 0x100000 bytes away",
+};
+
+/// Instructions of one form, by their names.
+struct Kind {
+    names: &'static str,
+    form: Form,
+}
+
+/// The forms of instructions.
+const INSTRUCTIONS: [Kind; 9] = [
+    Kind {
+        names: "addi slti sltiu xori ori andi",
+        form: IMMEDIATE,
+    },
+    Kind {
+        names: "slli srli srai",
+        form: SHIFT,
+    },
+    Kind {
+        names: "add sub sll slt sltu xor srl sra or and",
+        form: REGISTERS,
+    },
+    Kind {
+        names: "lb lh lw lbu lhu jalr",
+        form: LOAD,
+    },
+    Kind {
+        names: "sb sh sw",
+        form: STORE,
+    },
+    Kind {
+        names: "beq bne blt bge bltu bgeu",
+        form: BRANCH,
+    },
+    Kind {
+        names: "lui auipc",
+        form: UPPER,
+    },
+    Kind {
+        names: "jal",
+        form: JUMP,
+    },
+    Kind {
+        names: "ecall ebreak fence",
+        form: BARE,
+    },
+];
+
+/// Whether a word stands in a list of words.
+fn is_in(names: &str, word: &str) -> bool {
+    for name in names.split_whitespace() {
+        if name == word {
+            return true;
+        }
+    }
+    false
+}
+
 /// The form of an instruction.
 fn instruction_form(word: &str) -> Option<Form> {
-    Some(match word {
-        "addi" | "slti" | "sltiu" | "xori" | "ori" | "andi" => IMMEDIATE,
-        "slli" | "srli" | "srai" => SHIFT,
-        "add" | "sub" | "sll" | "slt" | "sltu" | "xor" | "srl" | "sra" | "or" | "and" => REGISTERS,
-        "lb" | "lh" | "lw" | "lbu" | "lhu" => LOAD,
-        "sb" | "sh" | "sw" => STORE,
-        "beq" | "bne" | "blt" | "bge" | "bltu" | "bgeu" => BRANCH,
-        "lui" | "auipc" => UPPER,
-        "jalr" => LOAD,
-        "jal" => Form {
-            operands: "xD LABEL",
-            ranges: "the label's line is less than 0x100000 bytes away",
-        },
-        "ecall" | "ebreak" | "fence" => BARE,
-        _ => return None,
-    })
+    for kind in &INSTRUCTIONS {
+        if is_in(kind.names, word) {
+            return Some(kind.form);
+        }
+    }
+    None
 }
 
 /// The form of a declaration.

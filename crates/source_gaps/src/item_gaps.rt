@@ -52,6 +52,30 @@ fn power(bits: u32) -> u64 {
     1u64.wrapping_shl(bits)
 }
 
+/// Tells what is wrong with the rights and the data of a capability to an object of a kind.
+fn tell_data(
+    to: &mut String,
+    kind: u32,
+    name: &str,
+    rights: u32,
+    payload: u32,
+) -> Result<(), AllocError> {
+    match kind {
+        3 | 4 if rights & 11 == rights => write!(to, "the badge {payload} is 2^28 or more\n"),
+        3 | 4 => write!(
+            to,
+            "{rights} are no rights of an endpoint or a notification: write 1, read 2, grant-reply 8\n"
+        ),
+        6 if rights & 3 == rights => to.push_str("a frame's capability has no data: write 0\n"),
+        6 => write!(to, "{rights} are no rights of a frame: write 1, read 2\n"),
+        5 if rights == 0 => write!(to, "{payload} is no guard word for the CNode `{name}`\n"),
+        _ => write!(
+            to,
+            "a capability to `{name}` has the rights 0 and the data 0\n"
+        ),
+    }
+}
+
 impl Items<'_, '_, '_, '_, '_> {
     /// Tells what is wrong with untyped memory.
     fn tell_untyped(&self, to: &mut String, item: u32) -> Result<(), AllocError> {
@@ -192,31 +216,24 @@ impl Items<'_, '_, '_, '_, '_> {
             return write!(to, "`{name}` is {words}: no capability may name one\n");
         }
         if kind == 1 {
-            for other in &self.source.capabilities {
-                if other.source == capability.source && other.line != capability.line {
-                    let line = other.line;
-                    return write!(
-                        to,
-                        "the untyped memory `{name}` is given away twice (line {line})\n"
-                    );
-                }
+            if let Some(line) = self.other_gift(capability) {
+                return write!(
+                    to,
+                    "the untyped memory `{name}` is given away twice (line {line})\n"
+                );
             }
         }
-        let (rights, payload) = (capability.rights, capability.payload);
-        match kind {
-            3 | 4 if rights & 11 == rights => write!(to, "the badge {payload} is 2^28 or more\n"),
-            3 | 4 => write!(
-                to,
-                "{rights} are no rights of an endpoint or a notification: write 1, read 2, grant-reply 8\n"
-            ),
-            6 if rights & 3 == rights => to.push_str("a frame's capability has no data: write 0\n"),
-            6 => write!(to, "{rights} are no rights of a frame: write 1, read 2\n"),
-            5 if rights == 0 => write!(to, "{payload} is no guard word for the CNode `{name}`\n"),
-            _ => write!(
-                to,
-                "a capability to `{name}` has the rights 0 and the data 0\n"
-            ),
+        tell_data(to, kind, name, capability.rights, capability.payload)
+    }
+
+    /// The line of another capability to what a capability names.
+    fn other_gift(&self, capability: &CapabilityLine) -> Option<u64> {
+        for other in &self.source.capabilities {
+            if other.source == capability.source && other.line != capability.line {
+                return Some(other.line);
+            }
         }
+        None
     }
 
     /// Tells what is wrong with an interrupt.
@@ -266,6 +283,16 @@ impl Items<'_, '_, '_, '_, '_> {
         )
     }
 
+    /// Whether a page table covers an address under a root table.
+    fn is_covered(&self, root: usize, address: u32) -> bool {
+        for table in &self.source.tables {
+            if table.root == root && table.address / 0x40_0000 == address / 0x40_0000 {
+                return true;
+            }
+        }
+        false
+    }
+
     /// Tells what is wrong with a frame's mapping.
     fn tell_frame(&self, to: &mut String, frame: &FrameLine) -> Result<(), AllocError> {
         push_line(to, self.text, frame.line)?;
@@ -285,13 +312,11 @@ impl Items<'_, '_, '_, '_, '_> {
         if address >= 0x8000_0000 || address % 4096 != 0 {
             return write!(to, "{address:#x} is no multiple of 4096 below 0x80000000\n");
         }
-        for table in &self.source.tables {
-            if table.root == frame.root && table.address / 0x40_0000 == address / 0x40_0000 {
-                return write!(
-                    to,
-                    "{rights} are no rights of a mapping: read 2, read and write 3, execute 4, read and execute 6\n"
-                );
-            }
+        if self.is_covered(frame.root, address) {
+            return write!(
+                to,
+                "{rights} are no rights of a mapping: read 2, read and write 3, execute 4, read and execute 6\n"
+            );
         }
         let region = address - address % 0x40_0000;
         write!(
@@ -372,34 +397,55 @@ impl Items<'_, '_, '_, '_, '_> {
                 "`{name}` is mapped to write and to execute: code has a frame of its own\n"
             );
         }
-        for other in &self.source.frames {
-            if other.frame == frame.frame && other.line != frame.line {
-                let line = other.line;
-                return write!(
-                    to,
-                    "`{name}` is mapped to execute, and mapped on line {line}, too: code has a frame of its own\n"
-                );
-            }
+        if let Some(line) = self.other_mapping(&frame) {
+            return write!(
+                to,
+                "`{name}` is mapped to execute, and mapped on line {line}, too: code has a frame of its own\n"
+            );
         }
-        for capability in &self.source.capabilities {
-            if capability.source == Source::Object(frame.frame) {
-                let line = capability.line;
-                return write!(
-                    to,
-                    "`{name}` is mapped to execute, and a capability names it (line {line}): code has a frame of its own\n"
-                );
-            }
+        if let Some(line) = self.naming(frame.frame) {
+            return write!(
+                to,
+                "`{name}` is mapped to execute, and a capability names it (line {line}): code has a frame of its own\n"
+            );
         }
-        for content in &self.source.contents {
-            if content.frame == frame.frame {
-                let line = content.line;
-                return write!(
-                    to,
-                    "`{name}` is mapped to execute, and filled on line {line}: the loader fills it with the program\n"
-                );
-            }
+        if let Some(line) = self.filling(frame.frame) {
+            return write!(
+                to,
+                "`{name}` is mapped to execute, and filled on line {line}: the loader fills it with the program\n"
+            );
         }
         to.push_str("code can be written\n")
+    }
+
+    /// The line of another mapping of the frame that a line maps.
+    fn other_mapping(&self, frame: &FrameLine) -> Option<u64> {
+        for other in &self.source.frames {
+            if other.frame == frame.frame && other.line != frame.line {
+                return Some(other.line);
+            }
+        }
+        None
+    }
+
+    /// The line of a capability that names an object.
+    fn naming(&self, object: usize) -> Option<u64> {
+        for capability in &self.source.capabilities {
+            if capability.source == Source::Object(object) {
+                return Some(capability.line);
+            }
+        }
+        None
+    }
+
+    /// The line that fills a frame.
+    fn filling(&self, frame: usize) -> Option<u64> {
+        for content in &self.source.contents {
+            if content.frame == frame {
+                return Some(content.line);
+            }
+        }
+        None
     }
 
     /// Tells what is refused before any program is looked at.
