@@ -91,6 +91,11 @@ impl Scene<'_, '_, '_, '_, '_> {
             None if kind_number(capability) != 0 => write!(to, " at {offset:#x}")?,
             None => {}
         }
+        self.push_detail(to, capability)
+    }
+
+    /// Puts what a capability says beside its object: rights, a badge, how much is used.
+    fn push_detail(&self, to: &mut String, capability: Cap) -> Result<(), AllocError> {
         match capability {
             Cap::Endpoint { rights, badge, .. } | Cap::Notification { rights, badge, .. } => {
                 let words = rights_words(rights);

@@ -2,7 +2,7 @@
 
 use crate::faults::{ExplainFault, Explained};
 use crate::programs::{point_of, tell_program};
-use asm::assemble;
+use asm::{SourceFault, assemble};
 use image::{ImageRef, read, write};
 use model::Refusal;
 use progress::{Progress, Stage};
@@ -57,30 +57,41 @@ fn tell<P: Progress>(
     text: &str,
     progress: &mut P,
 ) -> Result<Explained, AllocError> {
-    let image = match assemble(alloc, text) {
-        Ok(image) => image,
+    match assemble(alloc, text) {
+        Ok(image) => {
+            let bytes = write(alloc, &image)?;
+            progress.reach(Stage::Built);
+            tell_bytes(alloc, to, text, &bytes, progress)
+        }
+        Err(SourceFault { kind: MEMORY, .. }) => Err(AllocError),
         Err(fault) => {
-            if fault.kind == MEMORY {
-                return Err(AllocError);
-            }
             tell_fault(to, text, fault)?;
-            return Ok(Explained::Refused);
+            Ok(Explained::Refused)
         }
-    };
-    let bytes = write(alloc, &image)?;
-    progress.reach(Stage::Built);
-    let verdict = verify(alloc, &bytes);
+    }
+}
+
+/// Tells of the bytes of a text's image whether they are accepted, or why not.
+fn tell_bytes<P: Progress>(
+    alloc: Global,
+    to: &mut String,
+    text: &str,
+    bytes: &[u8],
+    progress: &mut P,
+) -> Result<Explained, AllocError> {
+    let refusal = verify(alloc, bytes).err();
     progress.reach(Stage::Judged);
-    let refusal = match verdict {
-        Ok(_) => {
+    match refusal {
+        None => {
             to.push_str("accepted\n")?;
-            return Ok(Explained::Accepted);
+            Ok(Explained::Accepted)
         }
-        Err(Refusal::OutOfMemory) => return Err(AllocError),
-        Err(refusal) => refusal,
-    };
-    tell_refusal(alloc, to, text, &bytes, refusal)?;
-    Ok(Explained::Refused)
+        Some(Refusal::OutOfMemory) => Err(AllocError),
+        Some(refusal) => {
+            tell_refusal(alloc, to, text, bytes, refusal)?;
+            Ok(Explained::Refused)
+        }
+    }
 }
 
 /// Builds and verifies the image of a text, and puts why that is refused: the line, the names, what is known there, and by how much

@@ -11,6 +11,15 @@ use measure::least;
 use model::Register;
 use std::alloc::AllocError;
 
+/// Puts by how much a measure misses.
+fn push_miss(to: &mut String, way: &Way, miss: &Miss) -> Result<(), AllocError> {
+    match miss {
+        Miss::By(number) if way.is_wait => write!(to, ", above it by {number}"),
+        Miss::By(number) => write!(to, ": it has to fall by 1, and misses that by {number}"),
+        _ => to.push_str(", which no constant makes good: a register there can have any value"),
+    }
+}
+
 impl Scene<'_, '_, '_, '_, '_> {
     /// The line of the record of a point.
     pub(crate) fn record_line(&self, point: u32) -> Option<u64> {
@@ -75,14 +84,13 @@ impl Scene<'_, '_, '_, '_, '_> {
             to.push_str(" here, and there ")?;
         }
         push_measure(to, &there.measure)?;
-        match miss {
-            Miss::By(number) if way.is_wait => write!(to, ", above it by {number}")?,
-            Miss::By(number) => write!(to, ": it has to fall by 1, and misses that by {number}")?,
-            _ => to.push_str(
-                ", which no constant makes good: a register there can have any value",
-            )?,
-        }
-        match self.record_line(target) {
+        push_miss(to, way, &miss)?;
+        self.push_record(to, target)
+    }
+
+    /// Puts where the record of a point is.
+    fn push_record(&self, to: &mut String, point: u32) -> Result<(), AllocError> {
+        match self.record_line(point) {
             Some(line) => write!(to, "; the record there is on line {line}\n"),
             None => to.push_str(
                 "; no record is there: put one there, or raise the constants before it\n",

@@ -4,10 +4,10 @@ use crate::caps::mapping_words;
 use crate::point_words::push_range;
 use crate::scenes::Scene;
 use crate::states::State;
-use model::{Cap, Instr, LoadOp, Register, StoreOp};
+use model::{Cap, FrameEntry, FrameMapping, Instr, LoadOp, Register, StoreOp};
 use rv32_isa::decode;
 use std::alloc::AllocError;
-use typestate::NotedSlot;
+use typestate::{NotedSlot, SlotKey};
 
 /// How many mapped pages are named at most.
 const MOST_NAMED: u32 = 12;
@@ -75,6 +75,23 @@ fn access_of(instr: Instr) -> Option<Access> {
     }
 }
 
+/// Puts what parts a page from so many before it.
+fn push_separator(to: &mut String, before: u32) -> Result<(), AllocError> {
+    to.push_str(if before == 0 { " " } else { ", " })
+}
+
+/// The page of an address, or 0 where it is none.
+fn page_at(address: i64) -> u32 {
+    u32::try_from(address / 4096).unwrap_or(0)
+}
+
+/// Puts the first and the last of some bytes.
+fn push_bytes(to: &mut String, first: i64, last: i64) -> Result<(), AllocError> {
+    push_whole(to, first)?;
+    to.push_str(" to ")?;
+    push_whole(to, last)
+}
+
 /// Puts a whole number in hexadecimal digits.
 fn push_whole(to: &mut String, number: i64) -> Result<(), AllocError> {
     let sign = if number < 0 { "-" } else { "" };
@@ -134,40 +151,67 @@ impl Scene<'_, '_, '_, '_, '_> {
     /// Puts what is mapped.
     fn push_mapped(&self, to: &mut String, state: &State) -> Result<(), AllocError> {
         to.push_str("; mapped:")?;
+        let listed = self.push_listed(to)?;
+        let count = self.push_changed(to, state, listed)?;
+        if count > MOST_NAMED {
+            write!(to, ", {count} pages in all")?;
+        }
+        to.push_str(if count == 0 { " nothing\n" } else { "\n" })
+    }
+
+    /// Puts the first pages that the image maps, and returns how many it maps.
+    fn push_listed(&self, to: &mut String) -> Result<u32, AllocError> {
         let root = self.space.thread.header().root;
         let mut count = 0u32;
         for entry in self.space.image.frames() {
             if entry.root == root {
                 if count < MOST_NAMED {
-                    let address = entry.address;
-                    let name = self.source.object_name(entry.frame as usize);
-                    let words = mapping_words(entry.rights);
-                    to.push_str(if count == 0 { " " } else { ", " })?;
-                    write!(to, "{address:#x} {name} ({words})")?;
+                    push_separator(to, count)?;
+                    self.push_entry(to, &entry)?;
                 }
                 count = count.saturating_add(1);
             }
         }
-        let changes = &state.changes;
-        for change in changes {
+        Ok(count)
+    }
+
+    /// Puts a page that the image maps.
+    fn push_entry(&self, to: &mut String, entry: &FrameEntry) -> Result<(), AllocError> {
+        let address = entry.address;
+        let name = self.source.object_name(entry.frame as usize);
+        let words = mapping_words(entry.rights);
+        write!(to, "{address:#x} {name} ({words})")
+    }
+
+    /// Puts the pages that are mapped by changed slots, behind so many others, and returns how many all are.
+    fn push_changed(&self, to: &mut String, state: &State, before: u32) -> Result<u32, AllocError> {
+        let mut count = before;
+        for change in &state.changes {
             if let Cap::Frame {
                 mapping: Some(mapping),
                 ..
             } = change.capability
             {
-                let address = mapping.page.wrapping_mul(4096);
-                let words = mapping_words(u32::from(mapping.rights.0));
-                to.push_str(if count == 0 { " " } else { ", " })?;
-                write!(to, "{address:#x} by slot ")?;
-                self.push_key(to, change.key)?;
-                write!(to, " ({words})")?;
+                push_separator(to, count)?;
+                self.push_change(to, change.key, &mapping)?;
                 count = count.saturating_add(1);
             }
         }
-        if count > MOST_NAMED {
-            write!(to, ", {count} pages in all")?;
-        }
-        to.push_str(if count == 0 { " nothing\n" } else { "\n" })
+        Ok(count)
+    }
+
+    /// Puts a page that a changed slot maps.
+    fn push_change(
+        &self,
+        to: &mut String,
+        key: SlotKey,
+        mapping: &FrameMapping,
+    ) -> Result<(), AllocError> {
+        let address = mapping.page.wrapping_mul(4096);
+        let words = mapping_words(u32::from(mapping.rights.0));
+        write!(to, "{address:#x} by slot ")?;
+        self.push_key(to, key)?;
+        write!(to, " ({words})")
     }
 
     /// Tells which bytes a load or a store can reach, and which of them is not mapped.
@@ -201,9 +245,7 @@ impl Scene<'_, '_, '_, '_, '_> {
             .saturating_add(width.saturating_sub(1));
         self.push_head(to, point)?;
         write!(to, "{name} ")?;
-        push_whole(to, least)?;
-        to.push_str(" to ")?;
-        push_whole(to, greatest)?;
+        push_bytes(to, least, greatest)?;
         let number = base.0;
         write!(to, ", where x{number} is ")?;
         push_range(to, range)?;
@@ -213,8 +255,19 @@ impl Scene<'_, '_, '_, '_, '_> {
             );
         }
         to.push_str("\n")?;
-        let first = u32::try_from(least / 4096).unwrap_or(0);
-        let last = u32::try_from(greatest / 4096).unwrap_or(0);
+        self.tell_unmapped(to, state, page_at(least), page_at(greatest), right, wanted)
+    }
+
+    /// Tells which of some pages is the first that is not mapped with a right, and which are.
+    fn tell_unmapped(
+        &self,
+        to: &mut String,
+        state: &State,
+        first: u32,
+        last: u32,
+        right: u32,
+        wanted: &str,
+    ) -> Result<(), AllocError> {
         if let Some(page) = self.unmapped_page(state, first, last, right) {
             let address = page.wrapping_mul(4096);
             write!(to, "  page {address:#x} is not mapped to {wanted}")?;

@@ -35,6 +35,26 @@ fn lacking(wanted: Rights, there: Rights) -> &'static str {
     }
 }
 
+/// Puts what is asked by a label.
+fn push_label(to: &mut String, label: u32) -> Result<(), AllocError> {
+    match label_name(label) {
+        Some(asked) => write!(to, "{asked} (label {label}), by "),
+        None => write!(to, "label {label}, by "),
+    }
+}
+
+/// Puts an error, and which check fails.
+fn push_error(
+    to: &mut String,
+    capability: Cap,
+    label: u32,
+    error: KError,
+) -> Result<(), AllocError> {
+    let (name, code) = (error_name(error), error.number());
+    let check = check_words(capability, label, error);
+    write!(to, ": error {code}, {name}\n  {check}\n")
+}
+
 impl Scene<'_, '_, '_, '_, '_> {
     /// The value of a register, if it has one alone.
     fn single(&self, state: &State, number: u8) -> Option<u32> {
@@ -224,16 +244,10 @@ impl Scene<'_, '_, '_, '_, '_> {
             None => Cap::Empty,
         };
         let label = info / 4096;
-        let (name, code) = (error_name(error), error.number());
         self.push_head(to, point)?;
-        match label_name(label) {
-            Some(asked) => write!(to, "{asked} (label {label})")?,
-            None => write!(to, "label {label}")?,
-        }
-        to.push_str(", by ")?;
+        push_label(to, label)?;
         self.push_call(to, number, address, &found)?;
-        let check = check_words(capability, label, error);
-        write!(to, ": error {code}, {name}\n  {check}\n")?;
+        push_error(to, capability, label, error)?;
         if has_label(capability, label) {
             self.push_words(to, state, words_wanted(label), info & 127)?;
         }
