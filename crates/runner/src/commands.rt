@@ -154,26 +154,42 @@ fn answer<'a, R: Files + AllocGlobal, S: AsStr, W: Sink>(
     output: &mut W,
 ) -> Result<(), Failure<'a>> {
     match parse(rt.alloc(), words)? {
-        Request::Verify { image } => {
-            let bytes = read_bytes(rt, image)?;
-            let _accepted = verify(rt.alloc(), bytes.as_slice())?;
-            put_all(output, b"accepted\n")?;
-        }
+        Request::Verify { image } => verify_file(rt, image, output),
         Request::Run {
             image,
-            events: list,
+            events,
             unverified,
-        } => {
-            let bytes = read_bytes(rt, image)?;
-            let text = read_bytes(rt, list)?;
-            let events = events(rt.alloc(), text.as_slice())?;
-            if unverified {
-                run_unverified(rt.alloc(), bytes.as_slice(), events.as_slice(), output)?;
-            } else {
-                run(rt.alloc(), bytes.as_slice(), events.as_slice(), output)?;
-            }
-        }
-        Request::Build { source, image } => build(rt, source, image)?,
+        } => run_file(rt, image, events, unverified, output),
+        Request::Build { source, image } => build(rt, source, image),
+    }
+}
+
+/// Says that the image of a file is accepted.
+fn verify_file<'a, R: Files + AllocGlobal, W: Sink>(
+    rt: &R,
+    image: &'a str,
+    output: &mut W,
+) -> Result<(), Failure<'a>> {
+    let bytes = read_bytes(rt, image)?;
+    let _accepted = verify(rt.alloc(), bytes.as_slice())?;
+    Ok(put_all(output, b"accepted\n")?)
+}
+
+/// Runs the image of a file over a list of events.
+fn run_file<'a, R: Files + AllocGlobal, W: Sink>(
+    rt: &R,
+    image: &'a str,
+    list: &'a str,
+    unverified: bool,
+    output: &mut W,
+) -> Result<(), Failure<'a>> {
+    let bytes = read_bytes(rt, image)?;
+    let text = read_bytes(rt, list)?;
+    let events = events(rt.alloc(), text.as_slice())?;
+    if unverified {
+        run_unverified(rt.alloc(), bytes.as_slice(), events.as_slice(), output)?;
+    } else {
+        run(rt.alloc(), bytes.as_slice(), events.as_slice(), output)?;
     }
     Ok(())
 }
