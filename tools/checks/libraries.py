@@ -1,5 +1,6 @@
 #!/usr/bin/env python3
-"""Builds the repository's libraries side by side, as the gate does: what stands above a library loads its statements alone.
+"""Builds the repository's libraries side by side: what stands above a library loads its statements alone, as in the gate. The gate
+also looks for contracts that no call can meet, which takes a twentieth more and proves nothing.
 
   tools/checks/libraries.py NAME ..     at the top of the repository: these crates and all below them (none named: all)
   tools/checks/libraries.py rt WORD ..  in a crate's folder: the toolchain's command over libraries that were built so
@@ -56,7 +57,7 @@ def build(crate, flags, anew):
     folder = os.path.dirname(crate.rlib)
     shutil.rmtree(folder, ignore_errors=True)
     os.makedirs(folder)
-    words = [*crate.words(flags, keeps=False), "--statements", "--empty-contracts", "-o", crate.rlib]
+    words = [*crate.words(flags, keeps=False), "--statements", "-o", crate.rlib]
     status = crate.call("nice", "-n", str(NICENESS.get(crate.name, 0)), RT.rtlib.RATTLE, "build", *words)
     if status == 0:
         with open(f"{folder}/stamp", "w", encoding="utf-8") as kept:
