@@ -1,3 +1,4 @@
 pub mod Spellings
 pub mod Sections
+pub mod Headers
 pub mod Sizes

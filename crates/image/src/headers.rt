@@ -3,17 +3,65 @@
 ghost use Rattle.std.specs.Prelude.{◌≡◌, ◌-◌, ◌<◌, IfOk, min};
 ghost use Rattle.model.specs.Images.Format.{field};
 ghost use Rattle.model.specs.Images.Image.{between, header_format, record_header_format, slots_format, thread_header_format};
+ghost use Rattle.image.specs.Headers.{counts_format, program_format, program_length};
 
 use crate::fields::{
     any_word, constant, double_between, magic, rising_word, version, word_below, word_between,
 };
 use model::{ImageHeader, RecordHeader, Refusal, ThreadHeader};
+use std::marker::Model;
 
 /// The largest radix of the boot CNode in memory of this size.
 pub(crate) fn radix_limit(memory_bits: u32) -> u32
     ensures { result ≡ min 14 (memory_bits - 5) }
 {
     memory_bits.saturating_sub(5).min(14)
+}
+
+/// How many entries each section has.
+#[derive(Drop)]
+struct Counts {
+    untypeds: u32,
+    objects: u32,
+    capabilities: u32,
+    interrupts: u32,
+    tables: u32,
+    frames: u32,
+    contents: u32,
+    threads: u32,
+}
+
+impl Model for Counts {
+    ghost use Rattle.image.specs.Headers.{CountFields};
+
+    ghost Value = { CountFields };
+
+    ghost view = { λ c. (c.untypeds, (c.objects, (c.capabilities, (c.interrupts, (c.tables, (c.frames, (c.contents, c.threads))))))) };
+}
+
+/// The counts at `at`, and the offset behind them.
+fn section_counts(bytes: &[u8], at: usize) -> Result<(Counts, usize), Refusal>
+    ensures { result ≡ counts_format.reads bytes.now at }
+{
+    let (untypeds, at) = word_between(bytes, at, 1, 64)?;
+    let (objects, at) = word_between(bytes, at, 0, 4096)?;
+    let (capabilities, at) = word_between(bytes, at, 0, 16384)?;
+    let (interrupts, at) = word_between(bytes, at, 0, 64)?;
+    let (tables, at) = word_between(bytes, at, 0, 1024)?;
+    let (frames, at) = word_between(bytes, at, 0, 4096)?;
+    let (contents, at) = word_between(bytes, at, 0, 4096)?;
+    let (threads, at) = word_between(bytes, at, 1, 64)?;
+    let counts = Counts {
+        untypeds,
+        objects,
+        capabilities,
+        interrupts,
+        tables,
+        frames,
+        contents,
+        threads,
+    };
+    Ok((counts, at))
 }
 
 /// The fixed part of the image at `at`, and the offset behind it.
@@ -25,26 +73,19 @@ pub(crate) fn image_header(bytes: &[u8], at: usize) -> Result<(ImageHeader, usiz
     let (version, at) = version(bytes, at)?;
     let (memory_bits, at) = word_between(bytes, at, 16, 24)?;
     let (boot_radix, at) = word_between(bytes, at, 1, radix_limit(memory_bits))?;
-    let (untypeds, at) = word_between(bytes, at, 1, 64)?;
-    let (objects, at) = word_between(bytes, at, 0, 4096)?;
-    let (capabilities, at) = word_between(bytes, at, 0, 16384)?;
-    let (interrupts, at) = word_between(bytes, at, 0, 64)?;
-    let (tables, at) = word_between(bytes, at, 0, 1024)?;
-    let (frames, at) = word_between(bytes, at, 0, 4096)?;
-    let (contents, at) = word_between(bytes, at, 0, 4096)?;
-    let (threads, at) = word_between(bytes, at, 1, 64)?;
+    let (counts, at) = section_counts(bytes, at)?;
     let header = ImageHeader {
         version,
         memory_bits,
         boot_radix,
-        untypeds,
-        objects,
-        capabilities,
-        interrupts,
-        tables,
-        frames,
-        contents,
-        threads,
+        untypeds: counts.untypeds,
+        objects: counts.objects,
+        capabilities: counts.capabilities,
+        interrupts: counts.interrupts,
+        tables: counts.tables,
+        frames: counts.frames,
+        contents: counts.contents,
+        threads: counts.threads,
     };
     Ok((header, at))
 }
@@ -60,6 +101,47 @@ fn word_count(bytes: &[u8], at: usize) -> Result<(u32, usize), Refusal>
     } else {
         Err(Refusal::Limit { offset: at as u64 })
     }
+}
+
+/// Where a thread begins, and how long the lists behind its header are.
+#[derive(Drop)]
+struct Program {
+    fault: u32,
+    entry: u32,
+    base: u32,
+    registers: u32,
+    words: u32,
+    records: u32,
+}
+
+impl Model for Program {
+    ghost use Rattle.image.specs.Headers.{ProgramFields};
+
+    ghost Value = { ProgramFields };
+
+    ghost view = { λ p. (p.fault, (p.entry, (p.base, (p.registers, (p.words, p.records))))) };
+}
+
+/// The last fields of the header of a thread, at `at`, and the offset behind them.
+fn program_at(bytes: &[u8], at: usize) -> Result<(Program, usize), Refusal>
+    ensures reads { result ≡ program_format.reads bytes.now at }
+    ensures some { IfOk result (λ x. 0 < program_length x.0) }
+{
+    let (fault, at) = any_word(bytes, at)?;
+    let (entry, at) = any_word(bytes, at)?;
+    let (base, at) = any_word(bytes, at)?;
+    let (registers, at) = word_between(bytes, at, 0, 31)?;
+    let (words, at) = word_count(bytes, at)?;
+    let (records, at) = word_between(bytes, at, 0, words)?;
+    let program = Program {
+        fault,
+        entry,
+        base,
+        registers,
+        words,
+        records,
+    };
+    Ok((program, at))
 }
 
 /// The fixed part of the thread at `at`, and the offset behind it.
@@ -78,12 +160,7 @@ pub(crate) fn thread_header(
     let (root, at) = word_below(bytes, at, objects)?;
     let (priority, at) = word_between(bytes, at, 0, 255)?;
     let (budget, at) = double_between(bytes, at, 1, 1 << 62)?;
-    let (fault, at) = any_word(bytes, at)?;
-    let (entry, at) = any_word(bytes, at)?;
-    let (base, at) = any_word(bytes, at)?;
-    let (registers, at) = word_between(bytes, at, 0, 31)?;
-    let (words, at) = word_count(bytes, at)?;
-    let (records, at) = word_between(bytes, at, 0, words)?;
+    let (program, at) = program_at(bytes, at)?;
     let header = ThreadHeader {
         tcb,
         cnode,
@@ -91,12 +168,12 @@ pub(crate) fn thread_header(
         root,
         priority,
         budget,
-        fault,
-        entry,
-        base,
-        registers,
-        words,
-        records,
+        fault: program.fault,
+        entry: program.entry,
+        base: program.base,
+        registers: program.registers,
+        words: program.words,
+        records: program.records,
     };
     Ok((header, at))
 }
