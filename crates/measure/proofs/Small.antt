@@ -62,5 +62,13 @@ product-stored u v w a b r m n first second few less room is =
     let small : IsSmall (m * n) r = subst (λ (z : ℤ). IsSmall (m * n) z) (sym same) (product-small a b m n few less) in
     subst (λ (z : ℤ). IsSmall (m * n) z) (sym (to_z-of_z u r (fits-small u r (m * n) small room))) small
 
+-- the same where the second is a word
+pub word-product-stored : (u v : Width) (a r : ℤ) (b m n : ℕ) → FitsSigned v a → unsigned_abs a ≤ m → b ≤ n → m * n < 2 ^ hbits u
+    → r ≡ to_z v (of_z v a) *ℤ pos b → IsSmall (m * n) (to_z u (of_z u r))
+word-product-stored u v a r b m n fits few less room is =
+    let same : r ≡ a *ℤ pos b = is ∙ ap (λ (z : ℤ). z *ℤ pos b) (to_z-of_z v a fits) in
+    let small : IsSmall (m * n) r = subst (λ (z : ℤ). IsSmall (m * n) z) (sym same) (product-small a (pos b) m n few less) in
+    subst (λ (z : ℤ). IsSmall (m * n) z) (sym (to_z-of_z u r (fits-small u r (m * n) small room))) small
+
 pub more-small : (z : ℤ) (m n : ℕ) → IsSmall m z → m ≤ n → IsSmall n z
 more-small z m n small room = (grind (arith, ints), grind (arith, ints))

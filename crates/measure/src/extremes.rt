@@ -157,6 +157,13 @@ fn product(coefficient: i64, word: u32) -> i128
     ensures value { result ≡ coefficient *ℤ pos word }
     ensures small { IsSmall (2 ^ 96) result }
 {
+    wide_product(coefficient, word)
+}
+
+/// The same, whatever its size.
+fn wide_product(coefficient: i64, word: u32) -> i128
+    ensures { result ≡ coefficient *ℤ pos word }
+{
     i128::from(coefficient) * i128::from(word)
 }
 
