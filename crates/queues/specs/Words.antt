@@ -73,12 +73,14 @@ abbrev pub linked_last : ℕ → List ℕ → Option ℕ → ℕ → ℕ → Lis
 linked_last base memory last queue thread =
     with_link_at base (with_link base (with_link base (with_link base memory thread 0 (word_of (Some queue))) thread 1 0) thread 2 (word_of last)) last 1 (word_of (Some thread))
 
+-- a thread taken out from between two others
+abbrev pub taken_between : ℕ → List ℕ → ℕ → Option ℕ → Option ℕ → List ℕ
+taken_between base memory thread before after =
+    with_link_at base (with_link_at base (with_link base memory thread 0 0) before 1 (word_of after)) after 2 (word_of before)
+
 -- a thread taken out from between its neighbours
 abbrev pub taken_out : ℕ → List ℕ → ℕ → List ℕ
-taken_out base memory thread =
-    let after = link_at base memory thread 1 in
-    let before = link_at base memory thread 2 in
-    with_link_at base (with_link_at base (with_link base memory thread 0 0) before 1 (word_of after)) after 2 (word_of before)
+taken_out base memory thread = taken_between base memory thread (link_at base memory thread 2) (link_at base memory thread 1)
 
 -- a thread that stands in no queue and is not ready
 abbrev pub without_links : List ℕ → ℕ → List ℕ

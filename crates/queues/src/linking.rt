@@ -4,7 +4,7 @@ ghost use Rattle.std.specs.Prelude.{ℕ, ◌≡◌, None, Some, length};
 ghost use Rattle.std.specs.Option.{ForSome};
 ghost use Rattle.links.specs.Threaded.{end_without, first_joined};
 ghost use Rattle.queues.specs.Layout.{AreLaidOut, IsHeadAt, IsThreadAt};
-ghost use Rattle.queues.specs.Words.{base_of, link_at, link_in, linked_last, taken_out, with_ends, without_links};
+ghost use Rattle.queues.specs.Words.{base_of, link_at, link_in, linked_last, taken_between, taken_out, with_ends, without_links};
 
 use crate::layout::Layout;
 use crate::words::{Ends, LinkWords, link, put_ends, put_link, put_link_at, word_of};
@@ -76,13 +76,32 @@ pub(crate) fn unlink<S: SlotStore>(store: &mut S, links: LinkWords, ends: Ends, 
 {
     let after = link(store, links, thread, NEXT);
     let before = link(store, links, thread, PREVIOUS);
-    put_link(store, links, thread, QUEUE, 0);
-    put_link_at(store, links, before, NEXT, word_of(after));
-    put_link_at(store, links, after, PREVIOUS, word_of(before));
+    part(store, links, thread, before, after);
     Ends {
         first: end_without(before, after, ends.first),
         last: end_without(after, before, ends.last),
     }
+}
+
+/// Takes a thread out from between these two.
+fn part<S: SlotStore>(
+    store: &mut S,
+    links: LinkWords,
+    thread: u32,
+    before: Option<u32>,
+    after: Option<u32>,
+)
+    requires there { IsThreadAt (S.slots store.old) (length (S.memory store.old)) thread }
+    requires behind { ForSome after (IsThreadAt (S.slots store.old) (length (S.memory store.old))) }
+    requires before { ForSome before (IsThreadAt (S.slots store.old) (length (S.memory store.old))) }
+    ensures bytes { S.memory store.new ≡ taken_between (base_of links) (S.memory store.old) thread before after }
+    ensures slots { S.slots store.new ≡ S.slots store.old }
+    ensures order { S.order store.new ≡ S.order store.old }
+    ensures size { length (S.memory store.new) ≡ length (S.memory store.old) }
+{
+    put_link(store, links, thread, QUEUE, 0);
+    put_link_at(store, links, before, NEXT, word_of(after));
+    put_link_at(store, links, after, PREVIOUS, word_of(before));
 }
 
 /// The end of a queue without a thread that has one neighbour towards that end, and another away from it.
