@@ -14,7 +14,7 @@ use Rattle.asm_line.specs.declared.lines.Line.{Line}
 use Rattle.asm_line.specs.declared.lines.Line.TheVariants as said
 use Rattle.asm_line.specs.declared.lines.Code.TheVariants as code
 use Rattle.asm_line.specs.Words.{◌>>=◌, within, name_of, name_first, object_first}
-use Rattle.asm_line.specs.Lines.{keyword_of, thread_keyword_of, memory_of, untyped_of, interrupt_of, table_of, frame_of, register_line_of, word, kind_of, kind_first, size_first, object_of, capability_of, content_of, all_numbers, all_words, some_numbers, thread_of, budget_of, range_of}
+use Rattle.asm_line.specs.Lines.{keyword_of, thread_keyword_of, memory_of, untyped_of, interrupt_of, table_of, frame_of, register_line_of, word, kind_of, kind_first, size_first, object_of, capability_of, content_of, all_numbers, all_words, some_numbers, thread_of, thread_words_of, thread_said, budget_of, range_of}
 use Rattle.asm_line.specs.Parsing.{line_of, line_for, plain_word_of, IsKnown}
 use Rattle.asm_line.specs.Listed.{IsWord}
 use Rattle.asm_line.proofs.PlainWords.{IsPlainWord, AllPlain, decimal-plain, is_plain, digits-plain, decimal-digits}
@@ -35,7 +35,7 @@ use Rattle.model.specs.Images.Image.{no_parent}
 use Rattle.asm_line.specs.declared.lines.Parent.{Parent}
 use Rattle.asm_line.specs.declared.lines.Parent.TheVariants as parent
 use Rattle.asm_line.specs.Words.{number_first}
-use Rattle.asm_line.specs.Lines.{parent_first, parent_with, slot_of, term_first, word_first}
+use Rattle.asm_line.specs.Lines.{parent_first, parent_with, slot_of, slot_words_of, slot_said, term_first, word_first}
 use Rattle.asm_line.proofs.NumberLaws.{name-digits}
 
 -- the words of a line, and that they say this
@@ -234,7 +234,7 @@ pub thread-says : (tcb cnode guard root priority budget fault base : ℕ) → Is
     → between 0 255 priority ≡ true → priority < 2 ^ 63 → between 1 (2 ^ 62) budget ≡ true → budget < 2 ^ 63 → IsWord fault → IsWord base
     → line_of (codes "thread" ∷ object_name tcb ∷ object_name cnode ∷ decimal guard ∷ object_name root ∷ decimal priority ∷ decimal budget ∷ decimal fault ∷ codes "l" ∷ decimal base ∷ [])
     ≡ Some (Ok (said.Thread (record { tcb = object_name tcb; cnode = object_name cnode; guard = guard; root = object_name root; priority = priority; budget = budget; fault = fault; entry = codes "l"; base = base })))
-unfolding line_of keyword_of line_for thread_of budget_of
+unfolding line_of keyword_of line_for thread_of thread_words_of thread_said budget_of
 thread-says tcb cnode guard root priority budget fault base a b d e h small k less f g =
     rw (first-object 111 tcb (object_name cnode ∷ decimal guard ∷ object_name root ∷ decimal priority ∷ decimal budget ∷ decimal fault ∷ codes "l" ∷ decimal base ∷ []) refl refl (wide tcb a))
     (rw (first-object 111 cnode (decimal guard ∷ object_name root ∷ decimal priority ∷ decimal budget ∷ decimal fault ∷ codes "l" ∷ decimal base ∷ []) refl refl (wide cnode b))
@@ -312,7 +312,7 @@ pub record Parented (first second : Text) (empty : Bool) (p : Parent) : Type 0 w
 slot-says : (cnode index word0 word1 : ℕ) (first second : Text) (p : Parent) → IsWord cnode → between 0 (2 ^ 14 - 1) index ≡ true → index < 2 ^ 63 → IsWord word0 → IsWord word1
     → Parented first second ((word0 == 0) && (word1 == 0)) p
     → line_of (codes "slot" ∷ object_name cnode ∷ decimal index ∷ decimal word0 ∷ decimal word1 ∷ first ∷ second ∷ []) ≡ Some (Ok (said.Slot (object_name cnode) index word0 word1 p))
-unfolding line_of keyword_of thread_keyword_of line_for slot_of
+unfolding line_of keyword_of thread_keyword_of line_for slot_of slot_words_of slot_said
 slot-says cnode index word0 word1 first second p a h small b d parented =
     rw (first-object 111 cnode (decimal index ∷ decimal word0 ∷ decimal word1 ∷ first ∷ second ∷ []) refl refl (wide cnode a))
     (rw (first-decimal index (decimal word0 ∷ decimal word1 ∷ first ∷ second ∷ []) small)

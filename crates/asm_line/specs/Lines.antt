@@ -12,6 +12,8 @@ use Rattle.asm_line.specs.declared.lines.Line.{Line}
 use Rattle.asm_line.specs.declared.lines.Line.TheVariants as line
 use Rattle.asm_line.specs.declared.lines.Parent.{Parent}
 use Rattle.asm_line.specs.declared.lines.Parent.TheVariants as parent
+use Rattle.asm_line.specs.declared.thread_lines.SlotWords.{SlotWords}
+use Rattle.asm_line.specs.declared.thread_lines.ThreadWords.{ThreadWords}
 use Rattle.asm_line.specs.Words.{◌>>=◌, ends, name_of, name_first, number_of, number_first, object_first, register_first, register_of, within}
 
 -- ---- keywords
@@ -175,8 +177,9 @@ unfoldable pub budget_of : ℤ → Result ℕ ℕ
 budget_of (pos n) = if nat_le 1 n && nat_le n (2 ^ 62) then Ok n else Err 4
 budget_of (negsuc n) = Err 4
 
-unfoldable pub thread_of : List Text → Result Line ℕ
-thread_of words = do
+-- the grammar of a line `thread`
+unfoldable pub thread_words_of : List Text → Result ThreadWords ℕ
+thread_words_of words = do
   tcb ← object_first words
   cnode ← object_first tcb.1
   guard ← number_first cnode.1
@@ -187,12 +190,20 @@ thread_of words = do
   entry ← name_first fault.1
   base ← number_first entry.1
   last ← ends base.1
-  guard_word ← word guard.0
-  priority_number ← within 0 255 priority.0
-  instructions ← budget_of budget.0
-  fault_word ← word fault.0
-  base_word ← word base.0
-  Ok (line.Thread (record { tcb = tcb.0; cnode = cnode.0; guard = guard_word; root = root.0; priority = priority_number; budget = instructions; fault = fault_word; entry = entry.0; base = base_word }))
+  Ok (record { tcb = tcb.0; cnode = cnode.0; guard = guard.0; root = root.0; priority = priority.0; budget = budget.0; fault = fault.0; entry = entry.0; base = base.0 })
+
+-- the ranges of its numbers
+unfoldable pub thread_said : ThreadWords → Result Line ℕ
+thread_said words = do
+  guard ← word words.guard
+  priority ← within 0 255 words.priority
+  budget ← budget_of words.budget
+  fault ← word words.fault
+  base ← word words.base
+  Ok (line.Thread (record { tcb = words.tcb; cnode = words.cnode; guard = guard; root = words.root; priority = priority; budget = budget; fault = fault; entry = words.entry; base = base }))
+
+unfoldable pub thread_of : List Text → Result Line ℕ
+thread_of words = thread_words_of words >>= thread_said
 
 unfoldable pub register_line_of : List Text → Result Line ℕ
 register_line_of words = do
@@ -225,8 +236,9 @@ abbrev pub parent_with : Bool → Parent → ℤ → Result Parent ℕ
 parent_with is_empty (parent.Boot) index = within 0 0 index >>= λ _. Ok parent.Boot
 parent_with is_empty (parent.Slot cnode _index) index = checked (not is_empty) >>= λ _. within 0 (2 ^ 14 - 1) index >>= λ number. Ok (parent.Slot cnode number)
 
-unfoldable pub slot_of : List Text → Result Line ℕ
-slot_of words = do
+-- the grammar of a line `slot`
+unfoldable pub slot_words_of : List Text → Result SlotWords ℕ
+slot_words_of words = do
   cnode ← object_first words
   index ← number_first cnode.1
   word0 ← number_first index.1
@@ -234,11 +246,19 @@ slot_of words = do
   parent ← parent_first word1.1
   parent_index ← number_first parent.1
   last ← ends parent_index.1
-  index_number ← within 0 (2 ^ 14 - 1) index.0
-  head ← word word0.0
-  second ← word word1.0
-  whole ← parent_with ((head == 0) && (second == 0)) parent.0 parent_index.0
-  Ok (line.Slot cnode.0 index_number head second whole)
+  Ok (record { cnode = cnode.0; index = index.0; word0 = word0.0; word1 = word1.0; parent = parent.0; parent_index = parent_index.0 })
+
+-- the ranges of its numbers
+unfoldable pub slot_said : SlotWords → Result Line ℕ
+slot_said words = do
+  index ← within 0 (2 ^ 14 - 1) words.index
+  word0 ← word words.word0
+  word1 ← word words.word1
+  parent ← parent_with ((word0 == 0) && (word1 == 0)) words.parent words.parent_index
+  Ok (line.Slot words.cnode index word0 word1 parent)
+
+unfoldable pub slot_of : List Text → Result Line ℕ
+slot_of words = slot_words_of words >>= slot_said
 
 unfoldable pub constant_of : ℤ → Result ℤ ℕ
 constant_of number = if is_constant number then Ok number else Err 4

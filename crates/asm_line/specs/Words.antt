@@ -64,6 +64,10 @@ abbrev pub magnitude : ℕ → Text → Result ℕ ℕ
 magnitude radix [] = Err 1
 magnitude radix (byte ∷ bytes) = value_on radix 0 (byte ∷ bytes)
 
+-- the same with no sign
+abbrev pub unsigned_of : ℕ → Text → Result ℤ ℕ
+unsigned_of radix digits = magnitude radix digits >>= λ n. Ok (pos n)
+
 abbrev pub is_minus : Text → Bool
 is_minus word = slice_index_or word 0 0 == 45
 
@@ -74,8 +78,8 @@ is_hexadecimal word = (slice_index_or word 0 0 == 48) && (slice_index_or word 1 
 unfoldable pub number_of : Text → Result ℤ ℕ
 number_of word =
     if is_minus word then (magnitude 10 (drop 1 word) >>= λ n. Ok (neg_ℤ (pos n))) else
-    if is_hexadecimal word then (magnitude 16 (drop 2 word) >>= λ n. Ok (pos n)) else
-    (magnitude 10 word >>= λ n. Ok (pos n))
+    if is_hexadecimal word then unsigned_of 16 (drop 2 word) else
+    unsigned_of 10 word
 
 unfoldable pub number_first : List Text → Result (ℤ × List Text) ℕ
 number_first [] = Err 1

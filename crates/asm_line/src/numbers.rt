@@ -1,7 +1,7 @@
 //! Numbers: decimal, with a minus sign before them, or hexadecimal behind `0x`.
 
 ghost use Rattle.std.specs.Prelude.{◌≡◌, ◌≤◌, ◌-◌, ◌^◌, IfOk};
-ghost use Rattle.asm_line.specs.Words.{digit_in, magnitude, number_of, within};
+ghost use Rattle.asm_line.specs.Words.{digit_in, magnitude, number_of, unsigned_of, within};
 
 use crate::faults::{RANGE, SYNTAX};
 
@@ -44,6 +44,14 @@ fn digits_value(digits: &[u8], radix: u64) -> Result<u64, u8>
     Ok(value)
 }
 
+/// The number that digits spell, with no sign.
+fn whole(digits: &[u8], radix: u64) -> Result<i64, u8>
+    requires { radix ≤ 16 }
+    ensures { result ≡ unsigned_of radix digits.now }
+{
+    Ok(digits_value(digits, radix)? as i64)
+}
+
 /// The number that a word is. A number of 2^63 or more counts as the greatest of 63 bits.
 #[tactic(auto, unfolding(crate::specs::Words::number_of))]
 pub(crate) fn number_in(word: &[u8]) -> Result<i64, u8>
@@ -51,8 +59,8 @@ pub(crate) fn number_in(word: &[u8]) -> Result<i64, u8>
 {
     match word {
         [b'-', digits @ ..] => Ok(-(digits_value(digits, 10)? as i64)),
-        [b'0', b'x', digits @ ..] => Ok(digits_value(digits, 16)? as i64),
-        digits => Ok(digits_value(digits, 10)? as i64),
+        [b'0', b'x', digits @ ..] => whole(digits, 16),
+        digits => whole(digits, 10),
     }
 }
 

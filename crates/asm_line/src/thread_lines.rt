@@ -5,12 +5,12 @@ ghost use Rattle.model.specs.Capabilities.CapabilityWords.{IsCapability, words_o
 ghost use Rattle.model.specs.declared.capabilities.Cap.{Cap};
 ghost use Rattle.asm_line.specs.declared.lines.Line.{Line};
 ghost use Rattle.asm_line.specs.Parsing.{IsKnown};
-ghost use Rattle.asm_line.specs.Lines.{budget_of, all_pairs, all_terms, coefficient_of, constant_of, measure_of, named_register, parent_first, parent_with, range_of, register_line_of, slot_of, term_first, term_of, thread_of};
+ghost use Rattle.asm_line.specs.Lines.{budget_of, all_pairs, all_terms, coefficient_of, constant_of, measure_of, named_register, parent_first, parent_with, range_of, register_line_of, slot_of, slot_said, slot_words_of, term_first, term_of, thread_of, thread_said, thread_words_of};
 
 use crate::faults::{RANGE, SYNTAX};
 use crate::keywords::is;
 use crate::lines::{Line, Parent, ThreadLine};
-use crate::names::name_in;
+use crate::names::{Name, name_in};
 use crate::numbers::{between, number_in, word};
 use crate::registers::register_in;
 use crate::words::Words;
@@ -28,10 +28,24 @@ fn budget_in(number: i64) -> Result<u64, u8>
     }
 }
 
-/// `thread TCB CNODE GUARD ROOT PRIORITY BUDGET FAULT LABEL BASE`
-#[tactic(auto, unfolding(crate::specs::Lines::thread_of))]
-pub(crate) fn thread(words: Words<'_>) -> Result<Line<'_>, u8>
-    ensures { result ≡ thread_of words.entry }
+/// The words of a line `thread`.
+#[derive(Drop)]
+struct ThreadWords<'a> {
+    tcb: Name<'a>,
+    cnode: Name<'a>,
+    guard: i64,
+    root: Name<'a>,
+    priority: i64,
+    budget: i64,
+    fault: i64,
+    entry: Name<'a>,
+    base: i64,
+}
+
+/// `thread TCB CNODE GUARD ROOT PRIORITY BUDGET FAULT LABEL BASE`, whatever its numbers.
+#[tactic(auto, unfolding(crate::specs::Lines::thread_words_of))]
+fn thread_words(words: Words<'_>) -> Result<ThreadWords<'_>, u8>
+    ensures { result ≡ thread_words_of words.entry }
 {
     let (tcb, words) = words.object()?;
     let (cnode, words) = words.object()?;
@@ -43,17 +57,48 @@ pub(crate) fn thread(words: Words<'_>) -> Result<Line<'_>, u8>
     let (entry, words) = words.name()?;
     let (base, words) = words.number()?;
     words.end()?;
-    Ok(Line::Thread(ThreadLine {
+    Ok(ThreadWords {
         tcb,
         cnode,
-        guard: word(guard)?,
+        guard,
         root,
-        priority: between(priority, 0, 255)?,
-        budget: budget_in(budget)?,
-        fault: word(fault)?,
+        priority,
+        budget,
+        fault,
         entry,
-        base: word(base)?,
+        base,
+    })
+}
+
+/// What the words of a line `thread` say, if its numbers are in their ranges.
+#[tactic(auto, unfolding(crate::specs::Lines::thread_said))]
+fn thread_in_ranges(words: ThreadWords<'_>) -> Result<Line<'_>, u8>
+    ensures { result ≡ thread_said words.entry }
+{
+    let guard = word(words.guard)?;
+    let priority = between(words.priority, 0, 255)?;
+    let budget = budget_in(words.budget)?;
+    let fault = word(words.fault)?;
+    let base = word(words.base)?;
+    Ok(Line::Thread(ThreadLine {
+        tcb: words.tcb,
+        cnode: words.cnode,
+        guard,
+        root: words.root,
+        priority,
+        budget,
+        fault,
+        entry: words.entry,
+        base,
     }))
+}
+
+/// `thread TCB CNODE GUARD ROOT PRIORITY BUDGET FAULT LABEL BASE`
+#[tactic(auto, unfolding(crate::specs::Lines::thread_of))]
+pub(crate) fn thread(words: Words<'_>) -> Result<Line<'_>, u8>
+    ensures { result ≡ thread_of words.entry }
+{
+    thread_in_ranges(thread_words(words)?)
 }
 
 /// A register that is not x0.
@@ -145,10 +190,21 @@ fn is_empty(word0: u32, word1: u32) -> bool
     word0 == 0 && word1 == 0
 }
 
-/// What a line `slot` says, by whatever words.
-#[tactic(auto, unfolding(crate::specs::Lines::slot_of))]
-fn slot_fields(words: Words<'_>) -> Result<Line<'_>, u8>
-    ensures { result ≡ slot_of words.entry }
+/// The words of a line `slot`.
+#[derive(Drop)]
+struct SlotWords<'a> {
+    cnode: Name<'a>,
+    index: i64,
+    word0: i64,
+    word1: i64,
+    parent: Parent<'a>,
+    parent_index: i64,
+}
+
+/// `slot CNODE INDEX WORD0 WORD1 PARENT INDEX`, whatever its numbers.
+#[tactic(auto, unfolding(crate::specs::Lines::slot_words_of))]
+fn slot_words(words: Words<'_>) -> Result<SlotWords<'_>, u8>
+    ensures { result ≡ slot_words_of words.entry }
 {
     let (cnode, words) = words.object()?;
     let (index, words) = words.number()?;
@@ -157,17 +213,40 @@ fn slot_fields(words: Words<'_>) -> Result<Line<'_>, u8>
     let (parent, words) = parent_and_rest(words)?;
     let (parent_index, words) = words.number()?;
     words.end()?;
-    let index = between(index, 0, (1 << 14) - 1)?;
-    let word0 = word(word0)?;
-    let word1 = word(word1)?;
-    let parent = whole_parent(is_empty(word0, word1), parent, parent_index)?;
-    Ok(Line::Slot {
+    Ok(SlotWords {
         cnode,
         index,
         word0,
         word1,
         parent,
+        parent_index,
     })
+}
+
+/// What the words of a line `slot` say, if its numbers are in their ranges.
+#[tactic(auto, unfolding(crate::specs::Lines::slot_said))]
+fn slot_in_ranges(words: SlotWords<'_>) -> Result<Line<'_>, u8>
+    ensures { result ≡ slot_said words.entry }
+{
+    let index = between(words.index, 0, (1 << 14) - 1)?;
+    let word0 = word(words.word0)?;
+    let word1 = word(words.word1)?;
+    let parent = whole_parent(is_empty(word0, word1), words.parent, words.parent_index)?;
+    Ok(Line::Slot {
+        cnode: words.cnode,
+        index,
+        word0,
+        word1,
+        parent,
+    })
+}
+
+/// What a line `slot` says, by whatever words of a capability.
+#[tactic(auto, unfolding(crate::specs::Lines::slot_of))]
+fn slot_fields(words: Words<'_>) -> Result<Line<'_>, u8>
+    ensures { result ≡ slot_of words.entry }
+{
+    slot_in_ranges(slot_words(words)?)
 }
 
 /// Whether two words are those of a capability.
