@@ -16,6 +16,16 @@ pub fn has_automatic_budget(line: &str) -> bool {
     word_at(line, 0) == Some("thread") && word_at(line, 6) == Some("auto")
 }
 
+/// Puts the line of such a thread behind a text, with the budget 1.
+fn put_thread(text: &mut String, line: &str) -> Result<(), AllocError> {
+    for place in 0..10 {
+        let word = word_at(line, place).unwrap_or("");
+        text.push_str(if place == 6 { "1" } else { word })?;
+        text.push_str(" ")?;
+    }
+    Ok(())
+}
+
 /// The text with the budget 1 for each one that is to be found. Its lines stand where they stood.
 pub fn with_budgets(alloc: Global, text: &str) -> Result<Budgets, AllocError> {
     let mut budgets = Budgets {
@@ -27,12 +37,7 @@ pub fn with_budgets(alloc: Global, text: &str) -> Result<Budgets, AllocError> {
         number = number.saturating_add(1);
         if has_automatic_budget(line) {
             budgets.lines.push(number)?;
-            for place in 0..10 {
-                let word = word_at(line, place).unwrap_or("");
-                let word = if place == 6 { "1" } else { word };
-                budgets.text.push_str(word)?;
-                budgets.text.push_str(" ")?;
-            }
+            put_thread(&mut budgets.text, line)?;
         } else {
             budgets.text.push_str(line)?;
         }

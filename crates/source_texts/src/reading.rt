@@ -7,7 +7,7 @@ use crate::declared::{
 use crate::faults::TextFault;
 use crate::names::{Named, Names};
 use crate::source_threads::{RecordLine, SourceThread};
-use asm_line::{Line, ThreadLine, parse_line};
+use asm_line::{Line, Name, ThreadLine, parse_line};
 use std::alloc::Global;
 
 /// What is read of a text up to some line.
@@ -39,64 +39,155 @@ impl<'a> Reader<'a> {
         }
     }
 
+    fn add_untyped(&mut self, name: Name<'a>, offset: u32, bits: u32) -> Result<(), TextFault> {
+        let number = self.text.untypeds.len();
+        let name = self.names.add(&name, Named::Untyped(number))?;
+        self.text.untypeds.push(UntypedLine {
+            line: self.names.line,
+            name,
+            offset,
+            bits,
+        })?;
+        Ok(())
+    }
+
+    fn add_object(
+        &mut self,
+        name: Name<'a>,
+        untyped: Name<'a>,
+        kind: u32,
+        size: u32,
+    ) -> Result<(), TextFault> {
+        let number = self.text.objects.len();
+        let untyped = self.names.untyped(&untyped)?;
+        let name = self.names.add(&name, Named::Object(number))?;
+        self.text.objects.push(ObjectLine {
+            line: self.names.line,
+            name,
+            untyped,
+            kind,
+            size,
+        })?;
+        Ok(())
+    }
+
+    fn add_interrupt(
+        &mut self,
+        name: Name<'a>,
+        machine_line: u32,
+        notification: Name<'a>,
+        badge: u32,
+    ) -> Result<(), TextFault> {
+        let number = self.text.interrupts.len();
+        let notification = self.names.object(&notification)?;
+        let name = self.names.add(&name, Named::Interrupt(number))?;
+        self.text.interrupts.push(InterruptLine {
+            line: self.names.line,
+            name,
+            number: machine_line,
+            notification,
+            badge,
+        })?;
+        Ok(())
+    }
+
     /// A line of untyped memory, an object or an interrupt.
     fn declare(&mut self, said: Line<'a>) -> Result<(), TextFault> {
-        let line = self.names.line;
         match said {
-            Line::Untyped { name, entry } => {
-                let number = self.text.untypeds.len();
-                let name = self.names.add(&name, Named::Untyped(number))?;
-                self.text.untypeds.push(UntypedLine {
-                    line,
-                    name,
-                    offset: entry.offset,
-                    bits: entry.bits,
-                })?;
-                Ok(())
-            }
+            Line::Untyped { name, entry } => self.add_untyped(name, entry.offset, entry.bits),
             Line::Object {
                 name,
                 untyped,
                 kind,
                 size,
-            } => {
-                let number = self.text.objects.len();
-                let untyped = self.names.untyped(&untyped)?;
-                let name = self.names.add(&name, Named::Object(number))?;
-                self.text.objects.push(ObjectLine {
-                    line,
-                    name,
-                    untyped,
-                    kind,
-                    size,
-                })?;
-                Ok(())
-            }
+            } => self.add_object(name, untyped, kind, size),
             Line::Interrupt {
                 name,
-                line: machine_line,
+                line,
                 notification,
                 badge,
-            } => {
-                let number = self.text.interrupts.len();
-                let notification = self.names.object(&notification)?;
-                let name = self.names.add(&name, Named::Interrupt(number))?;
-                self.text.interrupts.push(InterruptLine {
-                    line,
-                    name,
-                    number: machine_line,
-                    notification,
-                    badge,
-                })?;
-                Ok(())
-            }
+            } => self.add_interrupt(name, line, notification, badge),
             said => self.bind(said),
         }
     }
 
+    /// What a capability is to: an object or an interrupt.
+    fn source(&self, name: Name<'a>) -> Result<Source, TextFault> {
+        match self.names.named(&name)? {
+            Named::Object(number) => Ok(Source::Object(number)),
+            Named::Interrupt(number) => Ok(Source::Interrupt(number)),
+            Named::Untyped(_) => Err(self.names.fault()),
+        }
+    }
+
+    fn add_capability(
+        &mut self,
+        cnode: Name<'a>,
+        index: u32,
+        source: Name<'a>,
+        rights: u32,
+        payload: u32,
+    ) -> Result<(), TextFault> {
+        let source = self.source(source)?;
+        let cnode = self.names.object(&cnode)?;
+        self.text.capabilities.push(CapabilityLine {
+            line: self.names.line,
+            cnode,
+            index,
+            source,
+            rights,
+            payload,
+        })?;
+        Ok(())
+    }
+
+    fn add_table(
+        &mut self,
+        root: Name<'a>,
+        address: u32,
+        table: Name<'a>,
+    ) -> Result<(), TextFault> {
+        let root = self.names.object(&root)?;
+        let table = self.names.object(&table)?;
+        self.text.tables.push(TableLine {
+            line: self.names.line,
+            root,
+            address,
+            table,
+        })?;
+        Ok(())
+    }
+
+    fn add_frame(
+        &mut self,
+        root: Name<'a>,
+        address: u32,
+        frame: Name<'a>,
+        rights: u32,
+    ) -> Result<(), TextFault> {
+        let root = self.names.object(&root)?;
+        let frame = self.names.object(&frame)?;
+        self.text.frames.push(FrameLine {
+            line: self.names.line,
+            root,
+            address,
+            frame,
+            rights,
+        })?;
+        Ok(())
+    }
+
+    fn add_content(&mut self, frame: Name<'a>) -> Result<(), TextFault> {
+        let frame = self.names.object(&frame)?;
+        self.text.contents.push(ContentLine {
+            line: self.names.line,
+            frame,
+        })?;
+        Ok(())
+    }
+
     /// A line that puts objects into one another.
     fn bind(&mut self, said: Line<'a>) -> Result<(), TextFault> {
-        let line = self.names.line;
         match said {
             Line::Capability {
                 cnode,
@@ -104,50 +195,21 @@ impl<'a> Reader<'a> {
                 source,
                 rights,
                 payload,
-            } => {
-                let source = match self.names.named(&source)? {
-                    Named::Object(number) => Source::Object(number),
-                    Named::Interrupt(number) => Source::Interrupt(number),
-                    Named::Untyped(_) => return Err(self.names.fault()),
-                };
-                self.text.capabilities.push(CapabilityLine {
-                    line,
-                    cnode: self.names.object(&cnode)?,
-                    index,
-                    source,
-                    rights,
-                    payload,
-                })?;
-            }
+            } => self.add_capability(cnode, index, source, rights, payload),
             Line::Table {
                 root,
                 address,
                 table,
-            } => self.text.tables.push(TableLine {
-                line,
-                root: self.names.object(&root)?,
-                address,
-                table: self.names.object(&table)?,
-            })?,
+            } => self.add_table(root, address, table),
             Line::Frame {
                 root,
                 address,
                 frame,
                 rights,
-            } => self.text.frames.push(FrameLine {
-                line,
-                root: self.names.object(&root)?,
-                address,
-                frame: self.names.object(&frame)?,
-                rights,
-            })?,
-            Line::Content { frame, words: _ } => self.text.contents.push(ContentLine {
-                line,
-                frame: self.names.object(&frame)?,
-            })?,
-            _ => {}
+            } => self.add_frame(root, address, frame, rights),
+            Line::Content { frame, words: _ } => self.add_content(frame),
+            _ => Ok(()),
         }
-        Ok(())
     }
 
     /// The line with which a thread begins.
@@ -169,17 +231,22 @@ impl<'a> Reader<'a> {
         Ok(())
     }
 
+    /// The line with which a thread ends.
+    fn end(&mut self) -> Result<(), TextFault> {
+        match self.open.take() {
+            Some(thread) => {
+                self.text.threads.push(thread)?;
+                Ok(())
+            }
+            None => Err(self.names.fault()),
+        }
+    }
+
     /// A line inside a thread, or one that begins or ends it.
     fn add(&mut self, said: Line<'a>) -> Result<(), TextFault> {
         match said {
             Line::Thread(said) => self.begin(said),
-            Line::End => match self.open.take() {
-                Some(thread) => {
-                    self.text.threads.push(thread)?;
-                    Ok(())
-                }
-                None => Err(self.names.fault()),
-            },
+            Line::End => self.end(),
             Line::Code { .. } => self.add_point(),
             Line::Measure { .. } => self.add_record(),
             Line::Blank
@@ -189,6 +256,23 @@ impl<'a> Reader<'a> {
             | Line::Slot { .. }
             | Line::Label(_) => Ok(()),
             said => self.declare(said),
+        }
+    }
+
+    /// The next line of the text.
+    fn add_text(&mut self, line: &'a str) -> Result<(), TextFault> {
+        self.names.line = self.names.line.saturating_add(1);
+        match parse_line(line) {
+            Ok(said) => self.add(said),
+            Err(_) => Err(self.names.fault()),
+        }
+    }
+
+    /// What was read, once the last thread is at its end.
+    fn finish(self) -> Result<SourceText<'a>, TextFault> {
+        match self.open {
+            Some(_) => Err(self.names.fault()),
+            None => Ok(self.text),
         }
     }
 
@@ -227,14 +311,7 @@ impl<'a> Reader<'a> {
 pub fn read<'a>(alloc: Global, text: &'a str) -> Result<SourceText<'a>, TextFault> {
     let mut reader = Reader::new(alloc);
     for line in text.lines() {
-        reader.names.line = reader.names.line.saturating_add(1);
-        match parse_line(line) {
-            Ok(said) => reader.add(said)?,
-            Err(_) => return Err(reader.names.fault()),
-        }
+        reader.add_text(line)?;
     }
-    match reader.open {
-        Some(_) => Err(reader.names.fault()),
-        None => Ok(reader.text),
-    }
+    reader.finish()
 }
