@@ -8,7 +8,7 @@ use Rattle.std.proofs.lemmas.Option.{slice_get-get_or, same_Some}
 use Rattle.std.proofs.lemmas.List.Sums.{position_or_len_is}
 use Rattle.model.specs.declared.entries.CapabilityEntry.{CapabilityEntry}
 use Rattle.model.specs.declared.entries.InterruptEntry.{InterruptEntry}
-use Rattle.model.specs.Images.Image.{Image, Thread, content_format, whole_image}
+use Rattle.model.specs.Images.Image.{Image, content_format, whole_image}
 use Rattle.model.specs.Images.Places.{is_handler, interrupt_of}
 use Rattle.format_laws.specs.Fitting.{IsFitting}
 use Rattle.format_laws.proofs.Laws.{is-fitting, many-length}
@@ -17,7 +17,7 @@ use Rattle.assembly.specs.declared.declarations.Capability.{Capability}
 use Rattle.assembly.specs.declared.names.Source.{Source}
 use Rattle.assembly.specs.declared.names.Source.TheVariants.{Object, Handler}
 use Rattle.assembly.specs.Drafts.{Draft, assembled, capability_of, counted_header, declared_of, draft_of, line_of_interrupt, source_said}
-use Rattle.assembly.specs.Sections.{Declared, HasNumber, entry_of, number_of_source, on_line}
+use Rattle.assembly.specs.Sections.{HasNumber, entry_of, number_of_source, on_line}
 use Rattle.assembly.proofs.SectionFits.{SectionsFit, sections-fit}
 
 -- ---- capabilities

@@ -71,17 +71,17 @@ IsThreadLine labels number names o line.End = MayEnd o
 IsThreadLine labels number names o _ = ⊥
 
 -- the thread behind a line of it that is not its last one
-abbrev pub thread_behind : Draft → OpenDraft → Line → OpenDraft
-thread_behind d o (line.Register entry) = with_register o entry
-thread_behind d o (line.Measure constant terms) = with_measure o constant terms
-thread_behind d o (line.Range entry) = with_range o entry
-thread_behind d o (line.Slot cnode index word0 word1 parent) = with_slot o (slot_entry d.declared.names cnode index word0 word1 parent)
-thread_behind d o (line.Code label code) = with_word o (plain_word code)
-thread_behind d o _ = o
+abbrev pub thread_behind : KnownNames → OpenDraft → Line → OpenDraft
+thread_behind names o (line.Register entry) = with_register o entry
+thread_behind names o (line.Measure constant terms) = with_measure o constant terms
+thread_behind names o (line.Range entry) = with_range o entry
+thread_behind names o (line.Slot cnode index word0 word1 parent) = with_slot o (slot_entry names cnode index word0 word1 parent)
+thread_behind names o (line.Code label code) = with_word o (plain_word code)
+thread_behind names o _ = o
 
 abbrev pub with_thread_line : Draft → OpenDraft → Line → Draft
 with_thread_line d o line.End = record d { threads = d.threads ++ o.thread ∷ [] }
-with_thread_line d o said = record d { open_thread = Some (thread_behind d o said) }
+with_thread_line d o said = record d { open_thread = Some (thread_behind d.declared.names o said) }
 
 -- ---- all lines
 

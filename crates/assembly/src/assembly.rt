@@ -1,11 +1,12 @@
 //! An image whose lines are being read.
 
-ghost use Rattle.std.specs.Prelude.{◌≡◌, ◌<◌, true, length, IfOk, Some};
+ghost use Rattle.std.specs.Prelude.{◌≡◌, ◌<◌, true, length, map, IfOk, Ok, Some};
 ghost use Rattle.model.specs.Images.Image as described;
 ghost use Rattle.model.specs.Images.Image.{whole_image};
 ghost use Rattle.assembly.specs.Drafts.{assembled, draft_of, nothing_read};
 ghost use Rattle.assembly.specs.Outcomes.{Gives};
 ghost use Rattle.assembly.specs.Reading.{IsDeclaration, IsFirst, IsInPlace, IsThreadLine, MayBeginThread, labels_at, with_declaration, with_first, with_line, with_thread_line};
+ghost use Rattle.assembly.specs.Sections.{entry_of};
 ghost use Rattle.assembly.specs.Threads.{thread_begun};
 
 use crate::declarations::Declarations;
@@ -169,35 +170,39 @@ impl<'a> Assembly<'a> {
     ) -> Result<(), Fault>
         ensures { length self.old.threads < length labels.now → IsThreadLine (labels_at labels.now (length self.old.threads)) number self.old.declared.names thread line.entry → Gives result (λ _. self.new ≡ with_thread_line self.old thread line.entry) }
     {
+        if let Line::End = &line {
+            self.threads.push(thread.end()?)?;
+            return Ok(());
+        }
         let Some(labels) = labels.get(self.threads.len()) else {
             return Err(Fault::UnknownName);
         };
-        match line {
-            Line::Register(entry) => thread.add_register(entry)?,
-            Line::Measure { constant, terms } => thread.add_measure(self.alloc, constant, terms)?,
-            Line::Range(entry) => thread.add_range(entry)?,
-            Line::Slot {
-                cnode,
-                index,
-                word0,
-                word1,
-                parent,
-            } => thread.add_slot(&self.declared.names, cnode, index, [word0, word1], parent)?,
-            Line::Label(name) => labels.check_first(&name, number)?,
-            Line::Code { label, code } => {
-                if let Some(name) = label {
-                    labels.check_first(&name, number)?;
-                }
-                thread.add_code(code, labels)?;
-            }
-            Line::End => {
-                self.threads.push(thread.end()?)?;
-                return Ok(());
-            }
-            _ => return Err(Fault::Syntax),
-        }
+        thread.add(self.alloc, line, number, &self.declared.names, labels)?;
         self.open = Some(thread);
         Ok(())
+    }
+
+    /// What the first line says, and the capabilities, if the last thread is at its end.
+    fn first_and_capabilities(&self) -> Result<(Memory, Vec<CapabilityEntry>), Fault>
+        ensures { (listed : described.Image) → whole_image.fits listed ≡ true → self.now ≡ draft_of listed
+            → Gives result (λ found. (self.now.memory ≡ Some found.0) × (found.1.items ≡ map (entry_of self.now.declared) self.now.declared.capabilities)) }
+    {
+        match (self.memory, &self.open) {
+            (Some(memory), None) => Ok((memory, self.declared.capability_entries(self.alloc)?)),
+            _ => Err(Fault::Syntax),
+        }
+    }
+
+    /// The image with these capabilities.
+    fn image(self, memory: Memory, capabilities: Vec<CapabilityEntry>) -> Result<Image, Fault>
+        ensures fits { IfOk result (λ image. whole_image.fits image ≡ true) }
+        ensures listed { whole_image.fits (assembled memory self.entry.declared capabilities.items self.entry.threads) ≡ true
+            → result ≡ Ok (assembled memory self.entry.declared capabilities.items self.entry.threads) }
+    {
+        match Image::checked(parts_of(memory, self.declared, capabilities, self.threads)) {
+            Ok(image) => Ok(image),
+            Err(_) => Err(Fault::Range),
+        }
     }
 
     /// The image behind the last line.
@@ -210,17 +215,9 @@ impl<'a> Assembly<'a> {
         ensures fits { IfOk result (λ image. whole_image.fits image ≡ true) }
         ensures listed { (listed : described.Image) → whole_image.fits listed ≡ true → self.entry ≡ draft_of listed → Gives result (λ image. image ≡ listed) }
     {
-        let Some(memory) = self.memory else {
-            return Err(Fault::Syntax);
-        };
-        if self.open.is_some() {
-            return Err(Fault::Syntax);
-        }
-        let capabilities = self.declared.capability_entries(self.alloc)?;
-        let parts = parts_of(memory, self.declared, capabilities, self.threads);
-        match Image::checked(parts) {
-            Ok(image) => Ok(image),
-            Err(_) => Err(Fault::Range),
+        match self.first_and_capabilities() {
+            Ok((memory, capabilities)) => self.image(memory, capabilities),
+            Err(fault) => Err(fault),
         }
     }
 }

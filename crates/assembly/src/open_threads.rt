@@ -1,15 +1,17 @@
 //! A thread whose lines are being read.
 
-ghost use Rattle.std.specs.Prelude.{◌≡◌, ◌-ℤ◌, ◌*ℤ◌, pos, IfOk, ◌<◌, ◌≤◌, [], ◌++◌, length, Ok, slice_index};
+ghost use Rattle.std.specs.Prelude.{◌≡◌, ◌≢◌, ◌-ℤ◌, ◌*ℤ◌, pos, IfOk, ◌<◌, ◌≤◌, [], ◌++◌, length, Ok, slice_index};
 ghost use Rattle.asm_line.specs.Lines.{all_terms};
+ghost use Rattle.asm_line.specs.declared.lines.Line.TheVariants as said;
 ghost use Rattle.assembly.specs.Outcomes.{Gives};
+ghost use Rattle.assembly.specs.Reading.{IsThreadLine, thread_behind};
 ghost use Rattle.assembly.specs.Threads.{AreBehind, HasParent, IsPlain, MayAddCode, MayAddMeasure, MayAddRange, MayAddRegister, MayAddSlot, MayBegin, MayEnd, parent_numbers, plain_word, record_begun, slot_entry, term_key, terms_of, thread_begun, with_measure, with_range, with_register, with_slot, with_word};
 
 use crate::faults::Fault;
 use crate::keys::insert;
 use crate::labels::Labels;
 use crate::names::Names;
-use asm_line::{Code, Name, Parent, ThreadLine, Words};
+use asm_line::{Code, Line, Name, Parent, ThreadLine, Words};
 use image::{RecordParts, ThreadParts};
 use model::{Instr, RangeEntry, RegisterEntry, SlotEntry, TermEntry};
 use rv32_isa::{encode, has_spelling};
@@ -242,6 +244,39 @@ impl OpenThread {
             self.parts.records.push(record)?;
         }
         Ok(())
+    }
+
+    /// Adds what a line says that is not the thread's last one.
+    pub(crate) fn add<'a>(
+        &mut self,
+        alloc: Global,
+        line: Line<'a>,
+        number: u64,
+        names: &Names<'a>,
+        labels: &Labels<'a>,
+    ) -> Result<(), Fault>
+        ensures { line.entry ≢ said.End → IsThreadLine labels.now number names.now self.old line.entry → Gives result (λ _. self.new ≡ thread_behind names.now self.old line.entry) }
+    {
+        match line {
+            Line::Register(entry) => self.add_register(entry),
+            Line::Measure { constant, terms } => self.add_measure(alloc, constant, terms),
+            Line::Range(entry) => self.add_range(entry),
+            Line::Slot {
+                cnode,
+                index,
+                word0,
+                word1,
+                parent,
+            } => self.add_slot(names, cnode, index, [word0, word1], parent),
+            Line::Label(name) => labels.check_first(&name, number),
+            Line::Code { label, code } => {
+                if let Some(name) = label {
+                    labels.check_first(&name, number)?;
+                }
+                self.add_code(code, labels)
+            }
+            _ => Err(Fault::Syntax),
+        }
     }
 
     /// The thread at its line `end`.
