@@ -1,4 +1,4 @@
-//! Capability slots, lookup, decoding, CNodes and address spaces over a plain table of slots, and packed slots beside that.
+//! Capability slots, lookup, decoding, CNodes and address spaces over a plain table of slots.
 
 mod asking;
 mod changes;
@@ -9,5 +9,4 @@ mod lookups;
 mod mappings;
 mod nodes;
 mod rows;
-mod side_by_side;
 mod trees;
