@@ -4,7 +4,14 @@ use crate::commands::Failure;
 use asm::assemble;
 use files::{read_text, write_bytes};
 use image::write;
+use std::alloc::Global;
 use std::rt::Files;
+
+/// The bytes of the image of a text.
+fn image_bytes<'a>(alloc: Global, text: &str) -> Result<Vec<u8>, Failure<'a>> {
+    let built = assemble(alloc, text)?;
+    Ok(write(alloc, &built)?)
+}
 
 /// Builds the image of a text, and writes it to a file. The file is not touched before the whole image is there.
 ///
@@ -18,8 +25,6 @@ pub(crate) fn build<'a, R: Files + AllocGlobal>(
     image: &'a str,
 ) -> Result<(), Failure<'a>> {
     let text = read_text(rt, source)?;
-    let built = assemble(rt.alloc(), text.as_str())?;
-    let bytes = write(rt.alloc(), &built)?;
-    write_bytes(rt, image, bytes.as_slice())?;
-    Ok(())
+    let bytes = image_bytes(rt.alloc(), text.as_str())?;
+    Ok(write_bytes(rt, image, bytes.as_slice())?)
 }

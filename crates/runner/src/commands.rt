@@ -16,7 +16,7 @@ use asm::SourceFault;
 use command_line::{Request, parse};
 use console::{DONE, WordsFault, failed, refused, words, wrong_words};
 use files::{FileFault, read_bytes};
-use model::{BootFault, Refusal};
+use model::{BootFault, Event, Refusal};
 use sinks::{EventsFault, Sink, SinkFault, events, put_all};
 use std::alloc::{AllocError, Global};
 use std::convert::AsStr;
@@ -175,6 +175,12 @@ fn verify_file<'a, R: Files + AllocGlobal, W: Sink>(
     Ok(put_all(output, b"accepted\n")?)
 }
 
+/// The events of a file.
+fn events_in<'a, R: Files + AllocGlobal>(rt: &R, list: &'a str) -> Result<Vec<Event>, Failure<'a>> {
+    let text = read_bytes(rt, list)?;
+    Ok(events(rt.alloc(), text.as_slice())?)
+}
+
 /// Runs the image of a file over a list of events.
 fn run_file<'a, R: Files + AllocGlobal, W: Sink>(
     rt: &R,
@@ -184,8 +190,7 @@ fn run_file<'a, R: Files + AllocGlobal, W: Sink>(
     output: &mut W,
 ) -> Result<(), Failure<'a>> {
     let bytes = read_bytes(rt, image)?;
-    let text = read_bytes(rt, list)?;
-    let events = events(rt.alloc(), text.as_slice())?;
+    let events = events_in(rt, list)?;
     if unverified {
         run_unverified(rt.alloc(), bytes.as_slice(), events.as_slice(), output)?;
     } else {
