@@ -1,11 +1,11 @@
--- What Mint answers, and what a child leaves.
-use Rattle.std.proofs.Common.{ℕ, ◌≡◌, ◌∙◌, ◌<◌, ◌↔◌, Bool, true, false, not, Some, Result, Ok, Err, IsOk, OnOk, OnErr, refl, sym, ap, subst}
+-- What Copy and Mint answer, and what a child leaves.
+use Rattle.std.proofs.Common.{ℕ, ◌≡◌, ◌∙◌, ◌<◌, ◌↔◌, Bool, true, false, not, Some, List, Result, Ok, Err, IsOk, OnOk, OnErr, refl, sym, ap, subst}
 use Rattle.std.specs.Prelude.{nat_lt}
 use Rattle.std.proofs.lemmas.Bool.{lt-ltb, ltb-true}
 use Rattle.model.specs.Capabilities.CapabilityKinds.{badge_fits, copied, guard_fits, is_badged, may_be_copied, with_payload}
-use Rattle.model.specs.Capabilities.Slots.{Slots, capability_at, depth_of, inserted}
+use Rattle.model.specs.Capabilities.Slots.{SameOutside, Slots, capability_at, depth_of, inserted}
 use Rattle.model.specs.Kernel.Arguments.{◌>>=◌, Call, check, destination_slot, may_have_child, source_slot}
-use Rattle.model.specs.Kernel.CNodeCalls.{mint}
+use Rattle.model.specs.Kernel.CNodeCalls.{copy, mint}
 use Rattle.model.specs.Kernel.State.{State, with_slots}
 use Rattle.model.specs.declared.capabilities.Cap.{Cap}
 use Rattle.model.specs.declared.errors.KError.{KError}
@@ -13,7 +13,7 @@ use Rattle.model.specs.declared.errors.KError.TheVariants.{IllegalOperation, Ran
 use Rattle.model.specs.declared.invocations.SlotName.{SlotName}
 use Rattle.cnode_ops.specs.Nodes.{CNodesAreOpen, HasOpenSlots}
 use Rattle.model.specs.Kernel.Outcomes.{Gives}
-use Rattle.cap_copies.specs.Copies.{minted_copy_of}
+use Rattle.cap_copies.specs.Copies.{copy_of, minted_copy_of}
 use Rattle.cnode_ops.specs.Results.{named_slots}
 use Rattle.cnode_ops.proofs.Kept.{nodes-put}
 
@@ -38,6 +38,11 @@ pub child-nodes : {T : Type 0} (slots_of : T → Slots) (old new : T) (to from :
 child-nodes slots_of old new to from made (Ok x) put same nodes here = subst CNodesAreOpen (sym put) (nodes-put (slots_of old) to made (Some from) nodes here)
 child-nodes slots_of old new to from made (Err e) put same nodes here = subst CNodesAreOpen (sym (ap slots_of same)) nodes
 
+pub child-bytes : {T : Type 0} (slots : Slots) (memory_of : T → List ℕ) (old new : T) (result : Result (Unit {0}) KError) → OnOk result (SameOutside slots (memory_of old) (memory_of new)) → OnErr result (new ≡ old) → SameOutside slots (memory_of old) (memory_of new)
+child-bytes slots memory_of old new (Ok x) bytes same = bytes
+child-bytes slots memory_of old new (Err e) bytes same =
+    subst (λ m. SameOutside slots (memory_of old) m) (sym (ap memory_of same)) (record { size = refl; bytes = λ place closed. refl })
+
 -- ---- Mint
 
 -- the checks between the slots and the depth are those of the copy
@@ -47,6 +52,10 @@ minted-checks true false fits guards made next = refl
 minted-checks true true false guards made next = refl
 minted-checks true true true false made next = refl
 minted-checks true true true true made next = refl
+
+copied-checks : (copies : Bool) (made : Cap) (next : Cap → Result State KError) → (check copies IllegalOperation >>= λ _. next made) ≡ ((check copies IllegalOperation >>= λ _. Ok made) >>= next)
+copied-checks false made next = refl
+copied-checks true made next = refl
 
 -- behind the slots
 abbrev behind_slots : State → Slots → ℕ → ℕ → ℕ → ℕ → Result State KError
@@ -66,15 +75,52 @@ named-parts (Ok d) (Ok f) to from next is =
     let same : (d, f) ≡ (to, from) = cc in
     ap (λ (p : ℕ × ℕ). next p.0 p.1) same
 
+named-refused : (destination source : Result ℕ KError) (error : KError) (next : ℕ → ℕ → Result State KError) → both destination source ≡ Err error → (destination >>= λ d. source >>= λ f. next d f) ≡ Err error
+named-refused (Err e) source error next is = cc
+named-refused (Ok d) (Err e) error next is = cc
+named-refused (Ok d) (Ok f) error next is = absurd (cc)
+
+-- what goes on behind the slots that a call names, and the error where it names none
+module _ (slots : Slots) (call : Call) (root node : Cap) (destination source : SlotName) (next : ℕ → ℕ → Result State KError) (same_root : call.root ≡ root) (same_node : call.capability ≡ node) where
+  names-same : named_slots slots call.root call.capability destination source ≡ named_slots slots root node destination source
+  names-same = ap (λ (r : Cap). named_slots slots r call.capability destination source) same_root ∙ ap (λ (n : Cap). named_slots slots root n destination source) same_node
+
+  pub behind-names : (to from : ℕ) → named_slots slots root node destination source ≡ Ok (to, from) → (destination_slot slots call.capability destination >>= λ d. source_slot slots call.root source >>= λ f. next d f) ≡ next to from
+  behind-names to from named = named-parts (destination_slot slots call.capability destination) (source_slot slots call.root source) to from next (names-same ∙ named)
+
+  pub names-refused : (error : KError) → named_slots slots root node destination source ≡ Err error → (destination_slot slots call.capability destination >>= λ d. source_slot slots call.root source >>= λ f. next d f) ≡ Err error
+  names-refused error refused = named-refused (destination_slot slots call.capability destination) (source_slot slots call.root source) error next (names-same ∙ refused)
+
 mint-behind : (s : State) (slots : Slots) (call : Call) (destination source : SlotName) (word payload to from : ℕ) → mint (with_slots s slots) call destination source word payload ≡ (destination_slot slots call.capability destination >>= λ to. source_slot slots call.root source >>= λ from. behind_slots s slots word payload to from)
 mint-behind s slots call destination source word payload to from =
     ap (λ (next : ℕ → ℕ → Result State KError). destination_slot slots call.capability destination >>= λ to. source_slot slots call.root source >>= λ from. next to from)
     (λ i to from. minted-checks (may_be_copied (capability_at slots from)) (not (is_badged (capability_at slots from))) (badge_fits (capability_at slots from) payload) (guard_fits (capability_at slots from) payload) (with_payload (copied (capability_at slots from) word) payload) (child s slots to from) i)
 
-pub mint-gives : (s : State) (slots : Slots) (call : Call) (root node : Cap) (destination source : SlotName) (word payload to from : ℕ) (made : Cap) → call.root ≡ root → call.capability ≡ node → named_slots slots root node destination source ≡ Ok (to, from) → minted_copy_of (capability_at slots from) word payload ≡ Ok made → mint (with_slots s slots) call destination source word payload ≡ child s slots to from made
-mint-gives s slots call root node destination source word payload to from made same_root same_node named minted =
-    let here : named_slots slots call.root call.capability destination source ≡ Ok (to, from) =
-    ap (λ (r : Cap). named_slots slots r call.capability destination source) same_root ∙ ap (λ (n : Cap). named_slots slots root n destination source) same_node ∙ named in
-    mint-behind s slots call destination source word payload to from
-    ∙ named-parts (destination_slot slots call.capability destination) (source_slot slots call.root source) to from (behind_slots s slots word payload) here
-    ∙ ap (λ (r : Result Cap KError). r >>= child s slots to from) minted
+module _ (s : State) (slots : Slots) (call : Call) (root node : Cap) (destination source : SlotName) (word : ℕ) (same_root : call.root ≡ root) (same_node : call.capability ≡ node) where
+  -- what a copy of the source gives, or its error
+  pub mint-gives : (payload to from : ℕ) (minted : Result Cap KError) → named_slots slots root node destination source ≡ Ok (to, from) → minted_copy_of (capability_at slots from) word payload ≡ minted
+      → mint (with_slots s slots) call destination source word payload ≡ (minted >>= child s slots to from)
+  mint-gives payload to from minted named is =
+      mint-behind s slots call destination source word payload to from
+      ∙ behind-names slots call root node destination source (behind_slots s slots word payload) same_root same_node to from named
+      ∙ ap (λ (r : Result Cap KError). r >>= child s slots to from) is
+
+  pub mint-unnamed : (payload : ℕ) (error : KError) → named_slots slots root node destination source ≡ Err error → mint (with_slots s slots) call destination source word payload ≡ Err error
+  mint-unnamed payload error refused =
+      mint-behind s slots call destination source word payload 0 0
+      ∙ names-refused slots call root node destination source (behind_slots s slots word payload) same_root same_node error refused
+
+  -- ---- Copy
+
+  abbrev copied_behind : ℕ → ℕ → Result State KError
+  copied_behind to from = check (may_be_copied (capability_at slots from)) IllegalOperation >>= λ _. child s slots to from (copied (capability_at slots from) word)
+
+  pub copy-gives : (to from : ℕ) (made : Result Cap KError) → named_slots slots root node destination source ≡ Ok (to, from) → copy_of (capability_at slots from) word ≡ made
+      → copy (with_slots s slots) call destination source word ≡ (made >>= child s slots to from)
+  copy-gives to from made named is =
+      behind-names slots call root node destination source copied_behind same_root same_node to from named
+      ∙ copied-checks (may_be_copied (capability_at slots from)) (copied (capability_at slots from) word) (child s slots to from)
+      ∙ ap (λ (r : Result Cap KError). r >>= child s slots to from) is
+
+  pub copy-unnamed : (error : KError) → named_slots slots root node destination source ≡ Err error → copy (with_slots s slots) call destination source word ≡ Err error
+  copy-unnamed error refused = names-refused slots call root node destination source copied_behind same_root same_node error refused

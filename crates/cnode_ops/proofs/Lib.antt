@@ -5,6 +5,7 @@ mod LinesTaken
 mod FreeWindows
 mod FullSlots
 mod Lookups
+mod Mutated
 mod OpenNodes
 mod PlacedObjects
 mod Refused
@@ -20,4 +21,5 @@ mod ClosedSlots
 mod CountedSlots
 mod RemovedLists
 mod RemovedSets
+mod RemovingCalls
 pub mod Laws

@@ -1,6 +1,7 @@
 -- Copies name what their source names.
-use Rattle.std.proofs.Common.{ℕ, ◌≡◌, ◌∙◌, Bool, true, false, not, Result, Ok, refl}
+use Rattle.std.proofs.Common.{ℕ, ◌≡◌, ◌≢◌, ◌∙◌, Bool, true, false, not, Result, Ok, refl, sym, ap}
 use Rattle.model.specs.Capabilities.CapabilityKinds.{badge_fits, carries_messages, copied, guard_fits, is_badged, may_be_copied, with_payload}
+use Rattle.model.specs.Capabilities.Slots.{is_empty}
 use Rattle.model.specs.Kernel.Arguments.{◌>>=◌, check}
 use Rattle.model.specs.declared.capabilities.Cap.{Cap}
 use Rattle.model.specs.declared.capabilities.Cap.TheVariants.{Empty, Untyped, Endpoint, Notification, CNode, Frame, PageTable, Tcb, RootTable, InterruptControl, InterruptHandler}
@@ -31,6 +32,62 @@ minted-made held word payload made is =
     let four = passed (guard_fits held payload) IllegalOperation _ made three.1 in
     let ok = four.1 in
     record { fits = three.0; guards = four.0; is = cc }
+
+-- ---- an empty one stays empty, and no other becomes so
+
+copied-empty : (held : Cap) (word : ℕ) → is_empty (copied held word) ≡ is_empty held
+copied-empty Empty word = refl
+copied-empty (Untyped _ _ _) word = refl
+copied-empty (Endpoint _ _ _) word = refl
+copied-empty (Notification _ _ _) word = refl
+copied-empty (CNode _ _ _) word = refl
+copied-empty (Frame _ _ _) word = refl
+copied-empty (PageTable _ _) word = refl
+copied-empty (Tcb _) word = refl
+copied-empty (RootTable _) word = refl
+copied-empty InterruptControl word = refl
+copied-empty (InterruptHandler _) word = refl
+
+payload-empty : (held : Cap) (payload : ℕ) → is_empty (with_payload held payload) ≡ is_empty held
+payload-empty Empty payload = refl
+payload-empty (Untyped _ _ _) payload = refl
+payload-empty (Endpoint _ _ _) payload = refl
+payload-empty (Notification _ _ _) payload = refl
+payload-empty (CNode _ _ _) payload = refl
+payload-empty (Frame _ _ _) payload = refl
+payload-empty (PageTable _ _) payload = refl
+payload-empty (Tcb _) payload = refl
+payload-empty (RootTable _) payload = refl
+payload-empty InterruptControl payload = refl
+payload-empty (InterruptHandler _) payload = refl
+
+some-from : (held made : Cap) → is_empty made ≡ is_empty held → not (is_empty held) ≡ true → made ≢ Empty
+some-from held made same full = λ none.
+    let clash : false ≡ true = sym (ap (λ (h : Cap). not (is_empty h)) none) ∙ ap not same ∙ full in
+    cc
+
+pub copy-some : (held : Cap) (word : ℕ) (made : Cap) → copy_of held word ≡ Ok made → not (is_empty held) ≡ true → made ≢ Empty
+copy-some held word made is full = some-from held made (ap is_empty (sym (copy-made held word made is)) ∙ copied-empty held word) full
+
+pub minted-some : (held : Cap) (word payload : ℕ) (made : Cap) → minted_copy_of held word payload ≡ Ok made → not (is_empty held) ≡ true → made ≢ Empty
+minted-some held word payload made is full =
+    some-from held made (ap is_empty (sym (minted-made held word payload made is).is) ∙ payload-empty (copied held word) payload ∙ copied-empty held word) full
+
+-- what passes the checks of Mutate
+pub record IsMutated (held : Cap) (payload : ℕ) (made : Cap) : Type 0 where
+  pub silent : not (carries_messages held) ≡ true
+  pub guards : guard_fits held payload ≡ true
+  pub is : with_payload held payload ≡ made
+
+pub mutated-made : (held : Cap) (payload : ℕ) (made : Cap) → mutation_of held payload ≡ Ok made → IsMutated held payload made
+mutated-made held payload made is =
+    let one = passed (not (carries_messages held)) IllegalOperation _ made is in
+    let two = passed (guard_fits held payload) IllegalOperation _ made one.1 in
+    let ok = two.1 in
+    record { silent = one.0; guards = two.0; is = cc }
+
+pub mutated-some : (held : Cap) (payload : ℕ) (made : Cap) → mutation_of held payload ≡ Ok made → not (is_empty held) ≡ true → made ≢ Empty
+mutated-some held payload made is full = some-from held made (ap is_empty (sym (mutated-made held payload made is).is) ∙ payload-empty held payload) full
 
 -- ---- the CNodes that copies name
 
@@ -77,7 +134,4 @@ minted-node held word payload made is = record {
 
 pub mutated-node : (held : Cap) (payload : ℕ) (made : Cap) → mutation_of held payload ≡ Ok made → NamesNodeOf held made
 mutated-node held payload made is =
-    let one = passed (not (carries_messages held)) IllegalOperation _ made is in
-    let two = (passed (guard_fits held payload) IllegalOperation _ made one.1).1 in
-    let same : with_payload held payload ≡ made = cc in
-    record { each = λ offset radix guard names. node-payload held payload offset radix guard (same ∙ names) }
+    record { each = λ offset radix guard names. node-payload held payload offset radix guard ((mutated-made held payload made is).is ∙ names) }
