@@ -1,36 +1,26 @@
 #!/usr/bin/env python3
-"""Says which modules of a crate's proof take how long, the longest first.
+"""Says which modules of a crate's proof took how long, the longest first, by the last `rt check --jobs 1` of it.
 
-    strace -f -tt -e trace=openat -s 200 -o TRACE rattle check .. --jobs 1    in the crate's folder
-    tools/checks/module_times.py TRACE [COUNT]
+    tools/checks/module_times.py CRATE [COUNT]    at the top of the repository
 
-The prover writes a file for each module that it has checked: what passes between two of them is the later one's. The words of
-`rattle check` are those that `rt ci` gives (`ps -ef` shows them) without what a build has beside them.
+The prover writes a file for each module that it has checked, and `rt check` keeps them in out/incremental: what passes between
+two of them is the later one's. What lies above two minutes is another check's. With more jobs than one the seconds are mixed.
 """
-import re
+import glob
+import os
 import sys
 
-OPENED = re.compile(r"\d+\s+(\d+):(\d+):([\d.]+) openat\(.*?\"([^\"]+)\", ([A-Z_|]+)")
 
-
-def modules(lines):
-    """The seconds of each module and its name, in the order in which they ended."""
-    before = None
-    for line in lines:
-        opened = OPENED.match(line)
-        if not opened:
-            continue
-        hours, minutes, seconds, path, flags = opened.groups()
-        now = int(hours) * 3600 + int(minutes) * 60 + float(seconds)
-        before = now if before is None else before
-        if "O_CREAT" in flags and ".oantt" in path:
-            yield now - before, re.sub(r"\.oantt.*", "", path.rsplit("/", 1)[-1])
-            before = now
+def modules(crate):
+    """The seconds of each module and its name."""
+    written = sorted((os.stat(file).st_mtime, file) for file in glob.glob(f"crates/{crate}/out/incremental/*/*.oantt"))
+    for (before, _), (after, file) in zip(written, written[1:]):
+        if after - before < 120:
+            yield after - before, os.path.basename(file).removesuffix(".oantt").removeprefix(f"Rattle-{crate}-proofs.")
 
 
 def main():
-    with open(sys.argv[1], encoding="utf-8", errors="replace") as trace:
-        found = sorted(modules(trace), reverse=True)
+    found = sorted(modules(sys.argv[1]), reverse=True)
     for seconds, name in found[: int(sys.argv[2]) if len(sys.argv) > 2 else 30]:
         print(f"{seconds:7.1f} {name}")
 

@@ -129,14 +129,19 @@ fn draft_of(
     Ok(Draft::new(alloc, certificate)?)
 }
 
-/// What is found for a text without certificates.
-fn drafts_of(alloc: Global, bare: &str, layout: &Layout<'_>) -> Result<Vec<Draft>, NotCertified> {
+/// The certificates that are found for a text without any.
+fn found(alloc: Global, bare: &str, layout: &Layout<'_>) -> Result<Vec<Certificate>, NotCertified> {
     let image = assemble(alloc, bare)?;
     let bytes = write(alloc, &image)?;
-    let found = match certificates(alloc, bytes.as_slice()) {
-        Ok(found) => found,
-        Err(fault) => return Err(unfit(layout, fault)),
-    };
+    match certificates(alloc, bytes.as_slice()) {
+        Ok(found) => Ok(found),
+        Err(fault) => Err(unfit(layout, fault)),
+    }
+}
+
+/// What is found for a text without certificates.
+fn drafts_of(alloc: Global, bare: &str, layout: &Layout<'_>) -> Result<Vec<Draft>, NotCertified> {
+    let found = found(alloc, bare, layout)?;
     let mut drafts = Vec::new(alloc);
     'threads: for (number, certificate) in found.into_iter().enumerate() {
         drafts.push(draft_of(alloc, layout, number, certificate)?)?;
@@ -156,6 +161,25 @@ fn budgets_of(alloc: Global, layout: &Layout<'_>, drafts: &[Draft]) -> Result<St
     Ok(told)
 }
 
+/// The text with these certificates, from which the records go that it does not need.
+fn shortest<P: Progress>(
+    alloc: Global,
+    text: &str,
+    layout: &Layout<'_>,
+    mut drafts: Vec<Draft>,
+    progress: &mut P,
+) -> Result<CertifiedText, NotCertified>
+    ensures accepted { IfOk result (λ made. IsAcceptedText made.text.items) }
+{
+    judged(alloc, text, layout, drafts.as_slice())?;
+    progress.reach(Stage::Judged);
+    drop_records(alloc, text, layout, &mut drafts, progress)?;
+    Ok(CertifiedText {
+        text: judged(alloc, text, layout, drafts.as_slice())?,
+        budgets: budgets_of(alloc, layout, drafts.as_slice())?,
+    })
+}
+
 /// The text with certificates in place of its own, which the verifier accepts. Whoever watches is told when certificates are found,
 /// when the verifier has judged them, and after each record that is tried.
 pub fn certified<P: Progress>(
@@ -171,13 +195,7 @@ pub fn certified<P: Progress>(
         return Err(NotCertified::Source(SourceFault { line: 1, kind: 1 }));
     };
     let layout = layout_of(alloc, bare)?;
-    let mut drafts = drafts_of(alloc, bare, &layout)?;
+    let drafts = drafts_of(alloc, bare, &layout)?;
     progress.reach(Stage::Found);
-    judged(alloc, text, &layout, drafts.as_slice())?;
-    progress.reach(Stage::Judged);
-    drop_records(alloc, text, &layout, &mut drafts, progress)?;
-    Ok(CertifiedText {
-        text: judged(alloc, text, &layout, drafts.as_slice())?,
-        budgets: budgets_of(alloc, &layout, drafts.as_slice())?,
-    })
+    shortest(alloc, text, &layout, drafts, progress)
 }

@@ -128,24 +128,44 @@ fn answer<'a, R: Files + Clock + AllocGlobal, S: AsStr, W: Sink, E: Sink>(
         ToolRequest::Certify { source, certified } => {
             certify(rt, source, certified, output, &mut progress)
         }
-        ToolRequest::Explain { source } => {
-            let text = read_text(rt, source)?;
-            match explain(rt.alloc(), text.as_str(), output, &mut progress)? {
-                Explained::Accepted => Ok(()),
-                Explained::Refused => Err(ToolFault::Explained),
-            }
-        }
-        ToolRequest::Draw { source } => {
-            let text = read_text(rt, source)?;
-            draw(rt.alloc(), text.as_str(), output)?;
-            Ok(())
-        }
-        ToolRequest::Chart { trace } => {
-            let trace = read_bytes(rt, trace)?;
-            chart(rt.alloc(), trace.as_slice(), output)?;
-            Ok(())
-        }
+        ToolRequest::Explain { source } => explain_file(rt, source, output, &mut progress),
+        ToolRequest::Draw { source } => draw_file(rt, source, output),
+        ToolRequest::Chart { trace } => chart_file(rt, trace, output),
     }
+}
+
+/// Says of a text in a file why it is refused.
+fn explain_file<'a, R: Files + AllocGlobal, W: Sink, P: Progress>(
+    rt: &R,
+    source: &'a str,
+    output: &mut W,
+    progress: &mut P,
+) -> Result<(), ToolFault<'a>> {
+    let text = read_text(rt, source)?;
+    match explain(rt.alloc(), text.as_str(), output, progress)? {
+        Explained::Accepted => Ok(()),
+        Explained::Refused => Err(ToolFault::Explained),
+    }
+}
+
+/// Draws the system of a text in a file.
+fn draw_file<'a, R: Files + AllocGlobal, W: Sink>(
+    rt: &R,
+    source: &'a str,
+    output: &mut W,
+) -> Result<(), ToolFault<'a>> {
+    let text = read_text(rt, source)?;
+    Ok(draw(rt.alloc(), text.as_str(), output)?)
+}
+
+/// Draws the trace in a file.
+fn chart_file<'a, R: Files + AllocGlobal, W: Sink>(
+    rt: &R,
+    trace: &'a str,
+    output: &mut W,
+) -> Result<(), ToolFault<'a>> {
+    let trace = read_bytes(rt, trace)?;
+    Ok(chart(rt.alloc(), trace.as_slice(), output)?)
 }
 
 /// Writes a text with its certificates to a file, which is not touched before the verifier accepts the whole of it, and puts a

@@ -1,6 +1,6 @@
 //! Trials: the verifier judges a text with some of its records.
 
-ghost use Rattle.std.specs.Prelude.{IfOk};
+ghost use Rattle.std.specs.Prelude.{IfOk, OnOk};
 ghost use Rattle.tool.specs.AcceptedTexts.{IsAcceptedText};
 
 use crate::certification::{NotCertified, refused};
@@ -13,6 +13,18 @@ use verify::verify;
 
 /// How many lines all trials may have together.
 const MOST_LINES: usize = 1 << 19;
+
+/// Whether the verifier accepts the image of a text.
+fn check(alloc: Global, layout: &Layout<'_>, text: &str) -> Result<(), NotCertified>
+    ensures { OnOk result (IsAcceptedText text.now) }
+{
+    let image = assemble(alloc, text)?;
+    let bytes = write(alloc, &image)?;
+    match verify(alloc, bytes.as_slice()) {
+        Ok(_) => Ok(()),
+        Err(refusal) => Err(refused(layout, refusal)),
+    }
+}
 
 /// The text with certificates, if the verifier accepts it.
 pub(crate) fn judged(
@@ -27,12 +39,7 @@ pub(crate) fn judged(
     let Ok(certified) = std::str::from_utf8(written.as_slice()) else {
         return Err(NotCertified::Source(SourceFault { line: 1, kind: 1 }));
     };
-    let image = assemble(alloc, certified)?;
-    let bytes = write(alloc, &image)?;
-    match verify(alloc, bytes.as_slice()) {
-        Ok(_) => {}
-        Err(refusal) => return Err(refused(layout, refusal)),
-    }
+    check(alloc, layout, certified)?;
     Ok(written)
 }
 
