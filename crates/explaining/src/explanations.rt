@@ -3,7 +3,7 @@
 use crate::faults::{ExplainFault, Explained};
 use crate::programs::{point_of, tell_program};
 use asm::{SourceFault, assemble};
-use image::{ImageRef, read, write};
+use image::{Image, ImageRef, read, write};
 use model::Refusal;
 use progress::{Progress, Stage};
 use sinks::{Sink, put_all};
@@ -36,6 +36,21 @@ fn tell_image(
     }
 }
 
+/// Tells why an image is refused, by its bytes, with what its text declares.
+fn tell_declared(
+    alloc: Global,
+    to: &mut String,
+    text: &str,
+    source: &SourceText<'_>,
+    bytes: &[u8],
+    refusal: Refusal,
+) -> Result<(), AllocError> {
+    match read(bytes) {
+        Ok(image) => tell_image(alloc, to, text, source, &image, refusal),
+        Err(_) => Err(AllocError),
+    }
+}
+
 /// Tells why the image of a text is refused.
 fn tell_refusal(
     alloc: Global,
@@ -44,9 +59,9 @@ fn tell_refusal(
     bytes: &[u8],
     refusal: Refusal,
 ) -> Result<(), AllocError> {
-    match (source_texts::read(alloc, text), read(bytes)) {
-        (Ok(source), Ok(image)) => tell_image(alloc, to, text, &source, &image, refusal),
-        _ => Err(AllocError),
+    match source_texts::read(alloc, text) {
+        Ok(source) => tell_declared(alloc, to, text, &source, bytes, refusal),
+        Err(_) => Err(AllocError),
     }
 }
 
@@ -58,17 +73,31 @@ fn tell<P: Progress>(
     progress: &mut P,
 ) -> Result<Explained, AllocError> {
     match assemble(alloc, text) {
-        Ok(image) => {
-            let bytes = write(alloc, &image)?;
-            progress.reach(Stage::Built);
-            tell_bytes(alloc, to, text, &bytes, progress)
-        }
-        Err(SourceFault { kind: MEMORY, .. }) => Err(AllocError),
-        Err(fault) => {
-            tell_fault(to, text, fault)?;
-            Ok(Explained::Refused)
-        }
+        Ok(image) => tell_built(alloc, to, text, &image, progress),
+        Err(fault) => tell_unbuilt(to, text, fault),
     }
+}
+
+/// Tells of a text that makes an image whether it is accepted, or why not.
+fn tell_built<P: Progress>(
+    alloc: Global,
+    to: &mut String,
+    text: &str,
+    image: &Image,
+    progress: &mut P,
+) -> Result<Explained, AllocError> {
+    let bytes = write(alloc, image)?;
+    progress.reach(Stage::Built);
+    tell_bytes(alloc, to, text, &bytes, progress)
+}
+
+/// Tells why a text makes no image.
+fn tell_unbuilt(to: &mut String, text: &str, fault: SourceFault) -> Result<Explained, AllocError> {
+    if fault.kind == MEMORY {
+        return Err(AllocError);
+    }
+    tell_fault(to, text, fault)?;
+    Ok(Explained::Refused)
 }
 
 /// Tells of the bytes of a text's image whether they are accepted, or why not.

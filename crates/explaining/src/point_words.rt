@@ -55,15 +55,20 @@ pub(crate) fn push_measure(to: &mut String, measure: &Measure) -> Result<(), All
     Ok(())
 }
 
+/// Puts the range of a register, behind others or as the first.
+fn push_bound(to: &mut String, number: u8, range: Range, is_first: bool) -> Result<(), AllocError> {
+    to.push_str(if is_first { "" } else { ", " })?;
+    write!(to, "x{number} ")?;
+    push_range(to, range)
+}
+
 /// Puts what is known of the registers that have not all values.
 fn push_bounds(to: &mut String, state: &State) -> Result<(), AllocError> {
     let mut is_first = true;
     for number in 1..32u8 {
         let range = state.bounds.get(Register(number));
         if !is_full(range) {
-            to.push_str(if is_first { "" } else { ", " })?;
-            write!(to, "x{number} ")?;
-            push_range(to, range)?;
+            push_bound(to, number, range, is_first)?;
             is_first = false;
         }
     }

@@ -31,6 +31,41 @@ pub(crate) fn point_of(refusal: Refusal) -> Option<Point> {
     }
 }
 
+/// What is missed on the ways on from a point.
+fn onward_words(refusal: Refusal) -> &'static str {
+    match refusal {
+        Refusal::RangeNotKept(_) => "a register can leave its range on a way on\n",
+        Refusal::MeasureNotFalling(_) => "the measure does not fall\n",
+        Refusal::OverBudget(_) => "the measure behind the wait can be above the budget\n",
+        Refusal::CapNotThere(_) => "the slots behind it are not those that are noted there\n",
+        _ => "a way on leads to where nothing is known\n",
+    }
+}
+
+/// What is wrong with an instruction, whatever is known at its point.
+fn plain_words(refusal: Refusal) -> Option<&'static str> {
+    match refusal {
+        Refusal::IllegalInstruction(_) => Some(
+            "no instruction that a program may have: take it out of the thread's way\n",
+        ),
+        Refusal::ComputedJump(_) => Some(
+            "a jump to an address in a register: only `jal` and branches may jump\n",
+        ),
+        Refusal::PoolLost(_) => Some(
+            "it would lose the thread's untyped memory for ever: Revoke gives that back whole\n",
+        ),
+        _ => None,
+    }
+}
+
+/// Whether a thread may be refused for this at its entry.
+fn may_be_of_entry(refusal: Refusal) -> bool {
+    matches!(
+        refusal,
+        Refusal::RangeNotKept(_) | Refusal::CapNotThere(_) | Refusal::OverBudget(_)
+    )
+}
+
 impl Scene<'_, '_, '_, '_, '_> {
     /// Whether the instruction at a point is a system call.
     fn is_call(&self, point: u32) -> bool {
@@ -51,30 +86,45 @@ impl Scene<'_, '_, '_, '_, '_> {
         match refusal {
             Refusal::NotMapped(_) => {
                 self.tell_page(to, point, state)?;
-                return self.push_state(to, state);
+                self.push_state(to, state)
             }
-            Refusal::CallNotConstant(_) => return self.tell_not_constant(to, point, state),
-            Refusal::CallRefused(_, error) => {
-                return self.tell_refused(to, point, state, error);
-            }
-            Refusal::CapNotThere(_) if self.has_stray_slots(point, state)? => {
-                return self.tell_stray(to, point, state);
-            }
-            Refusal::CapNotThere(_) if self.is_call(point) => {
-                if self.refusal_of_call(point, state)?.is_some() {
-                    return self.tell_not_there(to, point, state);
-                }
-            }
-            _ => {}
+            Refusal::CallNotConstant(_) => self.tell_not_constant(to, point, state),
+            Refusal::CallRefused(_, error) => self.tell_refused(to, point, state, error),
+            Refusal::CapNotThere(_) => self.tell_missing_slot(to, point, refusal, state),
+            _ => self.tell_onward(to, point, refusal, state),
         }
-        self.push_head(to, point)?;
-        to.push_str(match refusal {
-            Refusal::RangeNotKept(_) => "a register can leave its range on a way on\n",
-            Refusal::MeasureNotFalling(_) => "the measure does not fall\n",
-            Refusal::OverBudget(_) => "the measure behind the wait can be above the budget\n",
-            Refusal::CapNotThere(_) => "the slots behind it are not those that are noted there\n",
-            _ => "a way on leads to where nothing is known\n",
-        })?;
+    }
+
+    /// Tells which slot is not there, or is one that the thread may not have.
+    fn tell_missing_slot(
+        &self,
+        to: &mut String,
+        point: u32,
+        refusal: Refusal,
+        state: &State,
+    ) -> Result<(), AllocError>
+        requires { IsGiven self.now.space self.now.slots.now self.now.lists_stray }
+    {
+        if self.has_stray_slots(point, state)? {
+            return self.tell_stray(to, point, state);
+        }
+        if self.is_call(point) && self.refusal_of_call(point, state)?.is_some() {
+            return self.tell_not_there(to, point, state);
+        }
+        self.tell_onward(to, point, refusal, state)
+    }
+
+    /// Tells what is missed on the ways on from a point.
+    fn tell_onward(
+        &self,
+        to: &mut String,
+        point: u32,
+        refusal: Refusal,
+        state: &State,
+    ) -> Result<(), AllocError>
+        requires { IsGiven self.now.space self.now.slots.now self.now.lists_stray }
+    {
+        self.tell_plain(to, point, onward_words(refusal))?;
         if let Refusal::MeasureNotFalling(_) = refusal {
             self.tell_least(to, state)?;
         }
@@ -96,37 +146,26 @@ impl Scene<'_, '_, '_, '_, '_> {
     ) -> Result<(), AllocError>
         requires { IsGiven self.now.space self.now.slots.now self.now.lists_stray }
     {
-        let is_entry = matches!(
-            refusal,
-            Refusal::RangeNotKept(_) | Refusal::CapNotThere(_) | Refusal::OverBudget(_)
-        );
-        if is_entry && self.tell_entry(to, point)? {
+        if may_be_of_entry(refusal) && self.tell_entry(to, point)? {
             return Ok(());
         }
-        match refusal {
-            Refusal::IllegalInstruction(_) => self.tell_plain(
+        match plain_words(refusal) {
+            Some(words) => self.tell_plain(to, point, words),
+            None => self.tell_found(to, point, refusal),
+        }
+    }
+
+    /// Tells what is refused at a point, by what is known there.
+    fn tell_found(&self, to: &mut String, point: u32, refusal: Refusal) -> Result<(), AllocError>
+        requires { IsGiven self.now.space self.now.slots.now self.now.lists_stray }
+    {
+        match self.state_at(point)? {
+            Found::Known(state) => self.tell_state(to, point, refusal, &state),
+            Found::Unmeasured | Found::Missing => self.tell_plain(
                 to,
                 point,
-                "no instruction that a program may have: take it out of the thread's way\n",
+                "nothing is known here: put a record before it\n",
             ),
-            Refusal::ComputedJump(_) => self.tell_plain(
-                to,
-                point,
-                "a jump to an address in a register: only `jal` and branches may jump\n",
-            ),
-            Refusal::PoolLost(_) => self.tell_plain(
-                to,
-                point,
-                "it would lose the thread's untyped memory for ever: Revoke gives that back whole\n",
-            ),
-            refusal => match self.state_at(point)? {
-                Found::Known(state) => self.tell_state(to, point, refusal, &state),
-                Found::Unmeasured | Found::Missing => self.tell_plain(
-                    to,
-                    point,
-                    "nothing is known here: put a record before it\n",
-                ),
-            },
         }
     }
 }

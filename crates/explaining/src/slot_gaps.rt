@@ -64,24 +64,49 @@ impl Scene<'_, '_, '_, '_, '_> {
         self.push_key(to, key)?;
         to.push_str(" holds ")?;
         self.push_held(to, &here)?;
-        match difference.target {
+        self.push_where(to, difference.target)?;
+        self.push_held(to, &there)?;
+        self.push_cure(to, difference, &here)
+    }
+
+    /// Puts where a slot holds something, and where it is noted with something else.
+    fn push_where(&self, to: &mut String, target: Option<u32>) -> Result<(), AllocError> {
+        match target {
             Some(target) => {
                 to.push_str(" on the way to ")?;
                 self.push_point(to, target)?;
-                to.push_str(", where it is noted with ")?;
+                to.push_str(", where it is noted with ")
             }
-            None => to.push_str(" at the start; noted is ")?,
+            None => to.push_str(" at the start; noted is "),
         }
-        self.push_held(to, &there)?;
+    }
+
+    /// Puts what has to be written where a slot differs that holds this.
+    fn push_cure(
+        &self,
+        to: &mut String,
+        difference: &Difference<'_>,
+        here: &NotedSlot,
+    ) -> Result<(), AllocError> {
         match difference.record {
-            Some(line) if is_among(difference.here, key) => {
-                to.push_str("; write ")?;
-                self.push_slot_line(to, &here)?;
-                write!(to, " behind line {line}\n")
+            Some(line) if is_among(difference.here, here.key) => {
+                self.push_missing_line(to, here, line)
             }
             Some(line) => write!(to, "; take the line of this slot behind line {line} away\n"),
             None => to.push_str("; put a record there\n"),
         }
+    }
+
+    /// Puts the line of a slot that has to stand behind another line.
+    fn push_missing_line(
+        &self,
+        to: &mut String,
+        slot: &NotedSlot,
+        line: u64,
+    ) -> Result<(), AllocError> {
+        to.push_str("; write ")?;
+        self.push_slot_line(to, slot)?;
+        write!(to, " behind line {line}\n")
     }
 
     /// Puts all slots that differ.

@@ -1,14 +1,16 @@
 //! What is known at a point: by its record, or by what follows from the point before it.
 
-ghost use Rattle.std.specs.Prelude.{◌≡◌, []};
+ghost use Rattle.std.specs.Prelude.{◌≡◌, ◌≤ℤ◌, ◌-◌, ◌^◌, [], negsuc};
+ghost use Rattle.measure.specs.Measures.{measure_of};
 ghost use Rattle.explaining.specs.Given.{IsGiven};
 ghost use Rattle.model.specs.Acceptance.NotedStates.{PointState, has_stray_slots};
 ghost use Rattle.typestate.specs.Differences.{slots_of};
+ghost use Rattle.typestate.specs.Logs.{Holds};
 
 use crate::scenes::{Scene, record_at, told};
 use image::RecordRef;
 use measure::Measure;
-use model::{Instr, Point, Range, Refusal, Register};
+use model::{Instr, Point, Range, RangeEntry, Refusal, Register};
 use point_rules::{Left, follows, follows_call};
 use ranges::Bounds;
 use rv32_isa::decode;
@@ -59,17 +61,27 @@ fn kept_of(left: Left, changes: Vec<NotedSlot>) -> Found {
     }
 }
 
+/// Notes a range that a record has.
+fn note_range(bounds: &mut Bounds, entry: RangeEntry) {
+    if entry.register < 32 && entry.low <= entry.high {
+        let range = Range {
+            low: entry.low,
+            high: entry.high,
+        };
+        bounds.set(Register(entry.register as u8), range);
+    }
+}
+
+/// What is left for the next point, with these changes of slots.
+fn kept_with(left: Left, changes: &Vec<NotedSlot>) -> Result<Found, AllocError> {
+    Ok(kept_of(left, changes.clone()?))
+}
+
 /// The ranges that a record notes.
 fn bounds_of(record: &RecordRef<'_>) -> Bounds {
     let mut bounds = Bounds::full();
     for entry in record.ranges() {
-        if entry.register < 32 && entry.low <= entry.high {
-            let range = Range {
-                low: entry.low,
-                high: entry.high,
-            };
-            bounds.set(Register(entry.register as u8), range);
-        }
+        note_range(&mut bounds, entry);
     }
     bounds
 }
@@ -97,17 +109,33 @@ impl<'a> Scene<'a, '_, '_, '_, '_> {
         last
     }
 
-    /// What a record notes.
-    fn state_of(&self, record: &RecordRef<'_>) -> Result<State, AllocError>
+    /// What a part of a log changes of the image's slots.
+    fn changes_of(&self, log: &SlotLog, part: Part) -> Result<Vec<NotedSlot>, AllocError>
+        requires given { IsGiven self.now.space self.now.slots.now self.now.lists_stray }
+        requires held { Holds log.now part }
+    {
+        let shown = log.shown(part)?;
+        told(self.alloc, &shown.slots(self.slots))
+    }
+
+    /// The changes that a record notes.
+    fn noted_changes(&self, record: &RecordRef<'_>) -> Result<Vec<NotedSlot>, AllocError>
         requires { IsGiven self.now.space self.now.slots.now self.now.lists_stray }
     {
         let mut log = SlotLog::new(self.alloc);
         let part = log.note(record)?;
-        let noted = log.shown(part)?;
+        self.changes_of(&log, part)
+    }
+
+    /// What a record notes.
+    fn state_of(&self, record: &RecordRef<'_>) -> Result<State, AllocError>
+        requires { IsGiven self.now.space self.now.slots.now self.now.lists_stray }
+    {
+        let changes = self.noted_changes(record)?;
         Ok(State {
             bounds: bounds_of(record),
             measure: measure_of(record),
-            changes: told(self.alloc, &noted.slots(self.slots))?,
+            changes,
         })
     }
 
@@ -118,15 +146,21 @@ impl<'a> Scene<'a, '_, '_, '_, '_> {
         let Some(record) = self.last_record(point) else {
             return Ok(Found::Missing);
         };
-        let mut state = Found::Known(self.state_of(&record)?);
+        let mut found = Found::Known(self.state_of(&record)?);
         for place in record.point()..point {
-            let next = match &state {
-                Found::Known(state) => self.following(place, state)?,
-                Found::Unmeasured | Found::Missing => Found::Missing,
-            };
-            state = next;
+            found = self.found_behind(place, &found)?;
         }
-        Ok(state)
+        Ok(found)
+    }
+
+    /// What is found behind a point of which this is found.
+    fn found_behind(&self, point: u32, found: &Found) -> Result<Found, AllocError>
+        requires { IsGiven self.now.space self.now.slots.now self.now.lists_stray }
+    {
+        match found {
+            Found::Known(state) => self.following(point, state),
+            Found::Unmeasured | Found::Missing => Ok(Found::Missing),
+        }
     }
 
     /// What follows from a point in a state for the next one.
@@ -139,17 +173,26 @@ impl<'a> Scene<'a, '_, '_, '_, '_> {
         }
         match decode(thread.word(point)) {
             None => Ok(Found::Missing),
-            Some(Instr::Ecall) => match self.called(point, state)? {
-                Ok(Called { behind, changes }) => {
-                    let budget = thread.header().budget.min(MOST);
-                    Ok(kept_of(follows_call(budget, &state.measure, &behind), changes))
-                }
-                Err(_) => Ok(Found::Missing),
-            },
+            Some(Instr::Ecall) => self.following_call(point, state),
             Some(instr) => {
                 let left = follows(self.address(point), instr, &state.bounds, &state.measure);
-                Ok(kept_of(left, state.changes.clone()?))
+                kept_with(left, &state.changes)
             }
+        }
+    }
+
+    /// What follows from a system call in a state, if it is not refused.
+    fn following_call(&self, point: u32, state: &State) -> Result<Found, AllocError>
+        requires given { IsGiven self.now.space self.now.slots.now self.now.lists_stray }
+        requires measure { negsuc (2 ^ 63 - 2) ≤ℤ (measure_of state.now.measure).constant }
+    {
+        match self.called(point, state)? {
+            Ok(called) => {
+                let budget = self.space.thread.header().budget.min(MOST);
+                let left = follows_call(budget, &state.measure, &called.behind);
+                Ok(kept_of(left, called.changes))
+            }
+            Err(_) => Ok(Found::Missing),
         }
     }
 
@@ -161,23 +204,52 @@ impl<'a> Scene<'a, '_, '_, '_, '_> {
     ) -> Result<Result<Called, Refusal>, AllocError>
         requires { IsGiven self.now.space self.now.slots.now self.now.lists_stray }
     {
+        let mut log = SlotLog::new(self.alloc);
+        let part = log.follow(Part { first: 0, end: 0 }, &state.changes)?;
+        let mut made = Vec::new(self.alloc);
+        match self.answered_in(point, &state.bounds, &log, part, &mut made)? {
+            Ok(behind) => {
+                let changes = self.changes_behind(&mut log, part, &made)?;
+                Ok(Ok(Called { behind, changes }))
+            }
+            Err(refusal) => Ok(Err(refusal)),
+        }
+    }
+
+    /// What the system call at a point leaves of the registers, where a part of a log changes the slots. Those that it changes are
+    /// put into the list, which is empty.
+    fn answered_in(
+        &self,
+        point: u32,
+        bounds: &Bounds,
+        log: &SlotLog,
+        part: Part,
+        made: &mut Vec<NotedSlot>,
+    ) -> Result<Result<Behind, Refusal>, AllocError>
+        requires given { IsGiven self.now.space self.now.slots.now self.now.lists_stray }
+        requires held { Holds log.now part }
+        requires none { made.old.items ≡ [] }
+    {
         let at = Point {
             thread: self.number,
             point,
         };
-        let mut log = SlotLog::new(self.alloc);
-        let part = log.follow(Part { first: 0, end: 0 }, &state.changes)?;
         let before = log.shown(part)?;
-        let mut made = Vec::new(self.alloc);
-        let answer = self.answered(at, &state.bounds, &before.slots(self.slots), &mut made)?;
-        let behind = match answer {
-            Ok(behind) => behind,
-            Err(refusal) => return Ok(Err(refusal)),
-        };
-        let part = log.follow(part, &made)?;
-        let left = log.shown(part)?;
-        let changes = told(self.alloc, &left.slots(self.slots))?;
-        Ok(Ok(Called { behind, changes }))
+        self.answered(at, bounds, &before.slots(self.slots), made)
+    }
+
+    /// What a part of a log changes of the image's slots, and changes that follow it.
+    fn changes_behind(
+        &self,
+        log: &mut SlotLog,
+        part: Part,
+        made: &[NotedSlot],
+    ) -> Result<Vec<NotedSlot>, AllocError>
+        requires given { IsGiven self.now.space self.now.slots.now self.now.lists_stray }
+        requires held { Holds log.old part }
+    {
+        let part = log.follow(part, made)?;
+        self.changes_of(log, part)
     }
 
     /// Whether one of some slots at a point is one that the thread may not have, or its record notes one outside of its CNodes.

@@ -35,6 +35,12 @@ fn lacking(wanted: Rights, there: Rights) -> &'static str {
     }
 }
 
+/// Puts which of the wanted rights a capability lacks.
+fn push_lacking(to: &mut String, wanted: Rights, there: Rights) -> Result<(), AllocError> {
+    let words = lacking(wanted, there);
+    write!(to, ": the capability lacks {words}\n")
+}
+
 /// Puts what is asked by a label.
 fn push_label(to: &mut String, label: u32) -> Result<(), AllocError> {
     match label_name(label) {
@@ -53,6 +59,14 @@ fn push_error(
     let (name, code) = (error_name(error), error.number());
     let check = check_words(capability, label, error);
     write!(to, ": error {code}, {name}\n  {check}\n")
+}
+
+/// The capability in a slot that was found.
+fn capability_of(found: &Option<(SlotKey, Cap)>) -> Cap {
+    match found {
+        Some((_, capability)) => *capability,
+        None => Cap::Empty,
+    }
 }
 
 impl Scene<'_, '_, '_, '_, '_> {
@@ -99,6 +113,30 @@ impl Scene<'_, '_, '_, '_, '_> {
         push_range(to, state.bounds.get(Register(number)))
     }
 
+    /// The first word of a call that has more than one value.
+    fn varying_word(&self, state: &State) -> Option<u8> {
+        for register in WORDS {
+            if self.single(state, register).is_none() {
+                return Some(register);
+            }
+        }
+        None
+    }
+
+    /// The first register of a call that has more than one value, and what it is.
+    fn varying(&self, state: &State) -> Option<(u8, &'static str)> {
+        if self.single(state, 17).is_none() {
+            Some((17, "a7, the number of the call"))
+        } else if self.single(state, 10).is_none() {
+            Some((10, "a0, the address of the capability"))
+        } else if self.single(state, 11).is_none() {
+            Some((11, "a1, the info word"))
+        } else {
+            let register = self.varying_word(state)?;
+            Some((register, "a word of the call"))
+        }
+    }
+
     /// Tells which register of a call has more than one value.
     pub(crate) fn tell_not_constant(
         &self,
@@ -107,19 +145,8 @@ impl Scene<'_, '_, '_, '_, '_> {
         state: &State,
     ) -> Result<(), AllocError> {
         self.push_head(to, point)?;
-        if self.single(state, 17).is_none() {
-            self.push_argument(to, state, 17, "a7, the number of the call")?;
-        } else if self.single(state, 10).is_none() {
-            self.push_argument(to, state, 10, "a0, the address of the capability")?;
-        } else if self.single(state, 11).is_none() {
-            self.push_argument(to, state, 11, "a1, the info word")?;
-        } else {
-            for register in WORDS {
-                if self.single(state, register).is_none() {
-                    self.push_argument(to, state, register, "a word of the call")?;
-                    break;
-                }
-            }
+        if let Some((register, what)) = self.varying(state) {
+            self.push_argument(to, state, register, what)?;
         }
         to.push_str("; it has to have one value: set it just before\n")?;
         self.push_state(to, state)
@@ -163,23 +190,31 @@ impl Scene<'_, '_, '_, '_, '_> {
         let found = self.called_key(state, address)?;
         self.push_head(to, point)?;
         self.push_call(to, number, address, &found)?;
+        self.push_lack(to, number, &found)?;
+        self.push_slots(to, state)?;
+        self.push_state(to, state)
+    }
+
+    /// Puts what the slot that a call names lacks.
+    fn push_lack(
+        &self,
+        to: &mut String,
+        number: u32,
+        found: &Option<(SlotKey, Cap)>,
+    ) -> Result<(), AllocError> {
         match found {
             None => {
                 to.push_str(": no full slot has this address\n")?;
-                self.push_guard(to)?;
+                self.push_guard(to)
             }
             Some((_, Cap::Endpoint { rights, .. })) => {
-                let words = lacking(wanted_rights(number, true), rights);
-                write!(to, ": the capability lacks {words}\n")?;
+                push_lacking(to, wanted_rights(number, true), *rights)
             }
             Some((_, Cap::Notification { rights, .. })) => {
-                let words = lacking(wanted_rights(number, false), rights);
-                write!(to, ": the capability lacks {words}\n")?;
+                push_lacking(to, wanted_rights(number, false), *rights)
             }
-            Some(_) => to.push_str(": it is neither an endpoint nor a notification\n")?,
+            Some(_) => to.push_str(": it is neither an endpoint nor a notification\n"),
         }
-        self.push_slots(to, state)?;
-        self.push_state(to, state)
     }
 
     /// Puts how the thread's guard word makes addresses, where they are no numbers of slots.
@@ -228,31 +263,51 @@ impl Scene<'_, '_, '_, '_, '_> {
             return self.tell_not_constant(to, point, state);
         };
         if call_name(number).is_none() {
-            self.push_head(to, point)?;
-            write!(
-                to,
-                "x17 (a7) is {number}: system calls have the numbers 1 to 9\n"
-            )?;
-            return self.push_state(to, state);
+            return self.tell_no_call(to, point, state, number);
         }
         let (Some(address), Some(info)) = (self.single(state, 10), self.single(state, 11)) else {
             return self.tell_not_constant(to, point, state);
         };
         let found = self.called_key(state, address)?;
-        let capability = match &found {
-            Some((_, capability)) => *capability,
-            None => Cap::Empty,
-        };
-        let label = info / 4096;
         self.push_head(to, point)?;
-        push_label(to, label)?;
+        push_label(to, info / 4096)?;
         self.push_call(to, number, address, &found)?;
+        self.push_refusal(to, state, capability_of(&found), info, error)?;
+        self.push_slots(to, state)?;
+        self.push_state(to, state)
+    }
+
+    /// Tells that there is no system call of a number.
+    fn tell_no_call(
+        &self,
+        to: &mut String,
+        point: u32,
+        state: &State,
+        number: u32,
+    ) -> Result<(), AllocError> {
+        self.push_head(to, point)?;
+        write!(
+            to,
+            "x17 (a7) is {number}: system calls have the numbers 1 to 9\n"
+        )?;
+        self.push_state(to, state)
+    }
+
+    /// Puts which error a call on a capability would give, and the words that it has.
+    fn push_refusal(
+        &self,
+        to: &mut String,
+        state: &State,
+        capability: Cap,
+        info: u32,
+        error: KError,
+    ) -> Result<(), AllocError> {
+        let label = info / 4096;
         push_error(to, capability, label, error)?;
         if has_label(capability, label) {
             self.push_words(to, state, words_wanted(label), info & 127)?;
         }
-        self.push_slots(to, state)?;
-        self.push_state(to, state)
+        Ok(())
     }
 
     /// Puts the words of a call.
