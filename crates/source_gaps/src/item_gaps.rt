@@ -3,7 +3,9 @@
 use crate::lines::push_line;
 use image::ImageRef;
 use model::Refusal;
-use source_texts::{CapabilityLine, FrameLine, ObjectLine, Source, SourceText, TableLine};
+use source_texts::{
+    CapabilityLine, FrameLine, ObjectLine, Source, SourceText, TableLine, UntypedLine,
+};
 use std::alloc::{AllocError, Global};
 
 /// A text, the image that it makes, and what the text declares.
@@ -47,9 +49,46 @@ fn bits_of(object: &ObjectLine<'_>) -> u32 {
     }
 }
 
+/// The least radix, from a given one on, with which a CNode has so many slots.
+fn radix_for(given: u32, needed: u64) -> u32 {
+    let mut radix = given;
+    for _ in 0..14 {
+        if power(radix) < needed {
+            radix = radix.saturating_add(1);
+        }
+    }
+    radix
+}
+
 /// 2 to the power of so many.
 fn power(bits: u32) -> u64 {
     1u64.wrapping_shl(bits)
+}
+
+/// Tells what is wrong with the rights and the badge of a capability to an endpoint or a notification.
+fn tell_badge(to: &mut String, rights: u32, badge: u32) -> Result<(), AllocError> {
+    if rights & 11 == rights {
+        write!(to, "the badge {badge} is 2^28 or more\n")
+    } else {
+        write!(
+            to,
+            "{rights} are no rights of an endpoint or a notification: write 1, read 2, grant-reply 8\n"
+        )
+    }
+}
+
+/// Tells what is wrong with the rights and the data of a capability to a frame.
+fn tell_frame_data(to: &mut String, rights: u32) -> Result<(), AllocError> {
+    if rights & 3 == rights {
+        to.push_str("a frame's capability has no data: write 0\n")
+    } else {
+        write!(to, "{rights} are no rights of a frame: write 1, read 2\n")
+    }
+}
+
+/// Tells that a capability to a CNode has a wrong guard word.
+fn tell_guard(to: &mut String, name: &str, payload: u32) -> Result<(), AllocError> {
+    write!(to, "{payload} is no guard word for the CNode `{name}`\n")
 }
 
 /// Tells what is wrong with the rights and the data of a capability to an object of a kind.
@@ -61,14 +100,9 @@ fn tell_data(
     payload: u32,
 ) -> Result<(), AllocError> {
     match kind {
-        3 | 4 if rights & 11 == rights => write!(to, "the badge {payload} is 2^28 or more\n"),
-        3 | 4 => write!(
-            to,
-            "{rights} are no rights of an endpoint or a notification: write 1, read 2, grant-reply 8\n"
-        ),
-        6 if rights & 3 == rights => to.push_str("a frame's capability has no data: write 0\n"),
-        6 => write!(to, "{rights} are no rights of a frame: write 1, read 2\n"),
-        5 if rights == 0 => write!(to, "{payload} is no guard word for the CNode `{name}`\n"),
+        3 | 4 => tell_badge(to, rights, payload),
+        6 => tell_frame_data(to, rights),
+        5 if rights == 0 => tell_guard(to, name, payload),
         _ => write!(
             to,
             "a capability to `{name}` has the rights 0 and the data 0\n"
@@ -76,33 +110,117 @@ fn tell_data(
     }
 }
 
+/// Tells that untyped memory does not begin at a multiple of its size.
+fn tell_unaligned(to: &mut String, start: u64, size: u64) -> Result<(), AllocError> {
+    write!(
+        to,
+        "{start:#x} is no multiple of the size, {size:#x} bytes\n"
+    )
+}
+
+/// Tells that untyped memory ends behind the machine's memory.
+fn tell_end(to: &mut String, end: u64, memory: u64) -> Result<(), AllocError> {
+    write!(
+        to,
+        "it ends at {end:#x}, behind the machine's memory of {memory:#x} bytes\n"
+    )
+}
+
+/// Tells that untyped memory begins inside another one.
+fn tell_overlap(to: &mut String, before: &UntypedLine<'_>) -> Result<(), AllocError> {
+    let (name, line) = (before.name, before.line);
+    let last = u64::from(before.offset).saturating_add(power(before.bits));
+    write!(
+        to,
+        "it begins inside `{name}` (line {line}), which ends at {last:#x}: untyped memories stand in their order\n"
+    )
+}
+
+/// Tells that an object of so many bytes would end there in its untyped memory.
+fn tell_room(
+    to: &mut String,
+    untyped: &UntypedLine<'_>,
+    size: u64,
+    wanted: u64,
+) -> Result<(), AllocError> {
+    let (name, line) = (untyped.name, untyped.line);
+    let whole = power(untyped.bits);
+    write!(
+        to,
+        "no room: `{name}` (line {line}) has {whole:#x} bytes, and this object of {size:#x} bytes would end at {wanted:#x}, behind those before it\n  make the memory larger, or put small objects behind large ones\n"
+    )
+}
+
+/// Tells that a frame of code is mapped on another line, too.
+fn tell_other_mapping(to: &mut String, name: &str, line: u64) -> Result<(), AllocError> {
+    write!(
+        to,
+        "`{name}` is mapped to execute, and mapped on line {line}, too: code has a frame of its own\n"
+    )
+}
+
+/// Tells that a capability names a frame of code.
+fn tell_named_code(to: &mut String, name: &str, line: u64) -> Result<(), AllocError> {
+    write!(
+        to,
+        "`{name}` is mapped to execute, and a capability names it (line {line}): code has a frame of its own\n"
+    )
+}
+
+/// Tells that a frame of code is filled.
+fn tell_filled_code(to: &mut String, name: &str, line: u64) -> Result<(), AllocError> {
+    write!(
+        to,
+        "`{name}` is mapped to execute, and filled on line {line}: the loader fills it with the program\n"
+    )
+}
+
 impl Items<'_, '_, '_, '_, '_> {
+    /// Tells that an object is of another kind than is wanted.
+    fn tell_kind(&self, to: &mut String, number: usize, wanted: &str) -> Result<(), AllocError> {
+        let name = self.source.object_name(number);
+        let kind = kind_name(self.source.kind(number));
+        write!(to, "`{name}` is {kind}, and no {wanted}\n")
+    }
+
+    /// Where the boot area ends.
+    fn boot_end(&self) -> u64 {
+        power(self.image.header().boot_radix)
+            .saturating_add(KEPT)
+            .saturating_mul(16)
+    }
+
     /// Tells what is wrong with untyped memory.
     fn tell_untyped(&self, to: &mut String, item: u32) -> Result<(), AllocError> {
-        let header = self.image.header();
         let Some(untyped) = self.source.untypeds.get(item as usize) else {
             return Ok(());
         };
         push_line(to, self.text, untyped.line)?;
-        let start = u64::from(untyped.offset);
-        let size = power(untyped.bits);
-        let end = start.saturating_add(size);
-        let memory = power(header.memory_bits);
+        self.tell_bytes(to, item, u64::from(untyped.offset), power(untyped.bits))
+    }
+
+    /// Tells what is wrong with the bytes of untyped memory, which begins there and has so many.
+    fn tell_bytes(
+        &self,
+        to: &mut String,
+        item: u32,
+        start: u64,
+        size: u64,
+    ) -> Result<(), AllocError> {
         if start & size.saturating_sub(1) != 0 {
-            return write!(
-                to,
-                "{start:#x} is no multiple of the size, {size:#x} bytes\n"
-            );
+            return tell_unaligned(to, start, size);
         }
+        let end = start.saturating_add(size);
+        let memory = power(self.image.header().memory_bits);
         if end > memory {
-            return write!(
-                to,
-                "it ends at {end:#x}, behind the machine's memory of {memory:#x} bytes\n"
-            );
+            return tell_end(to, end, memory);
         }
-        let boot = power(header.boot_radix)
-            .saturating_add(KEPT)
-            .saturating_mul(16);
+        self.tell_start(to, item, start)
+    }
+
+    /// Tells what stands where untyped memory begins.
+    fn tell_start(&self, to: &mut String, item: u32, start: u64) -> Result<(), AllocError> {
+        let boot = self.boot_end();
         if start < boot {
             return write!(
                 to,
@@ -110,16 +228,20 @@ impl Items<'_, '_, '_, '_, '_> {
             );
         }
         match self.source.untypeds.get((item as usize).saturating_sub(1)) {
-            Some(before) => {
-                let (name, line) = (before.name, before.line);
-                let last = u64::from(before.offset).saturating_add(power(before.bits));
-                write!(
-                    to,
-                    "it begins inside `{name}` (line {line}), which ends at {last:#x}: untyped memories stand in their order\n"
-                )
-            }
+            Some(before) => tell_overlap(to, before),
             None => to.push_str("it overlaps what stands before it\n"),
         }
+    }
+
+    /// How much of untyped memory the objects before one use.
+    fn used_before(&self, item: usize, untyped: usize) -> u64 {
+        let mut used = 0u64;
+        for (number, other) in self.source.objects.iter().enumerate() {
+            if number < item && other.untyped == untyped {
+                used = behind(used, bits_of(other));
+            }
+        }
+        used
     }
 
     /// Tells which object does not fit into its untyped memory.
@@ -130,43 +252,44 @@ impl Items<'_, '_, '_, '_, '_> {
         let Some(untyped) = self.source.untypeds.get(object.untyped) else {
             return Ok(());
         };
-        let mut used = 0u64;
-        for (number, other) in self.source.objects.iter().enumerate() {
-            if number < item as usize && other.untyped == object.untyped {
-                used = behind(used, bits_of(other));
-            }
-        }
         push_line(to, self.text, object.line)?;
-        let (name, line) = (untyped.name, untyped.line);
-        let (whole, wanted) = (power(untyped.bits), behind(used, bits_of(object)));
-        let size = power(bits_of(object));
+        let bits = bits_of(object);
+        let used = self.used_before(item as usize, object.untyped);
+        tell_room(to, untyped, power(bits), behind(used, bits))
+    }
+
+    /// How many slots the boot CNode needs.
+    fn boot_slots(&self) -> u64 {
+        let header = self.image.header();
+        u64::from(header.untypeds)
+            .saturating_add(u64::from(header.objects))
+            .saturating_add(1)
+            .saturating_add(u64::from(header.interrupts).saturating_mul(2))
+            .saturating_add(u64::from(header.frames))
+    }
+
+    /// Puts what the boot CNode needs its slots for.
+    fn push_boot_needs(&self, to: &mut String) -> Result<(), AllocError> {
+        let header = self.image.header();
+        let (untypeds, objects) = (header.untypeds, header.objects);
+        let (interrupts, frames) = (header.interrupts, header.frames);
         write!(
             to,
-            "no room: `{name}` (line {line}) has {whole:#x} bytes, and this object of {size:#x} bytes would end at {wanted:#x}, behind those before it\n  make the memory larger, or put small objects behind large ones\n"
+            "for untyped memories {untypeds}, objects {objects}, interrupt control 1, interrupts twice {interrupts}, mapped frames {frames}\n"
         )
     }
 
     /// Tells that the boot CNode has too few slots.
     fn tell_boot(&self, to: &mut String) -> Result<(), AllocError> {
-        let header = self.image.header();
-        let needed = u64::from(header.untypeds)
-            .saturating_add(u64::from(header.objects))
-            .saturating_add(1)
-            .saturating_add(u64::from(header.interrupts).saturating_mul(2))
-            .saturating_add(u64::from(header.frames));
-        let there = power(header.boot_radix);
-        let mut radix = header.boot_radix;
-        for _ in 0..14 {
-            if power(radix) < needed {
-                radix = radix.saturating_add(1);
-            }
-        }
-        let (untypeds, objects) = (header.untypeds, header.objects);
-        let (interrupts, frames) = (header.interrupts, header.frames);
+        let given = self.image.header().boot_radix;
+        let (there, needed) = (power(given), self.boot_slots());
         write!(
             to,
-            "line `memory`: the boot CNode has {there} slots, and needs {needed}: for untyped memories {untypeds}, objects {objects}, interrupt control 1, interrupts twice {interrupts}, mapped frames {frames}\n  the radix has to be {radix} or more\n"
-        )
+            "line `memory`: the boot CNode has {there} slots, and needs {needed}: "
+        )?;
+        self.push_boot_needs(to)?;
+        let radix = radix_for(given, needed);
+        write!(to, "  the radix has to be {radix} or more\n")
     }
 
     /// The capability of an item, by its place in the image.
@@ -191,17 +314,21 @@ impl Items<'_, '_, '_, '_, '_> {
             return Ok(());
         };
         push_line(to, self.text, capability.line)?;
-        let cnode = self.source.object_name(capability.cnode);
         if self.source.kind(capability.cnode) != 5 {
-            let kind = kind_name(self.source.kind(capability.cnode));
-            return write!(to, "`{cnode}` is {kind}, and no CNode\n");
+            return self.tell_kind(to, capability.cnode, "CNode");
         }
+        self.tell_slot(to, &capability)
+    }
+
+    /// Tells what is wrong with a capability in the slot of a CNode.
+    fn tell_slot(&self, to: &mut String, capability: &CapabilityLine) -> Result<(), AllocError> {
         let radix = self.source.size(capability.cnode);
         let (index, last) = (capability.index, power(radix).saturating_sub(1));
         if u64::from(index) > last {
+            let cnode = self.source.object_name(capability.cnode);
             return write!(to, "`{cnode}` has the slots 0 to {last}, and no {index}\n");
         }
-        self.tell_source(to, &capability)
+        self.tell_source(to, capability)
     }
 
     /// Tells what is wrong with what a capability names.
@@ -236,21 +363,28 @@ impl Items<'_, '_, '_, '_, '_> {
         None
     }
 
-    /// Tells what is wrong with an interrupt.
-    fn tell_interrupt(&self, to: &mut String, place: u32) -> Result<(), AllocError> {
+    /// The machine's line of an interrupt, by its place in the image.
+    fn machine_line(&self, place: u32) -> Option<u32> {
         let mut number = 0u32;
         for entry in self.image.interrupts() {
             if number == place {
-                for interrupt in &self.source.interrupts {
-                    if interrupt.number == entry.line {
-                        push_line(to, self.text, interrupt.line)?;
-                        let name = self.source.object_name(interrupt.notification);
-                        let kind = kind_name(self.source.kind(interrupt.notification));
-                        return write!(to, "`{name}` is {kind}, and no notification\n");
-                    }
-                }
+                return Some(entry.line);
             }
             number = number.saturating_add(1);
+        }
+        None
+    }
+
+    /// Tells what is wrong with an interrupt.
+    fn tell_interrupt(&self, to: &mut String, place: u32) -> Result<(), AllocError> {
+        let Some(number) = self.machine_line(place) else {
+            return Ok(());
+        };
+        for interrupt in &self.source.interrupts {
+            if interrupt.number == number {
+                push_line(to, self.text, interrupt.line)?;
+                return self.tell_kind(to, interrupt.notification, "notification");
+            }
         }
         Ok(())
     }
@@ -258,25 +392,25 @@ impl Items<'_, '_, '_, '_, '_> {
     /// Tells what is wrong with a table.
     fn tell_table(&self, to: &mut String, table: &TableLine) -> Result<(), AllocError> {
         push_line(to, self.text, table.line)?;
-        let (root, name) = (
-            self.source.object_name(table.root),
-            self.source.object_name(table.table),
-        );
-        let address = table.address;
         if self.source.kind(table.root) != 8 {
-            let kind = kind_name(self.source.kind(table.root));
-            return write!(to, "`{root}` is {kind}, and no root table\n");
+            return self.tell_kind(to, table.root, "root table");
         }
         if self.source.kind(table.table) != 7 {
-            let kind = kind_name(self.source.kind(table.table));
-            return write!(to, "`{name}` is {kind}, and no page table\n");
+            return self.tell_kind(to, table.table, "page table");
         }
+        self.tell_table_place(to, table)
+    }
+
+    /// Tells what is wrong with the place of a table.
+    fn tell_table_place(&self, to: &mut String, table: &TableLine) -> Result<(), AllocError> {
+        let address = table.address;
         if address >= 0x8000_0000 || address % 0x40_0000 != 0 {
             return write!(
                 to,
                 "{address:#x} is no multiple of 0x400000 below 0x80000000\n"
             );
         }
+        let name = self.source.object_name(table.table);
         write!(
             to,
             "`{name}` stands in a second place: each page table has one\n"
@@ -296,19 +430,18 @@ impl Items<'_, '_, '_, '_, '_> {
     /// Tells what is wrong with a frame's mapping.
     fn tell_frame(&self, to: &mut String, frame: &FrameLine) -> Result<(), AllocError> {
         push_line(to, self.text, frame.line)?;
-        let (root, name) = (
-            self.source.object_name(frame.root),
-            self.source.object_name(frame.frame),
-        );
-        let (address, rights) = (frame.address, frame.rights);
         if self.source.kind(frame.root) != 8 {
-            let kind = kind_name(self.source.kind(frame.root));
-            return write!(to, "`{root}` is {kind}, and no root table\n");
+            return self.tell_kind(to, frame.root, "root table");
         }
         if self.source.kind(frame.frame) != 6 {
-            let kind = kind_name(self.source.kind(frame.frame));
-            return write!(to, "`{name}` is {kind}, and no frame\n");
+            return self.tell_kind(to, frame.frame, "frame");
         }
+        self.tell_frame_place(to, frame)
+    }
+
+    /// Tells what is wrong with the address and the rights of a frame's mapping.
+    fn tell_frame_place(&self, to: &mut String, frame: &FrameLine) -> Result<(), AllocError> {
+        let (address, rights) = (frame.address, frame.rights);
         if address >= 0x8000_0000 || address % 4096 != 0 {
             return write!(to, "{address:#x} is no multiple of 4096 below 0x80000000\n");
         }
@@ -318,6 +451,13 @@ impl Items<'_, '_, '_, '_, '_> {
                 "{rights} are no rights of a mapping: read 2, read and write 3, execute 4, read and execute 6\n"
             );
         }
+        self.tell_uncovered(to, frame)
+    }
+
+    /// Tells that no page table covers a frame's address.
+    fn tell_uncovered(&self, to: &mut String, frame: &FrameLine) -> Result<(), AllocError> {
+        let root = self.source.object_name(frame.root);
+        let address = frame.address;
         let region = address - address % 0x40_0000;
         write!(
             to,
@@ -325,18 +465,34 @@ impl Items<'_, '_, '_, '_, '_> {
         )
     }
 
+    /// The line that maps a frame at an address under a root table.
+    fn mapping_at(&self, root: usize, address: u32) -> Option<FrameLine> {
+        for frame in &self.source.frames {
+            if frame.root == root && frame.address == address {
+                return Some(*frame);
+            }
+        }
+        None
+    }
+
     /// The line of a frame's mapping, by its place in the image.
     fn frame_line(&self, place: u32) -> Option<FrameLine> {
         let mut number = 0u32;
         for entry in self.image.frames() {
             if number == place {
-                for frame in &self.source.frames {
-                    if frame.root == entry.root as usize && frame.address == entry.address {
-                        return Some(*frame);
-                    }
-                }
+                return self.mapping_at(entry.root as usize, entry.address);
             }
             number = number.saturating_add(1);
+        }
+        None
+    }
+
+    /// The line of a table at an address under a root table.
+    fn table_at(&self, root: usize, address: u32) -> Option<TableLine> {
+        for table in &self.source.tables {
+            if table.root == root && table.address == address {
+                return Some(*table);
+            }
         }
         None
     }
@@ -346,11 +502,7 @@ impl Items<'_, '_, '_, '_, '_> {
         let mut number = 0u32;
         for entry in self.image.tables() {
             if number == place {
-                for table in &self.source.tables {
-                    if table.root == entry.root as usize && table.address == entry.address {
-                        return Some(*table);
-                    }
-                }
+                return self.table_at(entry.root as usize, entry.address);
             }
             number = number.saturating_add(1);
         }
@@ -359,26 +511,33 @@ impl Items<'_, '_, '_, '_, '_> {
 
     /// Tells what is wrong with a table, a frame's mapping or a content, which are numbered on.
     fn tell_mapping(&self, to: &mut String, item: u32) -> Result<(), AllocError> {
-        let header = self.image.header();
-        if item < header.tables {
+        let tables = self.image.header().tables;
+        if item < tables {
             return match self.table_line(item) {
                 Some(table) => self.tell_table(to, &table),
                 None => Ok(()),
             };
         }
-        let item = item.saturating_sub(header.tables);
-        if item < header.frames {
+        self.tell_filling(to, item.saturating_sub(tables))
+    }
+
+    /// Tells what is wrong with a frame's mapping or a content, which are numbered on.
+    fn tell_filling(&self, to: &mut String, item: u32) -> Result<(), AllocError> {
+        if item < self.image.header().frames {
             return match self.frame_line(item) {
                 Some(frame) => self.tell_frame(to, &frame),
                 None => Ok(()),
             };
         }
+        self.tell_content(to)
+    }
+
+    /// Tells which content fills what is no frame.
+    fn tell_content(&self, to: &mut String) -> Result<(), AllocError> {
         for content in &self.source.contents {
             if self.source.kind(content.frame) != 6 {
                 push_line(to, self.text, content.line)?;
-                let name = self.source.object_name(content.frame);
-                let kind = kind_name(self.source.kind(content.frame));
-                return write!(to, "`{name}` is {kind}, and no frame\n");
+                return self.tell_kind(to, content.frame, "frame");
             }
         }
         Ok(())
@@ -397,25 +556,26 @@ impl Items<'_, '_, '_, '_, '_> {
                 "`{name}` is mapped to write and to execute: code has a frame of its own\n"
             );
         }
-        if let Some(line) = self.other_mapping(&frame) {
-            return write!(
-                to,
-                "`{name}` is mapped to execute, and mapped on line {line}, too: code has a frame of its own\n"
-            );
+        self.tell_shared_code(to, &frame, name)
+    }
+
+    /// Tells what else a frame of code is used for.
+    fn tell_shared_code(
+        &self,
+        to: &mut String,
+        frame: &FrameLine,
+        name: &str,
+    ) -> Result<(), AllocError> {
+        if let Some(line) = self.other_mapping(frame) {
+            return tell_other_mapping(to, name, line);
         }
         if let Some(line) = self.naming(frame.frame) {
-            return write!(
-                to,
-                "`{name}` is mapped to execute, and a capability names it (line {line}): code has a frame of its own\n"
-            );
+            return tell_named_code(to, name, line);
         }
-        if let Some(line) = self.filling(frame.frame) {
-            return write!(
-                to,
-                "`{name}` is mapped to execute, and filled on line {line}: the loader fills it with the program\n"
-            );
+        match self.filling(frame.frame) {
+            Some(line) => tell_filled_code(to, name, line),
+            None => to.push_str("code can be written\n"),
         }
-        to.push_str("code can be written\n")
     }
 
     /// The line of another mapping of the frame that a line maps.
@@ -448,6 +608,19 @@ impl Items<'_, '_, '_, '_, '_> {
         None
     }
 
+    /// Tells what is refused of a thread.
+    fn tell_of_thread(&self, to: &mut String, refusal: Refusal) -> Result<(), AllocError> {
+        match refusal {
+            Refusal::SharedCSpace { thread } => self.tell_shared_cnode(to, thread),
+            Refusal::SharedVSpace { thread } => self.tell_shared_root(to, thread),
+            Refusal::BadThread { thread } => self.tell_thread(to, thread),
+            refusal => {
+                let name = refusal.name();
+                write!(to, "{name}: the image cannot be read\n")
+            }
+        }
+    }
+
     /// Tells what is refused before any program is looked at.
     fn tell(&self, to: &mut String, refusal: Refusal) -> Result<(), AllocError> {
         match refusal {
@@ -455,15 +628,9 @@ impl Items<'_, '_, '_, '_, '_> {
             Refusal::NoRoom { object } => self.tell_no_room(to, object),
             Refusal::BadObject { .. } => self.tell_boot(to),
             Refusal::BadCap { item } => self.tell_capability(to, item),
-            Refusal::SharedCSpace { thread } => self.tell_shared_cnode(to, thread),
-            Refusal::SharedVSpace { thread } => self.tell_shared_root(to, thread),
             Refusal::BadMapping { item } => self.tell_mapping(to, item),
             Refusal::WritableCode { item } => self.tell_writable(to, item),
-            Refusal::BadThread { thread } => self.tell_thread(to, thread),
-            refusal => {
-                let name = refusal.name();
-                write!(to, "{name}: the image cannot be read\n")
-            }
+            refusal => self.tell_of_thread(to, refusal),
         }
     }
 }

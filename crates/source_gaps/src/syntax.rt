@@ -71,6 +71,78 @@ fn declared_on(line: &str) -> Option<&str> {
     }
 }
 
+/// Considers the label that a word declares, if it declares one.
+fn consider_label<'a>(nearest: &mut Nearest<'a>, name: &str, word: &'a str) {
+    if let Some(candidate) = label_in(word) {
+        nearest.consider(name, candidate);
+    }
+}
+
+/// How many words of a line stand before the one that says what it is: a label or none.
+fn words_before(line: &str) -> usize {
+    match word_at(line, 0) {
+        Some(word) if is_label(word) => 1,
+        _ => 0,
+    }
+}
+
+/// Why a line that begins with a word stands out of its place.
+fn place_words(keyword: &str) -> &'static str {
+    match keyword {
+        "range" | "slot" =>
+            "out of its place: it belongs behind a line `measure`, before the instruction\n",
+        "memory" => "out of its place: it stands first, once\n",
+        "measure" => "out of its place: it stands inside a thread, before an instruction\n",
+        "untyped" | "object" | "irq" | "cap" | "table" | "map" | "data" =>
+            "out of its place: a text begins with `memory`, and a declaration stands in no thread: `end` ends one\n",
+        "thread" =>
+            "out of its place: a text begins with `memory`, and the thread before ends with `end`, as this one does\n",
+        "end" =>
+            "out of its place: it ends a thread, and no `measure` may wait for its instruction\n",
+        "" => "the text ends here: it begins with `memory`, and each thread ends with `end`\n",
+        _ => "out of its place: it stands between a line `thread` and its `end`\n",
+    }
+}
+
+/// What is out of its range in a line that begins with a word.
+fn range_words(keyword: &str) -> &'static str {
+    match keyword {
+        "object" =>
+            "objects stand in the order of their untyped memories, and there are at most 4096\n",
+        "end" =>
+            "a thread has at least one instruction; a text has at least one thread, and untyped memory\n",
+        "measure" =>
+            "an instruction has one `measure`, with each register once and at most 4 terms\n",
+        "data" => "a frame begins with at most 1024 words\n",
+        "memory" | "" => "a text has untyped memory and at least one thread\n",
+        _ =>
+            "a number is out of its range, the target is too far away, or there are too many such lines\n",
+    }
+}
+
+/// What stands in the brackets of a word, or the word if it has none.
+fn inside_brackets(word: &str) -> &str {
+    let inside = match word.split_once('(') {
+        Some((_, inside)) => inside,
+        None => word,
+    };
+    match inside.split_once(')') {
+        Some((name, _)) => name,
+        None => inside,
+    }
+}
+
+/// Puts how a register is written, if a word is its usual name.
+fn push_register(to: &mut String, name: &str) -> Result<(), AllocError> {
+    match register_name(name) {
+        Some(number) => write!(
+            to,
+            "  registers are written x0 to x31: `{name}` is `x{number}`\n"
+        ),
+        None => Ok(()),
+    }
+}
+
 impl<'t> Fault<'t> {
     /// A word of the line, counted from the one that says what the line is.
     fn word(&self, place: usize) -> Option<&'t str> {
@@ -139,11 +211,7 @@ impl<'t> Fault<'t> {
             match word_at(line, 0) {
                 Some("thread") if number <= self.number => nearest = Nearest::to(name),
                 Some("end") if number > self.number => return nearest.name,
-                Some(word) => {
-                    if let Some(candidate) = label_in(word) {
-                        nearest.consider(name, candidate);
-                    }
-                }
+                Some(word) => consider_label(&mut nearest, name, word),
                 None => {}
             }
         }
@@ -173,54 +241,31 @@ impl<'t> Fault<'t> {
     fn push_registers(&self, to: &mut String) -> Result<(), AllocError> {
         for place in 1..5 {
             let word = self.word(place).unwrap_or("");
-            let inside = match word.split_once('(') {
-                Some((_, inside)) => inside,
-                None => word,
-            };
-            let name = match inside.split_once(')') {
-                Some((name, _)) => name,
-                None => inside,
-            };
-            if let Some(number) = register_name(name) {
-                write!(
-                    to,
-                    "  registers are written x0 to x31: `{name}` is `x{number}`\n"
-                )?;
-            }
+            push_register(to, inside_brackets(word))?;
         }
         Ok(())
     }
 
-    /// Why a line stands out of its place.
-    fn push_place(&self, to: &mut String) -> Result<(), AllocError> {
-        match self.keyword() {
-            "range" | "slot" => to.push_str(
-                "out of its place: it belongs behind a line `measure`, before the instruction\n",
-            ),
-            "memory" => to.push_str("out of its place: it stands first, once\n"),
-            "measure" => to.push_str(
-                "out of its place: it stands inside a thread, before an instruction\n",
-            ),
-            "untyped" | "object" | "irq" | "cap" | "table" | "map" | "data" => to.push_str(
-                "out of its place: a text begins with `memory`, and a declaration stands in no thread: `end` ends one\n",
-            ),
-            "thread" => to.push_str(
-                "out of its place: a text begins with `memory`, and the thread before ends with `end`, as this one does\n",
-            ),
-            "end" => to.push_str(
-                "out of its place: it ends a thread, and no `measure` may wait for its instruction\n",
-            ),
-            "" => to.push_str(
-                "the text ends here: it begins with `memory`, and each thread ends with `end`\n",
-            ),
-            _ => to.push_str("out of its place: it stands between a line `thread` and its `end`\n"),
+    /// A line that has not the form of those that begin with its word.
+    fn push_other_form(&self, to: &mut String) -> Result<(), AllocError> {
+        to.push_str("not of the form that such a line has\n")?;
+        self.push_form(to)?;
+        self.push_registers(to)
+    }
+
+    /// A word with which no line begins.
+    fn push_no_keyword(&self, to: &mut String, keyword: &str) -> Result<(), AllocError> {
+        if let Some(long) = long_form(keyword) {
+            return write!(to, "there is no `{keyword}`: write {long}\n");
         }
+        write!(to, "no line begins with `{keyword}`")?;
+        self.push_nearest(to, nearest_word(keyword))
     }
 
     /// A line that is none of the text form, or stands out of its place.
     fn push_syntax(&self, to: &mut String) -> Result<(), AllocError> {
         if parse_line(self.line).is_ok() {
-            return self.push_place(to);
+            return to.push_str(place_words(self.keyword()));
         }
         if has_automatic_budget(self.line) {
             return to.push_str(
@@ -229,33 +274,51 @@ impl<'t> Fault<'t> {
         }
         let keyword = self.keyword();
         if form_of(keyword).is_some() {
-            to.push_str("not of the form that such a line has\n")?;
-            self.push_form(to)?;
-            return self.push_registers(to);
+            return self.push_other_form(to);
         }
-        if let Some(long) = long_form(keyword) {
-            return write!(to, "there is no `{keyword}`: write {long}\n");
+        self.push_no_keyword(to, keyword)
+    }
+
+    /// The first name of the line that nothing before it has.
+    fn unknown_name(&self) -> Option<&'t str> {
+        for place in names_at(self.keyword()) {
+            let name = self.word(*place).unwrap_or("");
+            if name != "boot" && self.declared_at(name).is_none() {
+                return Some(name);
+            }
         }
-        write!(to, "no line begins with `{keyword}`")?;
-        self.push_nearest(to, nearest_word(keyword))
+        None
+    }
+
+    /// The label that the line names, if no line has it.
+    fn unknown_label(&self) -> Option<&'t str> {
+        let place = label_at(self.keyword())?;
+        let name = self.word(place).unwrap_or("");
+        match self.label_line(name) {
+            Some(_) => None,
+            None => Some(name),
+        }
+    }
+
+    /// A name that nothing before the line has.
+    fn push_unknown_name(&self, to: &mut String, name: &str) -> Result<(), AllocError> {
+        write!(to, "nothing is named `{name}` before this line")?;
+        self.push_nearest(to, self.nearest_name(name))
+    }
+
+    /// A label that no line has.
+    fn push_unknown_label(&self, to: &mut String, name: &str) -> Result<(), AllocError> {
+        write!(to, "no line of the thread has the label `{name}`")?;
+        self.push_nearest(to, self.nearest_label(name))
     }
 
     /// A name that nothing has.
     fn push_unknown(&self, to: &mut String) -> Result<(), AllocError> {
-        let keyword = self.keyword();
-        for place in names_at(keyword) {
-            let name = self.word(*place).unwrap_or("");
-            if name != "boot" && self.declared_at(name).is_none() {
-                write!(to, "nothing is named `{name}` before this line")?;
-                return self.push_nearest(to, self.nearest_name(name));
-            }
+        if let Some(name) = self.unknown_name() {
+            return self.push_unknown_name(to, name);
         }
-        if let Some(place) = label_at(keyword) {
-            let name = self.word(place).unwrap_or("");
-            if self.label_line(name).is_none() {
-                write!(to, "no line of the thread has the label `{name}`")?;
-                return self.push_nearest(to, self.nearest_label(name));
-            }
+        if let Some(name) = self.unknown_label() {
+            return self.push_unknown_label(to, name);
         }
         to.push_str(
             "a name is of another sort than is wanted: untyped memory, objects and interrupt lines are three sorts\n",
@@ -263,16 +326,21 @@ impl<'t> Fault<'t> {
         self.push_form(to)
     }
 
-    /// A name or a label that is there already.
-    fn push_duplicate(&self, to: &mut String) -> Result<(), AllocError> {
+    /// The name or the label that the line declares, and the line on which it is declared before.
+    fn declared_before(&self) -> (&'t str, Option<u64>) {
         let first = word_at(self.line, 0).unwrap_or("");
-        let (name, line) = match label_in(first) {
+        match label_in(first) {
             Some(label) => (label, self.label_line(label)),
             None => {
                 let name = word_at(self.line, 1).unwrap_or("");
                 (name, self.declared_at(name))
             }
-        };
+        }
+    }
+
+    /// A name or a label that is there already.
+    fn push_duplicate(&self, to: &mut String) -> Result<(), AllocError> {
+        let (name, line) = self.declared_before();
         match line {
             Some(line) => write!(
                 to,
@@ -282,20 +350,33 @@ impl<'t> Fault<'t> {
         }
     }
 
+    /// Whether a word of a line is that of this one.
+    fn has_word_of(&self, line: &str, place: usize) -> bool {
+        word_at(line, place) == self.word(place)
+    }
+
+    /// Whether a line that begins with the same word has the same key as this one.
+    fn has_key_of(&self, line: &str) -> bool {
+        match self.keyword() {
+            "cap" | "table" | "map" | "slot" => self.has_word_of(line, 1)
+                && self.has_word_of(line, 2),
+            "data" | "reg" | "range" | "thread" => self.has_word_of(line, 1),
+            "irq" => self.has_word_of(line, 2),
+            _ => false,
+        }
+    }
+
     /// Whether a line begins with the same word and key as this one.
     fn is_same_key(&self, line: &str) -> bool {
-        let shift = match word_at(line, 0) {
-            Some(word) if is_label(word) => 1,
-            _ => 0,
-        };
-        if word_at(line, shift) != self.word(0) {
-            return false;
-        }
+        word_at(line, words_before(line)) == self.word(0) && self.has_key_of(line)
+    }
+
+    /// Whether a line begins an order in which keys like that of this one may stand again.
+    fn is_begun_by(&self, line: &str) -> bool {
+        let keyword = word_at(line, 0).unwrap_or("");
         match self.keyword() {
-            "cap" | "table" | "map" | "slot" => word_at(line, 1) == self.word(1)
-                && word_at(line, 2) == self.word(2),
-            "data" | "reg" | "range" | "thread" => word_at(line, 1) == self.word(1),
-            "irq" => word_at(line, 2) == self.word(2),
+            "reg" => keyword == "thread",
+            "range" | "slot" => keyword == "measure",
             _ => false,
         }
     }
@@ -309,13 +390,7 @@ impl<'t> Fault<'t> {
             if number >= self.number {
                 return found;
             }
-            let keyword = word_at(line, 0).unwrap_or("");
-            let begins = match self.keyword() {
-                "reg" => keyword == "thread",
-                "range" | "slot" => keyword == "measure",
-                _ => false,
-            };
-            if begins {
+            if self.is_begun_by(line) {
                 found = None;
             } else if self.is_same_key(line) {
                 found = Some(number);
@@ -333,18 +408,7 @@ impl<'t> Fault<'t> {
         if let Some(line) = self.same_key_line() {
             return write!(to, "line {line} says this already\n");
         }
-        to.push_str(match self.keyword() {
-            "object" =>
-                "objects stand in the order of their untyped memories, and there are at most 4096\n",
-            "end" =>
-                "a thread has at least one instruction; a text has at least one thread, and untyped memory\n",
-            "measure" =>
-                "an instruction has one `measure`, with each register once and at most 4 terms\n",
-            "data" => "a frame begins with at most 1024 words\n",
-            "memory" | "" => "a text has untyped memory and at least one thread\n",
-            _ =>
-                "a number is out of its range, the target is too far away, or there are too many such lines\n",
-        })?;
+        to.push_str(range_words(self.keyword()))?;
         self.push_form(to)
     }
 }
@@ -356,12 +420,11 @@ impl<'t> Fault<'t> {
 /// Want of memory.
 pub fn tell_fault(to: &mut String, text: &str, found: SourceFault) -> Result<(), AllocError> {
     let line = line_of(text, found.line);
-    let first = word_at(line, 0).unwrap_or("");
     let fault = Fault {
         text,
         number: found.line,
         line,
-        before: if is_label(first) { 1 } else { 0 },
+        before: words_before(line),
     };
     push_line(to, text, found.line)?;
     match found.kind {

@@ -3,16 +3,41 @@
 use crate::item_gaps::Items;
 use crate::lines::push_line;
 use image::ThreadRef;
-use source_texts::SourceThread;
+use source_texts::{CapabilityLine, Source, SourceThread};
 use std::alloc::AllocError;
 use thread_spaces::reached_of;
 use wellformed::NumberSet;
+
+/// The number of the kind of a TCB.
+const TCB: u32 = 2;
+
+/// The number of the kind of a CNode.
+const CNODE: u32 = 5;
 
 /// The number of the kind of a root table.
 const ROOT: u32 = 8;
 
 /// The least address that no program may reach.
 const LIMIT: u64 = 0x8000_0000;
+
+/// The first number of a set that another set has, too.
+fn first_in_both(own: &NumberSet, others: &NumberSet) -> Option<u32> {
+    for place in 0..own.len() {
+        let number = own.at(place);
+        if others.contains(number) {
+            return Some(number);
+        }
+    }
+    None
+}
+
+/// Tells that a thread's guard word is not valid for a CNode.
+fn tell_thread_guard(to: &mut String, guard: u32, radix: u32) -> Result<(), AllocError> {
+    write!(
+        to,
+        "has the guard word {guard:#x}, which is not valid for a CNode of 2^{radix} slots: its low 5 bits are the guard's size, at most 32 - {radix}, and the guard above them fits into it\n"
+    )
+}
 
 impl Items<'_, '_, '_, '_, '_> {
     /// The CNodes that a thread of the image reaches.
@@ -41,20 +66,36 @@ impl Items<'_, '_, '_, '_, '_> {
         }
         let own = self.reached(&self.image.thread(item))?;
         for number in 0..item {
-            let others = self.reached(&self.image.thread(number))?;
-            for place in 0..own.len() {
-                let cnode = own.at(place);
-                if others.contains(cnode) {
-                    let name = self.source.object_name(cnode as usize);
-                    let other = self.thread_name(number);
-                    return write!(
-                        to,
-                        "reaches the CNode `{name}`, as thread {other} does: each thread has CNodes of its own\n"
-                    );
-                }
+            if let Some(cnode) = self.shared_cnode(&own, &self.image.thread(number))? {
+                return self.push_shared_cnode(to, cnode, number);
             }
         }
         to.push_str("reaches a CNode that another one reaches\n")
+    }
+
+    /// One of these CNodes that another thread reaches, too.
+    fn shared_cnode(
+        &self,
+        own: &NumberSet,
+        thread: &ThreadRef<'_>,
+    ) -> Result<Option<u32>, AllocError> {
+        let others = self.reached(thread)?;
+        Ok(first_in_both(own, &others))
+    }
+
+    /// Puts which CNode a thread shares, and with which one.
+    fn push_shared_cnode(
+        &self,
+        to: &mut String,
+        cnode: u32,
+        thread: u32,
+    ) -> Result<(), AllocError> {
+        let name = self.source.object_name(cnode as usize);
+        let other = self.thread_name(thread);
+        write!(
+            to,
+            "reaches the CNode `{name}`, as thread {other} does: each thread has CNodes of its own\n"
+        )
     }
 
     /// The name of a thread.
@@ -70,40 +111,105 @@ impl Items<'_, '_, '_, '_, '_> {
         self.source.kind(number) == ROOT && number != root
     }
 
+    /// The earliest thread before one that has the same root table, by its TCB.
+    fn sharing_root(&self, item: usize, root: usize) -> Option<usize> {
+        for (number, other) in self.source.threads.iter().enumerate() {
+            if number < item && other.root == root {
+                return Some(other.tcb);
+            }
+        }
+        None
+    }
+
     /// Tells which root table a thread shares, or holds beside its own.
     pub(crate) fn tell_shared_root(&self, to: &mut String, item: u32) -> Result<(), AllocError> {
         let Some(thread) = self.source.threads.get(item as usize) else {
             return Ok(());
         };
         self.push_thread(to, thread)?;
-        let root = self.source.object_name(thread.root);
-        for (number, other) in self.source.threads.iter().enumerate() {
-            if number < item as usize && other.root == thread.root {
-                let name = self.source.object_name(other.tcb);
-                return write!(
-                    to,
-                    "has the root table `{root}`, as thread {name} has: each thread has one of its own\n"
-                );
-            }
+        match self.sharing_root(item as usize, thread.root) {
+            Some(tcb) => self.push_shared_root(to, thread.root, tcb),
+            None => self.tell_held_root(to, item, thread.root),
         }
+    }
+
+    /// Puts that a thread has the root table that another one has.
+    fn push_shared_root(&self, to: &mut String, root: usize, tcb: usize) -> Result<(), AllocError> {
+        let root = self.source.object_name(root);
+        let name = self.source.object_name(tcb);
+        write!(
+            to,
+            "has the root table `{root}`, as thread {name} has: each thread has one of its own\n"
+        )
+    }
+
+    /// Tells which root table a thread holds beside its own.
+    fn tell_held_root(&self, to: &mut String, item: u32, root: usize) -> Result<(), AllocError> {
         if item >= self.image.header().threads {
             return to.push_str("\n");
         }
         let own = self.reached(&self.image.thread(item))?;
         for capability in &self.source.capabilities {
-            let cnode = u32::try_from(capability.cnode).unwrap_or(u32::MAX);
-            if let source_texts::Source::Object(number) = capability.source {
-                if self.is_other_root(number, thread.root) && own.contains(cnode) {
-                    let name = self.source.object_name(number);
-                    let line = capability.line;
-                    return write!(
-                        to,
-                        "holds the root table `{name}` (line {line}), which is not its own, `{root}`\n"
-                    );
-                }
+            if let Some(number) = self.held_root(&own, capability, root) {
+                return self.push_held_root(to, number, capability.line, root);
             }
         }
         to.push_str("has the root table of another one\n")
+    }
+
+    /// The root table that a capability in one of these CNodes names, if it is another one than this.
+    fn held_root(
+        &self,
+        own: &NumberSet,
+        capability: &CapabilityLine,
+        root: usize,
+    ) -> Option<usize> {
+        let cnode = u32::try_from(capability.cnode).unwrap_or(u32::MAX);
+        match capability.source {
+            Source::Object(number) if self.is_other_root(number, root) && own.contains(cnode) => {
+                Some(number)
+            }
+            _ => None,
+        }
+    }
+
+    /// Puts which root table a thread holds beside its own, and on which line.
+    fn push_held_root(
+        &self,
+        to: &mut String,
+        number: usize,
+        line: u64,
+        own: usize,
+    ) -> Result<(), AllocError> {
+        let name = self.source.object_name(number);
+        let root = self.source.object_name(own);
+        write!(
+            to,
+            "holds the root table `{name}` (line {line}), which is not its own, `{root}`\n"
+        )
+    }
+
+    /// The object that a thread names where one of another kind is wanted, and what is wanted.
+    fn wrong_object(&self, thread: &SourceThread<'_>) -> Option<(usize, &'static str)> {
+        if self.source.kind(thread.tcb) != TCB {
+            Some((thread.tcb, "a TCB (`tcb`)"))
+        } else if self.source.kind(thread.cnode) != CNODE {
+            Some((thread.cnode, "a CNode"))
+        } else if self.source.kind(thread.root) != ROOT {
+            Some((thread.root, "a root table (`root`)"))
+        } else {
+            None
+        }
+    }
+
+    /// The line of the earliest thread before one that has the same TCB.
+    fn sharing_tcb(&self, item: usize, tcb: usize) -> Option<u64> {
+        for (number, other) in self.source.threads.iter().enumerate() {
+            if number < item && other.tcb == tcb {
+                return Some(other.line);
+            }
+        }
+        None
     }
 
     /// Tells what does not fit of a thread.
@@ -112,31 +218,24 @@ impl Items<'_, '_, '_, '_, '_> {
             return Ok(());
         };
         self.push_thread(to, thread)?;
-        for (number, wanted, what) in [
-            (thread.tcb, 2, "a TCB (`tcb`)"),
-            (thread.cnode, 5, "a CNode"),
-            (thread.root, ROOT, "a root table (`root`)"),
-        ] {
-            if self.source.kind(number) != wanted {
-                let name = self.source.object_name(number);
-                return write!(to, "names `{name}`, which is not {what}\n");
-            }
+        if let Some((number, what)) = self.wrong_object(thread) {
+            let name = self.source.object_name(number);
+            return write!(to, "names `{name}`, which is not {what}\n");
         }
-        for (number, other) in self.source.threads.iter().enumerate() {
-            if number < item as usize && other.tcb == thread.tcb {
-                let line = other.line;
-                return write!(to, "has the TCB of the thread on line {line}\n");
-            }
+        if let Some(line) = self.sharing_tcb(item as usize, thread.tcb) {
+            return write!(to, "has the TCB of the thread on line {line}\n");
         }
+        self.tell_start_of(to, thread)
+    }
+
+    /// Tells what does not fit of a thread whose objects do.
+    fn tell_start_of(&self, to: &mut String, thread: &SourceThread<'_>) -> Result<(), AllocError> {
         let radix = self.source.size(thread.cnode);
-        if !capwords::is_guard_word(radix.min(255) as u8, thread.guard) {
-            let guard = thread.guard;
-            return write!(
-                to,
-                "has the guard word {guard:#x}, which is not valid for a CNode of 2^{radix} slots: its low 5 bits are the guard's size, at most 32 - {radix}, and the guard above them fits into it\n"
-            );
+        if capwords::is_guard_word(radix.min(255) as u8, thread.guard) {
+            self.tell_place(to, thread)
+        } else {
+            tell_thread_guard(to, thread.guard, radix)
         }
-        self.tell_place(to, thread)
     }
 
     /// Whether a page is mapped under a root table with the right to execute.
@@ -147,6 +246,19 @@ impl Items<'_, '_, '_, '_, '_> {
             }
         }
         false
+    }
+
+    /// The first page of a thread's program that is not mapped to execute.
+    fn unmapped_page(&self, thread: &SourceThread<'_>, end: u64) -> Option<u64> {
+        let base = u64::from(thread.base);
+        let pages = end.saturating_sub(base).saturating_add(4095) / 4096;
+        for place in 0..pages {
+            let address = base.saturating_add(place.saturating_mul(4096));
+            if !self.is_executed(thread.root, address) {
+                return Some(address);
+            }
+        }
+        None
     }
 
     /// Tells what does not fit of a thread's program and its entry.
@@ -166,18 +278,35 @@ impl Items<'_, '_, '_, '_, '_> {
                 "has a program that ends at {end:#x}, behind 0x80000000\n"
             );
         }
-        let root = self.source.object_name(thread.root);
-        let pages = end.saturating_sub(u64::from(base)).saturating_add(4095) / 4096;
-        for place in 0..pages {
-            let address = u64::from(base).saturating_add(place.saturating_mul(4096));
-            if !self.is_executed(thread.root, address) {
-                return write!(
-                    to,
-                    "has {count} instructions from {base:#x} on, and the page {address:#x} is not mapped under `{root}` with execute (4)\n"
-                );
-            }
+        self.tell_pages(to, thread, end)
+    }
+
+    /// Tells which page of a thread's program is not mapped, or where the thread starts behind its program.
+    fn tell_pages(
+        &self,
+        to: &mut String,
+        thread: &SourceThread<'_>,
+        end: u64,
+    ) -> Result<(), AllocError> {
+        if let Some(page) = self.unmapped_page(thread, end) {
+            return self.push_unmapped(to, thread, page);
         }
         let entry = thread.entry;
         write!(to, "starts at `{entry}`, behind its last instruction\n")
+    }
+
+    /// Puts which page of a thread's program is not mapped.
+    fn push_unmapped(
+        &self,
+        to: &mut String,
+        thread: &SourceThread<'_>,
+        page: u64,
+    ) -> Result<(), AllocError> {
+        let (count, base) = (thread.points.len(), thread.base);
+        let root = self.source.object_name(thread.root);
+        write!(
+            to,
+            "has {count} instructions from {base:#x} on, and the page {page:#x} is not mapped under `{root}` with execute (4)\n"
+        )
     }
 }
