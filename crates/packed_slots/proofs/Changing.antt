@@ -35,6 +35,19 @@ near p s is there = omega (arith, open-near p.open_slots s there, is.few)
 pub whole : (p : Packed) → IsPacked p → length p.memory % 16 ≡ 0
 whole p is = omega (arith, is.long)
 
+-- the same of bytes of that length
+pub inside-as : (p : Packed) (s : ℕ) (m : List ℕ) → IsPacked p → is_open_in p.open_slots s ≡ true → length m ≡ length p.memory → 16 * (s + 1) ≤ length m
+inside-as p s m is there size = subst (λ n. 16 * (s + 1) ≤ n) (sym size) (inside p s is there)
+
+pub whole-as : (p : Packed) (m : List ℕ) → IsPacked p → length m ≡ length p.memory → length m % 16 ≡ 0
+whole-as p m is size = ap (λ n. n % 16) size ∙ whole p is
+
+pub few-as : (p : Packed) (m : List ℕ) → IsPacked p → length m ≡ length p.memory → length m ≤ 2 ^ 24
+few-as p m is size = omega (arith, is.long, is.few)
+
+pub empty-open : (p : Packed) (s : ℕ) → packed_slots p s ≡ Some empty_entry → is_open_in p.open_slots s ≡ true
+empty-open p s is = open-from (words_in p.memory) p.open_slots (packed_rows p) s empty_entry is
+
 pub full-open : (p : Packed) (s : ℕ) → is_full (packed_slots p) s ≡ true → is_open_in p.open_slots s ≡ true
 full-open p s full = open-full (words_in p.memory) p.open_slots (packed_rows p) s full
 

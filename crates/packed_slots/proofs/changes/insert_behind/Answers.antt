@@ -3,9 +3,37 @@ use Rattle.std.proofs.Common.{ℕ, ◌∙◌, ◌+◌, List, Some, sym, ap, subs
 use Rattle.model.specs.Capabilities.Slots.{empty_entry, inserted}
 use Rattle.packed_slots.specs.Packing.{IsChanged, Packed, head_of, packed_rows, packed_slots, packing, tail_of}
 use Rattle.packed_slots.specs.Words.{linked_behind, words_in}
-use Rattle.packed_slots.proofs.Changing.{capped-depth, capped-near, depth-full, inserted_behind}
+use Rattle.packed_slots.proofs.Changing.{capped-depth, capped-near, depth-full, empty-open, full-open, inserted_behind, inside, inside-as, whole-as}
 use Rattle.packed_slots.proofs.PackedFacts.{open-from}
 use Rattle.packed_slots.proofs.changes.insert_behind.Goals as goal
+
+pub put_capability-requires-clause-inside : goal.put_capability-requires-clause-inside
+put_capability-requires-clause-inside c =
+    let p : Packed = packing c.args.memory.now c.args.open_slots.now c.args.first.now in
+    inside p c.args.slot c.requires.packed (empty-open p c.args.slot c.requires.empty)
+
+pub put_capability-requires-clause-valid : goal.put_capability-requires-clause-valid
+put_capability-requires-clause-valid c = c.requires.valid
+
+pub depth-above-requires : goal.depth-above-requires
+depth-above-requires c =
+    let p : Packed = packing c.args.memory.now c.args.open_slots.now c.args.first.now in
+    whole-as p c.put_capability.new.memory c.requires.packed c.put_capability.ensures.size
+
+pub link_behind-requires-clause-whole : goal.link_behind-requires-clause-whole
+link_behind-requires-clause-whole c =
+    let p : Packed = packing c.args.memory.now c.args.open_slots.now c.args.first.now in
+    whole-as p c.put_capability.new.memory c.requires.packed c.put_capability.ensures.size
+
+pub link_behind-requires-clause-inside : goal.link_behind-requires-clause-inside
+link_behind-requires-clause-inside c =
+    let p : Packed = packing c.args.memory.now c.args.open_slots.now c.args.first.now in
+    inside-as p c.args.slot c.put_capability.new.memory c.requires.packed (empty-open p c.args.slot c.requires.empty) c.put_capability.ensures.size
+
+pub link_behind-requires-clause-beside : goal.link_behind-requires-clause-beside
+link_behind-requires-clause-beside c =
+    let p : Packed = packing c.args.memory.now c.args.open_slots.now c.args.first.now in
+    inside-as p c.args.parent c.put_capability.new.memory c.requires.packed (full-open p c.args.parent c.requires.full) c.put_capability.ensures.size
 
 pub link_behind-requires-clause-behind : goal.link_behind-requires-clause-behind
 link_behind-requires-clause-behind c =

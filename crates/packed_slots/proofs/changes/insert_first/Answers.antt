@@ -3,8 +3,21 @@ use Rattle.std.proofs.Common.{ℕ, ◌∙◌, List, Some, None, sym, ap, subst, 
 use Rattle.model.specs.Capabilities.Slots.{inserted}
 use Rattle.packed_slots.specs.Packing.{IsChanged, Packed, packed_slots, packing}
 use Rattle.packed_slots.specs.Words.{linked_first}
-use Rattle.packed_slots.proofs.Changing.{first-there, inserted_first, inside}
+use Rattle.packed_slots.proofs.Changing.{empty-open, first-there, inserted_first, inside, inside-as}
 use Rattle.packed_slots.proofs.changes.insert_first.Goals as goal
+
+pub put_capability-requires-clause-inside : goal.put_capability-requires-clause-inside
+put_capability-requires-clause-inside c =
+    let p : Packed = packing c.args.memory.now c.args.open_slots.now c.args.first.now in
+    inside p c.args.slot c.requires.packed (empty-open p c.args.slot c.requires.empty)
+
+pub put_capability-requires-clause-valid : goal.put_capability-requires-clause-valid
+put_capability-requires-clause-valid c = c.requires.valid
+
+pub link_first-requires-clause-inside : goal.link_first-requires-clause-inside
+link_first-requires-clause-inside c =
+    let p : Packed = packing c.args.memory.now c.args.open_slots.now c.args.first.now in
+    inside-as p c.args.slot c.put_capability.new.memory c.requires.packed (empty-open p c.args.slot c.requires.empty) c.put_capability.ensures.size
 
 pub link_first-requires-clause-behind : goal.link_first-requires-clause-behind
 link_first-requires-clause-behind c =
