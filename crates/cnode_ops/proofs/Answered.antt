@@ -1,11 +1,11 @@
--- What Copy and Mint answer, and what a child leaves.
+-- What Copy, Mint and Move answer, and what a child leaves.
 use Rattle.std.proofs.Common.{ℕ, ◌≡◌, ◌∙◌, ◌<◌, ◌↔◌, Bool, true, false, not, Some, List, Result, Ok, Err, IsOk, OnOk, OnErr, refl, sym, ap, subst}
 use Rattle.std.specs.Prelude.{nat_lt}
 use Rattle.std.proofs.lemmas.Bool.{lt-ltb, ltb-true}
 use Rattle.model.specs.Capabilities.CapabilityKinds.{badge_fits, copied, guard_fits, is_badged, may_be_copied, with_payload}
-use Rattle.model.specs.Capabilities.Slots.{SameOutside, Slots, capability_at, depth_of, inserted}
+use Rattle.model.specs.Capabilities.Slots.{SameOutside, Slots, capability_at, depth_of, inserted, relocated}
 use Rattle.model.specs.Kernel.Arguments.{◌>>=◌, Call, check, destination_slot, may_have_child, source_slot}
-use Rattle.model.specs.Kernel.CNodeCalls.{copy, mint}
+use Rattle.model.specs.Kernel.CNodeCalls.{copy, mint, move}
 use Rattle.model.specs.Kernel.State.{State, with_slots}
 use Rattle.model.specs.declared.capabilities.Cap.{Cap}
 use Rattle.model.specs.declared.errors.KError.{KError}
@@ -124,3 +124,15 @@ module _ (s : State) (slots : Slots) (call : Call) (root node : Cap) (destinatio
 
   pub copy-unnamed : (error : KError) → named_slots slots root node destination source ≡ Err error → copy (with_slots s slots) call destination source word ≡ Err error
   copy-unnamed error refused = names-refused slots call root node destination source copied_behind same_root same_node error refused
+
+-- ---- Move
+
+module _ (s : State) (slots : Slots) (call : Call) (root node : Cap) (destination source : SlotName) (same_root : call.root ≡ root) (same_node : call.capability ≡ node) where
+  abbrev moved_to : ℕ → ℕ → Result State KError
+  moved_to to from = Ok (with_slots s (relocated slots from to))
+
+  pub move-gives : (to from : ℕ) → named_slots slots root node destination source ≡ Ok (to, from) → move (with_slots s slots) call destination source ≡ moved_to to from
+  move-gives to from named = behind-names slots call root node destination source moved_to same_root same_node to from named
+
+  pub move-unnamed : (error : KError) → named_slots slots root node destination source ≡ Err error → move (with_slots s slots) call destination source ≡ Err error
+  move-unnamed error refused = names-refused slots call root node destination source moved_to same_root same_node error refused

@@ -1,17 +1,19 @@
 -- Retype is its checks one after another.
-use Rattle.std.proofs.Common.{ℕ, ◌≡◌, ◌∙◌, ◌==◌, ◌+◌, Bool, true, false, not, if◌then◌else◌, Option, Some, None, Result, Ok, Err, refl, sym, ap}
+use Rattle.std.proofs.Common.{ℕ, ◌≡◌, ◌∙◌, ◌==◌, ◌+◌, ◌<◌, Bool, true, false, not, if◌then◌else◌, Option, Some, None, Result, Ok, Err, refl, sym, ap}
+use Rattle.std.specs.Prelude.{nat_lt}
+use Rattle.std.proofs.lemmas.Bool.{ltb-true}
 use Rattle.cnode_ops.specs.Placed.{used_to, with_placed}
 use Rattle.cnode_ops.specs.RetypeChecks.{asked_type, behind_offset, has_slots, named_node, places, window}
 use Rattle.model.specs.Capabilities.CapabilityKinds.{Node, cnode_of}
 use Rattle.model.specs.Capabilities.Placement.{placement}
-use Rattle.model.specs.Capabilities.Slots.{Slots, capability_at, recapped}
+use Rattle.model.specs.Capabilities.Slots.{Slots, capability_at, depth_of, recapped}
 use Rattle.model.specs.Kernel.Arguments.{◌>>=◌, argument_slot, check, may_have_child, wanted}
 use Rattle.model.specs.Kernel.Retype.{NewObject, NewObjects, any_full, is_large_enough, is_small_enough, node, object_bits, retype, type_of, with_new}
 use Rattle.model.specs.Kernel.State.{State, slot_of, with_slots}
 use Rattle.model.specs.declared.capabilities.Cap.{Cap}
 use Rattle.model.specs.declared.capabilities.Cap.TheVariants.{Untyped}
 use Rattle.model.specs.declared.errors.KError.{KError}
-use Rattle.model.specs.declared.errors.KError.TheVariants.{DeleteFirst, FailedLookup, InvalidArgument, NotEnoughMemory, RangeError}
+use Rattle.model.specs.declared.errors.KError.TheVariants.{DeleteFirst, FailedLookup, IllegalOperation, InvalidArgument, NotEnoughMemory, RangeError}
 use Rattle.model.specs.declared.invocations.RetypeCall.{RetypeCall}
 use Rattle.model.specs.declared.invocations.UntypedMemory.{UntypedMemory}
 
@@ -58,6 +60,14 @@ place-first : (o : Option (ℕ × ℕ)) (offset : ℕ) (rest : ℕ → ℕ → S
     → (wanted o NotEnoughMemory >>= λ place. Ok (rest (offset + place.0) place.1)) ≡ (behind_offset offset o >>= λ place. Ok (rest place.0 place.1))
 place-first None offset rest = refl
 place-first (Some place) offset rest = refl
+
+-- a child may hang below a slot that is not of the greatest depth
+room-passed : (depth : ℕ) (nothing : Unit {0}) → check (nat_lt depth 255) IllegalOperation ≡ Ok nothing → depth < 255
+room-passed depth nothing passed =
+    ltb-true depth 255 (elim (nat_lt depth 255) as (λ b. check b IllegalOperation ≡ Ok nothing → b ≡ true) [ true ↦ λ is. refl | false ↦ λ is. absurd (cc) ] passed)
+
+pub child-room : (slots : Slots) (slot : ℕ) (nothing : Unit {0}) → may_have_child slots slot ≡ Ok nothing → depth_of slots slot < 255
+child-room slots slot nothing passed = room-passed (depth_of slots slot) nothing passed
 
 -- ---- what is left of the call behind each group
 

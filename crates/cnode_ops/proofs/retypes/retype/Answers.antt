@@ -1,15 +1,17 @@
 -- The checks are those of the definition, in its order.
-use Rattle.std.proofs.Common.{◌≡◌, ◌∙◌, Ok, refl, sym, ap, subst}
+use Rattle.std.proofs.Common.{◌≡◌, ◌∙◌, not, Ok, refl, sym, ap, subst}
 use Rattle.std.proofs.lemmas.Result.{err_from_is_err_and}
+use Rattle.model.proofs.Ancestors.{full-open}
 use Rattle.cnode_ops.specs.Nodes.{CNodesAreOpen}
 use Rattle.cnode_ops.specs.Placed.{new_type}
 use Rattle.cnode_ops.proofs.FreeWindows.{window-counted}
 use Rattle.cnode_ops.proofs.OpenNodes.{sound-nodes}
 use Rattle.cnode_ops.proofs.PlacedObjects.{asked-sized, placed}
-use Rattle.cnode_ops.proofs.RetypeSteps.{child-refused, made-placed, node-refused, place-refused, retype-gives, type-refused, window-refused}
+use Rattle.cnode_ops.proofs.RetypeSteps.{child-refused, child-room, made-placed, node-refused, place-refused, retype-gives, type-refused, window-refused}
 use Rattle.model.specs.Capabilities.CapabilityWords.{IsCapability}
-use Rattle.model.specs.Capabilities.Slots.{Slots, capability_at}
+use Rattle.model.specs.Capabilities.Slots.{IsDerivation, Slots, capability_at, is_empty}
 use Rattle.model.specs.Kernel.State.{State}
+use Rattle.model.specs.declared.capabilities.Cap.{Cap}
 use Rattle.cnode_ops.proofs.retypes.retype.Goals as goal
 
 pub returns-in_err-kind-clause-outcome : goal.returns-in_err-kind-clause-outcome
@@ -85,3 +87,44 @@ returns-clause-outcome g c =
     c.in_ok-may_have_child.ensures c.in_ok-first.first c.in_ok-first.watermark c.in_ok-first.ensures
     ∙ ap (λ (t : State). Ok t) (made-placed s slots c.args.root c.args.slot c.args.memory c.args.call has c.requires.held
     (new_type c.in_ok-kind.kind) c.in_ok-window.window c.in_ok-first.first c.in_ok-first.watermark ∙ sym c.begin.ensures.state)
+
+pub named_node-requires-clause-valid : goal.named_node-requires-clause-valid
+named_node-requires-clause-valid g c = c.requires.valid
+
+pub named_node-requires-clause-there : goal.named_node-requires-clause-there
+named_node-requires-clause-there g c = c.requires.there
+
+pub window-requires-clause-valid : goal.window-requires-clause-valid
+window-requires-clause-valid g c = c.in_ok-node.ensures.valid
+
+pub window-requires-clause-there : goal.window-requires-clause-there
+window-requires-clause-there g c = c.in_ok-node.ensures.there
+
+pub window-requires-clause-tree : goal.window-requires-clause-tree
+window-requires-clause-tree g c = subst IsDerivation (g.met.B.Begins.of_slots _ _ _) c.requires.sound.slots.derivation
+
+pub may_have_child-requires : goal.may_have_child-requires
+may_have_child-requires g c =
+    full-open (g.S.SlotMap.slots c.args.store.now) c.args.slot (ap (λ (held : Cap). not (is_empty held)) c.requires.held)
+
+pub places-requires-clause-small : goal.places-requires-clause-small
+places-requires-clause-small g c = (asked-sized c.args.call.kind c.args.call.size (new_type c.in_ok-kind.kind) c.in_ok-kind.ensures).1
+
+pub places-requires-clause-few : goal.places-requires-clause-few
+places-requires-clause-few g c =
+    (window-counted (g.S.SlotMap.slots c.args.store.now) c.in_ok-node.node c.args.call.index c.args.call.count c.in_ok-window.window c.in_ok-window.ensures.value).1
+
+pub begin-requires-clause-agree : goal.begin-requires-clause-agree
+begin-requires-clause-agree g c = c.requires.agree
+
+pub begin-requires-clause-sound : goal.begin-requires-clause-sound
+begin-requires-clause-sound g c = c.requires.sound
+
+pub begin-requires-clause-window : goal.begin-requires-clause-window
+begin-requires-clause-window g c = c.in_ok-window.ensures.free
+
+pub begin-requires-clause-room : goal.begin-requires-clause-room
+begin-requires-clause-room g c = child-room (g.S.SlotMap.slots c.args.store.now) c.args.slot tt (sym c.in_ok-may_have_child.ensures)
+
+pub returns-clause-agree : goal.returns-clause-agree
+returns-clause-agree g c = c.begin.ensures.agree
