@@ -1,6 +1,7 @@
 //! What system calls leave, by the rules of acceptance.
 
 ghost use Rattle.std.specs.Prelude.{◌≡◌, []};
+ghost use Rattle.typestate.specs.Logs.{Holds};
 ghost use Rattle.certifying.specs.Given.{IsGiven};
 
 use crate::Fault;
@@ -63,19 +64,49 @@ impl Given<'_, '_> {
     ) -> Result<Called, Fault>
         requires { IsGiven self.now.space self.now.slots.now self.now.lists_stray }
     {
+        let mut log = SlotLog::new(self.alloc);
+        let part = log.follow(Part { first: 0, end: 0 }, changes)?;
+        let mut made = Vec::new(self.alloc);
+        let behind = self.answered_in(point, bounds, &log, part, &mut made)?;
+        let changes = self.changes_behind(&mut log, part, &made)?;
+        Ok(Called { behind, changes })
+    }
+
+    /// What the system call at a point leaves of the registers, where a part of a log changes the slots. Those that it changes are
+    /// put into the list, which is empty.
+    fn answered_in(
+        &self,
+        point: u32,
+        bounds: &Bounds,
+        log: &SlotLog,
+        part: Part,
+        made: &mut Vec<NotedSlot>,
+    ) -> Result<Behind, Fault>
+        requires given { IsGiven self.now.space self.now.slots.now self.now.lists_stray }
+        requires held { Holds log.now part }
+        requires none { made.old.items ≡ [] }
+    {
         let at = Point {
             thread: self.number,
             point,
         };
-        let mut log = SlotLog::new(self.alloc);
-        let part = log.follow(Part { first: 0, end: 0 }, changes)?;
-        let mut made = Vec::new(self.alloc);
         let before = log.shown(part)?;
-        let behind = self.answered(at, bounds, &before.slots(self.slots), &mut made)?;
-        let part = log.follow(part, &made)?;
+        self.answered(at, bounds, &before.slots(self.slots), made)
+    }
+
+    /// What a part of a log, and changes that follow it, change of the image's slots.
+    fn changes_behind(
+        &self,
+        log: &mut SlotLog,
+        part: Part,
+        made: &[NotedSlot],
+    ) -> Result<Vec<NotedSlot>, Fault>
+        requires given { IsGiven self.now.space self.now.slots.now self.now.lists_stray }
+        requires held { Holds log.old part }
+    {
+        let part = log.follow(part, made)?;
         let left = log.shown(part)?;
-        let changes = told(self.alloc, &left.slots(self.slots))?;
-        Ok(Called { behind, changes })
+        told(self.alloc, &left.slots(self.slots))
     }
 
     /// What the system call at a point leaves of the registers. The slots that it changes are put into the list, which is empty.

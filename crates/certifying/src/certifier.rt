@@ -268,24 +268,38 @@ impl Given<'_, '_> {
         requires { IsGiven self.now.space self.now.slots.now self.now.lists_stray }
     {
         let Flow { table, ways } = self.flow()?;
-        let bounds = all_bounds(self.alloc, self.count(), &table)?;
-        let entry = self.space.thread.header().entry;
-        let graph = Graph::new(self.alloc, self.count(), entry, ways, bounds)?;
+        let graph = self.graph(&table, ways)?;
         let loops = Loops::of(&graph)?;
         let (graph, costs) = Counting::new(graph, loops)?.finish()?;
-        let marks = marked_points(&graph, &costs)?;
-        let needs = self.needs(&graph, &costs)?;
-        let budget = budget_of(&graph, &costs, &start_bounds(self.space.thread));
+        self.certified(&graph, &costs, &table)
+    }
+
+    /// The graph of the program's ways.
+    fn graph(&self, table: &Table, ways: Vec<Way>) -> Result<Graph, Fault> {
+        let bounds = all_bounds(self.alloc, self.count(), table)?;
+        let entry = self.space.thread.header().entry;
+        Graph::new(self.alloc, self.count(), entry, ways, bounds)
+    }
+
+    /// The thread's certificate, by what its points have to have at least.
+    fn certified(&self, graph: &Graph, costs: &Costs, table: &Table) -> Result<Certificate, Fault> {
+        let marks = marked_points(graph, costs)?;
+        let needs = self.needs(graph, costs)?;
+        let budget = self.budget(graph, costs)?;
+        let records = records_of(graph, costs, &needs, table, &marks)?;
+        Ok(Certificate { budget, records })
+    }
+
+    /// The thread's least budget, if that is not too great.
+    fn budget(&self, graph: &Graph, costs: &Costs) -> Result<u64, Fault> {
+        let budget = budget_of(graph, costs, &start_bounds(self.space.thread));
         if GREATEST < budget {
             return Err(Fault::At {
-                point: entry,
+                point: graph.entry,
                 reason: Reason::NoMeasure,
             });
         }
-        Ok(Certificate {
-            budget,
-            records: records_of(&graph, &costs, &needs, &table, &marks)?,
-        })
+        Ok(budget)
     }
 }
 

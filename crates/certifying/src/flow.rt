@@ -11,6 +11,7 @@ use model::{ImmediateOp, Instr};
 use ranges::Bounds;
 use rv32_isa::decode;
 use std::alloc::Global;
+use typestate::NotedSlot;
 
 /// How many points are looked at at most, one after another: each range grows only so often.
 const MOST_VISITS: u32 = 1_000_000_000;
@@ -83,12 +84,21 @@ fn constant_of(instr: Option<Instr>) -> Option<u32> {
 }
 
 impl Given<'_, '_> {
+    /// The constant of the instruction at a point, if it has one.
+    fn constant_at(&self, point: u32) -> Option<u32> {
+        if point < self.space.thread.word_count() {
+            constant_of(decode(self.space.thread.word(point)))
+        } else {
+            None
+        }
+    }
+
     /// Notes the constants of the program as thresholds.
     fn add_constants(&self, table: &mut Table) -> Result<(), Fault> {
         let mut values = Vec::new(self.alloc);
         values.push(1u32 << 31)?;
-        'points: for point in 0..self.space.thread.word_count() {
-            if let Some(value) = constant_of(decode(self.space.thread.word(point))) {
+        'points: for point in 0..self.count() {
+            if let Some(value) = self.constant_at(point) {
                 values.push(value)?;
             }
         }
@@ -114,20 +124,11 @@ impl Given<'_, '_> {
     fn follow(&self, table: &mut Table, point: u32) -> Result<u32, Fault>
         requires { IsGiven self.now.space self.now.slots.now self.now.lists_stray }
     {
-        let mut next = point.saturating_add(1);
-        if let Some(ways) = self.ways_so_far(table, point)? {
-            if let Some(way) = &ways.next {
-                if table.reach(way, &ways.changes)? {
-                    next = next.min(way.target);
-                }
-            }
-            if let Some(way) = &ways.taken {
-                if table.reach(way, &ways.changes)? {
-                    next = next.min(way.target);
-                }
-            }
+        let next = point.saturating_add(1);
+        match self.ways_so_far(table, point)? {
+            Some(ways) => reach_along_all(table, &ways, next),
+            None => Ok(next),
         }
-        Ok(next)
     }
 
     /// Follows the ways on from all points that change, always from the first of them: so a loop is gone round until nothing changes
@@ -181,9 +182,7 @@ impl Given<'_, '_> {
                 some |= self.narrow_at(table, point, arrived);
             }
             if let Some(ways) = self.ways_so_far(table, point)? {
-                let Ways { next, taken, .. } = ways;
-                note_arrival(&mut ahead, &mut next_back, next);
-                note_arrival(&mut ahead, &mut next_back, taken);
+                note_arrivals(&mut ahead, &mut next_back, &ways);
             }
         }
         *back = next_back;
@@ -197,37 +196,85 @@ impl Given<'_, '_> {
         let mut all = Vec::new(self.alloc);
         'points: for point in 0..self.count() {
             if let Some(state) = table.state(point) {
-                let Ways { next, taken, .. } = self.ways(point, state)?;
-                if let Some(way) = next {
-                    all.push(way)?;
-                }
-                if let Some(way) = taken {
-                    all.push(way)?;
-                }
+                let ways = self.ways(point, state)?;
+                add_ways(&mut all, &ways)?;
             }
         }
         Ok(all)
+    }
+
+    /// What is known of all points before any way is followed.
+    fn begun(&self) -> Result<Table, Fault> {
+        let mut table = Table::new(self.alloc, self.count())?;
+        self.add_constants(&mut table)?;
+        let entry = self.space.thread.header().entry;
+        table.begin(entry, start_bounds(self.space.thread))?;
+        Ok(table)
+    }
+
+    /// Narrows all ranges until none changes.
+    fn narrow_all(&self, table: &mut Table) -> Result<(), Fault>
+        requires { IsGiven self.now.space self.now.slots.now self.now.lists_stray }
+    {
+        let mut back = Arrivals::new(self.alloc, self.count())?;
+        self.narrow(table, &mut back, false)?;
+        'narrowings: for _ in 0..MOST_NARROWINGS {
+            if !self.narrow(table, &mut back, true)? {
+                break;
+            }
+        }
+        Ok(())
     }
 
     /// What is known of all points of the program.
     pub(crate) fn flow(&self) -> Result<Flow, Fault>
         requires { IsGiven self.now.space self.now.slots.now self.now.lists_stray }
     {
-        let mut table = Table::new(self.alloc, self.count())?;
-        self.add_constants(&mut table)?;
-        let entry = self.space.thread.header().entry;
-        table.begin(entry, start_bounds(self.space.thread))?;
+        let mut table = self.begun()?;
         self.follow_all(&mut table)?;
-        let mut back = Arrivals::new(self.alloc, self.count())?;
-        self.narrow(&mut table, &mut back, false)?;
-        'narrowings: for _ in 0..MOST_NARROWINGS {
-            if !self.narrow(&mut table, &mut back, true)? {
-                break;
-            }
-        }
+        self.narrow_all(&mut table)?;
         let ways = self.all_ways(&table)?;
         Ok(Flow { table, ways })
     }
+}
+
+/// Follows a way with these slots, and answers which point is looked at next: its target, if more is known there now and it stands
+/// before the given one.
+fn reach_along(
+    table: &mut Table,
+    way: &Option<Way>,
+    changes: &[NotedSlot],
+    next: u32,
+) -> Result<u32, Fault> {
+    if let Some(way) = way {
+        if table.reach(way, changes)? {
+            return Ok(next.min(way.target));
+        }
+    }
+    Ok(next)
+}
+
+/// Follows all of some ways, and answers which point is looked at next: the first of those that they change, or the given one.
+fn reach_along_all(table: &mut Table, ways: &Ways, next: u32) -> Result<u32, Fault> {
+    let next = reach_along(table, &ways.next, &ways.changes, next)?;
+    reach_along(table, &ways.taken, &ways.changes, next)
+}
+
+/// Adds ways behind others.
+fn add_ways(all: &mut Vec<Way>, ways: &Ways) -> Result<(), Fault> {
+    if let Some(way) = ways.next {
+        all.push(way)?;
+    }
+    if let Some(way) = ways.taken {
+        all.push(way)?;
+    }
+    Ok(())
+}
+
+/// Notes ways as ahead or back.
+fn note_arrivals(ahead: &mut Arrivals, back: &mut Arrivals, ways: &Ways) {
+    note_arrival(ahead, back, ways.next);
+    note_arrival(ahead, back, ways.taken);
 }
 
 /// Notes a way as one ahead or one back.

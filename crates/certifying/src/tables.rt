@@ -82,22 +82,33 @@ impl Table {
     /// Notes that ranges may stop at these values, or beside them.
     pub(crate) fn add_thresholds(&mut self, values: &[u32]) -> Result<(), Fault> {
         'values: for value in values {
-            self.thresholds.push(value.saturating_sub(1))?;
-            self.thresholds.push(*value)?;
-            self.thresholds.push(value.saturating_add(1))?;
+            self.push_threshold(*value)?;
         }
         self.thresholds.sort_unstable();
         Ok(())
     }
 
-    /// Notes that ranges may stop at a value, or beside it.
-    fn add_threshold(&mut self, value: u32) -> Result<(), Fault> {
-        'beside: for near in [value.saturating_sub(1), value, value.saturating_add(1)] {
-            if let Err(place) = self.thresholds.binary_search(&near) {
-                self.thresholds.insert(place, near)?;
-            }
+    /// Puts a value and those beside it behind the thresholds.
+    fn push_threshold(&mut self, value: u32) -> Result<(), Fault> {
+        self.thresholds.push(value.saturating_sub(1))?;
+        self.thresholds.push(value)?;
+        self.thresholds.push(value.saturating_add(1))?;
+        Ok(())
+    }
+
+    /// Puts a value among the thresholds, unless it is one.
+    fn insert_threshold(&mut self, value: u32) -> Result<(), Fault> {
+        if let Err(place) = self.thresholds.binary_search(&value) {
+            self.thresholds.insert(place, value)?;
         }
         Ok(())
+    }
+
+    /// Notes that ranges may stop at a value, or beside it.
+    fn add_threshold(&mut self, value: u32) -> Result<(), Fault> {
+        self.insert_threshold(value.saturating_sub(1))?;
+        self.insert_threshold(value)?;
+        self.insert_threshold(value.saturating_add(1))
     }
 
     /// Notes the values of the registers that have only one.

@@ -11,6 +11,7 @@ use model::{Instr, Point, Refusal};
 use point_rules::registers_of;
 use ranges::{Bounds, Edge, after};
 use rv32_isa::decode;
+use std::alloc::Global;
 use typestate::{NotedSlot, Written};
 
 /// What is known at a point: the ranges of the registers, and the slots as changes to those of the image.
@@ -68,6 +69,13 @@ pub(crate) struct Ways {
 /// Whether it is a branch.
 fn is_branch(instr: Instr) -> bool {
     matches!(instr, Instr::Branch { .. })
+}
+
+/// A copy of changes of slots.
+fn copy_of(alloc: Global, changes: &[NotedSlot]) -> Result<Vec<NotedSlot>, Fault> {
+    let mut copy = Vec::new(alloc);
+    copy.extend_from_slice(changes)?;
+    Ok(copy)
 }
 
 impl Given<'_, '_> {
@@ -160,6 +168,21 @@ impl Given<'_, '_> {
         }
     }
 
+    /// The ways on from an instruction: to the next point, and the one that is taken.
+    fn ways_along(
+        &self,
+        point: u32,
+        instr: Instr,
+        bounds: &Bounds,
+    ) -> Result<(Option<Way>, Option<Way>), Fault>
+        requires { IsInstr instr }
+    {
+        let edges = after(self.address(point), instr, bounds);
+        let next = self.perhaps_along(point, instr, bounds, edges.fall_through, false)?;
+        let taken = self.perhaps_along(point, instr, bounds, edges.taken, true)?;
+        Ok((next, taken))
+    }
+
     /// The ways on from a system call.
     fn ways_behind_call(&self, point: u32, state: &State) -> Result<Ways, Fault>
         requires { IsGiven self.now.space self.now.slots.now self.now.lists_stray }
@@ -189,12 +212,11 @@ impl Given<'_, '_> {
         if let Instr::Ecall = instr {
             return self.ways_behind_call(point, state);
         }
-        let edges = after(self.address(point), instr, &state.bounds);
-        let mut changes = Vec::new(self.alloc);
-        changes.extend_from_slice(&state.changes)?;
+        let changes = copy_of(self.alloc, &state.changes)?;
+        let (next, taken) = self.ways_along(point, instr, &state.bounds)?;
         Ok(Ways {
-            next: self.perhaps_along(point, instr, &state.bounds, edges.fall_through, false)?,
-            taken: self.perhaps_along(point, instr, &state.bounds, edges.taken, true)?,
+            next,
+            taken,
             changes,
         })
     }
