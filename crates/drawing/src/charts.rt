@@ -206,19 +206,40 @@ impl Canvas<'_> {
             Mark::Plain => self.push_bar(lane, x, width, colour(lane)),
             Mark::Wait => self.push_wait(lane, x, width),
             Mark::Completed => self.push_completed(lane, x, width),
-            Mark::Put(byte) => {
-                self.push_written(lane, x, width, "#222")?;
-                self.push_byte(byte)
-            }
-            Mark::Refused(number) => {
-                self.push_written(lane, x, width, "#d02f2f")?;
-                write!(self.svg, "e{number}</text>\n")
-            }
-            Mark::Faulted(number) => {
-                self.push_written(lane, x, width, "#7d0f0f")?;
-                write!(self.svg, "f{number}</text>\n")
-            }
+            Mark::Put(byte) => self.push_put(lane, x, width, byte),
+            Mark::Refused(number) => self.push_refused(lane, x, width, number),
+            Mark::Faulted(number) => self.push_faulted(lane, x, width, number),
         }
+    }
+
+    /// A byte that is put: a bar with the byte in it.
+    fn push_put(&mut self, lane: usize, x: u32, width: u32, byte: u8) -> Result<(), AllocError> {
+        self.push_written(lane, x, width, "#222")?;
+        self.push_byte(byte)
+    }
+
+    /// A call that is refused: a bar with the number of the error in it.
+    fn push_refused(
+        &mut self,
+        lane: usize,
+        x: u32,
+        width: u32,
+        number: u8,
+    ) -> Result<(), AllocError> {
+        self.push_written(lane, x, width, "#d02f2f")?;
+        write!(self.svg, "e{number}</text>\n")
+    }
+
+    /// A fault: a bar with its number in it.
+    fn push_faulted(
+        &mut self,
+        lane: usize,
+        x: u32,
+        width: u32,
+        number: u8,
+    ) -> Result<(), AllocError> {
+        self.push_written(lane, x, width, "#7d0f0f")?;
+        write!(self.svg, "f{number}</text>\n")
     }
 
     /// A wait: a bar with an edge at its end.

@@ -3,7 +3,7 @@
 use crate::faults::DrawingFault;
 use crate::scenes::{Scene, uses_of};
 use sinks::{Sink, put_all};
-use source_texts::{SourceText, read, with_budgets};
+use source_texts::{Budgets, SourceText, read, with_budgets};
 use std::alloc::{AllocError, Global};
 
 /// What stands at the head of each graph.
@@ -23,16 +23,21 @@ fn graph_of(alloc: Global, text: &SourceText<'_>, automatic: &[u64]) -> Result<S
         uses: uses_of(alloc, text)?,
         graph: String::new(alloc),
     };
-    scene.graph.push_str(HEAD)?;
-    scene.push_threads()?;
-    scene.push_objects()?;
-    scene.push_interrupts()?;
-    scene.push_all_links(alloc)?;
-    scene.graph.push_str("}\n")?;
+    scene.push_all(alloc)?;
     Ok(scene.graph)
 }
 
 impl Scene<'_, '_, '_> {
+    /// The whole graph.
+    fn push_all(&mut self, alloc: Global) -> Result<(), AllocError> {
+        self.graph.push_str(HEAD)?;
+        self.push_threads()?;
+        self.push_objects()?;
+        self.push_interrupts()?;
+        self.push_all_links(alloc)?;
+        self.graph.push_str("}\n")
+    }
+
     /// All threads.
     fn push_threads(&mut self) -> Result<(), AllocError> {
         for thread in &self.text.threads {
@@ -61,6 +66,13 @@ impl Scene<'_, '_, '_> {
     }
 }
 
+/// The graph of a text with budgets.
+fn drawn(alloc: Global, budgets: &Budgets) -> Result<String, DrawingFault> {
+    let source = read(alloc, &budgets.text)?;
+    let graph = graph_of(alloc, &source, &budgets.lines)?;
+    Ok(graph)
+}
+
 /// Puts the system that a text describes as text for Graphviz: threads with priority, budget and the pages that are theirs alone;
 /// endpoints and notifications between them, with rights and badges; frames that are shared; untyped memory; interrupt lines.
 /// A budget may be `auto`.
@@ -70,8 +82,7 @@ impl Scene<'_, '_, '_> {
 /// The first line that is at fault, an output that takes no more, or want of memory. Only the second has put anything.
 pub fn draw<S: Sink>(alloc: Global, text: &str, output: &mut S) -> Result<(), DrawingFault> {
     let budgets = with_budgets(alloc, text)?;
-    let source = read(alloc, &budgets.text)?;
-    let graph = graph_of(alloc, &source, &budgets.lines)?;
+    let graph = drawn(alloc, &budgets)?;
     put_all(output, graph.as_bytes())?;
     Ok(())
 }

@@ -3,7 +3,7 @@
 use crate::reaches::{cnodes_of, index_of};
 use crate::rights_words::{frame_words, mapping_words};
 use crate::scenes::Scene;
-use source_texts::{CapabilityLine, Source, SourceThread};
+use source_texts::{CapabilityLine, FrameLine, Source, SourceThread};
 use std::alloc::{AllocError, Global};
 
 /// Of the rights of a capability, as the text has them.
@@ -12,6 +12,52 @@ const WRITE: u32 = 1;
 const READ: u32 = 2;
 
 const GRANT_REPLY: u32 = 8;
+
+/// Puts where an edge leads from and to.
+pub(crate) fn push_ends(to: &mut String, from: &str, target: &str) -> Result<(), AllocError> {
+    write!(to, "  \"{from}\" -> \"{target}\" ")
+}
+
+/// Puts an edge with its label, and how it is drawn.
+fn push_edge(
+    to: &mut String,
+    from: &str,
+    target: &str,
+    label: &str,
+    look: &str,
+) -> Result<(), AllocError> {
+    push_ends(to, from, target)?;
+    write!(to, "[label=\"{label}\", {look}];\n")
+}
+
+/// Puts the badge of a capability, behind what it lets its thread do.
+fn push_badge(to: &mut String, badge: u32) -> Result<(), AllocError> {
+    if badge == 0 {
+        Ok(())
+    } else {
+        write!(to, ", badge {badge}")
+    }
+}
+
+/// Puts the label of an edge for sending, which has a badge, and its colour.
+fn push_sending(to: &mut String, words: &str, badge: u32, colour: &str) -> Result<(), AllocError> {
+    write!(to, "[label=\"{words}")?;
+    push_badge(to, badge)?;
+    write!(to, "\", color=\"{colour}\"];\n")
+}
+
+/// Puts the label of an edge of a shared page, and how it is drawn.
+fn push_shared(
+    to: &mut String,
+    address: u32,
+    words: &str,
+    direction: &str,
+) -> Result<(), AllocError> {
+    write!(
+        to,
+        "[label=\"{address:#x} {words}\", color=\"#b0612b\", dir={direction}];\n"
+    )
+}
 
 impl Scene<'_, '_, '_> {
     /// The edges of what a thread holds, of the pages that it shares, and of its fault handler.
@@ -22,51 +68,66 @@ impl Scene<'_, '_, '_> {
     ) -> Result<(), AllocError> {
         let name = self.text.object_name(thread.tcb);
         let cnodes = cnodes_of(alloc, self.text, thread)?;
+        self.push_all_held(name, &cnodes)?;
+        self.push_mappings(name, thread.root)?;
+        self.push_handler(name, thread)
+    }
+
+    /// The edges of all capabilities in some CNodes.
+    fn push_all_held(&mut self, name: &str, cnodes: &[usize]) -> Result<(), AllocError> {
         for capability in &self.text.capabilities {
             if cnodes.contains(&capability.cnode) {
                 self.push_held(name, capability)?;
             }
         }
-        self.push_mappings(name, thread.root)?;
-        self.push_handler(name, thread)
+        Ok(())
     }
 
     /// The edges of a capability.
     fn push_held(&mut self, name: &str, capability: &CapabilityLine) -> Result<(), AllocError> {
         let object = self.text.source_name(capability.source);
-        let number = match capability.source {
-            Source::Object(number) => number,
-            Source::Interrupt(_) => {
-                return write!(
-                    self.graph,
-                    "  \"{name}\" -> \"{object}\" [label=\"acknowledge\", style=dotted, color=\"#8d3b70\", constraint=false];\n"
-                );
+        match capability.source {
+            Source::Object(number) => {
+                let kind = self.text.kind(number);
+                self.push_object_held(name, object, kind, capability)
             }
-        };
-        match self.text.kind(number) {
-            1 => write!(
-                self.graph,
-                "  \"{object}\" -> \"{name}\" [label=\"memory\", style=dotted, arrowhead=none];\n"
+            Source::Interrupt(_) => push_edge(
+                &mut self.graph,
+                name,
+                object,
+                "acknowledge",
+                "style=dotted, color=\"#8d3b70\", constraint=false",
             ),
-            3 => self.push_endpoint(name, object, capability),
-            4 => self.push_notification(name, object, capability),
-            6 => {
-                let words = frame_words(capability.rights);
-                write!(
-                    self.graph,
-                    "  \"{object}\" -> \"{name}\" [label=\"{words}\", style=dotted, color=\"#b0612b\", dir=back];\n"
-                )
-            }
-            _ => Ok(()),
         }
     }
 
-    /// The badge of a capability, behind what it lets its thread do.
-    fn push_badge(&mut self, badge: u32) -> Result<(), AllocError> {
-        if badge != 0 {
-            write!(self.graph, ", badge {badge}")?;
+    /// The edges of a capability to an object of a kind.
+    fn push_object_held(
+        &mut self,
+        name: &str,
+        object: &str,
+        kind: u32,
+        capability: &CapabilityLine,
+    ) -> Result<(), AllocError> {
+        match kind {
+            1 => push_edge(
+                &mut self.graph,
+                object,
+                name,
+                "memory",
+                "style=dotted, arrowhead=none",
+            ),
+            3 => self.push_endpoint(name, object, capability),
+            4 => self.push_notification(name, object, capability),
+            6 => push_edge(
+                &mut self.graph,
+                object,
+                name,
+                frame_words(capability.rights),
+                "style=dotted, color=\"#b0612b\", dir=back",
+            ),
+            _ => Ok(()),
         }
-        Ok(())
     }
 
     /// The edges of a capability to an endpoint: to it for sending, from it for receiving.
@@ -82,14 +143,16 @@ impl Scene<'_, '_, '_> {
             } else {
                 "send"
             };
-            write!(self.graph, "  \"{name}\" -> \"{object}\" [label=\"{words}")?;
-            self.push_badge(capability.payload)?;
-            self.graph.push_str("\", color=\"#3c7a36\"];\n")?;
+            push_ends(&mut self.graph, name, object)?;
+            push_sending(&mut self.graph, words, capability.payload, "#3c7a36")?;
         }
         if capability.rights & READ != 0 {
-            write!(
-                self.graph,
-                "  \"{object}\" -> \"{name}\" [label=\"receive\", color=\"#3c7a36\"];\n"
+            push_edge(
+                &mut self.graph,
+                object,
+                name,
+                "receive",
+                "color=\"#3c7a36\"",
             )?;
         }
         Ok(())
@@ -103,15 +166,11 @@ impl Scene<'_, '_, '_> {
         capability: &CapabilityLine,
     ) -> Result<(), AllocError> {
         if capability.rights & WRITE != 0 {
-            write!(self.graph, "  \"{name}\" -> \"{object}\" [label=\"signal")?;
-            self.push_badge(capability.payload)?;
-            self.graph.push_str("\", color=\"#a07d13\"];\n")?;
+            push_ends(&mut self.graph, name, object)?;
+            push_sending(&mut self.graph, "signal", capability.payload, "#a07d13")?;
         }
         if capability.rights & READ != 0 {
-            write!(
-                self.graph,
-                "  \"{object}\" -> \"{name}\" [label=\"wait\", color=\"#a07d13\"];\n"
-            )?;
+            push_edge(&mut self.graph, object, name, "wait", "color=\"#a07d13\"")?;
         }
         Ok(())
     }
@@ -119,23 +178,27 @@ impl Scene<'_, '_, '_> {
     /// The edges of the pages under a root table that are shared.
     fn push_mappings(&mut self, name: &str, root: usize) -> Result<(), AllocError> {
         for page in &self.text.frames {
-            if page.root != root || !self.is_shared(page.frame) {
-                continue;
+            if page.root == root && self.is_shared(page.frame) {
+                self.push_mapping(name, page)?;
             }
-            let frame = self.text.object_name(page.frame);
-            let address = page.address;
-            let words = mapping_words(page.rights);
-            let direction = if page.rights & WRITE != 0 {
-                "both"
-            } else {
-                "forward"
-            };
-            write!(
-                self.graph,
-                "  \"{frame}\" -> \"{name}\" [label=\"{address:#x} {words}\", color=\"#b0612b\", dir={direction}];\n"
-            )?;
         }
         Ok(())
+    }
+
+    /// The edge of a page that is shared.
+    fn push_mapping(&mut self, name: &str, page: &FrameLine) -> Result<(), AllocError> {
+        let direction = if page.rights & WRITE != 0 {
+            "both"
+        } else {
+            "forward"
+        };
+        push_ends(&mut self.graph, self.text.object_name(page.frame), name)?;
+        push_shared(
+            &mut self.graph,
+            page.address,
+            mapping_words(page.rights),
+            direction,
+        )
     }
 
     /// The edge to the endpoint that a thread's faults are told to.
@@ -149,9 +212,12 @@ impl Scene<'_, '_, '_> {
         match self.text.capability(thread.cnode, index) {
             Some(capability) => {
                 let object = self.text.source_name(capability.source);
-                write!(
-                    self.graph,
-                    "  \"{name}\" -> \"{object}\" [label=\"faults\", style=dashed, color=\"#b03030\"];\n"
+                push_edge(
+                    &mut self.graph,
+                    name,
+                    object,
+                    "faults",
+                    "style=dashed, color=\"#b03030\"",
                 )
             }
             None => Ok(()),

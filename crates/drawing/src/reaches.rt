@@ -17,6 +17,17 @@ fn leads_on(text: &SourceText<'_>, found: &[usize], capability: &CapabilityLine)
     }
 }
 
+/// Adds the CNodes that the capabilities in some CNodes name, and those that these name, as far as one round over the
+/// capabilities finds them.
+fn add_reached(text: &SourceText<'_>, found: &mut Vec<usize>) -> Result<(), AllocError> {
+    for capability in &text.capabilities {
+        if let Some(number) = leads_on(text, found, capability) {
+            found.push(number)?;
+        }
+    }
+    Ok(())
+}
+
 /// The CNodes that a thread reaches: a round over the capabilities that finds none is the last.
 pub(crate) fn cnodes_of(
     alloc: Global,
@@ -27,11 +38,7 @@ pub(crate) fn cnodes_of(
     found.push(thread.cnode)?;
     'rounds: for _ in 0..text.capabilities.len() {
         let before = found.len();
-        for capability in &text.capabilities {
-            if let Some(number) = leads_on(text, &found, capability) {
-                found.push(number)?;
-            }
-        }
+        add_reached(text, &mut found)?;
         if found.len() == before {
             return Ok(found);
         }

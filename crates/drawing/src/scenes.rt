@@ -25,21 +25,30 @@ pub(crate) struct Scene<'a, 't, 'm> {
     pub(crate) graph: String,
 }
 
-/// What names each object of a text.
-pub(crate) fn uses_of(alloc: Global, text: &SourceText<'_>) -> Result<Vec<Uses>, AllocError> {
+/// So many objects that nothing names.
+fn unused(alloc: Global, count: usize) -> Result<Vec<Uses>, AllocError> {
     let mut uses = Vec::new(alloc);
-    for _ in 0..text.objects.len() {
+    for _ in 0..count {
         uses.push(Uses {
             mapped: 0,
             is_held: false,
             is_signalled: false,
         })?;
     }
+    Ok(uses)
+}
+
+/// Counts how often each object is mapped.
+fn count_mappings(uses: &mut Vec<Uses>, text: &SourceText<'_>) {
     for page in &text.frames {
         if let Some(object) = uses.get_mut(page.frame) {
             object.mapped = object.mapped.saturating_add(1);
         }
     }
+}
+
+/// Notes which objects capabilities name.
+fn note_held(uses: &mut Vec<Uses>, text: &SourceText<'_>) {
     for capability in &text.capabilities {
         if let Source::Object(number) = capability.source {
             if let Some(object) = uses.get_mut(number) {
@@ -47,11 +56,23 @@ pub(crate) fn uses_of(alloc: Global, text: &SourceText<'_>) -> Result<Vec<Uses>,
             }
         }
     }
+}
+
+/// Notes which objects interrupts signal.
+fn note_signalled(uses: &mut Vec<Uses>, text: &SourceText<'_>) {
     for interrupt in &text.interrupts {
         if let Some(object) = uses.get_mut(interrupt.notification) {
             object.is_signalled = true;
         }
     }
+}
+
+/// What names each object of a text.
+pub(crate) fn uses_of(alloc: Global, text: &SourceText<'_>) -> Result<Vec<Uses>, AllocError> {
+    let mut uses = unused(alloc, text.objects.len())?;
+    count_mappings(&mut uses, text);
+    note_held(&mut uses, text);
+    note_signalled(&mut uses, text);
     Ok(uses)
 }
 

@@ -54,23 +54,34 @@ fn small_number(digits: &[u8]) -> Option<u8> {
     Some(value)
 }
 
+/// That a call is refused with the error of a number.
+fn refused_by(digits: &[u8]) -> Option<Mark> {
+    Some(Mark::Refused(small_number(digits)?))
+}
+
+/// That a fault of a number comes.
+fn faulted_by(digits: &[u8]) -> Option<Mark> {
+    Some(Mark::Faulted(small_number(digits)?))
+}
+
+/// That a byte of two hexadecimal digits is put.
+fn put_by(high: u8, low: u8) -> Option<Mark> {
+    Some(Mark::Put(
+        hex_digit(high)?
+            .saturating_mul(16)
+            .saturating_add(hex_digit(low)?),
+    ))
+}
+
 /// What came of an instruction, as a line's end tells.
 fn mark_of(text: &[u8]) -> Option<Mark> {
     match text {
         b"plain" => Some(Mark::Plain),
         b"wait" => Some(Mark::Wait),
         b"ok" => Some(Mark::Completed),
-        [b'e', b'r', b'r', b'o', b'r', b' ', digits @ ..] => Some(Mark::Refused(small_number(
-            digits,
-        )?)),
-        [b'f', b'a', b'u', b'l', b't', b' ', digits @ ..] => Some(Mark::Faulted(small_number(
-            digits,
-        )?)),
-        [b'b', b'y', b't', b'e', b' ', high, low] => Some(Mark::Put(
-            hex_digit(*high)?
-                .saturating_mul(16)
-                .saturating_add(hex_digit(*low)?),
-        )),
+        [b'e', b'r', b'r', b'o', b'r', b' ', digits @ ..] => refused_by(digits),
+        [b'f', b'a', b'u', b'l', b't', b' ', digits @ ..] => faulted_by(digits),
+        [b'b', b'y', b't', b'e', b' ', high, low] => put_by(*high, *low),
         _ => None,
     }
 }
