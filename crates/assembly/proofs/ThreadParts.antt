@@ -16,7 +16,7 @@ use Rattle.model.specs.Capabilities.CapabilityFields.{unpacked}
 use Rattle.model.specs.Images.Format.{field, fits_signed, many_fit, number}
 use Rattle.model.specs.Images.Image.{StateRecord, Thread, anything, below, between, is_constant, names_parent, no_parent, not_zero, pair_key, range_format, ranges_format, record_format, record_header_format, records_format, register_format, registers_format, slot_format, slots_format, term_format, terms_format, thread_format, thread_header_format, words_format}
 use Rattle.model.specs.Images.Listing.{range_line, register_line, slot_line}
-use Rattle.image.proofs.Laws.{words-only}
+use Rattle.image_reading.proofs.Laws.{words-only}
 use Rattle.asm_line.specs.declared.lines.Line.TheVariants as line
 use Rattle.asm_line.specs.Listed.{Lists, range, register, slot, IsTerm, IsWord}
 use Rattle.format_laws.proofs.Laws.{between-bounds, field-between, field-parts}

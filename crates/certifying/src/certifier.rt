@@ -15,7 +15,7 @@ use crate::needs::{Registers, only};
 use crate::tables::{Table, start_bounds};
 use crate::ways::Way;
 use crate::{Fault, Reason};
-use image::{ImageRef, ThreadRef, read};
+use image_reading::{ImageRef, ThreadRef, read};
 use model::{Refusal, TermEntry};
 use ranges::Bounds;
 use std::alloc::Global;

@@ -252,7 +252,7 @@ impl Table {
 }
 
 /// The ranges of the registers with which a thread starts.
-pub(crate) fn start_bounds(thread: &image::ThreadRef<'_>) -> Bounds {
+pub(crate) fn start_bounds(thread: &image_reading::ThreadRef<'_>) -> Bounds {
     let mut bounds = Bounds::zero();
     'registers: for entry in thread.registers() {
         if entry.register < 32 {

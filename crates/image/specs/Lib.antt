@@ -1,4 +1,1 @@
 pub mod Spellings
-pub mod Sections
-pub mod Headers
-pub mod Sizes

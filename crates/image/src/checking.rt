@@ -4,9 +4,9 @@ ghost use Rattle.std.specs.Prelude.{◌≡◌, ℕ, ◌+◌, ◌&&◌, if◌then
 ghost use Rattle.model.specs.Images.Format.{many_fit, field, number, signed};
 ghost use Rattle.model.specs.Images.Image.{anything, between, content_format, header_format, image_with, record_format, record_header_format, sections_format, slots_format, thread_format, thread_header_format, whole_image};
 
-use crate::headers::radix_limit;
 use crate::listed::{Limits, Listed, all_fit};
 use crate::parts::{Content, Parts, RecordParts, ThreadParts};
+use image_reading::radix_limit;
 use std::marker::Model;
 
 /// An image: parts whose fields are all in the ranges and orders of the format.

@@ -5,7 +5,7 @@ ghost use Rattle.model.specs.Images.Format.{Format, many_fit};
 ghost use Rattle.model.specs.Images.Image.{capability_format, frame_format, interrupt_format, object_format, pair_key, range_format, register_format, size_fits, slot_format, table_format, term_format, untyped_format};
 ghost use Rattle.image.specs.declared.listed.Limits.{Limits};
 
-use crate::slot_words::{names_parent, unpacks};
+use image_reading::{names_parent, unpacks};
 use model::{
     CapabilityEntry, FrameEntry, InterruptEntry, ObjectEntry, RangeEntry, RegisterEntry, SlotEntry,
     TableEntry, TermEntry, UntypedEntry,

@@ -4,7 +4,7 @@ ghost use Rattle.std.specs.Prelude.{◌≡◌, ◌≤◌, ◌<◌, ◌+◌};
 ghost use Rattle.loader.specs.Limits.{IsLimited};
 ghost use Rattle.model.specs.Images.Places.{boot_slots, control_slot, frame_copy_slot, handler_slot, notification_copy_slot, original_slot, source_slot};
 
-use image::ImageRef;
+use image_reading::ImageRef;
 
 /// The slot of interrupt control.
 pub(crate) fn control_slot(image: &ImageRef<'_>) -> u32

@@ -14,7 +14,7 @@ ghost use Rattle.model.specs.Kernel.Setup.{fill};
 
 use crate::loading::Loader;
 use crate::object_kinds::{is_frame, is_root_table};
-use image::{ContentRef, ImageRef, ThreadRef};
+use image_reading::{ContentRef, ImageRef, ThreadRef};
 use mapped_frames::frame_at;
 use model::{BootFault, FrameEntry};
 

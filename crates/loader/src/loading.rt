@@ -14,7 +14,7 @@ use crate::boot_slots::{
 };
 use crate::entry_addresses::start_of;
 use crate::object_kinds::is_untyped_source;
-use image::{ImageRef, ThreadRef};
+use image_reading::{ImageRef, ThreadRef};
 use invoke::{
     CONFIGURE, COPY, GET_HANDLER, MAP_FRAME, MAP_TABLE, MINT, MOVE, RESUME, RETYPE,
     SET_NOTIFICATION, SET_PRIORITY, SET_REGISTER,

@@ -5,7 +5,7 @@ ghost use Rattle.loader.specs.Limits.{IsLimited, ObjectFits};
 ghost use Rattle.model.specs.Acceptance.WellFormed.{is_frame_type, is_root_type, is_untyped_type, source_type};
 ghost use Rattle.model.specs.Images.Places.{bits_of, type_at};
 
-use image::ImageRef;
+use image_reading::ImageRef;
 use model::ObjectEntry;
 
 /// The types of objects by their numbers.

@@ -6,7 +6,7 @@ ghost use Rattle.loader.specs.Limits.{IsLimited};
 ghost use Rattle.model.specs.Capabilities.Placement.{align};
 
 use crate::object_kinds::{bits_of, power};
-use image::ImageRef;
+use image_reading::ImageRef;
 use std::alloc::{AllocError, Global};
 
 /// How many untypeds an image has at most.

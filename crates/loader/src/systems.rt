@@ -21,7 +21,7 @@ use crate::loading::Loader;
 use crate::object_places::places_of;
 use crate::untyped_places::misplaced;
 use boot_laws::{objects_stand_inside_their_untypeds, well_formed_images_boot};
-use image::ImageRef;
+use image_reading::ImageRef;
 use kernel::{Setup, System};
 use model::{BootFault, ImageHeader, UntypedEntry};
 use std::alloc::{AllocError, Global};

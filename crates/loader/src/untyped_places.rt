@@ -8,7 +8,7 @@ ghost use Rattle.model.specs.Kernel.State.{boot_area_end};
 
 use crate::boot_slots::boot_slots;
 use crate::object_kinds::power;
-use image::ImageRef;
+use image_reading::ImageRef;
 use model::{ImageHeader, UntypedEntry};
 
 /// The first untyped that is not where untyped memory may stand, or the number of untypeds where boot slots do not suffice.

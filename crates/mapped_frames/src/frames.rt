@@ -9,7 +9,7 @@ ghost use Rattle.model.specs.Images.Image.{pair_key};
 ghost use Rattle.model.specs.declared.entries.FrameEntry.{FrameEntry};
 
 use format_laws::images_that_fit_keep_their_limits;
-use image::ImageRef;
+use image_reading::ImageRef;
 use model::FrameEntry;
 
 /// How many mappings the image has.

@@ -16,7 +16,7 @@ ghost use Rattle.point_rules.specs.Points.{state_of};
 ghost use Rattle.typestate.specs.Differences.{slots_of};
 
 use crate::PointState;
-use image::ThreadRef;
+use image_reading::ThreadRef;
 use measure::{Measure, value_at};
 use model::{Point, Range, Refusal, Register};
 use ranges::Bounds;

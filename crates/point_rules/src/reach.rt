@@ -3,7 +3,7 @@
 ghost use Rattle.std.specs.Prelude.{◌≡◌};
 ghost use Rattle.model.specs.Images.Places.{offset_of};
 
-use image::{ImageRef, ThreadRef};
+use image_reading::{ImageRef, ThreadRef};
 use typestate::NotedSlots;
 
 /// The pages that a thread may reach at a point: those that the image maps, and those that frames in its slots map.

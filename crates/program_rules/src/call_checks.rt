@@ -20,7 +20,7 @@ ghost use Rattle.wellformed.specs.Answering.{Answers};
 use crate::kept::Known;
 use crate::points::Points;
 use crate::programs::Program;
-use image::RecordRef;
+use image_reading::RecordRef;
 use measure::AfterCall;
 use model::Refusal;
 use point_rules::{Way, registers_of};

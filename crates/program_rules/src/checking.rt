@@ -9,7 +9,7 @@ ghost use Rattle.wellformed.specs.Answering.{Answers};
 
 use crate::programs::Program;
 use format_laws::{certificates_that_fit_keep_their_limits, images_that_fit_keep_their_limits};
-use image::{ImageRef, ThreadRef};
+use image_reading::{ImageRef, ThreadRef};
 use model::Refusal;
 use std::alloc::Global;
 use thread_spaces::{

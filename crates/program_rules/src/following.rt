@@ -18,7 +18,7 @@ ghost use Rattle.typestate.specs.Strays.{NoneStray};
 
 use crate::kept::{Kept, Known};
 use crate::programs::Program;
-use image::RecordRef;
+use image_reading::RecordRef;
 use measure::Measure;
 use model::{Instr, Refusal};
 use point_rules::{Left, follows, follows_call};

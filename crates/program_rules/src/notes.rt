@@ -3,7 +3,7 @@
 ghost use Rattle.std.specs.Prelude.{◌≡◌, is_some};
 ghost use Rattle.program_rules.specs.Left.{behind, taken};
 
-use image::{RecordRef, Records, ThreadRef};
+use image_reading::{RecordRef, Records, ThreadRef};
 use std::marker::Model;
 
 /// The records that are left. A clause sees their list.

@@ -17,7 +17,7 @@ ghost use Rattle.typestate.specs.Strays.{NoneStray};
 
 use crate::kept::Known;
 use crate::programs::Program;
-use image::RecordRef;
+use image_reading::RecordRef;
 use measure::least;
 use model::{Instr, Point, Refusal};
 use point_rules::Pages;

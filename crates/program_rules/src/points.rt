@@ -13,7 +13,7 @@ use crate::kept::{Kept, Known};
 use crate::notes::RecordsLeft;
 use crate::programs::Program;
 use crate::records::{bounds_of, measure_of};
-use image::RecordRef;
+use image_reading::RecordRef;
 use std::alloc::AllocError;
 use typestate::{ShownPart, SlotLog};
 

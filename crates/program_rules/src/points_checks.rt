@@ -17,7 +17,7 @@ use crate::kept::{Kept, Known};
 use crate::notes::RecordsLeft;
 use crate::points::Points;
 use crate::programs::Program;
-use image::RecordRef;
+use image_reading::RecordRef;
 use model::{Instr, Refusal};
 use point_rules::{Noted, entered};
 use rv32_isa::decode;

@@ -4,7 +4,7 @@ ghost use Rattle.std.specs.Prelude.{◌≡◌, ◌≤◌, length};
 ghost use Rattle.measure.specs.Measures.{measure_of};
 ghost use Rattle.model.specs.Acceptance.NotedStates.{record_measure, record_ranges};
 
-use image::RecordRef;
+use image_reading::RecordRef;
 use measure::Measure;
 use model::{Range, Register};
 use ranges::Bounds;

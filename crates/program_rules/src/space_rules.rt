@@ -12,7 +12,7 @@ ghost use Rattle.typestate.specs.Differences.{slots_of};
 ghost use Rattle.typestate.specs.Strays.{IsTidyBehind, NoneStray};
 
 use crate::programs::Program;
-use image::RecordRef;
+use image_reading::RecordRef;
 use model::Refusal;
 use ranges::Bounds;
 use std::alloc::AllocError;

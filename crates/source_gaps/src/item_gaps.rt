@@ -1,7 +1,7 @@
 //! Refusals of what a text declares before its threads.
 
 use crate::lines::push_line;
-use image::ImageRef;
+use image_reading::ImageRef;
 use model::Refusal;
 use source_texts::{
     CapabilityLine, FrameLine, ObjectLine, Source, SourceText, TableLine, UntypedLine,

@@ -2,7 +2,7 @@
 
 use crate::item_gaps::Items;
 use crate::lines::push_line;
-use image::ThreadRef;
+use image_reading::ThreadRef;
 use source_texts::{CapabilityLine, Source, SourceThread};
 use std::alloc::AllocError;
 use thread_spaces::reached_of;

@@ -7,7 +7,7 @@ use Rattle.model.specs.Acceptance.NotedStates.{SlotKey, number_of}
 use Rattle.model.specs.declared.capabilities.Cap.{Cap}
 use Rattle.model.specs.Capabilities.CapabilityFields.{same_words, unpacked}
 use Rattle.model.specs.Capabilities.CapabilityWords.{IsCapability, words_of}
-use Rattle.image.proofs.Laws.{words-back}
+use Rattle.image_reading.proofs.Laws.{words-back}
 
 pub same-low-key : (a b : SlotKey) → a.index < 2 ^ 32 → b.index < 2 ^ 32 → number_of a ≡ number_of b → a ≡ b
 same-low-key a b less few same =

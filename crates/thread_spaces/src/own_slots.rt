@@ -7,7 +7,7 @@ ghost use Rattle.thread_spaces.specs.Given.{IsListed};
 ghost use Rattle.typestate.specs.Differences.{slots_of};
 ghost use Rattle.typestate.specs.Spaces.{AreOwn};
 
-use image::{ImageRef, ThreadRef};
+use image_reading::{ImageRef, ThreadRef};
 use typestate::NotedSlots;
 
 /// Where no slot is one that the thread may not have, each is full and one of its CNodes', and so is what it was derived

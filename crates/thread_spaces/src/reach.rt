@@ -6,7 +6,7 @@ ghost use Rattle.model.specs.declared.refusals.Refusal.TheVariants.{OutOfMemory}
 ghost use Rattle.model.specs.Acceptance.ThreadRules.{is_cnode_source, reached, with_named};
 ghost use Rattle.thread_spaces.specs.Reaching.{AwaitsListed, AwaitsMore, Begins, Follows, IsWithin, awaits, is_among};
 
-use image::{ImageRef, ThreadRef};
+use image_reading::{ImageRef, ThreadRef};
 use model::Refusal;
 use std::alloc::Global;
 use std::collections::btree_set::BTreeSet;

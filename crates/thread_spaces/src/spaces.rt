@@ -10,7 +10,7 @@ ghost use Rattle.thread_spaces.specs.Given.{AreOffsets, IsListed};
 ghost use Rattle.typestate.specs.Spaces.{AreWindows, IsSpace};
 
 use crate::space_laws::{mappings_are_listed, threads_stand_apart};
-use image::{ImageRef, ThreadRef};
+use image_reading::{ImageRef, ThreadRef};
 use model::Cap;
 use typestate::{Space, Windows};
 use wellformed::{object_at, radix_of};

@@ -7,7 +7,7 @@ ghost use Rattle.thread_spaces.specs.Given.{AreOffsets, IsCNode, IsListed};
 ghost use Rattle.typestate.specs.Spaces.{AreWindows, IsWindow};
 
 use crate::space_laws::threads_stand_apart;
-use image::{ImageRef, ThreadRef};
+use image_reading::{ImageRef, ThreadRef};
 use std::alloc::{AllocError, Global};
 use typestate::{Window, Windows};
 use wellformed::{NumberSet, object_at, radix_of};

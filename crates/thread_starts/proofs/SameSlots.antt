@@ -12,7 +12,7 @@ use Rattle.model.specs.Acceptance.ThreadRules.{is_member, reached}
 use Rattle.model.specs.Capabilities.CapabilityFields.{is_capability, same_words}
 use Rattle.model.specs.Capabilities.CapabilityWords.{IsCapability, words_of}
 use Rattle.model.specs.Images.Image.{Image, Thread, whole_image}
-use Rattle.image.proofs.Laws.{test-decides}
+use Rattle.image_reading.proofs.Laws.{test-decides}
 use Rattle.typestate.proofs.Laws.{same-own-key}
 use Rattle.thread_spaces.specs.Given.{IsListed}
 use Rattle.thread_spaces.proofs.Laws.{listed-valid, slots_in}

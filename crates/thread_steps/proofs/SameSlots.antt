@@ -8,7 +8,7 @@ use Rattle.std.proofs.lemmas.Option.{slice_get-get_or}
 use Rattle.thread_facts.proofs.Laws.{capabilities-equal, same-low-key}
 use Rattle.format_laws.specs.Fitting.{IsFitting}
 use Rattle.format_laws.proofs.Laws.{between-bounds}
-use Rattle.image.proofs.Laws.{test-decides}
+use Rattle.image_reading.proofs.Laws.{test-decides}
 use Rattle.model.specs.declared.entries.ObjectEntry.{ObjectEntry}
 use Rattle.model.specs.Acceptance.NotedStates.{NotedSlot, PointState, SlotKey, are_same_slots, has_stray_slots, is_foreign, is_own, is_same_key, is_same_parent, is_same_slot, is_stray, leads_to_boot, notes_outside, number_of, record_of}
 use Rattle.model.specs.Acceptance.ThreadRules.{is_member, reached}

@@ -4,7 +4,7 @@ use Rattle.std.proofs.Math.Logic.{∥∥₁_elim, ∥∥₁_map}
 use Rattle.std.proofs.lemmas.Bool.Decides.{eqb_tells}
 use Rattle.std.specs.Coded.{coded_bool, coded_option, coded_ℕ, le_prop}
 use base.Stored.{Coded-set}
-pub use Rattle.image.proofs.Laws.{decides-test, test-decides}
+pub use Rattle.image_reading.proofs.Laws.{decides-test, test-decides}
 use Rattle.model.specs.declared.capabilities.Cap.{Cap}
 use Rattle.model.specs.declared.capabilities.Cap.TheVariants.{Empty, Untyped, Endpoint, Notification, CNode, Frame, PageTable, Tcb, RootTable, InterruptControl, InterruptHandler}
 use Rattle.model.specs.Acceptance.NotedKernel.{boot_parent, key_of}

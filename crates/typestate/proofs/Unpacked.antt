@@ -1,7 +1,7 @@
 -- What is unpacked of two words is what the definition unpacks of them.
 use Rattle.std.proofs.Common.{ℕ, ◌≡◌, ◌∙◌, true, false, Option, Some, None, List, [], ◌∷◌, get_or, ap, refl}
 use Rattle.std.specs.Prelude.{IfSome, is_some}
-use Rattle.image.proofs.Laws.{unpacked-is, words-back}
+use Rattle.image_reading.proofs.Laws.{unpacked-is, words-back}
 use Rattle.model.specs.declared.capabilities.Cap.{Cap}
 use Rattle.model.specs.Capabilities.CapabilityFields.{unpacked}
 use Rattle.model.specs.Capabilities.CapabilityWords.{IsCapability, words_of}

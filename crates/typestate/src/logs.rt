@@ -10,7 +10,7 @@ ghost use Rattle.typestate.specs.Unlinked.{AreUnlinked};
 use crate::records::note_record;
 use crate::shown::ShownChanges;
 use crate::{NotedSlot, NotedSlots};
-use image::RecordRef;
+use image_reading::RecordRef;
 use std::alloc::{AllocError, Global};
 use std::marker::Model;
 

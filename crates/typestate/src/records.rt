@@ -9,7 +9,7 @@ ghost use Rattle.model.specs.declared.capabilities.Cap.TheVariants.{Empty};
 
 use crate::{NotedSlot, SlotKey};
 use capwords::unpack;
-use image::RecordRef;
+use image_reading::RecordRef;
 use model::{Cap, SlotEntry};
 use std::alloc::AllocError;
 

@@ -6,7 +6,7 @@ ghost use Rattle.model.specs.Images.Places.{offset_of};
 ghost use Rattle.typestate.specs.GivenSpaces.{IsGivenSpace};
 
 use crate::Windows;
-use image::{ImageRef, ThreadRef};
+use image_reading::{ImageRef, ThreadRef};
 use model::Cap;
 
 /// A thread of an image, with the CNodes that the image gives it, the root of its capability space, and the

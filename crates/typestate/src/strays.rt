@@ -8,7 +8,7 @@ ghost use Rattle.typestate.specs.Strays.{cnodes_of, is_stray_at, is_stray_in, is
 
 use crate::records::key_of;
 use crate::{NotedSlot, NotedSlots, SlotKey, Space, ToldSlots};
-use image::RecordRef;
+use image_reading::RecordRef;
 use model::Cap;
 
 impl NotedSlots<'_> {

@@ -11,7 +11,7 @@ use Rattle.model.specs.Images.Format.{reading}
 use Rattle.model.specs.Images.Image.{Image, whole_image}
 use Rattle.model.specs.declared.refusals.Refusal.{Refusal}
 use Rattle.model.specs.declared.refusals.Refusal.TheVariants.{OutOfMemory}
-use Rattle.image.proofs.Laws.{IsBytes, reading-spelled}
+use Rattle.image_reading.proofs.Laws.{IsBytes, reading-spelled}
 use Rattle.wellformed.specs.Answering.{Answers}
 use Rattle.wellformed.proofs.Laws.{accepted-no_breach, kept-none, none-broken}
 

@@ -9,7 +9,7 @@ ghost use Rattle.model.specs.declared.refusals.Refusal.TheVariants.{OutOfMemory}
 ghost use Rattle.verify.specs.Threads.{AllStandAtFirst, EventsGoWell, PlainStepsAreKept, ThreadsStart};
 
 use headline::events_keep_all_standing;
-use image::{ImageRef, read};
+use image_reading::{ImageRef, read};
 use kept_threads::all_stand_at_the_start;
 use model::Refusal;
 use program_rules::check_programs;

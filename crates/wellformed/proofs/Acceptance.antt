@@ -12,7 +12,7 @@ use Rattle.model.specs.Acceptance.PointRules.{program_rules}
 use Rattle.model.specs.Acceptance.Rules.{Rule, first_broken}
 use Rattle.model.specs.Acceptance.ThreadRules.{thread_rules}
 use Rattle.model.specs.Acceptance.WellFormed.{capability_rules, mapping_rules, object_rules}
-use Rattle.image.proofs.Laws.{bytes-fit, reading-spelled, spelled-reading}
+use Rattle.image_reading.proofs.Laws.{bytes-fit, reading-spelled, spelled-reading}
 
 -- ---- the rules of a phase
 

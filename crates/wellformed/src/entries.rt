@@ -2,9 +2,9 @@
 
 ghost use Rattle.std.specs.Prelude.{◌≡◌, ◌<◌, Some, length, slice_get};
 ghost use Rattle.format_laws.specs.Fitting.{HeaderFits, IsFitting, ObjectFits, UntypedFits};
-ghost use Rattle.image.specs.Sections.{HasCounts};
+ghost use Rattle.image_reading.specs.Sections.{HasCounts};
 
-use image::ImageRef;
+use image_reading::ImageRef;
 use model::{CapabilityEntry, ImageHeader, ObjectEntry, UntypedEntry};
 
 /// The image's fixed part.

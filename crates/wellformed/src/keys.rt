@@ -5,7 +5,7 @@ ghost use Rattle.model.specs.Images.Image.{pair_key};
 ghost use Rattle.wellformed.specs.Keys.{AreListedIn, DoRise, IsPlaceOf, capability_keys, frame_keys, table_keys};
 
 use crate::entries::header_of;
-use image::ImageRef;
+use image_reading::ImageRef;
 
 /// Entries, by their keys.
 trait Keyed {

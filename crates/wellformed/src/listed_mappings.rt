@@ -7,7 +7,7 @@ ghost use Rattle.model.specs.Kernel.AddressSpaces.{page_size, region_pages};
 use crate::entries::header_of;
 use crate::keys::{frame_place, table_place};
 use crate::mappings::{PAGE, REGION};
-use image::ImageRef;
+use image_reading::ImageRef;
 use model::{FrameEntry, TableEntry};
 
 /// Whether an entry maps a page table for a region under a root table.

@@ -14,7 +14,7 @@ use crate::entries::header_of;
 use crate::keys::table_place;
 use crate::number_sets::NumberSet;
 use crate::object_types::{is_frame, is_page_table, is_root_table, object_at};
-use image::{ContentRef, ImageRef};
+use image_reading::{ContentRef, ImageRef};
 use model::{FrameEntry, Refusal, TableEntry};
 use std::alloc::Global;
 

@@ -9,7 +9,7 @@ ghost use Rattle.model.specs.Images.Places.{bits_of, object_at};
 ghost use Rattle.model.specs.Kernel.Retype.{type_of};
 
 use capwords::is_guard_word;
-use image::ImageRef;
+use image_reading::ImageRef;
 use model::ObjectEntry;
 
 /// The types of objects by their numbers.

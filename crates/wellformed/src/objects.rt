@@ -14,7 +14,7 @@ ghost use Rattle.wellformed.specs.Answering.{Answers};
 
 use crate::entries::{header_of, object_of, untyped_of};
 use crate::object_types::{bits_of, power};
-use image::ImageRef;
+use image_reading::ImageRef;
 use model::{ImageHeader, ObjectEntry, Refusal, UntypedEntry};
 use untyped::place;
 

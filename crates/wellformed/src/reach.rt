@@ -9,7 +9,7 @@ use crate::entries::{capability_of, header_of};
 use crate::keys::listed_in;
 use crate::number_sets::NumberSet;
 use crate::object_types::is_cnode_source;
-use image::{ImageRef, ThreadRef};
+use image_reading::{ImageRef, ThreadRef};
 use model::{CapabilityEntry, Refusal};
 use std::alloc::Global;
 

@@ -10,7 +10,7 @@ use crate::mappings::check_mappings;
 use crate::number_sets::NumberSet;
 use crate::objects::check_objects;
 use crate::threads::check_threads;
-use image::ImageRef;
+use image_reading::ImageRef;
 use model::Refusal;
 use std::alloc::Global;
 

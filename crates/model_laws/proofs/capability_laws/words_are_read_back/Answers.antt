@@ -1,5 +1,5 @@
 -- By the fields of the two words.
-use Rattle.image.proofs.Laws.{words-back, words-only}
+use Rattle.image_reading.proofs.Laws.{words-back, words-only}
 use Rattle.model_laws.proofs.capability_laws.words_are_read_back.Goals as goal
 
 pub returns-clause-back : goal.returns-clause-back

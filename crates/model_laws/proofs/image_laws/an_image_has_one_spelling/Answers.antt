@@ -1,5 +1,5 @@
 -- By the laws of the format.
-use Rattle.image.proofs.Laws.{one-image, one-spelling}
+use Rattle.image_reading.proofs.Laws.{one-image, one-spelling}
 use Rattle.model_laws.proofs.image_laws.an_image_has_one_spelling.Goals as goal
 
 pub returns-clause-spelling : goal.returns-clause-spelling

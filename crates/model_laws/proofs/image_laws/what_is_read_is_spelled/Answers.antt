@@ -1,5 +1,5 @@
 -- By the laws of the format.
-use Rattle.image.proofs.Laws.{bytes-fit, reading-spelled, spelled-reading}
+use Rattle.image_reading.proofs.Laws.{bytes-fit, reading-spelled, spelled-reading}
 use Rattle.model_laws.proofs.image_laws.what_is_read_is_spelled.Goals as goal
 
 pub returns-clause-read : goal.returns-clause-read

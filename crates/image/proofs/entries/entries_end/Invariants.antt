@@ -1,8 +1,0 @@
-use Rattle.std.proofs.Common.{◌≡◌, ◌-◌}
-use Rattle.model.specs.Images.Format.{end_of, many_read}
-use Rattle.image.proofs.entries.entries_end.Given as goal
-
-abbrev pub invariant-loop : goal.invariant-loop
-invariant-loop g l =
-    end_of (many_read (g.E.Entry.format l.counts) g.E.Entry.next l.least (l.count - l.counter) l.bytes l.at)
-    ≡ end_of (many_read (g.E.Entry.format l.counts) g.E.Entry.next l.first l.count l.bytes l.fn.start)

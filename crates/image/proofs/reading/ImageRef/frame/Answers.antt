@@ -1,5 +1,0 @@
-use Rattle.image.proofs.SectionSizes.{frame_size}
-use Rattle.image.proofs.reading.ImageRef.frame.Goals as goal
-
-pub entry_of-requires-clause-sized : goal.entry_of-requires-clause-sized
-entry_of-requires-clause-sized c = λ least. frame_size _ least

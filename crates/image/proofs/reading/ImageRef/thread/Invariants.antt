@@ -1,5 +1,0 @@
-use Rattle.std.proofs.Common.{◌≡◌, slice_get}
-use Rattle.image.proofs.reading.ImageRef.thread.Given as goal
-
-abbrev pub invariant-loop-thread : goal.invariant-loop-thread
-invariant-loop-thread l = slice_get l.thread-iterator l.before ≡ slice_get l.fn.self.threads l.number

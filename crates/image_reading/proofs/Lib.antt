@@ -1,0 +1,11 @@
+mod CapabilityTests
+mod EntryLists
+mod FormatLaws
+mod RangeEntries
+mod SectionSizes
+mod ThreadLaws
+mod WholeImage
+mod WholeReading
+mod WordLaws
+mod Words
+pub mod Laws

@@ -1,0 +1,96 @@
+-- Entries of the sections that have one size.
+use Rattle.std.proofs.Common.{◌≡◌, ℕ, ◌+◌, ◌-◌, ◌≤◌, ◌^◌, Bool, true, ltb, leb, ◌&&◌, length, Ok, refl, sym, ap, ◌∙◌, arith}
+use Rattle.std.specs.Int.{w32}
+use Rattle.std.proofs.lemmas.Bool.{and_parts, le-leb, ltb-false}
+use Rattle.model.specs.declared.refusals.Refusal.TheVariants.{Limit}
+use Rattle.model.specs.Images.Format.{Format, ◌>>=◌, number_at, field, both, named}
+use Rattle.model.specs.Images.Image.{anything, below, between, capability_format, frame_format, interrupt_format, object_format, pair_key, size_fits, table_format, untyped_format}
+use Rattle.image_reading.specs.Sizes.{HasSize}
+use Rattle.image_reading.proofs.FormatLaws.{bind_ok, guard_ok, test_ok, ok_is}
+
+field_size : (test loose : ℕ → Bool) → ((n : ℕ) → test n ≡ true → loose n ≡ true) → HasSize 4 (field test) (field loose)
+field_size test loose looser = record {
+  reads = λ bytes at x after e.
+      let n : ℕ = number_at w32 bytes at in
+      let g = guard_ok (ltb (length bytes - at) 4) _ _ (x, after) e in
+      let t = test_ok (test n) (Limit at) (n, at + 4) (x, after) g.1 in
+      let after-is : at + 4 ≡ after = ap (λ (p : ℕ × ℕ). p.1) t.1 in
+      let read : (field loose).reads bytes at ≡ Ok (n, at + 4) = rw (g.0, looser n t.0) refl in
+      let long : 4 ≤ length bytes - at = ltb-false _ _ g.0 in
+      (sym after-is, omega (arith, long, after-is), read ∙ ap (λ (p : ℕ × ℕ). Ok p) t.1);
+}
+
+same_field : (test : ℕ → Bool) → HasSize 4 (field test) (field test)
+same_field test = field_size test test (λ n h. h)
+
+both_size : {A B : Type 0} (m n : ℕ) (first first' : Format A) (second second' : A → Format B) → HasSize m first first' → ((a : A) → HasSize n (second a) (second' a)) → HasSize (m + n) (both first second) (both first' second')
+both_size {A} {B} m n first first' second second' one other = record {
+  reads = λ bytes at x after e.
+      let p = bind_ok (first.reads bytes at) (λ a. (second a.0).reads bytes a.1 >>= λ b. Ok ((a.0, b.0), b.1)) (x, after) e in
+      let a : A = p.0.0 in
+      let q = bind_ok ((second a).reads bytes p.0.1) (λ b. Ok ((a, b.0), b.1)) (x, after) p.2 in
+      let h = one.reads bytes at a p.0.1 p.1 in
+      let k = (other a).reads bytes p.0.1 q.0.0 q.0.1 q.1 in
+      let is = ok_is ((a, q.0.0), q.0.1) (x, after) q.2 in
+      let end : q.0.1 ≡ after = ap (λ (y : (A × B) × ℕ). y.1) is in
+      (omega (arith, h.0, k.0, end), omega (arith, k.1, end), rw (h.2, k.2) q.2);
+}
+
+named_size : {A B : Type 0} (m : ℕ) (to : A → B) (from : B → A) (format loose : Format A) → HasSize m format loose → HasSize m (named to from format) (named to from loose)
+named_size {A} {B} m to from format loose one = record {
+  reads = λ bytes at y after e.
+      let p = bind_ok (format.reads bytes at) (λ x. Ok (to x.0, x.1)) (y, after) e in
+      let h = one.reads bytes at p.0.0 p.0.1 p.1 in
+      let is = ok_is (to p.0.0, p.0.1) (y, after) p.2 in
+      let end : p.0.1 ≡ after = ap (λ (z : B × ℕ). z.1) is in
+      (omega (arith, h.0, end), omega (arith, h.1, end), rw h.2 p.2);
+}
+
+from-0 : (k : ℕ) → leb 0 k ≡ true
+from-0 k = le-leb 0 k (omega arith)
+
+-- what is not below a least number is not below 0
+and-from-0 : (b c : Bool) (k : ℕ) → (b && c) ≡ true → (leb 0 k && c) ≡ true
+and-from-0 b c k h = ap (λ (x : Bool). x && c) (from-0 k) ∙ (and_parts b c h).1
+
+pub untyped_size : HasSize 8 untyped_format untyped_format
+unfolding untyped_format
+untyped_size = named_size 8 _ _ _ _ (both_size 4 4 _ _ _ _ (same_field anything) (λ (a : ℕ). same_field (between 4 24)))
+
+pub object_entry_size : (untypeds least : ℕ) → HasSize 12 (object_format untypeds least) (object_format untypeds 0)
+unfolding object_format
+object_entry_size untypeds least = named_size 12 _ _ _ _
+    (both_size 4 8 _ _ _ _ (field_size (λ n. leb least n && ltb n untypeds) (λ n. leb 0 n && ltb n untypeds) (λ n h. and-from-0 (leb least n) (ltb n untypeds) n h)) (λ (a : ℕ).
+    both_size 4 4 _ _ _ _ (same_field (between 1 8)) (λ (kind : ℕ).
+    same_field (size_fits kind))))
+
+pub capability_size : (objects interrupts least : ℕ) → HasSize 20 (capability_format objects interrupts least) (capability_format objects interrupts 0)
+unfolding capability_format
+capability_size objects interrupts least = named_size 20 _ _ _ _
+    (both_size 4 16 _ _ _ _ (same_field (below objects)) (λ (cnode : ℕ).
+    both_size 4 12 _ _ _ _ (field_size (λ index. leb least (pair_key cnode index)) (λ index. leb 0 (pair_key cnode index)) (λ index h. from-0 (pair_key cnode index))) (λ (a : ℕ).
+    both_size 4 8 _ _ _ _ (same_field (below (objects + interrupts))) (λ (b : ℕ).
+    both_size 4 4 _ _ _ _ (same_field anything) (λ (c : ℕ).
+    same_field anything)))))
+
+pub interrupt_size : (objects least : ℕ) → HasSize 12 (interrupt_format objects least) (interrupt_format objects 0)
+unfolding interrupt_format
+interrupt_size objects least = named_size 12 _ _ _ _
+    (both_size 4 8 _ _ _ _ (field_size (between least 63) (between 0 63) (λ n h. and-from-0 (leb least n) (leb n 63) n h)) (λ (a : ℕ).
+    both_size 4 4 _ _ _ _ (same_field (below objects)) (λ (b : ℕ).
+    same_field (below (2 ^ 28)))))
+
+pub table_size : (objects least : ℕ) → HasSize 12 (table_format objects least) (table_format objects 0)
+unfolding table_format
+table_size objects least = named_size 12 _ _ _ _
+    (both_size 4 8 _ _ _ _ (same_field (below objects)) (λ (root : ℕ).
+    both_size 4 4 _ _ _ _ (field_size (λ address. leb least (pair_key root address)) (λ address. leb 0 (pair_key root address)) (λ address h. from-0 (pair_key root address))) (λ (a : ℕ).
+    same_field (below objects))))
+
+pub frame_size : (objects least : ℕ) → HasSize 16 (frame_format objects least) (frame_format objects 0)
+unfolding frame_format
+frame_size objects least = named_size 16 _ _ _ _
+    (both_size 4 12 _ _ _ _ (same_field (below objects)) (λ (root : ℕ).
+    both_size 4 8 _ _ _ _ (field_size (λ address. leb least (pair_key root address)) (λ address. leb 0 (pair_key root address)) (λ address h. from-0 (pair_key root address))) (λ (a : ℕ).
+    both_size 4 4 _ _ _ _ (same_field (below objects)) (λ (b : ℕ).
+    same_field (between 0 7)))))

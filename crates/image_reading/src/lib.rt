@@ -1,0 +1,23 @@
+//! Reading the bytes of an image: the first refusal of the byte grammar, or the sections, lent.
+#![tactic(auto)]
+
+mod contents;
+mod entries;
+mod fields;
+mod headers;
+mod reading;
+mod records;
+mod registers;
+mod sections;
+mod slot_words;
+mod threads;
+mod word_lists;
+
+pub use contents::{ContentRef, Contents};
+pub use entries::Entries;
+pub use headers::radix_limit;
+pub use model::Refusal;
+pub use reading::{ImageRef, read};
+pub use records::{RecordRef, Records, Slots};
+pub use slot_words::{names_parent, unpacks};
+pub use threads::{ThreadRef, Threads};

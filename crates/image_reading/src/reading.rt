@@ -1,0 +1,381 @@
+//! Reading an image.
+
+ghost use Rattle.std.specs.Prelude.{◌≡◌, ◌<◌, Some, true, slice_get};
+ghost use Rattle.model.specs.Images.Format.{reading};
+ghost use Rattle.model.specs.Images.Image.{whole_image};
+ghost use Rattle.image_reading.specs.Sections.{HasCounts};
+
+use crate::contents::{ContentRef, Contents, contents_end};
+use crate::entries::{Counts, Entries, entries_end, entry_of};
+use crate::headers::image_header;
+use crate::threads::{ThreadRef, Threads, threads_end};
+use model::{
+    CapabilityEntry, FrameEntry, ImageHeader, InterruptEntry, ObjectEntry, Refusal, TableEntry,
+    UntypedEntry,
+};
+use std::marker::{Model, PhantomData};
+
+/// An image, lent from the bytes of its file.
+#[derive(Drop)]
+pub struct ImageRef<'a> {
+    bytes: &'a [u8],
+    header: ImageHeader,
+    untypeds_at: usize,
+    objects_at: usize,
+    capabilities_at: usize,
+    interrupts_at: usize,
+    tables_at: usize,
+    frames_at: usize,
+    contents_at: usize,
+    threads_at: usize,
+}
+
+impl<'a> Model for ImageRef<'a> {
+    ghost use Rattle.model.specs.Images.Image.{Image};
+    ghost use Rattle.image_reading.specs.Sections.{AreSections, sections_image};
+
+    ghost Value = { Image };
+
+    ghost view = { λ i. sections_image i.bytes.now i.header i.untypeds_at i.objects_at i.capabilities_at i.interrupts_at i.tables_at i.frames_at i.contents_at i.threads_at };
+
+    ghost invariant = { λ i. AreSections i.bytes.now i.header i.untypeds_at i.objects_at i.capabilities_at i.interrupts_at i.tables_at i.frames_at i.contents_at i.threads_at };
+}
+
+/// The counts that the ranges of an image's fields depend on.
+fn counts_of(header: &ImageHeader) -> Counts
+    ensures { result ≡ record { untypeds = header.now.untypeds; objects = header.now.objects; interrupts = header.now.interrupts; words = 0 } }
+{
+    Counts {
+        untypeds: header.untypeds,
+        objects: header.objects,
+        interrupts: header.interrupts,
+        words: 0,
+    }
+}
+
+impl<'a> ImageRef<'a> {
+    /// The image's fixed part.
+    pub fn header(&self) -> ImageHeader
+        ensures value { result ≡ self.now.header }
+        ensures fits { whole_image.fits self.now ≡ true }
+        ensures counts { HasCounts self.now }
+    {
+        let _ = &self.bytes;
+        self.header
+    }
+
+    /// An untyped memory, by its number from 0.
+    #[tactic(auto, unfolding(crate::specs::Sections::untypeds_format))]
+    pub fn untyped(&self, number: u32) -> UntypedEntry
+        requires { number < self.now.header.untypeds }
+        ensures { slice_get self.now.untypeds number ≡ Some result }
+    {
+        let header = &self.header;
+        let counts = counts_of(header);
+        entry_of(
+            self.bytes,
+            self.untypeds_at,
+            counts,
+            8,
+            header.untypeds,
+            number,
+        )
+    }
+
+    /// An object, by its number from 0.
+    #[tactic(auto, unfolding(crate::specs::Sections::objects_format))]
+    pub fn object(&self, number: u32) -> ObjectEntry
+        requires { number < self.now.header.objects }
+        ensures { slice_get self.now.objects number ≡ Some result }
+    {
+        let header = &self.header;
+        let counts = counts_of(header);
+        entry_of(
+            self.bytes,
+            self.objects_at,
+            counts,
+            12,
+            header.objects,
+            number,
+        )
+    }
+
+    /// A capability, by its number from 0.
+    #[tactic(auto, unfolding(crate::specs::Sections::capabilities_format))]
+    pub fn capability(&self, number: u32) -> CapabilityEntry
+        requires { number < self.now.header.capabilities }
+        ensures { slice_get self.now.capabilities number ≡ Some result }
+    {
+        let header = &self.header;
+        let counts = counts_of(header);
+        entry_of(
+            self.bytes,
+            self.capabilities_at,
+            counts,
+            20,
+            header.capabilities,
+            number,
+        )
+    }
+
+    /// An interrupt, by its number from 0.
+    #[tactic(auto, unfolding(crate::specs::Sections::interrupts_format))]
+    pub fn interrupt(&self, number: u32) -> InterruptEntry
+        requires { number < self.now.header.interrupts }
+        ensures { slice_get self.now.interrupts number ≡ Some result }
+    {
+        let header = &self.header;
+        let counts = counts_of(header);
+        entry_of(
+            self.bytes,
+            self.interrupts_at,
+            counts,
+            12,
+            header.interrupts,
+            number,
+        )
+    }
+
+    /// A page table that is mapped, by its number from 0.
+    #[tactic(auto, unfolding(crate::specs::Sections::tables_format))]
+    pub fn table(&self, number: u32) -> TableEntry
+        requires { number < self.now.header.tables }
+        ensures { slice_get self.now.tables number ≡ Some result }
+    {
+        let header = &self.header;
+        let counts = counts_of(header);
+        entry_of(
+            self.bytes,
+            self.tables_at,
+            counts,
+            12,
+            header.tables,
+            number,
+        )
+    }
+
+    /// A frame that is mapped, by its number from 0.
+    #[tactic(auto, unfolding(crate::specs::Sections::frames_format))]
+    pub fn frame(&self, number: u32) -> FrameEntry
+        requires { number < self.now.header.frames }
+        ensures { slice_get self.now.frames number ≡ Some result }
+    {
+        let header = &self.header;
+        let counts = counts_of(header);
+        entry_of(
+            self.bytes,
+            self.frames_at,
+            counts,
+            16,
+            header.frames,
+            number,
+        )
+    }
+
+    /// The untyped memories.
+    #[tactic(auto, unfolding(crate::specs::Sections::untypeds_format))]
+    pub fn untypeds(&self) -> Entries<'a, UntypedEntry>
+        ensures { result ≡ self.now.untypeds }
+    {
+        Entries {
+            bytes: self.bytes,
+            at: self.untypeds_at,
+            counts: counts_of(&self.header),
+            least: 0,
+            left: self.header.untypeds,
+            kind: PhantomData,
+        }
+    }
+
+    /// The objects, in the order of the untyped memories that they are made in.
+    #[tactic(auto, unfolding(crate::specs::Sections::objects_format))]
+    pub fn objects(&self) -> Entries<'a, ObjectEntry>
+        ensures { result ≡ self.now.objects }
+    {
+        Entries {
+            bytes: self.bytes,
+            at: self.objects_at,
+            counts: counts_of(&self.header),
+            least: 0,
+            left: self.header.objects,
+            kind: PhantomData,
+        }
+    }
+
+    /// The capabilities, in rising order of CNode and index.
+    #[tactic(auto, unfolding(crate::specs::Sections::capabilities_format))]
+    pub fn capabilities(&self) -> Entries<'a, CapabilityEntry>
+        ensures { result ≡ self.now.capabilities }
+    {
+        Entries {
+            bytes: self.bytes,
+            at: self.capabilities_at,
+            counts: counts_of(&self.header),
+            least: 0,
+            left: self.header.capabilities,
+            kind: PhantomData,
+        }
+    }
+
+    /// The interrupts, in rising order of their lines.
+    #[tactic(auto, unfolding(crate::specs::Sections::interrupts_format))]
+    pub fn interrupts(&self) -> Entries<'a, InterruptEntry>
+        ensures { result ≡ self.now.interrupts }
+    {
+        Entries {
+            bytes: self.bytes,
+            at: self.interrupts_at,
+            counts: counts_of(&self.header),
+            least: 0,
+            left: self.header.interrupts,
+            kind: PhantomData,
+        }
+    }
+
+    /// The page tables that are mapped, in rising order of root table and address.
+    #[tactic(auto, unfolding(crate::specs::Sections::tables_format))]
+    pub fn tables(&self) -> Entries<'a, TableEntry>
+        ensures { result ≡ self.now.tables }
+    {
+        Entries {
+            bytes: self.bytes,
+            at: self.tables_at,
+            counts: counts_of(&self.header),
+            least: 0,
+            left: self.header.tables,
+            kind: PhantomData,
+        }
+    }
+
+    /// The frames that are mapped, in rising order of root table and address.
+    #[tactic(auto, unfolding(crate::specs::Sections::frames_format))]
+    pub fn frames(&self) -> Entries<'a, FrameEntry>
+        ensures { result ≡ self.now.frames }
+    {
+        Entries {
+            bytes: self.bytes,
+            at: self.frames_at,
+            counts: counts_of(&self.header),
+            least: 0,
+            left: self.header.frames,
+            kind: PhantomData,
+        }
+    }
+
+    /// What frames begin with, in rising order of the frames.
+    #[tactic(auto, unfolding(crate::specs::Sections::contents_format))]
+    pub fn contents(&self) -> Contents<'a>
+        ensures { result ≡ self.now.contents }
+    {
+        Contents {
+            bytes: self.bytes,
+            at: self.contents_at,
+            objects: self.header.objects,
+            least: 0,
+            left: self.header.contents,
+        }
+    }
+
+    /// The threads.
+    #[tactic(auto, unfolding(crate::specs::Sections::threads_format))]
+    pub fn threads(&self) -> Threads<'a>
+        ensures { result ≡ self.now.threads }
+    {
+        Threads {
+            bytes: self.bytes,
+            at: self.threads_at,
+            counts: counts_of(&self.header),
+            left: self.header.threads,
+        }
+    }
+
+    /// One content, by its number from 0. It goes over those before it.
+    pub fn content(&self, number: u32) -> ContentRef<'a>
+        requires { number < self.now.header.contents }
+        ensures { slice_get self.now.contents number ≡ Some result }
+    {
+        let _ = &self.bytes;
+        let mut before = number;
+        for content in self.contents() {
+            if before == 0 {
+                return content;
+            }
+            before -= 1;
+        }
+        unreachable!()
+    }
+
+    /// One thread, by its number from 0. It goes over those before it.
+    pub fn thread(&self, number: u32) -> ThreadRef<'a>
+        requires { number < self.now.header.threads }
+        ensures { slice_get self.now.threads number ≡ Some result }
+    {
+        let _ = &self.bytes;
+        let mut before = number;
+        for thread in self.threads() {
+            if before == 0 {
+                return thread;
+            }
+            before -= 1;
+        }
+        unreachable!()
+    }
+}
+
+/// The image that the bytes begin with, and the offset behind it.
+#[tactic(auto, unfolding(model::specs::Images::Image::image_with, model::specs::Images::Image::sections_format, crate::specs::Sections::untypeds_format, crate::specs::Sections::objects_format, crate::specs::Sections::capabilities_format, crate::specs::Sections::interrupts_format, crate::specs::Sections::tables_format, crate::specs::Sections::frames_format, crate::specs::Sections::contents_format, crate::specs::Sections::threads_format))]
+fn image_at(bytes: &[u8]) -> Result<(ImageRef<'_>, usize), Refusal>
+    ensures { result ≡ whole_image.reads bytes.now 0 }
+{
+    let (header, untypeds_at) = image_header(bytes, 0)?;
+    let counts = Counts {
+        untypeds: header.untypeds,
+        objects: header.objects,
+        interrupts: header.interrupts,
+        words: 0,
+    };
+    let objects_at = entries_end::<UntypedEntry>(bytes, untypeds_at, counts, 0, header.untypeds)?;
+    let capabilities_at = entries_end::<ObjectEntry>(bytes, objects_at, counts, 0, header.objects)?;
+    let interrupts_at = entries_end::<CapabilityEntry>(
+        bytes,
+        capabilities_at,
+        counts,
+        0,
+        header.capabilities,
+    )?;
+    let tables_at = entries_end::<InterruptEntry>(
+        bytes,
+        interrupts_at,
+        counts,
+        0,
+        header.interrupts,
+    )?;
+    let frames_at = entries_end::<TableEntry>(bytes, tables_at, counts, 0, header.tables)?;
+    let contents_at = entries_end::<FrameEntry>(bytes, frames_at, counts, 0, header.frames)?;
+    let threads_at = contents_end(bytes, contents_at, header.objects, header.contents)?;
+    let end = threads_end(bytes, threads_at, counts, header.threads)?;
+    let image = ImageRef {
+        bytes,
+        header,
+        untypeds_at,
+        objects_at,
+        capabilities_at,
+        interrupts_at,
+        tables_at,
+        frames_at,
+        contents_at,
+        threads_at,
+    };
+    Ok((image, end))
+}
+
+/// The image that the bytes spell, all of them, or what is refused first.
+pub fn read(bytes: &[u8]) -> Result<ImageRef<'_>, Refusal>
+    ensures { result ≡ reading whole_image bytes.now }
+{
+    let (image, end) = image_at(bytes)?;
+    if end < bytes.len() {
+        return Err(Refusal::Trailing { offset: end as u64 });
+    }
+    Ok(image)
+}
