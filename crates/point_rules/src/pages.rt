@@ -14,7 +14,7 @@ ghost use Rattle.typestate.specs.Calls.{known_with};
 ghost use Rattle.typestate.specs.Differences.{slots_of};
 
 use crate::Pages;
-use mapped_frames::frame_at;
+use image_entries::frame_at;
 use model::{Access, AccessSize, FrameEntry, Instr, LoadOp, Range, Rights, StoreOp};
 use ranges::Bounds;
 use typestate::allows;

@@ -11,9 +11,9 @@ ghost use Rattle.model.specs.declared.capabilities.Cap.TheVariants.{Empty};
 ghost use Rattle.thread_spaces.specs.Given.{AreOffsets, IsEntry};
 
 use image_reading::ImageRef;
+use image_entries::{header_of, object_of};
 use model::{Cap, CapabilityEntry, ObjectEntry, Rights};
 use typestate::{NotedSlot, SlotKey};
-use wellformed::{header_of, object_of};
 
 /// The types of objects by their numbers.
 const UNTYPED: u32 = 1;

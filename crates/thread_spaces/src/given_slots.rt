@@ -9,10 +9,11 @@ ghost use Rattle.typestate.specs.Orders.{Rise};
 
 use crate::capabilities::listed_slot;
 use image_reading::{ImageRef, ThreadRef};
+use image_entries::{capability_of, header_of};
 use model::CapabilityEntry;
 use std::alloc::{AllocError, Global};
 use typestate::NotedSlot;
-use wellformed::{NumberSet, capability_of, header_of};
+use wellformed::NumberSet;
 
 /// Appends the slot that an entry fills, if it stands in one of these CNodes.
 fn note_listed(

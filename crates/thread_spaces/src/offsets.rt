@@ -7,8 +7,9 @@ ghost use Rattle.model.specs.Images.Places.{bits_of, object_at, offset_of, used_
 ghost use Rattle.thread_spaces.specs.Given.{AreOffsets};
 
 use image_reading::ImageRef;
+use image_entries::{header_of, object_of, untyped_of};
 use std::alloc::{AllocError, Global};
-use wellformed::{bits_of, header_of, object_of, power, untyped_of};
+use wellformed::{bits_of, power};
 
 /// How many untypeds an image has at most.
 const UNTYPEDS: usize = 64;

@@ -7,10 +7,11 @@ ghost use Rattle.model.specs.Acceptance.ThreadRules.{is_cnode_source, reached, w
 ghost use Rattle.thread_spaces.specs.Reaching.{AwaitsListed, AwaitsMore, Begins, Follows, IsWithin, awaits, is_among};
 
 use image_reading::{ImageRef, ThreadRef};
+use image_entries::{capability_of, header_of, listed_in};
 use model::Refusal;
 use std::alloc::Global;
 use std::collections::btree_set::BTreeSet;
-use wellformed::{NumberSet, capability_of, header_of, is_cnode_source, listed_in};
+use wellformed::{NumberSet, is_cnode_source};
 
 /// A round over the capabilities of an image, by their numbers: the place that it has come to, those from there on that may lead
 /// to another CNode, and those before it that may do so in the next round.

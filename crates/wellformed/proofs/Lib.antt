@@ -1,12 +1,10 @@
 mod Acceptance
+mod Covered
 mod Listed
 mod Named
 mod Phases
-mod Places
 mod Reached
 mod RulesLeft
-mod Searches
-mod RegionSearches
 mod Stands
 mod ThreadSteps
 pub mod Laws

@@ -180,9 +180,6 @@ module _ {A : Type 0} (key : A → ℕ) where
 -- ---- whether some entry passes a test
 
 module _ {A : Type 0} (p : A → Bool) (xs : List A) (i : ℕ) where
-  pub any-here : (x : A) → slice_get xs i ≡ Some x → p x ≡ true → list_any p xs ≡ true
-  any-here x at holds = list_any_at p xs i x (slice_get_within xs i x at) (ap p (get_or_from_slice_get xs i x x at) ∙ holds)
-
   pub any-next : (x : A) → slice_get xs i ≡ Some x → p x ≡ false → list_any p (take i xs) ≡ false → list_any p (take (i + 1) xs) ≡ false
   any-next x at holds so_far =
       list_any_more p xs i x (slice_get_within xs i x at) ∙ ap (λ (b : Bool). b || p (get_or xs i x)) so_far ∙ ap p (get_or_from_slice_get xs i x x at) ∙ holds

@@ -8,12 +8,12 @@ ghost use Rattle.model.specs.Acceptance.WellFormed.{capability_rules, does_not_f
 ghost use Rattle.model.specs.Images.Described.{numbered};
 ghost use Rattle.wellformed.specs.Answering.{Answers, AreNamed};
 
-use crate::entries::header_of;
 use crate::number_sets::NumberSet;
 use crate::object_types::{
     has_slot, is_notification, is_page_table, is_thread, is_untyped, may_have, object_at, source_at,
 };
 use image_reading::ImageRef;
+use image_entries::header_of;
 use model::{CapabilityEntry, InterruptEntry, Refusal};
 
 /// Whether capability `item` does not fit. Threads and page tables are no sources, and untyped memory is one once.

@@ -1,20 +1,18 @@
 //! Tables, frames and contents: whether they fit what they name, and whether code can be written.
 
-ghost use Rattle.std.specs.Prelude.{ℕ, ◌≡◌, ◌==◌, ◌+◌, ◌/◌, ◌<◌, ◌&&◌, [], IfErr, IfOk, OnOk, if◌then◌else◌, flat_map, map};
+ghost use Rattle.std.specs.Prelude.{ℕ, ◌≡◌, ◌==◌, ◌+◌, ◌<◌, [], IfErr, IfOk, OnOk, if◌then◌else◌, flat_map, map};
 ghost use Rattle.std.specs.List.{list_any};
 ghost use Rattle.model.specs.declared.refusals.Refusal.TheVariants.{BadMapping, OutOfMemory};
 ghost use Rattle.model.specs.Acceptance.Rules.{first_broken, refuse_if};
 ghost use Rattle.model.specs.Acceptance.ThreadRules.{is_member};
 ghost use Rattle.model.specs.Acceptance.WellFormed.{content_rule, executes, fills_nothing, frame_rules, has_writable_code, is_address, is_covered, is_mapped_before, is_mapped_twice, is_named_otherwise, mapping_rules, misplaces_frame, misplaces_table};
 ghost use Rattle.model.specs.Images.Described.{numbered};
-ghost use Rattle.model.specs.Kernel.AddressSpaces.{region_size};
 ghost use Rattle.wellformed.specs.Answering.{Answers, AreNamed, AreTwice, with_number};
 
-use crate::entries::header_of;
-use crate::keys::table_place;
 use crate::number_sets::NumberSet;
 use crate::object_types::{is_frame, is_page_table, is_root_table, object_at};
 use image_reading::{ContentRef, ImageRef};
+use image_entries::{header_of, lists_region};
 use model::{FrameEntry, Refusal, TableEntry};
 use std::alloc::Global;
 
@@ -62,20 +60,11 @@ fn check_tables(alloc: Global, image: &ImageRef<'_>) -> Result<(), Refusal>
     Ok(())
 }
 
-/// Whether a table covers the page of a mapping.
-fn covers(table: TableEntry, entry: FrameEntry) -> bool
-    ensures { result ≡ (table.root == entry.root && (table.address / region_size == entry.address / region_size)) }
-{
-    table.root == entry.root && table.address / REGION == entry.address / REGION
-}
-
-/// Whether some table covers the page of a mapping. The first table from the page's region on is the only one that may.
+/// Whether some table covers the page of a mapping.
 fn is_covered(image: &ImageRef<'_>, entry: FrameEntry) -> bool
     ensures { result ≡ is_covered image.now entry }
 {
-    let region = entry.address - entry.address % REGION;
-    let place = table_place(image, entry.root, region);
-    place < header_of(image).tables && covers(image.table(place), entry)
+    lists_region(image, entry.root, entry.address / REGION)
 }
 
 /// Whether a frame's mapping is misplaced.

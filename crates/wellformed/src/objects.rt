@@ -12,9 +12,9 @@ ghost use Rattle.model.specs.Kernel.State.{boot_area_end};
 ghost use Rattle.format_laws.specs.Fitting.{HeaderFits, ObjectFits, UntypedFits};
 ghost use Rattle.wellformed.specs.Answering.{Answers};
 
-use crate::entries::{header_of, object_of, untyped_of};
 use crate::object_types::{bits_of, power};
 use image_reading::ImageRef;
+use image_entries::{header_of, object_of, untyped_of};
 use model::{ImageHeader, ObjectEntry, Refusal, UntypedEntry};
 use untyped::place;
 

@@ -5,11 +5,10 @@ ghost use Rattle.model.specs.declared.refusals.Refusal.TheVariants.{OutOfMemory}
 ghost use Rattle.model.specs.Acceptance.ThreadRules.{is_cnode_source, is_member, reached};
 ghost use Rattle.wellformed.specs.Answering.{with_listed, with_number};
 
-use crate::entries::{capability_of, header_of};
-use crate::keys::listed_in;
 use crate::number_sets::NumberSet;
 use crate::object_types::is_cnode_source;
 use image_reading::{ImageRef, ThreadRef};
+use image_entries::{capability_of, header_of, listed_in};
 use model::{CapabilityEntry, Refusal};
 use std::alloc::Global;
 

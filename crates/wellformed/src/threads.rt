@@ -11,14 +11,13 @@ ghost use Rattle.model.specs.Images.Fills.{frame_at, program_pages};
 ghost use Rattle.model.specs.Kernel.AddressSpaces.{address_limit};
 ghost use Rattle.wellformed.specs.Answering.{AreEarlier, Answers, with_number};
 
-use crate::entries::{capability_of, header_of};
-use crate::keys::{frame_place, listed_in};
 use crate::mappings::{ADDRESS_LIMIT, PAGE, executes};
 use crate::number_sets::NumberSet;
 use crate::object_types::{is_guard, is_root_table, is_thread, object_at, radix_of, source_at};
 use crate::reach::reached;
 use image_reading::{ImageRef, ThreadRef};
-use model::{CapabilityEntry, FrameEntry, Refusal, ThreadHeader};
+use image_entries::{capability_of, frame_at, header_of, listed_in};
+use model::{CapabilityEntry, Refusal, ThreadHeader};
 use std::alloc::Global;
 
 /// What the threads before one have.
@@ -42,23 +41,14 @@ fn has_guard(image: &ImageRef<'_>, thread: &ThreadRef<'_>) -> bool
     }
 }
 
-/// Whether this maps the page at an address under a root table.
-fn is_at(entry: FrameEntry, root: u32, address: u32) -> bool
-    ensures { result ≡ (entry.root == root && entry.address == address) }
-{
-    entry.root == root && entry.address == address
-}
-
 /// Whether a page is mapped with execute under a root table.
 fn is_code(image: &ImageRef<'_>, root: u32, address: u32) -> bool
     ensures { result ≡ option_map_or executes (frame_at image.now root address) false }
 {
-    let place = frame_place(image, root, address);
-    if header_of(image).frames <= place {
-        return false;
+    match frame_at(image, root, address) {
+        Some(entry) => executes(entry),
+        None => false,
     }
-    let entry = image.frame(place);
-    is_at(entry, root, address) && executes(entry)
 }
 
 /// Where the program ends.

@@ -1,19 +1,7 @@
--- By the table at the place.
-use Rattle.std.proofs.Common.{◌≡◌, ◌∙◌, rules, sym, ap, arith}
-use Rattle.std.proofs.lemmas.Bool.{le-ltb}
-use Rattle.model.specs.declared.entries.ImageHeader.{ImageHeader}
-use Rattle.wellformed.proofs.Searches.{covered-by, covered-none}
+-- By the page's region.
+use Rattle.std.proofs.Common.{◌∙◌}
+use Rattle.wellformed.proofs.Covered.{covered-is}
 use Rattle.wellformed.proofs.mappings.is_covered.Goals as goal
 
-pub returns-then-place-header_of : goal.returns-then-place-header_of
-returns-then-place-header_of c =
-    c.covers.ensures
-    ∙ sym (covered-by c.args.image.now c.header_of.ensures.fitting c.args.entry c.table_place-place.result c.table.result (search rules) c.table_place-place.ensures c.table.ensures)
-
-pub returns-else-place-header_of : goal.returns-else-place-header_of
-returns-else-place-header_of c =
-    let image = c.args.image.now in
-    let count : c.header_of.result.tables ≡ image.header.tables = ap (λ (h : ImageHeader). h.tables) c.header_of.ensures.value in
-    le-ltb c.table_place-place.result c.header_of.result.tables c.if-place-header_of.false
-    ∙ sym (covered-none image c.header_of.ensures.fitting c.args.entry c.table_place-place.result (search rules) c.table_place-place.ensures
-    (omega (arith, count, c.header_of.ensures.counts.tables, c.if-place-header_of.false)))
+pub returns : goal.returns
+returns c = c.lists_region.ensures ∙ covered-is c.args.image.now c.args.entry

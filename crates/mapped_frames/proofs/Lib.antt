@@ -1,2 +1,0 @@
-pub mod FrameSearches
-pub mod MappedPages
