@@ -150,6 +150,13 @@ impl Windows {
         })
     }
 
+    /// The CNode at a place of the list, if there is one.
+    fn at_place(&self, place: usize) -> Option<Window>
+        ensures { IfSome result (IsThere self.now) }
+    {
+        self.list.get(place).copied()
+    }
+
     /// A CNode that may be the one of this number.
     fn numbered(&self, cnode: u32) -> Option<Window>
         ensures { IfSome result (IsThere self.now) }
@@ -158,7 +165,7 @@ impl Windows {
             .by_cnode
             .binary_search_by_key(&cnode, |place| place.number)
             .ok()?;
-        self.list.get(self.by_cnode[found].place).copied()
+        self.at_place(self.by_cnode[found].place)
     }
 
     /// A CNode that may be the one of this slot: the last one that does not begin behind it.
@@ -167,7 +174,7 @@ impl Windows {
     {
         let behind = self.by_slot.partition_point(|place| place.number <= slot);
         let last = self.by_slot.get(behind.checked_sub(1)?)?;
-        self.list.get(last.place).copied()
+        self.at_place(last.place)
     }
 
     /// Whether a slot of this key stands in one of the CNodes.
