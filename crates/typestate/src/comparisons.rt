@@ -9,13 +9,20 @@ ghost use Rattle.typestate.specs.Differences.{are_same_at, is_same_held, slots_o
 use crate::{NotedSlot, NotedSlots, SlotKey};
 use capwords::pack;
 
+/// Whether the two words of capabilities are the same.
+fn are_same_words(a: [u32; 2], b: [u32; 2]) -> bool
+    ensures { result ≡ same_words a b }
+{
+    let [a_head, a_word] = a;
+    let [b_head, b_word] = b;
+    a_head == b_head && a_word == b_word
+}
+
 /// Whether two slots hold capabilities with the same words.
 fn have_same_words(a: NotedSlot, b: NotedSlot) -> bool
     ensures { result ≡ same_words (words_of a.capability) (words_of b.capability) }
 {
-    let [a_head, a_word] = pack(a.capability);
-    let [b_head, b_word] = pack(b.capability);
-    a_head == b_head && a_word == b_word
+    are_same_words(pack(a.capability), pack(b.capability))
 }
 
 /// Whether two slots were derived from the same.
