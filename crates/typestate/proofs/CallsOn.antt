@@ -1,5 +1,5 @@
 -- What is decoded of a capability is a call on it.
-use Rattle.std.proofs.Common.{ℕ, ◌≡◌, ◌==◌, Bool, true, false, nat_le, if◌then◌else◌, Option, Some, None, Result, Ok, Err, List, length, refl, sym, ap, subst}
+use Rattle.std.proofs.Common.{ℕ, ◌≡◌, ◌==◌, ◌⊎◌, inl, inr, Bool, true, false, nat_le, if◌then◌else◌, Option, Some, None, Result, Ok, Err, List, length, refl, sym, ap, subst}
 use Rattle.model.specs.declared.capabilities.Cap.{Cap}
 use Rattle.model.specs.declared.capabilities.Cap.TheVariants.{Empty, Untyped, Endpoint, Notification, CNode, Frame, PageTable, Tcb, RootTable, InterruptControl, InterruptHandler}
 use Rattle.model.specs.declared.errors.KError.{KError}
@@ -98,7 +98,7 @@ pool-is (InterruptHandler _) memory call is = absurd is
 -- ---- calls that no program makes
 
 module _ (image : Image) (t : Thread) (cnodes : List ℕ) where
-  pub no-thread : (c : Cap) (thread : ℕ) (call : ThreadCall) → is_foreign image t cnodes c ≡ false → IsCallOn c (OnThread thread call) → ⊥
+  no-thread : (c : Cap) (thread : ℕ) (call : ThreadCall) → is_foreign image t cnodes c ≡ false → IsCallOn c (OnThread thread call) → ⊥
   no-thread Empty thread call own is = absurd is
   no-thread (Untyped _ _ _) thread call own is = absurd is
   no-thread (Endpoint _ _ _) thread call own is = absurd is
@@ -111,7 +111,7 @@ module _ (image : Image) (t : Thread) (cnodes : List ℕ) where
   no-thread InterruptControl thread call own is = absurd is
   no-thread (InterruptHandler _) thread call own is = absurd is
 
-  pub no-table-call : (c : Cap) (call : TableCall) → is_foreign image t cnodes c ≡ false → IsCallOn c (OnTable call) → ⊥
+  no-table-call : (c : Cap) (call : TableCall) → is_foreign image t cnodes c ≡ false → IsCallOn c (OnTable call) → ⊥
   no-table-call Empty call own is = absurd is
   no-table-call (Untyped _ _ _) call own is = absurd is
   no-table-call (Endpoint _ _ _) call own is = absurd is
@@ -124,7 +124,7 @@ module _ (image : Image) (t : Thread) (cnodes : List ℕ) where
   no-table-call InterruptControl call own is = absurd is
   no-table-call (InterruptHandler _) call own is = absurd is
 
-  pub no-control : (c : Cap) (line : ℕ) (name : SlotName) → is_foreign image t cnodes c ≡ false → IsCallOn c (OnControl line name) → ⊥
+  no-control : (c : Cap) (line : ℕ) (name : SlotName) → is_foreign image t cnodes c ≡ false → IsCallOn c (OnControl line name) → ⊥
   no-control Empty line name own is = absurd is
   no-control (Untyped _ _ _) line name own is = absurd is
   no-control (Endpoint _ _ _) line name own is = absurd is
@@ -136,6 +136,13 @@ module _ (image : Image) (t : Thread) (cnodes : List ℕ) where
   no-control (RootTable _) line name own is = absurd is
   no-control InterruptControl line name own is = absurd (let clash : true ≡ false = own in cc)
   no-control (InterruptHandler _) line name own is = absurd is
+
+  -- nor any of them
+  pub no-other-call : (c : Cap) (call : Invocation) → is_foreign image t cnodes c ≡ false → IsCallOn c call
+      → ((thread : ℕ) × (on : ThreadCall) × (call ≡ OnThread thread on)) ⊎ (((on : TableCall) × (call ≡ OnTable on)) ⊎ ((line : ℕ) × (name : SlotName) × (call ≡ OnControl line name))) → ⊥
+  no-other-call c call own is (inl a) = no-thread c a.0 a.1 own (subst (IsCallOn c) a.2 is)
+  no-other-call c call own is (inr (inl a)) = no-table-call c a.0 own (subst (IsCallOn c) a.1 is)
+  no-other-call c call own is (inr (inr a)) = no-control c a.0 a.1 own (subst (IsCallOn c) a.2 is)
 
 -- a CNode's own slot does not count
 pub cnode-anywhere : (image : Image) (t : Thread) (at : Point) (slots : List NotedSlot) (held : NotedSlot) (c : CNodeCall)

@@ -1,5 +1,5 @@
 -- By the kind of the call.
-use Rattle.std.proofs.Common.{◌≡◌, ◌∙◌, inl, inr, false, Option, sym, ap, subst}
+use Rattle.std.proofs.Common.{◌≡◌, ◌∙◌, false, Option, sym, ap, subst}
 use Rattle.std.specs.Option.{option_map_or}
 use Rattle.model.specs.declared.capabilities.Cap.TheVariants.{Empty, Untyped}
 use Rattle.model.specs.Acceptance.NotedStates.{NotedSlot, is_foreign}
@@ -9,7 +9,7 @@ use Rattle.typestate.specs.CNodeCalls.{cnode_after}
 use Rattle.typestate.specs.Differences.{slots_of}
 use Rattle.typestate.specs.Invocations.{IsCallOn, held_after}
 use Rattle.typestate.specs.Spaces.{is_inside}
-use Rattle.typestate.proofs.CallsOn.{cnode-anywhere, done-as, no-control, no-table-call, no-thread, pool-is}
+use Rattle.typestate.proofs.CallsOn.{cnode-anywhere, done-as, no-other-call, pool-is}
 use Rattle.typestate.proofs.GivenFacts.{decides-test}
 use Rattle.typestate.proofs.HeldCaps.{held-near}
 use Rattle.typestate.proofs.SlotMaps.{held-inside, held_at}
@@ -44,13 +44,7 @@ unreachable-requires c =
     let slots = slots_of c.args.self.now.own.slots in
     let here : held_at slots c.args.self.now.held.now.key ≡ c.args.self.now.held.now.capability = ap (λ (o : Option NotedSlot). option_map_or (λ s. s.capability) o Empty) c.args.self.now.there in
     let near : is_foreign image t (reached image t) c.args.self.now.held.now.capability ≡ false = ap (is_foreign image t (reached image t)) (sym here) ∙ held-near image t slots c.args.self.now.held.now.key c.args.self.now.own.inside in
-    elim c.in-OnThread.is [
-      | inl a ↦ no-thread image t (reached image t) c.args.self.now.held.now.capability a.0 a.1 near (subst (IsCallOn c.args.self.now.held.now.capability) a.2 c.requires.fits)
-      | inr b ↦ elim b [
-        | inl a ↦ no-table-call image t (reached image t) c.args.self.now.held.now.capability a.0 near (subst (IsCallOn c.args.self.now.held.now.capability) a.1 c.requires.fits)
-        | inr a ↦ no-control image t (reached image t) c.args.self.now.held.now.capability a.0 a.1 near (subst (IsCallOn c.args.self.now.held.now.capability) a.2 c.requires.fits)
-      ]
-    ]
+    no-other-call image t (reached image t) c.args.self.now.held.now.capability c.args.call near c.requires.fits c.in-OnThread.is
 
 pub returns-in-OnCNode-clause-made : goal.returns-in-OnCNode-clause-made
 returns-in-OnCNode-clause-made c =
