@@ -13,6 +13,7 @@ mod Compared
 mod SomeHeld
 mod TidyChanges
 mod OwnChanges
+mod Appended
 mod Linked
 mod LinkedChanges
 mod PagedChanges

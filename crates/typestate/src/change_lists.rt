@@ -4,10 +4,11 @@
 ghost use Rattle.std.specs.Prelude.{◌≡◌, ◌++◌, IfOk, flat_map};
 ghost use Rattle.typestate.specs.ChangeLists.{changes_of, child_change, told_of};
 ghost use Rattle.typestate.specs.SlotChanges.{emptied, is_parent};
+ghost use Rattle.typestate.specs.declared.slot_changes.SlotChange.TheVariants.{Moves, Removes};
 
 use crate::noted::left;
 use crate::removal::Removal;
-use crate::{NotedSlot, NotedSlots, SlotChange, SlotKey};
+use crate::{NotedSlot, NotedSlots, Removed, SlotChange, SlotKey};
 use model::Cap;
 use std::alloc::AllocError;
 
@@ -53,6 +54,22 @@ impl NotedSlots<'_> {
         Ok(())
     }
 
+    /// Appends that what a change leaves follows what it was derived from, if that moves.
+    fn note_child(
+        &self,
+        from: SlotKey,
+        to: SlotKey,
+        change: NotedSlot,
+        made: &mut Vec<NotedSlot>,
+    ) -> Result<(), AllocError>
+        ensures { IfOk result (λ _. made.new.items ≡ made.old.items ++ told_of (child_change from to) change) }
+    {
+        match left(change) {
+            Some(slot) => self.note_followed(from, to, slot, made),
+            None => Ok(()),
+        }
+    }
+
     /// Appends that what these changes leave follows what it was derived from, if that moves.
     fn note_children(
         &self,
@@ -64,11 +81,41 @@ impl NotedSlots<'_> {
         ensures { IfOk result (λ _. made.new.items ≡ made.old.items ++ flat_map (told_of (child_change from to)) changes.now) }
     {
         for change in changes {
-            if let Some(slot) = left(*change) {
-                self.note_followed(from, to, slot, made)?;
-            }
+            self.note_child(from, to, *change, made)?;
         }
         Ok(())
+    }
+
+    /// Appends what a call makes of the slots that moves one: what was derived from it follows. Memory may be refused.
+    fn note_move(
+        &self,
+        from: SlotKey,
+        to: NotedSlot,
+        made: &mut Vec<NotedSlot>,
+    ) -> Result<(), AllocError>
+        ensures { IfOk result (λ _. made.new.items ≡ made.old.items ++ changes_of self.now (Moves from to)) }
+    {
+        let mut children = Vec::new(*made.allocator());
+        self.note_children_of(from, &mut children)?;
+        self.note_children(from, to.key, &children, made)?;
+        made.push(to)?;
+        made.push(emptied(from))?;
+        Ok(())
+    }
+
+    /// Appends what a call makes of the slots that takes some away. Memory may be refused.
+    fn note_removal(&self, which: Removed, made: &mut Vec<NotedSlot>) -> Result<(), AllocError>
+        ensures { IfOk result (λ _. made.new.items ≡ made.old.items ++ changes_of self.now (Removes which)) }
+    {
+        let affected = self.affected(*made.allocator(), &which)?;
+        let removal = Removal {
+            slots: *self,
+            which,
+            below: &affected.below,
+            touched: &affected.touched,
+        };
+        removal.note_named(made)?;
+        removal.note_removals(made)
     }
 
     /// Appends what a call makes of the slots. What the image lists was derived from none of the thread's slots: of its slots only
@@ -81,27 +128,13 @@ impl NotedSlots<'_> {
         ensures { IfOk result (λ _. made.new.items ≡ made.old.items ++ changes_of self.now change.now) }
     {
         match change {
-            SlotChange::Nothing => {}
-            SlotChange::Puts(slot) => made.push(*slot)?,
-            SlotChange::Moves { from, to } => {
-                let mut children = Vec::new(*made.allocator());
-                self.note_children_of(*from, &mut children)?;
-                self.note_children(*from, to.key, &children, made)?;
-                made.push(*to)?;
-                made.push(emptied(*from))?;
+            SlotChange::Nothing => Ok(()),
+            SlotChange::Puts(slot) => {
+                made.push(*slot)?;
+                Ok(())
             }
-            SlotChange::Removes(which) => {
-                let affected = self.affected(*made.allocator(), which)?;
-                let removal = Removal {
-                    slots: *self,
-                    which: *which,
-                    below: &affected.below,
-                    touched: &affected.touched,
-                };
-                removal.note_named(made)?;
-                removal.note_removals(made)?;
-            }
+            SlotChange::Moves { from, to } => self.note_move(*from, *to, made),
+            SlotChange::Removes(which) => self.note_removal(*which, made),
         }
-        Ok(())
     }
 }

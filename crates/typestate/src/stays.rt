@@ -1,7 +1,7 @@
 //! What becomes of the slots at a point where some go.
 //! seL4 Reference Manual, "Deletion, Revocation, and Recycling".
 
-ghost use Rattle.std.specs.Prelude.{◌≡◌, ◌&&◌, ◌||◌, ◌++◌, IfOk, false, flat_map, true};
+ghost use Rattle.std.specs.Prelude.{◌≡◌, ◌&&◌, ◌||◌, ◌++◌, [], IfOk, false, flat_map, true};
 ghost use Rattle.std.specs.List.{list_any};
 ghost use Rattle.std.specs.Option.{option_map_or};
 ghost use Rattle.model.specs.Capabilities.CapabilityKinds.{is_untyped};
@@ -222,14 +222,25 @@ impl Removal<'_, '_> {
         Ok(())
     }
 
+    /// Appends what becomes of what a slot holds where some go.
+    fn note_held(
+        &self,
+        held: Option<NotedSlot>,
+        made: &mut Vec<NotedSlot>,
+    ) -> Result<(), AllocError>
+        ensures { IfOk result (λ _. made.new.items ≡ made.old.items ++ option_map_or (removal_change (gone_by self.now) (slots_of self.now.slots)) held []) }
+    {
+        match held {
+            Some(slot) => self.note_removed(slot, made),
+            None => Ok(()),
+        }
+    }
+
     /// Appends what becomes of the slot of a key where some go.
     fn note_removal_at(&self, key: SlotKey, made: &mut Vec<NotedSlot>) -> Result<(), AllocError>
         ensures { IfOk result (λ _. made.new.items ≡ made.old.items ++ told_at (removal_change (gone_by self.now) (slots_of self.now.slots)) (slots_of self.now.slots) key) }
     {
-        if let Some(slot) = self.slots.at(key) {
-            self.note_removed(slot, made)?;
-        }
-        Ok(())
+        self.note_held(self.slots.at(key), made)
     }
 
     /// Appends what becomes of the slots that are named where some go: the one that goes and what it was derived from, or the one
@@ -254,9 +265,8 @@ impl Removal<'_, '_> {
         ensures { IfOk result (λ _. made.new.items ≡ made.old.items ++ flat_map (told_of (removal_change (gone_by self.now) (slots_of self.now.slots))) self.now.touched.now) }
     {
         for change in self.touched {
-            if let Some(slot) = left(*change) {
-                self.note_removed(slot, made)?;
-            }
+            let held = left(*change);
+            self.note_held(held, made)?;
         }
         Ok(())
     }
