@@ -1,11 +1,47 @@
--- Lists to which each turn of a loop appends what one slot tells.
-use Rattle.std.proofs.Common.{ℕ, ◌≡◌, ◌∙◌, ◌+◌, ◌<◌, List, [], ◌∷◌, ◌++◌, length, take, get_or, sym, ap, add-one, take-suc}
-use Rattle.std.specs.List.{flat_map}
+-- Loops that append what each turn tells or finds, or look whether some of it passes.
+use Rattle.std.proofs.Common.{ℕ, ◌≡◌, ◌∙◌, ◌+◌, ◌<◌, ◌||◌, Bool, true, false, Option, Some, None, List, [], ◌∷◌, ◌++◌, length, take, get_or, refl, sym, ap, add-one, take-suc}
+use Rattle.std.specs.List.{cons_option, filter_map, flat_map, list_any}
+use Rattle.std.specs.Option.{option_map_or, option_to_list}
 use Rattle.std.proofs.lemmas.List.{flat_map_more}
 use Rattle.model.specs.Acceptance.NotedStates.{NotedSlot}
+use Rattle.typestate.proofs.Linked.{append-again}
 
+-- what one slot more tells
 pub one-more-told : (tell : NotedSlot → List NotedSlot) (slots : List NotedSlot) (i : ℕ) (s : NotedSlot) (old made after : List NotedSlot) → i < length slots → s ≡ get_or slots i s
     → made ≡ old ++ flat_map tell (take i slots) → after ≡ made ++ tell s → after ≡ old ++ flat_map tell (take (i + 1) slots)
 one-more-told tell slots i s old made after less at before is =
     let longer : take (i + 1) slots ≡ take i slots ++ (s ∷ []) = rw (add-one i) (take-suc slots i s less ∙ ap (λ (x : NotedSlot). take i slots ++ (x ∷ [])) (sym at)) in
     is ∙ ap (λ (l : List NotedSlot). l ++ tell s) before ∙ flat_map_more tell old (take i slots) s ∙ ap (λ (l : List NotedSlot). old ++ flat_map tell l) (sym longer)
+
+-- what is found for one thing more: with what is found for the rest it is the whole
+pub one-more-found : (X : Type 0) (look : X → Option NotedSlot) (x : X) (xs rest : List X) (made after whole : List NotedSlot) → xs ≡ x ∷ rest
+    → made ++ filter_map look xs ≡ whole → after ≡ made ++ option_to_list (look x) → after ++ filter_map look rest ≡ whole
+one-more-found X look x xs rest made after whole steps before is =
+    ap (λ (l : List NotedSlot). l ++ filter_map look rest) is
+    ∙ append-again made (option_to_list (look x)) (filter_map look rest)
+    ∙ ap (λ (l : List NotedSlot). made ++ l) (first (look x) (filter_map look rest))
+    ∙ sym (ap (λ (l : List X). made ++ filter_map look l) steps) ∙ before
+  where
+    first : (o : Option NotedSlot) (l : List NotedSlot) → option_to_list o ++ l ≡ cons_option o l
+    first None l = refl
+    first (Some s) l = refl
+
+-- where what is found for the first thing does not pass, what is found for the rest decides
+pub later-passes : (X : Type 0) (look : X → Option NotedSlot) (test : NotedSlot → Bool) (x : X) (xs rest : List X) (whole : Bool) → xs ≡ x ∷ rest
+    → list_any test (filter_map look xs) ≡ whole → option_map_or test (look x) false ≡ false → list_any test (filter_map look rest) ≡ whole
+later-passes X look test x xs rest whole steps before off =
+    sym (first (look x) (filter_map look rest) off) ∙ sym (ap (λ (l : List X). list_any test (filter_map look l)) steps) ∙ before
+  where
+    first : (o : Option NotedSlot) (l : List NotedSlot) → option_map_or test o false ≡ false → list_any test (cons_option o l) ≡ list_any test l
+    first None l off = refl
+    first (Some s) l off = ap (λ b. b || list_any test l) off
+
+-- where it passes, that is the answer
+pub first-passes : (X : Type 0) (look : X → Option NotedSlot) (test : NotedSlot → Bool) (x : X) (xs rest : List X) (whole : Bool) → xs ≡ x ∷ rest
+    → list_any test (filter_map look xs) ≡ whole → option_map_or test (look x) false ≡ true → whole ≡ true
+first-passes X look test x xs rest whole steps before on =
+    sym before ∙ ap (λ (l : List X). list_any test (filter_map look l)) steps ∙ first (look x) (filter_map look rest) on
+  where
+    first : (o : Option NotedSlot) (l : List NotedSlot) → option_map_or test o false ≡ true → list_any test (cons_option o l) ≡ true
+    first None l off = absurd (let clash : false ≡ true = off in cc)
+    first (Some s) l on = ap (λ b. b || list_any test l) on

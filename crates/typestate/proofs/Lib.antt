@@ -13,8 +13,8 @@ mod Compared
 mod SomeHeld
 mod TidyChanges
 mod OwnChanges
-mod Appended
 mod Linked
+mod Appended
 mod LinkedChanges
 mod PagedChanges
 mod LevelByLevel

@@ -3,6 +3,7 @@
 
 ghost use Rattle.std.specs.Prelude.{◌≡◌, ◌++◌, IfOk, flat_map};
 ghost use Rattle.typestate.specs.ChangeLists.{changes_of, child_change, told_of};
+ghost use Rattle.typestate.specs.Families.{children_of};
 ghost use Rattle.typestate.specs.SlotChanges.{emptied, is_parent};
 ghost use Rattle.typestate.specs.declared.slot_changes.SlotChange.TheVariants.{Moves, Removes};
 
@@ -86,6 +87,20 @@ impl NotedSlots<'_> {
         Ok(())
     }
 
+    /// Appends that what was derived from a slot follows it, if that moves. Memory may be refused.
+    fn note_followers(
+        &self,
+        from: SlotKey,
+        to: SlotKey,
+        made: &mut Vec<NotedSlot>,
+    ) -> Result<(), AllocError>
+        ensures { IfOk result (λ _. made.new.items ≡ made.old.items ++ flat_map (told_of (child_change from to)) (children_of self.now.changes.now from)) }
+    {
+        let mut children = Vec::new(*made.allocator());
+        self.note_children_of(from, &mut children)?;
+        self.note_children(from, to, &children, made)
+    }
+
     /// Appends what a call makes of the slots that moves one: what was derived from it follows. Memory may be refused.
     fn note_move(
         &self,
@@ -95,9 +110,7 @@ impl NotedSlots<'_> {
     ) -> Result<(), AllocError>
         ensures { IfOk result (λ _. made.new.items ≡ made.old.items ++ changes_of self.now (Moves from to)) }
     {
-        let mut children = Vec::new(*made.allocator());
-        self.note_children_of(from, &mut children)?;
-        self.note_children(from, to.key, &children, made)?;
+        self.note_followers(from, to.key, made)?;
         made.push(to)?;
         made.push(emptied(from))?;
         Ok(())
@@ -114,8 +127,7 @@ impl NotedSlots<'_> {
             below: &affected.below,
             touched: &affected.touched,
         };
-        removal.note_named(made)?;
-        removal.note_removals(made)
+        removal.note_all(made)
     }
 
     /// Appends what a call makes of the slots. What the image lists was derived from none of the thread's slots: of its slots only

@@ -8,7 +8,7 @@ ghost use Rattle.typestate.specs.Families.{HasLink, KeepsLinks, child_at, childr
 
 use crate::change_lists::is_parent;
 use crate::comparisons::is_same_parent;
-use crate::noted::{left, numbered};
+use crate::noted::{left, note_found, numbered};
 use crate::{NotedSlot, NotedSlots, SlotKey};
 use std::alloc::{AllocError, Global};
 use std::collections::btree_set::{BTreeSet, Range};
@@ -106,9 +106,8 @@ impl NotedSlots<'_> {
             return Ok(());
         };
         for link in families.children_of(parent) {
-            if let Some(change) = self.child(parent, link.1) {
-                found.push(change)?;
-            }
+            let change = self.child(parent, link.1);
+            note_found(change, found)?;
         }
         Ok(())
     }

@@ -12,7 +12,7 @@ ghost use Rattle.typestate.specs.Levels.{all_below, touched_by};
 ghost use Rattle.typestate.specs.Orders.{Rise};
 
 use crate::change_lists::emptied;
-use crate::noted::numbered;
+use crate::noted::{note_found, numbered};
 use crate::{NotedSlot, NotedSlots, Removed, SlotKey};
 use std::alloc::{AllocError, Global};
 use std::collections::btree_set::BTreeSet;
@@ -133,9 +133,8 @@ impl NotedSlots<'_> {
     {
         let mut all = Vec::new(alloc);
         for number in numbers {
-            if let Some(change) = numbered(self.changes, *number) {
-                all.push(change)?;
-            }
+            let change = numbered(self.changes, *number);
+            note_found(change, &mut all)?;
         }
         Ok(all)
     }

@@ -1,16 +1,17 @@
 //! Look-ups in the slots at a point.
 
-ghost use Rattle.std.specs.Prelude.{◌≡◌};
+ghost use Rattle.std.specs.Prelude.{◌≡◌, ◌++◌, IfOk};
 ghost use Rattle.model.specs.Acceptance.NotedStates.{slot_at};
 ghost use Rattle.model.specs.Capabilities.CapabilityWords.{IsCapability};
 ghost use Rattle.model.specs.declared.capabilities.Cap.TheVariants.{Empty};
-ghost use Rattle.std.specs.Option.{option_map_or};
+ghost use Rattle.std.specs.Option.{option_map_or, option_to_list};
 ghost use Rattle.typestate.specs.Differences.{left_by, slots_of};
 ghost use Rattle.typestate.specs.Families.{found};
 ghost use Rattle.typestate.specs.Orders.{Rise};
 
 use crate::{NotedSlot, NotedSlots, SlotKey};
 use model::Cap;
+use std::alloc::AllocError;
 
 /// What a change leaves in its slot.
 pub(crate) fn left(change: NotedSlot) -> Option<NotedSlot>
@@ -20,6 +21,19 @@ pub(crate) fn left(change: NotedSlot) -> Option<NotedSlot>
         Cap::Empty => None,
         _ => Some(change),
     }
+}
+
+/// Appends what a look-up found. Memory may be refused.
+pub(crate) fn note_found(
+    found: Option<NotedSlot>,
+    list: &mut Vec<NotedSlot>,
+) -> Result<(), AllocError>
+    ensures { IfOk result (λ _. list.new.items ≡ list.old.items ++ option_to_list found) }
+{
+    if let Some(slot) = found {
+        list.push(slot)?;
+    }
+    Ok(())
 }
 
 impl NotedSlots<'_> {

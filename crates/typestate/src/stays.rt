@@ -6,11 +6,13 @@ ghost use Rattle.std.specs.List.{list_any};
 ghost use Rattle.std.specs.Option.{option_map_or};
 ghost use Rattle.model.specs.Capabilities.CapabilityKinds.{is_untyped};
 ghost use Rattle.model.specs.Capabilities.CapabilityWords.{IsCapability};
-ghost use Rattle.typestate.specs.ChangeLists.{kept_child, named_by, removal_change, told_at, told_of};
+ghost use Rattle.typestate.specs.ChangeLists.{changes_of, kept_child, named_by, removal_change, told_at, told_of};
 ghost use Rattle.typestate.specs.Differences.{left_by, slots_of};
 ghost use Rattle.typestate.specs.Families.{child_at, children_of};
 ghost use Rattle.typestate.specs.Removals.{gone_by, may_lose};
 ghost use Rattle.typestate.specs.SlotChanges.{cap_left, is_parent, loses_children, noted_outside, slot_left};
+ghost use Rattle.typestate.specs.declared.slot_changes.Removed.TheVariants.{One};
+ghost use Rattle.typestate.specs.declared.slot_changes.SlotChange.TheVariants.{Removes};
 
 use crate::change_lists::{emptied, is_parent};
 use crate::noted::{left, listed};
@@ -243,25 +245,30 @@ impl Removal<'_, '_> {
         self.note_held(self.slots.at(key), made)
     }
 
+    /// Appends what becomes of the one slot that goes, and of what it was derived from.
+    fn note_one(&self, gone: SlotKey, made: &mut Vec<NotedSlot>) -> Result<(), AllocError>
+        ensures { IfOk result (λ _. made.new.items ≡ made.old.items ++ flat_map (told_at (removal_change (gone_by self.now) (slots_of self.now.slots)) (slots_of self.now.slots)) (named_by (slots_of self.now.slots) (One gone))) }
+    {
+        self.note_removal_at(gone, made)?;
+        match self.slots.parent(gone) {
+            Some(parent) => self.note_removal_at(parent, made),
+            None => Ok(()),
+        }
+    }
+
     /// Appends what becomes of the slots that are named where some go: the one that goes and what it was derived from, or the one
     /// from which all that goes descends.
-    pub(crate) fn note_named(&self, made: &mut Vec<NotedSlot>) -> Result<(), AllocError>
+    fn note_named(&self, made: &mut Vec<NotedSlot>) -> Result<(), AllocError>
         ensures { IfOk result (λ _. made.new.items ≡ made.old.items ++ flat_map (told_at (removal_change (gone_by self.now) (slots_of self.now.slots)) (slots_of self.now.slots)) (named_by (slots_of self.now.slots) self.now.which)) }
     {
         match self.which {
-            Removed::One(gone) => {
-                self.note_removal_at(gone, made)?;
-                if let Some(parent) = self.slots.parent(gone) {
-                    self.note_removal_at(parent, made)?;
-                }
-            }
-            Removed::Below(root) => self.note_removal_at(root, made)?,
+            Removed::One(gone) => self.note_one(gone, made),
+            Removed::Below(root) => self.note_removal_at(root, made),
         }
-        Ok(())
     }
 
     /// Appends what becomes of what was derived from a slot that goes or is named.
-    pub(crate) fn note_removals(&self, made: &mut Vec<NotedSlot>) -> Result<(), AllocError>
+    fn note_removals(&self, made: &mut Vec<NotedSlot>) -> Result<(), AllocError>
         ensures { IfOk result (λ _. made.new.items ≡ made.old.items ++ flat_map (told_of (removal_change (gone_by self.now) (slots_of self.now.slots))) self.now.touched.now) }
     {
         for change in self.touched {
@@ -269,5 +276,13 @@ impl Removal<'_, '_> {
             self.note_held(held, made)?;
         }
         Ok(())
+    }
+
+    /// Appends what a call makes of the slots that takes these away.
+    pub(crate) fn note_all(&self, made: &mut Vec<NotedSlot>) -> Result<(), AllocError>
+        ensures { IfOk result (λ _. made.new.items ≡ made.old.items ++ changes_of self.now.slots (Removes self.now.which)) }
+    {
+        self.note_named(made)?;
+        self.note_removals(made)
     }
 }

@@ -1,11 +1,12 @@
 -- Child by child.
-use Rattle.std.proofs.Common.{ℕ, ◌∙◌, ◌++◌, Option, List, [], ◌∷◌, Bor, sym, ap, subst}
-use Rattle.std.specs.List.{cons_option, filter_map}
-use Rattle.std.specs.Option.{option_map_or}
+use Rattle.std.proofs.Common.{ℕ, ◌∙◌, ◌++◌, Option, List, [], Bor, sym, ap, subst}
+use Rattle.std.specs.List.{filter_map}
+use Rattle.std.specs.Option.{option_map_or, option_to_list}
 use Rattle.model.specs.Acceptance.NotedStates.{NotedSlot, SlotKey}
-use Rattle.typestate.specs.Families.{AreLinked, child_at}
+use Rattle.typestate.specs.Families.{AreLinked, child_at, children_of}
 use Rattle.typestate.specs.declared.families.Families.{Families}
-use Rattle.typestate.proofs.Linked.{append-again, append-none, linked-children, unlinked-children}
+use Rattle.typestate.proofs.Appended.{one-more-found}
+use Rattle.typestate.proofs.Linked.{append-none, linked-children, unlinked-children}
 use Rattle.typestate.proofs.points.NotedSlots.note_children_of.Goals as goal
 
 abbrev LinkedBy : List NotedSlot → Option (Bor Families) → Type 0
@@ -29,24 +30,9 @@ loop-link-init c =
     ap (λ (l : List (ℕ × ℕ)). c.args.found.now.items ++ left n.changes.now l parent) (c.into_iter-link-iterator.ensures.into_iter_gives ∙ c.children_of-link-items.ensures.links)
     ∙ ap (λ (l : List NotedSlot). c.args.found.now.items ++ l) (linked-children n.changes.now parent links n.ordered linked c.children_of-link-items.ensures.ordered)
 
-pub loop-link-preserved-in-Continue-1 : goal.loop-link-preserved-in-Continue-1
-loop-link-preserved-in-Continue-1 c =
-    let n = c.args.self.now in
-    let rest = left n.changes.now c.next.new.self c.args.parent in
-    ap (λ (l : List NotedSlot). l ++ rest) c.in_ok-push.ensures.items
-    ∙ append-again c.loop-link.found.items (c.in-Some-child.change ∷ []) rest
-    ∙ ap (λ (o : Option NotedSlot). c.loop-link.found.items ++ cons_option o rest) (sym (sym c.child.ensures ∙ c.in-Some-child.is))
-    ∙ ap (λ (l : List (ℕ × ℕ)). c.loop-link.found.items ++ left n.changes.now l c.args.parent) (sym c.in-Some-link.ensures.steps) ∙ c.loop-link.invariant
-
 pub loop-link-preserved : goal.loop-link-preserved
 loop-link-preserved c =
-    let n = c.args.self.now in
-    let rest = left n.changes.now c.next.new.self c.args.parent in
-    ap (λ (o : Option NotedSlot). c.loop-link.found.items ++ cons_option o rest) (sym (sym c.child.ensures ∙ c.in_default-child.is))
-    ∙ ap (λ (l : List (ℕ × ℕ)). c.loop-link.found.items ++ left n.changes.now l c.args.parent) (sym c.in-Some-link.ensures.steps) ∙ c.loop-link.invariant
-
-pub returns : goal.returns
-returns c =
-    let n = c.args.self.now in
-    sym (append-none c.loop-link.found.items)
-    ∙ ap (λ (l : List (ℕ × ℕ)). c.loop-link.found.items ++ left n.changes.now l c.args.parent) (sym c.in-None.ensures.steps.0) ∙ c.loop-link.invariant
+    let changes = c.args.self.now.changes.now in
+    let look : ℕ × ℕ → Option NotedSlot = λ (q : ℕ × ℕ). child_at changes c.args.parent q.1 in
+    one-more-found (ℕ × ℕ) look c.in-Some-link.link.now c.loop-link.link-iterator c.next.new.self c.loop-link.found.items c.note_found.new.list.items (c.args.found.now.items ++ children_of changes c.args.parent)
+    c.in-Some-link.ensures.steps c.loop-link.invariant (c.in_ok-note_found.ensures ∙ ap (λ (o : Option NotedSlot). c.loop-link.found.items ++ option_to_list o) c.child-change.ensures)
