@@ -14,7 +14,7 @@ use Rattle.asm_line.specs.declared.lines.Line.{Line}
 use Rattle.asm_line.specs.declared.lines.Line.TheVariants as said
 use Rattle.asm_line.specs.declared.lines.Code.TheVariants as code
 use Rattle.asm_line.specs.Words.{◌>>=◌, within, name_of, name_first, object_first}
-use Rattle.asm_line.specs.Lines.{keyword_of, thread_keyword_of, memory_of, untyped_of, interrupt_of, table_of, frame_of, register_line_of, word, kind_of, kind_first, size_first, object_of, capability_of, content_of, all_numbers, all_words, some_numbers, thread_of, thread_words_of, thread_said, budget_of, range_of}
+use Rattle.asm_line.specs.Lines.{keyword_of, thread_keyword_of, memory_of, untyped_of, interrupt_of, table_of, frame_of, register_line_of, word, kind_of, kind_first, size_first, last_kind, object_of, capability_of, content_of, all_numbers, all_words, some_numbers, thread_of, thread_words_of, thread_said, budget_of, range_of}
 use Rattle.asm_line.specs.Parsing.{line_of, line_for, plain_word_of, IsKnown}
 use Rattle.asm_line.specs.Listed.{IsWord}
 use Rattle.asm_line.proofs.PlainWords.{IsPlainWord, AllPlain, decimal-plain, is_plain, digits-plain, decimal-digits}
@@ -34,7 +34,7 @@ use Rattle.model.specs.declared.entries.SlotEntry.{SlotEntry}
 use Rattle.model.specs.Images.Image.{no_parent}
 use Rattle.asm_line.specs.declared.lines.Parent.{Parent}
 use Rattle.asm_line.specs.declared.lines.Parent.TheVariants as parent
-use Rattle.asm_line.specs.Words.{number_first}
+use Rattle.asm_line.specs.Words.{last_number, last_numbers, number_first, place_first}
 use Rattle.asm_line.specs.Lines.{parent_first, parent_with, slot_of, slot_words_of, slot_said, term_first, word_first}
 use Rattle.asm_line.proofs.NumberLaws.{name-digits}
 
@@ -66,39 +66,39 @@ number-plain n small = decimal-plain n (omega arith)
 
 pub memory-says : (bits radix : ℕ) → between 16 24 bits ≡ true → between 1 (min 14 (bits - 5)) radix ≡ true → bits < 2 ^ 63 → radix < 2 ^ 63
     → line_of (codes "memory" ∷ decimal bits ∷ decimal radix ∷ []) ≡ Some (Ok (said.Memory bits radix))
-unfolding line_of keyword_of line_for memory_of
+unfolding line_of keyword_of line_for memory_of last_numbers last_number
 memory-says bits radix h k small other = rw (first-decimal bits (decimal radix ∷ []) small) (rw (first-decimal radix [] other) (rw h (rw k refl)))
 
 pub untyped-says : (k offset bits : ℕ) → IsWord k → IsWord offset → between 4 24 bits ≡ true → bits < 2 ^ 63
     → line_of (codes "untyped" ∷ untyped_name k ∷ decimal offset ∷ decimal bits ∷ []) ≡ Some (Ok (said.Untyped (untyped_name k) (record { offset = offset; bits = bits })))
-unfolding line_of keyword_of line_for untyped_of
+unfolding line_of keyword_of line_for untyped_of last_numbers last_number
 untyped-says k offset bits a b h small =
     rw (first-object 117 k (decimal offset ∷ decimal bits ∷ []) refl refl (wide k a)) (rw (first-decimal offset (decimal bits ∷ []) (wide offset b))
     (rw (first-decimal bits [] small) (rw (is-word offset b) (rw h refl))))
 
 pub interrupt-says : (k number notification badge : ℕ) → IsWord k → between 0 63 number ≡ true → number < 2 ^ 63 → IsWord notification → between 0 (2 ^ 28 - 1) badge ≡ true → badge < 2 ^ 63
     → line_of (codes "irq" ∷ interrupt_name k ∷ decimal number ∷ object_name notification ∷ decimal badge ∷ []) ≡ Some (Ok (said.Interrupt (interrupt_name k) number (object_name notification) badge))
-unfolding line_of keyword_of line_for interrupt_of
+unfolding line_of keyword_of line_for interrupt_of place_first last_number
 interrupt-says k number notification badge a h small b g less =
     rw (first-object 105 k (decimal number ∷ object_name notification ∷ decimal badge ∷ []) refl refl (wide k a)) (rw (first-decimal number (object_name notification ∷ decimal badge ∷ []) small)
     (rw (first-object 111 notification (decimal badge ∷ []) refl refl (wide notification b)) (rw (first-decimal badge [] less) (rw h (rw g refl)))))
 
 pub table-says : (root address table : ℕ) → IsWord root → IsWord address → IsWord table
     → line_of (codes "table" ∷ object_name root ∷ decimal address ∷ object_name table ∷ []) ≡ Some (Ok (said.Table (object_name root) address (object_name table)))
-unfolding line_of keyword_of line_for table_of
+unfolding line_of keyword_of line_for table_of place_first
 table-says root address table a b d =
     rw (first-object 111 root (decimal address ∷ object_name table ∷ []) refl refl (wide root a)) (rw (first-decimal address (object_name table ∷ []) (wide address b))
     (rw (first-object 111 table [] refl refl (wide table d)) (rw (is-word address b) refl)))
 
 pub frame-says : (root address frame rights : ℕ) → IsWord root → IsWord address → IsWord frame → between 0 7 rights ≡ true → rights < 2 ^ 63
     → line_of (codes "map" ∷ object_name root ∷ decimal address ∷ object_name frame ∷ decimal rights ∷ []) ≡ Some (Ok (said.Frame (object_name root) address (object_name frame) rights))
-unfolding line_of keyword_of line_for frame_of
+unfolding line_of keyword_of line_for frame_of place_first last_number
 frame-says root address frame rights a b d h small =
     rw (first-object 111 root (decimal address ∷ object_name frame ∷ decimal rights ∷ []) refl refl (wide root a)) (rw (first-decimal address (object_name frame ∷ decimal rights ∷ []) (wide address b))
     (rw (first-object 111 frame (decimal rights ∷ []) refl refl (wide frame d)) (rw (first-decimal rights [] small) (rw (is-word address b) (rw h refl)))))
 
 pub word-says : (n : ℕ) → IsWord n → line_of (codes "word" ∷ decimal n ∷ []) ≡ Some (Ok (said.Code None (code.Word n)))
-unfolding line_of keyword_of thread_keyword_of line_for plain_word_of
+unfolding line_of keyword_of thread_keyword_of line_for plain_word_of last_number
 word-says n h = rw (first-decimal n [] (wide n h)) (rw (is-word n h) refl)
 
 pub label-says : line_of (codes "l:" ∷ []) ≡ Some (Ok (said.Label (codes "l")))
@@ -111,7 +111,7 @@ end-says = refl
 
 pub register-says : (r value : ℕ) → nat_lt 0 r ≡ true → r < 32 → between 1 (2 ^ 32 - 1) value ≡ true → IsWord value
     → line_of (codes "reg" ∷ register_name r ∷ decimal value ∷ []) ≡ Some (Ok (said.Register (record { register = r; value = value })))
-unfolding line_of keyword_of thread_keyword_of line_for register_line_of
+unfolding line_of keyword_of thread_keyword_of line_for register_line_of last_number
 register-says r value some less h small = rw (first-register r (decimal value ∷ []) less) (rw (first-decimal value [] (wide value small)) (rw some (rw h refl)))
 
 -- ---- kinds of objects
@@ -170,7 +170,7 @@ size-says (suc (suc (suc (suc (suc (suc (suc (suc (suc n))))))))) size h small f
 
 pub object-says : (k untyped kind size : ℕ) (words : List Text) → IsWord k → IsWord untyped → between 1 8 kind ≡ true → IsWord size → size_fits kind size ≡ true → Sized size words
     → line_of (codes "object" ∷ object_name k ∷ untyped_name untyped ∷ kind_name kind ∷ words) ≡ Some (Ok (said.Object (object_name k) (untyped_name untyped) kind size))
-unfolding line_of keyword_of line_for object_of
+unfolding line_of keyword_of line_for object_of last_kind
 object-says k untyped kind size words a b h small fits sized =
     rw (first-object 111 k (untyped_name untyped ∷ kind_name kind ∷ words) refl refl (wide k a)) (rw (first-object 117 untyped (kind_name kind ∷ words) refl refl (wide untyped b))
     (rw (first-kind kind words h) (rw sized.first (rw (is-word size small) (rw fits refl)))))
@@ -190,7 +190,7 @@ source-says i source h = elim (is_handler i source) as (λ b. Sourced (if b then
 
 capability-named : (cnode index : ℕ) (name : Text) (rights payload : ℕ) → IsWord cnode → IsWord index → Sourced name → IsWord rights → IsWord payload
     → line_of (codes "cap" ∷ object_name cnode ∷ decimal index ∷ name ∷ decimal rights ∷ decimal payload ∷ []) ≡ Some (Ok (said.Capability (object_name cnode) index name rights payload))
-unfolding line_of keyword_of line_for capability_of
+unfolding line_of keyword_of line_for capability_of place_first last_numbers last_number
 capability-named cnode index name rights payload a b s e f =
     rw (first-object 111 cnode (decimal index ∷ name ∷ decimal rights ∷ decimal payload ∷ []) refl refl (wide cnode a)) (rw (first-decimal index (name ∷ decimal rights ∷ decimal payload ∷ []) (wide index b))
     (rw (s.first (decimal rights ∷ decimal payload ∷ [])) (rw (first-decimal rights (decimal payload ∷ []) (wide rights e)) (rw (first-decimal payload [] (wide payload f))
@@ -234,7 +234,7 @@ pub thread-says : (tcb cnode guard root priority budget fault base : ℕ) → Is
     → between 0 255 priority ≡ true → priority < 2 ^ 63 → between 1 (2 ^ 62) budget ≡ true → budget < 2 ^ 63 → IsWord fault → IsWord base
     → line_of (codes "thread" ∷ object_name tcb ∷ object_name cnode ∷ decimal guard ∷ object_name root ∷ decimal priority ∷ decimal budget ∷ decimal fault ∷ codes "l" ∷ decimal base ∷ [])
     ≡ Some (Ok (said.Thread (record { tcb = object_name tcb; cnode = object_name cnode; guard = guard; root = object_name root; priority = priority; budget = budget; fault = fault; entry = codes "l"; base = base })))
-unfolding line_of keyword_of line_for thread_of thread_words_of thread_said budget_of
+unfolding line_of keyword_of line_for thread_of thread_words_of thread_said budget_of place_first last_number
 thread-says tcb cnode guard root priority budget fault base a b d e h small k less f g =
     rw (first-object 111 tcb (object_name cnode ∷ decimal guard ∷ object_name root ∷ decimal priority ∷ decimal budget ∷ decimal fault ∷ codes "l" ∷ decimal base ∷ []) refl refl (wide tcb a))
     (rw (first-object 111 cnode (decimal guard ∷ object_name root ∷ decimal priority ∷ decimal budget ∷ decimal fault ∷ codes "l" ∷ decimal base ∷ []) refl refl (wide cnode b))
@@ -251,7 +251,7 @@ thread-says tcb cnode guard root priority budget fault base a b d e h small k le
 
 pub range-says : (r low high : ℕ) → nat_lt 0 r ≡ true → r < 32 → IsWord low → IsWord high → (nat_le low high && (nat_lt 0 low || nat_lt high (2 ^ 32 - 1))) ≡ true
     → line_of (codes "range" ∷ register_name r ∷ decimal low ∷ decimal high ∷ []) ≡ Some (Ok (said.Range (record { register = r; low = low; high = high })))
-unfolding line_of keyword_of thread_keyword_of line_for range_of
+unfolding line_of keyword_of thread_keyword_of line_for range_of last_numbers last_number
 range-says r low high some less a b h =
     rw (first-register r (decimal low ∷ decimal high ∷ []) less) (rw (first-decimal low (decimal high ∷ []) (wide low a)) (rw (first-decimal high [] (wide high b))
     (rw some (rw (is-word low a) (rw (is-word high b) (rw h refl))))))
@@ -312,7 +312,7 @@ pub record Parented (first second : Text) (empty : Bool) (p : Parent) : Type 0 w
 slot-says : (cnode index word0 word1 : ℕ) (first second : Text) (p : Parent) → IsWord cnode → between 0 (2 ^ 14 - 1) index ≡ true → index < 2 ^ 63 → IsWord word0 → IsWord word1
     → Parented first second ((word0 == 0) && (word1 == 0)) p
     → line_of (codes "slot" ∷ object_name cnode ∷ decimal index ∷ decimal word0 ∷ decimal word1 ∷ first ∷ second ∷ []) ≡ Some (Ok (said.Slot (object_name cnode) index word0 word1 p))
-unfolding line_of keyword_of thread_keyword_of line_for slot_of slot_words_of slot_said
+unfolding line_of keyword_of thread_keyword_of line_for slot_of slot_words_of slot_said last_number
 slot-says cnode index word0 word1 first second p a h small b d parented =
     rw (first-object 111 cnode (decimal index ∷ decimal word0 ∷ decimal word1 ∷ first ∷ second ∷ []) refl refl (wide cnode a))
     (rw (first-decimal index (decimal word0 ∷ decimal word1 ∷ first ∷ second ∷ []) small)

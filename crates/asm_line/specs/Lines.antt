@@ -14,7 +14,7 @@ use Rattle.asm_line.specs.declared.lines.Parent.{Parent}
 use Rattle.asm_line.specs.declared.lines.Parent.TheVariants as parent
 use Rattle.asm_line.specs.declared.thread_lines.SlotWords.{SlotWords}
 use Rattle.asm_line.specs.declared.thread_lines.ThreadWords.{ThreadWords}
-use Rattle.asm_line.specs.Words.{◌>>=◌, ends, name_of, name_first, number_of, number_first, object_first, register_first, register_of, within}
+use Rattle.asm_line.specs.Words.{◌>>=◌, ends, last_number, last_numbers, name_of, name_first, number_of, number_first, object_first, place_first, register_first, register_of, within}
 
 -- ---- keywords
 
@@ -67,22 +67,18 @@ checked test = if test then Ok tt else Err 4
 
 unfoldable pub memory_of : List Text → Result Line ℕ
 memory_of words = do
-  bits ← number_first words
-  radix ← number_first bits.1
-  last ← ends radix.1
-  memory_bits ← within 16 24 bits.0
-  boot_radix ← within 1 (min 14 (memory_bits - 5)) radix.0
+  numbers ← last_numbers words
+  memory_bits ← within 16 24 numbers.0
+  boot_radix ← within 1 (min 14 (memory_bits - 5)) numbers.1
   Ok (line.Memory memory_bits boot_radix)
 
 unfoldable pub untyped_of : List Text → Result Line ℕ
 untyped_of words = do
   name ← object_first words
-  offset ← number_first name.1
-  bits ← number_first offset.1
-  last ← ends bits.1
-  offset_word ← word offset.0
-  size ← within 4 24 bits.0
-  Ok (line.Untyped name.0 (record { offset = offset_word; bits = size }))
+  numbers ← last_numbers name.1
+  offset ← word numbers.0
+  bits ← within 4 24 numbers.1
+  Ok (line.Untyped name.0 (record { offset = offset; bits = bits }))
 
 abbrev pub kind_first : List Text → Result (ℕ × List Text) ℕ
 kind_first [] = Err 1
@@ -93,60 +89,54 @@ abbrev pub size_first : List Text → Result (ℤ × List Text) ℕ
 size_first [] = Ok (pos 0, [])
 size_first (word ∷ words) = number_of word >>= λ size. Ok (size, words)
 
+-- a kind and a size, and no more
+unfoldable pub last_kind : List Text → Result (ℕ × ℤ) ℕ
+last_kind words = do
+  kind ← kind_first words
+  size ← size_first kind.1
+  last ← ends size.1
+  Ok (kind.0, size.0)
+
 unfoldable pub object_of : List Text → Result Line ℕ
 object_of words = do
   name ← object_first words
   untyped ← object_first name.1
-  kind ← kind_first untyped.1
-  size ← size_first kind.1
-  last ← ends size.1
-  size_word ← word size.0
-  fits ← checked (size_fits kind.0 size_word)
-  Ok (line.Object name.0 untyped.0 kind.0 size_word)
+  kind ← last_kind untyped.1
+  size ← word kind.1
+  fits ← checked (size_fits kind.0 size)
+  Ok (line.Object name.0 untyped.0 kind.0 size)
 
 unfoldable pub interrupt_of : List Text → Result Line ℕ
 interrupt_of words = do
-  name ← object_first words
-  number ← number_first name.1
-  notification ← object_first number.1
-  badge ← number_first notification.1
-  last ← ends badge.1
-  interrupt_line ← within 0 63 number.0
-  badge_word ← within 0 (2 ^ 28 - 1) badge.0
-  Ok (line.Interrupt name.0 interrupt_line notification.0 badge_word)
+  place ← place_first words
+  badge ← last_number place.3
+  interrupt_line ← within 0 63 place.1
+  badge_word ← within 0 (2 ^ 28 - 1) badge
+  Ok (line.Interrupt place.0 interrupt_line place.2 badge_word)
 
 unfoldable pub capability_of : List Text → Result Line ℕ
 capability_of words = do
-  cnode ← object_first words
-  index ← number_first cnode.1
-  source ← object_first index.1
-  rights ← number_first source.1
-  payload ← number_first rights.1
-  last ← ends payload.1
-  index_word ← word index.0
-  rights_word ← word rights.0
-  payload_word ← word payload.0
-  Ok (line.Capability cnode.0 index_word source.0 rights_word payload_word)
+  place ← place_first words
+  numbers ← last_numbers place.3
+  index ← word place.1
+  rights ← word numbers.0
+  payload ← word numbers.1
+  Ok (line.Capability place.0 index place.2 rights payload)
 
 unfoldable pub table_of : List Text → Result Line ℕ
 table_of words = do
-  root ← object_first words
-  address ← number_first root.1
-  table ← object_first address.1
-  last ← ends table.1
-  address_word ← word address.0
-  Ok (line.Table root.0 address_word table.0)
+  place ← place_first words
+  last ← ends place.3
+  address ← word place.1
+  Ok (line.Table place.0 address place.2)
 
 unfoldable pub frame_of : List Text → Result Line ℕ
 frame_of words = do
-  root ← object_first words
-  address ← number_first root.1
-  frame ← object_first address.1
-  rights ← number_first frame.1
-  last ← ends rights.1
-  address_word ← word address.0
-  rights_word ← within 0 7 rights.0
-  Ok (line.Frame root.0 address_word frame.0 rights_word)
+  place ← place_first words
+  rights ← last_number place.3
+  address ← word place.1
+  rights_word ← within 0 7 rights
+  Ok (line.Frame place.0 address place.2 rights_word)
 
 abbrev pub all_numbers : List Text → Result (Unit {0}) ℕ
 all_numbers [] = Ok tt
@@ -181,16 +171,13 @@ budget_of (negsuc n) = Err 4
 unfoldable pub thread_words_of : List Text → Result ThreadWords ℕ
 thread_words_of words = do
   tcb ← object_first words
-  cnode ← object_first tcb.1
-  guard ← number_first cnode.1
-  root ← object_first guard.1
-  priority ← number_first root.1
+  spaces ← place_first tcb.1
+  priority ← number_first spaces.3
   budget ← number_first priority.1
   fault ← number_first budget.1
   entry ← name_first fault.1
-  base ← number_first entry.1
-  last ← ends base.1
-  Ok (record { tcb = tcb.0; cnode = cnode.0; guard = guard.0; root = root.0; priority = priority.0; budget = budget.0; fault = fault.0; entry = entry.0; base = base.0 })
+  base ← last_number entry.1
+  Ok (record { tcb = tcb.0; cnode = spaces.0; guard = spaces.1; root = spaces.2; priority = priority.0; budget = budget.0; fault = fault.0; entry = entry.0; base = base })
 
 -- the ranges of its numbers
 unfoldable pub thread_said : ThreadWords → Result Line ℕ
@@ -208,23 +195,20 @@ thread_of words = thread_words_of words >>= thread_said
 unfoldable pub register_line_of : List Text → Result Line ℕ
 register_line_of words = do
   register ← register_first words
-  value ← number_first register.1
-  last ← ends value.1
+  value ← last_number register.1
   number ← named_register register.0
-  value_word ← within 1 (2 ^ 32 - 1) value.0
+  value_word ← within 1 (2 ^ 32 - 1) value
   Ok (line.Register (record { register = number; value = value_word }))
 
 unfoldable pub range_of : List Text → Result Line ℕ
 range_of words = do
   register ← register_first words
-  low ← number_first register.1
-  high ← number_first low.1
-  last ← ends high.1
+  ends ← last_numbers register.1
   number ← named_register register.0
-  low_word ← word low.0
-  high_word ← word high.0
-  fits ← checked (nat_le low_word high_word && (nat_lt 0 low_word || nat_lt high_word (2 ^ 32 - 1)))
-  Ok (line.Range (record { register = number; low = low_word; high = high_word }))
+  low ← word ends.0
+  high ← word ends.1
+  fits ← checked (nat_le low high && (nat_lt 0 low || nat_lt high (2 ^ 32 - 1)))
+  Ok (line.Range (record { register = number; low = low; high = high }))
 
 abbrev pub parent_first : List Text → Result (Parent × List Text) ℕ
 parent_first [] = Err 1
@@ -244,9 +228,8 @@ slot_words_of words = do
   word0 ← number_first index.1
   word1 ← number_first word0.1
   parent ← parent_first word1.1
-  parent_index ← number_first parent.1
-  last ← ends parent_index.1
-  Ok (record { cnode = cnode.0; index = index.0; word0 = word0.0; word1 = word1.0; parent = parent.0; parent_index = parent_index.0 })
+  parent_index ← last_number parent.1
+  Ok (record { cnode = cnode.0; index = index.0; word0 = word0.0; word1 = word1.0; parent = parent.0; parent_index = parent_index })
 
 -- the ranges of its numbers
 unfoldable pub slot_said : SlotWords → Result Line ℕ

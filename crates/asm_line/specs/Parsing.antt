@@ -11,14 +11,13 @@ use Rattle.asm_line.specs.declared.lines.Line.{Line}
 use Rattle.asm_line.specs.declared.lines.Line.TheVariants as line
 use Rattle.asm_line.specs.declared.lines.Code.{Code}
 use Rattle.asm_line.specs.declared.lines.Code.TheVariants as code
-use Rattle.asm_line.specs.Words.{◌>>=◌, ends, name_of, number_first}
+use Rattle.asm_line.specs.Words.{◌>>=◌, ends, last_number, name_of}
 use Rattle.asm_line.specs.Lines.{capability_of, content_of, frame_of, interrupt_of, keyword_of, measure_of, memory_of, object_of, range_of, register_line_of, slot_of, table_of, thread_of, untyped_of, word}
 
 unfoldable pub plain_word_of : List Text → Result Code ℕ
 plain_word_of words = do
-  number ← number_first words
-  last ← ends number.1
-  value ← word number.0
+  number ← last_number words
+  value ← word number
   Ok (code.Word value)
 
 unfoldable pub line_for : Keyword → List Text → Result Line ℕ

@@ -85,6 +85,28 @@ unfoldable pub number_first : List Text → Result (ℤ × List Text) ℕ
 number_first [] = Err 1
 number_first (word ∷ words) = number_of word >>= λ number. Ok (number, words)
 
+-- a number, and no more
+unfoldable pub last_number : List Text → Result ℤ ℕ
+last_number words = do
+  number ← number_first words
+  last ← ends number.1
+  Ok number.0
+
+-- two numbers, and no more
+unfoldable pub last_numbers : List Text → Result (ℤ × ℤ) ℕ
+last_numbers words = do
+  first ← number_first words
+  second ← last_number first.1
+  Ok (first.0, second)
+
+-- a name, a number and a name
+unfoldable pub place_first : List Text → Result (Text × ℤ × Text × List Text) ℕ
+place_first words = do
+  name ← object_first words
+  number ← number_first name.1
+  other ← object_first number.1
+  Ok (name.0, number.0, other.0, other.1)
+
 -- ---- registers
 
 -- one digit, or two of which the first is not 0

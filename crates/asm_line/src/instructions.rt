@@ -62,11 +62,29 @@ fn address(words: Words<'_>) -> Result<(i64, Register, Words<'_>), u8>
     Ok((number_in(offset)?, Register(number), words))
 }
 
+/// A register and a signed 12-bit offset from another one, as `x1 4(x2)`, and no more.
+fn register_and_place(words: Words<'_>) -> Result<(Register, Register, i32), u8>
+    ensures { IfOk result (λ x. (x.0.0 < 32) × (x.1.0 < 32) × (negsuc 2047 ≤ℤ x.2) × (x.2 ≤ℤ pos 2047)) }
+{
+    let (first, words) = register(words)?;
+    let (offset, base, words) = address(words)?;
+    words.end()?;
+    Ok((first, base, immediate_in(offset)?))
+}
+
+/// Two registers and a number, as `x1 x2 4`, and no more.
+fn registers_and_number(words: Words<'_>) -> Result<(Register, Register, i64), u8>
+    ensures { IfOk result (λ x. (x.0.0 < 32) × (x.1.0 < 32)) }
+{
+    let (first, words) = register(words)?;
+    let (second, words) = register(words)?;
+    Ok((first, second, words.last_number()?))
+}
+
 /// The operands `rd number`.
 fn upper<'a>(op: UpperOp, words: Words<'a>) -> Result<Code<'a>, u8> {
     let (rd, words) = register(words)?;
-    let (number, words) = words.number()?;
-    words.end()?;
+    let number = words.last_number()?;
     let immediate = between(number, 0, (1 << 20) - 1)?;
     Ok(Code::Word(encode(Instr::Upper { op, rd, immediate })))
 }
@@ -81,10 +99,7 @@ fn jump<'a>(words: Words<'a>) -> Result<Code<'a>, u8> {
 
 /// The operands `rd offset(rs1)` of `jalr`.
 fn jump_register<'a>(words: Words<'a>) -> Result<Code<'a>, u8> {
-    let (rd, words) = register(words)?;
-    let (offset, rs1, words) = address(words)?;
-    words.end()?;
-    let offset = immediate_in(offset)?;
+    let (rd, rs1, offset) = register_and_place(words)?;
     Ok(Code::Word(encode(Instr::Jalr { rd, rs1, offset })))
 }
 
@@ -104,10 +119,7 @@ fn branch<'a>(op: BranchOp, words: Words<'a>) -> Result<Code<'a>, u8> {
 
 /// The operands `rd offset(rs1)` of a load.
 fn load<'a>(op: LoadOp, words: Words<'a>) -> Result<Code<'a>, u8> {
-    let (rd, words) = register(words)?;
-    let (offset, rs1, words) = address(words)?;
-    words.end()?;
-    let offset = immediate_in(offset)?;
+    let (rd, rs1, offset) = register_and_place(words)?;
     Ok(Code::Word(encode(Instr::Load {
         op,
         rd,
@@ -118,10 +130,7 @@ fn load<'a>(op: LoadOp, words: Words<'a>) -> Result<Code<'a>, u8> {
 
 /// The operands `rs2 offset(rs1)`.
 fn store<'a>(op: StoreOp, words: Words<'a>) -> Result<Code<'a>, u8> {
-    let (rs2, words) = register(words)?;
-    let (offset, rs1, words) = address(words)?;
-    words.end()?;
-    let offset = immediate_in(offset)?;
+    let (rs2, rs1, offset) = register_and_place(words)?;
     Ok(Code::Word(encode(Instr::Store {
         op,
         rs1,
@@ -132,10 +141,7 @@ fn store<'a>(op: StoreOp, words: Words<'a>) -> Result<Code<'a>, u8> {
 
 /// The operands `rd rs1 number`.
 fn immediate<'a>(op: ImmediateOp, words: Words<'a>) -> Result<Code<'a>, u8> {
-    let (rd, words) = register(words)?;
-    let (rs1, words) = register(words)?;
-    let (number, words) = words.number()?;
-    words.end()?;
+    let (rd, rs1, number) = registers_and_number(words)?;
     let immediate = immediate_in(number)?;
     Ok(Code::Word(encode(Instr::Immediate {
         op,
@@ -147,10 +153,7 @@ fn immediate<'a>(op: ImmediateOp, words: Words<'a>) -> Result<Code<'a>, u8> {
 
 /// The operands `rd rs1 amount`.
 fn shift<'a>(op: ShiftOp, words: Words<'a>) -> Result<Code<'a>, u8> {
-    let (rd, words) = register(words)?;
-    let (rs1, words) = register(words)?;
-    let (number, words) = words.number()?;
-    words.end()?;
+    let (rd, rs1, number) = registers_and_number(words)?;
     let amount = between(number, 0, 31)? as u8;
     Ok(Code::Word(encode(Instr::Shift {
         op,

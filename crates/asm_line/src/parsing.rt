@@ -1,6 +1,6 @@
 //! Whole lines.
 
-ghost use Rattle.std.specs.Prelude.{◌≡◌, ◌⊎◌, ◌==◌, IfErr, Ok, Some, None, nat_lt, option_map, position};
+ghost use Rattle.std.specs.Prelude.{◌≡◌, ◌⊎◌, ◌==◌, ◌∷◌, IfErr, Ok, Some, None, nat_lt, option_map, position};
 ghost use Rattle.std.specs.List.{list_all};
 ghost use Rattle.asm_line.specs.Listed.{Lists};
 ghost use Rattle.asm_line.specs.declared.lines.Line.{Line};
@@ -31,9 +31,7 @@ fn label_in(word: &[u8]) -> Option<&[u8]>
 fn plain_word(words: Words<'_>) -> Result<Code<'_>, u8>
     ensures { result ≡ plain_word_of words.entry }
 {
-    let (number, words) = words.number()?;
-    words.end()?;
-    Ok(Code::Word(word(number)?))
+    Ok(Code::Word(word(words.last_number()?)?))
 }
 
 /// What a line says that begins with a keyword.
@@ -89,23 +87,38 @@ fn labelled<'a>(name: &'a [u8], words: Words<'a>) -> Result<Line<'a>, u8>
     }
 }
 
-/// What the words of a line say.
-#[tactic(auto, unfolding(crate::specs::Parsing::line_of))]
-fn line_in(words: Words<'_>) -> Result<Line<'_>, u8>
-    ensures { (line : Line) → IsKnown line → line_of words.entry ≡ Some (Ok line) → result ≡ Ok line }
+/// What a line says that begins with no keyword: a label, or an instruction.
+fn other_line<'a>(word: &'a [u8], words: Words<'a>) -> Result<Line<'a>, u8>
+    ensures { (line : Line) → label_line (label_of word.now) words.entry ≡ Some (Ok line) → result ≡ Ok line }
 {
-    let Some((word, words)) = words.first() else {
-        return Ok(Line::Blank);
-    };
-    if let Some(keyword) = keyword_in(word) {
-        return declared(keyword, words);
-    }
     match label_in(word) {
         Some(name) => labelled(name, words),
         None => Ok(Line::Code {
             label: None,
             code: instruction(word, words)?,
         }),
+    }
+}
+
+/// What a line says that begins with this word.
+#[tactic(auto, unfolding(crate::specs::Parsing::line_of))]
+fn line_from<'a>(word: &'a [u8], words: Words<'a>) -> Result<Line<'a>, u8>
+    ensures { (line : Line) → IsKnown line → line_of (word.now ∷ words.entry) ≡ Some (Ok line) → result ≡ Ok line }
+{
+    match keyword_in(word) {
+        Some(keyword) => declared(keyword, words),
+        None => other_line(word, words),
+    }
+}
+
+/// What the words of a line say.
+#[tactic(auto, unfolding(crate::specs::Parsing::line_of))]
+fn line_in(words: Words<'_>) -> Result<Line<'_>, u8>
+    ensures { (line : Line) → IsKnown line → line_of words.entry ≡ Some (Ok line) → result ≡ Ok line }
+{
+    match words.first() {
+        Some((word, words)) => line_from(word, words),
+        None => Ok(Line::Blank),
     }
 }
 

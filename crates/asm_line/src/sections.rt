@@ -2,7 +2,7 @@
 
 ghost use Rattle.std.specs.Prelude.{◌≡◌};
 ghost use Rattle.model.specs.Images.Image.{size_fits as size_fits_kind};
-ghost use Rattle.asm_line.specs.Lines.{all_numbers, all_words, some_numbers, capability_of, content_of, frame_of, interrupt_of, kind_first, memory_of, object_of, size_first, table_of, untyped_of, word_first};
+ghost use Rattle.asm_line.specs.Lines.{all_numbers, all_words, some_numbers, capability_of, content_of, frame_of, interrupt_of, kind_first, last_kind, memory_of, object_of, size_first, table_of, untyped_of, word_first};
 
 use crate::faults::{RANGE, SYNTAX};
 use crate::keywords::kind_in;
@@ -16,9 +16,7 @@ use model::UntypedEntry;
 pub(crate) fn memory(words: Words<'_>) -> Result<Line<'_>, u8>
     ensures { result ≡ memory_of words.entry }
 {
-    let (memory_bits, words) = words.number()?;
-    let (boot_radix, words) = words.number()?;
-    words.end()?;
+    let (memory_bits, boot_radix) = words.last_numbers()?;
     let memory_bits = between(memory_bits, 16, 24)?;
     let boot_radix = between(boot_radix, 1, 14.min(memory_bits - 5))?;
     Ok(Line::Memory {
@@ -33,9 +31,7 @@ pub(crate) fn untyped(words: Words<'_>) -> Result<Line<'_>, u8>
     ensures { result ≡ untyped_of words.entry }
 {
     let (name, words) = words.object()?;
-    let (offset, words) = words.number()?;
-    let (bits, words) = words.number()?;
-    words.end()?;
+    let (offset, bits) = words.last_numbers()?;
     let offset = word(offset)?;
     let bits = between(bits, 4, 24)?;
     Ok(Line::Untyped {
@@ -65,6 +61,17 @@ fn size_and_rest(words: Words<'_>) -> Result<(i64, Words<'_>), u8>
     }
 }
 
+/// A kind of objects and a size, which may be left out, and no more.
+#[tactic(auto, unfolding(crate::specs::Lines::last_kind))]
+fn kind_and_size(words: Words<'_>) -> Result<(u32, i64), u8>
+    ensures { result ≡ last_kind words.entry }
+{
+    let (kind, words) = kind_and_rest(words)?;
+    let (size, words) = size_and_rest(words)?;
+    words.end()?;
+    Ok((kind, size))
+}
+
 /// Whether an object of this kind may have this size.
 fn size_fits(kind: u32, size: u32) -> bool
     ensures { result ≡ size_fits_kind kind size }
@@ -81,9 +88,7 @@ pub(crate) fn object(words: Words<'_>) -> Result<Line<'_>, u8>
 {
     let (name, words) = words.object()?;
     let (untyped, words) = words.object()?;
-    let (kind, words) = kind_and_rest(words)?;
-    let (size, words) = size_and_rest(words)?;
-    words.end()?;
+    let (kind, size) = kind_and_size(words)?;
     let size = word(size)?;
     if !size_fits(kind, size) {
         return Err(RANGE);
@@ -101,11 +106,8 @@ pub(crate) fn object(words: Words<'_>) -> Result<Line<'_>, u8>
 pub(crate) fn interrupt(words: Words<'_>) -> Result<Line<'_>, u8>
     ensures { result ≡ interrupt_of words.entry }
 {
-    let (name, words) = words.object()?;
-    let (line, words) = words.number()?;
-    let (notification, words) = words.object()?;
-    let (badge, words) = words.number()?;
-    words.end()?;
+    let (name, line, notification, words) = words.place()?;
+    let badge = words.last_number()?;
     Ok(Line::Interrupt {
         name,
         line: between(line, 0, 63)?,
@@ -119,12 +121,8 @@ pub(crate) fn interrupt(words: Words<'_>) -> Result<Line<'_>, u8>
 pub(crate) fn capability(words: Words<'_>) -> Result<Line<'_>, u8>
     ensures { result ≡ capability_of words.entry }
 {
-    let (cnode, words) = words.object()?;
-    let (index, words) = words.number()?;
-    let (source, words) = words.object()?;
-    let (rights, words) = words.number()?;
-    let (payload, words) = words.number()?;
-    words.end()?;
+    let (cnode, index, source, words) = words.place()?;
+    let (rights, payload) = words.last_numbers()?;
     Ok(Line::Capability {
         cnode,
         index: word(index)?,
@@ -139,9 +137,7 @@ pub(crate) fn capability(words: Words<'_>) -> Result<Line<'_>, u8>
 pub(crate) fn table(words: Words<'_>) -> Result<Line<'_>, u8>
     ensures { result ≡ table_of words.entry }
 {
-    let (root, words) = words.object()?;
-    let (address, words) = words.number()?;
-    let (table, words) = words.object()?;
+    let (root, address, table, words) = words.place()?;
     words.end()?;
     let address = word(address)?;
     Ok(Line::Table {
@@ -156,11 +152,8 @@ pub(crate) fn table(words: Words<'_>) -> Result<Line<'_>, u8>
 pub(crate) fn frame(words: Words<'_>) -> Result<Line<'_>, u8>
     ensures { result ≡ frame_of words.entry }
 {
-    let (root, words) = words.object()?;
-    let (address, words) = words.number()?;
-    let (frame, words) = words.object()?;
-    let (rights, words) = words.number()?;
-    words.end()?;
+    let (root, address, frame, words) = words.place()?;
+    let rights = words.last_number()?;
     Ok(Line::Frame {
         root,
         address: word(address)?,

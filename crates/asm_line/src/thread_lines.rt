@@ -48,15 +48,12 @@ fn thread_words(words: Words<'_>) -> Result<ThreadWords<'_>, u8>
     ensures { result ≡ thread_words_of words.entry }
 {
     let (tcb, words) = words.object()?;
-    let (cnode, words) = words.object()?;
-    let (guard, words) = words.number()?;
-    let (root, words) = words.object()?;
+    let (cnode, guard, root, words) = words.place()?;
     let (priority, words) = words.number()?;
     let (budget, words) = words.number()?;
     let (fault, words) = words.number()?;
     let (entry, words) = words.name()?;
-    let (base, words) = words.number()?;
-    words.end()?;
+    let base = words.last_number()?;
     Ok(ThreadWords {
         tcb,
         cnode,
@@ -118,8 +115,7 @@ pub(crate) fn register(words: Words<'_>) -> Result<Line<'_>, u8>
     ensures { result ≡ register_line_of words.entry }
 {
     let (register, words) = words.register()?;
-    let (value, words) = words.number()?;
-    words.end()?;
+    let value = words.last_number()?;
     Ok(Line::Register(RegisterEntry {
         register: named(register)?,
         value: between(value, 1, u32::MAX)?,
@@ -132,9 +128,7 @@ pub(crate) fn range(words: Words<'_>) -> Result<Line<'_>, u8>
     ensures { result ≡ range_of words.entry }
 {
     let (register, words) = words.register()?;
-    let (low, words) = words.number()?;
-    let (high, words) = words.number()?;
-    words.end()?;
+    let (low, high) = words.last_numbers()?;
     let register = named(register)?;
     let low = word(low)?;
     let high = word(high)?;
@@ -211,8 +205,7 @@ fn slot_words(words: Words<'_>) -> Result<SlotWords<'_>, u8>
     let (word0, words) = words.number()?;
     let (word1, words) = words.number()?;
     let (parent, words) = parent_and_rest(words)?;
-    let (parent_index, words) = words.number()?;
-    words.end()?;
+    let parent_index = words.last_number()?;
     Ok(SlotWords {
         cnode,
         index,

@@ -1,7 +1,7 @@
 //! The words of a line: what stands between spaces, tabs and commas.
 
 ghost use Rattle.std.specs.Prelude.{◌≡◌, ◌<◌, IfOk, [], ◌∷◌, not, position, MatchOption};
-ghost use Rattle.asm_line.specs.Words.{ends, is_blank, name_first, number_first, object_first, register_first, words_of};
+ghost use Rattle.asm_line.specs.Words.{ends, is_blank, last_number, last_numbers, name_first, number_first, object_first, place_first, register_first, words_of};
 
 use crate::faults::SYNTAX;
 use crate::keywords::is;
@@ -90,6 +90,36 @@ impl<'a> Words<'a> {
             Some((word, words)) => Ok((number_in(word)?, words)),
             None => Err(SYNTAX),
         }
+    }
+
+    /// The only word, which is to be a number.
+    #[tactic(auto, unfolding(crate::specs::Words::last_number))]
+    pub(crate) fn last_number(self) -> Result<i64, u8>
+        ensures { result ≡ last_number self.entry }
+    {
+        let (number, words) = self.number()?;
+        words.end()?;
+        Ok(number)
+    }
+
+    /// The only two words, which are to be numbers.
+    #[tactic(auto, unfolding(crate::specs::Words::last_numbers))]
+    pub(crate) fn last_numbers(self) -> Result<(i64, i64), u8>
+        ensures { result ≡ last_numbers self.entry }
+    {
+        let (first, words) = self.number()?;
+        Ok((first, words.last_number()?))
+    }
+
+    /// The first words, which are to be a name, a number and a name, and those behind them.
+    #[tactic(auto, unfolding(crate::specs::Words::place_first))]
+    pub(crate) fn place(self) -> Result<(Name<'a>, i64, Name<'a>, Words<'a>), u8>
+        ensures { result ≡ place_first self.entry }
+    {
+        let (name, words) = self.object()?;
+        let (number, words) = words.number()?;
+        let (other, words) = words.object()?;
+        Ok((name, number, other, words))
     }
 
     /// The same words once more.
