@@ -37,6 +37,10 @@ with_label labels name number =
 abbrev pub with_point : FoundLabels → FoundLabels
 with_point labels = record labels { points = min (labels.points + 1) (2 ^ 32 - 1) }
 
+-- one word more, with the label before it
+abbrev pub with_code : FoundLabels → Option Text → ℕ → FoundLabels
+with_code labels label number = with_point (option_map_or (λ name. with_label labels name number) label labels)
+
 -- ---- the first way over a text
 
 -- the labels of the threads up to some line; those of the one that is not at its end
@@ -53,13 +57,15 @@ closed s = record { threads = option_map_or (λ labels. s.threads ++ labels ∷ 
 abbrev pub in_open : (FoundLabels → FoundLabels) → Searched → Searched
 in_open change s = record s { open_labels = option_map change s.open_labels }
 
+abbrev pub begun : Searched → Searched
+begun s = if is_some s.open_labels then s else record s { open_labels = Some no_labels }
+
 -- behind a line with this number
 abbrev pub searched_line : Searched → ℕ → Line → Searched
-searched_line s number (line.Thread t) = if is_some s.open_labels then s else record s { open_labels = Some no_labels }
+searched_line s number (line.Thread t) = begun s
 searched_line s number line.End = closed s
 searched_line s number (line.Label name) = in_open (λ labels. with_label labels name number) s
-searched_line s number (line.Code label code) =
-    in_open (λ labels. with_point (option_map_or (λ name. with_label labels name number) label labels)) s
+searched_line s number (line.Code label code) = in_open (λ labels. with_code labels label number) s
 searched_line s number _ = s
 
 -- the number of the line behind one: numbers stop at the greatest of 64 bits

@@ -31,16 +31,29 @@ pub record MayBeginThread (labels : List FoundLabels) (d : Draft) (said : Thread
   pub begins : MayBegin d.declared.names (labels_at labels (length d.threads)) said
   pub room : length d.threads < 64
 
+-- lines that say what a slot, a page or a frame holds
+abbrev pub IsPlacement : Draft → Line → Type 0
+IsPlacement d (line.Capability cnode index source rights payload) = MayAddCapability d.declared cnode index source
+IsPlacement d (line.Table root address table) = MayAddTable d.declared root address table
+IsPlacement d (line.Frame root address frame rights) = MayAddFrame d.declared root address frame
+IsPlacement d (line.Content frame words) = MayAddContent d.declared frame words
+IsPlacement d _ = ⊥
+
+abbrev pub with_placement : Draft → Line → Draft
+with_placement d (line.Capability cnode index source rights payload) =
+    record d { declared = with_capability d.declared (capability_said d.declared cnode index source rights payload) }
+with_placement d (line.Table root address table) = record d { declared = with_table d.declared (table_entry d.declared root address table) }
+with_placement d (line.Frame root address frame rights) =
+    record d { declared = with_frame d.declared (frame_entry d.declared root address frame rights) }
+with_placement d (line.Content frame words) = record d { declared = with_content d.declared (content_said d.declared frame words) }
+with_placement d _ = d
+
 abbrev pub IsDeclaration : List FoundLabels → Draft → Line → Type 0
 IsDeclaration labels d (line.Untyped name entry) = MayAddUntyped d.declared name
 IsDeclaration labels d (line.Object name untyped kind size) = MayAddObject d.declared name untyped
 IsDeclaration labels d (line.Interrupt name number notification badge) = MayAddInterrupt d.declared name number notification
-IsDeclaration labels d (line.Capability cnode index source rights payload) = MayAddCapability d.declared cnode index source
-IsDeclaration labels d (line.Table root address table) = MayAddTable d.declared root address table
-IsDeclaration labels d (line.Frame root address frame rights) = MayAddFrame d.declared root address frame
-IsDeclaration labels d (line.Content frame words) = MayAddContent d.declared frame words
 IsDeclaration labels d (line.Thread said) = MayBeginThread labels d said
-IsDeclaration labels d _ = ⊥
+IsDeclaration labels d said = IsPlacement d said
 
 abbrev pub with_declaration : List FoundLabels → Draft → Line → Draft
 with_declaration labels d (line.Untyped name entry) = record d { declared = with_untyped d.declared name entry }
@@ -48,15 +61,9 @@ with_declaration labels d (line.Object name untyped kind size) =
     record d { declared = with_object d.declared name (object_entry d.declared untyped kind size) }
 with_declaration labels d (line.Interrupt name number notification badge) =
     record d { declared = with_interrupt d.declared name (interrupt_entry d.declared number notification badge) }
-with_declaration labels d (line.Capability cnode index source rights payload) =
-    record d { declared = with_capability d.declared (capability_said d.declared cnode index source rights payload) }
-with_declaration labels d (line.Table root address table) = record d { declared = with_table d.declared (table_entry d.declared root address table) }
-with_declaration labels d (line.Frame root address frame rights) =
-    record d { declared = with_frame d.declared (frame_entry d.declared root address frame rights) }
-with_declaration labels d (line.Content frame words) = record d { declared = with_content d.declared (content_said d.declared frame words) }
 with_declaration labels d (line.Thread said) =
     record d { open_thread = Some (thread_begun d.declared.names (labels_at labels (length d.threads)) said) }
-with_declaration labels d _ = d
+with_declaration labels d said = with_placement d said
 
 -- ---- lines that stand in a thread
 

@@ -1,13 +1,14 @@
 //! An image whose lines are being read.
 
-ghost use Rattle.std.specs.Prelude.{◌≡◌, ◌<◌, true, length, map, IfOk, Ok, Some};
+ghost use Rattle.std.specs.Prelude.{◌≡◌, ◌≢◌, ◌<◌, true, [], ◌∷◌, ◌++◌, length, map, IfOk, Ok, Some};
 ghost use Rattle.model.specs.Images.Image as described;
 ghost use Rattle.model.specs.Images.Image.{whole_image};
+ghost use Rattle.asm_line.specs.declared.lines.Line.TheVariants as said;
 ghost use Rattle.assembly.specs.Drafts.{assembled, draft_of, nothing_read};
 ghost use Rattle.assembly.specs.Outcomes.{Gives};
-ghost use Rattle.assembly.specs.Reading.{IsDeclaration, IsFirst, IsInPlace, IsThreadLine, MayBeginThread, labels_at, with_declaration, with_first, with_line, with_thread_line};
+ghost use Rattle.assembly.specs.Reading.{IsDeclaration, IsFirst, IsInPlace, IsPlacement, IsThreadLine, MayBeginThread, labels_at, thread_behind, with_declaration, with_first, with_line, with_placement, with_thread_line};
 ghost use Rattle.assembly.specs.Sections.{entry_of};
-ghost use Rattle.assembly.specs.Threads.{thread_begun};
+ghost use Rattle.assembly.specs.Threads.{MayEnd, thread_begun};
 
 use crate::declarations::Declarations;
 use crate::faults::Fault;
@@ -44,6 +45,7 @@ pub struct Assembly<'a> {
 }
 
 impl<'a> Model for Assembly<'a> {
+    ghost use Rattle.asm_line.specs.declared.lines.Line.TheVariants as said;
     ghost use Rattle.assembly.specs.Drafts.{Draft};
 
     ghost Value = { Draft };
@@ -101,14 +103,10 @@ impl<'a> Assembly<'a> {
         }
     }
 
-    /// Adds the first line of a thread.
-    fn begin_thread(&mut self, line: ThreadLine<'a>, labels: &[Labels<'a>]) -> Result<(), Fault>
-        ensures { MayBeginThread labels.now self.old line.entry → Gives result (λ _. self.new ≡ record self.old { open_thread = Some (thread_begun self.old.declared.names (labels_at labels.now (length self.old.threads)) line.entry) }) }
+    /// Goes on with a new thread, of which there is to be room for one more.
+    fn open_thread(&mut self, thread: OpenThread) -> Result<(), Fault>
+        ensures { length self.old.threads < 64 → Gives result (λ _. self.new ≡ record self.old { open_thread = Some thread }) }
     {
-        let Some(labels) = labels.get(self.threads.len()) else {
-            return Err(Fault::UnknownName);
-        };
-        let thread = OpenThread::begin(self.alloc, line, &self.declared.names, labels)?;
         if MOST_THREADS <= self.threads.len() {
             return Err(Fault::Range);
         }
@@ -116,24 +114,47 @@ impl<'a> Assembly<'a> {
         Ok(())
     }
 
+    /// Adds the first line of a thread.
+    fn begin_thread(&mut self, line: &ThreadLine<'a>, labels: &[Labels<'a>]) -> Result<(), Fault>
+        ensures { MayBeginThread labels.now self.old line.now → Gives result (λ _. self.new ≡ record self.old { open_thread = Some (thread_begun self.old.declared.names (labels_at labels.now (length self.old.threads)) line.now) }) }
+    {
+        let Some(labels) = labels.get(self.threads.len()) else {
+            return Err(Fault::UnknownName);
+        };
+        let thread = OpenThread::begin(self.alloc, line, &self.declared.names, labels)?;
+        self.open_thread(thread)
+    }
+
     /// Adds a line that stands in no thread.
     fn declare(&mut self, line: Line<'a>, labels: &[Labels<'a>]) -> Result<(), Fault>
         ensures { IsDeclaration labels.now self.old line.entry → Gives result (λ _. self.new ≡ with_declaration labels.now self.old line.entry) }
     {
         match line {
-            Line::Untyped { name, entry } => self.declared.add_untyped(name, entry),
+            Line::Untyped { name, entry } => self.declared.add_untyped(&name, entry),
             Line::Object {
                 name,
                 untyped,
                 kind,
                 size,
-            } => self.declared.add_object(name, untyped, kind, size),
+            } => self.declared.add_object(&name, &untyped, kind, size),
             Line::Interrupt {
                 name,
                 line,
                 notification,
                 badge,
-            } => self.declared.add_interrupt(name, line, notification, badge),
+            } => self
+                .declared
+                .add_interrupt(&name, line, &notification, badge),
+            Line::Thread(line) => self.begin_thread(&line, labels),
+            _ => self.place(line),
+        }
+    }
+
+    /// Adds a line that says what a slot, a page or a frame holds.
+    fn place(&mut self, line: Line<'a>) -> Result<(), Fault>
+        ensures { IsPlacement self.old line.entry → Gives result (λ _. self.new ≡ with_placement self.old line.entry) }
+    {
+        match line {
             Line::Capability {
                 cnode,
                 index,
@@ -142,21 +163,44 @@ impl<'a> Assembly<'a> {
                 payload,
             } => self
                 .declared
-                .add_capability(cnode, index, source, rights, payload),
+                .add_capability(&cnode, index, &source, rights, payload),
             Line::Table {
                 root,
                 address,
                 table,
-            } => self.declared.add_table(root, address, table),
+            } => self.declared.add_table(&root, address, &table),
             Line::Frame {
                 root,
                 address,
                 frame,
                 rights,
-            } => self.declared.add_frame(root, address, frame, rights),
-            Line::Content { frame, words } => self.declared.add_content(self.alloc, frame, words),
-            Line::Thread(line) => self.begin_thread(line, labels),
+            } => self.declared.add_frame(&root, address, &frame, rights),
+            Line::Content { frame, words } => self.declared.add_content(self.alloc, &frame, words),
             _ => Err(Fault::Syntax),
+        }
+    }
+
+    /// Puts a thread behind the others at its line `end`.
+    fn end_thread(&mut self, thread: OpenThread) -> Result<(), Fault>
+        ensures { MayEnd thread → Gives result (λ _. self.new ≡ record self.old { threads = self.old.threads ++ thread.thread ∷ [] }) }
+    {
+        self.threads.push(thread.end()?)?;
+        Ok(())
+    }
+
+    /// Adds a line to a thread, if it is not the thread's last one.
+    fn add_before_end(
+        &self,
+        thread: &mut OpenThread,
+        line: Line<'a>,
+        number: u64,
+        labels: &[Labels<'a>],
+    ) -> Result<(), Fault>
+        ensures { length self.now.threads < length labels.now → line.entry ≢ said.End → IsThreadLine (labels_at labels.now (length self.now.threads)) number self.now.declared.names thread.old line.entry → Gives result (λ _. thread.new ≡ thread_behind self.now.declared.names thread.old line.entry) }
+    {
+        match labels.get(self.threads.len()) {
+            Some(labels) => thread.add(self.alloc, line, number, &self.declared.names, labels),
+            None => Err(Fault::UnknownName),
         }
     }
 
@@ -171,13 +215,9 @@ impl<'a> Assembly<'a> {
         ensures { length self.old.threads < length labels.now → IsThreadLine (labels_at labels.now (length self.old.threads)) number self.old.declared.names thread line.entry → Gives result (λ _. self.new ≡ with_thread_line self.old thread line.entry) }
     {
         if let Line::End = &line {
-            self.threads.push(thread.end()?)?;
-            return Ok(());
+            return self.end_thread(thread);
         }
-        let Some(labels) = labels.get(self.threads.len()) else {
-            return Err(Fault::UnknownName);
-        };
-        thread.add(self.alloc, line, number, &self.declared.names, labels)?;
+        self.add_before_end(&mut thread, line, number, labels)?;
         self.open = Some(thread);
         Ok(())
     }

@@ -143,26 +143,26 @@ impl<'a> Declarations<'a> {
         }
     }
 
-    pub(crate) fn add_untyped(&mut self, name: Name<'a>, entry: UntypedEntry) -> Result<(), Fault>
-        ensures { MayAddUntyped self.old name.entry → Gives result (λ _. self.new ≡ with_untyped self.old name.entry entry) }
+    pub(crate) fn add_untyped(&mut self, name: &Name<'a>, entry: UntypedEntry) -> Result<(), Fault>
+        ensures { MayAddUntyped self.old name.now → Gives result (λ _. self.new ≡ with_untyped self.old name.now entry) }
     {
-        self.names.check_free(&name)?;
+        self.names.check_free(name)?;
         append(&mut self.untypeds, MOST_UNTYPEDS, entry)?;
-        self.names.add_untyped(&name)
+        self.names.add_untyped(name)
     }
 
     /// Objects stand in the order of their untypeds.
     pub(crate) fn add_object(
         &mut self,
-        name: Name<'a>,
-        untyped: Name<'a>,
+        name: &Name<'a>,
+        untyped: &Name<'a>,
         kind: u32,
         size: u32,
     ) -> Result<(), Fault>
-        ensures { MayAddObject self.old name.entry untyped.entry → Gives result (λ _. self.new ≡ with_object self.old name.entry (object_entry self.old untyped.entry kind size)) }
+        ensures { MayAddObject self.old name.now untyped.now → Gives result (λ _. self.new ≡ with_object self.old name.now (object_entry self.old untyped.now kind size)) }
     {
-        self.names.check_free(&name)?;
-        let untyped = self.names.untyped(&untyped)?;
+        self.names.check_free(name)?;
+        let untyped = self.names.untyped(untyped)?;
         if !is_in_order(untyped, &self.objects) {
             return Err(Fault::Range);
         }
@@ -172,42 +172,42 @@ impl<'a> Declarations<'a> {
             size,
         };
         append(&mut self.objects, MOST_OBJECTS, entry)?;
-        self.names.add_object(&name)
+        self.names.add_object(name)
     }
 
     pub(crate) fn add_interrupt(
         &mut self,
-        name: Name<'a>,
+        name: &Name<'a>,
         line: u32,
-        notification: Name<'a>,
+        notification: &Name<'a>,
         badge: u32,
     ) -> Result<(), Fault>
-        ensures { MayAddInterrupt self.old name.entry line notification.entry → Gives result (λ _. self.new ≡ with_interrupt self.old name.entry (interrupt_entry self.old line notification.entry badge)) }
+        ensures { MayAddInterrupt self.old name.now line notification.now → Gives result (λ _. self.new ≡ with_interrupt self.old name.now (interrupt_entry self.old line notification.now badge)) }
     {
-        self.names.check_free(&name)?;
+        self.names.check_free(name)?;
         let entry = InterruptEntry {
             line,
-            notification: self.names.object(&notification)?,
+            notification: self.names.object(notification)?,
             badge,
         };
         insert(&mut self.interrupts, MOST_INTERRUPTS, entry)?;
-        self.names.add_interrupt(&name, line)
+        self.names.add_interrupt(name, line)
     }
 
     pub(crate) fn add_capability(
         &mut self,
-        cnode: Name<'a>,
+        cnode: &Name<'a>,
         index: u32,
-        source: Name<'a>,
+        source: &Name<'a>,
         rights: u32,
         payload: u32,
     ) -> Result<(), Fault>
-        ensures { MayAddCapability self.old cnode.entry index source.entry → Gives result (λ _. self.new ≡ with_capability self.old (capability_said self.old cnode.entry index source.entry rights payload)) }
+        ensures { MayAddCapability self.old cnode.now index source.now → Gives result (λ _. self.new ≡ with_capability self.old (capability_said self.old cnode.now index source.now rights payload)) }
     {
         let entry = Capability {
-            cnode: self.names.object(&cnode)?,
+            cnode: self.names.object(cnode)?,
             index,
-            source: self.names.source(&source)?,
+            source: self.names.source(source)?,
             rights,
             payload,
         };
@@ -216,33 +216,33 @@ impl<'a> Declarations<'a> {
 
     pub(crate) fn add_table(
         &mut self,
-        root: Name<'a>,
+        root: &Name<'a>,
         address: u32,
-        table: Name<'a>,
+        table: &Name<'a>,
     ) -> Result<(), Fault>
-        ensures { MayAddTable self.old root.entry address table.entry → Gives result (λ _. self.new ≡ with_table self.old (table_entry self.old root.entry address table.entry)) }
+        ensures { MayAddTable self.old root.now address table.now → Gives result (λ _. self.new ≡ with_table self.old (table_entry self.old root.now address table.now)) }
     {
         let entry = TableEntry {
-            root: self.names.object(&root)?,
+            root: self.names.object(root)?,
             address,
-            table: self.names.object(&table)?,
+            table: self.names.object(table)?,
         };
         insert(&mut self.tables, MOST_TABLES, entry)
     }
 
     pub(crate) fn add_frame(
         &mut self,
-        root: Name<'a>,
+        root: &Name<'a>,
         address: u32,
-        frame: Name<'a>,
+        frame: &Name<'a>,
         rights: u32,
     ) -> Result<(), Fault>
-        ensures { MayAddFrame self.old root.entry address frame.entry → Gives result (λ _. self.new ≡ with_frame self.old (frame_entry self.old root.entry address frame.entry rights)) }
+        ensures { MayAddFrame self.old root.now address frame.now → Gives result (λ _. self.new ≡ with_frame self.old (frame_entry self.old root.now address frame.now rights)) }
     {
         let entry = FrameEntry {
-            root: self.names.object(&root)?,
+            root: self.names.object(root)?,
             address,
-            frame: self.names.object(&frame)?,
+            frame: self.names.object(frame)?,
             rights,
         };
         insert(&mut self.frames, MOST_FRAMES, entry)
@@ -251,12 +251,12 @@ impl<'a> Declarations<'a> {
     pub(crate) fn add_content(
         &mut self,
         alloc: Global,
-        frame: Name<'a>,
+        frame: &Name<'a>,
         words: Words<'a>,
     ) -> Result<(), Fault>
-        ensures { MayAddContent self.old frame.entry words.entry → Gives result (λ _. self.new ≡ with_content self.old (content_said self.old frame.entry words.entry)) }
+        ensures { MayAddContent self.old frame.now words.entry → Gives result (λ _. self.new ≡ with_content self.old (content_said self.old frame.now words.entry)) }
     {
-        let frame = self.names.object(&frame)?;
+        let frame = self.names.object(frame)?;
         let words = words_of(alloc, words)?;
         insert(&mut self.contents, MOST_CONTENTS, Content { frame, words })
     }

@@ -6,7 +6,7 @@ ghost use Rattle.std.specs.Str.Lines.{lines};
 ghost use Rattle.asm_line.specs.Listed.{Lists};
 ghost use Rattle.asm_line.specs.declared.lines.Line.{Line};
 ghost use Rattle.assembly.specs.declared.faults.Fault.{Fault};
-ghost use Rattle.assembly.specs.Labels.{closed, is_first_on, labels_in, no_labels, place_named, point_of, searched_line, with_label};
+ghost use Rattle.assembly.specs.Labels.{begun, closed, in_open, is_first_on, labels_in, no_labels, place_named, point_of, searched_from, searched_line, with_code, with_label};
 ghost use Rattle.assembly.specs.Outcomes.{Gives};
 
 use crate::faults::{Fault, SourceFault};
@@ -72,6 +72,17 @@ impl<'a> Labels<'a> {
         }
     }
 
+    /// Counts a word of the program, which may have a label before it.
+    fn add_word(&mut self, label: Option<Name<'a>>, line: u64) -> Result<(), Fault>
+        ensures { Gives result (λ _. self.new ≡ with_code self.old label.entry line) }
+    {
+        if let Some(name) = label {
+            self.note(&name, line)?;
+        }
+        self.points = self.points.saturating_add(1);
+        Ok(())
+    }
+
     /// The point that a label names.
     pub(crate) fn point(&self, name: &Name<'a>) -> Result<u32, Fault>
         ensures { is_some (place_named self.now name.now) ≡ true → result ≡ Ok (point_of self.now name.now) }
@@ -130,10 +141,31 @@ impl<'a> Search<'a> {
         Ok(())
     }
 
+    /// Begins a thread, unless there is one that is not at its end.
+    fn begin(&mut self, alloc: Global)
+        ensures { self.new ≡ begun self.old }
+    {
+        if self.open.is_none() {
+            self.open = Some(Labels::new(alloc));
+        }
+    }
+
     /// Notes a label of the thread that is not at its end.
-    fn note(&mut self, name: &Name<'a>, line: u64) -> Result<(), Fault> {
+    fn note(&mut self, name: &Name<'a>, line: u64) -> Result<(), Fault>
+        ensures { Gives result (λ _. self.new ≡ in_open (λ labels. with_label labels name.now line) self.old) }
+    {
         match &mut self.open {
             Some(labels) => labels.note(name, line),
+            None => Ok(()),
+        }
+    }
+
+    /// Counts a word of the thread that is not at its end.
+    fn add_word(&mut self, label: Option<Name<'a>>, line: u64) -> Result<(), Fault>
+        ensures { Gives result (λ _. self.new ≡ in_open (λ labels. with_code labels label.entry line) self.old) }
+    {
+        match &mut self.open {
+            Some(labels) => labels.add_word(label, line),
             None => Ok(()),
         }
     }
@@ -143,26 +175,12 @@ impl<'a> Search<'a> {
     {
         match line {
             Line::Thread(_) => {
-                if self.open.is_none() {
-                    self.open = Some(Labels::new(alloc));
-                }
+                self.begin(alloc);
                 Ok(())
             }
             Line::End => self.close(),
-            Line::Label(name) => match &mut self.open {
-                Some(labels) => labels.note(&name, number),
-                None => Ok(()),
-            },
-            Line::Code { label, code: _ } => match &mut self.open {
-                Some(labels) => {
-                    if let Some(name) = label {
-                        labels.note(&name, number)?;
-                    }
-                    labels.points = labels.points.saturating_add(1);
-                    Ok(())
-                }
-                None => Ok(()),
-            },
+            Line::Label(name) => self.note(&name, number),
+            Line::Code { label, code: _ } => self.add_word(label, number),
             _ => Ok(()),
         }
     }
@@ -186,6 +204,24 @@ fn search_line<'a>(
     }
 }
 
+/// Adds the labels on all lines of a text.
+fn search_text<'a>(search: &mut Search<'a>, alloc: Global, text: &'a str) -> Result<(), SourceFault>
+    ensures fault { IfErr result (λ fault. (1 ≤ fault.line) × (1 ≤ fault.kind) × (fault.kind ≤ 5)) }
+    ensures listed { (said : List Line) → AllZip Lists said (lines text.now) → MatchResult result (λ _. search.new ≡ closed (searched_from 0 search.old said)) (λ fault. fault.kind ≡ 5) }
+{
+    let mut number = 0u64;
+    'lines: for line in text.lines() {
+        number = number.saturating_add(1);
+        if let Err(fault) = search_line(search, alloc, line, number) {
+            return Err(fault.at(number));
+        }
+    }
+    match search.close() {
+        Ok(()) => Ok(()),
+        Err(fault) => Err(fault.at(number.max(1))),
+    }
+}
+
 /// The labels of each thread of a text, up to its line `end`.
 ///
 /// # Errors
@@ -199,15 +235,6 @@ pub fn labels_of<'a>(alloc: Global, text: &'a str) -> Result<Vec<Labels<'a>>, So
         threads: Vec::new(alloc),
         open: None,
     };
-    let mut number = 0u64;
-    'lines: for line in text.lines() {
-        number = number.saturating_add(1);
-        if let Err(fault) = search_line(&mut search, alloc, line, number) {
-            return Err(fault.at(number));
-        }
-    }
-    match search.close() {
-        Ok(()) => Ok(search.threads),
-        Err(fault) => Err(fault.at(number.max(1))),
-    }
+    search_text(&mut search, alloc, text)?;
+    Ok(search.threads)
 }

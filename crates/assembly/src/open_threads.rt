@@ -61,14 +61,14 @@ fn distance(from: u32, to: u32) -> Result<i32, Fault>
 }
 
 /// The word of a program at a point.
-fn word_at<'a>(point: u32, code: Code<'a>, labels: &Labels<'a>) -> Result<u32, Fault>
-    ensures { IsPlain code.entry → result ≡ Ok (plain_word code.entry) }
+fn word_at<'a>(point: u32, code: &Code<'a>, labels: &Labels<'a>) -> Result<u32, Fault>
+    ensures { IsPlain code.now → result ≡ Ok (plain_word code.now) }
 {
     let instr = match code {
-        Code::Word(word) => return Ok(word),
+        Code::Word(word) => return Ok(*word),
         Code::Jump { rd, target } => Instr::Jal {
-            rd,
-            offset: distance(point, labels.point(&target)?)?,
+            rd: *rd,
+            offset: distance(point, labels.point(target)?)?,
         },
         Code::Branch {
             op,
@@ -76,10 +76,10 @@ fn word_at<'a>(point: u32, code: Code<'a>, labels: &Labels<'a>) -> Result<u32, F
             rs2,
             target,
         } => Instr::Branch {
-            op,
-            rs1,
-            rs2,
-            offset: distance(point, labels.point(&target)?)?,
+            op: *op,
+            rs1: *rs1,
+            rs2: *rs2,
+            offset: distance(point, labels.point(target)?)?,
         },
     };
     if has_spelling(instr) {
@@ -90,12 +90,12 @@ fn word_at<'a>(point: u32, code: Code<'a>, labels: &Labels<'a>) -> Result<u32, F
 }
 
 /// The CNode and the index of a parent, as an image has them.
-fn parent_of<'a>(names: &Names<'a>, parent: Parent<'a>) -> Result<(u32, u32), Fault>
-    ensures { HasParent names.now parent.entry → result ≡ Ok (parent_numbers names.now parent.entry) }
+fn parent_of<'a>(names: &Names<'a>, parent: &Parent<'a>) -> Result<(u32, u32), Fault>
+    ensures { HasParent names.now parent.now → result ≡ Ok (parent_numbers names.now parent.now) }
 {
     match parent {
         Parent::Boot => Ok((NO_PARENT, NO_PARENT)),
-        Parent::Slot { cnode, index } => Ok((names.object(&cnode)?, index)),
+        Parent::Slot { cnode, index } => Ok((names.object(cnode)?, *index)),
     }
 }
 
@@ -135,11 +135,11 @@ impl OpenThread {
     /// A thread at its first line.
     pub(crate) fn begin<'a>(
         alloc: Global,
-        line: ThreadLine<'a>,
+        line: &ThreadLine<'a>,
         names: &Names<'a>,
         labels: &Labels<'a>,
     ) -> Result<OpenThread, Fault>
-        ensures { MayBegin names.now labels.now line.entry → Gives result (λ begun. begun ≡ thread_begun names.now labels.now line.entry) }
+        ensures { MayBegin names.now labels.now line.now → Gives result (λ begun. begun ≡ thread_begun names.now labels.now line.now) }
     {
         let parts = ThreadParts {
             tcb: names.object(&line.tcb)?,
@@ -208,17 +208,17 @@ impl OpenThread {
     pub(crate) fn add_slot<'a>(
         &mut self,
         names: &Names<'a>,
-        cnode: Name<'a>,
+        cnode: &Name<'a>,
         index: u32,
         words: [u32; 2],
-        parent: Parent<'a>,
+        parent: &Parent<'a>,
     ) -> Result<(), Fault>
-        ensures { MayAddSlot names.now self.old cnode.entry index parent.entry → Gives result (λ _. self.new ≡ with_slot self.old (slot_entry names.now cnode.entry index (slice_index words 0) (slice_index words 1) parent.entry)) }
+        ensures { MayAddSlot names.now self.old cnode.now index parent.now → Gives result (λ _. self.new ≡ with_slot self.old (slot_entry names.now cnode.now index (slice_index words 0) (slice_index words 1) parent.now)) }
     {
         let Some(record) = &mut self.record else {
             return Err(Fault::Syntax);
         };
-        let cnode = names.object(&cnode)?;
+        let cnode = names.object(cnode)?;
         let [word0, word1] = words;
         let (parent_cnode, parent_index) = parent_of(names, parent)?;
         let entry = SlotEntry {
@@ -232,10 +232,10 @@ impl OpenThread {
         insert(&mut record.slots, MOST_SLOTS, entry)
     }
 
-    pub(crate) fn add_code<'a>(&mut self, code: Code<'a>, labels: &Labels<'a>) -> Result<(), Fault>
-        ensures { MayAddCode self.old code.entry → Gives result (λ _. self.new ≡ with_word self.old (plain_word code.entry)) }
+    /// Puts a word behind those of the program, with what the certificate says of it.
+    fn push_word(&mut self, word: u32) -> Result<(), Fault>
+        ensures { length self.old.thread.words < 65536 → Gives result (λ _. self.new ≡ with_word self.old word) }
     {
-        let word = word_at(self.point()?, code, labels)?;
         if MOST_WORDS <= self.parts.words.len() {
             return Err(Fault::Range);
         }
@@ -244,6 +244,13 @@ impl OpenThread {
             self.parts.records.push(record)?;
         }
         Ok(())
+    }
+
+    pub(crate) fn add_code<'a>(&mut self, code: &Code<'a>, labels: &Labels<'a>) -> Result<(), Fault>
+        ensures { MayAddCode self.old code.now → Gives result (λ _. self.new ≡ with_word self.old (plain_word code.now)) }
+    {
+        let word = word_at(self.point()?, code, labels)?;
+        self.push_word(word)
     }
 
     /// Adds what a line says that is not the thread's last one.
@@ -267,13 +274,13 @@ impl OpenThread {
                 word0,
                 word1,
                 parent,
-            } => self.add_slot(names, cnode, index, [word0, word1], parent),
+            } => self.add_slot(names, &cnode, index, [word0, word1], &parent),
             Line::Label(name) => labels.check_first(&name, number),
             Line::Code { label, code } => {
                 if let Some(name) = label {
                     labels.check_first(&name, number)?;
                 }
-                self.add_code(code, labels)
+                self.add_code(&code, labels)
             }
             _ => Err(Fault::Syntax),
         }
