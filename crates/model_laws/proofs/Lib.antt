@@ -19,8 +19,6 @@ pub mod ReadySteps
 pub mod Reasons
 pub mod ReceivedCalls
 pub mod Removals
-pub mod Signs
-pub mod Spellings
 pub mod Stored
 pub mod Ticks
 pub mod WaitLaws

@@ -1,9 +1,7 @@
 //! From words to instructions.
 
-ghost use Rattle.std.specs.Prelude.{◌≡◌, ℤ, ◌⊎◌, Some, IfSome};
-ghost use Rattle.model.specs.declared.instructions.BranchOp.{BranchOp};
+ghost use Rattle.std.specs.Prelude.{◌≡◌, ◌⊎◌, Some, IfSome};
 ghost use Rattle.model.specs.declared.instructions.Instr.{Instr};
-ghost use Rattle.model.specs.declared.instructions.Register.{Register};
 ghost use Rattle.model.specs.Machine.Instructions.{IsBranchOffset, Spells, b_type, bits, upper_opcode};
 ghost use Rattle.model.specs.Machine.Decoding.{b_offset, decoded, decoded_branch, decoded_immediate, decoded_jal, decoded_jalr, decoded_load, decoded_registers, decoded_shift, decoded_store, decoded_system, decoded_upper};
 
@@ -12,11 +10,19 @@ use crate::operations::{branch_op, immediate_op, load_op, register_op, shift_op,
 use model::{Instr, UpperOp};
 
 /// The instruction that a word spells, or `None` where it spells none of RV32I.
-#[tactic(auto, unfolding(model::specs::Machine::Decoding::decoded))]
 pub fn decode(word: u32) -> Option<Instr>
     ensures value { result ≡ decoded word }
     ensures some { IfSome result (λ i. Spells word i) }
     ensures only { (i : Instr) → Spells word i → result ≡ Some i }
+{
+    by_opcode(word)
+}
+
+/// The same, by the word's lowest seven bits.
+#[tactic(auto, unfolding(model::specs::Machine::Decoding::decoded))]
+fn by_opcode(word: u32) -> Option<Instr>
+    ensures value { result ≡ decoded word }
+    ensures some { IfSome result (λ i. Spells word i) }
 {
     match field(word, 0, 7) {
         0x37 => Some(upper(UpperOp::Lui, word)),
@@ -39,7 +45,6 @@ fn upper(op: UpperOp, word: u32) -> Instr
     requires { bits word 0 7 ≡ upper_opcode op }
     ensures value { result ≡ decoded_upper op word }
     ensures some { Spells word result }
-    ensures only { (i : Instr) → Spells word i → result ≡ i }
 {
     Instr::Upper {
         op,
@@ -53,7 +58,6 @@ fn jal(word: u32) -> Instr
     requires { bits word 0 7 ≡ 0x6F }
     ensures value { result ≡ decoded_jal word }
     ensures some { Spells word result }
-    ensures only { (i : Instr) → Spells word i → result ≡ i }
 {
     let offset = (field(word, 21, 10) << 1)
         + (field(word, 20, 1) << 11)
@@ -70,7 +74,6 @@ fn jalr(word: u32) -> Option<Instr>
     requires { bits word 0 7 ≡ 0x67 }
     ensures value { result ≡ decoded_jalr word }
     ensures some { IfSome result (λ i. Spells word i) }
-    ensures only { (i : Instr) → Spells word i → result ≡ Some i }
 {
     if field(word, 12, 3) != 0 {
         return None;
@@ -87,7 +90,6 @@ fn branch(word: u32) -> Option<Instr>
     requires { bits word 0 7 ≡ 0x63 }
     ensures value { result ≡ decoded_branch word }
     ensures some { IfSome result (λ i. Spells word i) }
-    ensures only { (i : Instr) → Spells word i → result ≡ Some i }
 {
     Some(Instr::Branch {
         op: branch_op(field(word, 12, 3))?,
@@ -102,8 +104,6 @@ fn branch_offset(word: u32) -> i32
     ensures value { result ≡ b_offset word }
     ensures range { IsBranchOffset result }
     ensures spelled { word ≡ b_type (bits word 0 7) (bits word 12 3) (record { 0 = bits word 15 5 }) (record { 0 = bits word 20 5 }) result }
-    ensures only { (op : BranchOp) (rs1 rs2 : Register) (offset : ℤ) →
-        Spells word (Instr.Branch op rs1 rs2 offset) → result ≡ offset }
 {
     let offset = (field(word, 8, 4) << 1)
         + (field(word, 25, 6) << 5)
@@ -117,7 +117,6 @@ fn load(word: u32) -> Option<Instr>
     requires { bits word 0 7 ≡ 0x03 }
     ensures value { result ≡ decoded_load word }
     ensures some { IfSome result (λ i. Spells word i) }
-    ensures only { (i : Instr) → Spells word i → result ≡ Some i }
 {
     Some(Instr::Load {
         op: load_op(field(word, 12, 3))?,
@@ -132,7 +131,6 @@ fn store(word: u32) -> Option<Instr>
     requires { bits word 0 7 ≡ 0x23 }
     ensures value { result ≡ decoded_store word }
     ensures some { IfSome result (λ i. Spells word i) }
-    ensures only { (i : Instr) → Spells word i → result ≡ Some i }
 {
     let offset = field(word, 7, 5) + (field(word, 25, 7) << 5);
     Some(Instr::Store {
@@ -148,7 +146,6 @@ fn immediate(word: u32) -> Option<Instr>
     requires { bits word 0 7 ≡ 0x13 }
     ensures value { result ≡ decoded_immediate word }
     ensures some { IfSome result (λ i. Spells word i) }
-    ensures only { (i : Instr) → Spells word i → result ≡ Some i }
 {
     let funct3 = field(word, 12, 3);
     if funct3 == 1 || funct3 == 5 {
@@ -168,7 +165,6 @@ fn shift(word: u32) -> Option<Instr>
     requires funct3 { (bits word 12 3 ≡ 1) ⊎ (bits word 12 3 ≡ 5) }
     ensures value { result ≡ decoded_shift word }
     ensures some { IfSome result (λ i. Spells word i) }
-    ensures only { (i : Instr) → Spells word i → result ≡ Some i }
 {
     Some(Instr::Shift {
         op: shift_op(field(word, 12, 3), field(word, 25, 7))?,
@@ -183,7 +179,6 @@ fn registers(word: u32) -> Option<Instr>
     requires { bits word 0 7 ≡ 0x33 }
     ensures value { result ≡ decoded_registers word }
     ensures some { IfSome result (λ i. Spells word i) }
-    ensures only { (i : Instr) → Spells word i → result ≡ Some i }
 {
     Some(Instr::Registers {
         op: register_op(field(word, 12, 3), field(word, 25, 7))?,
@@ -198,7 +193,6 @@ fn system(word: u32) -> Option<Instr>
     requires { bits word 0 7 ≡ 0x73 }
     ensures value { result ≡ decoded_system word }
     ensures some { IfSome result (λ i. Spells word i) }
-    ensures only { (i : Instr) → Spells word i → result ≡ Some i }
 {
     match word {
         0x0000_0073 => Some(Instr::Ecall),

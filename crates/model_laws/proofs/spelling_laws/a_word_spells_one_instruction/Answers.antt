@@ -1,5 +1,5 @@
 -- Format by format.
-use Rattle.model_laws.proofs.Spellings.{one-spelled, spelled-decoded}
+use Rattle.rv32_isa.proofs.Laws.{one-spelled, spelled-decoded}
 use Rattle.model_laws.proofs.spelling_laws.a_word_spells_one_instruction.Goals as goal
 
 pub returns-clause-one : goal.returns-clause-one

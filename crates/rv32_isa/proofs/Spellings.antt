@@ -20,7 +20,7 @@ use Rattle.model.specs.declared.instructions.Instr.TheVariants.{Upper, Jal, Jalr
 use Rattle.model.specs.declared.instructions.Register.{Register}
 use Rattle.model.specs.Machine.Instructions.{Spells, bits, word_of}
 use Rattle.model.specs.Machine.Decoding.{b_offset, branch_op, decoded, decoded_branch, decoded_fence, decoded_immediate, decoded_jal, decoded_jalr, decoded_load, decoded_registers, decoded_shift, decoded_store, decoded_system, decoded_upper, funct3_of, funct7_of, i_immediate, immediate_op, j_offset, load_op, rd_of, register_op, rs1_of, rs2_of, s_immediate, shift_op, sign_extended, store_op}
-use Rattle.model_laws.proofs.Signs.{i-sign, b-sign, j-sign}
+use Rattle.rv32_isa.proofs.Signs.{i-sign, b-sign, j-sign}
 
 -- `decoded`, with the opcode as a value of its own
 abbrev by_opcode : ℕ → ℕ → Option Instr

@@ -1,0 +1,3 @@
+mod Signs
+mod Spellings
+pub mod Laws
