@@ -6,15 +6,40 @@ ghost use Rattle.model.specs.Acceptance.CallRules.{after_call, invocation};
 ghost use Rattle.model.specs.Acceptance.Measures.{Measure};
 ghost use Rattle.typestate.specs.Calls.{call_on, known_with, left_with};
 ghost use Rattle.typestate.specs.Differences.{slots_of};
-ghost use Rattle.typestate.specs.Invocations.{HoldsFull};
+ghost use Rattle.typestate.specs.Invocations.{HoldsFull, IsCallOn, held_after};
+ghost use Rattle.typestate.specs.SlotChanges.{leaves};
 ghost use Rattle.typestate.specs.Strays.{IsTidyBehind};
 ghost use Rattle.typestate.specs.Spaces.{own_slots};
 
 use crate::held_slots::HeldSlot;
 use crate::{Behind, NotedSlot, SystemCall, ThreadSlots, message_call};
-use model::{Cap, Point, Refusal};
+use model::{Cap, Invocation, Point, Refusal};
 use ranges::Bounds;
 use std::alloc::AllocError;
+
+impl HeldSlot<'_, '_, '_, '_> {
+    /// What is known behind a call on what the slot holds, or why it is refused. The slots that it changes are put into the list,
+    /// which is empty. Memory may be refused.
+    fn behind(
+        &self,
+        at: Point,
+        bounds: &Bounds,
+        call: Invocation,
+        answers: bool,
+        made: &mut Vec<NotedSlot>,
+    ) -> Result<Result<Behind, Refusal>, AllocError>
+        requires fits { IsCallOn self.now.held.now.capability call }
+        requires none { made.old.items ≡ [] }
+        ensures tidy { IfOk result (IsTidyBehind self.now.own.space.image.now self.now.own.space.thread.now (slots_of self.now.own.slots) made.new.items) }
+        ensures left { IfOk result (λ called. (measure : Measure) → leaves (known_with bounds.now (slots_of self.now.own.slots) measure) answers (held_after self.now.own.space.image.now self.now.own.space.thread.now at (slots_of self.now.own.slots) self.now.held.now call)
+            ≡ left_with (slots_of self.now.own.slots) made.new.items called) }
+    {
+        match self.invoked(at, call, made)? {
+            Ok(is_tidy) => Ok(Ok(Behind::called(bounds, answers, is_tidy))),
+            Err(refusal) => Ok(Err(refusal)),
+        }
+    }
+}
 
 impl ThreadSlots<'_, '_, '_> {
     /// A call on the capability in a slot of the thread's, with the message in the registers. The slots that it changes are put
@@ -43,10 +68,7 @@ impl ThreadSlots<'_, '_, '_> {
             own: *self,
             held: &found,
         };
-        match held.invoked(at, call, made)? {
-            Ok(is_tidy) => Ok(Ok(Behind::called(bounds, answers, is_tidy))),
-            Err(refusal) => Ok(Err(refusal)),
-        }
+        held.behind(at, bounds, call, answers, made)
     }
 
     /// What the system call at a point leaves, or why it is refused. The slots that it changes are put into the list, which is
