@@ -13,6 +13,7 @@ mod Compared
 mod SomeHeld
 mod TidyChanges
 mod OwnChanges
+mod SlotsLeft
 mod Linked
 mod Appended
 mod LinkedChanges
