@@ -1,0 +1,13 @@
+-- One slot more is none that the thread may not have.
+use Rattle.std.proofs.Common.{◌∙◌, Bool, [], sym}
+use Rattle.std.specs.List.{list_any}
+use Rattle.model.specs.Acceptance.NotedStates.{NotedSlot}
+use Rattle.typestate.specs.Strays.{is_stray_in}
+use Rattle.typestate.proofs.SlotsLeft.{one-fails}
+use Rattle.typestate.proofs.spaces.Space.lists_stray.Goals as goal
+
+pub loop-slot-preserved : goal.loop-slot-preserved
+loop-slot-preserved c =
+    let test : NotedSlot → Bool = is_stray_in c.args.self.now [] in
+    one-fails test c.args.listed.now c.loop-slot.slot-index c.slot-item.result (list_any test c.args.listed.now) c.loop-slot-test.true c.slot-item.is
+    (sym c.is_stray.ensures ∙ c.if-is_stray.false) c.loop-slot.invariant
