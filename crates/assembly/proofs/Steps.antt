@@ -3,8 +3,12 @@ use Rattle.std.specs.Prelude.{Result, MatchResult, Option, is_some}
 use Rattle.std.proofs.Common.{◌≡◌, ℕ, ◌<◌, true, List, length, Some, None, Ok, Err, refl, sym, ap, subst, ◌∙◌, true≢false}
 use Rattle.std.specs.Result.{IsErr, IsErrAnd}
 use Rattle.std.proofs.lemmas.Option.{same_Some}
+use Rattle.model.specs.declared.entries.UntypedEntry.{UntypedEntry}
 use Rattle.model.specs.Images.Image.{Thread}
+use Rattle.model.specs.Images.Listing.{Text}
 use Rattle.asm_line.specs.declared.lines.Line.{Line}
+use Rattle.asm_line.specs.declared.lines.Line.TheVariants as line
+use Rattle.asm_line.specs.declared.lines.ThreadLine.{ThreadLine}
 use Rattle.assembly.specs.declared.assembly.Memory.{Memory}
 use Rattle.assembly.specs.declared.faults.Fault.{Fault}
 use Rattle.assembly.specs.declared.faults.SourceFault.{SourceFault}
@@ -12,7 +16,7 @@ use Rattle.assembly.specs.declared.faults.Fault.TheVariants.{Memory as WantOfMem
 use Rattle.assembly.specs.Drafts.{Draft}
 use Rattle.assembly.specs.Labels.{FoundLabels}
 use Rattle.assembly.specs.Outcomes.{Gives}
-use Rattle.assembly.specs.Reading.{IsInPlace, IsThreadLine, labels_at, with_line, with_thread_line}
+use Rattle.assembly.specs.Reading.{IsDeclaration, IsInPlace, IsPlacement, IsThreadLine, labels_at, with_declaration, with_line, with_placement, with_thread_line}
 use Rattle.assembly.specs.Sections.{Declared}
 use Rattle.assembly.specs.Threads.{OpenDraft}
 
@@ -54,3 +58,32 @@ module _ (labels : List FoundLabels) (number : ℕ) (declared : Declared) (threa
 pub line-in-thread : (labels : List FoundLabels) (number : ℕ) (d : Draft) (o : OpenDraft) (said : Line) → is_some d.memory ≡ true → d.open_thread ≡ Some o
     → IsInPlace labels number d said → ThreadLineHere labels number d o said
 line-in-thread labels number d o said some e placed = here labels number d.declared d.threads said d.memory d.open_thread o some e placed
+
+-- ---- a line that stands in no thread
+
+-- a line that declares no name and begins no thread
+pub record IsOther (said : Line) : Type 0 where
+  pub untyped : (name : Text) (entry : UntypedEntry) → said ≡ line.Untyped name entry → ⊥
+  pub object : (name untyped : Text) (kind size : ℕ) → said ≡ line.Object name untyped kind size → ⊥
+  pub interrupt : (name : Text) (number : ℕ) (notification : Text) (badge : ℕ) → said ≡ line.Interrupt name number notification badge → ⊥
+  pub thread : (begun : ThreadLine) → said ≡ line.Thread begun → ⊥
+
+pub placed : (labels : List FoundLabels) (d : Draft) (said : Line) → IsOther said → IsDeclaration labels d said
+    → IsPlacement d said × (with_placement d said ≡ with_declaration labels d said)
+placed labels d line.Blank other h = absurd h
+placed labels d (line.Memory bits radix) other h = absurd h
+placed labels d (line.Untyped name entry) other h = absurd (other.untyped name entry refl)
+placed labels d (line.Object name untyped kind size) other h = absurd (other.object name untyped kind size refl)
+placed labels d (line.Interrupt name number notification badge) other h = absurd (other.interrupt name number notification badge refl)
+placed labels d (line.Capability cnode index source rights payload) other h = (h, refl)
+placed labels d (line.Table root address table) other h = (h, refl)
+placed labels d (line.Frame root address frame rights) other h = (h, refl)
+placed labels d (line.Content frame words) other h = (h, refl)
+placed labels d (line.Thread begun) other h = absurd (other.thread begun refl)
+placed labels d (line.Register entry) other h = absurd h
+placed labels d (line.Measure constant terms) other h = absurd h
+placed labels d (line.Range entry) other h = absurd h
+placed labels d (line.Slot cnode index word0 word1 parent) other h = absurd h
+placed labels d (line.Label name) other h = absurd h
+placed labels d (line.Code label code) other h = absurd h
+placed labels d line.End other h = absurd h
