@@ -1,11 +1,1 @@
 pub mod AcceptedBoots
-pub mod Calls
-pub mod FillLemmas
-pub mod Fitting
-pub mod Order
-pub mod PlaceLemmas
-pub mod PlaceSteps
-pub mod Rests
-pub mod Searches
-pub mod Started
-pub mod FarFrames

@@ -1,14 +1,8 @@
-//! Loading an image: a new machine, and the kernel calls that make of it the system that the image describes.
+//! Booting an accepted image. What loads an image, verified or not, is `bootstrap`'s.
 //! seL4 Reference Manual, "System Bootstrapping".
 #![tactic(auto)]
 
-mod boot_slots;
-mod entry_addresses;
-mod fills;
-mod loading;
-mod object_kinds;
-mod object_places;
 mod systems;
-mod untyped_places;
 
-pub use systems::{boot, boot_unverified};
+pub use bootstrap::boot_unverified;
+pub use systems::boot;

@@ -1,55 +1,17 @@
-//! Loading a whole image into a new machine, verified or not.
+//! Loading an accepted image into a new machine.
 
-ghost use Rattle.std.specs.Prelude.{◌≡◌, ◌+◌, ◌^◌, ◌≤◌, ◌⊎◌, IfOk, IfErr, OnOk, Ok, Err, map, true};
+ghost use Rattle.std.specs.Prelude.{◌≡◌, IfOk, OnOk, Ok};
 ghost use Rattle.boot_laws.specs.Standing.{StandApart};
 ghost use Rattle.kernel.specs.Setups.{state_in};
-ghost use Rattle.loader.specs.Filling.{ArePlaces};
-ghost use Rattle.loader.specs.Limits.{IsLimited};
-ghost use Rattle.loader.specs.Loading.{all_performed, called, performed, placed, progress_of};
-ghost use Rattle.model.specs.Kernel.Outcomes.{GivesState};
-ghost use Rattle.model.specs.Acceptance.Accepted.{IsWellFormed};
 ghost use Rattle.model.specs.Images.Boot.{booted};
-ghost use Rattle.model.specs.Images.BootCalls.{PutsControl, PutsUntyped, first_calls, last_calls, operations};
-ghost use Rattle.model.specs.Images.Described.{described, numbered};
-ghost use Rattle.model.specs.Images.Image.{whole_image};
-ghost use Rattle.model.specs.Images.Places.{control_slot};
-ghost use Rattle.model.specs.declared.boot_faults.BootFault.TheVariants.{OutOfMemory};
-ghost use Rattle.model.specs.Kernel.Setup.{put_untyped};
+ghost use Rattle.model.specs.Images.Described.{described};
 
-use crate::boot_slots::control_slot;
-use crate::loading::Loader;
-use crate::object_places::places_of;
-use crate::untyped_places::misplaced;
 use boot_laws::{objects_stand_inside_their_untypeds, well_formed_images_boot};
-use image_reading::ImageRef;
-use kernel::{Setup, System};
-use model::{BootFault, ImageHeader, UntypedEntry};
+use bootstrap::boot_unverified;
+use kernel::System;
+use model::BootFault;
 use std::alloc::{AllocError, Global};
 use verify::Accepted;
-
-/// Loads an image into a new machine by kernel calls alone. Nothing is left of a machine that could not be loaded.
-///
-/// seL4 Reference Manual, "System Bootstrapping"; the calls and their order are this project's own.
-pub fn boot_unverified(alloc: Global, image: &ImageRef<'_>) -> Result<System, BootFault>
-    ensures booted { IfOk result (λ system. booted image.now ≡ Ok (state_in system)) }
-    ensures fault { IfErr result (λ fault. (fault ≡ OutOfMemory) ⊎ (booted image.now ≡ Err fault)) }
-    // A well-formed image boots, if memory is not refused.
-    ensures formed { whole_image.fits image.now ≡ true → IsWellFormed image.now → IfErr result (λ fault. fault ≡ OutOfMemory) }
-{
-    let header = limited_header(image);
-    if let Some(number) = misplaced(image) {
-        return Err(BootFault::Outside(number));
-    }
-    let Ok(places) = places_of(alloc, image) else {
-        return Err(BootFault::OutOfMemory);
-    };
-    let Ok(setup) = Setup::new(alloc, header.memory_bits, header.boot_radix) else {
-        return Err(BootFault::OutOfMemory);
-    };
-    let mut loader = Loader { setup, calls: 0 };
-    loader.load(image, &places)?;
-    Ok(loader.setup.start())
-}
 
 /// Boots an accepted image into the state that it describes. Only memory can be wanting: no call fails, and nothing lies outside.
 ///
@@ -70,93 +32,5 @@ pub fn boot(alloc: Global, accepted: &Accepted<'_>) -> Result<System, AllocError
             BootFault::OutOfMemory => Err(AllocError),
             _ => unreachable!(),
         },
-    }
-}
-
-/// The header of an image. What is read keeps to its limits.
-fn limited_header(image: &ImageRef<'_>) -> ImageHeader
-    ensures value { result ≡ image.now.header }
-    ensures limits { IsLimited image.now }
-{
-    image.header()
-}
-
-impl Loader {
-    /// All that the loader does, in its order.
-    fn load(&mut self, image: &ImageRef<'_>, places: &[u64]) -> Result<(), BootFault>
-        requires limits { IsLimited image.now }
-        requires places { ArePlaces image.now image.now.header.objects places.now }
-        requires first { self.old.calls ≡ 0 }
-        ensures { GivesState (all_performed image.now.header.untypeds (progress_of self.old) (operations image.now)) result (progress_of self.new) }
-    {
-        self.put_untypeds(image)?;
-        self.put_control(image)?;
-        self.make_first_calls(image)?;
-        self.fill_contents(image, places)?;
-        self.fill_programs(image, places)?;
-        self.make_last_calls(image)
-    }
-
-    /// Puts the untyped memory into its boot slots.
-    fn put_untypeds(&mut self, image: &ImageRef<'_>) -> Result<(), BootFault>
-        requires limits { IsLimited image.now }
-        ensures outcome { GivesState (all_performed image.now.header.untypeds (progress_of self.old) (map (λ u. PutsUntyped u.0 u.1) (numbered image.now.untypeds))) result (progress_of self.new) }
-        ensures counted { self.new.calls ≡ self.old.calls }
-    {
-        for number in 0..image.header().untypeds {
-            let entry = image.untyped(number);
-            self.put_untyped(number, entry)?;
-        }
-        Ok(())
-    }
-
-    /// Puts untyped memory into its boot slot.
-    fn put_untyped(&mut self, number: u32, entry: UntypedEntry) -> Result<(), BootFault>
-        requires { entry.bits ≤ 24 }
-        ensures outcome { GivesState (placed number self.old.calls (put_untyped (state_in self.old.setup) number entry.offset entry.bits)) result (progress_of self.new) }
-        ensures counted { self.new.calls ≡ self.old.calls }
-    {
-        if self.setup.untyped(number, entry.offset, entry.bits as u8) {
-            Ok(())
-        } else {
-            Err(BootFault::Outside(number))
-        }
-    }
-
-    /// Puts interrupt control into its boot slot.
-    fn put_control(&mut self, image: &ImageRef<'_>) -> Result<(), BootFault>
-        requires limits { IsLimited image.now }
-        ensures outcome { GivesState (performed image.now.header.untypeds (progress_of self.old) (PutsControl (control_slot image.now))) result (progress_of self.new) }
-        ensures counted { self.new.calls ≡ self.old.calls }
-    {
-        if self.setup.control(control_slot(image)) {
-            Ok(())
-        } else {
-            Err(BootFault::Outside(image.header().untypeds))
-        }
-    }
-
-    /// The calls before frames are filled.
-    fn make_first_calls(&mut self, image: &ImageRef<'_>) -> Result<(), BootFault>
-        requires limits { IsLimited image.now }
-        requires room { self.old.calls ≡ 0 }
-        ensures outcome { GivesState (called (progress_of self.old) (first_calls image.now)) result (progress_of self.new) }
-        ensures counted { self.new.calls ≤ self.old.calls + 2 ^ 15 }
-    {
-        self.make_objects(image)?;
-        self.take_handlers(image)?;
-        self.put_capabilities(image)?;
-        self.map_tables(image)?;
-        self.map_frames(image)
-    }
-
-    /// The calls behind that.
-    fn make_last_calls(&mut self, image: &ImageRef<'_>) -> Result<(), BootFault>
-        requires limits { IsLimited image.now }
-        requires room { self.old.calls ≤ 2 ^ 16 }
-        ensures { GivesState (called (progress_of self.old) (last_calls image.now)) result (progress_of self.new) }
-    {
-        self.bind_interrupts(image)?;
-        self.start_threads(image)
     }
 }

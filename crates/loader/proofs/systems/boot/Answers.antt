@@ -1,7 +1,9 @@
 -- By the law that well-formed images boot.
-use Rattle.std.proofs.Common.{inl, inr}
+use Rattle.std.proofs.Common.{◌≡◌, true, subst, sym}
 use Rattle.kernel.specs.Setups.{state_in}
-use Rattle.loader.proofs.AcceptedBoots.{boots-into, never-fails}
+use Rattle.model.specs.Acceptance.Accepted.{IsWellFormed}
+use Rattle.model.specs.Images.Image.{Image, whole_image}
+use Rattle.loader.proofs.AcceptedBoots.{boots-into}
 use Rattle.loader.proofs.systems.boot.Goals as goal
 
 pub returns-in-Ok-clause-state : goal.returns-in-Ok-clause-state
@@ -17,7 +19,6 @@ returns-in-Ok-clause-inside c = let told = c.image.ensures in c.objects_stand_in
 pub unreachable-requires : goal.unreachable-requires
 unreachable-requires c =
     let told = c.image.ensures in
-    elim c.in-Err.ensures.fault [
-      | inl none ↦ c.in_default.not-OutOfMemory none
-      | inr fails ↦ never-fails c.image.result.now c.args.accepted.now told.value told.fits told.formed c.in-Err.fault fails
-    ]
+    let fits = subst (λ (i : Image). whole_image.fits i ≡ true) (sym told.value) told.fits in
+    let formed = subst (λ (i : Image). IsWellFormed i) (sym told.value) told.formed in
+    c.in_default.not-OutOfMemory (c.in-Err.ensures.formed fits formed)

@@ -1,0 +1,150 @@
+-- What fits the format keeps to its limits: counts are lengths, and what entries name is there.
+use Rattle.std.proofs.Common.{ℕ, zero, suc, ◌≡◌, ◌==◌, ◌+◌, ◌-◌, ◌<◌, ◌≤◌, ◌^◌, ◌&&◌, true, false, List, [], ◌∷◌, length, min, refl, ap, arith}
+use Rattle.std.specs.Int.{w32, w64}
+use Rattle.std.specs.Prelude.{nat_le, nat_lt}
+use Rattle.std.specs.List.{AllByRecursion}
+use Rattle.std.proofs.lemmas.Bool.{and_parts, ltb-true, leb-true}
+use Rattle.model.specs.declared.entries.ImageHeader.{ImageHeader}
+use Rattle.model.specs.declared.refusals.Refusal.TheVariants.{Magic, Version}
+use Rattle.model.specs.Images.Format.{Format, both, field, many_fit, number, number_or}
+use Rattle.model.specs.Images.Image.{Image, ImageContent, Thread, anything, below, between, capability_format, content_format, frame_format, header_format, image_with, interrupt_format, magic, object_format, pair_key, register_format, registers_format, sections_format, size_fits, slots_format, table_format, thread_format, thread_header_format, untyped_format, whole_image, words_format}
+use Rattle.format_laws.specs.Fitting.{HeaderFits}
+use Rattle.format_laws.proofs.Laws.{field-between, field-parts, is-fitting, many-length}
+use Rattle.bootstrap.specs.Limits.{ContentFits, IsLimited, IsSmall, ThreadFits}
+
+-- ---- lists that are gone over
+
+list-fits : {A : Type 0} (Holds : A → Type 0) (format : ℕ → Format A) (next : A → ℕ) (each : (least : ℕ) (x : A) → (format least).fits x ≡ true → Holds x)
+    (least count : ℕ) (xs : List A) → many_fit format next least count xs ≡ true → AllByRecursion Holds xs × (length xs ≡ count)
+unfolding many_fit
+list-fits Holds format next each least zero [] fits = (tt, refl)
+list-fits Holds format next each least zero (x ∷ xs) fits = absurd (let clash : false ≡ true = fits in cc)
+list-fits Holds format next each least (suc n) [] fits = absurd (let clash : false ≡ true = fits in cc)
+list-fits Holds format next each least (suc n) (x ∷ xs) fits =
+    let parts = and_parts ((format least).fits x) (many_fit format next (next x) n xs) fits in
+    let rest = list-fits Holds format next each (next x) n xs parts.1 in
+    ((each least x parts.0, rest.0), ap suc rest.1)
+
+below-of : (limit n : ℕ) → (field (below limit)).fits n ≡ true → n < limit
+below-of limit n fits = ltb-true n limit (field-parts (below limit) n fits).1
+
+-- ---- the header
+
+-- the counts of contents and threads
+last-counts : (h : ImageHeader) → header_format.fits h ≡ true → (h.contents ≤ 4096) × (h.threads ≤ 64)
+unfolding header_format
+last-counts h is =
+    let first = and_parts ((number_or (λ _. Magic) w32 (λ n. n == magic)).fits magic) _ is in
+    let second = and_parts ((number_or (λ _. Version) w32 (λ n. n == 1)).fits h.version) _ first.1 in
+    let a = and_parts ((field (between 16 24)).fits h.memory_bits) _ second.1 in
+    let b = and_parts ((field (between 1 (min 14 (h.memory_bits - 5)))).fits h.boot_radix) _ a.1 in
+    let c = and_parts ((field (between 1 64)).fits h.untypeds) _ b.1 in
+    let d = and_parts ((field (between 0 4096)).fits h.objects) _ c.1 in
+    let e = and_parts ((field (between 0 16384)).fits h.capabilities) _ d.1 in
+    let f = and_parts ((field (between 0 64)).fits h.interrupts) _ e.1 in
+    let g = and_parts ((field (between 0 1024)).fits h.tables) _ f.1 in
+    let k = and_parts ((field (between 0 4096)).fits h.frames) ((both {B = ℕ} (field (between 0 4096)) (λ _. field (between 1 64))).fits (h.contents, h.threads)) g.1 in
+    let m = and_parts ((field (between 0 4096)).fits h.contents) ((field (between 1 64)).fits h.threads) k.1 in
+    ((field-between 0 4096 h.contents m.0).1, (field-between 1 64 h.threads m.1).1)
+
+header-small : (h : ImageHeader) → header_format.fits h ≡ true → HeaderFits h → IsSmall h
+header-small h is fits =
+    let last = last-counts h is in
+    record {
+      least_bits = fits.memory_low;
+      most_bits = fits.memory_high;
+      least_radix = fits.radix_low;
+      most_radix = fits.radix_high;
+      room = fits.radix_memory;
+      untypeds = fits.untypeds;
+      objects = fits.objects;
+      capabilities = fits.capabilities;
+      interrupts = fits.interrupts;
+      tables = fits.tables;
+      frames = fits.frames;
+      contents = last.0;
+      threads = last.1;
+    }
+
+-- ---- entries
+
+size-most : (kind size : ℕ) → size_fits kind size ≡ true → size ≤ 24
+size-most kind size is =
+    elim (nat_le size 24) as (λ b. nat_le size 24 ≡ b → size ≤ 24) [
+      | true ↦ λ small. leb-true size 24 small
+      | false ↦ λ large. grind arith
+    ] refl
+
+content-fits : (h : ImageHeader) (least : ℕ) (c : ImageContent) → (content_format h.objects least).fits c ≡ true → ContentFits h c
+unfolding content_format
+content-fits h least c is =
+    let a = and_parts _ _ is in
+    let frame = and_parts _ _ (field-parts (λ frame. nat_le least frame && nat_lt frame h.objects) c.header.frame a.0).1 in
+    record { frame = ltb-true c.header.frame h.objects frame.1 }
+
+thread-header-fits : (h : ImageHeader) (t : Thread) → (thread_header_format h.objects).fits t.header ≡ true → length t.registers ≡ t.header.registers
+    → length t.words ≡ t.header.words → ThreadFits h t
+unfolding thread_header_format
+thread-header-fits h t is registers words =
+    let a = and_parts _ _ is in
+    let b = and_parts _ _ a.1 in
+    let c = and_parts _ _ b.1 in
+    let d = and_parts _ _ c.1 in
+    let e = and_parts ((field (between 0 255)).fits t.header.priority) _ d.1 in
+    let o = and_parts ((number w64 (between 1 (2 ^ 62))).fits t.header.budget) _ e.1 in
+    let f = and_parts ((field anything).fits t.header.fault) _ o.1 in
+    let g = and_parts ((field anything).fits t.header.entry) _ f.1 in
+    let k = and_parts ((field anything).fits t.header.base) _ g.1 in
+    let m = and_parts _ _ k.1 in
+    let n = and_parts ((field (between 1 65536)).fits t.header.words) ((field (between 0 t.header.words)).fits t.header.records) m.1 in
+    let few = field-between 0 31 t.header.registers m.0 in
+    record {
+      tcb = below-of h.objects t.header.tcb a.0;
+      cnode = below-of h.objects t.header.cnode b.0;
+      root = below-of h.objects t.header.root d.0;
+      registers = omega (arith, few, registers);
+      words = words;
+      most_words = (field-between 1 65536 t.header.words n.0).1;
+    }
+
+thread-fits : (h : ImageHeader) (least : ℕ) (t : Thread) → (thread_format (slots_format h.objects) h.objects).fits t ≡ true → ThreadFits h t
+unfolding thread_format registers_format words_format
+thread-fits h least t is =
+    let a = and_parts _ _ is in
+    let b = and_parts _ _ a.1 in
+    let c = and_parts _ _ b.1 in
+    let registers = many-length register_format (λ e. e.register + 1) 1 t.header.registers t.registers b.0 in
+    let words = many-length (λ _. field anything) (λ _. 0) 0 t.header.words t.words c.0 in
+    thread-header-fits h t a.0 registers words
+
+-- ---- the whole
+
+pub limited : (image : Image) → whole_image.fits image ≡ true → IsLimited image
+unfolding image_with sections_format
+limited image is =
+    let h = image.header in
+    let whole = and_parts _ _ is in
+    let a = and_parts _ _ whole.0 in
+    let b = and_parts (many_fit (λ _. untyped_format) (λ _. 0) 0 h.untypeds image.untypeds) _ a.1 in
+    let c = and_parts (many_fit (object_format h.untypeds) (λ o. o.untyped) 0 h.objects image.objects) _ b.1 in
+    let d = and_parts (many_fit (capability_format h.objects h.interrupts) (λ x. pair_key x.cnode x.index + 1) 0 h.capabilities image.capabilities) _ c.1 in
+    let e = and_parts (many_fit (interrupt_format h.objects) (λ x. x.line + 1) 0 h.interrupts image.interrupts) _ d.1 in
+    let f = and_parts (many_fit (table_format h.objects) (λ x. pair_key x.root x.address + 1) 0 h.tables image.tables) _ e.1 in
+    let g = and_parts (many_fit (frame_format h.objects) (λ x. pair_key x.root x.address + 1) 0 h.frames image.frames) _ f.1 in
+    let contents = list-fits (ContentFits h) (content_format h.objects) (λ c. c.header.frame + 1) (content-fits h) 0 h.contents image.contents g.1 in
+    let threads = list-fits (ThreadFits h) (λ _. thread_format (slots_format h.objects) h.objects) (λ _. 0) (thread-fits h) 0 h.threads image.threads whole.1 in
+    let fitting = is-fitting image is in
+    record {
+      header = header-small h a.0 fitting.header;
+      untypeds = record { count = fitting.untypeds; entries = λ k u at. record { bits = (fitting.untyped k u at).high } };
+      objects = record { count = fitting.objects; entries = λ k o at. let fits = fitting.object k o at in record { untyped = fits.untyped; size = size-most o.kind o.size fits.size } };
+      capabilities = record { count = fitting.capabilities; entries = λ k c at. let fits = fitting.capability k c at in record { cnode = fits.cnode; source = fits.source } };
+      interrupts = record { count = fitting.interrupts; entries = λ k i at. record { notification = (fitting.interrupt k i at).notification } };
+      tables = record { count = fitting.tables; entries = λ k t at. let fits = fitting.table k t at in record { root = fits.root; table = fits.table } };
+      frames = record { count = fitting.frames; entries = λ k f at. let fits = fitting.frame k f at in record { root = fits.root; frame = fits.frame; address = fits.address } };
+      pages_rise = fitting.pages_rise;
+      contents = contents.0;
+      content_count = contents.1;
+      threads = threads.0;
+      thread_count = threads.1;
+    }

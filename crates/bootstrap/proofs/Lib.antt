@@ -1,0 +1,11 @@
+pub mod Calls
+pub mod FillLemmas
+pub mod Fitting
+pub mod OnlyMemory
+pub mod Order
+pub mod PlaceLemmas
+pub mod PlaceSteps
+pub mod Rests
+pub mod Searches
+pub mod Started
+pub mod FarFrames

@@ -1,0 +1,11 @@
+-- The calls that are left leave what all of the section would.
+use Rattle.std.proofs.Common.{◌≡◌, ◌+◌, ◌*◌, ◌≤◌}
+use Rattle.bootstrap.specs.Loading.{called, progress_of}
+use Rattle.bootstrap.proofs.Rests.{frames_from}
+use Rattle.bootstrap.proofs.loading.Loader.map_frames.Given as goal
+
+abbrev pub invariant-loop-number : goal.invariant-loop-number
+invariant-loop-number l = record {
+  same : called (progress_of l.fn.self) (frames_from l.image 0) ≡ called (progress_of l.self) (frames_from l.image l.number);
+  room : l.self.calls ≤ l.fn.self.calls + 2 * l.number;
+}

@@ -1,0 +1,14 @@
+//! Loading an image: a new machine, and the kernel calls that make of it the system that the image describes.
+//! seL4 Reference Manual, "System Bootstrapping".
+#![tactic(auto)]
+
+mod boot_slots;
+mod entry_addresses;
+mod fills;
+mod loading;
+mod object_kinds;
+mod object_places;
+mod systems;
+mod untyped_places;
+
+pub use systems::boot_unverified;

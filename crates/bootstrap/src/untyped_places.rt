@@ -1,0 +1,91 @@
+//! Where untyped memory may stand, and whether boot slots suffice: what is looked at before the first call.
+
+ghost use Rattle.std.specs.Prelude.{◌≡◌, ◌+◌, ◌^◌, ◌<◌, ◌≤◌, Some, None, if◌then◌else◌};
+ghost use Rattle.bootstrap.specs.Limits.{IsLimited, IsSmall};
+ghost use Rattle.model.specs.Acceptance.WellFormed.{end_before, overlaps, too_few_boot_slots, untyped_end};
+ghost use Rattle.model.specs.Images.Boot.{misplaced};
+ghost use Rattle.model.specs.Kernel.State.{boot_area_end};
+
+use crate::boot_slots::boot_slots;
+use crate::object_kinds::power;
+use image_reading::ImageRef;
+use model::{ImageHeader, UntypedEntry};
+
+/// The first untyped that is not where untyped memory may stand, or the number of untypeds where boot slots do not suffice.
+pub(crate) fn misplaced(image: &ImageRef<'_>) -> Option<u32>
+    requires { IsLimited image.now }
+    ensures { result ≡ misplaced image.now }
+{
+    for number in 0..image.header().untypeds {
+        let entry = image.untyped(number);
+        if overlaps(image, number, entry) {
+            return Some(number);
+        }
+    }
+    shortage(image)
+}
+
+/// The number of untypeds, where boot slots do not suffice.
+fn shortage(image: &ImageRef<'_>) -> Option<u32>
+    requires { IsLimited image.now }
+    ensures { result ≡ (if too_few_boot_slots image.now then Some image.now.header.untypeds else None) }
+{
+    if has_few_boot_slots(image) {
+        Some(image.header().untypeds)
+    } else {
+        None
+    }
+}
+
+/// Whether boot slots do not suffice.
+fn has_few_boot_slots(image: &ImageRef<'_>) -> bool
+    requires { IsLimited image.now }
+    ensures { result ≡ too_few_boot_slots image.now }
+{
+    power(image.header().boot_radix) < u64::from(boot_slots(image))
+}
+
+/// Whether an untyped is misaligned, passes the end of memory, or overlaps what stands before it.
+#[tactic(auto, unfolding(model::specs::Acceptance::WellFormed::overlaps))]
+fn overlaps(image: &ImageRef<'_>, number: u32, entry: UntypedEntry) -> bool
+    requires limits { IsLimited image.now }
+    requires number { number < image.now.header.untypeds }
+    requires bits { entry.bits ≤ 24 }
+    ensures { result ≡ overlaps image.now (number, entry) }
+{
+    let header = image.header();
+    let offset = u64::from(entry.offset);
+    offset % power(entry.bits) != 0
+        || power(header.memory_bits) < untyped_end(entry)
+        || offset < boot_area_end(&header)
+        || offset < end_before(image, number)
+}
+
+/// Where an untyped ends.
+fn untyped_end(entry: UntypedEntry) -> u64
+    requires { entry.bits ≤ 24 }
+    ensures { result ≡ untyped_end entry }
+{
+    u64::from(entry.offset) + power(entry.bits)
+}
+
+/// Where the boot area ends.
+fn boot_area_end(header: &ImageHeader) -> u64
+    requires { IsSmall header.now }
+    ensures { result ≡ boot_area_end header.now.boot_radix }
+{
+    16 * (power(header.boot_radix) + 64)
+}
+
+/// Where the untyped before this one ends, or the boot area.
+fn end_before(image: &ImageRef<'_>, number: u32) -> u64
+    requires limits { IsLimited image.now }
+    requires number { number < image.now.header.untypeds }
+    ensures { result ≡ end_before image.now number }
+{
+    if number == 0 {
+        boot_area_end(&image.header())
+    } else {
+        untyped_end(image.untyped(number - 1))
+    }
+}
