@@ -1,4 +1,5 @@
 pub mod Calls
+pub mod CapabilityCalls
 pub mod FillLemmas
 pub mod Fitting
 pub mod OnlyMemory

@@ -12,9 +12,21 @@ use Rattle.model.specs.Images.Image.{Image}
 use Rattle.model.specs.Images.Places.{bits_of, object_at, offset_of, untyped_at, used_by}
 use Rattle.bootstrap.proofs.PlaceLemmas.{used-next}
 use Rattle.bootstrap.specs.Filling.{ArePlaces}
+use Rattle.bootstrap.specs.Limits.{IsLimited}
 
 one-times : (a p : ℕ) → a + 1 * p ≡ a + p
 one-times a p = omega arith
+
+pub untyped-near : (image : Image) (n : ℕ) (o : ObjectEntry) → IsLimited image → slice_get image.objects n ≡ Some o → o.untyped < 64
+untyped-near image n o limited is =
+    let inside = (limited.objects.entries n o is).untyped in
+    let few = limited.header.untypeds in
+    omega (arith, inside, few)
+
+-- what is used lies far below 2 ^ 64
+pub end-small : (first used size n end objects : ℕ) → n < end → end ≡ objects → objects ≤ 4096 → used ≤ 2147483648 * n → first ≤ used + size → size ≤ 2 ^ 30
+    → first + size ≤ 2 ^ 44
+end-small first used size n end objects less is few low bounded most = omega (arith, less, is, few, low, bounded, most)
 
 pub places-none : (image : Image) → ArePlaces image 0 []
 places-none image = record {

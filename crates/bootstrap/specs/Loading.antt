@@ -1,6 +1,6 @@
 -- How far the loader has come, and what comes of the calls and other operations that it makes, some of them at a time.
 -- seL4 Reference Manual, "System Bootstrapping".
-use Rattle.std.specs.Prelude.{ℕ, ◌≡◌, ◌+◌, Option, Some, None, option_and_then, Result, Ok, Err, List, [], ◌∷◌, ◌++◌, ◌*◌, ◌%◌, ◌^◌}
+use Rattle.std.specs.Prelude.{ℕ, ◌+◌, Option, Some, None, option_and_then, Result, Ok, Err, List, [], ◌∷◌, ◌++◌, ◌*◌, ◌%◌, ◌^◌}
 use Rattle.kernel.specs.Setups.{state_in}
 use Rattle.bootstrap.specs.declared.loading.Loader.{Loader}
 use Rattle.model.specs.declared.boot_faults.BootFault.{BootFault}

@@ -1,19 +1,44 @@
 -- By what is used so far.
-use Rattle.std.proofs.Common.{◌≡◌, ◌∙◌, ℕ, ◌+◌, ◌^◌, ◌<◌, [], ◌∷◌, ◌++◌, replicate, sym, ap, subst, arith}
+use Rattle.std.proofs.Common.{◌≡◌, ◌∙◌, ℕ, ◌+◌, ◌^◌, [], ◌∷◌, ◌++◌, replicate, sym, ap, subst, arith}
 use Rattle.std.specs.Prelude.{slice_index}
 use Rattle.std.proofs.lemmas.List.{get_or-replicate, length-replicate, length-set}
 use Rattle.bootstrap.proofs.PlaceLemmas.{used-none}
-use Rattle.bootstrap.proofs.PlaceSteps.{placed-after, places-none, used-after, used-low}
+use Rattle.bootstrap.proofs.PlaceSteps.{end-small, placed-after, places-none, untyped-near, used-after, used-low}
 use Rattle.bootstrap.specs.Filling.{ArePlaces}
 use Rattle.bootstrap.proofs.object_places.places_of.Goals as goal
 
 pub align-first-requires-clause-place : goal.align-first-requires-clause-place
 align-first-requires-clause-place c =
-    let fits = c.requires.objects.entries c.loop-number.number c.object-object.result c.object-object.ensures in
-    let untyped = fits.untyped in
-    let few = c.requires.header.untypeds in
+    let low = c.loop-number.invariant.low c.object-object.result.untyped (untyped-near c.args.image.now c.loop-number.number c.object-object.result c.requires c.object-object.ensures) in
     let objects = c.requires.header.objects in
-    omega (arith, c.loop-number.invariant.low c.object-object.result.untyped (omega (arith, untyped, few)), objects, c.loop-number-test.true, ap (λ h. h.objects) c.header-number-end.ensures.value)
+    omega (arith, low, objects, c.loop-number-test.true, ap (λ h. h.objects) c.header-number-end.ensures.value)
+
+pub offset_bounds-used-untyped : goal.offset_bounds-used-untyped
+offset_bounds-used-untyped c =
+    let near = untyped-near c.args.image.now c.loop-number.number c.object-object.result c.requires c.object-object.ensures in
+    omega (arith, near)
+
+pub bounds-used-untyped : goal.bounds-used-untyped
+bounds-used-untyped c = untyped-near c.args.image.now c.loop-number.number c.object-object.result c.requires c.object-object.ensures
+
+pub untyped-requires : goal.untyped-requires
+untyped-requires c = (c.requires.objects.entries c.loop-number.number c.object-object.result c.object-object.ensures).untyped
+
+pub overflow_add-from : goal.overflow_add-from
+overflow_add-from c =
+    let low = c.loop-number.invariant.low c.object-object.result.untyped (untyped-near c.args.image.now c.loop-number.number c.object-object.result c.requires c.object-object.ensures) in
+    let end = end-small c.align-first.result _ c.power-size.result c.loop-number.number _ _ c.loop-number-test.true (ap (λ h. h.objects) c.header-number-end.ensures.value) c.requires.header.objects low c.align-first.ensures.bounded c.power-size.ensures.most in
+    let wide = c.untyped.type_inv in
+    omega (arith, end, c.from.ensures, wide)
+
+pub overflow_add-used : goal.overflow_add-used
+overflow_add-used c =
+    let low = c.loop-number.invariant.low c.object-object.result.untyped (untyped-near c.args.image.now c.loop-number.number c.object-object.result c.requires c.object-object.ensures) in
+    let end = end-small c.align-first.result _ c.power-size.result c.loop-number.number _ _ c.loop-number-test.true (ap (λ h. h.objects) c.header-number-end.ensures.value) c.requires.header.objects low c.align-first.ensures.bounded c.power-size.ensures.most in
+    omega (arith, end)
+
+pub bounds-used-untyped-in-loop-number : goal.bounds-used-untyped-in-loop-number
+bounds-used-untyped-in-loop-number c = untyped-near c.args.image.now c.loop-number.number c.object-object.result c.requires c.object-object.ensures
 
 pub loop-number-init : goal.loop-number-init
 loop-number-init c = record {
@@ -29,10 +54,7 @@ loop-number-preserved c =
     let n = c.loop-number.number in
     let o = c.object-object.result in
     let used = c.loop-number.used in
-    let fits = c.requires.objects.entries n o c.object-object.ensures in
-    let few = c.requires.header.untypeds in
-    let inside = fits.untyped in
-    let near : o.untyped < 64 = omega (arith, inside, few) in
+    let near = untyped-near image n o c.requires c.object-object.ensures in
     let sized = c.power-size.ensures.value ∙ ap (λ (b : ℕ). 2 ^ b) c.bits_of.ensures.value in
     let many = c.loop-number.invariant.size in
     let before = c.loop-number.invariant.used in
