@@ -1,7 +1,18 @@
 //! Commands by their words.
 
-use clap::{Arg, ArgAction, Command};
+use clap::error::ErrorKind;
+use clap::{Arg, ArgAction, ArgMatches, Command};
 use std::alloc::{AllocError, Global};
+use std::convert::AsStr;
+
+/// Why the words are no request.
+#[derive(Clone, Copy, Debug, PartialEq, Eq)]
+pub enum WordsFault {
+    /// They are not as the usage says, or ask for help.
+    Usage,
+    /// Memory was refused.
+    OutOfMemory,
+}
 
 /// A command: its name, and what stands behind it: names of files, and words with two hyphens, which may be left out.
 pub(crate) struct Form<'a> {
@@ -9,8 +20,26 @@ pub(crate) struct Form<'a> {
     pub(crate) words: &'a [&'a str],
 }
 
+/// What the words behind a program's name say, if it has these commands.
+pub(crate) fn matches<'a, S: AsStr>(
+    alloc: Global,
+    name: &'a str,
+    forms: &'a [Form<'a>],
+    words: &'a [S],
+) -> Result<ArgMatches<'a>, WordsFault> {
+    let program = match program(alloc, name, forms) {
+        Ok(program) => program,
+        Err(_) => return Err(WordsFault::OutOfMemory),
+    };
+    match program.try_get_matches_from(words) {
+        Ok(matches) => Ok(matches),
+        Err(error) if error.kind() == ErrorKind::OutOfMemory => Err(WordsFault::OutOfMemory),
+        Err(_) => Err(WordsFault::Usage),
+    }
+}
+
 /// A program of these commands.
-pub(crate) fn program<'a>(
+fn program<'a>(
     alloc: Global,
     name: &'a str,
     forms: &'a [Form<'a>],

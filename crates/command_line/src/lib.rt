@@ -5,5 +5,6 @@ mod commands;
 mod requests;
 mod tool_requests;
 
-pub use requests::{Request, WordsFault, parse};
+pub use commands::WordsFault;
+pub use requests::{Request, parse};
 pub use tool_requests::{ToolRequest, parse_words};

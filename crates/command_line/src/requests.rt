@@ -1,8 +1,7 @@
 //! What the program is asked to do.
 
-use crate::commands::{Form, program};
+use crate::commands::{Form, WordsFault, matches};
 use clap::ArgMatches;
-use clap::error::ErrorKind;
 use std::alloc::Global;
 use std::convert::AsStr;
 
@@ -44,26 +43,10 @@ pub enum Request<'a> {
     },
 }
 
-/// Why the words are no request.
-#[derive(Clone, Copy, Debug, PartialEq, Eq)]
-pub enum WordsFault {
-    /// They are not as the usage says, or ask for help.
-    Usage,
-    /// Memory was refused.
-    OutOfMemory,
-}
-
 /// The request that the words behind the program's name make.
 pub fn parse<'a, S: AsStr>(alloc: Global, words: &'a [S]) -> Result<Request<'a>, WordsFault> {
-    let program = match program(alloc, "microsys", &COMMANDS) {
-        Ok(program) => program,
-        Err(_) => return Err(WordsFault::OutOfMemory),
-    };
-    match program.try_get_matches_from(words) {
-        Ok(matches) => requested(&matches).ok_or(WordsFault::Usage),
-        Err(error) if error.kind() == ErrorKind::OutOfMemory => Err(WordsFault::OutOfMemory),
-        Err(_) => Err(WordsFault::Usage),
-    }
+    let matches = matches(alloc, "microsys", &COMMANDS, words)?;
+    requested(&matches).ok_or(WordsFault::Usage)
 }
 
 /// The request of words that were taken.

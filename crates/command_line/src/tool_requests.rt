@@ -1,9 +1,7 @@
 //! What the program for makers is asked to do.
 
-use crate::commands::{Form, program};
-use crate::requests::WordsFault;
+use crate::commands::{Form, WordsFault, matches};
 use clap::ArgMatches;
-use clap::error::ErrorKind;
 use std::alloc::Global;
 use std::convert::AsStr;
 
@@ -55,15 +53,8 @@ pub fn parse_words<'a, S: AsStr>(
     alloc: Global,
     words: &'a [S],
 ) -> Result<ToolRequest<'a>, WordsFault> {
-    let program = match program(alloc, "microsys_tool", &COMMANDS) {
-        Ok(program) => program,
-        Err(_) => return Err(WordsFault::OutOfMemory),
-    };
-    match program.try_get_matches_from(words) {
-        Ok(matches) => requested(&matches).ok_or(WordsFault::Usage),
-        Err(error) if error.kind() == ErrorKind::OutOfMemory => Err(WordsFault::OutOfMemory),
-        Err(_) => Err(WordsFault::Usage),
-    }
+    let matches = matches(alloc, "microsys_tool", &COMMANDS, words)?;
+    requested(&matches).ok_or(WordsFault::Usage)
 }
 
 /// The request of words that were taken.

@@ -2,7 +2,7 @@
 
 ghost use Rattle.std.specs.Prelude.{ℕ, ◌≡◌, ◌≢◌};
 ghost use Rattle.assembly.specs.declared.faults.SourceFault.{SourceFault};
-ghost use Rattle.command_line.specs.declared.requests.WordsFault.{WordsFault};
+ghost use Rattle.command_line.specs.declared.commands.WordsFault.{WordsFault};
 ghost use Rattle.runner.specs.declared.commands.Failure.{Failure};
 ghost use Rattle.sinks.specs.declared.event_lists.EventsFault.{EventsFault};
 ghost use Rattle.runner.specs.declared.running.RunFault.{RunFault};
