@@ -2,6 +2,9 @@
 """Builds the repository's libraries side by side: what stands above a library loads its statements alone, as in the gate. The gate
 also looks for contracts that no call can meet, which takes a twentieth more and proves nothing.
 
+A library that is built by several processes at once takes up to half as much time of processors again. So each has one processor,
+and only where fewer libraries than processors are under way, the first and the last ones, each has all.
+
   tools/checks/libraries.py NAME ..     at the top of the repository: these crates and all below them (none named: all)
   tools/checks/libraries.py rt WORD ..  in a crate's folder: the toolchain's command over libraries that were built so
 
@@ -18,6 +21,8 @@ from concurrent.futures import FIRST_COMPLETED, ThreadPoolExecutor, wait
 
 KIT = os.path.dirname(os.path.dirname(os.path.realpath(shutil.which("rt"))))
 LOGS = "/tmp/libraries"
+# A check makes and removes some thousand small files, for which a file system on a disk takes a tenth of the processor's time.
+IN_MEMORY, ROOM = "/dev/shm", 2 << 30
 sys.dont_write_bytecode = True
 
 
@@ -69,6 +74,12 @@ RT.rtlib.Crate.stamp = sum_of
 RT.rtlib.Crate.build_rlib = build
 
 
+def keep_files_in_memory():
+    """Has checks make their temporary files in memory, where there is such a place with room and no other is asked for."""
+    if "TMPDIR" not in os.environ and os.access(IN_MEMORY, os.W_OK) and shutil.disk_usage(IN_MEMORY).free > ROOM:
+        os.environ["TMPDIR"] = IN_MEMORY
+
+
 def build_logged(crate, jobs):
     began = time.time()
     with open(f"{LOGS}/{crate.name}.log", "w", encoding="utf-8") as crate.out:
@@ -93,12 +104,12 @@ def build_all(names):
     with ThreadPoolExecutor(lanes) as pool:
         while left or running:
             ready = sorted((it for it in left if built.issuperset(below.name for below in it.below())), key=lambda it: -behind[it.name])
+            jobs = lanes if len(ready) + len(running) < lanes else 1
             for crate in ready[: lanes - len(running)]:
                 left.remove(crate)
-                # (each may use all processors: else the longest chain waits for a large crate that has one of them)
                 is_last = any(behind[name] > behind[crate.name] for name in running.values())
                 NICENESS[crate.name] = 10 if is_last else 0
-                running[pool.submit(build_logged, crate, lanes)] = crate.name
+                running[pool.submit(build_logged, crate, jobs)] = crate.name
             if not running:
                 break
             for done in wait(running, return_when=FIRST_COMPLETED).done:
@@ -109,4 +120,5 @@ def build_all(names):
 
 
 if __name__ == "__main__":
+    keep_files_in_memory()
     sys.exit(RT.main(sys.argv[2:]) if sys.argv[1:2] == ["rt"] else build_all(sys.argv[1:]))
