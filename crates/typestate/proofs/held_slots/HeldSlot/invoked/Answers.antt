@@ -1,13 +1,15 @@
 -- By the kind of the call.
-use Rattle.std.proofs.Common.{◌≡◌, ◌∙◌, false, Option, sym, ap, subst}
+use Rattle.std.proofs.Common.{◌≡◌, ◌∙◌, Bool, false, Option, Result, List, sym, ap, subst}
 use Rattle.std.specs.Option.{option_map_or}
 use Rattle.model.specs.declared.capabilities.Cap.TheVariants.{Empty, Untyped}
+use Rattle.model.specs.declared.refusals.Refusal.{Refusal}
 use Rattle.model.specs.Acceptance.NotedStates.{NotedSlot, is_foreign}
 use Rattle.model.specs.Acceptance.ThreadRules.{reached}
 use Rattle.model.specs.Capabilities.CapabilityWords.{IsCapability}
 use Rattle.typestate.specs.CNodeCalls.{cnode_after}
 use Rattle.typestate.specs.Differences.{slots_of}
-use Rattle.typestate.specs.Invocations.{IsCallOn, held_after}
+use Rattle.typestate.specs.Invocations.{IsCallOn, held_after, made_or_refused}
+use Rattle.typestate.specs.SlotChanges.{left_or_refused}
 use Rattle.typestate.specs.Spaces.{is_inside}
 use Rattle.typestate.proofs.CallsOn.{cnode-anywhere, done-as, no-other-call, pool-is}
 use Rattle.typestate.proofs.GivenFacts.{decides-test}
@@ -51,7 +53,9 @@ returns-in-OnCNode-clause-made c =
     let image = c.args.self.now.own.space.image.now in
     let t = c.args.self.now.own.space.thread.now in
     let slots = slots_of c.args.self.now.own.slots in
-    done-as c.note_left.result _ _ (λ done noted.
+    let made : List NotedSlot = c.note_left.new.made.items in
+    let leaves : Result (List NotedSlot) Refusal → Result Bool Refusal → Type 0 = λ left done. left ≡ made_or_refused slots made done in
+    done-as c.note_left.result (leaves (left_or_refused slots c.cnode_call-left.result)) (leaves (held_after image t c.args.at slots c.args.self.now.held.now c.args.call)) (λ done noted.
     ap (held_after image t c.args.at slots c.args.self.now.held.now) c.in-OnCNode.is ∙ cnode-anywhere image t c.args.at slots c.args.self.now.held.now c.in-OnCNode.call
     ∙ ap (λ (h : NotedSlot). cnode_after image t c.args.at slots h.capability c.in-OnCNode.call) (sym c.held.view_is)
     ∙ c.cnode_call-left.ensures ∙ noted) c.note_left.ensures.made
@@ -61,5 +65,7 @@ returns-in-OnHandler-clause-made c =
     let image = c.args.self.now.own.space.image.now in
     let t = c.args.self.now.own.space.thread.now in
     let slots = slots_of c.args.self.now.own.slots in
-    done-as c.note_left-in-OnHandler.result _ _ (λ done noted.
+    let made : List NotedSlot = c.note_left-in-OnHandler.new.made.items in
+    let leaves : Result (List NotedSlot) Refusal → Result Bool Refusal → Type 0 = λ left done. left ≡ made_or_refused slots made done in
+    done-as c.note_left-in-OnHandler.result (leaves (left_or_refused slots c.handler_call-left.result)) (leaves (held_after image t c.args.at slots c.args.self.now.held.now c.args.call)) (λ done noted.
     ap (held_after image t c.args.at slots c.args.self.now.held.now) c.in-OnHandler.is ∙ c.handler_call-left.ensures c.args.self.now.held.now ∙ noted) c.note_left-in-OnHandler.ensures.made
