@@ -28,6 +28,26 @@ multiple-thread kinds.Frame bits offset is may = absurd cc
 multiple-thread kinds.PageTable bits offset is may = absurd cc
 multiple-thread kinds.RootTable bits offset is may = absurd cc
 
+entry-place : (kind : Kind) (bits offset : ℕ) → MayStand bits kind offset → (offset % 16 ≡ 0) × (offset < 2 ^ bits)
+entry-place kinds.Thread bits offset may = let whole = may.0 in (omega (arith, whole), may.1)
+entry-place kinds.Endpoint bits offset may = may
+entry-place kinds.Notification bits offset may = may
+entry-place (kinds.CNode radix) bits offset may = (may.0, may.1)
+entry-place kinds.Frame bits offset may = may
+entry-place kinds.PageTable bits offset may = may
+entry-place kinds.RootTable bits offset may = may
+
+-- the tables have an entry for what may stand there
+pub has-entry : (o : Tables) (slots : Slots) (memory : List ℕ) (kind : Kind) (offset : ℕ) → AreTables o → MayStand (state_of o slots memory).memory_bits kind offset
+    → (offset % 16 ≡ 0) × (offset / 16 < length o.entries)
+unfolding state_of
+has-entry o slots memory kind offset are may =
+    let place = entry-place kind _ offset may in
+    let below = place.1 in
+    let places = are.places in
+    let bits = ap (λ (n : ℕ). 2 ^ n) (tellings.own-bits (contents_of o memory) slots memory) in
+    (place.0, omega (arith, below, places, bits))
+
 small-node : (kind : Kind) (bits offset radix : ℕ) → entry_of kind ≡ entries.CNode radix → MayStand bits kind offset → radix ≤ 14
 small-node (kinds.CNode own) bits offset radix is may = let same : own ≡ radix = cc in omega (arith, same, may.2)
 small-node kinds.Thread bits offset radix is may = absurd cc

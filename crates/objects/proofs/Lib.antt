@@ -18,10 +18,12 @@ mod Linked
 mod Lists
 mod Made
 mod Making
+mod NotificationWords
 mod OneThread
 mod Parting
 mod Parts
 mod PointsHere
+mod Repliers
 mod Replacing
 mod Serving
 mod Stepping
