@@ -17,7 +17,7 @@ use model::Instr;
 use ranges::{Bounds, after};
 
 /// What a point leaves for the next one.
-#[derive(Clone, Copy, Debug)]
+#[derive(Clone, Copy)]
 pub enum Left {
     /// These ranges, and this measure.
     Known { bounds: Bounds, measure: Measure },

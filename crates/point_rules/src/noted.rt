@@ -3,7 +3,7 @@
 use crate::PointState;
 
 /// What is known of a point.
-#[derive(Clone, Copy, Debug)]
+#[derive(Clone, Copy)]
 pub enum Noted<'s> {
     Known(PointState<'s>),
     /// It has no state.

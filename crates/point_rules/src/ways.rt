@@ -18,7 +18,7 @@ use typestate::NotedSlots;
 
 /// A way on from a point: what is known of the registers before it and behind it, the slots behind it, whether it is known that
 /// the point that it leads to has those, and whether the budget is there anew.
-#[derive(Clone, Copy, Debug)]
+#[derive(Clone, Copy)]
 pub struct Way<'s> {
     pub before: &'s Bounds,
     pub behind: &'s Bounds,

@@ -19,7 +19,7 @@ pub(crate) const BADGES: Range = Range {
 };
 
 /// Which registers a system call writes.
-#[derive(Clone, Copy, Debug)]
+#[derive(Clone, Copy)]
 pub enum Written {
     /// None.
     Nothing,
@@ -32,7 +32,7 @@ pub enum Written {
 }
 
 /// What is known of the registers behind a system call, and whether instructions are counted anew from it.
-#[derive(Clone, Copy, Debug)]
+#[derive(Clone, Copy)]
 pub struct Behind {
     pub bounds: Bounds,
     pub is_wait: bool,

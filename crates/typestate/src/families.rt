@@ -15,7 +15,7 @@ use std::collections::btree_set::{BTreeSet, Range};
 
 /// Links from slots to what was derived from them, by the numbers of both keys. It may hold more links than there are, and never
 /// fewer.
-#[derive(Debug, Drop)]
+#[derive(Drop)]
 pub struct Families {
     links: BTreeSet<(u128, u64)>,
 }

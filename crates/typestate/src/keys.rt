@@ -7,7 +7,7 @@ use model::Cap;
 use std::marker::Model;
 
 /// A slot by its CNode object and its index. A clause sees the definitions' key.
-#[derive(Clone, Copy, Debug)]
+#[derive(Clone, Copy)]
 pub struct SlotKey {
     pub cnode: u32,
     pub index: u32,
@@ -41,7 +41,7 @@ impl SlotKey {
 
 /// A slot of a thread's CNodes with the capability that it holds, and the slot that this one was derived from: one
 /// of the thread's, or none where it stands in the boot CNode. A clause sees the definitions' noted slot.
-#[derive(Clone, Copy, Debug)]
+#[derive(Clone, Copy)]
 pub struct NotedSlot {
     pub key: SlotKey,
     pub capability: Cap,

@@ -14,7 +14,7 @@ use std::alloc::{AllocError, Global};
 use std::collections::btree_set::{BTreeSet, Range};
 
 /// Pages with the numbers of the slots that map them. It may name more slots than map a page, and never fewer.
-#[derive(Debug, Drop)]
+#[derive(Drop)]
 pub struct MappedPages {
     slots: BTreeSet<(u64, u64)>,
 }

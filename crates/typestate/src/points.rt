@@ -12,7 +12,7 @@ use crate::{Families, MappedPages, NotedSlot};
 /// The full slots of a thread's CNodes at a point: those that the image lists, with changes made. The keys of both rise. What the
 /// image lists has no parents and no mappings: only changes bring them.
 /// A change to a slot that holds nothing empties it.
-#[derive(Clone, Copy, Debug)]
+#[derive(Clone, Copy)]
 pub struct NotedSlots<'s> {
     pub image: &'s [NotedSlot],
     pub changes: &'s [NotedSlot],

@@ -26,7 +26,7 @@ ghost use Rattle.typestate.specs.Spaces.{AreOwn, StandsApart};
 use crate::{NotedSlot, SlotKey};
 
 /// Which slots go.
-#[derive(Clone, Copy, Debug)]
+#[derive(Clone, Copy)]
 pub enum Removed {
     /// This one; its children hang below its parent.
     One(SlotKey),
@@ -46,7 +46,7 @@ impl Removed {
 }
 
 /// What a call makes of the slots.
-#[derive(Clone, Copy, Debug)]
+#[derive(Clone, Copy)]
 pub enum SlotChange {
     /// They stay.
     Nothing,

@@ -37,7 +37,7 @@ pub(crate) enum Kind {
 }
 
 /// A system call that is not refused so far.
-#[derive(Clone, Copy, Debug)]
+#[derive(Clone, Copy)]
 pub enum SystemCall {
     /// It leaves the slots as they are, and this of the registers.
     Plain(Behind),

@@ -3,7 +3,7 @@
 ghost use Rattle.std.specs.Prelude.{◌≤◌};
 
 /// A CNode of 2^`radix` slots: its object, and its offset from the start of physical memory.
-#[derive(Clone, Copy, Debug)]
+#[derive(Clone, Copy)]
 pub struct Window {
     pub cnode: u32,
     pub offset: u32,
