@@ -2,8 +2,9 @@
 """Builds the repository's libraries side by side: what stands above a library loads its statements alone, as in the gate. The gate
 also looks for contracts that no call can meet, which takes a twentieth more and proves nothing.
 
-A library that is built by several processes at once takes up to half as much time of processors again. So each has one processor,
-and only where fewer libraries than processors are under way, the first and the last ones, each has all.
+A library that is built by several processes at once takes up to half as much time of processors again. So each has one process,
+and only where fewer libraries than processors are under way, at the beginning and at the end, that with the longest chain of others
+behind it has as many as there are processors.
 
   tools/checks/libraries.py NAME ..     at the top of the repository: these crates and all below them (none named: all)
   tools/checks/libraries.py rt WORD ..  in a crate's folder: the toolchain's command over libraries that were built so
@@ -104,11 +105,12 @@ def build_all(names):
     with ThreadPoolExecutor(lanes) as pool:
         while left or running:
             ready = sorted((it for it in left if built.issuperset(below.name for below in it.below())), key=lambda it: -behind[it.name])
-            jobs = lanes if len(ready) + len(running) < lanes else 1
+            is_few = len(ready) + len(running) < lanes
             for crate in ready[: lanes - len(running)]:
                 left.remove(crate)
                 is_last = any(behind[name] > behind[crate.name] for name in running.values())
                 NICENESS[crate.name] = 10 if is_last else 0
+                jobs = lanes if is_few and not is_last else 1
                 running[pool.submit(build_logged, crate, jobs)] = crate.name
             if not running:
                 break
