@@ -3,21 +3,17 @@ use Rattle.std.proofs.Common.{ℕ, zero, suc, ◌≡◌, ◌∙◌, ◌⊎◌, �
 use Rattle.std.specs.Prelude.{◌<◌, slice_get, slice_index_or}
 use Rattle.measure.specs.Measures.{measure_of}
 use Rattle.model.specs.Acceptance.NotedStates.{NotedSlot, record_of}
-use Rattle.model.specs.Acceptance.PointStates.{Noted, Known, Missing, follows, noted, noted_or}
+use Rattle.model.specs.Acceptance.PointStates.{Known, follows, noted, noted_or}
 use Rattle.model.specs.Images.Described.{Numbered}
 use Rattle.model.specs.Images.Image.{Image, Thread}
-use Rattle.program_rules.specs.Kept.{AreKept, HasPart, IsCleanIn, IsKeptAt, IsRead, IsSound, noted_by}
+use Rattle.program_rules.specs.Kept.{AreKept, HasPart, IsCleanIn, IsKeptAt, IsRead, IsSound, before, noted_by}
 use Rattle.program_rules.specs.declared.kept.Kept.TheVariants as kept
 use Rattle.program_rules.specs.declared.kept.Kept.{Kept}
 use Rattle.typestate.specs.Differences.{changed}
 use Rattle.typestate.specs.Logs.{KeepsParts}
 use Rattle.typestate.specs.Strays.{NoneStray}
 
--- what the point before leaves
-abbrev pub before : Image → Numbered → ℕ → Noted
-before image t zero = Missing
-before image t (suc point) = follows image t point (noted image t point)
-
+-- what is noted of a point, by its record and by what the point before leaves
 pub noted-is : (image : Image) (t : Numbered) (point : ℕ) → noted image t point ≡ noted_or image t.thread (record_of t.thread point) (before image t point)
 unfolding noted
 noted-is image t zero = refl

@@ -15,9 +15,9 @@ use Rattle.model.specs.declared.instructions.Instr.{Instr}
 use Rattle.model.specs.declared.ranges.Range.{Range}
 use Rattle.model.specs.declared.refusals.Point.{Point}
 use Rattle.model.specs.declared.refusals.Refusal.{Refusal}
-use Rattle.program_rules.proofs.EachPoint.{before, kept-at, next-before, noted-is}
+use Rattle.program_rules.proofs.EachPoint.{kept-at, next-before, noted-is}
 use Rattle.program_rules.proofs.EdgeRules.{call-told, told_of}
-use Rattle.program_rules.specs.Kept.{IsRead, has_state, noted_by}
+use Rattle.program_rules.specs.Kept.{IsRead, before, has_state, noted_by}
 use Rattle.program_rules.specs.PointChecks.{later_rules, way_rules}
 use Rattle.program_rules.specs.declared.kept.Kept.{Kept}
 

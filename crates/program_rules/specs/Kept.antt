@@ -1,8 +1,8 @@
 -- What is kept of points, and what it says that the certificate notes of them.
-use Rattle.std.specs.Prelude.{ℕ, ◌≡◌, ◌+◌, ◌^◌, ◌≤ℤ◌, negsuc, Bool, true, false, Option, Some, None, Result, Ok, Err, List, length, slice_get}
+use Rattle.std.specs.Prelude.{ℕ, zero, suc, ◌≡◌, ◌+◌, ◌^◌, ◌≤ℤ◌, negsuc, Bool, true, false, Option, Some, None, Result, Ok, Err, List, length, slice_get}
 use Rattle.measure.specs.Measures.{measure_of}
 use Rattle.model.specs.Acceptance.NotedStates.{NotedSlot, PointState}
-use Rattle.model.specs.Acceptance.PointStates.{Noted, Known, Missing, Unmeasured, noted}
+use Rattle.model.specs.Acceptance.PointStates.{Noted, Known, Missing, Unmeasured, follows, noted}
 use Rattle.model.specs.Images.Described.{Numbered}
 use Rattle.model.specs.Images.Image.{Image, Thread}
 use Rattle.model.specs.declared.refusals.Refusal.{Refusal}
@@ -84,3 +84,16 @@ pub record AreKept (image : Image) (t : Numbered) (slots log : List NotedSlot) (
 pub record IsRead (image : Image) (t : Numbered) (slots log : List NotedSlot) (kept : List Kept) : Type 0 where
   pub count : length kept ≡ t.thread.header.words
   pub noted : AreKept image t slots log kept
+
+-- what the point before leaves
+abbrev pub before : Image → Numbered → ℕ → Noted
+before image t zero = Missing
+before image t (suc point) = follows image t point (noted image t point)
+
+-- the points up to this one, and what is left for it
+pub record IsReadTo (image : Image) (t : Numbered) (slots : List NotedSlot) (point : ℕ) (log : List NotedSlot) (kept : List Kept) (derived : Kept) : Type 0 where
+  pub count : length kept ≡ point
+  pub noted : AreKept image t slots log kept
+  pub same : noted_by slots log derived ≡ before image t point
+  pub sound : IsSound log point derived
+  pub clean : IsCleanIn image t.thread slots log derived

@@ -1,12 +1,12 @@
 //! What is noted of all points of a program.
 
-ghost use Rattle.std.specs.Prelude.{ℕ, ◌≡◌, ◌≤◌, ◌≤ℤ◌, ◌^◌, IfOk, IfSome, List, length, negsuc, option_map};
-ghost use Rattle.model.specs.Acceptance.NotedStates.{NotedSlot, image_slots, record_state};
+ghost use Rattle.std.specs.Prelude.{ℕ, ◌≡◌, ◌+◌, ◌<◌, ◌≤◌, ◌≤ℤ◌, ◌^◌, IfOk, IfSome, List, length, negsuc, option_map};
+ghost use Rattle.model.specs.Acceptance.NotedStates.{NotedSlot, image_slots, record_of, record_state};
 ghost use Rattle.model.specs.Acceptance.PointStates as states;
 ghost use Rattle.model.specs.Images.Image.{Image, Thread};
-ghost use Rattle.program_rules.specs.Kept.{IsCleanIn, IsRead, IsSound, noted_by};
+ghost use Rattle.program_rules.specs.Kept.{IsCleanIn, IsRead, IsReadTo, IsSound, noted_by};
 ghost use Rattle.program_rules.specs.Programs.{thread_of};
-ghost use Rattle.typestate.specs.Logs.{KeepsParts};
+ghost use Rattle.typestate.specs.Logs.{KeepsParts, ShowsSome};
 ghost use Rattle.typestate.specs.Orders.{Rise};
 
 use crate::kept::{Kept, Known};
@@ -63,23 +63,47 @@ fn noted_or(
 }
 
 impl Points {
+    /// Notes the next point: by its record, or by what the point before leaves. An `Ok` is what it leaves in turn. Memory may be
+    /// refused.
+    fn note(
+        &mut self,
+        program: &Program<'_, '_>,
+        point: u32,
+        noted: Option<&RecordRef<'_>>,
+        derived: Kept,
+        shown: &mut ShownPart,
+    ) -> Result<Kept, AllocError>
+        requires within { point < program.now.space.thread.now.header.words }
+        requires noted { option_map (λ r. r.now) noted ≡ record_of program.now.space.thread.now point }
+        requires fits { IfSome noted (λ r. (length r.now.terms ≤ 4) × (negsuc (2 ^ 62) ≤ℤ r.now.header.constant)) }
+        requires read { IsReadTo program.now.space.image.now (thread_of program.now) program.now.slots.now point self.old.log self.old.kept.items derived }
+        requires shown { ShowsSome self.old.log shown.old }
+        ensures read { IfOk result (IsReadTo program.now.space.image.now (thread_of program.now) program.now.slots.now (point + 1) self.new.log self.new.kept.items) }
+        ensures shown { IfOk result (λ _. ShowsSome self.new.log shown.new) }
+    {
+        let found = noted_or(&mut self.log, noted, derived)?;
+        found.show(&self.log, shown)?;
+        let state = program.looked_at(point, noted, &found, &self.log, shown);
+        let left = program.following(point, noted, &state, &mut self.log, shown)?;
+        self.kept.push(state)?;
+        Ok(left)
+    }
+
     /// The points of a program: each has the state of its record, or what the point before leaves. Memory may be refused.
     pub(crate) fn of(program: &Program<'_, '_>) -> Result<Self, AllocError>
         ensures { IfOk result (λ points. IsRead program.now.space.image.now (thread_of program.now) program.now.slots.now points.log points.kept.items) }
     {
         let mut records = RecordsLeft::of(program.space.thread);
-        let mut log = SlotLog::new(program.alloc);
-        let mut kept = Vec::new(program.alloc);
+        let mut points = Points {
+            kept: Vec::new(program.alloc),
+            log: SlotLog::new(program.alloc),
+        };
         let mut derived = Kept::Missing;
         let mut shown = ShownPart::new(program.alloc);
-        'points: for point in 0..program.space.thread.word_count() {
+        'notes: for point in 0..program.space.thread.word_count() {
             let noted = records.take(point);
-            let found = noted_or(&mut log, noted.as_ref(), derived)?;
-            found.show(&log, &mut shown)?;
-            let state = program.looked_at(point, noted.as_ref(), &found, &log, &shown);
-            derived = program.following(point, noted.as_ref(), &state, &mut log, &shown)?;
-            kept.push(state)?;
+            derived = points.note(program, point, noted.as_ref(), derived, &mut shown)?;
         }
-        Ok(Points { kept, log })
+        Ok(points)
     }
 }

@@ -1,0 +1,65 @@
+-- A point has the state of its record, or what the point before leaves.
+use Rattle.std.proofs.Common.{ℕ, ◌≡◌, ◌∙◌, ◌++◌, Option, List, [], ◌∷◌, length, sym, ap, subst, arith}
+use Rattle.std.proofs.lemmas.List.{length-append}
+use Rattle.model.specs.Acceptance.NotedStates.{NotedSlot, image_slots, record_of}
+use Rattle.model.specs.Acceptance.PointStates.{follows, noted, noted_or}
+use Rattle.model.specs.Images.Image.{StateRecord}
+use Rattle.program_rules.proofs.EachPoint.{grown, has-part, next-before, noted-is, one-more}
+use Rattle.program_rules.proofs.ShownParts.{some-grown}
+use Rattle.program_rules.proofs.points.Points.note.Goals as goal
+use Rattle.program_rules.specs.Kept.{AreKept, IsKeptAt, noted_by}
+use Rattle.program_rules.specs.Programs.{thread_of}
+use Rattle.program_rules.specs.declared.kept.Kept.{Kept}
+use Rattle.typestate.specs.Orders.{Rise}
+
+pub looked_at-state-requires-clause-sound : goal.looked_at-state-requires-clause-sound
+looked_at-state-requires-clause-sound c = c.in_ok-found.ensures.sound c.args.point c.requires.read.sound
+
+pub looked_at-state-requires-clause-clean : goal.looked_at-state-requires-clause-clean
+looked_at-state-requires-clause-clean c =
+    c.in_ok-found.ensures.clean c.args.program.now.space.image.now c.args.program.now.space.thread.now c.args.program.now.slots.now c.requires.read.clean
+
+pub show-requires-clause-held : goal.show-requires-clause-held
+show-requires-clause-held c = has-part c.noted_or.new.log c.args.point c.in_ok-found.found (c.in_ok-found.ensures.sound c.args.point c.requires.read.sound)
+
+pub show-requires-clause-old : goal.show-requires-clause-old
+show-requires-clause-old c = some-grown c.args.self.now.log c.noted_or.new.log c.args.shown.now c.in_ok-found.ensures.others c.requires.shown
+
+pub returns-clause-read : goal.returns-clause-read
+returns-clause-read c =
+    let image = c.args.program.now.space.image.now in
+    let t = thread_of c.args.program.now in
+    let own = c.args.program.now.space.thread.now in
+    let slots = c.args.program.now.slots.now in
+    let point = c.args.point in
+    let before = c.requires.read in
+    let old = c.args.self.now.log in
+    let log = c.noted_or.new.log in
+    let kept = c.args.self.now.kept.items in
+    let found = c.in_ok-found.found in
+    let state = c.looked_at-state.result in
+    let same : noted_by slots log state ≡ noted image t point =
+    c.looked_at-state.ensures.same
+    ∙ ap (λ (all : List NotedSlot). noted_by all log found) c.args.program.now.listed
+    ∙ c.in_ok-found.ensures.same image own (subst Rise c.args.program.now.listed c.args.program.now.rising)
+    ∙ ap (λ (r : Option StateRecord). noted_or image own r (noted_by (image_slots image own) old c.args.derived)) c.requires.noted
+    ∙ ap (λ (all : List NotedSlot). noted_or image own (record_of own point) (noted_by all old c.args.derived)) (sym c.args.program.now.listed)
+    ∙ ap (noted_or image own (record_of own point)) before.same
+    ∙ sym (noted-is image t point) in
+    let is : IsKeptAt image t slots log point state = record { same = same; sound = c.looked_at-state.ensures.sound; clean = c.looked_at-state.ensures.clean } in
+    let items = c.in_ok-push.ensures.items in
+    let more = one-more image t slots log kept state (grown image t slots old log kept c.in_ok-found.ensures.others before.noted)
+    (subst (λ (n : ℕ). IsKeptAt image t slots log n state) (sym before.count) is) in
+    let long = length-append kept (state ∷ []) in
+    let all = ap length items in
+    let count = before.count in
+    record {
+      count = omega (arith, all, long, count);
+      noted = subst (λ (ks : List Kept). AreKept image t slots c.following.new.log ks) (sym items) (grown image t slots log c.following.new.log (kept ++ state ∷ []) c.in_ok-left.ensures.others more);
+      same = c.in_ok-left.ensures.same ∙ ap (follows image t point) same ∙ next-before image t point;
+      sound = c.in_ok-left.ensures.sound;
+      clean = c.in_ok-left.ensures.clean;
+    }
+
+pub returns-clause-shown : goal.returns-clause-shown
+returns-clause-shown c = some-grown c.noted_or.new.log c.following.new.log c.show.new.shown c.in_ok-left.ensures.others c.in_ok-show.ensures.some
