@@ -1,16 +1,18 @@
 -- The first broken rule of the points of a program, one after another.
-use Rattle.std.proofs.Common.{ℕ, zero, suc, ◌≡◌, ◌∙◌, ◌+◌, ◌-◌, ◌<◌, ◌++◌, inl, inr, Option, Some, None, Err, List, [], ◌∷◌, refl, sym, ap, arith}
+use Rattle.std.proofs.Common.{ℕ, zero, suc, ◌≡◌, ◌≢◌, ◌∙◌, ◌+◌, ◌-◌, ◌<◌, ◌++◌, inl, inr, Option, Some, None, Result, Err, List, [], ◌∷◌, refl, sym, ap, subst, arith}
 use Rattle.std.specs.List.{range_with_len}
 use Rattle.std.specs.Option.{option_or}
 use Rattle.std.specs.Prelude.{flat_map}
 use Rattle.model.specs.Acceptance.NotedStates.{PointState}
-use Rattle.model.specs.Acceptance.PointRules.{entry_rules, point_rules, rules_of_noted, rules_of_program, state_rules}
+use Rattle.model.specs.Acceptance.PointRules.{entry_rules, point_rules, rules_of_noted, rules_of_program, rules_on_edges, state_rules}
 use Rattle.model.specs.Acceptance.PointStates.{Noted, instruction_at, noted, point_of}
 use Rattle.model.specs.Acceptance.Rules.{Rule, first_broken}
 use Rattle.model.specs.Images.Described.{Numbered}
 use Rattle.model.specs.Images.Image.{Image}
+use Rattle.model.specs.declared.instructions.Instr.TheVariants.{Upper, Jal, Jalr, Branch, Load, Store, Immediate, Shift, Registers, Fence, Ecall, Ebreak}
 use Rattle.model.specs.declared.instructions.Instr.{Instr}
 use Rattle.model.specs.declared.refusals.Point.{Point}
+use Rattle.model.specs.declared.refusals.Refusal.TheVariants.{IllegalInstruction}
 use Rattle.model.specs.declared.refusals.Refusal.{Refusal}
 use Rattle.program_rules.proofs.FirstBroken.{first-both}
 use Rattle.program_rules.specs.PointChecks.{later_rules, own_rules}
@@ -23,6 +25,38 @@ unfolding state_rules
 state-first image t point s instr is =
     ap (λ (i : Option Instr). first_broken (own_rules image t point s i ++ later_rules image t point s i)) is
     ∙ first-both (own_rules image t point s instr) (later_rules image t point s instr)
+
+-- where its own rules are kept, the first broken one is one on its call and its ways
+pub later-answers : (image : Image) (t : Numbered) (point : ℕ) (given s : PointState) (read instr : Option Instr) (result : Result (Unit {0}) Refusal)
+    → instruction_at t.thread point ≡ read → read ≡ instr → given ≡ s → None ≡ first_broken (own_rules image t point given read)
+    → Answers (first_broken (later_rules image t point s instr)) result → Answers (first_broken (state_rules image t point s)) result
+later-answers image t point given s read instr result is same state kept answers =
+    let own : None ≡ first_broken (own_rules image t point s instr) =
+    kept ∙ ap (λ (p : PointState). first_broken (own_rules image t point p read)) state ∙ ap (λ (i : Option Instr). first_broken (own_rules image t point s i)) same in
+    subst (λ (broken : Option Refusal). Answers broken result)
+    (ap (λ (o : Option Refusal). option_or o (first_broken (later_rules image t point s instr))) own ∙ sym (state-first image t point s instr (is ∙ same)))
+    answers
+
+-- a point without an instruction does not keep its own rules
+pub illegal-breaks : (image : Image) (t : Numbered) (point : ℕ) (s : PointState) (read : Option Instr) → read ≡ None → None ≡ first_broken (own_rules image t point s read) → ⊥
+illegal-breaks image t point s None is kept = let clash : ◌≡◌ {A = Option Refusal} None (Some (IllegalInstruction (point_of t point))) = kept in cc
+illegal-breaks image t point s (Some instr) is kept = let clash : ◌≡◌ {A = Option Instr} (Some instr) None = is in cc
+
+-- an instruction that is no system call has the rules on its ways alone
+pub plain-later : (image : Image) (t : Numbered) (point : ℕ) (s : PointState) (instr : Instr) → instr ≢ Ecall
+    → first_broken (later_rules image t point s (Some instr)) ≡ first_broken (rules_on_edges image t point s)
+plain-later image t point s (Jal rd offset) plain = refl
+plain-later image t point s (Branch op rs1 rs2 offset) plain = refl
+plain-later image t point s (Upper op rd immediate) plain = refl
+plain-later image t point s (Load op rd rs1 offset) plain = refl
+plain-later image t point s (Store op rs1 rs2 offset) plain = refl
+plain-later image t point s (Immediate op rd rs1 immediate) plain = refl
+plain-later image t point s (Shift op rd rs1 amount) plain = refl
+plain-later image t point s (Registers op rd rs1 rs2) plain = refl
+plain-later image t point s Fence plain = refl
+plain-later image t point s (Jalr rd rs1 offset) plain = refl
+plain-later image t point s Ecall plain = absurd (plain refl)
+plain-later image t point s Ebreak plain = refl
 
 -- the rules on a point, by what is noted of it
 pub noted-rules : (image : Image) (t : Numbered) (point : ℕ) (n : Noted) → n ≡ noted image t point

@@ -1,18 +1,21 @@
--- The first broken rule is one of its own.
-use Rattle.std.proofs.Common.{◌≡◌, ◌∙◌, inr, Option, Some, List, sym, ap}
+-- The first broken rule is one of its own, or else one on its call and its ways.
+use Rattle.std.proofs.Common.{rules, ◌≡◌, ◌≢◌, ◌∙◌, inr, Option, Some, List, sym, ap, subst}
 use Rattle.std.specs.Option.{option_or}
 use Rattle.measure.specs.Measures.{measure_of}
 use Rattle.model.specs.Acceptance.NotedStates.{NotedSlot}
 use Rattle.model.specs.Acceptance.Rules.{first_broken}
 use Rattle.model.specs.Machine.Decoding.{decoded}
+use Rattle.model.specs.declared.instructions.Instr.TheVariants.{Ecall}
 use Rattle.model.specs.declared.refusals.Refusal.{Refusal}
 use Rattle.program_rules.proofs.Outcomes.{passed-on}
-use Rattle.program_rules.proofs.PointLists.{state-first}
+use Rattle.program_rules.proofs.PointLists.{illegal-breaks, later-answers, plain-later, state-first}
 use Rattle.program_rules.proofs.programs.Program.state_rules.Goals as goal
 use Rattle.program_rules.specs.Kept.{state_by}
 use Rattle.program_rules.specs.PointChecks.{later_rules, own_rules}
 use Rattle.program_rules.specs.Programs.{thread_of}
 use Rattle.typestate.specs.Calls.{known_with}
+use Rattle.typestate.specs.Differences.{slots_of}
+use Rattle.wellformed.specs.Answering.{Answers}
 
 pub returns-in_err-own_rules-clause-broken : goal.returns-in_err-own_rules-clause-broken
 returns-in_err-own_rules-clause-broken c =
@@ -28,3 +31,33 @@ returns-in_err-own_rules-clause-broken c =
     passed-on _ c.from_residual.result refusal c.from_residual.ensures.1
     (inr (state-first image t c.args.point s instr (ap decoded (sym c.word.ensures) ∙ sym c.decode-instr.ensures.value)
     ∙ ap (λ (o : Option Refusal). option_or o (first_broken (later_rules image t c.args.point s instr))) (sym own)))
+
+pub returns-in-Some-Ecall-clause-broken : goal.returns-in-Some-Ecall-clause-broken
+returns-in-Some-Ecall-clause-broken c =
+    let bounds = c.args.known.now.bounds in
+    let m = measure_of c.args.known.now.measure in
+    let call : c.decode-instr.result ≡ Some Ecall = search rules in
+    later-answers c.args.self.now.space.image.now (thread_of c.args.self.now) c.args.point (known_with bounds (slots_of c.slots-slots.result) m)
+    (state_by c.args.self.now.slots.now c.args.points.now.log c.args.known.now) c.decode-instr.result (Some Ecall) c.call_rules.result
+    (ap decoded (sym c.word.ensures) ∙ sym c.decode-instr.ensures.value) call
+    (ap (λ (all : List NotedSlot). known_with bounds all m) (c.slots-slots.ensures.slots ∙ c.requires.part.same c.args.self.now.slots.now c.args.self.now.rising))
+    c.in_ok-own_rules.ensures c.call_rules.ensures.broken
+
+pub returns-in-None-clause-broken : goal.returns-in-None-clause-broken
+returns-in-None-clause-broken c =
+    absurd (illegal-breaks c.args.self.now.space.image.now (thread_of c.args.self.now) c.args.point
+    (known_with c.args.known.now.bounds (slots_of c.slots-slots.result) (measure_of c.args.known.now.measure)) c.decode-instr.result c.in-None.is c.in_ok-own_rules.ensures)
+
+pub returns-in-Some-clause-broken : goal.returns-in-Some-clause-broken
+returns-in-Some-clause-broken c =
+    let image = c.args.self.now.space.image.now in
+    let t = thread_of c.args.self.now in
+    let s = state_by c.args.self.now.slots.now c.args.points.now.log c.args.known.now in
+    let bounds = c.args.known.now.bounds in
+    let m = measure_of c.args.known.now.measure in
+    let plain : c.in-Some.instr ≢ Ecall = search rules in
+    later-answers image t c.args.point (known_with bounds (slots_of c.slots-slots.result) m) s c.decode-instr.result (Some c.in-Some.instr) c.ways_rules.result
+    (ap decoded (sym c.word.ensures) ∙ sym c.decode-instr.ensures.value) c.in-Some.is
+    (ap (λ (all : List NotedSlot). known_with bounds all m) (c.slots-slots.ensures.slots ∙ c.requires.part.same c.args.self.now.slots.now c.args.self.now.rising))
+    c.in_ok-own_rules.ensures
+    (subst (λ (broken : Option Refusal). Answers broken c.ways_rules.result) (sym (plain-later image t c.args.point s c.in-Some.instr plain)) c.ways_rules.ensures)
