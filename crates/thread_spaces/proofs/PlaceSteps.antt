@@ -61,15 +61,17 @@ used-next objects n o untyped is =
 pub places-none : (image : Image) → AreOffsets image 0 []
 places-none image = record { size = refl; place = λ number less. absurd (omega (arith, less)) }
 
+-- what an object finds used in its untyped
+pub used-there : (image : Image) (n : ℕ) (o : ObjectEntry) (used : List ℕ) → slice_get image.objects n ≡ Some o → o.untyped < 64
+    → ((u : ℕ) → u < 64 → slice_index used u ≡ used_by (take n image.objects) u) → slice_index used o.untyped ≡ used_before image n
+used-there image n o used is inside before =
+    before o.untyped inside ∙ ap (λ (x : ObjectEntry). used_by (take n image.objects) x.untyped) (sym (get_or_from_slice_get image.objects n o _ is))
+
 module _ (image : Image) (n : ℕ) (o : ObjectEntry) (used : List ℕ) (end : ℕ) (is : slice_get image.objects n ≡ Some o)
     (inside : o.untyped < 64) (many : length used ≡ 64) (before : (u : ℕ) → u < 64 → slice_index used u ≡ used_by (take n image.objects) u)
     (ends : end ≡ place_of_object (slice_index used o.untyped) (bits_of (object_at image n)) 1) where
   same : object_at image n ≡ o
   same = get_or_from_slice_get image.objects n o _ is
-
-  -- what the object finds used in its untyped
-  pub used-there : slice_index used o.untyped ≡ used_before image n
-  used-there = before o.untyped inside ∙ ap (λ (x : ObjectEntry). used_by (take n image.objects) x.untyped) (sym same)
 
   pub used-after : (u : ℕ) → u < 64 → slice_index (set used o.untyped end) u ≡ used_by (take (n + 1) image.objects) u
   used-after u few =
