@@ -1,5 +1,5 @@
--- One CNode's place more.
-use Rattle.std.proofs.Common.{ℕ, ◌≡◌, ◌∙◌, ◌+◌, Some, List, [], ◌∷◌, ◌++◌, get_or, take, sym, ap, subst, add-one, take-suc}
+-- One CNode's place more, and what is made of all.
+use Rattle.std.proofs.Common.{ℕ, ◌≡◌, ◌∙◌, ◌+◌, Some, List, [], ◌∷◌, ◌++◌, IfOk, Result, Ok, Err, get_or, take, sym, ap, subst, add-one, take-suc}
 use Rattle.std.specs.Prelude.{slice_get}
 use Rattle.std.proofs.lemmas.Option.{get_or_from_slice_get, slice_get_within}
 use Rattle.model.specs.Images.Image.{Image}
@@ -20,3 +20,8 @@ windows-more image cnodes windows n cnode w at are is =
     let parts : take (n + 1) cnodes ≡ take n cnodes ++ (cnode ∷ []) =
     rw (add-one n) (take-suc cnodes n cnode (slice_get_within cnodes n cnode at) ∙ ap (λ (x : ℕ). take n cnodes ++ (x ∷ [])) here) in
     subst (λ (cs : List ℕ). AreWindows image cs (windows ++ w ∷ [])) (sym parts) (windows-push image (take n cnodes) windows cnode w are is)
+
+pub windows-made : {E : Type 0} (image : Image) (cnodes : List ℕ) (windows : List Window) (r : Result (List Window) E) → AreWindows image cnodes windows → IfOk r (λ made. made ≡ windows)
+    → IfOk r (λ made. AreWindows image cnodes made)
+windows-made image cnodes windows (Ok made) are is = subst (AreWindows image cnodes) (sym is) are
+windows-made image cnodes windows (Err e) are is = tt

@@ -1,10 +1,10 @@
 -- What is reached are CNodes.
 use Rattle.std.proofs.Common.{ℕ, ◌∙◌, ◌+◌, ◌≤◌, List, length, take, take_all, sym, subst}
+use Rattle.model.specs.Acceptance.ThreadRules.{reached}
 use Rattle.typestate.specs.Spaces.{AreWindows}
 use Rattle.typestate.proofs.Laws.{windows-apart}
-use Rattle.typestate.proofs.Laws.{windows-apart}
 use Rattle.thread_spaces.proofs.GivenCNodes.{cnode-at}
-use Rattle.thread_spaces.proofs.WindowLists.{windows-more}
+use Rattle.thread_spaces.proofs.WindowLists.{windows-made, windows-more}
 use Rattle.thread_spaces.proofs.windows.windows_of.Goals as goal
 
 pub window_of-requires-clause-cnode : goal.window_of-requires-clause-cnode
@@ -25,3 +25,12 @@ new-requires c =
     let place = c.cnodes.place in
     let all : length c.args.cnodes.now ≤ place = subst (λ (n : ℕ). n ≤ place) c.len-place-end.ensures c.cnodes-test.false in
     windows-apart image t windows apart (subst (λ (cnodes : List ℕ). AreWindows image cnodes windows) (take_all place c.args.cnodes.now all ∙ c.requires.cnodes) c.cnodes.invariant)
+
+pub returns : goal.returns
+returns c =
+    let image = c.args.image.now in
+    let windows = c.cnodes.windows.items in
+    let place = c.cnodes.place in
+    let all : length c.args.cnodes.now ≤ place = subst (λ (n : ℕ). n ≤ place) c.len-place-end.ensures c.cnodes-test.false in
+    let are = subst (λ (cnodes : List ℕ). AreWindows image cnodes windows) (take_all place c.args.cnodes.now all ∙ c.requires.cnodes) c.cnodes.invariant in
+    windows-made image (reached image c.args.thread.now) windows c.new.result are c.new.ensures
