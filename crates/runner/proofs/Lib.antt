@@ -1,4 +1,5 @@
 pub mod Calm
+pub mod Endings
 pub mod KernelTraces
 pub mod PutLines
 pub mod Refusals

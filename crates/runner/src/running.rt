@@ -1,16 +1,20 @@
 //! A run: an image is verified and booted, and each event puts a line.
 
 ghost use Rattle.std.specs.Prelude.{◌≡◌, ◌≢◌, Err, IfErr, OnErr, OnOk, Some};
+ghost use Rattle.kernel.specs.Setups.{state_in};
 ghost use Rattle.model.specs.Acceptance.Accepted.{first_breach};
 ghost use Rattle.model.specs.Images.Format.{reading};
 ghost use Rattle.model.specs.Images.Image.{whole_image};
+ghost use Rattle.model.specs.Kernel.Steps.{trace};
 ghost use Rattle.model.specs.declared.boot_faults.BootFault.{BootFault};
 ghost use Rattle.model.specs.declared.refusals.Refusal.{Refusal};
 ghost use Rattle.runner.specs.declared.running.RunFault.TheVariants.{Output, OutOfMemory};
-ghost use Rattle.runner.specs.Running.{Failed, PutsAll, PutsSome, boot_fault_of, fault_of};
+ghost use Rattle.runner.specs.Running.{Failed, PutsAll, PutsSome, boot_fault_of, fault_of, lines_of};
+ghost use Rattle.sinks.specs.Sinks.{Grows, GrowsByBeginning};
 
 use crate::traces::put_trace;
 use headline::accepted_images_run_safely;
+use kernel::System;
 use loader::boot;
 use model::{BootFault, Event, Refusal};
 use sinks::{Sink, SinkFault};
@@ -99,8 +103,25 @@ pub fn run<S: Sink>(
     ensures boots { (fault : BootFault) → result ≢ Err (RunFault.Boot fault) }
 {
     let accepted = verify(alloc, bytes)?;
-    let mut system = boot(alloc, &accepted)?;
+    let system = boot(alloc, &accepted)?;
     accepted_images_run_safely();
-    put_trace(&mut system, events, sink)?;
-    Ok(())
+    put_lines(system, events, sink)
+}
+
+/// Puts the lines of a system that was booted. It takes the system, which so is dropped in one place alone.
+pub(crate) fn put_lines<S: Sink>(
+    mut system: System,
+    events: &[Event],
+    sink: &mut S,
+) -> Result<(), RunFault>
+    ensures ok { OnOk result (Grows (S.contents sink.old) (S.contents sink.new) (lines_of (trace (state_in system) events.now))) }
+    ensures err { OnErr result (GrowsByBeginning (S.contents sink.old) (S.contents sink.new) (lines_of (trace (state_in system) events.now))) }
+    ensures failed { OnErr result (Failed (S.failures sink.old) (S.failures sink.new)) }
+    // There is no other fault than that of the sink.
+    ensures only { IfErr result (λ fault. fault ≡ Output) }
+{
+    match put_trace(&mut system, events, sink) {
+        Ok(()) => Ok(()),
+        Err(fault) => Err(RunFault::from(fault)),
+    }
 }

@@ -8,8 +8,7 @@ ghost use Rattle.model.specs.declared.refusals.Refusal.{Refusal};
 ghost use Rattle.runner.specs.Running.{Failed};
 ghost use Rattle.runner.specs.Unverified.{FailsToBoot, PutsTrace, PutsTraceBeginning};
 
-use crate::running::RunFault;
-use crate::traces::put_trace;
+use crate::running::{RunFault, put_lines};
 use image::read;
 use loader::boot_unverified;
 use model::{BootFault, Event, Refusal};
@@ -44,7 +43,6 @@ pub fn run_unverified<S: Sink>(
     ensures room { result ≢ Err (RunFault.Boot BootFault.OutOfMemory) }
 {
     let image = read(bytes)?;
-    let mut system = boot_unverified(alloc, &image)?;
-    put_trace(&mut system, events, sink)?;
-    Ok(())
+    let system = boot_unverified(alloc, &image)?;
+    put_lines(system, events, sink)
 }

@@ -1,10 +1,14 @@
 -- What is accepted boots into the state that it describes, and its trace goes on from there.
-use Rattle.std.proofs.Common.{subst}
+use Rattle.std.proofs.Common.{◌≡◌, subst}
+use Rattle.std.specs.Prelude.{OnErr, OnOk}
 use Rattle.std.proofs.lemmas.Result.{err_from_is_err_and}
 use Rattle.model.specs.Kernel.State.{State}
 use Rattle.model.specs.Kernel.Steps.{trace}
-use Rattle.runner.specs.Running.{lines_of}
+use Rattle.headline.specs.SafeRuns.{trace_of}
+use Rattle.runner.specs.Running.{Failed, PutsAll, lines_of}
+use Rattle.runner.specs.declared.running.RunFault.TheVariants.{Boot, Output, OutOfMemory, Refused}
 use Rattle.sinks.specs.Sinks.{Grows, GrowsByBeginning}
+use Rattle.runner.proofs.Endings.{is-output, of-err, on-ok}
 use Rattle.runner.proofs.Refusals.{tells}
 use Rattle.runner.proofs.running.run.Goals as goal
 
@@ -13,16 +17,19 @@ returns-in_err-accepted-clause-unread g c =
     let p = err_from_is_err_and c.from_residual.result c.from_residual.ensures.1 in
     tells _ c.args.bytes.now c.in_err-accepted.field-0.0 c.from_residual.result p.0 c.args.sink.now c.in_err-accepted.ensures.unread p.1 p.2
 
-pub returns-in_err-put_trace-clause-output : goal.returns-in_err-put_trace-clause-output
-returns-in_err-put_trace-clause-output g c = λ is.
+pub returns-clause-output : goal.returns-clause-output
+returns-clause-output g c = λ is.
     let bytes = c.args.bytes.now in
     let image = c.in_ok-accepted.accepted in
     let events = c.args.events.now in
     let told = c.in_ok-accepted.ensures in
     let old = g.S.Sink.contents c.args.sink.now in
-    let new = g.S.Sink.contents c.put_trace.new.sink in
-    let begun = subst (λ (s : State). GrowsByBeginning old new (lines_of (trace s events))) c.in_ok-system.ensures.state c.in_err-put_trace.ensures.err in
-    ((image, c.accepted_images_run_safely.ensures bytes image events told.accepted, begun), c.in_err-put_trace.ensures.failed)
+    let new = g.S.Sink.contents c.put_lines.new.sink in
+    let r = c.put_lines.result in
+    let begun = subst (λ (s : State). OnErr r (GrowsByBeginning old new (lines_of (trace s events)))) c.in_ok-system.ensures.state c.put_lines.ensures.err in (
+      (image, c.accepted_images_run_safely.ensures bytes image events told.accepted, of-err r Output (GrowsByBeginning old new (lines_of (trace_of image events))) begun is),
+      of-err r Output (Failed (g.S.Sink.failures c.args.sink.now) (g.S.Sink.failures c.put_lines.new.sink)) c.put_lines.ensures.failed is,
+    )
 
 pub returns-clause-ok : goal.returns-clause-ok
 returns-clause-ok g c =
@@ -31,6 +38,20 @@ returns-clause-ok g c =
     let events = c.args.events.now in
     let told = c.in_ok-accepted.ensures in
     let old = g.S.Sink.contents c.args.sink.now in
-    let new = g.S.Sink.contents c.put_trace.new.sink in
-    let put = subst (λ (s : State). Grows old new (lines_of (trace s events))) c.in_ok-system.ensures.state c.in_ok-put_trace.ensures.ok in
-    (image, c.accepted_images_run_safely.ensures bytes image events told.accepted, put)
+    let new = g.S.Sink.contents c.put_lines.new.sink in
+    let r = c.put_lines.result in
+    let put = subst (λ (s : State). OnOk r (Grows old new (lines_of (trace s events)))) c.in_ok-system.ensures.state c.put_lines.ensures.ok in
+    on-ok r (Grows old new (lines_of (trace_of image events))) (PutsAll bytes events old new)
+    (λ grown. (image, c.accepted_images_run_safely.ensures bytes image events told.accepted, grown)) put
+
+pub returns-clause-refused : goal.returns-clause-refused
+returns-clause-refused g c = λ refusal is.
+    let clash : Refused refusal ≡ Output = is-output c.put_lines.result (Refused refusal) c.put_lines.ensures.only is in absurd cc
+
+pub returns-clause-memory : goal.returns-clause-memory
+returns-clause-memory g c = λ is.
+    let clash : OutOfMemory ≡ Output = is-output c.put_lines.result OutOfMemory c.put_lines.ensures.only is in absurd cc
+
+pub returns-clause-boots : goal.returns-clause-boots
+returns-clause-boots g c = λ fault is.
+    let clash : Boot fault ≡ Output = is-output c.put_lines.result (Boot fault) c.put_lines.ensures.only is in cc
