@@ -3,7 +3,7 @@ use Rattle.std.proofs.Common.{ℕ, ◌≡◌, ◌∙◌, ◌+◌, ◌-◌, ◌�
 use Rattle.headline.specs.Kept.{AllStandThroughout}
 use Rattle.headline.proofs.RunningLabels.{label-runs}
 use Rattle.headline.proofs.Stretches.{AreWithin, left_behind, within-keeps}
-use Rattle.thread_facts.specs.Standing.{AllStand}
+use Rattle.thread_laws.specs.facts.Standing.{AllStand}
 use Rattle.model.specs.declared.events.Event.{Event}
 use Rattle.model.specs.declared.labels.Label.{Label}
 use Rattle.model.specs.Images.Described.{described}
@@ -12,8 +12,8 @@ use Rattle.model.specs.Kernel.Scheduling.{current}
 use Rattle.model.specs.Kernel.State.{State}
 use Rattle.model.specs.Kernel.Steps.{state_after, step, trace}
 use Rattle.model.specs.Kernel.Waits.{KeepsBudget, count_open, is_of, is_wait, labels_of, open_count}
-use Rattle.thread_moves.proofs.Laws.{other-label, own-label}
-use Rattle.thread_steps.proofs.Laws.{state-next, trace-next}
+use Rattle.thread_laws.proofs.Laws.{other-label, own-label}
+use Rattle.thread_laws.proofs.Laws.{state-next, trace-next}
 
 -- what is left behind a label of the thread's
 left-behind : (budget count : ℕ) (label : Label) → budget - count_open count label ≡ left_behind budget (budget - count) label

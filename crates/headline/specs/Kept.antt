@@ -1,6 +1,6 @@
 -- What is true whatever has happened to an image so far.
 use Rattle.std.specs.Prelude.{◌≡◌, ◌++◌, List}
-use Rattle.thread_facts.specs.Standing.{AllStand}
+use Rattle.thread_laws.specs.facts.Standing.{AllStand}
 use Rattle.model.specs.declared.events.Event.{Event}
 use Rattle.model.specs.Images.Described.{described}
 use Rattle.model.specs.Images.Image.{Image}

@@ -13,8 +13,8 @@ use Rattle.model.specs.Kernel.Steps.{trace}
 use Rattle.model.specs.Kernel.Waits.{KeepsBudget, is_error, is_fault}
 use Rattle.boot_laws.specs.Standing.{StandApart}
 use Rattle.headline.specs.Kept.{AllStandThroughout}
-use Rattle.thread_facts.specs.Standing.{AllStand}
-use Rattle.thread_moves.specs.Steps.{GoesWell}
+use Rattle.thread_laws.specs.facts.Standing.{AllStand}
+use Rattle.thread_laws.specs.moves.Steps.{GoesWell}
 
 -- what the kernel does over events, from the state that an image describes
 abbrev pub trace_of : Image → List Event → List Label

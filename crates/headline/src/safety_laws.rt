@@ -4,7 +4,7 @@ ghost use Rattle.headline.specs.SafeRuns.{AcceptedImagesRunSafely};
 
 use crate::budget_laws::standing_threads_keep_their_budgets;
 use boot_laws::{objects_stand_inside_their_untypeds, well_formed_images_boot};
-use thread_invocations::events_go_well;
+use thread_laws::invocations::events_go_well;
 
 /// An accepted image boots into the state that it describes, inside its untyped memory; over any events nothing is a fault or an error
 /// in the trace from there, and each thread waits again within its budget.

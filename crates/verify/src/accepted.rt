@@ -10,13 +10,13 @@ ghost use Rattle.verify.specs.Threads.{AllStandAtFirst, EventsGoWell, PlainSteps
 
 use headline::events_keep_all_standing;
 use image_reading::{ImageRef, read};
-use kept_threads::all_stand_at_the_start;
 use model::Refusal;
 use program_rules::check_programs;
 use std::alloc::Global;
 use std::marker::Model;
-use thread_starts::threads_start_as_certified;
-use thread_steps::plain_steps_keep_threads;
+use thread_laws::kept::all_stand_at_the_start;
+use thread_laws::starts::threads_start_as_certified;
+use thread_laws::steps::plain_steps_keep_threads;
 use wellformed::well_formed;
 
 /// An image that the verifier accepted, lent from the bytes that it verified.

@@ -1,6 +1,0 @@
--- By the kinds of calls and of capabilities.
-use Rattle.call_points.proofs.MessageRules.{others-known, receives-known, sends-known}
-use Rattle.call_points.proofs.message_rules.rules_on_messages_are_known.Goals as goal
-
-pub returns : goal.returns
-returns c = record { receives = receives-known; sends = sends-known; others = others-known }

@@ -1,0 +1,2 @@
+mod facts
+pub mod Laws
