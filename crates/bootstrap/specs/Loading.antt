@@ -1,7 +1,7 @@
 -- How far the loader has come, and what comes of the calls and other operations that it makes, some of them at a time.
 -- seL4 Reference Manual, "System Bootstrapping".
 use Rattle.std.specs.Prelude.{ℕ, ◌+◌, Option, Some, None, option_and_then, Result, Ok, Err, List, [], ◌∷◌, ◌++◌, ◌*◌, ◌%◌, ◌^◌}
-use Rattle.kernel.specs.Setups.{state_in}
+use Rattle.kernel_machine.specs.Setups.{state_in}
 use Rattle.bootstrap.specs.declared.loading.Loader.{Loader}
 use Rattle.model.specs.declared.boot_faults.BootFault.{BootFault}
 use Rattle.model.specs.declared.boot_faults.BootFault.TheVariants.{Kernel, Outside}
@@ -20,7 +20,7 @@ pub record Progress : Type 0 where
   pub state : State
 
 abbrev pub progress_of : Loader → Progress
-progress_of loader = record { calls = loader.calls; state = state_in loader.setup }
+progress_of loader = record { calls = loader.calls; state = state_in loader.machine }
 
 infixl 10 ◌>>=◌
 abbrev pub ◌>>=◌ : Result Progress BootFault → (Progress → Result Progress BootFault) → Result Progress BootFault

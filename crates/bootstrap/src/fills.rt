@@ -1,7 +1,7 @@
 //! Frames that begin with what an image lists, and with programs, page by page.
 
 ghost use Rattle.std.specs.Prelude.{◌≡◌, ◌+◌, ◌*◌, ◌%◌, ◌^◌, ◌<◌, ◌≤◌, IfSome, None, true, false, drop, map, take};
-ghost use Rattle.kernel.specs.Setups.{state_in};
+ghost use Rattle.kernel_machine.specs.Setups.{state_in};
 ghost use Rattle.bootstrap.specs.Filling.{ArePlaces, page_filled, pages_filled};
 ghost use Rattle.bootstrap.specs.Limits.{ContentFits, IsLimited, ThreadFits};
 ghost use Rattle.bootstrap.specs.Loading.{all_performed, performed, placed, progress_of};
@@ -113,7 +113,7 @@ impl Loader {
         requires limits { IsLimited image.now }
         requires fits { ThreadFits image.now.header thread.now }
         requires places { ArePlaces image.now image.now.header.objects places.now }
-        ensures outcome { GivesState (placed number self.old.calls (pages_filled image.now thread.now (state_in self.old.setup) (program_pages thread.now))) result (progress_of self.new) }
+        ensures outcome { GivesState (placed number self.old.calls (pages_filled image.now thread.now (state_in self.old.machine) (program_pages thread.now))) result (progress_of self.new) }
         ensures counted { self.new.calls ≡ self.old.calls }
     {
         let pages = (4 * thread.header().words + (PAGE - 1)) / PAGE;
@@ -135,7 +135,7 @@ impl Loader {
         requires limits { IsLimited image.now }
         requires places { ArePlaces image.now image.now.header.objects places.now }
         requires page { page ≤ 64 }
-        ensures outcome { GivesState (placed number self.old.calls (page_filled image.now thread.now (state_in self.old.setup) (thread.now.header.base + page * page_size))) result (progress_of self.new) }
+        ensures outcome { GivesState (placed number self.old.calls (page_filled image.now thread.now (state_in self.old.machine) (thread.now.header.base + page * page_size))) result (progress_of self.new) }
         ensures counted { self.new.calls ≡ self.old.calls }
     {
         let header = thread.header();
@@ -151,13 +151,13 @@ impl Loader {
 
     /// Puts bytes into the frame at a place. What is not there is told by a number.
     fn fill(&mut self, number: u32, place: u64, bytes: &[u8]) -> Result<(), BootFault>
-        ensures outcome { GivesState (placed number self.old.calls (fill (state_in self.old.setup) place bytes.now)) result (progress_of self.new) }
+        ensures outcome { GivesState (placed number self.old.calls (fill (state_in self.old.machine) place bytes.now)) result (progress_of self.new) }
         ensures counted { self.new.calls ≡ self.old.calls }
     {
         if self.is_outside(place) {
             return Err(BootFault::Outside(number));
         }
-        if self.setup.fill(place as u32, bytes) {
+        if self.machine.fill(place as u32, bytes) {
             Ok(())
         } else {
             Err(BootFault::Outside(number))
@@ -166,10 +166,10 @@ impl Loader {
 
     /// Whether a place lies behind the end of memory, where no frame is.
     fn is_outside(&self, place: u64) -> bool
-        ensures outside { result ≡ true → (state_in self.now.setup).objects place ≡ None }
+        ensures outside { result ≡ true → (state_in self.now.machine).objects place ≡ None }
         ensures inside { result ≡ false → place < 2 ^ 32 }
     {
-        u64::from(self.setup.machine().memory_size()) <= place
+        u64::from(self.machine.memory_size()) <= place
     }
 }
 

@@ -1,4 +1,4 @@
-//! Loading an image: a new machine, and the kernel calls that make of it the system that the image describes.
+//! Loading an image: a new machine, and the kernel calls that make of it what the image describes.
 //! seL4 Reference Manual, "System Bootstrapping".
 #![tactic(auto)]
 
@@ -11,4 +11,4 @@ mod object_places;
 mod systems;
 mod untyped_places;
 
-pub use systems::boot_unverified;
+pub use systems::load_unverified;

@@ -19,7 +19,7 @@ use invoke::{
     CONFIGURE, COPY, GET_HANDLER, MAP_FRAME, MAP_TABLE, MINT, MOVE, RESUME, RETYPE,
     SET_NOTIFICATION, SET_PRIORITY, SET_REGISTER,
 };
-use kernel::Setup;
+use kernel_machine::Machine;
 use model::{BootFault, CapabilityEntry, FrameEntry, InterruptEntry, TableEntry, ThreadHeader};
 
 /// The address of the boot CNode itself.
@@ -37,10 +37,10 @@ const ALL_ENDPOINT_RIGHTS: u32 = 11;
 /// What SetRegister calls the program counter.
 const PC: u32 = 0;
 
-/// A system that is being set up, and how many calls were made for it.
+/// A machine that is being set up, and how many calls were made for it.
 #[derive(Drop)]
 pub(crate) struct Loader {
-    pub(crate) setup: Setup,
+    pub(crate) machine: Machine,
     pub(crate) calls: u32,
 }
 
@@ -51,7 +51,7 @@ impl Loader {
         ensures outcome { GivesState (called (progress_of self.old) (loader_call cap label words.now ∷ [])) result (progress_of self.new) }
         ensures counted { self.new.calls ≤ self.old.calls + 1 }
     {
-        match self.setup.call(cap, label, words) {
+        match self.machine.call(cap, label, words) {
             Ok(()) => {
                 self.calls += 1;
                 Ok(())

@@ -4,7 +4,7 @@ ghost use Rattle.std.specs.Prelude.{◌≡◌, ◌+◌, ◌^◌, ◌≤◌, ◌�
 ghost use Rattle.bootstrap.specs.Filling.{ArePlaces};
 ghost use Rattle.bootstrap.specs.Limits.{IsLimited};
 ghost use Rattle.bootstrap.specs.Loading.{all_performed, called, performed, placed, progress_of};
-ghost use Rattle.kernel.specs.Setups.{state_in};
+ghost use Rattle.kernel_machine.specs.Setups.{state_in};
 ghost use Rattle.model.specs.Kernel.Outcomes.{GivesState};
 ghost use Rattle.model.specs.Acceptance.Accepted.{IsWellFormed};
 ghost use Rattle.model.specs.Images.Boot.{booted};
@@ -20,17 +20,17 @@ use crate::loading::Loader;
 use crate::object_places::places_of;
 use crate::untyped_places::misplaced;
 use image_reading::ImageRef;
-use kernel::{Setup, System};
+use kernel_machine::Machine;
 use model::{BootFault, ImageHeader, UntypedEntry};
 use std::alloc::Global;
 
 /// Loads an image into a new machine by kernel calls alone. Nothing is left of a machine that could not be loaded.
 ///
 /// seL4 Reference Manual, "System Bootstrapping"; the calls and their order are this project's own.
-pub fn boot_unverified(alloc: Global, image: &ImageRef<'_>) -> Result<System, BootFault>
-    ensures booted { IfOk result (λ system. booted image.now ≡ Ok (state_in system)) }
+pub fn load_unverified(alloc: Global, image: &ImageRef<'_>) -> Result<Machine, BootFault>
+    ensures loaded { IfOk result (λ machine. booted image.now ≡ Ok (state_in machine)) }
     ensures fault { IfErr result (λ fault. (fault ≡ OutOfMemory) ⊎ (booted image.now ≡ Err fault)) }
-    // A well-formed image boots, if memory is not refused.
+    // A well-formed image is loaded, if memory is not refused.
     ensures formed { whole_image.fits image.now ≡ true → IsWellFormed image.now → IfErr result (λ fault. fault ≡ OutOfMemory) }
 {
     let header = limited_header(image);
@@ -40,12 +40,12 @@ pub fn boot_unverified(alloc: Global, image: &ImageRef<'_>) -> Result<System, Bo
     let Ok(places) = places_of(alloc, image) else {
         return Err(BootFault::OutOfMemory);
     };
-    let Ok(setup) = Setup::new(alloc, header.memory_bits, header.boot_radix) else {
+    let Ok(machine) = Machine::new(alloc, header.memory_bits, header.boot_radix) else {
         return Err(BootFault::OutOfMemory);
     };
-    let mut loader = Loader { setup, calls: 0 };
+    let mut loader = Loader { machine, calls: 0 };
     loader.load(image, &places)?;
-    Ok(loader.setup.start())
+    Ok(loader.machine)
 }
 
 /// The header of an image. What is read keeps to its limits.
@@ -88,10 +88,10 @@ impl Loader {
     /// Puts untyped memory into its boot slot.
     fn put_untyped(&mut self, number: u32, entry: UntypedEntry) -> Result<(), BootFault>
         requires { entry.bits ≤ 24 }
-        ensures outcome { GivesState (placed number self.old.calls (put_untyped (state_in self.old.setup) number entry.offset entry.bits)) result (progress_of self.new) }
+        ensures outcome { GivesState (placed number self.old.calls (put_untyped (state_in self.old.machine) number entry.offset entry.bits)) result (progress_of self.new) }
         ensures counted { self.new.calls ≡ self.old.calls }
     {
-        if self.setup.untyped(number, entry.offset, entry.bits as u8) {
+        if self.machine.untyped(number, entry.offset, entry.bits as u8) {
             Ok(())
         } else {
             Err(BootFault::Outside(number))
@@ -104,7 +104,7 @@ impl Loader {
         ensures outcome { GivesState (performed image.now.header.untypeds (progress_of self.old) (PutsControl (control_slot image.now))) result (progress_of self.new) }
         ensures counted { self.new.calls ≡ self.old.calls }
     {
-        if self.setup.control(control_slot(image)) {
+        if self.machine.control(control_slot(image)) {
             Ok(())
         } else {
             Err(BootFault::Outside(image.header().untypeds))

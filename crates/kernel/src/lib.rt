@@ -1,17 +1,10 @@
-//! The kernel: what it keeps is always sound, so that its calls ask nothing of their caller.
+//! The kernel: a machine that calls set up, and a system whose threads run.
 //! seL4 Reference Manual, "System Bootstrapping" and "System Calls".
 #![tactic(auto)]
 
-mod boot_calls;
-mod holders;
-mod looks;
-mod machine;
-mod places;
-mod puts;
 mod setup;
-mod stores;
 mod system;
 
-pub use machine::Machine;
+pub use kernel_machine::Machine;
 pub use setup::Setup;
 pub use system::System;

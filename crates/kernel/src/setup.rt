@@ -2,13 +2,14 @@
 
 ghost use Rattle.std.specs.Prelude.{◌≡◌, ◌+◌, ◌≤◌, IfOk, IfSome, OnErr, option_and_then, option_map};
 ghost use Rattle.model.specs.Kernel.Outcomes.{GivesState};
-ghost use Rattle.kernel.specs.Setups.{GivesIf, IsPlace, register_in, seen_entry, slot_in, state_in};
+ghost use Rattle.kernel_machine.specs.Setups.{GivesIf, IsPlace, register_in, seen_entry, slot_in, state_in};
 ghost use Rattle.model.specs.Images.Boot.{made};
 ghost use Rattle.model.specs.Images.BootCalls.{loader_call};
 ghost use Rattle.model.specs.Kernel.Setup.{boot_area, fill, put_control, put_untyped};
 ghost use Rattle.model.specs.Kernel.State.{as_thread};
 
-use crate::{Machine, System};
+use crate::System;
+use kernel_machine::Machine;
 use model::{Cap, KError};
 use std::alloc::{AllocError, Global};
 use std::marker::Model;
@@ -20,7 +21,7 @@ pub struct Setup {
 }
 
 impl Model for Setup {
-    ghost use Rattle.kernel.specs.Setups.{Parts};
+    ghost use Rattle.kernel_machine.specs.Setups.{Parts};
 
     ghost Value = { Parts };
 

@@ -1,11 +1,11 @@
 //! A system whose threads run.
 
 ghost use Rattle.std.specs.Prelude.{◌≡◌, IfSome, option_and_then, option_map};
-ghost use Rattle.kernel.specs.Setups.{IsPlace, register_in, seen_entry, slot_in, state_in};
+ghost use Rattle.kernel_machine.specs.Setups.{IsPlace, register_in, seen_entry, slot_in, state_in};
 ghost use Rattle.model.specs.Kernel.State.{as_thread};
 ghost use Rattle.model.specs.Kernel.Steps.{step};
 
-use crate::Machine;
+use kernel_machine::Machine;
 use model::{Cap, Event, Label};
 use std::marker::Model;
 
@@ -16,7 +16,7 @@ pub struct System {
 }
 
 impl Model for System {
-    ghost use Rattle.kernel.specs.Setups.{Parts};
+    ghost use Rattle.kernel_machine.specs.Setups.{Parts};
 
     ghost Value = { Parts };
 
@@ -25,7 +25,7 @@ impl Model for System {
 
 impl System {
     /// The system of what was set up.
-    pub(crate) fn of(machine: Machine) -> Self
+    pub fn of(machine: Machine) -> Self
         ensures { result ≡ machine }
     {
         System { machine }
@@ -37,7 +37,7 @@ impl System {
         ensures state { state_in self.new ≡ (step (state_in self.old) event).0 }
         ensures label { result ≡ (step (state_in self.old) event).1 }
     {
-        self.machine.step(event)
+        steps::step(&mut self.machine.kernel, event)
     }
 
     /// A register of the thread at an offset: its program counter by index 0, and else that of this index, 1 to 31.

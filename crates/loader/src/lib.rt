@@ -1,8 +1,7 @@
-//! Booting an accepted image. What loads an image, verified or not, is `bootstrap`'s.
+//! Booting an image, verified or not. What loads it into a machine is `bootstrap`'s.
 //! seL4 Reference Manual, "System Bootstrapping".
 #![tactic(auto)]
 
 mod systems;
 
-pub use bootstrap::boot_unverified;
-pub use systems::boot;
+pub use systems::{boot, boot_unverified};

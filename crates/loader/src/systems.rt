@@ -1,17 +1,37 @@
-//! Loading an accepted image into a new machine.
+//! Loading an image into a new machine, whose threads then run.
 
-ghost use Rattle.std.specs.Prelude.{◌≡◌, IfOk, OnOk, Ok};
+ghost use Rattle.std.specs.Prelude.{◌≡◌, ◌⊎◌, IfErr, IfOk, OnOk, Err, Ok, true};
 ghost use Rattle.boot_laws.specs.Standing.{StandApart};
-ghost use Rattle.kernel.specs.Setups.{state_in};
+ghost use Rattle.kernel_machine.specs.Setups.{state_in};
+ghost use Rattle.model.specs.Acceptance.Accepted.{IsWellFormed};
 ghost use Rattle.model.specs.Images.Boot.{booted};
 ghost use Rattle.model.specs.Images.Described.{described};
+ghost use Rattle.model.specs.Images.Image.{whole_image};
+ghost use Rattle.model.specs.declared.boot_faults.BootFault.TheVariants.{OutOfMemory};
 
 use boot_laws::{objects_stand_inside_their_untypeds, well_formed_images_boot};
-use bootstrap::boot_unverified;
+use bootstrap::load_unverified;
+use image_reading::ImageRef;
 use kernel::System;
 use model::BootFault;
 use std::alloc::{AllocError, Global};
 use verify::Accepted;
+
+/// Loads an image into a new machine by kernel calls alone, and lets its threads run. Nothing is left of a machine that could not be
+/// loaded.
+///
+/// seL4 Reference Manual, "System Bootstrapping"; the calls and their order are this project's own.
+pub fn boot_unverified(alloc: Global, image: &ImageRef<'_>) -> Result<System, BootFault>
+    ensures booted { IfOk result (λ system. booted image.now ≡ Ok (state_in system)) }
+    ensures fault { IfErr result (λ fault. (fault ≡ OutOfMemory) ⊎ (booted image.now ≡ Err fault)) }
+    // A well-formed image boots, if memory is not refused.
+    ensures formed { whole_image.fits image.now ≡ true → IsWellFormed image.now → IfErr result (λ fault. fault ≡ OutOfMemory) }
+{
+    match load_unverified(alloc, image) {
+        Ok(machine) => Ok(System::of(machine)),
+        Err(fault) => Err(fault),
+    }
+}
 
 /// Boots an accepted image into the state that it describes. Only memory can be wanting: no call fails, and nothing lies outside.
 ///

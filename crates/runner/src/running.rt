@@ -1,7 +1,7 @@
 //! A run: an image is verified and booted, and each event puts a line.
 
 ghost use Rattle.std.specs.Prelude.{◌≡◌, ◌≢◌, Err, IfErr, OnErr, OnOk, Some};
-ghost use Rattle.kernel.specs.Setups.{state_in};
+ghost use Rattle.kernel_machine.specs.Setups.{state_in};
 ghost use Rattle.model.specs.Acceptance.Accepted.{first_breach};
 ghost use Rattle.model.specs.Images.Format.{reading};
 ghost use Rattle.model.specs.Images.Image.{whole_image};

@@ -2,7 +2,7 @@
 
 ghost use Rattle.std.specs.Prelude.{◌≡◌, ◌+◌, ◌≤◌, ◌++◌, OnErr, OnOk, if◌then◌else◌, is_ok};
 ghost use Rattle.arrayvec.specs.ArrayVec.{array_vec_len};
-ghost use Rattle.kernel.specs.Setups.{state_in};
+ghost use Rattle.kernel_machine.specs.Setups.{state_in};
 ghost use Rattle.model.specs.Kernel.Steps.{trace};
 ghost use Rattle.runner.specs.Running.{Failed, PutsFront, ended, lines_of};
 ghost use Rattle.sinks.specs.Sinks.{Grows, GrowsByBeginning, one_more};

@@ -1,6 +1,6 @@
 -- By the law that well-formed images boot.
 use Rattle.std.proofs.Common.{◌≡◌, true, subst, sym}
-use Rattle.kernel.specs.Setups.{state_in}
+use Rattle.kernel_machine.specs.Setups.{state_in}
 use Rattle.model.specs.Acceptance.Accepted.{IsWellFormed}
 use Rattle.model.specs.Images.Image.{Image, whole_image}
 use Rattle.loader.proofs.AcceptedBoots.{boots-into}

@@ -1,7 +1,7 @@
 -- By the laws on lines that are held and put.
 use Rattle.std.proofs.Common.{◌∙◌, ◌+◌, ℕ, List, drop, subst}
 use Rattle.std.specs.Prelude.{slice_index_or}
-use Rattle.kernel.specs.Setups.{state_in}
+use Rattle.kernel_machine.specs.Setups.{state_in}
 use Rattle.model.specs.declared.events.Event.{Event}
 use Rattle.model.specs.declared.events.Event.TheVariants.{Step}
 use Rattle.model.specs.Kernel.Steps.{trace}

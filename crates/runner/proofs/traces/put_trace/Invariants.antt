@@ -1,6 +1,6 @@
 -- The lines of the events so far are put or held, and nothing failed.
 use Rattle.std.proofs.Common.{◌≡◌, drop}
-use Rattle.kernel.specs.Setups.{state_in}
+use Rattle.kernel_machine.specs.Setups.{state_in}
 use Rattle.model.specs.Kernel.Steps.{trace}
 use Rattle.runner.proofs.PutLines.{ArePut}
 use Rattle.runner.proofs.traces.put_trace.Given as goal

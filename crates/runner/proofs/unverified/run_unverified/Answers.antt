@@ -1,7 +1,7 @@
 -- What cannot be read is told as it is, what does not boot is no refusal, and behind the lines there is no other fault than the sink's.
 use Rattle.std.proofs.Common.{◌≡◌, ◌∙◌, sym}
 use Rattle.std.proofs.lemmas.Result.{err_from_is_err_and}
-use Rattle.kernel.specs.Setups.{state_in}
+use Rattle.kernel_machine.specs.Setups.{state_in}
 use Rattle.model.specs.declared.boot_faults.BootFault.TheVariants as boot_faults
 use Rattle.model.specs.declared.refusals.Refusal.TheVariants as refusals
 use Rattle.model.specs.Kernel.Steps.{trace}

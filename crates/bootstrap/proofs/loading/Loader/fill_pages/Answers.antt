@@ -1,7 +1,7 @@
 -- By the pages that are left.
 use Rattle.std.proofs.Common.{◌∙◌, ℕ, ◌+◌, ◌*◌, ◌<◌, ◌≤◌, List, ap, arith}
 use Rattle.std.proofs.lemmas.Result.{err_from_is_err_and}
-use Rattle.kernel.specs.Setups.{state_in}
+use Rattle.kernel_machine.specs.Setups.{state_in}
 use Rattle.model.specs.Kernel.AddressSpaces.{page_size}
 use Rattle.bootstrap.specs.Filling.{page_count, page_filled, pages_filled, pages_from}
 use Rattle.bootstrap.specs.Loading.{placed, progress_of}
@@ -10,7 +10,7 @@ use Rattle.bootstrap.proofs.loading.Loader.fill_pages.Goals as goal
 
 pub loop-page-init : goal.loop-page-init
 loop-page-init c = record {
-  same = ap (λ (pages : List ℕ). placed c.args.number c.args.self.now.calls (pages_filled c.args.image.now c.args.thread.now (state_in c.args.self.now.setup) pages)) (pages-first c.args.thread.now);
+  same = ap (λ (pages : List ℕ). placed c.args.number c.args.self.now.calls (pages_filled c.args.image.now c.args.thread.now (state_in c.args.self.now.machine) pages)) (pages-first c.args.thread.now);
   calls = omega arith;
 }
 

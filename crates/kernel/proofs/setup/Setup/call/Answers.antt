@@ -1,7 +1,7 @@
 -- What is lent on is the state.
 use Rattle.model.specs.Kernel.Outcomes.{GivesState}
 use Rattle.kernel.proofs.setup.Setup.call.Goals as goal
-use Rattle.kernel.specs.Setups.{Parts, state_in}
+use Rattle.kernel_machine.specs.Setups.{Parts, state_in}
 use Rattle.model.specs.Images.Boot.{made}
 use Rattle.model.specs.Images.BootCalls.{loader_call}
 use Rattle.std.proofs.Common.{subst}

@@ -1,6 +1,6 @@
 -- What is looked at is the state.
 use Rattle.kernel.proofs.system.System.slot.Goals as goal
-use Rattle.kernel.specs.Setups.{IsPlace, Parts, state_in}
+use Rattle.kernel_machine.specs.Setups.{IsPlace, Parts, state_in}
 use Rattle.std.proofs.Common.{IfSome, subst}
 
 pub returns-clause-parent : goal.returns-clause-parent

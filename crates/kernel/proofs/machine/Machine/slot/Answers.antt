@@ -1,7 +1,0 @@
--- What is looked at is the state.
-use Rattle.kernel.proofs.machine.Machine.slot.Goals as goal
-use Rattle.kernel.specs.Setups.{IsPlace, Parts, state_in}
-use Rattle.std.proofs.Common.{IfSome, subst}
-
-pub returns-clause-parent : goal.returns-clause-parent
-returns-clause-parent c = subst (λ (k : Parts). IfSome c.look_at.result (λ seen. IfSome seen.1 (IsPlace (state_in k)))) c.self.view_is c.look_at.ensures.parent

@@ -1,0 +1,14 @@
+-- It is a call of the loader, on what a full slot holds.
+use Rattle.kernel_machine.proofs.boot_calls.called.Goals as goal
+use Rattle.model.specs.Capabilities.Slots.{IsFull, capability_at}
+use Rattle.objects.specs.Tables.{state_of}
+use Rattle.soundness.specs.Calls.{held, of_loader}
+use Rattle.std.proofs.Common.{◌≡◌, subst, sym}
+
+pub returns-in-Ok-clause-sound : goal.returns-in-Ok-clause-sound
+unfolding state_of
+returns-in-Ok-clause-sound g c = record {
+  root = of_loader c.boot_root-root.ensures.value;
+  invoked = held (subst (λ k. capability_at (g.S.SlotMap.slots k.store) c.in-Ok.slot ≡ c.capability.result) c.kernel.view_is (sym c.capability.ensures.value))
+      (subst (λ k. IsFull (g.S.SlotMap.slots k.store) c.in-Ok.slot) c.kernel.view_is c.in-Ok.ensures.full);
+}

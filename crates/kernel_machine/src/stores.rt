@@ -1,0 +1,22 @@
+//! The store that the kernel stands on: its type is named here alone, and its form in `specs/Stores.antt`.
+
+ghost use Rattle.std.specs.Prelude.{ℕ, ◌≡◌, ◌^◌, ◌≤◌, IfOk, None, replicate};
+ghost use Rattle.kernel_machine.specs.Stores.{bytes_of, slots_of};
+
+use cached_slots::CachedSlots;
+use packed_slots::PackedSlots;
+use std::alloc::{AllocError, Global};
+
+/// The slots in memory itself, in preorder, with the leaves of walks kept beside it.
+pub type Store = CachedSlots<PackedSlots>;
+
+/// Memory of 2^`bits` bytes, all zero, and no open slot.
+pub(crate) fn empty_store(alloc: Global, bits: u32) -> Result<Store, AllocError>
+    requires least { 16 ≤ bits }
+    requires most { bits ≤ 24 }
+    ensures bytes { IfOk result (λ store. bytes_of store ≡ replicate (2 ^ bits) 0) }
+    ensures slots { IfOk result (λ store. (s : ℕ) → slots_of store s ≡ None) }
+{
+    let store = PackedSlots::new(alloc, bits)?;
+    Ok(CachedSlots::new(store))
+}
