@@ -38,6 +38,8 @@ def toolchain():
 
 RT = toolchain()
 SUMS = {}
+# What the toolchain takes for a crate before its first proof and behind its last, in lines of code.
+CRATE_IN_LINES = 100
 # A crate's command gives way to those of crates with a longer chain of others behind them.
 NICENESS = {}
 
@@ -95,10 +97,11 @@ def build_all(names):
     """Builds each library once those below it stand, first those with the longest chain of others behind them."""
     crates = [it for it in RT.rtlib.crates_below(os.getcwd()) if not names or it.name in names]
     left = list({it.name: it for crate in crates for it in [*crate.below(), crate] if it.makes_rlib()}.values())
-    behind = {it.name: it.count(rb"\n") for it in left}
+    own = {it.name: it.count(rb"\n") + CRATE_IN_LINES for it in left}
+    behind = dict(own)
     for it in reversed(left):
         for below in it.deps:
-            behind[below.name] = max(behind[below.name], behind[it.name] + below.count(rb"\n"))
+            behind[below.name] = max(behind[below.name], behind[it.name] + own[below.name])
     os.makedirs(LOGS, exist_ok=True)
     RT.rtlib.guarded()
     lanes, built, running = os.cpu_count() or 1, set(), {}

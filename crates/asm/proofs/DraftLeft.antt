@@ -7,10 +7,10 @@ use Rattle.std.specs.declared.str.Lines.{Lines}
 use Rattle.model.specs.Images.Listing.{Text}
 use Rattle.asm_line.specs.Listed.{Lists}
 use Rattle.asm_line.specs.declared.lines.Line.{Line}
-use Rattle.assembly.specs.Drafts.{Draft}
-use Rattle.assembly.specs.Labels.{FoundLabels, next_number}
-use Rattle.assembly.specs.Reading.{AreInPlace, IsInPlace, with_line, with_lines}
-use Rattle.assembly.proofs.Laws.{IsLeft, all-left, next-left, none-left}
+use Rattle.asm.specs.Drafts.{Draft}
+use Rattle.asm.specs.Labels.{FoundLabels, next_number}
+use Rattle.asm.specs.Reading.{AreInPlace, IsInPlace, with_line, with_lines}
+use Rattle.asm.proofs.Laws.{IsLeft, all-left, next-left, none-left}
 use denote.Ref.{Bor}
 
 -- `first` is what was read before the text

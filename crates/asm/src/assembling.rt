@@ -8,13 +8,15 @@ ghost use Rattle.model.specs.Images.Image.{whole_image};
 ghost use Rattle.model.specs.Images.Listing.{listing};
 ghost use Rattle.asm_line.specs.Listed.{Lists};
 ghost use Rattle.asm_line.specs.declared.lines.Line.{Line};
-ghost use Rattle.assembly.specs.declared.faults.Fault.{Fault};
-ghost use Rattle.assembly.specs.Drafts.{draft_of, nothing_read};
-ghost use Rattle.assembly.specs.Outcomes.{Gives};
-ghost use Rattle.assembly.specs.Reading.{AreInPlace, IsInPlace, with_line, with_lines};
+ghost use Rattle.asm.specs.declared.faults.Fault.{Fault};
+ghost use Rattle.asm.specs.Drafts.{draft_of, nothing_read};
+ghost use Rattle.asm.specs.Outcomes.{Gives};
+ghost use Rattle.asm.specs.Reading.{AreInPlace, IsInPlace, with_line, with_lines};
 
+use crate::assembly::Assembly;
+use crate::faults::{Fault, SourceFault};
+use crate::labels::{Labels, labels_of};
 use asm_line::{Line, parse_line};
-use assembly::{Assembly, Fault, Labels, SourceFault, labels_of};
 use image::Image;
 use std::alloc::Global;
 

@@ -8,9 +8,9 @@ use Rattle.cached_slots.specs.Mappings.{AreMapped, AreMappedBeside, IsMapped, Le
 use Rattle.model.specs.Capabilities.CapabilityKinds.{frame_mapping}
 use Rattle.model.specs.Capabilities.Slots.{Slots, capability_at}
 use Rattle.model.specs.declared.capabilities.Cap.{Cap}
-use Rattle.walk_cache.proofs.Laws.{kept-more, nothing-kept}
-use Rattle.walk_cache.specs.KeptLeaves.{AreAmong, leaf_of, with_leaf}
-use Rattle.walk_cache.specs.declared.caches.TlbEntry.{TlbEntry}
+use Rattle.cached_slots.proofs.Laws.{kept-more, nothing-kept}
+use Rattle.cached_slots.specs.KeptLeaves.{AreAmong, leaf_of, with_leaf}
+use Rattle.cached_slots.specs.declared.caches.TlbEntry.{TlbEntry}
 
 pub none-mapped : (slots : Slots) (entries : List (Option TlbEntry)) → entries ≡ replicate 64 None → AreMapped slots entries
 none-mapped slots entries empty =

@@ -1,2 +1,5 @@
 mod Kept
+mod LeafWalks
+mod LeavesKept
 mod Mapped
+pub mod Laws

@@ -7,7 +7,7 @@ use Rattle.model.proofs.SlotChanges.{capability-adopted, capability-closed, capa
 use Rattle.model.specs.Capabilities.Slots.{IsFull, Slots, capability_at, closed, empty_entry, inserted, is_empty, opened, parent_at, recapped, relocated, spliced, with_entry, with_parent}
 use Rattle.model.specs.declared.capabilities.Cap.{Cap}
 use Rattle.model.specs.declared.slot_entries.Entry.{Entry}
-use Rattle.walk_cache.specs.declared.caches.TlbEntry.{TlbEntry}
+use Rattle.cached_slots.specs.declared.caches.TlbEntry.{TlbEntry}
 
 -- ---- one mapping
 

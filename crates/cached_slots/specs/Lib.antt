@@ -1,1 +1,3 @@
+pub mod KeptLeaves
+pub mod Laws
 pub mod Mappings

@@ -6,8 +6,8 @@ use Rattle.model.specs.Capabilities.Slots.{Slots}
 use Rattle.model.specs.Kernel.AddressSpaces.{Maps}
 use Rattle.model.specs.Machine.Sv32.{leaf_word}
 use Rattle.model.specs.declared.rights.Rights.{Rights}
-use Rattle.walk_cache.specs.KeptLeaves.{leaf_of}
-use Rattle.walk_cache.specs.declared.caches.TlbEntry.{TlbEntry}
+use Rattle.cached_slots.specs.KeptLeaves.{leaf_of}
+use Rattle.cached_slots.specs.declared.caches.TlbEntry.{TlbEntry}
 
 -- the capability in some slot maps a frame at a page under a root table, and this is its leaf
 pub record IsMapped (slots : Slots) (root page leaf : ℕ) : Type 0 where

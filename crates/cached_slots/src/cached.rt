@@ -4,12 +4,12 @@ ghost use Rattle.std.specs.Prelude.{◌≡◌};
 ghost use Rattle.cached_slots.specs.Mappings.{AreMapped};
 
 use crate::WalkStore;
+use crate::caches::Tlb;
 use crate::forgetting::forget;
 use model::{Access, Cap, PageFault, Slot};
 use pmem::Mem;
 use slots::{SlotMap, SlotStore};
 use std::marker::Model;
-use walk_cache::Tlb;
 
 /// A store of slots with leaves of the mappings in their capabilities, which are forgotten where a mapping goes. A clause
 /// sees the store alone.

@@ -6,9 +6,9 @@ ghost use Rattle.model.specs.Capabilities.CapabilityKinds.{frame_mapping};
 ghost use Rattle.model.specs.Capabilities.Slots.{capability_at};
 ghost use Rattle.std.specs.Option.{is_some};
 
+use crate::caches::Tlb;
 use model::{Cap, Slot};
 use slots::SlotMap;
-use walk_cache::Tlb;
 
 /// Whether a capability maps a frame.
 fn maps_frame(capability: &Cap) -> bool

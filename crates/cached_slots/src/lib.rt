@@ -4,8 +4,11 @@
 #![tactic(auto)]
 
 mod cached;
+mod caches;
 mod forgetting;
+mod leaves;
 mod walks;
 
 pub use cached::CachedSlots;
+pub use leaves::{leaves_stay_where_entries_do, one_leaf_more_is_kept};
 pub use walks::WalkStore;

@@ -1,7 +1,10 @@
-//! The kernel: a machine that calls set up, and a system whose threads run.
+//! The kernel: a machine that calls set up, a system whose threads run, and what each event does to it.
 //! seL4 Reference Manual, "System Bootstrapping" and "System Calls".
 #![tactic(auto)]
 
+mod events;
+mod failures;
+mod instructions;
 mod setup;
 mod system;
 

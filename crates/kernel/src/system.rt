@@ -5,6 +5,7 @@ ghost use Rattle.kernel_machine.specs.Setups.{IsPlace, register_in, seen_entry, 
 ghost use Rattle.model.specs.Kernel.State.{as_thread};
 ghost use Rattle.model.specs.Kernel.Steps.{step};
 
+use crate::events;
 use kernel_machine::Machine;
 use model::{Cap, Event, Label};
 use std::marker::Model;
@@ -37,7 +38,7 @@ impl System {
         ensures state { state_in self.new ≡ (step (state_in self.old) event).0 }
         ensures label { result ≡ (step (state_in self.old) event).1 }
     {
-        steps::step(&mut self.machine.kernel, event)
+        events::step(&mut self.machine.kernel, event)
     }
 
     /// A register of the thread at an offset: its program counter by index 0, and else that of this index, 1 to 31.

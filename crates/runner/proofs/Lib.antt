@@ -1,5 +1,3 @@
 pub mod Calm
 pub mod Endings
-pub mod KernelTraces
-pub mod PutLines
 pub mod Refusals

@@ -1,14 +1,13 @@
 -- What a run answers, and what it puts.
-use Rattle.std.specs.Prelude.{ℕ, ◌≡◌, ◌<◌, ◌⊎◌, ◌-◌, ◌^◌, ◌++◌, List, [], ◌∷◌, flat_map, Option}
+use Rattle.std.specs.Prelude.{ℕ, List, Option}
 use Rattle.model.specs.declared.boot_faults.BootFault.{BootFault}
 use Rattle.model.specs.declared.boot_faults.BootFault.TheVariants as boot_faults
 use Rattle.model.specs.declared.events.Event.{Event}
-use Rattle.model.specs.declared.labels.Label.{Label}
 use Rattle.model.specs.declared.refusals.Refusal.{Refusal}
 use Rattle.model.specs.declared.refusals.Refusal.TheVariants as refusals
 use Rattle.model.specs.Images.Image.{Image}
-use Rattle.model.specs.Shared.Trace.{line_of}
 use Rattle.headline.specs.SafeRuns.{IsSafeRun, trace_of}
+use Rattle.kernel_trace.specs.Lines.{lines_of}
 use Rattle.sinks.specs.Sinks.{Grows, GrowsByBeginning}
 use Rattle.runner.specs.declared.running.RunFault.{RunFault}
 use Rattle.runner.specs.declared.running.RunFault.TheVariants.{Boot, Refused, OutOfMemory}
@@ -22,24 +21,6 @@ fault_of other = Refused other
 abbrev pub boot_fault_of : BootFault → RunFault
 boot_fault_of boot_faults.OutOfMemory = OutOfMemory
 boot_fault_of other = Boot other
-
--- ---- what is put
-
--- the line of a label with its line feed
-abbrev pub ended : Label → List ℕ
-ended label = line_of label ++ 0x0A ∷ []
-
--- the lines of a trace
-unfoldable pub lines_of : List Label → List ℕ
-lines_of labels = flat_map ended labels
-
--- of what was held a front was put, and the rest is held
-abbrev pub PutsFront : Option (List ℕ) → Option (List ℕ) → List ℕ → List ℕ → Type 0
-PutsFront old new held rest = (front : List ℕ) × Grows old new front × (held ≡ front ++ rest)
-
--- the count of failures grew, or stands at its end
-abbrev pub Failed : ℕ → ℕ → Type 0
-Failed old new = (old < new) ⊎ (new ≡ 2 ^ 64 - 1)
 
 -- ---- the promise
 

@@ -7,7 +7,7 @@ use Rattle.model.specs.Images.Format.{reading}
 use Rattle.model.specs.Images.Image.{Image, whole_image}
 use Rattle.model.specs.Kernel.State.{State}
 use Rattle.model.specs.Kernel.Steps.{trace}
-use Rattle.runner.specs.Running.{lines_of}
+use Rattle.kernel_trace.specs.Lines.{lines_of}
 use Rattle.sinks.specs.Sinks.{Grows, GrowsByBeginning}
 
 -- the bytes spell an image that boots into this state

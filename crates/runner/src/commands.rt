@@ -1,7 +1,7 @@
 //! The program: what it answers to the words of its command line.
 
 ghost use Rattle.std.specs.Prelude.{ℕ, ◌≡◌, ◌≢◌};
-ghost use Rattle.assembly.specs.declared.faults.SourceFault.{SourceFault};
+ghost use Rattle.asm.specs.declared.faults.SourceFault.{SourceFault};
 ghost use Rattle.command_line.specs.declared.commands.WordsFault.{WordsFault};
 ghost use Rattle.runner.specs.declared.commands.Failure.{Failure};
 ghost use Rattle.sinks.specs.declared.event_lists.EventsFault.{EventsFault};

@@ -5,11 +5,9 @@
 mod building;
 mod commands;
 mod running;
-mod traces;
 mod unverified;
 
 pub use commands::{command, command_line};
 pub use running::{RunFault, run};
 pub use sinks::{EventsFault, MemorySink, Sink, SinkFault, WriterSink, events, put_all};
-pub use traces::put_trace;
 pub use unverified::run_unverified;

@@ -9,12 +9,13 @@ ghost use Rattle.model.specs.Kernel.Steps.{trace};
 ghost use Rattle.model.specs.declared.boot_faults.BootFault.{BootFault};
 ghost use Rattle.model.specs.declared.refusals.Refusal.{Refusal};
 ghost use Rattle.runner.specs.declared.running.RunFault.TheVariants.{Output, OutOfMemory};
-ghost use Rattle.runner.specs.Running.{Failed, PutsAll, PutsSome, boot_fault_of, fault_of, lines_of};
+ghost use Rattle.kernel_trace.specs.Lines.{Failed, lines_of};
+ghost use Rattle.runner.specs.Running.{PutsAll, PutsSome, boot_fault_of, fault_of};
 ghost use Rattle.sinks.specs.Sinks.{Grows, GrowsByBeginning};
 
-use crate::traces::put_trace;
 use headline::accepted_images_run_safely;
 use kernel::System;
+use kernel_trace::put_trace;
 use loader::boot;
 use model::{BootFault, Event, Refusal};
 use sinks::{Sink, SinkFault};

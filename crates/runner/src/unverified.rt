@@ -5,7 +5,7 @@ ghost use Rattle.model.specs.Images.Format.{reading};
 ghost use Rattle.model.specs.Images.Image.{whole_image};
 ghost use Rattle.model.specs.declared.boot_faults.BootFault.{BootFault};
 ghost use Rattle.model.specs.declared.refusals.Refusal.{Refusal};
-ghost use Rattle.runner.specs.Running.{Failed};
+ghost use Rattle.kernel_trace.specs.Lines.{Failed};
 ghost use Rattle.runner.specs.Unverified.{FailsToBoot, PutsTrace, PutsTraceBeginning};
 
 use crate::running::{RunFault, put_lines};

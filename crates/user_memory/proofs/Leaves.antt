@@ -16,7 +16,7 @@ use Rattle.object_lifetimes.specs.Kernels.{Parts, state_in}
 use Rattle.objects.specs.Tables.{state_of}
 use Rattle.user_memory.specs.Views.{IsUsable}
 use Rattle.vspace.specs.Tables.{Holds, MapsFrame, MapsTable, TablesAgree}
-use Rattle.walk_cache.specs.KeptLeaves.{leaf_of}
+use Rattle.cached_slots.specs.KeptLeaves.{leaf_of}
 
 -- ---- the entries that the kernel writes
 

@@ -3,7 +3,7 @@ use Rattle.std.specs.List.{AllZip}
 use Rattle.std.specs.Str.Lines.{lines}
 use Rattle.asm_line.specs.Listed.{Lists}
 use Rattle.asm_line.specs.declared.lines.Line.{Line}
-use Rattle.assembly.specs.Reading.{AreInPlace}
+use Rattle.asm.specs.Reading.{AreInPlace}
 use Rattle.asm.proofs.DraftLeft.{DraftLeft}
 use Rattle.asm.proofs.assembling.add_lines.Given as goal
 

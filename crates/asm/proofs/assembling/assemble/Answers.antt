@@ -4,10 +4,10 @@ use Rattle.std.specs.Str.Lines.{lines}
 use Rattle.model.specs.Images.Image.{Image}
 use Rattle.model.specs.Images.Listing.{Text, listing}
 use Rattle.asm_line.specs.Listed.{Lists}
-use Rattle.assembly.specs.Drafts.{nothing_read}
-use Rattle.assembly.specs.Labels.{FoundLabels, labels_in}
-use Rattle.assembly.specs.Reading.{AreInPlace, with_lines}
-use Rattle.assembly.proofs.Laws.{IsReadBack, read-back, told-by}
+use Rattle.asm.specs.Drafts.{nothing_read}
+use Rattle.asm.specs.Labels.{FoundLabels, labels_in}
+use Rattle.asm.specs.Reading.{AreInPlace, with_lines}
+use Rattle.asm.proofs.Laws.{IsReadBack, read-back, told-by}
 use Rattle.asm.proofs.assembling.assemble.Goals as goal
 
 -- a text that is a listing has its lines

@@ -1,9 +1,9 @@
 use Rattle.std.proofs.Common.{◌≡◌, List, ap, sym, subst, ◌∙◌}
 use Rattle.asm_line.specs.declared.lines.Line.{Line}
-use Rattle.assembly.specs.Drafts.{Draft, nothing_read}
-use Rattle.assembly.specs.Labels.{FoundLabels}
-use Rattle.assembly.specs.Reading.{AreInPlace, with_lines}
-use Rattle.assembly.proofs.Laws.{told-by}
+use Rattle.asm.specs.Drafts.{Draft, nothing_read}
+use Rattle.asm.specs.Labels.{FoundLabels}
+use Rattle.asm.specs.Reading.{AreInPlace, with_lines}
+use Rattle.asm.proofs.Laws.{told-by}
 use Rattle.asm.proofs.assembling.image_with.Goals as goal
 
 -- what holds of lines behind nothing holds of them behind a draft of which nothing is read

@@ -5,7 +5,8 @@ use Rattle.std.proofs.lemmas.Result.{err_from_is_err_and}
 use Rattle.model.specs.Kernel.State.{State}
 use Rattle.model.specs.Kernel.Steps.{trace}
 use Rattle.headline.specs.SafeRuns.{trace_of}
-use Rattle.runner.specs.Running.{Failed, PutsAll, lines_of}
+use Rattle.kernel_trace.specs.Lines.{Failed, lines_of}
+use Rattle.runner.specs.Running.{PutsAll}
 use Rattle.runner.specs.declared.running.RunFault.TheVariants.{Boot, Output, OutOfMemory, Refused}
 use Rattle.sinks.specs.Sinks.{Grows, GrowsByBeginning}
 use Rattle.runner.proofs.Endings.{is-output, of-err, on-ok}

@@ -5,7 +5,8 @@ use Rattle.kernel_machine.specs.Setups.{state_in}
 use Rattle.model.specs.declared.boot_faults.BootFault.TheVariants as boot_faults
 use Rattle.model.specs.declared.refusals.Refusal.TheVariants as refusals
 use Rattle.model.specs.Kernel.Steps.{trace}
-use Rattle.runner.specs.Running.{Failed, boot_fault_of, fault_of, lines_of}
+use Rattle.kernel_trace.specs.Lines.{Failed, lines_of}
+use Rattle.runner.specs.Running.{boot_fault_of, fault_of}
 use Rattle.runner.specs.Unverified.{BootsInto, PutsTrace}
 use Rattle.runner.specs.declared.running.RunFault.TheVariants.{Boot, Output, OutOfMemory, Refused}
 use Rattle.sinks.specs.Sinks.{Grows, GrowsByBeginning}

@@ -1,7 +1,7 @@
 -- The leaf in memory is that of a mapping.
 use Rattle.std.proofs.Common.{◌/◌, ◌^◌, List, ℕ, arith, subst, sym}
 use Rattle.cached_slots.specs.Mappings.{LeavesAgree}
-use Rattle.walk_cache.specs.KeptLeaves.{AreAmong, leaf_of}
+use Rattle.cached_slots.specs.KeptLeaves.{AreAmong, leaf_of}
 use Rattle.cached_slots.proofs.Kept.{in-memory, leaf-mapped}
 use Rattle.cached_slots.proofs.cached.CachedSlotsWalkStore.keep_leaf.Goals as goal
 

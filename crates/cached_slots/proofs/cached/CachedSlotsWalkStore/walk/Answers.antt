@@ -1,7 +1,7 @@
 -- What is kept stands in memory.
 use Rattle.std.proofs.Common.{List, ℕ, subst, sym}
 use Rattle.cached_slots.specs.Mappings.{LeavesAgree}
-use Rattle.walk_cache.specs.KeptLeaves.{AreAmong, leaf_of}
+use Rattle.cached_slots.specs.KeptLeaves.{AreAmong, leaf_of}
 use Rattle.cached_slots.proofs.Kept.{in-memory}
 use Rattle.cached_slots.proofs.cached.CachedSlotsWalkStore.walk.Goals as goal
 

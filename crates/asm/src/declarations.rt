@@ -1,0 +1,301 @@
+//! The sections before the threads, as far as they are declared.
+
+ghost use Rattle.std.specs.Prelude.{◌≡◌, ◌+◌, ◌^◌, ◌<◌, ◌≤◌, [], ◌∷◌, ◌++◌, length, map, position, Ok, OnOk, IsOkUnless};
+ghost use Rattle.std.specs.List.{All};
+ghost use Rattle.asm_line.specs.Lines.{all_words};
+ghost use Rattle.asm.specs.declared.faults.Fault.{Fault};
+ghost use Rattle.asm.specs.declared.declarations.Capability.{Capability};
+ghost use Rattle.asm.specs.Outcomes.{Gives};
+ghost use Rattle.asm.specs.Sections.{HasNumber, MayAddCapability, MayAddContent, MayAddFrame, MayAddInterrupt, MayAddObject, MayAddTable, MayAddUntyped, capability_said, content_said, entry_of, frame_entry, interrupt_entry, is_in_order, nothing_declared, number_of_source, object_entry, on_line, table_entry, value_of, with_capability, with_content, with_frame, with_interrupt, with_object, with_table, with_untyped};
+
+use crate::faults::Fault;
+use crate::keys::insert;
+use crate::names::{Names, Source};
+use asm_line::{Name, Words};
+use image::Content;
+use model::{CapabilityEntry, FrameEntry, InterruptEntry, ObjectEntry, TableEntry, UntypedEntry};
+use std::alloc::Global;
+use std::marker::Model;
+
+/// How many entries the sections have at most.
+const MOST_UNTYPEDS: usize = 64;
+
+const MOST_OBJECTS: usize = 4096;
+
+const MOST_CAPABILITIES: usize = 16384;
+
+const MOST_INTERRUPTS: usize = 64;
+
+const MOST_TABLES: usize = 1024;
+
+const MOST_FRAMES: usize = 4096;
+
+const MOST_CONTENTS: usize = 4096;
+
+/// How many words a frame begins with at most.
+const MOST_CONTENT_WORDS: usize = 1024;
+
+/// A capability in a slot of a CNode, as it is declared.
+#[derive(Clone, Copy)]
+pub(crate) struct Capability {
+    pub(crate) cnode: u32,
+    pub(crate) index: u32,
+    pub(crate) source: Source,
+    pub(crate) rights: u32,
+    pub(crate) payload: u32,
+}
+
+/// What is declared so far, each section in the order of the image.
+#[derive(Drop)]
+pub(crate) struct Declarations<'a> {
+    pub(crate) names: Names<'a>,
+    pub(crate) untypeds: Vec<UntypedEntry>,
+    pub(crate) objects: Vec<ObjectEntry>,
+    pub(crate) capabilities: Vec<Capability>,
+    pub(crate) interrupts: Vec<InterruptEntry>,
+    pub(crate) tables: Vec<TableEntry>,
+    pub(crate) frames: Vec<FrameEntry>,
+    pub(crate) contents: Vec<Content>,
+}
+
+impl<'a> Model for Declarations<'a> {
+    ghost use Rattle.asm.specs.Sections.{Declared};
+
+    ghost Value = { Declared };
+
+    ghost view = { λ d. record {
+      names = d.names;
+      untypeds = d.untypeds.items;
+      objects = d.objects.items;
+      capabilities = d.capabilities.items;
+      interrupts = d.interrupts.items;
+      tables = d.tables.items;
+      frames = d.frames.items;
+      contents = d.contents.items;
+    } };
+}
+
+/// Puts an entry behind the others, of which there are to be less than `most`.
+fn append<E: Drop>(entries: &mut Vec<E>, most: usize, entry: E) -> Result<(), Fault>
+    ensures appended { OnOk result (entries.new.items ≡ entries.old.items ++ entry ∷ []) }
+    ensures enough { length entries.old.items < most → IsOkUnless result Fault.Memory }
+{
+    if most <= entries.len() {
+        return Err(Fault::Range);
+    }
+    entries.push(entry)?;
+    Ok(())
+}
+
+/// The words of a `data` line.
+fn words_of(alloc: Global, words: Words<'_>) -> Result<Vec<u32>, Fault>
+    ensures { all_words words.entry ≡ Ok tt → length words.entry ≤ 1024 → Gives result (λ read. read.items ≡ map value_of words.entry) }
+{
+    let mut read = Vec::new(alloc);
+    let mut rest = words;
+    'words: while let Some((word, words)) = rest.next_word() {
+        append(&mut read, MOST_CONTENT_WORDS, word)?;
+        rest = words;
+    }
+    Ok(read)
+}
+
+/// Whether an object of an untyped may stand behind these, which are in the order of their untypeds.
+fn is_in_order(untyped: u32, objects: &[ObjectEntry]) -> bool
+    ensures { result ≡ is_in_order untyped objects.now }
+{
+    match objects.last() {
+        Some(last) => last.untyped <= untyped,
+        None => true,
+    }
+}
+
+/// Where the interrupt on a line stands.
+fn place_on_line(line: u32, interrupts: &[InterruptEntry]) -> Option<usize>
+    ensures { result ≡ position (on_line line) interrupts.now }
+{
+    interrupts.iter().position(|entry| entry.line == line)
+}
+
+/// The number of what stands at a place behind so many objects.
+fn behind(objects: usize, place: usize) -> Result<u32, Fault>
+    ensures { objects + place < 2 ^ 32 → result ≡ Ok (objects + place) }
+{
+    match objects.checked_add(place) {
+        Some(number) if number <= u32::MAX as usize => Ok(number as u32),
+        _ => Err(Fault::Range),
+    }
+}
+
+impl<'a> Declarations<'a> {
+    pub(crate) fn new(alloc: Global) -> Declarations<'a>
+        ensures { result ≡ nothing_declared }
+    {
+        Declarations {
+            names: Names::new(alloc),
+            untypeds: Vec::new(alloc),
+            objects: Vec::new(alloc),
+            capabilities: Vec::new(alloc),
+            interrupts: Vec::new(alloc),
+            tables: Vec::new(alloc),
+            frames: Vec::new(alloc),
+            contents: Vec::new(alloc),
+        }
+    }
+
+    pub(crate) fn add_untyped(&mut self, name: &Name<'a>, entry: UntypedEntry) -> Result<(), Fault>
+        ensures { MayAddUntyped self.old name.now → Gives result (λ _. self.new ≡ with_untyped self.old name.now entry) }
+    {
+        self.names.check_free(name)?;
+        append(&mut self.untypeds, MOST_UNTYPEDS, entry)?;
+        self.names.add_untyped(name)
+    }
+
+    /// Objects stand in the order of their untypeds.
+    pub(crate) fn add_object(
+        &mut self,
+        name: &Name<'a>,
+        untyped: &Name<'a>,
+        kind: u32,
+        size: u32,
+    ) -> Result<(), Fault>
+        ensures { MayAddObject self.old name.now untyped.now → Gives result (λ _. self.new ≡ with_object self.old name.now (object_entry self.old untyped.now kind size)) }
+    {
+        self.names.check_free(name)?;
+        let untyped = self.names.untyped(untyped)?;
+        if !is_in_order(untyped, &self.objects) {
+            return Err(Fault::Range);
+        }
+        let entry = ObjectEntry {
+            untyped,
+            kind,
+            size,
+        };
+        append(&mut self.objects, MOST_OBJECTS, entry)?;
+        self.names.add_object(name)
+    }
+
+    pub(crate) fn add_interrupt(
+        &mut self,
+        name: &Name<'a>,
+        line: u32,
+        notification: &Name<'a>,
+        badge: u32,
+    ) -> Result<(), Fault>
+        ensures { MayAddInterrupt self.old name.now line notification.now → Gives result (λ _. self.new ≡ with_interrupt self.old name.now (interrupt_entry self.old line notification.now badge)) }
+    {
+        self.names.check_free(name)?;
+        let entry = InterruptEntry {
+            line,
+            notification: self.names.object(notification)?,
+            badge,
+        };
+        insert(&mut self.interrupts, MOST_INTERRUPTS, entry)?;
+        self.names.add_interrupt(name, line)
+    }
+
+    pub(crate) fn add_capability(
+        &mut self,
+        cnode: &Name<'a>,
+        index: u32,
+        source: &Name<'a>,
+        rights: u32,
+        payload: u32,
+    ) -> Result<(), Fault>
+        ensures { MayAddCapability self.old cnode.now index source.now → Gives result (λ _. self.new ≡ with_capability self.old (capability_said self.old cnode.now index source.now rights payload)) }
+    {
+        let entry = Capability {
+            cnode: self.names.object(cnode)?,
+            index,
+            source: self.names.source(source)?,
+            rights,
+            payload,
+        };
+        insert(&mut self.capabilities, MOST_CAPABILITIES, entry)
+    }
+
+    pub(crate) fn add_table(
+        &mut self,
+        root: &Name<'a>,
+        address: u32,
+        table: &Name<'a>,
+    ) -> Result<(), Fault>
+        ensures { MayAddTable self.old root.now address table.now → Gives result (λ _. self.new ≡ with_table self.old (table_entry self.old root.now address table.now)) }
+    {
+        let entry = TableEntry {
+            root: self.names.object(root)?,
+            address,
+            table: self.names.object(table)?,
+        };
+        insert(&mut self.tables, MOST_TABLES, entry)
+    }
+
+    pub(crate) fn add_frame(
+        &mut self,
+        root: &Name<'a>,
+        address: u32,
+        frame: &Name<'a>,
+        rights: u32,
+    ) -> Result<(), Fault>
+        ensures { MayAddFrame self.old root.now address frame.now → Gives result (λ _. self.new ≡ with_frame self.old (frame_entry self.old root.now address frame.now rights)) }
+    {
+        let entry = FrameEntry {
+            root: self.names.object(root)?,
+            address,
+            frame: self.names.object(frame)?,
+            rights,
+        };
+        insert(&mut self.frames, MOST_FRAMES, entry)
+    }
+
+    pub(crate) fn add_content(
+        &mut self,
+        alloc: Global,
+        frame: &Name<'a>,
+        words: Words<'a>,
+    ) -> Result<(), Fault>
+        ensures { MayAddContent self.old frame.now words.entry → Gives result (λ _. self.new ≡ with_content self.old (content_said self.old frame.now words.entry)) }
+    {
+        let frame = self.names.object(frame)?;
+        let words = words_of(alloc, words)?;
+        insert(&mut self.contents, MOST_CONTENTS, Content { frame, words })
+    }
+
+    /// The number of a capability's source: that of the object, or the number of objects and that of
+    /// the interrupt.
+    fn source_number(&self, source: Source) -> Result<u32, Fault>
+        ensures { HasNumber self.now source → result ≡ Ok (number_of_source self.now source) }
+    {
+        match source {
+            Source::Object(number) => Ok(number),
+            Source::Handler { line } => match place_on_line(line, &self.interrupts) {
+                Some(place) => behind(self.objects.len(), place),
+                None => Err(Fault::UnknownName),
+            },
+        }
+    }
+
+    /// The entry of a capability.
+    fn capability_entry(&self, capability: Capability) -> Result<CapabilityEntry, Fault>
+        ensures { HasNumber self.now capability.source → result ≡ Ok (entry_of self.now capability) }
+    {
+        Ok(CapabilityEntry {
+            cnode: capability.cnode,
+            index: capability.index,
+            source: self.source_number(capability.source)?,
+            rights: capability.rights,
+            payload: capability.payload,
+        })
+    }
+
+    /// The capabilities of the image.
+    pub(crate) fn capability_entries(&self, alloc: Global) -> Result<Vec<CapabilityEntry>, Fault>
+        ensures { All (λ (c : Capability). HasNumber self.now c.source) self.now.capabilities → Gives result (λ made. made.items ≡ map (entry_of self.now) self.now.capabilities) }
+    {
+        let mut entries = Vec::new(alloc);
+        'capabilities: for capability in &self.capabilities {
+            entries.push(self.capability_entry(*capability)?)?;
+        }
+        Ok(entries)
+    }
+}

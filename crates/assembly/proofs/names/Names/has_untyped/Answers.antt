@@ -1,9 +1,0 @@
-use Rattle.std.proofs.Common.{ap, ◌∙◌}
-use Rattle.std.specs.List.{list_any}
-use Rattle.std.specs.Str.{bytes_eq}
-use Rattle.assembly.specs.Names.{KnownNames}
-use Rattle.assembly.proofs.Shown.{any-shown}
-use Rattle.assembly.proofs.names.Names.has_untyped.Goals as goal
-
-pub returns : goal.returns
-returns c = c.contains.ensures ∙ any-shown (bytes_eq c.args.name.now) c.self.inside.untypeds.keys ∙ ap (λ (n : KnownNames). list_any (bytes_eq c.args.name.now) n.untypeds) c.self.view_is

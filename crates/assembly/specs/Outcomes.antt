@@ -1,8 +1,0 @@
--- What comes of a step that fails for want of memory alone.
-use Rattle.std.specs.Prelude.{◌≡◌, Result, MatchResult}
-use Rattle.assembly.specs.declared.faults.Fault.{Fault}
-use Rattle.assembly.specs.declared.faults.Fault.TheVariants.{Memory}
-
--- it is done, with this claim, or memory was refused
-abbrev pub Gives : {T : Type 0} → Result T Fault → (T → Type 0) → Type 0
-Gives result claim = MatchResult result claim (λ fault. fault ≡ Memory)

@@ -1,0 +1,2 @@
+mod KernelTraces
+mod PutLines

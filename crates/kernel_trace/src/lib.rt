@@ -1,0 +1,6 @@
+//! The kernel's trace in a sink: a system goes on by events, and each puts a line.
+#![tactic(auto)]
+
+mod traces;
+
+pub use traces::put_trace;

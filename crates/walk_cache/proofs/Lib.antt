@@ -1,3 +1,0 @@
-mod Kept
-mod Walks
-pub mod Laws

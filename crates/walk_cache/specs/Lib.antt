@@ -1,2 +1,0 @@
-pub mod KeptLeaves
-pub mod Laws
