@@ -4,7 +4,7 @@ use std::rt::Files;
 use std::{fs, io};
 
 /// Why a file is not read or written.
-#[derive(Clone, Copy, Debug, PartialEq, Eq)]
+#[derive(Clone, Copy)]
 pub enum FileFault<'a> {
     /// This file cannot be read, is no text in UTF-8, or cannot be written.
     File(&'a str),
