@@ -14,14 +14,16 @@ pub enum WordsFault {
     OutOfMemory,
 }
 
-/// A command: its name, and what stands behind it: names of files, and words with two hyphens, which may be left out.
-pub(crate) struct Form<'a> {
-    pub(crate) name: &'a str,
-    pub(crate) words: &'a [&'a str],
+/// A command of a program.
+pub struct Form<'a> {
+    /// The word that asks for it.
+    pub name: &'a str,
+    /// What stands behind that word: names of files, and words with two hyphens, which may be left out.
+    pub words: &'a [&'a str],
 }
 
 /// What the words behind a program's name say, if it has these commands.
-pub(crate) fn matches<'a, S: AsStr>(
+pub fn matches<'a, S: AsStr>(
     alloc: Global,
     name: &'a str,
     forms: &'a [Form<'a>],

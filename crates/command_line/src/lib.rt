@@ -1,10 +1,8 @@
-//! The words of the command lines of both programs.
+//! The words of the program's command line, and how a program with other commands reads its own.
 #![tactic(auto)]
 
 mod commands;
 mod requests;
-mod tool_requests;
 
-pub use commands::WordsFault;
+pub use commands::{Form, WordsFault, matches};
 pub use requests::{Request, parse};
-pub use tool_requests::{ToolRequest, parse_words};

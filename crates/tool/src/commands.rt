@@ -2,7 +2,6 @@
 
 use crate::certification::{NotCertified, certified};
 use crate::messages::line_of;
-use command_line::{ToolRequest, parse_words};
 use console::{DONE, REFUSED, WordsFault, failed, refused, words, wrong_words};
 use drawing::{DrawingFault, chart, draw};
 use explaining::{ExplainFault, Explained, explain};
@@ -13,6 +12,7 @@ use std::alloc::{AllocError, Global};
 use std::convert::AsStr;
 use std::rt::{Env, Files};
 use std::time::Clock;
+use tool_requests::{ToolRequest, parse_words};
 
 /// Why a request was not carried out.
 enum ToolFault<'a> {

@@ -1,7 +1,7 @@
 //! What the program for makers is asked to do.
 
-use crate::commands::{Form, WordsFault, matches};
 use clap::ArgMatches;
+use command_line::{Form, WordsFault, matches};
 use std::alloc::Global;
 use std::convert::AsStr;
 
