@@ -22,7 +22,7 @@ const COMMANDS: [Form<'_>; 3] = [
 ];
 
 /// What the program is asked to do, with the names of its files.
-#[derive(Clone, Copy, Debug, PartialEq, Eq)]
+#[derive(Clone, Copy)]
 pub enum Request<'a> {
     /// To say whether an image is accepted.
     Verify {

@@ -26,7 +26,7 @@ const COMMANDS: [Form<'_>; 4] = [
 ];
 
 /// What the program is asked to do, with the names of its files.
-#[derive(Clone, Copy, Debug, PartialEq, Eq)]
+#[derive(Clone, Copy)]
 pub enum ToolRequest<'a> {
     /// To write the certificates of a text.
     Certify {
