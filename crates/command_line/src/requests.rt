@@ -49,22 +49,31 @@ pub fn parse<'a, S: AsStr>(alloc: Global, words: &'a [S]) -> Result<Request<'a>,
     requested(&matches).ok_or(WordsFault::Usage)
 }
 
-/// The request of words that were taken.
+/// The request of words that were taken. Each command has an image.
 fn requested<'a>(matches: &ArgMatches<'a>) -> Option<Request<'a>> {
     let (name, matches) = matches.subcommand()?;
+    let image = matches.get_str("image")?;
     match name {
-        "verify" => Some(Request::Verify {
-            image: matches.get_str("image")?,
-        }),
-        "run" => Some(Request::Run {
-            image: matches.get_str("image")?,
-            events: matches.get_str("events")?,
-            unverified: matches.get_flag("unverified"),
-        }),
-        "build" => Some(Request::Build {
-            source: matches.get_str("source")?,
-            image: matches.get_str("image")?,
-        }),
+        "verify" => Some(Request::Verify { image }),
+        "run" => run(matches, image),
+        "build" => build(matches, image),
         _ => None,
     }
+}
+
+/// The request to run an image.
+fn run<'a>(matches: &ArgMatches<'a>, image: &'a str) -> Option<Request<'a>> {
+    let events = matches.get_str("events")?;
+    let unverified = matches.get_flag("unverified");
+    Some(Request::Run {
+        image,
+        events,
+        unverified,
+    })
+}
+
+/// The request to build an image.
+fn build<'a>(matches: &ArgMatches<'a>, image: &'a str) -> Option<Request<'a>> {
+    let source = matches.get_str("source")?;
+    Some(Request::Build { source, image })
 }
