@@ -16,7 +16,7 @@ const GREATEST_NUMBER: u32 = 1_000_000;
 const GREATEST_LINE: u32 = 63;
 
 /// Why a list of events is refused.
-#[derive(Clone, Copy, Debug, PartialEq, Eq)]
+#[derive(Clone, Copy)]
 pub enum EventsFault {
     /// This line, counted from 1, is malformed, or passes the limit of events.
     Line(u64),
@@ -33,7 +33,7 @@ impl<T: Drop> From<AllocFailed<T>> for EventsFault {
 }
 
 /// What one line says.
-#[derive(Clone, Copy, Debug, PartialEq, Eq)]
+#[derive(Clone, Copy)]
 enum Line {
     /// Nothing: it is empty, or a comment.
     Blank,
