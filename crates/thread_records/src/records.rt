@@ -8,7 +8,7 @@ use model::{Cause, LookupFailure, MemoryFault};
 use rv32_exec::Regs;
 
 /// Whether a thread runs, and else what it waits for.
-#[derive(Clone, Copy, Debug)]
+#[derive(Clone, Copy)]
 pub enum Status {
     /// It runs again once it is resumed.
     Inactive,
@@ -70,7 +70,7 @@ pub struct Sending {
 }
 
 /// A thread: its registers, and what the kernel keeps of it.
-#[derive(Clone, Copy, Debug)]
+#[derive(Clone, Copy)]
 pub struct Thread {
     pub registers: Regs,
     /// 0 to 255; the thread of the greatest priority runs.
