@@ -11,14 +11,14 @@ use objects::Kind;
 use slots::SlotStore;
 
 /// What Retype makes: untyped memory of 2^`bits` bytes, or objects of a kind.
-#[derive(Clone, Copy, Debug)]
+#[derive(Clone, Copy)]
 pub enum NewType {
     Untyped { bits: u8 },
     Object(Kind),
 }
 
 /// Some objects of one type, one behind another from an offset on.
-#[derive(Clone, Copy, Debug)]
+#[derive(Clone, Copy)]
 pub struct NewRange {
     pub kind: NewType,
     pub first: u32,
@@ -27,7 +27,7 @@ pub struct NewRange {
 
 /// Where their first capabilities go: from the slot `window` on, derived from the slot `parent`, whose
 /// untyped memory is used up to `watermark` then.
-#[derive(Clone, Copy, Debug)]
+#[derive(Clone, Copy)]
 pub struct Placing {
     pub parent: Slot,
     pub window: Slot,
