@@ -70,5 +70,30 @@ word-product-stored u v a r b m n fits few less room is =
     let small : IsSmall (m * n) r = subst (λ (z : ℤ). IsSmall (m * n) z) (sym same) (product-small a (pos b) m n few less) in
     subst (λ (z : ℤ). IsSmall (m * n) z) (sym (to_z-of_z u r (fits-small u r (m * n) small room))) small
 
+-- ---- products of numbers that were widened
+
+-- a number that is small is read back as it was stored
+read-back : (u : Width) (x a : ℤ) (k : ℕ) → x ≡ a → unsigned_abs a ≤ k → k < 2 ^ hbits u → to_z u (of_z u x) ≡ a
+read-back u x a k is few less = ap (λ (z : ℤ). to_z u (of_z u z)) is ∙ to_z-of_z u a (fits-small u a k (abs-small a k few) less)
+
+product-read : (u : Width) (x y a b : ℤ) (m n : ℕ) → x ≡ a → y ≡ b → unsigned_abs a ≤ m → unsigned_abs b ≤ n → m < 2 ^ hbits u → n < 2 ^ hbits u
+    → to_z u (of_z u x) *ℤ to_z u (of_z u y) ≡ a *ℤ b
+product-read u x y a b m n first second few less small narrow =
+    ap (λ (z : ℤ). z *ℤ to_z u (of_z u y)) (read-back u x a m first few small) ∙ ap (λ (z : ℤ). a *ℤ z) (read-back u y b n second less narrow)
+
+-- the product of two widened numbers fits where the product of their bounds does
+pub product-fits : (u : Width) (x y a b : ℤ) (m n : ℕ) → x ≡ a → y ≡ b → unsigned_abs a ≤ m → unsigned_abs b ≤ n → m < 2 ^ hbits u → n < 2 ^ hbits u
+    → m * n < 2 ^ hbits u → FitsSigned u (to_z u (of_z u x) *ℤ to_z u (of_z u y))
+product-fits u x y a b m n first second few less small narrow room =
+    let same : to_z u (of_z u x) *ℤ to_z u (of_z u y) ≡ a *ℤ b = product-read u x y a b m n first second few less small narrow in
+    subst (λ (z : ℤ). FitsSigned u z) (sym same) (fits-small u (a *ℤ b) (m * n) (product-small a b m n few less) room)
+
+-- and is that of the numbers themselves
+pub product-kept : (u : Width) (x y a b : ℤ) (m n : ℕ) → x ≡ a → y ≡ b → unsigned_abs a ≤ m → unsigned_abs b ≤ n → m < 2 ^ hbits u → n < 2 ^ hbits u
+    → m * n < 2 ^ hbits u → to_z u (of_z u (to_z u (of_z u x) *ℤ to_z u (of_z u y))) ≡ a *ℤ b
+product-kept u x y a b m n first second few less small narrow room =
+    ap (λ (z : ℤ). to_z u (of_z u z)) (product-read u x y a b m n first second few less small narrow)
+    ∙ to_z-of_z u (a *ℤ b) (fits-small u (a *ℤ b) (m * n) (product-small a b m n few less) room)
+
 pub more-small : (z : ℤ) (m n : ℕ) → IsSmall m z → m ≤ n → IsSmall n z
 more-small z m n small room = (grind (arith, ints), grind (arith, ints))
