@@ -7,7 +7,7 @@ use model::TermEntry;
 
 /// A whole number for each choice of values for the registers: a constant and at most four terms, each a register
 /// times a coefficient.
-#[derive(Clone, Copy, Debug)]
+#[derive(Clone, Copy)]
 pub struct Measure {
     constant: i64,
     terms: [TermEntry; 4],

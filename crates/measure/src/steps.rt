@@ -22,7 +22,7 @@ pub trait Step {
 }
 
 /// No register changes.
-#[derive(Clone, Copy, Debug)]
+#[derive(Clone, Copy)]
 pub struct Unchanged;
 
 impl Step for Unchanged {
@@ -34,14 +34,14 @@ impl Step for Unchanged {
 }
 
 /// A register that an instruction writes, and what it becomes.
-#[derive(Clone, Copy, Debug)]
+#[derive(Clone, Copy)]
 struct Written {
     register: Register,
     value: Value,
 }
 
 /// Behind an instruction.
-#[derive(Clone, Copy, Debug)]
+#[derive(Clone, Copy)]
 pub struct AfterInstruction {
     written: Option<Written>,
 }
@@ -80,7 +80,7 @@ impl Step for AfterInstruction {
 }
 
 /// Behind a system call that writes these registers.
-#[derive(Clone, Copy, Debug)]
+#[derive(Clone, Copy)]
 pub struct AfterCall<'a> {
     pub written: &'a [Register],
 }

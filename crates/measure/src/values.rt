@@ -6,7 +6,7 @@ ghost use Rattle.measure.specs.Values.{form_of};
 use model::Register;
 
 /// What a register is behind an edge.
-#[derive(Clone, Copy, Debug)]
+#[derive(Clone, Copy)]
 pub enum Value {
     /// What this register was before it.
     Same(u32),
