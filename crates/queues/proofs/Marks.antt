@@ -1,12 +1,12 @@
 -- The highest priority that is marked, and who is the first at it.
-use Rattle.std.proofs.Common.{ℕ, zero, suc, ◌≡◌, ◌∙◌, ◌==◌, ◌+◌, ◌*◌, ◌/◌, ◌%◌, ◌^◌, ◌<◌, ◌≤◌, inl, inr, true, false, Option, Some, None, is_some, List, length, replicate, slice_index, refl, sym, ap, arith}
+use Rattle.std.proofs.Common.{ℕ, zero, suc, ◌≡◌, ◌≢◌, ◌∙◌, ◌==◌, ◌+◌, ◌*◌, ◌/◌, ◌%◌, ◌^◌, ◌<◌, ◌≤◌, inl, inr, true, false, Option, Some, None, is_some, List, length, replicate, set, slice_index, refl, sym, ap, arith}
 use Rattle.std.proofs.Common.{pow_pos, div-lt_iff_lt-mul, le-div_iff_mul-le}
 use Rattle.std.proofs.Math.Nat.{two-pow-succ}
 use Rattle.std.specs.Int.{bit_at}
 use Rattle.std.specs.Option.{option_map_or}
 use Rattle.std.proofs.lemmas.Bool.Decides.{eqb_tells}
 use Rattle.std.proofs.lemmas.Bool.{cases_lt}
-use Rattle.std.proofs.lemmas.List.{get_or-replicate, get_or_past, length-replicate}
+use Rattle.std.proofs.lemmas.List.{get_or-replicate, get_or-set_other, get_or-set_same, get_or_past, length-replicate, length-set}
 use Rattle.std.proofs.lemmas.Nat.Bits.{bit_at-zero, bit_at_above}
 use Rattle.model.specs.Kernel.Scheduling.{first_below, head_of}
 use Rattle.links.specs.Threaded.{linked}
@@ -78,6 +78,21 @@ none-marked = record {
       ap (λ w. bit_at w (priority % 64) == 1) (get_or-replicate 4 (priority / 64) 0 0 (omega (arith, low)))
       ∙ ap (λ b. b == 1) (bit_at-zero (priority % 64))
       ∙ sym (ap (λ (e : Ends). is_some e.first) (none-there 256 priority));
+}
+
+-- a priority has other ends, and its mark with them
+pub marked-put : (ends : List Ends) (marks new : List ℕ) (priority : ℕ) (e : Ends) → AreMarked ends marks → priority < 256 → is_marked new priority ≡ is_some e.first
+    → ((other : ℕ) → other ≢ priority → is_marked new other ≡ is_marked marks other) → AreMarked (set ends priority e) new
+marked-put ends marks new priority e known low own others = record {
+  long = length-set ends priority e ∙ known.long;
+  bits = λ other below. elim (eqb_tells other priority) [
+    | inl same ↦
+        ap (is_marked new) same.1 ∙ own
+        ∙ sym (ap (λ (x : Ends). is_some x.first) (ap (ends_of (set ends priority e)) same.1 ∙ get_or-set_same ends priority e nobody (omega (arith, low, known.long))))
+    | inr apart ↦
+        others other apart.1 ∙ known.bits other below
+        ∙ sym (ap (λ (x : Ends). is_some x.first) (get_or-set_other ends priority other e nobody apart.1))
+  ];
 }
 
 -- ---- the first thread of the highest priority
