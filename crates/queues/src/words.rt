@@ -8,14 +8,14 @@ ghost use Rattle.queues.specs.Words.{base_of, end_at, ends_at, link_at, somebody
 use slots::SlotStore;
 
 /// Which links of a thread: those among the threads that wait, or among those that are ready.
-#[derive(Clone, Copy, Debug)]
+#[derive(Clone, Copy)]
 pub enum LinkWords {
     Waiting,
     Ready,
 }
 
 /// The first and the last thread of a queue.
-#[derive(Clone, Copy, Debug)]
+#[derive(Clone, Copy)]
 pub struct Ends {
     pub first: Option<u32>,
     pub last: Option<u32>,
@@ -79,6 +79,7 @@ pub(crate) fn put_link<S: SlotStore>(
     ensures bytes { S.memory store.new ≡ with_link (base_of links) (S.memory store.old) thread number word }
     ensures slots { S.slots store.new ≡ S.slots store.old }
     ensures order { S.order store.new ≡ S.order store.old }
+    ensures size { length (S.memory store.new) ≡ length (S.memory store.old) }
     ensures threads { (other : ℕ) → IsThreadAt (S.slots store.old) (length (S.memory store.old)) other
         → IsThreadAt (S.slots store.new) (length (S.memory store.new)) other }
 {
@@ -98,6 +99,7 @@ pub(crate) fn put_link_at<S: SlotStore>(
     ensures bytes { S.memory store.new ≡ with_link_at (base_of links) (S.memory store.old) thread number word }
     ensures slots { S.slots store.new ≡ S.slots store.old }
     ensures order { S.order store.new ≡ S.order store.old }
+    ensures size { length (S.memory store.new) ≡ length (S.memory store.old) }
     ensures threads { (other : ℕ) → IsThreadAt (S.slots store.old) (length (S.memory store.old)) other
         → IsThreadAt (S.slots store.new) (length (S.memory store.new)) other }
 {
