@@ -24,7 +24,7 @@ const WORD_MARKS: u32 = 64;
 
 /// The queues of the priorities: the first and the last thread of each, and one bit for each, which is set where its
 /// queue is not empty. So neither the thread that runs nor a change costs a search.
-#[derive(Debug, Drop)]
+#[derive(Drop)]
 pub struct ReadyList {
     ends: [Ends; PRIORITIES],
     marks: [u64; 4],
