@@ -1,8 +1,8 @@
 -- The list of the bits of words.
-use Rattle.std.proofs.Common.{ℕ, ◌≡◌, ◌∙◌, ◌==◌, ◌+◌, ◌/◌, ◌%◌, ◌<◌, ◌≤◌, inl, inr, Bool, false, if◌then◌else◌, List, length, replicate, sym, ap, arith}
+use Rattle.std.proofs.Common.{ℕ, ◌≡◌, ◌≢◌, ◌∙◌, ◌==◌, ◌+◌, ◌-◌, ◌/◌, ◌%◌, ◌<◌, ◌≤◌, inl, inr, Bool, true, false, if◌then◌else◌, List, length, replicate, sym, ap, arith}
 use Rattle.std.specs.Int.{bit_at}
 use Rattle.std.proofs.lemmas.Bool.{cases_lt}
-use Rattle.std.proofs.lemmas.Bool.Decides.{nat_tests}
+use Rattle.std.proofs.lemmas.Bool.Decides.{eqb_tells, nat_tests}
 use Rattle.std.proofs.lemmas.List.{ext_get_or, get_or-replicate, get_or_past, length-replicate}
 use Rattle.std.proofs.lemmas.List.FromFn.{get_or-map-range_with_len, length-map-range_with_len}
 use Rattle.std.proofs.lemmas.Nat.Bits.{bit_at-zero}
@@ -48,4 +48,26 @@ bits-set old new n first count value within each s = elim (cases_lt s n) [
   | inr past ↦
       bit-past new n s past
       ∙ sym (ap (λ b. if b then value else is_open_in (bits_of old n) s) (not-within first count n s within past) ∙ bit-past old n s past)
+]
+
+-- ---- one bit more of a range
+
+within-last : (first place : ℕ) → first ≤ place → is_within first (place + 1 - first) place ≡ true
+within-last first place least = grind (arith, nat_tests)
+
+within-others : (first place s : ℕ) → first ≤ place → s ≢ place → is_within first (place + 1 - first) s ≡ is_within first (place - first) s
+within-others first place s least apart = elim (cases_lt s place) [
+  | inl before ↦ elim (cases_lt s first) [ inl under ↦ grind (arith, nat_tests) | inr above ↦ grind (arith, nat_tests) ]
+  | inr behind ↦ let past : place < s = omega (arith, behind, apart) in grind (arith, nat_tests)
+]
+
+pub one-more : (old words new : List ℕ) (first place : ℕ) (value : Bool) → first ≤ place → is_bit new place ≡ value
+    → ((s : ℕ) → s ≢ place → is_bit new s ≡ is_bit words s) → ((s : ℕ) → is_bit words s ≡ (if is_within first (place - first) s then value else is_bit old s))
+    → (s : ℕ) → is_bit new s ≡ (if is_within first (place + 1 - first) s then value else is_bit old s)
+one-more old words new first place value least own others known s = elim (eqb_tells s place) [
+  | inl same ↦
+      ap (is_bit new) same.1 ∙ own
+      ∙ sym (ap (λ b. if b then value else is_bit old s) (ap (is_within first (place + 1 - first)) same.1 ∙ within-last first place least))
+  | inr apart ↦
+      others s apart.1 ∙ known s ∙ sym (ap (λ b. if b then value else is_bit old s) (within-others first place s least apart.1))
 ]
