@@ -155,7 +155,32 @@ fn has_writable_code(
                 || names.filled.contains(entry.frame)))
 }
 
-/// The mappings of frames, in their order, numbered on behind the tables.
+/// The mappings of frames, in their order, numbered on behind the tables, by what else names frames.
+fn check_each_frame(
+    image: &ImageRef<'_>,
+    sources: &NumberSet,
+    names: &FrameNames,
+) -> Result<(), Refusal>
+    requires sources { AreNamed (λ c. c.source) image.now.capabilities sources.now }
+    requires twice { AreTwice (λ f. f.frame) image.now.frames names.now.twice }
+    requires filled { AreNamed (λ c. c.header.frame) image.now.contents names.now.filled }
+    ensures { Answers (first_broken (flat_map (frame_rules image.now) (numbered image.now.frames))) result }
+{
+    let header = header_of(image);
+    for number in 0..header.frames {
+        let item = header.tables + number;
+        let entry = image.frame(number);
+        if misplaces_frame(image, entry) {
+            return Err(Refusal::BadMapping { item });
+        }
+        if has_writable_code(image, number, entry, sources, names) {
+            return Err(Refusal::WritableCode { item });
+        }
+    }
+    Ok(())
+}
+
+/// The same, once it is known what else names frames.
 fn check_frames(alloc: Global, image: &ImageRef<'_>, sources: &NumberSet) -> Result<(), Refusal>
     requires { AreNamed (λ c. c.source) image.now.capabilities sources.now }
     ensures { Answers (first_broken (flat_map (frame_rules image.now) (numbered image.now.frames))) result }
@@ -164,18 +189,7 @@ fn check_frames(alloc: Global, image: &ImageRef<'_>, sources: &NumberSet) -> Res
         twice: frames_mapped_twice(alloc, image)?,
         filled: filled_frames(alloc, image)?,
     };
-    let header = header_of(image);
-    for number in 0..header.frames {
-        let item = header.tables + number;
-        let entry = image.frame(number);
-        if misplaces_frame(image, entry) {
-            return Err(Refusal::BadMapping { item });
-        }
-        if has_writable_code(image, number, entry, sources, &names) {
-            return Err(Refusal::WritableCode { item });
-        }
-    }
-    Ok(())
+    check_each_frame(image, sources, &names)
 }
 
 /// Whether a content is of no frame.

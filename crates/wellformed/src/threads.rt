@@ -1,6 +1,6 @@
 //! Threads: their objects and programs, and that none shares CNodes or an address space with an earlier one.
 
-ghost use Rattle.std.specs.Prelude.{ℕ, ◌≡◌, ◌+◌, ◌*◌, ◌/◌, ◌<◌, ◌≤◌, ◌&&◌, ◌||◌, ◌==◌, not, false, Some, IfErr, OnOk, take, slice_get};
+ghost use Rattle.std.specs.Prelude.{ℕ, ◌≡◌, ◌+◌, ◌*◌, ◌/◌, ◌<◌, ◌≤◌, ◌&&◌, ◌||◌, ◌==◌, not, [], false, Some, IfErr, OnOk, take, slice_get};
 ghost use Rattle.std.specs.List.{list_all, list_any};
 ghost use Rattle.std.specs.Option.{option_map_or};
 ghost use Rattle.model.specs.declared.refusals.Refusal.TheVariants.{OutOfMemory};
@@ -194,8 +194,26 @@ fn check_thread(
     note_thread(&header, &found, earlier)
 }
 
-/// The threads, in their order.
+/// The threads, in their order, where no thread is before them.
 #[tactic(auto, unfolding(model::specs::Acceptance::ThreadRules::thread_rules))]
+fn check_each_thread(
+    alloc: Global,
+    image: &ImageRef<'_>,
+    earlier: &mut Earlier,
+) -> Result<(), Refusal>
+    requires { AreEarlier image.now [] earlier.old.tcbs earlier.old.roots earlier.old.cnodes }
+    ensures { Answers (first_broken (thread_rules image.now)) result }
+{
+    let _ = header_of(image);
+    let mut number = 0;
+    for thread in image.threads() {
+        check_thread(alloc, image, number, &thread, earlier)?;
+        number += 1;
+    }
+    Ok(())
+}
+
+/// The threads, in their order.
 pub(crate) fn check_threads(alloc: Global, image: &ImageRef<'_>) -> Result<(), Refusal>
     ensures { Answers (first_broken (thread_rules image.now)) result }
 {
@@ -204,11 +222,5 @@ pub(crate) fn check_threads(alloc: Global, image: &ImageRef<'_>) -> Result<(), R
         roots: NumberSet::new(alloc),
         cnodes: NumberSet::new(alloc),
     };
-    let _ = header_of(image);
-    let mut number = 0;
-    for thread in image.threads() {
-        check_thread(alloc, image, number, &thread, &mut earlier)?;
-        number += 1;
-    }
-    Ok(())
+    check_each_thread(alloc, image, &mut earlier)
 }

@@ -6,12 +6,12 @@ use Rattle.model.specs.declared.refusals.Refusal.TheVariants.{BadMapping, Writab
 use Rattle.model.specs.Acceptance.WellFormed.{frame_rules, has_writable_code, misplaces_frame}
 use Rattle.wellformed.proofs.Named.{mapped-twice}
 use Rattle.wellformed.proofs.RulesLeft.{all_kept, first_of_two, none_of_two, one_broken, second_of_two}
-use Rattle.wellformed.proofs.mappings.check_frames.Goals as goal
+use Rattle.wellformed.proofs.mappings.check_each_frame.Goals as goal
 
 pub has_writable_code-requires-clause-twice : goal.has_writable_code-requires-clause-twice
 has_writable_code-requires-clause-twice c =
     let frame = c.frame-entry.result.frame in
-    c.in_ok-frames_mapped_twice.ensures.ok.is frame
+    c.requires.twice.is frame
     ∙ sym (mapped-twice (λ f. f.frame == frame) c.loop-number.number c.args.image.now.frames c.frame-entry.result c.frame-entry.ensures (eq-eqb frame frame refl))
 
 pub returns-then-misplaces_frame : goal.returns-then-misplaces_frame

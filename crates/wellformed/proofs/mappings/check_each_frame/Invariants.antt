@@ -5,7 +5,7 @@ use Rattle.std.specs.List.{enumerate_from}
 use Rattle.model.specs.Acceptance.Rules.{first_broken}
 use Rattle.model.specs.Acceptance.WellFormed.{frame_rules}
 use Rattle.model.specs.Images.Described.{numbered}
-use Rattle.wellformed.proofs.mappings.check_frames.Given as goal
+use Rattle.wellformed.proofs.mappings.check_each_frame.Given as goal
 
 abbrev pub invariant-loop-number : goal.invariant-loop-number
 invariant-loop-number l =

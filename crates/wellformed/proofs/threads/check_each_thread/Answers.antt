@@ -3,7 +3,7 @@ use Rattle.std.proofs.Common.{◌∙◌}
 use Rattle.model.specs.Acceptance.ThreadRules.{rules_of_thread}
 use Rattle.wellformed.proofs.RulesLeft.{all_kept}
 use Rattle.wellformed.proofs.ThreadSteps.{head-of}
-use Rattle.wellformed.proofs.threads.check_threads.Goals as goal
+use Rattle.wellformed.proofs.threads.check_each_thread.Goals as goal
 
 pub check_thread-requires-clause-there : goal.check_thread-requires-clause-there
 check_thread-requires-clause-there c =

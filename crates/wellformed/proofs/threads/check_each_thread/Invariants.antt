@@ -6,7 +6,7 @@ use Rattle.model.specs.Acceptance.Rules.{first_broken}
 use Rattle.model.specs.Acceptance.ThreadRules.{rules_of_thread}
 use Rattle.model.specs.Images.Described.{numbered}
 use Rattle.wellformed.specs.Answering.{AreEarlier}
-use Rattle.wellformed.proofs.threads.check_threads.Given as goal
+use Rattle.wellformed.proofs.threads.check_each_thread.Given as goal
 
 abbrev pub invariant-loop-thread : goal.invariant-loop-thread
 invariant-loop-thread l = record {
