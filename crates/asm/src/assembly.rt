@@ -1,4 +1,7 @@
 //! An image whose lines are being read.
+//!
+//! A function that ends early hands what it owns to `drop`: in place of that call, each field would be dropped on its own,
+//! which is long to prove.
 
 ghost use Rattle.std.specs.Prelude.{◌≡◌, ◌≢◌, ◌<◌, true, [], ◌∷◌, ◌++◌, length, map, IfOk, Ok, Some};
 ghost use Rattle.model.specs.Images.Image as described;
@@ -113,9 +116,10 @@ impl<'a> Assembly<'a> {
         ensures { length self.old.threads < 64 → Gives result (λ _. self.new ≡ record self.old { open_thread = Some thread }) }
     {
         if MOST_THREADS <= self.threads.len() {
+            drop(thread);
             return Err(Fault::Range);
         }
-        self.open = Some(thread);
+        put(&mut self.open, thread);
         Ok(())
     }
 
@@ -222,9 +226,16 @@ impl<'a> Assembly<'a> {
         if let Line::End = &line {
             return self.end_thread(thread);
         }
-        self.add_before_end(&mut thread, line, number, labels)?;
-        self.open = Some(thread);
-        Ok(())
+        match self.add_before_end(&mut thread, line, number, labels) {
+            Ok(()) => {
+                put(&mut self.open, thread);
+                Ok(())
+            }
+            Err(fault) => {
+                drop(thread);
+                Err(fault)
+            }
+        }
     }
 
     /// What the first line says, and the capabilities, if the last thread is at its end.
@@ -238,15 +249,40 @@ impl<'a> Assembly<'a> {
         }
     }
 
+    /// The parts of the image with these capabilities. The names and the open thread are of no more use.
+    fn parts(self, memory: Memory, capabilities: Vec<CapabilityEntry>) -> Parts
+        ensures { result ≡ assembled memory self.entry.declared capabilities.items self.entry.threads }
+    {
+        drop(self.open);
+        let declared = self.declared;
+        drop(declared.names);
+        Parts {
+            version: VERSION,
+            memory_bits: memory.bits,
+            boot_radix: memory.boot_radix,
+            untypeds: declared.untypeds,
+            objects: declared.objects,
+            capabilities,
+            interrupts: declared.interrupts,
+            tables: declared.tables,
+            frames: declared.frames,
+            contents: declared.contents,
+            threads: self.threads,
+        }
+    }
+
     /// The image with these capabilities.
     fn image(self, memory: Memory, capabilities: Vec<CapabilityEntry>) -> Result<Image, Fault>
         ensures fits { IfOk result (λ image. whole_image.fits image ≡ true) }
         ensures listed { whole_image.fits (assembled memory self.entry.declared capabilities.items self.entry.threads) ≡ true
             → result ≡ Ok (assembled memory self.entry.declared capabilities.items self.entry.threads) }
     {
-        match Image::checked(parts_of(memory, self.declared, capabilities, self.threads)) {
+        match Image::checked(self.parts(memory, capabilities)) {
             Ok(image) => Ok(image),
-            Err(_) => Err(Fault::Range),
+            Err(parts) => {
+                drop(parts);
+                Err(Fault::Range)
+            }
         }
     }
 
@@ -262,31 +298,17 @@ impl<'a> Assembly<'a> {
     {
         match self.first_and_capabilities() {
             Ok((memory, capabilities)) => self.image(memory, capabilities),
-            Err(fault) => Err(fault),
+            Err(fault) => {
+                drop(self);
+                Err(fault)
+            }
         }
     }
 }
 
-/// The parts of the image of what was read.
-fn parts_of(
-    memory: Memory,
-    declared: Declarations<'_>,
-    capabilities: Vec<CapabilityEntry>,
-    threads: Vec<ThreadParts>,
-) -> Parts
-    ensures { result ≡ assembled memory declared.entry capabilities.items threads.items }
+/// Puts a value in a place, and drops the one that stood there.
+fn put<T: Drop>(place: &mut Option<T>, value: T)
+    ensures { place.new ≡ Some value }
 {
-    Parts {
-        version: VERSION,
-        memory_bits: memory.bits,
-        boot_radix: memory.boot_radix,
-        untypeds: declared.untypeds,
-        objects: declared.objects,
-        capabilities,
-        interrupts: declared.interrupts,
-        tables: declared.tables,
-        frames: declared.frames,
-        contents: declared.contents,
-        threads,
-    }
+    *place = Some(value);
 }

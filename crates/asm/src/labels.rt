@@ -235,6 +235,14 @@ pub(crate) fn labels_of<'a>(alloc: Global, text: &'a str) -> Result<Vec<Labels<'
         threads: Vec::new(alloc),
         open: None,
     };
-    search_text(&mut search, alloc, text)?;
-    Ok(search.threads)
+    match search_text(&mut search, alloc, text) {
+        Ok(()) => {
+            drop(search.open);
+            Ok(search.threads)
+        }
+        Err(fault) => {
+            drop(search);
+            Err(fault)
+        }
+    }
 }

@@ -286,9 +286,9 @@ impl OpenThread {
         }
     }
 
-    /// The thread at its line `end`.
-    pub(crate) fn end(self) -> Result<ThreadParts, Fault>
-        ensures { MayEnd self → result ≡ Ok self.thread }
+    /// A thread may not end before its first instruction, nor behind a measure without one.
+    fn check_end(&self) -> Result<(), Fault>
+        ensures { MayEnd self.now → result ≡ Ok tt }
     {
         if self.record.is_some() {
             return Err(Fault::Syntax);
@@ -296,6 +296,22 @@ impl OpenThread {
         if self.parts.words.is_empty() {
             return Err(Fault::Range);
         }
-        Ok(self.parts)
+        Ok(())
+    }
+
+    /// The thread at its line `end`.
+    pub(crate) fn end(self) -> Result<ThreadParts, Fault>
+        ensures { MayEnd self → result ≡ Ok self.thread }
+    {
+        match self.check_end() {
+            Ok(()) => {
+                drop(self.record);
+                Ok(self.parts)
+            }
+            Err(fault) => {
+                drop(self);
+                Err(fault)
+            }
+        }
     }
 }
