@@ -68,6 +68,18 @@ fn add_lines<'a>(
     Ok(number)
 }
 
+/// The image behind the last line, which has this number.
+fn finished(assembly: Assembly<'_>, number: u64) -> Result<Image, SourceFault>
+    ensures image { IfOk result (λ image. whole_image.fits image ≡ true) }
+    ensures fault { IfErr result (λ fault. (1 ≤ fault.line) × (1 ≤ fault.kind) × (fault.kind ≤ 5)) }
+    ensures listed { (listed : described.Image) → whole_image.fits listed ≡ true → assembly.entry ≡ draft_of listed → MatchResult result (λ image. image ≡ listed) (λ fault. fault.kind ≡ 5) }
+{
+    match assembly.finish() {
+        Ok(image) => Ok(image),
+        Err(fault) => Err(fault.at(number.max(1))),
+    }
+}
+
 /// The image that a text describes whose threads have these labels.
 fn image_with<'a>(alloc: Global, text: &'a str, labels: &[Labels<'a>]) -> Result<Image, SourceFault>
     ensures image { IfOk result (λ image. whole_image.fits image ≡ true) }
@@ -75,10 +87,12 @@ fn image_with<'a>(alloc: Global, text: &'a str, labels: &[Labels<'a>]) -> Result
     ensures listed { (listed : described.Image) → whole_image.fits listed ≡ true → (said : List Line) → AllZip Lists said (lines text.now) → AreInPlace labels.now 0 nothing_read said → with_lines labels.now nothing_read said ≡ draft_of listed → MatchResult result (λ image. image ≡ listed) (λ fault. fault.kind ≡ 5) }
 {
     let mut assembly = Assembly::new(alloc);
-    let number = add_lines(&mut assembly, text, labels)?;
-    match assembly.finish() {
-        Ok(image) => Ok(image),
-        Err(fault) => Err(fault.at(number.max(1))),
+    match add_lines(&mut assembly, text, labels) {
+        Ok(number) => finished(assembly, number),
+        Err(fault) => {
+            drop(assembly);
+            Err(fault)
+        }
     }
 }
 

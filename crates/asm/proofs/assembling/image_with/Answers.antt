@@ -3,7 +3,6 @@ use Rattle.asm_line.specs.declared.lines.Line.{Line}
 use Rattle.asm.specs.Drafts.{Draft, nothing_read}
 use Rattle.asm.specs.Labels.{FoundLabels}
 use Rattle.asm.specs.Reading.{AreInPlace, with_lines}
-use Rattle.asm.proofs.Laws.{told-by}
 use Rattle.asm.proofs.assembling.image_with.Goals as goal
 
 -- what holds of lines behind nothing holds of them behind a draft of which nothing is read
@@ -14,17 +13,11 @@ module _ (labels : List FoundLabels) (draft : Draft) (said : List Line) (new : d
   same-lines : with_lines labels draft said ≡ with_lines labels nothing_read said
   same-lines = ap (λ (d : Draft). with_lines labels d said) new
 
-pub returns-in_err-number-clause-listed : goal.returns-in_err-number-clause-listed
-returns-in_err-number-clause-listed c listed is said zip placed reads =
-    told-by c.from_residual.result c.in_err-number.field-0.0 _ c.from_residual.ensures
-    (c.in_err-number.ensures.listed said zip (in-place c.args.labels.now _ said c.new-assembly.ensures placed))
+pub returns-in-Err-clause-listed : goal.returns-in-Err-clause-listed
+returns-in-Err-clause-listed c listed is said zip placed reads =
+    c.in-Err.ensures.listed said zip (in-place c.args.labels.now _ said c.new-assembly.ensures placed)
 
 pub returns-in-Ok-clause-listed : goal.returns-in-Ok-clause-listed
 returns-in-Ok-clause-listed c listed is said zip placed reads =
-    let made = c.in_ok-number.ensures.listed said zip (in-place c.args.labels.now _ said c.new-assembly.ensures placed) in
-    c.in-Ok.ensures.listed listed is (made ∙ same-lines c.args.labels.now _ said c.new-assembly.ensures ∙ reads)
-
-pub returns-in-Err-clause-listed : goal.returns-in-Err-clause-listed
-returns-in-Err-clause-listed c listed is said zip placed reads =
-    let made = c.in_ok-number.ensures.listed said zip (in-place c.args.labels.now _ said c.new-assembly.ensures placed) in
-    c.at.ensures.memory (c.in-Err.ensures.listed listed is (made ∙ same-lines c.args.labels.now _ said c.new-assembly.ensures ∙ reads))
+    let made = c.in-Ok.ensures.listed said zip (in-place c.args.labels.now _ said c.new-assembly.ensures placed) in
+    c.finished.ensures.listed listed is (made ∙ same-lines c.args.labels.now _ said c.new-assembly.ensures ∙ reads)
