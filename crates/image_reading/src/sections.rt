@@ -7,7 +7,7 @@ ghost use Rattle.model.specs.Images.Image.{below, capability_format, frame_forma
 
 use crate::entries::{Counts, Entry};
 use crate::fields::{any_word, pair_key, rising_word, second_part, word_below, word_between};
-use crate::slot_words::{names_parent, unpacks};
+use crate::slot_words::{is_empty, names_parent, unpacks};
 use model::{
     CapabilityEntry, FrameEntry, InterruptEntry, ObjectEntry, Refusal, SlotEntry, TableEntry,
     UntypedEntry,
@@ -297,7 +297,7 @@ impl Entry for SlotEntry {
         let (word0, at) = any_word(bytes, at)?;
         let (word1, at) = second_word(bytes, at, word0)?;
         let (parent_cnode, at) = parent_cnode(bytes, at, counts.objects)?;
-        let (parent_index, at) = parent_index(bytes, at, word0 == 0 && word1 == 0, parent_cnode)?;
+        let (parent_index, at) = parent_index(bytes, at, is_empty(word0, word1), parent_cnode)?;
         Ok((
             SlotEntry {
                 cnode,
