@@ -16,7 +16,7 @@ const GREATEST_NUMBER: u32 = 1_000_000;
 const GREATEST_LINE: u32 = 63;
 
 /// Why a list of events is refused.
-#[derive(Clone, Copy)]
+#[derive(Clone, Copy, Debug, PartialEq, Eq)]
 pub enum EventsFault {
     /// This line, counted from 1, is malformed, or passes the limit of events.
     Line(u64),

@@ -3,8 +3,8 @@
 use crate::forms::{WORDS, form_of, long_form, register_name};
 use crate::lines::{line_of, push_line};
 use crate::nearest::Nearest;
-use asm_line::parse_line;
 use asm::SourceFault;
+use asm_line::parse_line;
 use source_texts::{has_automatic_budget, word_at};
 use std::alloc::AllocError;
 
