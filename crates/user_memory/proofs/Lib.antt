@@ -1,3 +1,4 @@
+pub mod BytesMore
 pub mod Executed
 pub mod Filled
 pub mod FilledFrames
