@@ -1,7 +1,7 @@
 //! From instructions to words.
 
-ghost use Rattle.std.specs.Prelude.{◌≡◌, ◌+◌, ◌*◌, ◌^◌, ◌↔◌, IsTrue, pos, neg_ℤ, ◌≤ℤ◌, ◌<ℤ◌};
-ghost use Rattle.model.specs.Machine.Instructions.{IsImmediate, IsInstr, IsRegister, Spells, bits, word_of};
+ghost use Rattle.std.specs.Prelude.{◌≡◌, ◌+◌, ◌*◌, ◌^◌, ◌<◌, ◌↔◌, IsTrue, pos, neg_ℤ, ◌≤ℤ◌, ◌<ℤ◌};
+ghost use Rattle.model.specs.Machine.Instructions.{IsImmediate, IsInstr, IsRegister, Spells, b_type, bits, i_type, r_type, s_type, word_of};
 
 use crate::fields::field;
 use crate::operations::{
@@ -20,65 +20,89 @@ pub fn encode(instr: Instr) -> u32
     match instr {
         Instr::Upper { op, rd, immediate } => upper_opcode(op) + rd_bits(rd) + (immediate << 12),
         Instr::Jal { rd, offset } => 0x6F + rd_bits(rd) + jump_bits(offset),
-        Instr::Jalr { rd, rs1, offset } => {
-            0x67 + rd_bits(rd) + rs1_bits(rs1) + immediate_bits(offset)
-        }
+        Instr::Jalr { rd, rs1, offset } => i_type(0x67, rd, 0, rs1, offset),
         Instr::Branch {
             op,
             rs1,
             rs2,
             offset,
-        } => {
-            0x63 + (branch_funct3(op) << 12) + rs1_bits(rs1) + rs2_bits(rs2) + branch_bits(offset)
-        }
+        } => b_type(branch_funct3(op), rs1, rs2, offset),
         Instr::Load {
             op,
             rd,
             rs1,
             offset,
-        } => {
-            0x03 + rd_bits(rd) + (load_funct3(op) << 12) + rs1_bits(rs1) + immediate_bits(offset)
-        }
+        } => i_type(0x03, rd, load_funct3(op), rs1, offset),
         Instr::Store {
             op,
             rs1,
             rs2,
             offset,
-        } => {
-            0x23 + (store_funct3(op) << 12) + rs1_bits(rs1) + rs2_bits(rs2) + store_bits(offset)
-        }
+        } => s_type(store_funct3(op), rs1, rs2, offset),
         Instr::Immediate {
             op,
             rd,
             rs1,
             immediate,
-        } => {
-            0x13 + rd_bits(rd)
-                + (immediate_funct3(op) << 12)
-                + rs1_bits(rs1)
-                + immediate_bits(immediate)
-        }
+        } => i_type(0x13, rd, immediate_funct3(op), rs1, immediate),
         Instr::Shift {
             op,
             rd,
             rs1,
             amount,
-        } => {
-            let (funct3, funct7) = shift_functs(op);
-            0x13 + rd_bits(rd)
-                + (funct3 << 12)
-                + rs1_bits(rs1)
-                + ((amount as u32) << 20)
-                + (funct7 << 25)
-        }
+        } => r_type(0x13, rd, shift_functs(op), rs1, u32::from(amount)),
         Instr::Registers { op, rd, rs1, rs2 } => {
-            let (funct3, funct7) = register_functs(op);
-            0x33 + rd_bits(rd) + (funct3 << 12) + rs1_bits(rs1) + rs2_bits(rs2) + (funct7 << 25)
+            r_type(0x33, rd, register_functs(op), rs1, u32::from(rs2.0))
         }
         Instr::Fence => 0x0FF0_000F,
         Instr::Ecall => 0x0000_0073,
         Instr::Ebreak => 0x0010_0073,
     }
+}
+
+/// A word of R-type with a funct3 and a funct7.
+fn r_type(opcode: u32, rd: Register, functs: (u32, u32), rs1: Register, rs2: u32) -> u32
+    requires opcode { opcode < 2 ^ 7 }
+    requires rd { IsRegister rd }
+    requires funct3 { functs.0 < 2 ^ 3 }
+    requires funct7 { functs.1 < 2 ^ 7 }
+    requires rs1 { IsRegister rs1 }
+    requires rs2 { rs2 < 2 ^ 5 }
+    ensures { result ≡ r_type opcode rd functs.0 rs1 rs2 functs.1 }
+{
+    let (funct3, funct7) = functs;
+    opcode + rd_bits(rd) + (funct3 << 12) + rs1_bits(rs1) + (rs2 << 20) + (funct7 << 25)
+}
+
+/// A word of I-type.
+fn i_type(opcode: u32, rd: Register, funct3: u32, rs1: Register, immediate: i32) -> u32
+    requires opcode { opcode < 2 ^ 7 }
+    requires rd { IsRegister rd }
+    requires funct3 { funct3 < 2 ^ 3 }
+    requires rs1 { IsRegister rs1 }
+    ensures { result ≡ i_type opcode rd funct3 rs1 immediate }
+{
+    opcode + rd_bits(rd) + (funct3 << 12) + rs1_bits(rs1) + immediate_bits(immediate)
+}
+
+/// A store, the only S-type.
+fn s_type(funct3: u32, rs1: Register, rs2: Register, immediate: i32) -> u32
+    requires funct3 { funct3 < 2 ^ 3 }
+    requires rs1 { IsRegister rs1 }
+    requires rs2 { IsRegister rs2 }
+    ensures { result ≡ s_type 0x23 funct3 rs1 rs2 immediate }
+{
+    0x23 + (funct3 << 12) + rs1_bits(rs1) + rs2_bits(rs2) + store_bits(immediate)
+}
+
+/// A branch, the only B-type.
+fn b_type(funct3: u32, rs1: Register, rs2: Register, offset: i32) -> u32
+    requires funct3 { funct3 < 2 ^ 3 }
+    requires rs1 { IsRegister rs1 }
+    requires rs2 { IsRegister rs2 }
+    ensures { result ≡ b_type 0x63 funct3 rs1 rs2 offset }
+{
+    0x63 + (funct3 << 12) + rs1_bits(rs1) + rs2_bits(rs2) + branch_bits(offset)
 }
 
 /// Whether the fields of an instruction lie in their ranges, so that a word spells it.
