@@ -88,12 +88,15 @@ fn is_within(number: usize, low: u32, high: u32) -> bool
     low as usize <= number && number <= high as usize
 }
 
-/// Whether the last four counts of the image's head are in their ranges.
+/// Whether the last six counts of the image's head are in their ranges.
 fn last_counts_fit(parts: &Parts) -> bool
-    ensures { let h = parts.now.header in result ≡ ((field (between 0 1024)).fits h.tables && ((field (between 0 4096)).fits h.frames
-        && ((field (between 0 4096)).fits h.contents && (field (between 1 64)).fits h.threads))) }
+    ensures { let h = parts.now.header in result ≡ ((field (between 0 16384)).fits h.capabilities && ((field (between 0 64)).fits h.interrupts
+        && ((field (between 0 1024)).fits h.tables && ((field (between 0 4096)).fits h.frames
+        && ((field (between 0 4096)).fits h.contents && (field (between 1 64)).fits h.threads))))) }
 {
-    is_within(parts.tables.len(), 0, 1024)
+    is_within(parts.capabilities.len(), 0, 16384)
+        && is_within(parts.interrupts.len(), 0, 64)
+        && is_within(parts.tables.len(), 0, 1024)
         && is_within(parts.frames.len(), 0, 4096)
         && is_within(parts.contents.len(), 0, 4096)
         && is_within(parts.threads.len(), 1, 64)
@@ -109,8 +112,6 @@ fn head_fits(parts: &Parts) -> bool
         && is_within(parts.boot_radix as usize, 1, radix_limit(parts.memory_bits))
         && is_within(parts.untypeds.len(), 1, 64)
         && is_within(parts.objects.len(), 0, 4096)
-        && is_within(parts.capabilities.len(), 0, 16384)
-        && is_within(parts.interrupts.len(), 0, 64)
         && last_counts_fit(parts)
 }
 
