@@ -1,5 +1,5 @@
 -- Loops that append what each turn tells or finds, or look whether some of it passes.
-use Rattle.std.proofs.Common.{ℕ, ◌≡◌, ◌∙◌, ◌+◌, ◌<◌, ◌||◌, Bool, true, false, Option, Some, None, List, [], ◌∷◌, ◌++◌, length, take, get_or, refl, sym, ap, add-one, take-suc}
+use Rattle.std.proofs.Common.{ℕ, ◌≡◌, ◌∙◌, ◌+◌, ◌<◌, ◌≤◌, ◌||◌, Bool, true, false, Option, Some, None, List, [], ◌∷◌, ◌++◌, length, take, get_or, refl, sym, ap, add-one, append-nil, take-suc, take_all}
 use Rattle.std.specs.List.{cons_option, filter_map, flat_map, list_any}
 use Rattle.std.specs.Option.{option_map_or, option_to_list}
 use Rattle.std.proofs.lemmas.List.{flat_map_more}
@@ -12,6 +12,15 @@ pub one-more-told : (tell : NotedSlot → List NotedSlot) (slots : List NotedSlo
 one-more-told tell slots i s old made after less at before is =
     let longer : take (i + 1) slots ≡ take i slots ++ (s ∷ []) = rw (add-one i) (take-suc slots i s less ∙ ap (λ (x : NotedSlot). take i slots ++ (x ∷ [])) (sym at)) in
     is ∙ ap (λ (l : List NotedSlot). l ++ tell s) before ∙ flat_map_more tell old (take i slots) s ∙ ap (λ (l : List NotedSlot). old ++ flat_map tell l) (sym longer)
+
+-- before the first slot nothing is told
+pub none-told : (tell : NotedSlot → List NotedSlot) (slots old : List NotedSlot) → old ≡ old ++ flat_map tell (take 0 slots)
+none-told tell slots old = sym (append-nil old)
+
+-- with no slot left all of them are told
+pub all-told : (tell : NotedSlot → List NotedSlot) (slots : List NotedSlot) (i : ℕ) (old made : List NotedSlot) → length slots ≤ i
+    → made ≡ old ++ flat_map tell (take i slots) → made ≡ old ++ flat_map tell slots
+all-told tell slots i old made none before = before ∙ ap (λ (l : List NotedSlot). old ++ flat_map tell l) (take_all i slots none)
 
 -- what is found for one thing more: with what is found for the rest it is the whole
 pub one-more-found : (X : Type 0) (look : X → Option NotedSlot) (x : X) (xs rest : List X) (made after whole : List NotedSlot) → xs ≡ x ∷ rest
