@@ -1,5 +1,5 @@
 -- By what the rule on calls says.
-use Rattle.std.proofs.Common.{◌∙◌, List, Some, sym, ap}
+use Rattle.std.proofs.Common.{◌∙◌, List, Some, sym, ap, subst}
 use Rattle.measure.specs.Measures.{measure_of}
 use Rattle.model.specs.Acceptance.NotedStates.{NotedSlot}
 use Rattle.model.specs.Acceptance.PointStates.{behind_call, follows_call}
@@ -9,6 +9,12 @@ use Rattle.program_rules.specs.Programs.{thread_of}
 use Rattle.typestate.specs.Calls.{behind_with}
 use Rattle.typestate.specs.Differences.{changed, slots_of}
 use Rattle.typestate.specs.Logs.{part_of}
+use Rattle.typestate.specs.Strays.{NoneStray}
+
+pub called-requires-clause-clean : goal.called-requires-clause-clean
+called-requires-clause-clean c = λ is.
+    subst (λ (all : List NotedSlot). NoneStray c.args.self.now.space.image.now c.args.self.now.space.thread.now all)
+    (sym (c.slots-slots.ensures.slots ∙ c.requires.shown.same c.args.self.now.slots.now c.args.self.now.rising)) (c.requires.clean is)
 
 pub returns-clause-same : goal.returns-clause-same
 returns-clause-same c =

@@ -15,7 +15,13 @@ use Rattle.typestate.specs.Calls.{left_with}
 use Rattle.typestate.specs.Calls.{behind_with}
 use Rattle.typestate.specs.Differences.{changed, slots_of}
 use Rattle.typestate.specs.Logs.{part_of}
+use Rattle.typestate.specs.Strays.{NoneStray}
 use Rattle.wellformed.specs.Answering.{Answers}
+
+pub called-requires-clause-clean : goal.called-requires-clause-clean
+called-requires-clause-clean c = λ is.
+    subst (λ (all : List NotedSlot). NoneStray c.args.self.now.space.image.now c.args.self.now.space.thread.now all)
+    (sym (c.slots-slots.ensures.slots ∙ c.requires.shown.same c.args.self.now.slots.now c.args.self.now.rising)) (c.requires.clean is)
 
 pub returns-then-leaves_next-clause-broken : goal.returns-then-leaves_next-clause-broken
 returns-then-leaves_next-clause-broken c =

@@ -15,7 +15,13 @@ use Rattle.program_rules.specs.PointChecks.{later_rules, own_rules}
 use Rattle.program_rules.specs.Programs.{thread_of}
 use Rattle.typestate.specs.Calls.{known_with}
 use Rattle.typestate.specs.Differences.{slots_of}
+use Rattle.typestate.specs.Strays.{NoneStray}
 use Rattle.wellformed.specs.Answering.{Answers}
+
+pub own_rules-requires-clause-clean : goal.own_rules-requires-clause-clean
+own_rules-requires-clause-clean c = λ is.
+    subst (λ (all : List NotedSlot). NoneStray c.args.self.now.space.image.now c.args.self.now.space.thread.now all)
+    (sym (c.slots-slots.ensures.slots ∙ c.requires.part.same c.args.self.now.slots.now c.args.self.now.rising)) (c.requires.clean is)
 
 pub returns-in_err-own_rules-clause-broken : goal.returns-in_err-own_rules-clause-broken
 returns-in_err-own_rules-clause-broken c =
