@@ -4,6 +4,7 @@ use Rattle.std.specs.Prelude.{OnErr, OnOk}
 use Rattle.std.proofs.lemmas.Result.{err_from_is_err_and}
 use Rattle.model.specs.Kernel.State.{State}
 use Rattle.model.specs.Kernel.Steps.{trace}
+use Rattle.model.specs.declared.refusals.Refusal.TheVariants as refusals
 use Rattle.headline.specs.SafeRuns.{trace_of}
 use Rattle.kernel_trace.specs.Lines.{Failed, lines_of}
 use Rattle.runner.specs.Running.{PutsAll}
@@ -56,3 +57,7 @@ returns-clause-memory g c = λ is.
 pub returns-clause-boots : goal.returns-clause-boots
 returns-clause-boots g c = λ fault is.
     let clash : Boot fault ≡ Output = is-output c.put_lines.result (Boot fault) c.put_lines.ensures.only is in cc
+
+pub returns-clause-enough : goal.returns-clause-enough
+returns-clause-enough g c = λ is.
+    let clash : Refused refusals.OutOfMemory ≡ Output = is-output c.put_lines.result (Refused refusals.OutOfMemory) c.put_lines.ensures.only is in cc

@@ -99,3 +99,11 @@ returns-clause-boot g c = λ fault is.
 pub returns-clause-memory : goal.returns-clause-memory
 returns-clause-memory g c = λ is.
     let clash : OutOfMemory ≡ Output = is-output c.put_lines.result OutOfMemory c.put_lines.ensures.only is in absurd cc
+
+pub returns-clause-enough : goal.returns-clause-enough
+returns-clause-enough g c = λ is.
+    let clash : Refused refusals.OutOfMemory ≡ Output = is-output c.put_lines.result (Refused refusals.OutOfMemory) c.put_lines.ensures.only is in cc
+
+pub returns-clause-room : goal.returns-clause-room
+returns-clause-room g c = λ is.
+    let clash : Boot boot_faults.OutOfMemory ≡ Output = is-output c.put_lines.result (Boot boot_faults.OutOfMemory) c.put_lines.ensures.only is in cc
