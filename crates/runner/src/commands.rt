@@ -171,7 +171,16 @@ fn verify_file<'a, R: Files + AllocGlobal, W: Sink>(
     output: &mut W,
 ) -> Result<(), Failure<'a>> {
     let bytes = read_bytes(rt, image)?;
-    let _accepted = verify(rt.alloc(), bytes.as_slice())?;
+    put_verdict(rt.alloc(), bytes.as_slice(), output)
+}
+
+/// Says that an image is accepted.
+fn put_verdict<'a, W: Sink>(
+    alloc: Global,
+    bytes: &[u8],
+    output: &mut W,
+) -> Result<(), Failure<'a>> {
+    drop(verify(alloc, bytes)?);
     Ok(put_all(output, b"accepted\n")?)
 }
 
