@@ -90,6 +90,7 @@ fn image_with<'a>(alloc: Global, text: &'a str, labels: &[Labels<'a>]) -> Result
     match add_lines(&mut assembly, text, labels) {
         Ok(number) => finished(assembly, number),
         Err(fault) => {
+            // In place of this one call, each field would be dropped on its own, which is long to prove.
             drop(assembly);
             Err(fault)
         }
