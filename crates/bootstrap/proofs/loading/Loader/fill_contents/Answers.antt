@@ -33,3 +33,10 @@ loop-content-preserved c =
       calls = c.fill_content.ensures.counted ∙ c.loop-content.invariant.calls;
       fits = (subst (λ (xs : List ImageContent). AllByRecursion (ContentFits c.args.image.now.header) xs) c.in-Some.ensures.steps c.loop-content.invariant.fits).1;
     }
+
+pub returns-clause-outcome : goal.returns-clause-outcome
+returns-clause-outcome c =
+    let f = content_operation c.args.image.now in
+    let u = c.args.image.now.header.untypeds in
+    let now = progress_of c.loop-content.self in
+    c.loop-content.invariant.same ∙ ap (λ xs. all_performed u now (map f xs)) c.in-None.ensures.steps.0

@@ -35,3 +35,10 @@ loop-thread-preserved c =
       few = omega (arith, ap length c.in-Some.ensures.steps, c.loop-thread.invariant.few);
       fits = (subst (λ (ts : List Thread). AllByRecursion (ThreadFits c.args.image.now.header) ts) c.in-Some.ensures.steps c.loop-thread.invariant.fits).1;
     }
+
+pub returns-clause-outcome : goal.returns-clause-outcome
+returns-clause-outcome c =
+    let image = c.args.image.now in
+    let n = c.loop-thread.number in
+    let now = progress_of c.loop-thread.self in
+    c.loop-thread.invariant.same ∙ ap (λ ts. all_performed image.header.untypeds now (programs_from image n ts)) c.in-None.ensures.steps.0

@@ -2,7 +2,7 @@
 use Rattle.std.proofs.Common.{[], ◌∷◌, length, map, ap, arith}
 use Rattle.std.proofs.lemmas.Result.{err_from_is_err_and}
 use Rattle.bootstrap.specs.Loading.{progress_of, register_call}
-use Rattle.bootstrap.proofs.Calls.{fails, more}
+use Rattle.bootstrap.proofs.Calls.{done, fails, more}
 use Rattle.bootstrap.proofs.loading.Loader.set_registers.Goals as goal
 
 pub returns-in_err-call-clause-outcome : goal.returns-in_err-call-clause-outcome
@@ -20,3 +20,8 @@ loop-entry-preserved c =
           (ap (map f) c.in-Some.ensures.steps) c.loop-entry.invariant.same c.in_ok-call.ensures.outcome;
       room = omega (arith, ap length c.in-Some.ensures.steps, c.call.ensures.counted);
     }
+
+pub returns-clause-outcome : goal.returns-clause-outcome
+returns-clause-outcome c =
+    let f = register_call c.args.tcb in
+    done (map f c.loop-entry.entry-iterator) _ (progress_of c.loop-entry.self) (ap (map f) c.in-None.ensures.steps.0) c.loop-entry.invariant.same

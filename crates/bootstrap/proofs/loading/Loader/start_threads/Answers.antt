@@ -7,7 +7,7 @@ use Rattle.model.specs.Images.BootCalls.{thread_calls}
 use Rattle.model.specs.Images.Image.{Thread}
 use Rattle.bootstrap.specs.Limits.{ThreadFits}
 use Rattle.bootstrap.specs.Loading.{progress_of}
-use Rattle.bootstrap.proofs.Calls.{fails, more}
+use Rattle.bootstrap.proofs.Calls.{done, fails, more}
 use Rattle.bootstrap.proofs.loading.Loader.start_threads.Goals as goal
 
 pub start_thread-requires-clause-fits : goal.start_thread-requires-clause-fits
@@ -30,3 +30,8 @@ loop-thread-preserved c =
       room = omega (arith, ap length c.in-Some.ensures.steps, c.start_thread.ensures.counted);
       fits = (subst (λ (ts : List Thread). AllByRecursion (ThreadFits c.args.image.now.header) ts) c.in-Some.ensures.steps c.loop-thread.invariant.fits).1;
     }
+
+pub returns-clause-outcome : goal.returns-clause-outcome
+returns-clause-outcome c =
+    let f = thread_calls c.args.image.now in
+    done (flat_map f c.loop-thread.thread-iterator) _ (progress_of c.loop-thread.self) (ap (flat_map f) c.in-None.ensures.steps.0) c.loop-thread.invariant.same
