@@ -1,5 +1,5 @@
 -- By the order of the definition.
-use Rattle.std.proofs.Common.{◌≡◌, ◌∙◌, None, Ok, inr, ap, sym}
+use Rattle.std.proofs.Common.{◌≡◌, ◌∙◌, None, inr, ap, sym}
 use Rattle.std.proofs.lemmas.Result.{err_from_is_err_and}
 use Rattle.kernel_machine.specs.Setups.{state_in}
 use Rattle.model.specs.Images.Boot.{misplaced}
