@@ -67,3 +67,7 @@ loop-number-preserved c =
       placed = subst (ArePlaces image (n + 1)) (sym (c.in_ok-push.ensures.items ∙ ap (λ (w : ℕ). c.loop-number.places.items ++ (w + first) ∷ []) c.from.ensures))
           (placed-after image n o used first size c.object-object.ensures near many before c.align-first.ensures.value sized c.loop-number.places.items c.untyped.result c.untyped.ensures c.loop-number.invariant.placed);
     }
+
+pub returns : goal.returns
+returns c =
+    subst (λ (n : ℕ). ArePlaces c.args.image.now n c.loop-number.places.items) (omega (arith, ap (λ h. h.objects) c.header-number-end.ensures.value)) c.loop-number.invariant.placed
