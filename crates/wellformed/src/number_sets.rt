@@ -1,6 +1,6 @@
 //! Sets of the numbers of objects.
 
-ghost use Rattle.std.specs.Prelude.{◌≡◌, ◌+◌, ◌<◌, [], ◌∷◌, ◌++◌, IfErr, IfOk, OnErr, OnOk, Some, if◌then◌else◌, length, slice_get};
+ghost use Rattle.std.specs.Prelude.{ℕ, ◌≡◌, ◌+◌, ◌<◌, [], ◌∷◌, ◌++◌, IfErr, IfOk, OnErr, OnOk, Some, if◌then◌else◌, length, false, slice_get, slice_index_or};
 ghost use Rattle.model.specs.Acceptance.ThreadRules.{is_member};
 ghost use Rattle.model.specs.declared.refusals.Refusal.TheVariants.{OutOfMemory};
 
@@ -71,12 +71,22 @@ impl NumberSet {
         if self.contains(number) {
             return Ok(());
         }
-        let place = number as usize;
-        if self.marks.len() <= place {
-            self.marks.resize(place + 1, false)?;
-        }
+        make_room(&mut self.marks, number)?;
         self.numbers.push(number)?;
-        self.marks[place] = true;
+        self.marks[number as usize] = true;
         Ok(())
     }
+}
+
+/// Makes the marks reach up to a number.
+fn make_room(marks: &mut Vec<bool>, number: u32) -> Result<(), Refusal>
+    ensures same { (n : ℕ) → slice_index_or marks.new.items n false ≡ slice_index_or marks.old.items n false }
+    ensures room { OnOk result (number < length marks.new.items) }
+    ensures memory { IfErr result (λ refusal. refusal ≡ OutOfMemory) }
+{
+    let place = number as usize;
+    if marks.len() <= place {
+        marks.resize(place + 1, false)?;
+    }
+    Ok(())
 }
