@@ -91,6 +91,8 @@ pub(crate) fn executes(entry: FrameEntry) -> bool
 /// What names frames besides the one mapping at hand.
 #[derive(Drop)]
 struct FrameNames {
+    /// Frames that are mapped.
+    once: NumberSet,
     /// Frames that are mapped more than once.
     twice: NumberSet,
     /// Frames that contents fill.
@@ -109,29 +111,33 @@ fn note_mapping(frame: u32, once: &mut NumberSet, twice: &mut NumberSet) -> Resu
     once.insert(frame)
 }
 
-/// The frames that are mapped more than once.
-fn frames_mapped_twice(alloc: Global, image: &ImageRef<'_>) -> Result<NumberSet, Refusal>
-    ensures ok { IfOk result (λ twice. AreTwice (λ f. f.frame) image.now.frames twice) }
+/// Puts all frames that are mapped into a set of no frames, and those that are mapped more than once into another.
+fn note_mappings(
+    image: &ImageRef<'_>,
+    once: &mut NumberSet,
+    twice: &mut NumberSet,
+) -> Result<(), Refusal>
+    requires once { once.old ≡ [] }
+    requires twice { twice.old ≡ [] }
+    ensures twice { OnOk result (AreTwice (λ f. f.frame) image.now.frames twice.new) }
     ensures memory { IfErr result (λ refusal. refusal ≡ OutOfMemory) }
 {
-    let mut once = NumberSet::new(alloc);
-    let mut twice = NumberSet::new(alloc);
     for item in 0..header_of(image).frames {
-        note_mapping(image.frame(item).frame, &mut once, &mut twice)?;
+        note_mapping(image.frame(item).frame, once, twice)?;
     }
-    Ok(twice)
+    Ok(())
 }
 
-/// The frames that contents fill.
-fn filled_frames(alloc: Global, image: &ImageRef<'_>) -> Result<NumberSet, Refusal>
-    ensures ok { IfOk result (AreNamed (λ c. c.header.frame) image.now.contents) }
+/// Puts all frames that contents fill into a set of no frames.
+fn note_fills(image: &ImageRef<'_>, filled: &mut NumberSet) -> Result<(), Refusal>
+    requires { filled.old ≡ [] }
+    ensures filled { OnOk result (AreNamed (λ c. c.header.frame) image.now.contents filled.new) }
     ensures memory { IfErr result (λ refusal. refusal ≡ OutOfMemory) }
 {
-    let mut filled = NumberSet::new(alloc);
     for content in image.contents() {
         filled.insert(content.header().frame)?;
     }
-    Ok(filled)
+    Ok(())
 }
 
 /// Whether a mapping is of code that can be written, or that something else than its mapping reaches.
@@ -180,16 +186,34 @@ fn check_each_frame(
     Ok(())
 }
 
-/// The same, once it is known what else names frames.
+/// The same, once it is noted what else names frames.
+fn check_noted(
+    image: &ImageRef<'_>,
+    sources: &NumberSet,
+    names: &mut FrameNames,
+) -> Result<(), Refusal>
+    requires sources { AreNamed (λ c. c.source) image.now.capabilities sources.now }
+    requires once { names.old.once ≡ [] }
+    requires twice { names.old.twice ≡ [] }
+    requires filled { names.old.filled ≡ [] }
+    ensures { Answers (first_broken (flat_map (frame_rules image.now) (numbered image.now.frames))) result }
+{
+    note_mappings(image, &mut names.once, &mut names.twice)?;
+    note_fills(image, &mut names.filled)?;
+    check_each_frame(image, sources, names)
+}
+
+/// The same, where nothing is noted yet.
 fn check_frames(alloc: Global, image: &ImageRef<'_>, sources: &NumberSet) -> Result<(), Refusal>
     requires { AreNamed (λ c. c.source) image.now.capabilities sources.now }
     ensures { Answers (first_broken (flat_map (frame_rules image.now) (numbered image.now.frames))) result }
 {
-    let names = FrameNames {
-        twice: frames_mapped_twice(alloc, image)?,
-        filled: filled_frames(alloc, image)?,
+    let mut names = FrameNames {
+        once: NumberSet::new(alloc),
+        twice: NumberSet::new(alloc),
+        filled: NumberSet::new(alloc),
     };
-    check_each_frame(image, sources, &names)
+    check_noted(image, sources, &mut names)
 }
 
 /// Whether a content is of no frame.
