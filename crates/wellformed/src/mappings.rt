@@ -45,19 +45,27 @@ fn misplaces_table(image: &ImageRef<'_>, item: u32, entry: TableEntry, mapped: &
         || mapped.contains(entry.table)
 }
 
-/// The tables, in their order.
-fn check_tables(alloc: Global, image: &ImageRef<'_>) -> Result<(), Refusal>
+/// The tables, in their order. The page tables that are mapped so far are put into a set of none.
+fn check_each_table(image: &ImageRef<'_>, mapped: &mut NumberSet) -> Result<(), Refusal>
+    requires { mapped.old ≡ [] }
     ensures { Answers (first_broken (map (λ t. refuse_if (misplaces_table image.now t) (BadMapping t.0)) (numbered image.now.tables))) result }
 {
-    let mut mapped = NumberSet::new(alloc);
     for item in 0..header_of(image).tables {
         let entry = image.table(item);
-        if misplaces_table(image, item, entry, &mapped) {
+        if misplaces_table(image, item, entry, mapped) {
             return Err(Refusal::BadMapping { item });
         }
         mapped.insert(entry.table)?;
     }
     Ok(())
+}
+
+/// The same, where no table is mapped yet.
+fn check_tables(alloc: Global, image: &ImageRef<'_>) -> Result<(), Refusal>
+    ensures { Answers (first_broken (map (λ t. refuse_if (misplaces_table image.now t) (BadMapping t.0)) (numbered image.now.tables))) result }
+{
+    let mut mapped = NumberSet::new(alloc);
+    check_each_table(image, &mut mapped)
 }
 
 /// Whether some table covers the page of a mapping.
