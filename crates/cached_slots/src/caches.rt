@@ -23,7 +23,7 @@ const TABLE_ENTRIES: u32 = 0x400;
 const PLACES: u32 = 64;
 
 /// The leaf of the last level that a walk to a page ends at: the offset of the root table, the number of the page, and the leaf.
-#[derive(Clone, Copy, Debug)]
+#[derive(Clone, Copy)]
 pub struct TlbEntry {
     pub root: u32,
     pub page: u32,

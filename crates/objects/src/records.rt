@@ -3,7 +3,7 @@
 use thread_records::Sending;
 
 /// What an object is of, and how many slots a CNode has: 2^`radix`.
-#[derive(Clone, Copy, Debug)]
+#[derive(Clone, Copy)]
 pub enum Kind {
     Thread,
     Endpoint,
@@ -28,7 +28,7 @@ pub(crate) enum Entry {
 }
 
 /// A thread that waits to send, and what it sends.
-#[derive(Clone, Copy, Debug)]
+#[derive(Clone, Copy)]
 pub struct WaitingSender {
     pub thread: u32,
     pub sending: Sending,

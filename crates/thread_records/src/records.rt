@@ -23,7 +23,7 @@ pub enum Status {
 }
 
 /// What a thread tells its handler.
-#[derive(Clone, Copy, Debug)]
+#[derive(Clone, Copy)]
 pub enum Fault {
     /// A system call named no capability, or one that is not fit for it; whether it was a receive.
     Capability {
@@ -50,7 +50,7 @@ pub enum Fault {
 }
 
 /// What a thread that waits at an endpoint sends.
-#[derive(Clone, Copy, Debug)]
+#[derive(Clone, Copy)]
 pub enum Sent {
     /// The message in its registers; it passes once that is received.
     Send,
@@ -62,7 +62,7 @@ pub enum Sent {
 
 /// What a thread waits to send, with the badge and the right to get a reply of the capability that it
 /// sends by.
-#[derive(Clone, Copy, Debug)]
+#[derive(Clone, Copy)]
 pub struct Sending {
     pub sent: Sent,
     pub badge: u32,
