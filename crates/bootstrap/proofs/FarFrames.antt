@@ -3,7 +3,7 @@ use Rattle.std.proofs.Common.{◌≡◌, ◌≢◌, ℕ, ◌^◌, ◌<◌, ◌�
 use Rattle.std.specs.Prelude.{find, slice_get}
 use Rattle.std.proofs.lemmas.Bool.{ne_eqb}
 use Rattle.model.specs.declared.entries.FrameEntry.{FrameEntry}
-use Rattle.boot_laws.proofs.Laws.{find-no}
+use Rattle.soundness.proofs.Laws.{find-no}
 
 aside : (root address : ℕ) (f : FrameEntry) → (f.address ≡ address → ⊥) → (f.root == root && f.address == address) ≡ false
 aside root address f apart = elim (f.root == root) as (λ b. (b && (f.address == address)) ≡ false) [

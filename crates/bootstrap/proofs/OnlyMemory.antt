@@ -1,7 +1,7 @@
 -- A well-formed image boots, so what fails to boot lacked memory.
 use Rattle.std.proofs.Common.{◌≡◌, ◌∙◌, ◌⊎◌, inl, inr, true, Ok, Err, sym}
 use Rattle.std.specs.Prelude.{Result}
-use Rattle.boot_laws.proofs.Laws.{boots-well}
+use Rattle.soundness.proofs.Laws.{boots-well}
 use Rattle.model.specs.Acceptance.Accepted.{IsWellFormed}
 use Rattle.model.specs.declared.boot_faults.BootFault.{BootFault}
 use Rattle.model.specs.declared.boot_faults.BootFault.TheVariants.{OutOfMemory}

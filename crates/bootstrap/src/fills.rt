@@ -14,8 +14,7 @@ ghost use Rattle.model.specs.Kernel.Setup.{fill};
 
 use crate::loading::Loader;
 use crate::object_kinds::{is_frame, is_root_table};
-use image_entries::frame_at;
-use image_reading::{ContentRef, ImageRef, ThreadRef};
+use image_reading::{ContentRef, ImageRef, ThreadRef, frame_at};
 use model::{BootFault, FrameEntry};
 
 /// How many bytes a page has.

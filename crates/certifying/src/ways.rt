@@ -8,7 +8,7 @@ use crate::calls::Given;
 use crate::{Fault, Reason};
 use measure::{AfterCall, AfterInstruction, Step, Value};
 use model::{Instr, Point, Refusal};
-use point_rules::registers_of;
+use program_rules::registers_of;
 use ranges::{Bounds, Edge, after};
 use rv32_isa::decode;
 use std::alloc::Global;

@@ -13,7 +13,7 @@ use Rattle.model.specs.declared.errors.KError.TheVariants.{IllegalOperation, Ran
 use Rattle.model.specs.declared.invocations.SlotName.{SlotName}
 use Rattle.cnode_ops.specs.Nodes.{CNodesAreOpen, HasOpenSlots}
 use Rattle.model.specs.Kernel.Outcomes.{Gives}
-use Rattle.cap_copies.specs.Copies.{copy_of, minted_copy_of}
+use Rattle.derivation.specs.cap_copies.Copies.{copy_of, minted_copy_of}
 use Rattle.cnode_ops.specs.Results.{named_slots}
 use Rattle.cnode_ops.proofs.Kept.{nodes-put}
 

@@ -14,7 +14,7 @@ use Rattle.model.specs.declared.capabilities.Cap.TheVariants.{Empty, Untyped, En
 use Rattle.model.specs.declared.errors.KError.{KError}
 use Rattle.model.specs.declared.errors.KError.TheVariants.{IllegalOperation}
 use Rattle.model.specs.declared.invocations.SlotName.{SlotName}
-use Rattle.cap_copies.specs.Copies.{mutation_of}
+use Rattle.derivation.specs.cap_copies.Copies.{mutation_of}
 use Rattle.cnode_ops.specs.Results.{named_slots}
 use Rattle.cnode_ops.proofs.Answered.{behind-names, names-refused}
 use Rattle.cnode_ops.proofs.Values.{mutated-made}

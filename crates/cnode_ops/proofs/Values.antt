@@ -7,7 +7,7 @@ use Rattle.model.specs.declared.capabilities.Cap.{Cap}
 use Rattle.model.specs.declared.capabilities.Cap.TheVariants.{Empty, Untyped, Endpoint, Notification, CNode, Frame, PageTable, Tcb, RootTable, InterruptControl, InterruptHandler}
 use Rattle.model.specs.declared.errors.KError.{KError}
 use Rattle.model.specs.declared.errors.KError.TheVariants.{IllegalOperation, RangeError}
-use Rattle.cap_copies.specs.Copies.{copy_of, minted_copy_of, mutation_of}
+use Rattle.derivation.specs.cap_copies.Copies.{copy_of, minted_copy_of, mutation_of}
 
 -- ---- what the checks leave
 

@@ -9,3 +9,4 @@ pub mod RetypeChecks
 pub mod Sets
 pub mod Unsettled
 pub mod Counted
+pub mod object_lifetimes

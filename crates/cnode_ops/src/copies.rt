@@ -7,8 +7,7 @@ ghost use Rattle.model.specs.Capabilities.CapabilityWords.{IsCapability};
 ghost use Rattle.model.specs.Capabilities.Slots.{SameOutside};
 
 use crate::named::{NodeCall, named_slots};
-use cap_copies::{copy_of, minted_copy_of};
-use derivation::insert_child;
+use derivation::{copy_of, insert_child, minted_copy_of};
 use model::{KError, SlotName};
 use slots::SlotStore;
 

@@ -7,8 +7,7 @@ ghost use Rattle.model.specs.Capabilities.CapabilityWords.{IsCapability};
 ghost use Rattle.model.specs.Capabilities.Slots.{SameOutside};
 
 use crate::named::{NodeCall, named_slots};
-use cap_copies::mutation_of;
-use derivation::relocate;
+use derivation::{mutation_of, relocate};
 use model::{KError, SlotName};
 use slots::SlotStore;
 

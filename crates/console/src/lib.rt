@@ -3,8 +3,10 @@
 #![tactic(auto)]
 
 mod arguments;
+mod files;
 mod reports;
 
 pub use arguments::words;
 pub use command_line::WordsFault;
+pub use files::{FileFault, read_bytes, read_text, write_bytes};
 pub use reports::{DONE, REFUSED, failed, refused, wrong_words};

@@ -1,2 +1,3 @@
 pub mod Moves
 pub mod Removals
+pub mod cap_copies

@@ -11,7 +11,7 @@ use crate::scenes::{Scene, record_at, told};
 use image::RecordRef;
 use measure::Measure;
 use model::{Instr, Point, Range, RangeEntry, Refusal, Register};
-use point_rules::{Left, follows, follows_call};
+use program_rules::{Left, follows, follows_call};
 use ranges::Bounds;
 use rv32_isa::decode;
 use std::alloc::AllocError;

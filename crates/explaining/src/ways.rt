@@ -7,7 +7,7 @@ use crate::scenes::Scene;
 use crate::states::{Called, State};
 use measure::{AfterCall, AfterInstruction, Measure, Step, falls, stays_below};
 use model::{Instr, Refusal};
-use point_rules::registers_of;
+use program_rules::registers_of;
 use ranges::{Bounds, Edge, after};
 use rv32_isa::decode;
 use std::alloc::AllocError;

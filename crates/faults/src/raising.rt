@@ -10,7 +10,7 @@ ghost use Rattle.model.specs.Kernel.State.{Runnable, thread_at};
 ghost use Rattle.objects.specs.Frames.{SameObjects};
 ghost use Rattle.objects.specs.Standing.{Standing};
 ghost use Rattle.objects.specs.Tables.{state_of};
-ghost use Rattle.thread_records.specs.Threads.{message_of};
+ghost use Rattle.objects.specs.thread_records.Threads.{message_of};
 
 use crate::handlers::{Handler, find_handler};
 use ipc::send;

@@ -1,3 +1,5 @@
+mod facts
+pub mod Laws
 pub mod Labels
 pub mod Numbers
 pub mod RunningLabels

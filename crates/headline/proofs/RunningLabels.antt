@@ -4,8 +4,8 @@ use Rattle.std.specs.Prelude.{Contains, int_lt}
 use Rattle.std.specs.Option.{option_map_or}
 use Rattle.std.proofs.lemmas.Bool.{eqb-true, false≢true}
 use Rattle.std.proofs.lemmas.Int.{ints}
-use Rattle.measure_facts.specs.Terms.{NamesRegisters}
-use Rattle.thread_laws.specs.facts.Standing.{AllStand}
+use Rattle.headline.specs.measure_facts.Terms.{NamesRegisters}
+use Rattle.headline.specs.facts.Standing.{AllStand}
 use Rattle.model.specs.declared.events.Event.{Event}
 use Rattle.model.specs.declared.events.Event.TheVariants.{Irq, Step, Tick}
 use Rattle.model.specs.declared.labels.Label.{Label}
@@ -23,7 +23,7 @@ use Rattle.model.specs.Kernel.Steps.{memory_base, ran, step}
 use Rattle.model.specs.Kernel.Waits.{is_of, open_count}
 use Rattle.model.specs.Machine.ProgramMemory.{RegisterFile}
 use Rattle.soundness.proofs.Laws.{current-runs}
-use Rattle.thread_laws.specs.steps.Points.{IsPoint}
+use Rattle.headline.specs.steps.Points.{IsPoint}
 
 -- ---- who ran
 

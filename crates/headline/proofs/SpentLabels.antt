@@ -1,9 +1,9 @@
 -- The labels of a thread that stands throughout are within its budget.
 use Rattle.std.proofs.Common.{ℕ, ◌≡◌, ◌∙◌, ◌+◌, ◌-◌, ◌≤◌, ◌++◌, true, false, if◌then◌else◌, Some, List, [], ◌∷◌, refl, sym, ap, subst, append_assoc, arith}
-use Rattle.headline.specs.Kept.{AllStandThroughout}
+use Rattle.headline.specs.Throughout.{AllStandThroughout}
 use Rattle.headline.proofs.RunningLabels.{label-runs}
 use Rattle.headline.proofs.Stretches.{AreWithin, left_behind, within-keeps}
-use Rattle.thread_laws.specs.facts.Standing.{AllStand}
+use Rattle.headline.specs.facts.Standing.{AllStand}
 use Rattle.model.specs.declared.events.Event.{Event}
 use Rattle.model.specs.declared.labels.Label.{Label}
 use Rattle.model.specs.Images.Described.{described}
@@ -12,8 +12,7 @@ use Rattle.model.specs.Kernel.Scheduling.{current}
 use Rattle.model.specs.Kernel.State.{State}
 use Rattle.model.specs.Kernel.Steps.{state_after, step, trace}
 use Rattle.model.specs.Kernel.Waits.{KeepsBudget, count_open, is_of, is_wait, labels_of, open_count}
-use Rattle.thread_laws.proofs.Laws.{other-label, own-label}
-use Rattle.thread_laws.proofs.Laws.{state-next, trace-next}
+use Rattle.headline.proofs.Laws.{other-label, own-label, state-next, trace-next}
 
 -- what is left behind a label of the thread's
 left-behind : (budget count : ℕ) (label : Label) → budget - count_open count label ≡ left_behind budget (budget - count) label

@@ -1,2 +1,11 @@
-pub mod Kept
+pub mod calls
+pub mod facts
+pub mod invocations
+pub mod kept
+pub mod lookups
+pub mod moves
+pub mod starts
+pub mod steps
+pub mod Throughout
 pub mod SafeRuns
+pub mod measure_facts

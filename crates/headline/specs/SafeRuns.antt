@@ -11,10 +11,10 @@ use Rattle.model.specs.Images.Places.{offset_of}
 use Rattle.model.specs.Kernel.State.{State}
 use Rattle.model.specs.Kernel.Steps.{trace}
 use Rattle.model.specs.Kernel.Waits.{KeepsBudget, is_error, is_fault}
-use Rattle.boot_laws.specs.Standing.{StandApart}
-use Rattle.headline.specs.Kept.{AllStandThroughout}
-use Rattle.thread_laws.specs.facts.Standing.{AllStand}
-use Rattle.thread_laws.specs.moves.Steps.{GoesWell}
+use Rattle.soundness.specs.boot_laws.Standing.{StandApart}
+use Rattle.headline.specs.Throughout.{AllStandThroughout}
+use Rattle.headline.specs.facts.Standing.{AllStand}
+use Rattle.headline.specs.moves.Steps.{GoesWell}
 
 -- what the kernel does over events, from the state that an image describes
 abbrev pub trace_of : Image → List Event → List Label

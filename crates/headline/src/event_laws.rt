@@ -2,8 +2,8 @@
 
 ghost use Rattle.headline.specs.SafeRuns.{EventsKeepAllStanding};
 
-use thread_laws::invocations::steps_go_well;
-use thread_laws::moves::{interrupts_keep_all_standing, ticks_keep_all_standing};
+use crate::invocations::steps_go_well;
+use crate::moves::{interrupts_keep_all_standing, ticks_keep_all_standing};
 
 /// In a state in which all threads of an accepted image stand as their certificates say, each event goes well: a step is no fault and
 /// no error, and behind the event all threads stand so again.

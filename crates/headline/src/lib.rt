@@ -1,10 +1,20 @@
-//! The headline: whatever happens to an accepted image goes well. Laws on the definitions alone, each the contract of a function that
-//! does nothing.
+//! The headline: whatever happens to an accepted image goes well; and the laws below it, on its threads: where they start, what a step
+//! leaves of them, and that all of them stay as their certificates say. There is no code here: each law stands as the contract of a
+//! function that does nothing. What several of them use, definitions and lemmas on threads and on the states in which they stand, is in
+//! `specs/facts` and `proofs/facts`.
 #![tactic(auto)]
 
 mod budget_laws;
+pub mod calls;
 mod event_laws;
+pub mod invocations;
+pub mod kept;
+pub mod lookups;
+pub mod measure_facts;
+pub mod moves;
 mod safety_laws;
+pub mod starts;
+pub mod steps;
 
 pub use budget_laws::standing_threads_keep_their_budgets;
 pub use event_laws::events_keep_all_standing;

@@ -3,8 +3,8 @@
 ghost use Rattle.headline.specs.SafeRuns.{AcceptedImagesRunSafely};
 
 use crate::budget_laws::standing_threads_keep_their_budgets;
-use boot_laws::{objects_stand_inside_their_untypeds, well_formed_images_boot};
-use thread_laws::invocations::events_go_well;
+use crate::invocations::events_go_well;
+use soundness::{objects_stand_inside_their_untypeds, well_formed_images_boot};
 
 /// An accepted image boots into the state that it describes, inside its untyped memory; over any events nothing is a fault or an error
 /// in the trace from there, and each thread waits again within its budget.

@@ -1,3 +1,4 @@
 pub mod Sections
 pub mod Headers
 pub mod Sizes
+pub mod image_entries

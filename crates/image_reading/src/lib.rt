@@ -5,6 +5,7 @@ mod contents;
 mod entries;
 mod fields;
 mod headers;
+mod image_entries;
 mod reading;
 mod records;
 mod registers;
@@ -16,6 +17,9 @@ mod word_lists;
 pub use contents::{ContentRef, Contents};
 pub use entries::Entries;
 pub use headers::radix_limit;
+pub use image_entries::{
+    capability_of, frame_at, header_of, listed_in, lists_page, lists_region, object_of, untyped_of,
+};
 pub use model::Refusal;
 pub use reading::{ImageRef, read};
 pub use records::{RecordRef, Records, Slots};

@@ -7,7 +7,7 @@ ghost use Rattle.model.specs.Kernel.Retype.{NewThread};
 ghost use Rattle.objects.specs.Frames.{SameObjects};
 ghost use Rattle.objects.specs.Standing.{Standing};
 ghost use Rattle.objects.specs.Tables.{state_of};
-ghost use Rattle.thread_records.specs.Threads.{sender_of, sent_of};
+ghost use Rattle.objects.specs.thread_records.Threads.{sender_of, sent_of};
 
 use crate::registers::{Message, advanced, delivered, with_word};
 use objects::{Objects, Sent, WaitingSender};

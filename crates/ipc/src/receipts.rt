@@ -9,7 +9,7 @@ ghost use Rattle.model.specs.Kernel.State.{AwaitsReply, Inactive};
 ghost use Rattle.objects.specs.Frames.{SameObjects};
 ghost use Rattle.objects.specs.Standing.{Standing};
 ghost use Rattle.objects.specs.Tables.{state_of};
-ghost use Rattle.thread_records.specs.Threads.{sender_of, sent_of, status_of};
+ghost use Rattle.objects.specs.thread_records.Threads.{sender_of, sent_of, status_of};
 
 use crate::deliveries::pass;
 use objects::{Objects, Sent, Status, WaitingSender};

@@ -9,7 +9,7 @@ ghost use Rattle.model.specs.Kernel.State.{Runnable, endpoint_at, thread_at};
 ghost use Rattle.objects.specs.Frames.{SameObjects};
 ghost use Rattle.objects.specs.Standing.{Standing};
 ghost use Rattle.objects.specs.Tables.{state_of};
-ghost use Rattle.thread_records.specs.Threads.{sender_of};
+ghost use Rattle.objects.specs.thread_records.Threads.{sender_of};
 ghost use Rattle.objects.specs.Waiting.{IsOneSided, StandsNowhere};
 
 use crate::deliveries::{deliver, deliver_word, message_sent};

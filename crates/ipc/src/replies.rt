@@ -10,7 +10,7 @@ ghost use Rattle.model.specs.Kernel.State.{thread_at};
 ghost use Rattle.objects.specs.Frames.{SameObjects};
 ghost use Rattle.objects.specs.Standing.{Standing};
 ghost use Rattle.objects.specs.Tables.{state_of};
-ghost use Rattle.thread_records.specs.Threads.{status_of};
+ghost use Rattle.objects.specs.thread_records.Threads.{status_of};
 
 use crate::deliveries::deliver;
 use crate::registers::Message;

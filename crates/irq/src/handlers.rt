@@ -12,13 +12,12 @@ ghost use Rattle.model.specs.Kernel.Removal.{delete};
 ghost use Rattle.model.specs.Kernel.Soundness.{IsSound};
 ghost use Rattle.model.specs.Kernel.State.{binding_slot};
 ghost use Rattle.model.specs.declared.capabilities.Cap.TheVariants.{InterruptControl};
-ghost use Rattle.object_lifetimes.specs.Kernels.{state_in};
+ghost use Rattle.cnode_ops.specs.object_lifetimes.Kernels.{state_in};
 ghost use Rattle.soundness.specs.Calls.{IsRoot};
 
-use cnode_ops::{Ends, may_have_child, remove_slot};
+use cnode_ops::{Ends, Kernel, may_have_child, remove_slot};
 use cspace::{destination_slot, source_slot};
 use model::{Cap, KError, Slot, SlotName};
-use object_lifetimes::Kernel;
 use slots::SlotStore;
 
 /// Whether a capability is a handler of a line.

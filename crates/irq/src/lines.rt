@@ -4,12 +4,12 @@ ghost use Rattle.std.specs.Prelude.{ℕ, ◌≡◌, ◌<◌, option_map};
 ghost use Rattle.irq.specs.Signals.{as_signal};
 ghost use Rattle.model.specs.Kernel.Interrupts.{acknowledge, binding, raise, signal_of};
 ghost use Rattle.model.specs.Kernel.Soundness.{IsSound};
-ghost use Rattle.object_lifetimes.specs.Kernels.{SameBeside, state_in};
+ghost use Rattle.cnode_ops.specs.object_lifetimes.Kernels.{SameBeside, state_in};
 ghost use Rattle.objects.specs.Tables.{state_of};
 
+use cnode_ops::Kernel;
 use model::Cap;
 use notify::signal;
-use object_lifetimes::Kernel;
 use objects::Objects;
 use slots::SlotStore;
 

@@ -3,14 +3,14 @@
 ghost use Rattle.std.specs.Prelude.{ℕ, ◌≡◌};
 ghost use Rattle.model.specs.Kernel.Scheduling.{tick};
 ghost use Rattle.model.specs.Kernel.Steps.{ran, step};
-ghost use Rattle.object_lifetimes.specs.Kernels.{state_in};
+ghost use Rattle.cnode_ops.specs.object_lifetimes.Kernels.{state_in};
 ghost use Rattle.soundness.specs.Running.{IsRunning};
 
 use crate::instructions::run;
-use cached_slots::WalkStore;
+use cnode_ops::Kernel;
 use irq::raise;
 use model::{Event, Label};
-use object_lifetimes::Kernel;
+use packed_slots::WalkStore;
 use sched::{choose, tick};
 use slots::SlotStore;
 

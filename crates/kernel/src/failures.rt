@@ -6,13 +6,13 @@ ghost use Rattle.model.specs.Kernel.Faults.{instruction_fault, memory_fault};
 ghost use Rattle.model.specs.Kernel.Soundness.{SentIsSound};
 ghost use Rattle.model.specs.Kernel.State.{ByFault};
 ghost use Rattle.model.specs.Kernel.Steps.{faults, registers_of};
-ghost use Rattle.object_lifetimes.specs.Kernels.{state_in};
-ghost use Rattle.thread_records.specs.Threads.{message_of};
+ghost use Rattle.cnode_ops.specs.object_lifetimes.Kernels.{state_in};
+ghost use Rattle.objects.specs.thread_records.Threads.{message_of};
 ghost use Rattle.soundness.specs.Running.{IsRunning};
 
+use cnode_ops::Kernel;
 use faults::raise_fault;
 use model::{Cause, FaultKind, MemoryFault, Outcome};
-use object_lifetimes::Kernel;
 use objects::Fault;
 use slots::SlotStore;
 

@@ -4,15 +4,15 @@ ghost use Rattle.std.specs.Prelude.{ℕ, ◌≡◌};
 ghost use Rattle.model.specs.Kernel.Steps.{executes, runs, runs_decoded};
 ghost use Rattle.model.specs.Machine.Decoding.{decoded};
 ghost use Rattle.model.specs.Machine.Instructions.{IsInstr};
-ghost use Rattle.object_lifetimes.specs.Kernels.{state_in};
+ghost use Rattle.cnode_ops.specs.object_lifetimes.Kernels.{state_in};
 ghost use Rattle.soundness.specs.Running.{IsRunning};
 
 use crate::failures::{miss, trap};
-use cached_slots::WalkStore;
+use crate::system_calls::system_call;
+use cnode_ops::Kernel;
 use model::{Cause, Exec, Instr, MemoryFault, Outcome};
-use object_lifetimes::Kernel;
+use packed_slots::WalkStore;
 use rv32_isa::decode;
-use system_calls::system_call;
 use user_memory::fetch;
 
 /// The thread that runs executes an instruction.

@@ -7,6 +7,7 @@ mod failures;
 mod instructions;
 mod setup;
 mod system;
+mod system_calls;
 
 pub use kernel_machine::Machine;
 pub use setup::Setup;

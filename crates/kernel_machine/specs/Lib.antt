@@ -1,2 +1,3 @@
 pub mod Setups
 pub mod Stores
+pub mod perform_calls

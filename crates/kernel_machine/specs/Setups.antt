@@ -3,7 +3,7 @@
 use Rattle.std.specs.Prelude.{ℕ, ◌≡◌, ◌+◌, ◌*◌, ◌%◌, ◌^◌, ◌==◌, ◌<◌, ◌&&◌, nat_le, nat_lt, Bool, true, false, if◌then◌else◌, Option, Some, None, option_map, slice_index}
 use Rattle.cnode_ops.specs.Refusals.{some_slot}
 use Rattle.kernel_machine.specs.Stores.{Store, bytes_of, slots_of}
-use Rattle.object_lifetimes.specs.Kernels as kernels
+use Rattle.cnode_ops.specs.object_lifetimes.Kernels as kernels
 use Rattle.model.specs.Capabilities.Slots.{Slots, capability_at}
 use Rattle.model.specs.Kernel.Removal.{slot_count}
 use Rattle.model.specs.Kernel.Setup.{end_of}

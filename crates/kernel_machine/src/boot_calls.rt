@@ -2,19 +2,19 @@
 
 ghost use Rattle.std.specs.Prelude.{ℕ, ◌≡◌, List, Err, IfErr, IfOk, Ok, OnErr};
 ghost use Rattle.model.specs.Kernel.Outcomes.{GivesState};
-ghost use Rattle.perform_calls.specs.Calls.{call_of};
+ghost use Rattle.kernel_machine.specs.perform_calls.Calls.{call_of};
 ghost use Rattle.model.specs.Capabilities.CapabilityWords.{IsCapability};
 ghost use Rattle.model.specs.Capabilities.Slots.{Slots};
 ghost use Rattle.model.specs.Images.Boot.{boot_call, boot_root, made, performed};
 ghost use Rattle.model.specs.Images.BootCalls.{loader_call};
-ghost use Rattle.object_lifetimes.specs.Kernels.{state_in};
+ghost use Rattle.cnode_ops.specs.object_lifetimes.Kernels.{state_in};
 ghost use Rattle.soundness.specs.Calls.{IsCall};
 
+use crate::perform_calls::{KernelCall, configure_with_guard, invoke};
+use cnode_ops::Kernel;
 use cspace::called_slot;
 use invoke::CONFIGURE;
 use model::{Cap, KError, Slot};
-use object_lifetimes::Kernel;
-use perform_calls::{KernelCall, configure_with_guard, invoke};
 use slots::SlotStore;
 
 /// What names the boot CNode itself, and not one of its slots.

@@ -3,10 +3,10 @@
 ghost use Rattle.std.specs.Prelude.{ℕ, ◌≡◌, ◌+◌, ◌^◌, ◌<◌, ◌≤◌, IfSome, option_map};
 ghost use Rattle.kernel_machine.specs.Setups.{IsPlace, entry_of, number_of, seen_entry, slot_in, slots_of_holder};
 ghost use Rattle.model.specs.Kernel.Soundness.{HasSlot, IsSound};
-ghost use Rattle.object_lifetimes.specs.Kernels.{state_in};
+ghost use Rattle.cnode_ops.specs.object_lifetimes.Kernels.{state_in};
 
+use cnode_ops::Kernel;
 use model::{Cap, Slot};
-use object_lifetimes::Kernel;
 use slots::SlotStore;
 
 /// How many interrupt lines there are, each with a slot behind those of the boot CNode.

@@ -7,9 +7,11 @@ mod boot_calls;
 mod holders;
 mod looks;
 mod machine;
+mod perform_calls;
 mod places;
 mod puts;
 mod stores;
 
 pub use machine::Machine;
+pub use perform_calls::{KernelCall, invoke};
 pub use stores::Store;

@@ -2,11 +2,11 @@
 
 ghost use Rattle.std.specs.Prelude.{ℕ, ◌≡◌, ◌^◌, ◌≤◌, None, option_and_then};
 ghost use Rattle.kernel_machine.specs.Setups.{register_in};
-ghost use Rattle.object_lifetimes.specs.Kernels.{state_in};
+ghost use Rattle.cnode_ops.specs.object_lifetimes.Kernels.{state_in};
 ghost use Rattle.model.specs.Kernel.State.{ThreadState, as_thread};
 
+use cnode_ops::Kernel;
 use model::Register;
-use object_lifetimes::Kernel;
 use rv32_exec::Regs;
 use slots::SlotStore;
 

@@ -1,7 +1,7 @@
 //! What is put into boot slots apart from calls.
 
 ghost use Rattle.std.specs.Prelude.{◌≡◌, None, Some, false, if◌then◌else◌};
-ghost use Rattle.object_lifetimes.specs.Kernels.{state_in};
+ghost use Rattle.cnode_ops.specs.object_lifetimes.Kernels.{state_in};
 ghost use Rattle.model.specs.Capabilities.CapabilityWords.{IsCapability};
 ghost use Rattle.model.specs.Capabilities.Slots.{is_empty};
 ghost use Rattle.model.specs.Kernel.Setup.{put_control, put_in_boot_slot, put_untyped};
@@ -11,8 +11,8 @@ ghost use Rattle.vspace.specs.Agreement.{IsWithoutTables};
 
 use crate::holders::{LINES, boot_slots};
 use crate::places::{is_free, may_be_untyped};
+use cnode_ops::Kernel;
 use model::{Cap, Slot};
-use object_lifetimes::Kernel;
 use slots::SlotStore;
 
 /// Puts a capability without a parent into an empty boot slot, if it is one.

@@ -3,8 +3,7 @@
 ghost use Rattle.std.specs.Prelude.{ℕ, ◌≡◌, ◌^◌, ◌≤◌, IfOk, None, replicate};
 ghost use Rattle.kernel_machine.specs.Stores.{bytes_of, slots_of};
 
-use cached_slots::CachedSlots;
-use packed_slots::PackedSlots;
+use packed_slots::{CachedSlots, PackedSlots};
 use std::alloc::{AllocError, Global};
 
 /// The slots in memory itself, in preorder, with the leaves of walks kept beside it.

@@ -1,7 +1,7 @@
 -- An accepted image boots into the state that it describes.
 use Rattle.std.proofs.Common.{◌≡◌, ◌∙◌, true, Ok, sym, ap}
 use Rattle.std.specs.Prelude.{Result}
-use Rattle.boot_laws.proofs.Laws.{boots-well}
+use Rattle.soundness.proofs.Laws.{boots-well}
 use Rattle.model.specs.Acceptance.Accepted.{IsWellFormed}
 use Rattle.model.specs.declared.boot_faults.BootFault.{BootFault}
 use Rattle.model.specs.Images.Boot.{booted}

@@ -1,7 +1,7 @@
 //! Loading an image into a new machine, whose threads then run.
 
 ghost use Rattle.std.specs.Prelude.{◌≡◌, ◌⊎◌, IfErr, IfOk, OnOk, Err, Ok, true};
-ghost use Rattle.boot_laws.specs.Standing.{StandApart};
+ghost use Rattle.soundness.specs.boot_laws.Standing.{StandApart};
 ghost use Rattle.kernel_machine.specs.Setups.{state_in};
 ghost use Rattle.model.specs.Acceptance.Accepted.{IsWellFormed};
 ghost use Rattle.model.specs.Images.Boot.{booted};
@@ -9,11 +9,11 @@ ghost use Rattle.model.specs.Images.Described.{described};
 ghost use Rattle.model.specs.Images.Image.{whole_image};
 ghost use Rattle.model.specs.declared.boot_faults.BootFault.TheVariants.{OutOfMemory};
 
-use boot_laws::{objects_stand_inside_their_untypeds, well_formed_images_boot};
 use bootstrap::load_unverified;
 use image_reading::ImageRef;
 use kernel::System;
 use model::BootFault;
+use soundness::{objects_stand_inside_their_untypeds, well_formed_images_boot};
 use std::alloc::{AllocError, Global};
 use verify::Accepted;
 

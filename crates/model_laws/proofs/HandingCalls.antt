@@ -27,7 +27,7 @@ use Rattle.model_laws.proofs.Below.{endpoint-kind, notification-kind}
 use Rattle.model_laws.proofs.Handed.{MayHand, handed, handed-within}
 use Rattle.model_laws.proofs.Interrupted.{Waits, one-more, rests-nowhere, waits-own}
 use Rattle.model_laws.specs.Scenarios.{CallsOn, RepliesTo}
-use Rattle.thread_laws.proofs.Laws.{at-place}
+use Rattle.headline.proofs.Laws.{at-place}
 
 -- ---- objects that are there
 

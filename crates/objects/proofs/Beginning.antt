@@ -15,13 +15,13 @@ use Rattle.objects.specs.Changes.{begun, is_frame_kind}
 use Rattle.objects.proofs.Linked.{Linked}
 use Rattle.objects.specs.Contents.{Contents, byte_in, is_frame, object_from, object_in, object_of, sending_in, contents_state, told_by, waiting_of}
 use Rattle.objects.specs.Threads.{new_object}
-use Rattle.thread_records.specs.Threads.{thread_state}
+use Rattle.objects.specs.thread_records.Threads.{thread_state}
 use Rattle.objects.specs.Waiting.{has_waiting}
 use Rattle.objects.specs.declared.records.Kind.{Kind}
 use Rattle.objects.specs.declared.records.Kind.TheVariants as kinds
 use Rattle.objects.specs.Contents.{Record}
 use Rattle.objects.specs.Contents.{Endpoint, Notification, CNode, Frame, PageTable, RootTable}
-use Rattle.thread_records.specs.declared.records.Thread.{Thread}
+use Rattle.objects.specs.declared.thread_records.records.Thread.{Thread}
 use Rattle.objects.proofs.Told.{state_with, waited, waiters}
 
 -- ---- nothing is there

@@ -33,9 +33,9 @@ use Rattle.objects.specs.Rights.{AreKnown, has_right}
 use Rattle.objects.specs.Standing.{Standing}
 use Rattle.objects.specs.Tables.{AreTables, Tables, contents_of, kind_in, places_of, ready_at, sending_in, state_of, thread_in, waiting_of}
 use Rattle.objects.specs.Waiting.{StandsNowhere, changed_at, has_waiting, joined, served, with_word}
-use Rattle.thread_records.specs.Threads.{thread_state}
-use Rattle.thread_records.specs.declared.records.Sending.{Sending}
-use Rattle.thread_records.specs.declared.records.Thread.{Thread}
+use Rattle.objects.specs.thread_records.Threads.{thread_state}
+use Rattle.objects.specs.declared.thread_records.records.Sending.{Sending}
+use Rattle.objects.specs.declared.thread_records.records.Thread.{Thread}
 
 module _ (o : Tables) (before after : Slots) (old new : List ℕ) (stands : Standing o before old) (same_slots : after ≡ before) where
   abbrev s : State

@@ -12,12 +12,12 @@ use Rattle.model.specs.Kernel.State.{CNodeObject, EndpointObject, EndpointState,
 use Rattle.objects.proofs.Kept.{put-here, put-there}
 use Rattle.objects.proofs.Serving.{first-receives, first-sends}
 use Rattle.objects.specs.Contents.{Contents, is_frame, kind_in, object_from, object_in, object_of, receivers_in, senders_in, sending_in, contents_state, told_by, waiting_of}
-use Rattle.thread_records.specs.Threads.{sender_of}
+use Rattle.objects.specs.thread_records.Threads.{sender_of}
 use Rattle.objects.specs.Waiting.{IsOneSided, changed_at, has_waiting, with_word}
 use Rattle.objects.specs.Contents.{Record}
 use Rattle.objects.specs.Contents.{Endpoint, Notification, CNode, Frame, PageTable, RootTable}
-use Rattle.thread_records.specs.declared.records.Sending.{Sending}
-use Rattle.thread_records.specs.declared.records.Thread.{Thread}
+use Rattle.objects.specs.declared.thread_records.records.Sending.{Sending}
+use Rattle.objects.specs.declared.thread_records.records.Thread.{Thread}
 use Rattle.objects.proofs.Lists.{head-rest}
 use Rattle.objects.proofs.Told.{kind-from, state_with}
 pub use Rattle.objects.proofs.Told.{kind-state}

@@ -7,10 +7,10 @@ use Rattle.model.specs.Capabilities.Slots.{Slots}
 use Rattle.model.specs.Kernel.Scheduling.{all_leave, leaves, without_threads}
 use Rattle.model.specs.Kernel.State.{Object, State, ThreadState, as_thread}
 use Rattle.objects.specs.Contents.{Contents, object_from, object_in, object_of, contents_state, told_by, waiting_of}
-use Rattle.thread_records.specs.Threads.{thread_state}
+use Rattle.objects.specs.thread_records.Threads.{thread_state}
 use Rattle.objects.specs.Contents.{Record}
 use Rattle.objects.specs.Contents.{Endpoint, Notification, CNode, Frame, PageTable, RootTable}
-use Rattle.thread_records.specs.declared.records.Thread.{Thread}
+use Rattle.objects.specs.declared.thread_records.records.Thread.{Thread}
 use Rattle.removal_laws.proofs.Laws.{filter-all, threads-all}
 use Rattle.removal_laws.specs.Steps.{ends_thread}
 

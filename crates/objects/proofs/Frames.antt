@@ -9,7 +9,7 @@ use Rattle.model.specs.Kernel.State.{Object, CNodeObject, EndpointObject, FrameO
 use Rattle.objects.proofs.Kept.{put-there}
 use Rattle.objects.specs.Frames.{FitsMemory, IsInRecord, SameBesideObjects, SameBesideRecords, SameElsewhere, SameObjects, has_record}
 use Rattle.objects.specs.Waiting.{changed_at, joined, served}
-use Rattle.thread_records.specs.declared.records.Sending.{Sending}
+use Rattle.objects.specs.declared.thread_records.records.Sending.{Sending}
 
 -- ---- kinds
 

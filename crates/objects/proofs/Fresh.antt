@@ -22,7 +22,7 @@ use Rattle.objects.specs.Rights.{has_right}
 use Rattle.objects.specs.Standing.{Standing}
 use Rattle.objects.specs.Tables.{AreTables, Tables, contents_of, entry_in, kind_in, kind_of_entry, places_of, record_from, state_of, thread_from, thread_in}
 use Rattle.objects.specs.Waiting.{has_waiting}
-use Rattle.thread_records.specs.Records as thread_words
+use Rattle.objects.specs.thread_records.Records as thread_words
 use Rattle.objects.specs.declared.records.Entry.{Entry}
 use Rattle.objects.specs.declared.records.Entry.TheVariants as entries
 

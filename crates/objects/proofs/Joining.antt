@@ -13,12 +13,12 @@ use Rattle.objects.proofs.Lists.{receivers-by, receivers-same, senders-by, sende
 use Rattle.objects.proofs.Vacating.{other-same}
 use Rattle.objects.proofs.Linked.{Linked}
 use Rattle.objects.specs.Contents.{Contents, object_from, object_in, object_of, sending_in, contents_state, told_by, waiting_of}
-use Rattle.thread_records.specs.Threads.{sender_of}
+use Rattle.objects.specs.thread_records.Threads.{sender_of}
 use Rattle.objects.specs.Waiting.{StandsNowhere, changed_at, has_waiting, joined}
 use Rattle.objects.specs.Contents.{Record}
 use Rattle.objects.specs.Contents.{Endpoint, Notification, CNode, Frame, PageTable, RootTable}
-use Rattle.thread_records.specs.declared.records.Sending.{Sending}
-use Rattle.thread_records.specs.declared.records.Thread.{Thread}
+use Rattle.objects.specs.declared.thread_records.records.Sending.{Sending}
+use Rattle.objects.specs.declared.thread_records.records.Thread.{Thread}
 use Rattle.objects.proofs.Told.{state_with, waited}
 
 -- ---- those that wait, as senders and receivers

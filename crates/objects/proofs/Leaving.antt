@@ -10,7 +10,7 @@ use Rattle.objects.specs.Changes.{voided}
 use Rattle.objects.specs.Contents.{Contents, object_from, object_in, object_of, receivers_in, senders_in, sending_in}
 use Rattle.objects.specs.Contents.{Record}
 use Rattle.objects.specs.Contents.{Endpoint, Notification, CNode, Frame, PageTable, RootTable}
-use Rattle.thread_records.specs.declared.records.Thread.{Thread}
+use Rattle.objects.specs.declared.thread_records.records.Thread.{Thread}
 use Rattle.objects.proofs.Told.{state_with}
 
 sends-still : (gone : ℕ) (o : Option Thread) → option_and_then (λ t. t.sending) (option_map (voided gone) o) ≡ option_and_then (λ t. t.sending) o

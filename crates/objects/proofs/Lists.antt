@@ -5,8 +5,8 @@ use Rattle.std.proofs.lemmas.Bool.Decides.{eqb_tells}
 use Rattle.model.specs.Kernel.Scheduling.{head_of}
 use Rattle.model.specs.Kernel.State.{Sender}
 use Rattle.model.specs.Shared.Lists.{times_in}
-use Rattle.thread_records.specs.Threads.{sender_of}
-use Rattle.thread_records.specs.declared.records.Sending.{Sending}
+use Rattle.objects.specs.thread_records.Threads.{sender_of}
+use Rattle.objects.specs.declared.thread_records.records.Sending.{Sending}
 
 -- what a thread sends, if it does, is a sender; else it receives
 abbrev pub senders-by : (ℕ → Option Sending) → List ℕ → List Sender

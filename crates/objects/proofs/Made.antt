@@ -11,10 +11,10 @@ use Rattle.queues.proofs.Laws.{begins_empty}
 use Rattle.objects.specs.Laid.{BegunAt, SameBesidePoint}
 use Rattle.objects.specs.Rights.{SameBesideReplier}
 use Rattle.objects.specs.declared.records.Kind.TheVariants as kinds
-use Rattle.thread_records.proofs.Laws.{record_stays}
-use Rattle.thread_records.specs.Records as thread_words
-use Rattle.thread_records.specs.Records.{SameBesideRecord}
-use Rattle.thread_records.specs.Threads.{thread_state}
+use Rattle.objects.proofs.thread_records.Laws.{record_stays}
+use Rattle.objects.specs.thread_records.Records as thread_words
+use Rattle.objects.specs.thread_records.Records.{SameBesideRecord}
+use Rattle.objects.specs.thread_records.Threads.{thread_state}
 
 -- one word, and the bytes beside it
 pub word-size : (m : List ℕ) (at word : ℕ) → at + 4 ≤ length m → length (written m at (word_bytes word)) ≡ length m

@@ -29,8 +29,8 @@ use Rattle.objects.specs.declared.records.Entry.{Entry}
 use Rattle.objects.specs.declared.records.Entry.TheVariants as entries
 use Rattle.objects.specs.declared.records.Kind.{Kind}
 use Rattle.objects.specs.declared.records.Kind.TheVariants as kinds
-use Rattle.thread_records.specs.Records as thread_words
-use Rattle.thread_records.specs.declared.records.Thread.{Thread}
+use Rattle.objects.specs.thread_records.Records as thread_words
+use Rattle.objects.specs.declared.thread_records.records.Thread.{Thread}
 
 nothing-entry : (e : Entry) → kind_of_entry e ≡ None → e ≡ entries.Nothing
 nothing-entry entries.Nothing is = refl

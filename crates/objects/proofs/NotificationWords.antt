@@ -8,8 +8,8 @@ use Rattle.objects.specs.Contents.{object_from, object_of, told_by, waiting_of}
 use Rattle.objects.specs.Tables.{Tables, contents_of, entry_in, record_from, state_of, thread_from}
 use Rattle.objects.specs.declared.records.Entry.{Entry}
 use Rattle.objects.specs.declared.records.Entry.TheVariants as entries
-use Rattle.thread_records.specs.Records as thread_words
-use Rattle.thread_records.specs.declared.records.Thread.{Thread}
+use Rattle.objects.specs.thread_records.Records as thread_words
+use Rattle.objects.specs.declared.thread_records.records.Thread.{Thread}
 
 abbrev word_told : (ℕ → Option Thread) → List ℕ → Thread → ℕ → Entry → ℕ
 word_told threads waiting thread word e =

@@ -38,11 +38,11 @@ use Rattle.objects.specs.Tables.{Tables, contents_of, entry_in, kind_in, kind_of
 use Rattle.objects.specs.Waiting.{StandsNowhere, has_waiting, with_word}
 use Rattle.objects.specs.declared.records.Entry.{Entry}
 use Rattle.objects.specs.declared.records.Entry.TheVariants as entries
-use Rattle.thread_records.specs.Records as thread_words
-use Rattle.thread_records.specs.Records.{IsRecordAt, SameBesideRecord}
-use Rattle.thread_records.specs.Threads.{status_of, thread_state}
-use Rattle.thread_records.specs.declared.records.Sending.{Sending}
-use Rattle.thread_records.specs.declared.records.Thread.{Thread}
+use Rattle.objects.specs.thread_records.Records as thread_words
+use Rattle.objects.specs.thread_records.Records.{IsRecordAt, SameBesideRecord}
+use Rattle.objects.specs.thread_records.Threads.{status_of, thread_state}
+use Rattle.objects.specs.declared.thread_records.records.Sending.{Sending}
+use Rattle.objects.specs.declared.thread_records.records.Thread.{Thread}
 
 pub record-of-place : (slots : Slots) (size thread : ℕ) → IsThreadPlace slots size thread → IsRecordAt slots size thread
 record-of-place slots size thread place = record { few = place.few; within = place.within; outside = λ at from below. place.outside at from (omega (arith, below)) }

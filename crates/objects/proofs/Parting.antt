@@ -33,8 +33,8 @@ use Rattle.objects.specs.Standing.{Standing}
 use Rattle.objects.specs.Tables.{AreTables, Tables, contents_of, entry_in, kind_in, places_of, ready_at, record_from, state_of, thread_from, thread_in, waiting_of}
 use Rattle.objects.specs.declared.records.Entry.{Entry}
 use Rattle.objects.specs.declared.records.Entry.TheVariants as entries
-use Rattle.thread_records.specs.Records as thread_words
-use Rattle.thread_records.specs.declared.records.Thread.{Thread}
+use Rattle.objects.specs.thread_records.Records as thread_words
+use Rattle.objects.specs.declared.thread_records.records.Thread.{Thread}
 
 -- where one entry is taken away
 module _ (o : Tables) (entries_now : List Entry) (offset : ℕ) (cleared : (other : ℕ) → entry_in entries_now other ≡ put (entry_in o.entries) offset entries.Nothing other) where

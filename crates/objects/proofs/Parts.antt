@@ -21,10 +21,10 @@ use Rattle.objects.specs.Tables.{Tables, contents_of, entry_in, kind_in, kind_of
 use Rattle.objects.specs.Waiting.{has_waiting}
 use Rattle.objects.specs.declared.records.Entry.{Entry}
 use Rattle.objects.specs.declared.records.Entry.TheVariants as entries
-use Rattle.thread_records.proofs.Laws.{record_stays}
-use Rattle.thread_records.specs.Records as thread_words
-use Rattle.thread_records.specs.Records.{IsRecordByte, SameBesideRecord}
-use Rattle.thread_records.specs.declared.records.Thread.{Thread}
+use Rattle.objects.proofs.thread_records.Laws.{record_stays}
+use Rattle.objects.specs.thread_records.Records as thread_words
+use Rattle.objects.specs.thread_records.Records.{IsRecordByte, SameBesideRecord}
+use Rattle.objects.specs.declared.thread_records.records.Thread.{Thread}
 
 -- a place in the bytes of something, from one number on and below another
 abbrev pub IsPart : ℕ → ℕ → ℕ → ℕ → Type 0

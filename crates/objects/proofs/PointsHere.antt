@@ -14,8 +14,8 @@ use Rattle.objects.specs.Contents as contents
 use Rattle.objects.specs.Contents.{Contents}
 use Rattle.objects.specs.Tables.{Tables, contents_of, kind_in, sending_in, state_of, waiting_of}
 use Rattle.objects.specs.Waiting.{IsOneSided, has_waiting}
-use Rattle.thread_records.specs.Threads.{sender_of}
-use Rattle.thread_records.specs.declared.records.Sending.{Sending}
+use Rattle.objects.specs.thread_records.Threads.{sender_of}
+use Rattle.objects.specs.declared.thread_records.records.Sending.{Sending}
 
 -- who waits is the same
 queue-here : (o : Tables) (memory : List ℕ) (queue : ℕ) → contents.waiting_of (contents_of o memory) memory queue ≡ waiting_of o memory queue

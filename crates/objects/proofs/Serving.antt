@@ -6,12 +6,12 @@ use Rattle.model.specs.Kernel.Scheduling.{head_of}
 use Rattle.model.specs.Kernel.State.{EndpointObject, put}
 use Rattle.objects.proofs.Lists.{head-rest, receivers-by, senders-by}
 use Rattle.objects.specs.Contents.{Contents, object_from, object_in, object_of, sending_in}
-use Rattle.thread_records.specs.Threads.{sender_of}
+use Rattle.objects.specs.thread_records.Threads.{sender_of}
 use Rattle.objects.specs.Waiting.{changed_at, served}
 use Rattle.objects.specs.Contents.{Record}
 use Rattle.objects.specs.Contents.{Endpoint, Notification, CNode, Frame, PageTable, RootTable}
-use Rattle.thread_records.specs.declared.records.Sending.{Sending}
-use Rattle.thread_records.specs.declared.records.Thread.{Thread}
+use Rattle.objects.specs.declared.thread_records.records.Sending.{Sending}
+use Rattle.objects.specs.declared.thread_records.records.Thread.{Thread}
 use Rattle.objects.proofs.Told.{state_with}
 
 -- ---- the first of a list of those that wait

@@ -30,8 +30,8 @@ use Rattle.objects.proofs.Linked.{Linked}
 use Rattle.objects.specs.Contents.{Contents, byte_in, is_thread_kind, kind_in, places_of, ready_at, sending_in, contents_state, waiting_of}
 use Rattle.objects.specs.Waiting.{StandsNowhere, changed_at, has_waiting, joined, served}
 use Rattle.objects.specs.Contents.{Record}
-use Rattle.thread_records.specs.declared.records.Sending.{Sending}
-use Rattle.thread_records.specs.declared.records.Thread.{Thread}
+use Rattle.objects.specs.declared.thread_records.records.Sending.{Sending}
+use Rattle.objects.specs.declared.thread_records.records.Thread.{Thread}
 
 -- what a call leaves: a state, and that it stands
 pub record Left (n : Contents) (slots : Slots) (memory : List ℕ) (t : State) : Type 0 where

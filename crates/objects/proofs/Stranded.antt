@@ -15,8 +15,8 @@ use Rattle.objects.proofs.Holding.{thread-some}
 use Rattle.objects.specs.Standing.{Standing}
 use Rattle.objects.specs.Tables.{Tables, contents_of, state_of, thread_in}
 use Rattle.objects.specs.Contents.{Contents, contents_state, told_by, waiting_of}
-use Rattle.thread_records.specs.Threads.{status_of, thread_state}
-use Rattle.thread_records.specs.declared.records.Thread.{Thread}
+use Rattle.objects.specs.thread_records.Threads.{status_of, thread_state}
+use Rattle.objects.specs.declared.thread_records.records.Thread.{Thread}
 use Rattle.removal_laws.specs.Finishing.{is_stranded, waits_nowhere, woken}
 
 -- ---- who is stranded

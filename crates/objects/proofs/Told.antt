@@ -20,7 +20,7 @@ use Rattle.objects.specs.Contents.{Contents, is_thread_kind, kind_in, object_fro
 use Rattle.objects.specs.Waiting.{has_waiting}
 use Rattle.objects.specs.Contents.{Record}
 use Rattle.objects.specs.Contents.{Endpoint, Notification, CNode, Frame, PageTable, RootTable}
-use Rattle.thread_records.specs.declared.records.Thread.{Thread}
+use Rattle.objects.specs.declared.thread_records.records.Thread.{Thread}
 
 -- the state of tables, if these wait and are ready
 abbrev pub state_with : Contents → (ℕ → List ℕ) → (ℕ → List ℕ) → Slots → List ℕ → State

@@ -13,7 +13,7 @@ use Rattle.objects.specs.Changes.{vacated}
 use Rattle.objects.specs.Contents.{Contents, byte_in, is_frame, object_from, object_in, object_of, sending_in}
 use Rattle.objects.specs.Contents.{Record}
 use Rattle.objects.specs.Contents.{Endpoint, Notification, CNode, Frame, PageTable, RootTable}
-use Rattle.thread_records.specs.declared.records.Thread.{Thread}
+use Rattle.objects.specs.declared.thread_records.records.Thread.{Thread}
 use Rattle.objects.proofs.Told.{state_with}
 
 -- An object looks the same where one thread that does not wait at it changes what it sends.

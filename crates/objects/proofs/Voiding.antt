@@ -15,10 +15,10 @@ use Rattle.objects.specs.Rights.{AreKnown, has_right, replier_at}
 use Rattle.objects.specs.Tables.{entry_in, kind_of_entry, thread_from}
 use Rattle.objects.specs.declared.records.Entry.{Entry}
 use Rattle.objects.specs.declared.records.Entry.TheVariants as entries
-use Rattle.thread_records.proofs.Laws.{record_stays}
-use Rattle.thread_records.specs.Records as thread_words
-use Rattle.thread_records.specs.Records.{SameBesideRecord}
-use Rattle.thread_records.specs.declared.records.Thread.{Thread}
+use Rattle.objects.proofs.thread_records.Laws.{record_stays}
+use Rattle.objects.specs.thread_records.Records as thread_words
+use Rattle.objects.specs.thread_records.Records.{SameBesideRecord}
+use Rattle.objects.specs.declared.thread_records.records.Thread.{Thread}
 
 -- who has a right is a thread
 right-entry : (e : Entry) (t : Thread) (gone : ℕ) → has_right (thread_from e t) gone ≡ true → e ≡ entries.Thread

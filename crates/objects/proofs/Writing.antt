@@ -19,9 +19,9 @@ use Rattle.objects.specs.Tables.{Tables, contents_of, entry_in, kind_in, record_
 use Rattle.objects.specs.Waiting.{has_waiting}
 use Rattle.objects.specs.declared.records.Entry.{Entry}
 use Rattle.objects.specs.declared.records.Entry.TheVariants as entries
-use Rattle.thread_records.specs.Records as thread_words
-use Rattle.thread_records.specs.Records.{SameBesideRecord}
-use Rattle.thread_records.specs.declared.records.Thread.{Thread}
+use Rattle.objects.specs.thread_records.Records as thread_words
+use Rattle.objects.specs.thread_records.Records.{SameBesideRecord}
+use Rattle.objects.specs.declared.thread_records.records.Thread.{Thread}
 
 pub thread-here : (o : Tables) (memory : List ℕ) (thread : ℕ) → kind_in o thread ≡ Some NewThread → thread_in o memory thread ≡ Some (thread_words.thread_at memory thread)
 thread-here o memory thread is = ap (λ (e : Entry). thread_from e (thread_words.thread_at memory thread)) (entry-there o thread is)

@@ -6,9 +6,9 @@ use Rattle.model.specs.Capabilities.Slots.{Slots}
 use Rattle.model.specs.Kernel.Kinds.{frame_around, kind_of}
 use Rattle.model.specs.Kernel.Retype.{NewObject, NewUntyped, NewThread, NewEndpoint, NewNotification, NewCNode, NewFrame, NewPageTable, NewRootTable}
 use Rattle.model.specs.Kernel.State.{State, Object, Sender, ThreadObject, EndpointObject, NotificationObject, CNodeObject, FrameObject, PageTableObject, RootTableObject, with_slots}
-use Rattle.thread_records.specs.Threads.{sender_of, thread_state}
-use Rattle.thread_records.specs.declared.records.Sending.{Sending}
-use Rattle.thread_records.specs.declared.records.Thread.{Thread}
+use Rattle.objects.specs.thread_records.Threads.{sender_of, thread_state}
+use Rattle.objects.specs.declared.thread_records.records.Sending.{Sending}
+use Rattle.objects.specs.declared.thread_records.records.Thread.{Thread}
 use Rattle.objects.specs.Waiting.{has_waiting}
 use Rattle.queues.specs.Layout.{Places}
 use Rattle.queues.specs.Queues.{queue_of}

@@ -15,10 +15,10 @@ use Rattle.objects.specs.declared.records.Entry.{Entry}
 use Rattle.objects.specs.declared.records.Entry.TheVariants as entries
 use Rattle.objects.specs.declared.records.Kind.{Kind}
 use Rattle.objects.specs.declared.records.Kind.TheVariants as kinds
-use Rattle.thread_records.specs.Records as thread_words
-use Rattle.thread_records.specs.Records.{IsRecordByte}
-use Rattle.thread_records.specs.Threads.{thread_state}
-use Rattle.thread_records.specs.declared.records.Thread.{Thread}
+use Rattle.objects.specs.thread_records.Records as thread_words
+use Rattle.objects.specs.thread_records.Records.{IsRecordByte}
+use Rattle.objects.specs.thread_records.Threads.{thread_state}
+use Rattle.objects.specs.declared.thread_records.records.Thread.{Thread}
 
 -- A thread has 512 bytes. Those of its record and of its links, and who may reply to it, lie in no open slot.
 pub record IsThreadPlace (slots : Slots) (size thread : ℕ) : Type 0 where

@@ -7,3 +7,4 @@ pub mod Standing
 pub mod Tables
 pub mod Threads
 pub mod Waiting
+pub mod thread_records

@@ -2,7 +2,7 @@
 use Rattle.std.specs.Prelude.{ℕ, ◌≡◌, ◌==◌, ◌&&◌, ◌+◌, ◌-◌, ◌^◌, ◌<◌, ◌≤◌, Bool, true, false, not, Option, Some, None, is_some, if◌then◌else◌, List, length, slice_index}
 use Rattle.std.specs.Option.{option_map_or}
 use Rattle.model.specs.Shared.Bytes.{word_at}
-use Rattle.thread_records.specs.declared.records.Thread.{Thread}
+use Rattle.objects.specs.declared.thread_records.records.Thread.{Thread}
 
 -- whether what stands at an offset is a thread with the right to reply to another
 abbrev pub has_right : Option Thread → ℕ → Bool

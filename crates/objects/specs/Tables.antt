@@ -10,9 +10,9 @@ use Rattle.objects.specs.declared.records.Entry.{Entry}
 use Rattle.objects.specs.declared.records.Entry.TheVariants as entries
 use Rattle.objects.specs.declared.records.Kind.{Kind}
 use Rattle.objects.specs.declared.records.Kind.TheVariants as kinds
-use Rattle.thread_records.specs.Records as thread_words
-use Rattle.thread_records.specs.declared.records.Sending.{Sending}
-use Rattle.thread_records.specs.declared.records.Thread.{Thread}
+use Rattle.objects.specs.thread_records.Records as thread_words
+use Rattle.objects.specs.declared.thread_records.records.Sending.{Sending}
+use Rattle.objects.specs.declared.thread_records.records.Thread.{Thread}
 use Rattle.queues.specs.Layout.{Places}
 use Rattle.queues.specs.Queues.{queue_of}
 use Rattle.queues.specs.Ready.{ready_of}

@@ -6,8 +6,8 @@ use Rattle.model.specs.Kernel.Retype.{NewObject, NewUntyped, NewThread, NewEndpo
 use Rattle.model.specs.Kernel.Soundness.{waiting_at}
 use Rattle.model.specs.Kernel.State.{State, Object, ThreadObject, EndpointObject, NotificationObject, CNodeObject, FrameObject, PageTableObject, RootTableObject, EndpointState, Sender, endpoint_at, notification_at, put, with_endpoint, with_notification}
 use Rattle.model.specs.Shared.Lists.{times_in}
-use Rattle.thread_records.specs.Threads.{sender_of}
-use Rattle.thread_records.specs.declared.records.Sending.{Sending}
+use Rattle.objects.specs.thread_records.Threads.{sender_of}
+use Rattle.objects.specs.declared.thread_records.records.Sending.{Sending}
 use Rattle.objects.specs.declared.records.WaitingSender.{WaitingSender}
 
 -- ---- what the calls ask for

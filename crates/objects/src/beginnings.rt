@@ -9,6 +9,7 @@ ghost use Rattle.objects.specs.declared.records.Kind.TheVariants.{Thread};
 
 use crate::records::Kind;
 use crate::rights::put_replier;
+use crate::thread_records;
 use queues::{begin_head, begin_thread};
 use slots::SlotStore;
 

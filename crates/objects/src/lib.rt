@@ -14,6 +14,7 @@ mod scheduling_calls;
 mod state_laws;
 mod tables;
 mod thread_calls;
+mod thread_records;
 mod threads;
 mod waiting;
 

@@ -9,14 +9,14 @@ ghost use Rattle.model.specs.Kernel.State.{endpoint_at, notification_at};
 ghost use Rattle.objects.specs.Frames.{SameObjects};
 ghost use Rattle.objects.specs.Standing.{Standing};
 ghost use Rattle.objects.specs.Tables.{state_of};
-ghost use Rattle.thread_records.specs.Threads.{sender_of};
+ghost use Rattle.objects.specs.thread_records.Threads.{sender_of};
 ghost use Rattle.objects.specs.Waiting.{IsOneSided, ReceiverTaken, SenderTaken, StandsNowhere, WaiterTaken, with_receiver, with_sender, with_waiter, with_word};
 
 use crate::beginnings::WORD;
 use crate::records::{Entry, WaitingSender};
 use crate::tables::Objects;
+use crate::thread_records::Sending;
 use slots::SlotStore;
-use thread_records::Sending;
 
 impl Objects {
     /// A thread that waits nowhere waits behind the others at an endpoint where nobody receives, to send this.

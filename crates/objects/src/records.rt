@@ -1,6 +1,6 @@
 //! What stands where in memory, and who waits to send.
 
-use thread_records::Sending;
+use crate::thread_records::Sending;
 
 /// What an object is of, and how many slots a CNode has: 2^`radix`.
 #[derive(Clone, Copy)]

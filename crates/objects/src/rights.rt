@@ -11,6 +11,7 @@ ghost use Rattle.objects.specs.Tables.{entry_in};
 ghost use Rattle.objects.specs.declared.records.Entry.TheVariants.{Thread};
 
 use crate::held::{Held, THREAD_SIZE};
+use crate::thread_records;
 use slots::SlotStore;
 
 /// How far into a thread the word stands.

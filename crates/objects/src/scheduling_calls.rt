@@ -12,6 +12,7 @@ ghost use Rattle.objects.specs.Standing.{Standing};
 ghost use Rattle.objects.specs.Tables.{state_of};
 
 use crate::tables::Objects;
+use crate::thread_records;
 use slots::SlotStore;
 
 impl Objects {

@@ -19,17 +19,18 @@ ghost use Rattle.objects.specs.Tables.{contents_of, kind_in, ready_at, state_of,
 ghost use Rattle.objects.specs.Waiting.{has_waiting};
 ghost use Rattle.removal_laws.specs.Finishing.{is_stranded, waits_nowhere};
 ghost use Rattle.removal_laws.specs.Steps.{ends_thread};
-ghost use Rattle.thread_records.specs.Threads.{status_of};
+ghost use Rattle.objects.specs.thread_records.Threads.{status_of};
 
 use crate::held::Held;
 use crate::records::Entry;
 use crate::rights::void_rights;
+use crate::thread_records;
+use crate::thread_records::Status;
 use model::Slot;
 use queues::{ReadyList, waiting};
 use slots::SlotStore;
 use std::alloc::{AllocError, Global};
 use std::marker::Model;
-use thread_records::Status;
 
 /// How many ticks a thread gets when it is made runnable.
 pub const FULL_SLICE: u8 = 5;

@@ -9,13 +9,14 @@ ghost use Rattle.model.specs.Kernel.State.{thread_at, with_thread};
 ghost use Rattle.objects.specs.Frames.{SameObjects};
 ghost use Rattle.objects.specs.Standing.{Standing};
 ghost use Rattle.objects.specs.Tables.{state_of};
-ghost use Rattle.thread_records.specs.Threads.{status_of};
+ghost use Rattle.objects.specs.thread_records.Threads.{status_of};
 
 use crate::rights::note;
 use crate::tables::Objects;
+use crate::thread_records;
+use crate::thread_records::Status;
 use rv32_exec::Regs;
 use slots::SlotStore;
-use thread_records::Status;
 
 impl Objects {
     /// The registers of a thread: those of a new one, where none is.

@@ -8,11 +8,12 @@ ghost use Rattle.model.specs.Kernel.State.{thread_at, with_thread};
 ghost use Rattle.objects.specs.Frames.{SameBesideRecords};
 ghost use Rattle.objects.specs.Standing.{Standing};
 ghost use Rattle.objects.specs.Tables.{state_of};
-ghost use Rattle.thread_records.specs.Threads.{status_of};
+ghost use Rattle.objects.specs.thread_records.Threads.{status_of};
 
 use crate::tables::Objects;
+use crate::thread_records;
+use crate::thread_records::Status;
 use slots::SlotStore;
-use thread_records::Status;
 
 impl Objects {
     /// Sets whether a thread runs, and else what it waits for.

@@ -10,9 +10,10 @@ ghost use Rattle.objects.specs.Tables.{sending_in, state_of, waiting_of};
 ghost use Rattle.objects.specs.Waiting.{StandsNowhere, changed_at, has_waiting, joined, served};
 
 use crate::tables::Objects;
+use crate::thread_records;
+use crate::thread_records::Sending;
 use queues::waiting::{first, pop, push};
 use slots::SlotStore;
-use thread_records::Sending;
 
 impl Objects {
     /// A thread that stands in no queue stands behind those that wait at an object, to send this or to receive.

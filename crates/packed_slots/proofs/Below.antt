@@ -7,9 +7,9 @@ use Rattle.model.proofs.Orders.{after-behind, behind, first-some, times-behind}
 use Rattle.model.specs.Capabilities.Orders.{descendants, first_of, next_after, next_in}
 use Rattle.model.specs.Capabilities.Slots.{IsFull, is_descendant, is_full}
 use Rattle.model.specs.Shared.Lists.{times_in}
-use Rattle.preorder.proofs.Laws.{behind-first, behind-next, behind-none, descendants-run}
-use Rattle.preorder.specs.Chains.{if_deeper}
-use Rattle.preorder.specs.Preorder.{descends_by, run_behind, slots_of}
+use Rattle.slots.proofs.Laws.{behind-first, behind-next, behind-none, descendants-run}
+use Rattle.slots.specs.preorder.Chains.{if_deeper}
+use Rattle.slots.specs.preorder.Preorder.{descends_by, run_behind, slots_of}
 use Rattle.packed_slots.specs.Packing.{IsPacked, Packed, packed_order, packed_rows, packed_slots}
 use Rattle.packed_slots.specs.Words.{word_of, words_in}
 use Rattle.packed_slots.proofs.PackedFacts.{full-row, no-row, parent-as}

@@ -8,9 +8,9 @@ use Rattle.model.proofs.SlotChanges.{bounds-within}
 use Rattle.model.specs.Capabilities.Orders.{first_of}
 use Rattle.model.specs.Capabilities.Slots.{SameOutside, is_within}
 use Rattle.model.specs.Shared.Bytes.{word_bytes}
-use Rattle.preorder.proofs.Laws.{chain-same, rows-here, rows-rest}
-use Rattle.preorder.specs.Chains.{IsChain, Links}
-use Rattle.preorder.specs.Preorder.{Row, rows_of, slots_of}
+use Rattle.slots.proofs.Laws.{chain-same, rows-here, rows-rest}
+use Rattle.slots.specs.preorder.Chains.{IsChain, Links}
+use Rattle.slots.specs.preorder.Preorder.{Row, rows_of, slots_of}
 use Rattle.packed_slots.specs.Packing.{is_open_in, slots_as}
 use Rattle.packed_slots.specs.Words.{Words, back_word, blanked, depth_in, link_word, linked_behind, linked_first, lowered_memory, next_in, unlinked, with_back_at, with_cap, with_link, with_next_at, with_word, word_of, words_in}
 use Rattle.packed_slots.proofs.PackedFacts.{closed-from}

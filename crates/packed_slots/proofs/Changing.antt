@@ -8,9 +8,9 @@ use Rattle.model.specs.Kernel.State.{put}
 use Rattle.model.specs.Shared.Lists.{without}
 use Rattle.model.specs.declared.capabilities.Cap.{Cap}
 use Rattle.model.specs.declared.capabilities.Cap.TheVariants.{Empty, Untyped, Endpoint, Notification, CNode, Frame, PageTable, Tcb, RootTable, InterruptControl, InterruptHandler}
-use Rattle.preorder.proofs.Laws.{depth-rows, none-without, slots-taken_out}
-use Rattle.preorder.specs.Chains.{put_at}
-use Rattle.preorder.specs.Preorder.{Row, first_row, put_behind, renamed, slots_of, taken_out}
+use Rattle.slots.proofs.Laws.{depth-rows, none-without, slots-taken_out}
+use Rattle.slots.specs.preorder.Chains.{put_at}
+use Rattle.slots.specs.preorder.Preorder.{Row, first_row, put_behind, renamed, slots_of, taken_out}
 use Rattle.packed_slots.specs.Packing.{IsChanged, IsPacked, IsPackedAs, Packed, head_of, is_open_in, packed_order, packed_rows, packed_slots, packing, slots_as, tail_of}
 use Rattle.packed_slots.specs.Words.{Words, blanked, first_without, linked_behind, linked_first, lowered_memory, unlinked, with_cap, word_of, words_in}
 use Rattle.packed_slots.proofs.Beside.{closed-behind, closed-blanked, closed-cap, closed-first, closed-lowered, closed-then, closed-unlinked, outside-from, size-cap}

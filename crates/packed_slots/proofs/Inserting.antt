@@ -14,9 +14,9 @@ use Rattle.model.specs.Shared.Lists.{times_in}
 use Rattle.model.specs.declared.capabilities.Cap.{Cap}
 use Rattle.model.specs.declared.capabilities.Cap.TheVariants.{Empty}
 use Rattle.model.specs.declared.slot_entries.Entry.{Entry}
-use Rattle.preorder.proofs.Laws.{chain-first, chain-put_after, deep-first, deep-put_behind, first-others, first-own, put-others, put-own, rises-first, rises-put_behind, slots-put_behind, times-put_after, times-put_after_own}
-use Rattle.preorder.specs.Chains.{IsChain, IsLinked, Links, put_after, put_at}
-use Rattle.preorder.specs.Preorder.{Row, first_row, parents_of, put_behind, rows_of, slots_of}
+use Rattle.slots.proofs.Laws.{chain-first, chain-put_after, deep-first, deep-put_behind, first-others, first-own, put-others, put-own, rises-first, rises-put_behind, slots-put_behind, times-put_after, times-put_after_own}
+use Rattle.slots.specs.preorder.Chains.{IsChain, IsLinked, Links, put_after, put_at}
+use Rattle.slots.specs.preorder.Preorder.{Row, first_row, parents_of, put_behind, rows_of, slots_of}
 use Rattle.packed_slots.specs.Packing.{IsPackedAs, is_open_in, slots_as}
 use Rattle.packed_slots.specs.Words.{Words, capability_in}
 use Rattle.packed_slots.proofs.PackedFacts.{as-closed, as-open, full-row, no-row, open-from, packs}

@@ -11,9 +11,9 @@ use Rattle.model.specs.Kernel.State.{put}
 use Rattle.model.specs.declared.capabilities.Cap.{Cap}
 use Rattle.model.specs.declared.capabilities.Cap.TheVariants.{Empty}
 use Rattle.model.specs.declared.slot_entries.Entry.{Entry}
-use Rattle.preorder.proofs.Laws.{chain-same, deep-same, none-without}
-use Rattle.preorder.specs.Chains.{IsLinked}
-use Rattle.preorder.specs.Preorder.{Row, parents_of, rows_of, slots_of}
+use Rattle.slots.proofs.Laws.{chain-same, deep-same, none-without}
+use Rattle.slots.specs.preorder.Chains.{IsLinked}
+use Rattle.slots.specs.preorder.Preorder.{Row, parents_of, rows_of, slots_of}
 use Rattle.packed_slots.specs.Packing.{IsPackedAs, is_open_in, slots_as}
 use Rattle.packed_slots.specs.Words.{Words, capability_in}
 use Rattle.packed_slots.proofs.Inserting.{put-here, put-off}

@@ -12,9 +12,9 @@ use Rattle.model.specs.Capabilities.Orders.{first_of}
 use Rattle.model.specs.Capabilities.Slots.{IsDerivation, Slots, adopted, empty_entry, is_empty, is_full, parent_at, relocated, with_entry, with_parent}
 use Rattle.model.specs.Shared.Lists.{times_in, without}
 use Rattle.model.specs.declared.capabilities.Cap.{Cap}
-use Rattle.preorder.proofs.Laws.{deep-renamed, none-without, renamed-here, renamed-other, renamed-parents, rises-renamed, slots-renamed, times-put_after, times-put_after_own}
-use Rattle.preorder.specs.Chains.{IsChain, IsLinked, put_after}
-use Rattle.preorder.specs.Preorder.{Row, parents_of, renamed, rows_of, slots_of}
+use Rattle.slots.proofs.Laws.{deep-renamed, none-without, renamed-here, renamed-other, renamed-parents, rises-renamed, slots-renamed, times-put_after, times-put_after_own}
+use Rattle.slots.specs.preorder.Chains.{IsChain, IsLinked, put_after}
+use Rattle.slots.specs.preorder.Preorder.{Row, parents_of, renamed, rows_of, slots_of}
 use Rattle.packed_slots.specs.Packing.{IsPackedAs, is_open_in, slots_as}
 use Rattle.packed_slots.specs.Words.{Words, capability_in, first_without}
 use Rattle.packed_slots.proofs.Inserting.{behind-chain, behind_words, empty-not-full, first-behind, none-row, not-in, put-here, put-off}

@@ -12,9 +12,9 @@ use Rattle.model.specs.Capabilities.Slots.{IsDerivation, Slots, adopted, is_empt
 use Rattle.model.specs.declared.capabilities.Cap.{Cap}
 use Rattle.model.specs.declared.capabilities.Cap.TheVariants.{Empty}
 use Rattle.model.specs.declared.slot_entries.Entry.{Entry}
-use Rattle.preorder.proofs.Laws.{few-rows, linked-rows, next-in, none-without, previous-in}
-use Rattle.preorder.specs.Chains.{IsLinked, rows_linked}
-use Rattle.preorder.specs.Preorder.{Row, parents_of, rows_of, slots_of}
+use Rattle.slots.proofs.Laws.{few-rows, linked-rows, next-in, none-without, previous-in}
+use Rattle.slots.specs.preorder.Chains.{IsLinked, rows_linked}
+use Rattle.slots.specs.preorder.Preorder.{Row, parents_of, rows_of, slots_of}
 use Rattle.packed_slots.specs.Packing.{IsPacked, IsPackedAs, Packed, is_open_in, packed_rows, packed_slots, slots_as}
 use Rattle.packed_slots.specs.Words.{Words, capability_in, words_in}
 

@@ -12,9 +12,9 @@ use Rattle.model.specs.Capabilities.Orders.{next_after}
 use Rattle.model.specs.Capabilities.Slots.{IsDerivation, IsFull, IsOpen, OutsideSlots, Slots, capability_at, depth_of, is_descendant, is_empty, is_full, parent_at}
 use Rattle.model.specs.Shared.Bytes.{written}
 use Rattle.model.specs.declared.capabilities.Cap.TheVariants.{Empty}
-use Rattle.preorder.proofs.Laws.{descends-back, linked-next, none-without, parents-back}
-use Rattle.preorder.specs.Chains.{Links, back_above, rows_linked}
-use Rattle.preorder.specs.Preorder.{descends_by, parents_of}
+use Rattle.slots.proofs.Laws.{descends-back, linked-next, none-without, parents-back}
+use Rattle.slots.specs.preorder.Chains.{Links, back_above, rows_linked}
+use Rattle.slots.specs.preorder.Preorder.{descends_by, parents_of}
 use Rattle.packed_slots.specs.Packing.{IsKept, IsPacked, Packed, is_open_in, packed_order, packed_rows, packed_slots, packing, slots_as}
 use Rattle.packed_slots.specs.Words.{capability_in, depth_in, is_one, next_in as next_word, previous_in, word_of, words_in}
 use Rattle.packed_slots.proofs.Changing.{order-from}

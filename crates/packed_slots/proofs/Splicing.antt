@@ -13,9 +13,9 @@ use Rattle.model.specs.Capabilities.Orders.{first_of}
 use Rattle.model.specs.Capabilities.Slots.{Slots, adopted, empty_entry, is_full, is_within, parent_at, spliced, with_parent}
 use Rattle.model.specs.Shared.Lists.{times_in, without}
 use Rattle.model.specs.declared.capabilities.Cap.{Cap}
-use Rattle.preorder.proofs.Laws.{chain-same, chain-without, deep-same, deep-taken_out, low-beside, none-without, previous-in, rises-taken_out, slots-taken_out, taken-out}
-use Rattle.preorder.specs.Chains.{IsChain, IsLinked, Links, lowered_depths, put_at}
-use Rattle.preorder.specs.Preorder.{Row, parents_of, rows_of, slots_of, taken_out}
+use Rattle.slots.proofs.Laws.{chain-same, chain-without, deep-same, deep-taken_out, low-beside, none-without, previous-in, rises-taken_out, slots-taken_out, taken-out}
+use Rattle.slots.specs.preorder.Chains.{IsChain, IsLinked, Links, lowered_depths, put_at}
+use Rattle.slots.specs.preorder.Preorder.{Row, parents_of, rows_of, slots_of, taken_out}
 use Rattle.packed_slots.specs.Packing.{IsPackedAs, is_open_in, slots_as}
 use Rattle.packed_slots.specs.Words.{Words, capability_in, first_without}
 use Rattle.packed_slots.proofs.PackedFacts.{adopted-as, as-closed, as-open, full-row, no-row, open-full, packs, parent-as, within-here, within-off, zero-empty, zero-whole}

@@ -2,7 +2,7 @@
 use Rattle.std.proofs.Common.{ℕ, suc, ◌≡◌, ◌∙◌, ◌-◌, ◌<◌, ◌≤◌, if◌then◌else◌, Some, List, ap}
 use Rattle.std.proofs.lemmas.Bool.{lt-ltb, le-ltb}
 use Rattle.packed_slots.specs.Words.{depth_in, lowered_memory, next_in, with_link, word_of}
-use Rattle.preorder.specs.Chains.{Links, back_above}
+use Rattle.slots.specs.preorder.Chains.{Links, back_above}
 
 pub back_step : (previous : Links) (depths : ℕ → ℕ) (n m limit slot : ℕ) → n ≡ suc m → limit ≤ depths slot
     → back_above previous depths n limit (Some slot) ≡ back_above previous depths m limit (previous slot)

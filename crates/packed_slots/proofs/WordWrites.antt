@@ -8,7 +8,7 @@ use Rattle.model.proofs.SlotChanges.{within-bounds}
 use Rattle.model.specs.Capabilities.Slots.{is_within}
 use Rattle.model.specs.Kernel.State.{put}
 use Rattle.model.specs.Shared.Bytes.{word_bytes}
-use Rattle.preorder.specs.Chains.{Links, lowered_depths, put_at}
+use Rattle.slots.specs.preorder.Chains.{Links, lowered_depths, put_at}
 use Rattle.packed_slots.specs.Words.{Words, back_word, blanked, depth_in, link_word, linked_behind, linked_first, lowered_memory, next_in, previous_in, unlinked, with_back, with_back_at, with_cap, with_link, with_next_at, with_word, word_of, words_in}
 use Rattle.packed_slots.proofs.WordsBehind.{deep_inside}
 

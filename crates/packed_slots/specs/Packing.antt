@@ -5,8 +5,8 @@ use Rattle.model.specs.Capabilities.Orders.{first_of}
 use Rattle.model.specs.Capabilities.Slots.{IsDerivation, SameOutside, Slots, is_full}
 use Rattle.model.specs.declared.capabilities.Cap.{Cap}
 use Rattle.packed_slots.specs.Words.{Words, capability_in, words_in}
-use Rattle.preorder.specs.Chains.{IsLinked, rows_linked}
-use Rattle.preorder.specs.Preorder.{Row, parents_of, rows_of, slots_of}
+use Rattle.slots.specs.preorder.Chains.{IsLinked, rows_linked}
+use Rattle.slots.specs.preorder.Preorder.{Row, parents_of, rows_of, slots_of}
 
 -- the bytes of the machine, for each 16 of them whether they are an open slot, and the first full slot
 pub record Packed : Type 0 where

@@ -4,7 +4,7 @@ use Rattle.std.specs.Option.{option_map_or}
 use Rattle.model.specs.Capabilities.CapabilityFields.{fields_of}
 use Rattle.model.specs.Shared.Bytes.{word_at, word_bytes, written}
 use Rattle.model.specs.declared.capabilities.Cap.{Cap}
-use Rattle.preorder.specs.Chains.{Links}
+use Rattle.slots.specs.preorder.Chains.{Links}
 
 -- one of the four words of a slot
 abbrev pub word_of : List ℕ → ℕ → ℕ → ℕ

@@ -2,6 +2,7 @@
 //! Each change and each read is a function over memory, the open slots and the first full slot, which [`PackedSlots`] owns.
 #![tactic(auto)]
 
+mod cached_slots;
 mod changes;
 mod links;
 mod open_slots;
@@ -10,4 +11,5 @@ mod store;
 mod words;
 mod writes;
 
+pub use cached_slots::{CachedSlots, WalkStore};
 pub use store::PackedSlots;

@@ -3,7 +3,7 @@
 ghost use Rattle.std.specs.Prelude.{ℕ, ◌≡◌, ◌+◌, ◌*◌, ◌%◌, ◌^◌, ◌<◌, ◌≤◌, length};
 ghost use Rattle.std.specs.Option.{ForSome};
 ghost use Rattle.packed_slots.specs.Words.{linked_behind, linked_first, lowered_memory, next_in, previous_in, unlinked, with_back_at, with_next_at, word_of, words_in};
-ghost use Rattle.preorder.specs.Chains.{back_above};
+ghost use Rattle.slots.specs.preorder.Chains.{back_above};
 
 use crate::words::{blank, depth, next, previous, put_back, put_link};
 use model::Slot;

@@ -7,7 +7,7 @@ ghost use Rattle.model.specs.Capabilities.Orders.{descendants, next_in};
 ghost use Rattle.model.specs.Capabilities.Slots.{IsFull, IsOpen, capability_at, depth_of, is_descendant, is_full};
 ghost use Rattle.packed_slots.specs.Packing.{IsPacked, packed_order, packed_slots, packing};
 ghost use Rattle.packed_slots.specs.Words.{capability_in, is_one, words_in};
-ghost use Rattle.preorder.specs.Chains.{back_above, if_deeper};
+ghost use Rattle.slots.specs.preorder.Chains.{back_above, if_deeper};
 
 use crate::links::back_above;
 use crate::open_slots::OpenSlots;

@@ -13,9 +13,9 @@ use Rattle.model.specs.Acceptance.PointStates.{Noted, Known, Missing, Unmeasured
 use Rattle.model.specs.Acceptance.RangeRules.{destination}
 use Rattle.model.specs.Images.Image.{Image, Thread}
 use Rattle.model.specs.declared.instructions.Instr.{Instr}
-use Rattle.point_rules.specs.Points.{left_with}
-use Rattle.point_rules.specs.declared.following.Left.TheVariants as left
-use Rattle.point_rules.specs.declared.following.Left.{Left}
+use Rattle.program_rules.specs.point_rules.Points.{left_with}
+use Rattle.program_rules.specs.declared.point_rules.following.Left.TheVariants as left
+use Rattle.program_rules.specs.declared.point_rules.following.Left.{Left}
 use Rattle.program_rules.specs.Kept.{IsCleanIn, IsSound, kept_as, noted_by}
 use Rattle.typestate.specs.Differences.{changed}
 use Rattle.typestate.specs.Logs.{Holds, part_of}

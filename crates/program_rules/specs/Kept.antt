@@ -6,8 +6,8 @@ use Rattle.model.specs.Acceptance.PointStates.{Noted, Known, Missing, Unmeasured
 use Rattle.model.specs.Images.Described.{Numbered}
 use Rattle.model.specs.Images.Image.{Image, Thread}
 use Rattle.model.specs.declared.refusals.Refusal.{Refusal}
-use Rattle.point_rules.specs.declared.following.Left.TheVariants as left
-use Rattle.point_rules.specs.declared.following.Left.{Left}
+use Rattle.program_rules.specs.declared.point_rules.following.Left.TheVariants as left
+use Rattle.program_rules.specs.declared.point_rules.following.Left.{Left}
 use Rattle.program_rules.specs.declared.kept.Kept.TheVariants as kept
 use Rattle.program_rules.specs.declared.kept.Kept.{Kept}
 use Rattle.program_rules.specs.declared.kept.Known.{Known as State}

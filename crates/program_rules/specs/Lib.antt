@@ -2,3 +2,4 @@ pub mod Left
 pub mod Kept
 pub mod Programs
 pub mod PointChecks
+pub mod point_rules

@@ -18,12 +18,12 @@ ghost use Rattle.typestate.specs.Logs.{KeepsParts, Shows, part_of};
 ghost use Rattle.wellformed.specs.Answering.{Answers};
 
 use crate::kept::Known;
+use crate::point_rules::{Way, registers_of};
 use crate::points::Points;
 use crate::programs::Program;
 use image_reading::RecordRef;
 use measure::AfterCall;
 use model::Refusal;
-use point_rules::{Way, registers_of};
 use typestate::{Behind, NotedSlot, Part, ShownPart};
 
 impl Program<'_, '_> {

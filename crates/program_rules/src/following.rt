@@ -17,11 +17,11 @@ ghost use Rattle.typestate.specs.Logs.{Holds, KeepsParts, Shows, part_of};
 ghost use Rattle.typestate.specs.Strays.{NoneStray};
 
 use crate::kept::{Kept, Known};
+use crate::point_rules::{Left, follows, follows_call};
 use crate::programs::Program;
 use image_reading::RecordRef;
 use measure::Measure;
 use model::{Instr, Refusal};
-use point_rules::{Left, follows, follows_call};
 use ranges::Bounds;
 use rv32_isa::decode;
 use std::alloc::AllocError;

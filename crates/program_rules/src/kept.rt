@@ -2,15 +2,15 @@
 
 ghost use Rattle.std.specs.Prelude.{◌≡◌, IfOk, List};
 ghost use Rattle.model.specs.Acceptance.NotedStates.{NotedSlot};
-ghost use Rattle.point_rules.specs.Points.{HasImage, noted_of, state_of};
+ghost use Rattle.program_rules.specs.point_rules.Points.{HasImage, noted_of, state_of};
 ghost use Rattle.program_rules.specs.Kept.{HasPart, ShowsKept, has_state, noted_by, state_by};
 ghost use Rattle.typestate.specs.Differences.{changed, slots_of};
 ghost use Rattle.typestate.specs.Logs.{Shows, ShowsSome};
 ghost use Rattle.typestate.specs.Orders.{Rise};
 ghost use Rattle.typestate.specs.Unlinked.{AreUnlinked};
 
+use crate::point_rules::{Noted, PointState};
 use measure::Measure;
-use point_rules::{Noted, PointState};
 use ranges::Bounds;
 use std::alloc::{AllocError, Global};
 use typestate::{NotedSlot, Part, ShownPart, SlotLog};

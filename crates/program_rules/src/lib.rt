@@ -8,6 +8,7 @@ mod following;
 mod kept;
 mod notes;
 mod own_checks;
+mod point_rules;
 mod points;
 mod points_checks;
 mod programs;
@@ -16,3 +17,4 @@ mod space_rules;
 mod ways;
 
 pub use checking::check_programs;
+pub use point_rules::{Left, follows, follows_call, registers_of};

@@ -16,11 +16,11 @@ ghost use Rattle.typestate.specs.Differences.{slots_of};
 ghost use Rattle.typestate.specs.Strays.{NoneStray};
 
 use crate::kept::Known;
+use crate::point_rules::Pages;
 use crate::programs::Program;
 use image_reading::RecordRef;
 use measure::least;
 use model::{Instr, Point, Refusal};
-use point_rules::Pages;
 use ranges::Bounds;
 use typestate::NotedSlots;
 

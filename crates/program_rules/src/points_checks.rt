@@ -15,11 +15,11 @@ ghost use Rattle.wellformed.specs.Answering.{Answers};
 
 use crate::kept::{Kept, Known};
 use crate::notes::RecordsLeft;
+use crate::point_rules::{Noted, entered};
 use crate::points::Points;
 use crate::programs::Program;
 use image_reading::RecordRef;
 use model::{Instr, Refusal};
-use point_rules::{Noted, entered};
 use rv32_isa::decode;
 use typestate::{NotedSlots, ShownPart};
 

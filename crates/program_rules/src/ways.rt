@@ -13,7 +13,7 @@ ghost use Rattle.model.specs.Images.Image.{Thread};
 ghost use Rattle.model.specs.Machine.Instructions.{IsInstr};
 ghost use Rattle.model.specs.declared.instructions.Instr.TheVariants.{Ecall};
 ghost use Rattle.model.specs.declared.ranges.Range.{Range};
-ghost use Rattle.point_rules.specs.Points.{edge_of};
+ghost use Rattle.program_rules.specs.point_rules.Points.{edge_of};
 ghost use Rattle.program_rules.specs.Kept.{HasPart, IsRead, noted_by, state_by};
 ghost use Rattle.program_rules.specs.PointChecks.{IsBefore, is_branch, later_rules, way_rules};
 ghost use Rattle.program_rules.specs.Programs.{thread_of};
@@ -24,11 +24,11 @@ ghost use Rattle.typestate.specs.Orders.{Rise};
 ghost use Rattle.wellformed.specs.Answering.{Answers};
 
 use crate::kept::{Kept, Known};
+use crate::point_rules::{Way, kept_at, leads_to, left_calls_are_kept, left_states_are_kept};
 use crate::points::Points;
 use crate::programs::Program;
 use measure::{AfterInstruction, Measure, Step};
 use model::{Instr, Point, Refusal};
-use point_rules::{Way, kept_at, leads_to, left_calls_are_kept, left_states_are_kept};
 use ranges::{Bounds, Edge, after};
 use typestate::{Part, ShownPart};
 

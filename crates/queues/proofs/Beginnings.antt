@@ -4,8 +4,8 @@ use Rattle.std.proofs.lemmas.Bool.{cases_lt}
 use Rattle.model.proofs.BytesLemmas.{word_at-written}
 use Rattle.model.specs.Kernel.Scheduling.{head_of}
 use Rattle.model.specs.Shared.Lists.{times_in}
-use Rattle.links.specs.Threaded.{last_or, linked}
-use Rattle.links.proofs.Laws.{unowned}
+use Rattle.queues.specs.links.Threaded.{last_or, linked}
+use Rattle.queues.proofs.links.Laws.{unowned}
 use Rattle.queues.specs.Laws.{BeginsEmpty, NobodyNamed}
 use Rattle.queues.specs.Layout.{Places}
 use Rattle.queues.specs.Queues.{IsLinkByte, QueuesStand, queue_of, waiting_in}

@@ -3,8 +3,8 @@ use Rattle.std.proofs.Common.{ℕ, ◌≡◌, ◌∙◌, ◌+◌, ◌*◌, ◌<�
 use Rattle.model.specs.Capabilities.Slots.{Slots}
 use Rattle.model.specs.Shared.Lists.{times_in}
 use Rattle.model.proofs.BytesLemmas.{word_at-same}
-use Rattle.links.specs.Threaded.{AreLinked, SameQueues, listed}
-use Rattle.links.proofs.Laws.{only_owned}
+use Rattle.queues.specs.links.Threaded.{AreLinked, SameQueues, listed}
+use Rattle.queues.proofs.links.Laws.{only_owned}
 use Rattle.queues.specs.Laws.{IsEmpty, IsKept, IsOut, KeepsWaiting, KindsApart, ReadyStays, WaitingStays}
 use Rattle.queues.specs.Layout.{AreLaidOut, Places}
 use Rattle.queues.specs.Queues.{IsLinkByte, QueuesStand, SameBesideWaiting, queue_of, waiting_in}

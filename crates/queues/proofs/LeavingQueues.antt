@@ -3,9 +3,9 @@ use Rattle.std.proofs.Common.{ℕ, ◌≡◌, ◌∙◌, ◌==◌, ◌+◌, ◌^
 use Rattle.model.specs.Capabilities.Slots.{Slots}
 use Rattle.model.specs.Kernel.State.{put}
 use Rattle.model.specs.Shared.Lists.{times_in, without}
-use Rattle.preorder.specs.Chains.{put_at}
-use Rattle.links.specs.Threaded.{Threaded, end_without, left}
-use Rattle.links.proofs.Laws.{leaving, named_stand}
+use Rattle.slots.specs.preorder.Chains.{put_at}
+use Rattle.queues.specs.links.Threaded.{Threaded, end_without, left}
+use Rattle.queues.proofs.links.Laws.{leaving, named_stand}
 use Rattle.queues.specs.Layout.{AreLaidOut, Places}
 use Rattle.queues.specs.Queues.{QueuesStand, SameBesideWaiting, queue_of, waiting_in}
 use Rattle.queues.specs.Words.{end_at, end_in, end_of, ends_at, link_at, taken_out, with_ends}

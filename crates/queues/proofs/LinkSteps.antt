@@ -1,7 +1,7 @@
 -- What linking behind the last one and taking out make of the links of all threads.
 use Rattle.std.proofs.Common.{ℕ, ◌≡◌, ◌∙◌, ◌+◌, ◌-◌, ◌^◌, ◌<◌, ◌≤◌, Bool, true, if◌then◌else◌, Option, Some, None, List, length, sym, ap, subst, arith}
 use Rattle.model.specs.Kernel.State.{put}
-use Rattle.preorder.specs.Chains.{put_at}
+use Rattle.slots.specs.preorder.Chains.{put_at}
 use Rattle.queues.specs.Words.{LinksIn, link_at, link_in, linked_last, links_in, somebody, taken_out, with_link, with_link_at, word_of}
 use Rattle.queues.proofs.MemoryWrites.{AreInPlace, fits-word, links-next, links-next_at, links-owner, links-previous, links-previous_at, size-link, size-link_at, somebody-back, somebody-there}
 

@@ -9,7 +9,7 @@ use Rattle.std.proofs.lemmas.Bool.{cases_lt}
 use Rattle.std.proofs.lemmas.List.{get_or-replicate, get_or-set_other, get_or-set_same, get_or_past, length-replicate, length-set}
 use Rattle.std.proofs.lemmas.Nat.Bits.{bit_at-zero, bit_at_above}
 use Rattle.model.specs.Kernel.Scheduling.{first_below, head_of}
-use Rattle.links.specs.Threaded.{linked}
+use Rattle.queues.specs.links.Threaded.{linked}
 use Rattle.queues.specs.Layout.{Places}
 use Rattle.queues.specs.Ready.{AreMarked, IsHighest, IsTop, ends_of, is_marked, nobody, ready_in, ready_of}
 use Rattle.queues.specs.declared.words.Ends.{Ends}

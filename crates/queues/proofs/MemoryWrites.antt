@@ -5,8 +5,8 @@ use Rattle.std.proofs.lemmas.Bool.{cases_lt, ne_eqb}
 use Rattle.model.proofs.BytesLemmas.{length-written, slice_index-written_before, slice_index-written_behind, word_at-same, word_at-written, word_at-written_before, word_at-written_behind}
 use Rattle.model.specs.Kernel.State.{put}
 use Rattle.model.specs.Shared.Bytes.{word_at, word_bytes, written}
-use Rattle.preorder.specs.Chains.{put_at}
-use Rattle.links.proofs.Laws.{put-off}
+use Rattle.slots.specs.preorder.Chains.{put_at}
+use Rattle.queues.proofs.links.Laws.{put-off}
 use Rattle.queues.specs.Words.{end_in, end_of, link_at, link_in, links_in, somebody, with_link, with_link_at, word_of}
 
 -- ---- one word

@@ -1,6 +1,6 @@
 -- Where no thread is, links are well formed.
 use Rattle.std.proofs.Common.{ℕ, suc, ◌≡◌, ◌∙◌, Some, None, [], sym, ap, subst, arith}
-use Rattle.links.specs.Threaded.{AreLinked, AreLinkedAs, Threaded, linked, listed}
+use Rattle.queues.specs.links.Threaded.{AreLinked, AreLinkedAs, Threaded, linked, listed}
 
 pub nobody-linked : (w : Threaded) (size : ℕ) → ((thread : ℕ) → w.owner thread ≡ None) → ((queue : ℕ) → w.first queue ≡ None) → ((queue : ℕ) → w.last queue ≡ None)
     → AreLinked w size

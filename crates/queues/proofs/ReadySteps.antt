@@ -7,9 +7,9 @@ use Rattle.model.specs.Capabilities.Slots.{Slots}
 use Rattle.model.specs.Kernel.State.{put}
 use Rattle.model.specs.Shared.Lists.{times_in, without}
 use Rattle.model.proofs.Orders.{without-absent}
-use Rattle.preorder.specs.Chains.{put_at}
-use Rattle.links.specs.Threaded.{AreLinked, Threaded, end_without, first_joined, left, linked, listed, pushed}
-use Rattle.links.proofs.Laws.{leaving, named_stand, pushing, put-here, put-off, unowned}
+use Rattle.slots.specs.preorder.Chains.{put_at}
+use Rattle.queues.specs.links.Threaded.{AreLinked, Threaded, end_without, first_joined, left, linked, listed, pushed}
+use Rattle.queues.proofs.links.Laws.{leaving, named_stand, pushing, put-here, put-off, unowned}
 use Rattle.queues.specs.Layout.{AreLaidOut, Places}
 use Rattle.queues.specs.Ready.{ReadyStands, SameBesideReady, ends_of, nobody, ready_in, ready_of}
 use Rattle.queues.specs.Words.{link_at, linked_last, taken_out}

@@ -7,9 +7,9 @@ use Rattle.model.specs.Kernel.State.{put}
 use Rattle.model.specs.Shared.Lists.{times_in, without}
 use Rattle.model.proofs.BytesLemmas.{word_at-written}
 use Rattle.model.proofs.Orders.{without-absent}
-use Rattle.preorder.specs.Chains.{Links, put_at}
-use Rattle.links.specs.Threaded.{AreLinked, Threaded, first_joined, linked, listed, pushed}
-use Rattle.links.proofs.Laws.{first_dropped, named_stand, pushing, put-here, put-off, unowned}
+use Rattle.slots.specs.preorder.Chains.{Links, put_at}
+use Rattle.queues.specs.links.Threaded.{AreLinked, Threaded, first_joined, linked, listed, pushed}
+use Rattle.queues.proofs.links.Laws.{first_dropped, named_stand, pushing, put-here, put-off, unowned}
 use Rattle.queues.specs.Layout.{AreLaidOut, Places}
 use Rattle.queues.specs.Queues.{QueuesStand, SameBesideWaiting, queue_of, waiting_in}
 use Rattle.queues.specs.Words.{LinksIn, end_at, end_in, end_of, ends_at, link_at, link_in, linked_last, links_in, somebody, with_end, with_ends, word_of}

@@ -3,3 +3,4 @@ pub mod Layout
 pub mod Queues
 pub mod Ready
 pub mod Words
+pub mod links

@@ -1,7 +1,7 @@
 -- Those that wait at objects, as callers see them.
 use Rattle.std.specs.Prelude.{ℕ, ◌≡◌, ◌+◌, ◌<◌, ◌≤◌, Some, List, length, slice_index}
 use Rattle.model.specs.Shared.Lists.{times_in}
-use Rattle.links.specs.Threaded.{AreLinked, Threaded, listed}
+use Rattle.queues.specs.links.Threaded.{AreLinked, Threaded, listed}
 use Rattle.queues.specs.Layout.{Places}
 use Rattle.queues.specs.Words.{end_in, link_in}
 

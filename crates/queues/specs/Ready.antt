@@ -2,7 +2,7 @@
 use Rattle.std.specs.Prelude.{ℕ, ◌≡◌, ◌==◌, ◌/◌, ◌%◌, ◌<◌, Bool, true, false, Option, Some, None, is_some, List, length, slice_index, slice_index_or}
 use Rattle.std.specs.Int.{bit_at}
 use Rattle.model.specs.Shared.Lists.{times_in}
-use Rattle.links.specs.Threaded.{AreLinked, Threaded, listed}
+use Rattle.queues.specs.links.Threaded.{AreLinked, Threaded, listed}
 use Rattle.queues.specs.Layout.{Places}
 use Rattle.queues.specs.Queues.{IsLinkByte}
 use Rattle.queues.specs.Words.{link_in}

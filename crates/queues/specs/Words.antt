@@ -1,7 +1,7 @@
 -- The links of a thread in three words of its 512 bytes, and the first and the last thread of a queue. A word is one more than what it names; 0 is nobody.
 use Rattle.std.specs.Prelude.{ℕ, ◌==◌, ◌+◌, ◌-◌, ◌*◌, ◌%◌, ◌^◌, Bool, Option, Some, None, List, if◌then◌else◌}
 use Rattle.model.specs.Shared.Bytes.{word_at, word_bytes, written}
-use Rattle.preorder.specs.Chains.{Links}
+use Rattle.slots.specs.preorder.Chains.{Links}
 use Rattle.queues.specs.declared.words.Ends.{Ends}
 use Rattle.queues.specs.declared.words.LinkWords.{LinkWords}
 use Rattle.queues.specs.declared.words.LinkWords.TheVariants as link_words

@@ -4,6 +4,7 @@
 
 mod layout;
 mod linking;
+pub mod links;
 mod queue_laws;
 mod ready;
 pub mod waiting;

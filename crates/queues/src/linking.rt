@@ -2,7 +2,7 @@
 
 ghost use Rattle.std.specs.Prelude.{ℕ, ◌≡◌, None, Some, length};
 ghost use Rattle.std.specs.Option.{ForSome};
-ghost use Rattle.links.specs.Threaded.{end_without, first_joined};
+ghost use Rattle.queues.specs.links.Threaded.{end_without, first_joined};
 ghost use Rattle.queues.specs.Layout.{AreLaidOut, IsHeadAt, IsThreadAt};
 ghost use Rattle.queues.specs.Words.{base_of, link_at, link_in, linked_last, taken_between, taken_out, with_ends, without_links};
 

@@ -2,7 +2,7 @@
 
 use crate::commands::Failure;
 use asm::assemble;
-use files::{read_text, write_bytes};
+use console::{read_text, write_bytes};
 use image::write;
 use std::alloc::Global;
 use std::rt::Files;

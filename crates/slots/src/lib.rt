@@ -4,6 +4,7 @@
 
 mod maps;
 mod plain;
+pub mod preorder;
 mod probes;
 mod stores;
 mod table;

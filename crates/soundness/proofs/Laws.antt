@@ -30,3 +30,4 @@ pub use Rattle.soundness.proofs.Stepped.{byte-less, events-whole}
 pub use Rattle.soundness.proofs.SystemCalls.{answered-whole, called-whole, lacks-whole, named-left, reply-runs, sent_on-whole, signaled-object, unknown-whole}
 pub use Rattle.soundness.proofs.ThreadCalls.{fine-of, passes-whole, registers-whole, resume-whole, set_priority-whole, set_register-whole, suspend-whole, tick-whole}
 pub use Rattle.soundness.proofs.UnusedMemory.{unused-free}
+pub use Rattle.soundness.proofs.boot_laws.Laws.{AreFormed, CapabilityKept, CountsAreLengths, FrameKept, IsWithin, ReadsBoot, ReadsObjects, TableKept, ThreadKept, any-taken, are-formed, boot-slots-suffice, boots-well, bytes-long, cnode-slot, cnode-type, contents-fit, counts-are, cspace-slot, described-sound, each-all, entry, filtered-all, find-get, find-no, first-at, first_of_type, flat-all, frame-type, goes, has-type, held-append, held-here, held-later, kept-before, kept-behind, kept-of, limited-frame, limited-table, listed-behind, listed-untyped, loaded-end, mapped_by, mapping_of, no-thread, not-refused, numbered-at, numbered-back, object-at, object-stands, objects-apart, offsets-apart, original-untyped, passes, range-at, range-from, reads-boot, reads-cspace, reads-listed, reads-objects, reads-vspace, slot-behind-boot, slot-in-memory, slot-of-one, source-untyped, stand-apart, table-type, thread-behind, thread-type, used_with, vspace-slot}

@@ -2,6 +2,7 @@
 //! contract of a function that does nothing.
 #![tactic(auto)]
 
+mod boot_laws;
 mod cnode_laws;
 mod copying_laws;
 mod fresh_laws;
@@ -15,6 +16,9 @@ mod step_laws;
 mod thread_laws;
 mod unused_laws;
 
+pub use boot_laws::{
+    described_states_are_sound, objects_stand_inside_their_untypeds, well_formed_images_boot,
+};
 pub use cnode_laws::{
     copy_keeps_soundness, mint_keeps_soundness, move_keeps_soundness, mutate_keeps_soundness,
 };

@@ -8,7 +8,7 @@ use Rattle.model.specs.Kernel.Retype.{NewThread}
 use Rattle.model.specs.Kernel.Soundness.{IsSound}
 use Rattle.model.specs.Kernel.State.{State}
 use Rattle.model.specs.declared.capabilities.Cap.TheVariants.{Tcb}
-use Rattle.object_lifetimes.specs.Kernels.{Parts}
+use Rattle.cnode_ops.specs.object_lifetimes.Kernels.{Parts}
 use Rattle.objects.specs.Tables.{Tables, state_of}
 use Rattle.soundness.proofs.Laws.{named-piece}
 use Rattle.vspace.specs.Tables.{Holds}

@@ -6,13 +6,13 @@ ghost use Rattle.model.specs.Capabilities.CapabilityWords.{IsCapability};
 ghost use Rattle.model.specs.Capabilities.Slots.{SameOutside};
 ghost use Rattle.model.specs.Kernel.Soundness.{IsSound};
 ghost use Rattle.model.specs.Kernel.ThreadCalls.{configure};
-ghost use Rattle.object_lifetimes.specs.Kernels.{state_in};
+ghost use Rattle.cnode_ops.specs.object_lifetimes.Kernels.{state_in};
 ghost use Rattle.tcb_ops.specs.Configuring.{MayConfigure, spaces_put};
 ghost use Rattle.vspace.specs.Tables.{Holds};
 
 use crate::spaces::{Sources, Spaces, named_sources, with_guard};
+use cnode_ops::Kernel;
 use model::{Cap, KError, Slot};
-use object_lifetimes::Kernel;
 use slots::SlotStore;
 
 /// Puts copies of the sources into the two slots of a thread, the CNode's with a guard word if one is

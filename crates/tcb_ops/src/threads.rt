@@ -5,11 +5,11 @@ ghost use Rattle.model.specs.Kernel.Outcomes.{GivesState};
 ghost use Rattle.model.specs.Kernel.Messages.{register};
 ghost use Rattle.model.specs.Kernel.ThreadCalls.{resume, set_priority, set_register, suspend};
 ghost use Rattle.model.specs.Machine.ProgramMemory.{write};
-ghost use Rattle.object_lifetimes.specs.Kernels.{SameBeside, state_in};
+ghost use Rattle.cnode_ops.specs.object_lifetimes.Kernels.{SameBeside, state_in};
 ghost use Rattle.vspace.specs.Tables.{Holds};
 
+use cnode_ops::Kernel;
 use model::{Cap, KError, Register};
-use object_lifetimes::Kernel;
 use objects::Status;
 use rv32_exec::Regs;
 use slots::SlotStore;

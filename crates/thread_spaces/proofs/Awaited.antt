@@ -11,7 +11,7 @@ use Rattle.std.proofs.lemmas.Option.{same_Some}
 use Rattle.model.specs.declared.entries.CapabilityEntry.{CapabilityEntry}
 use Rattle.model.specs.Acceptance.ThreadRules.{is_cnode_source, is_member, with_named}
 use Rattle.model.specs.Images.Image.{Image}
-use Rattle.image_entries.specs.Keys.{AreListedIn}
+use Rattle.image_reading.specs.image_entries.Keys.{AreListedIn}
 use Rattle.thread_spaces.specs.Reaching.{AwaitsAll, AwaitsListed, AwaitsMore, Begins, Follows, IsWithin, awaits, is_among, leads_on}
 use Rattle.thread_spaces.specs.declared.reach.Round.{Round}
 use Rattle.thread_spaces.proofs.Rounds.{drop-next, member-cases, named-puts, part-one}

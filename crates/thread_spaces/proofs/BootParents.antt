@@ -6,8 +6,8 @@ use Rattle.std.specs.List.{list_any, range_with_len}
 use Rattle.std.proofs.lemmas.Option.{none-some, same_Some, slice_get_within}
 use Rattle.format_laws.specs.Fitting.{IsFitting, ObjectFits, ThreadFits}
 use Rattle.format_laws.proofs.Laws.{is-fitting}
-use Rattle.boot_laws.specs.Loading.{all_loaded, is_moved}
-use Rattle.boot_laws.proofs.Laws.{AreFormed, ReadsBoot, ThreadKept, are-formed, boot-slots-suffice, numbered-back, object-at, original-untyped}
+use Rattle.soundness.specs.boot_laws.Loading.{all_loaded, is_moved}
+use Rattle.soundness.proofs.Laws.{AreFormed, ReadsBoot, ThreadKept, are-formed, boot-slots-suffice, numbered-back, object-at, original-untyped}
 use Rattle.model.specs.declared.capabilities.Cap.{Cap}
 use Rattle.model.specs.declared.capabilities.Cap.TheVariants.{Empty, Untyped, Endpoint, Notification, CNode, Frame, PageTable, Tcb, RootTable, InterruptControl, InterruptHandler}
 use Rattle.model.specs.declared.entries.InterruptEntry.{InterruptEntry}

@@ -5,8 +5,8 @@ use Rattle.std.specs.Option.{option_map_or}
 use Rattle.std.proofs.lemmas.Option.{slice_get_within}
 use Rattle.format_laws.specs.Fitting.{IsFitting}
 use Rattle.format_laws.proofs.Laws.{is-fitting}
-use Rattle.boot_laws.specs.Loading.{all_loaded, loaded}
-use Rattle.boot_laws.proofs.Laws.{AreFormed, IsWithin, ReadsBoot, are-formed, counts-are, described-sound, entry, loaded-end, reads-boot, reads-cspace, reads-listed}
+use Rattle.soundness.specs.boot_laws.Loading.{all_loaded, loaded}
+use Rattle.soundness.proofs.Laws.{AreFormed, IsWithin, ReadsBoot, are-formed, counts-are, described-sound, entry, loaded-end, reads-boot, reads-cspace, reads-listed}
 use Rattle.model.specs.declared.capabilities.Cap.{Cap}
 use Rattle.model.specs.declared.capabilities.Cap.TheVariants.{Empty}
 use Rattle.model.specs.declared.entries.CapabilityEntry.{CapabilityEntry}

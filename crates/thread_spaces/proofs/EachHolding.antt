@@ -5,7 +5,7 @@ use Rattle.std.specs.Option.{option_map_or, option_or}
 use Rattle.std.specs.List.{range_with_len}
 use Rattle.std.proofs.lemmas.Bool.Decides.{eqb_tells}
 use Rattle.std.proofs.lemmas.Option.{none-some, same_Some}
-use Rattle.boot_laws.proofs.Laws.{held-append, held-here, held-later, numbered-back}
+use Rattle.soundness.proofs.Laws.{held-append, held-here, held-later, numbered-back}
 use Rattle.model.specs.declared.capabilities.Cap.TheVariants.{InterruptControl}
 use Rattle.model.specs.declared.entries.CapabilityEntry.{CapabilityEntry}
 use Rattle.model.specs.declared.entries.FrameEntry.{FrameEntry}

@@ -6,7 +6,7 @@ use Rattle.std.proofs.lemmas.Bool.{cases_lt, eq-eqb, leb-true}
 use Rattle.std.proofs.lemmas.Option.{none-some, same_Some}
 use Rattle.format_laws.specs.Fitting.{IsFitting}
 use Rattle.format_laws.proofs.Laws.{is-fitting}
-use Rattle.boot_laws.proofs.Laws.{AreFormed, are-formed, has-type}
+use Rattle.soundness.proofs.Laws.{AreFormed, are-formed, has-type}
 use Rattle.model.specs.Acceptance.Accepted.{IsWellFormed}
 use Rattle.model.specs.Acceptance.ThreadRules.{is_member, reached}
 use Rattle.model.specs.Acceptance.WellFormed.{radix_of}

@@ -17,7 +17,7 @@ use Rattle.model.specs.Images.Places.{offset_of, type_at}
 use Rattle.model.specs.Kernel.Retype.{NewObject}
 use Rattle.typestate.specs.Spaces.{is_among, is_inside}
 use Rattle.thread_spaces.proofs.ListedCapabilities.{original-plain}
-use Rattle.boot_laws.proofs.Laws.{cnode-type, first_of_type}
+use Rattle.soundness.proofs.Laws.{cnode-type, first_of_type}
 
 -- ---- what is found stays
 

@@ -6,8 +6,8 @@ use Rattle.std.proofs.lemmas.Bool.{eq-eqb}
 use Rattle.std.proofs.lemmas.Option.{slice_get_within}
 use Rattle.format_laws.specs.Fitting.{IsFitting}
 use Rattle.format_laws.proofs.Laws.{is-fitting}
-use Rattle.boot_laws.specs.Loading.{all_loaded}
-use Rattle.boot_laws.proofs.Laws.{ReadsBoot, are-formed, boot-slots-suffice, listed-behind, thread-behind}
+use Rattle.soundness.specs.boot_laws.Loading.{all_loaded}
+use Rattle.soundness.proofs.Laws.{ReadsBoot, are-formed, boot-slots-suffice, listed-behind, thread-behind}
 use Rattle.model.specs.declared.capabilities.Cap.TheVariants.{Empty}
 use Rattle.model.specs.declared.slot_entries.Entry.{Entry}
 use Rattle.model.specs.declared.entries.InterruptEntry.{InterruptEntry}

@@ -7,7 +7,7 @@ use Rattle.std.proofs.lemmas.Nat.{and_le_r}
 use Rattle.std.proofs.lemmas.Option.{get_or_from_slice_get}
 use Rattle.format_laws.specs.Fitting.{IsFitting}
 use Rattle.format_laws.proofs.Laws.{is-fitting}
-use Rattle.boot_laws.proofs.Laws.{AreFormed, are-formed, first_of_type, mapped_by}
+use Rattle.soundness.proofs.Laws.{AreFormed, are-formed, first_of_type, mapped_by}
 use Rattle.model.specs.declared.capabilities.Cap.{Cap}
 use Rattle.model.specs.declared.capabilities.Cap.TheVariants.{Empty, InterruptHandler}
 use Rattle.model.specs.declared.entries.CapabilityEntry.{CapabilityEntry}

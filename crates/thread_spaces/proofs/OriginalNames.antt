@@ -8,8 +8,8 @@ use Rattle.std.proofs.lemmas.Bool.Decides.{eqb_tells}
 use Rattle.std.proofs.lemmas.Option.{none-some}
 use Rattle.format_laws.specs.Fitting.{IsFitting, ThreadFits}
 use Rattle.format_laws.proofs.Laws.{is-fitting}
-use Rattle.boot_laws.specs.Loading.{all_loaded, is_moved, original_so_far}
-use Rattle.boot_laws.proofs.Laws.{AreFormed, ReadsBoot, ThreadKept, are-formed, boot-slots-suffice, first_of_type, mapped_by, original-untyped, thread-type}
+use Rattle.soundness.specs.boot_laws.Loading.{all_loaded, is_moved, original_so_far}
+use Rattle.soundness.proofs.Laws.{AreFormed, ReadsBoot, ThreadKept, are-formed, boot-slots-suffice, first_of_type, mapped_by, original-untyped, thread-type}
 use Rattle.model.specs.declared.capabilities.Cap.{Cap}
 use Rattle.model.specs.declared.capabilities.Cap.TheVariants.{RootTable}
 use Rattle.model.specs.declared.entries.TableEntry.{TableEntry}

@@ -7,7 +7,7 @@ use Rattle.std.proofs.Math.Pow.{pow_mono}
 use Rattle.std.proofs.lemmas.Bool.{eq-eqb}
 use Rattle.std.proofs.lemmas.Nat.{pow-add}
 use Rattle.format_laws.specs.Fitting.{IsFitting}
-use Rattle.boot_laws.proofs.Laws.{AreFormed, slot-behind-boot, slot-in-memory, slot-of-one}
+use Rattle.soundness.proofs.Laws.{AreFormed, slot-behind-boot, slot-in-memory, slot-of-one}
 use Rattle.model.specs.Acceptance.NotedKernel.{key_of, slots_of_cnode, stands_in}
 use Rattle.model.specs.Acceptance.NotedStates.{SlotKey}
 use Rattle.model.specs.Acceptance.ThreadRules.{is_member, reached}

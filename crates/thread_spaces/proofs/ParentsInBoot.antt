@@ -7,7 +7,7 @@ use Rattle.std.proofs.lemmas.List.{get_or_past}
 use Rattle.std.proofs.lemmas.Nat.{pow_pos}
 use Rattle.std.proofs.lemmas.Option.{none-some, same_Some, slice_get_within}
 use Rattle.format_laws.specs.Fitting.{CapabilityFits, FrameFits, InterruptFits, IsFitting, ObjectFits, ThreadFits}
-use Rattle.boot_laws.proofs.Laws.{AreFormed, boot-slots-suffice, object-at}
+use Rattle.soundness.proofs.Laws.{AreFormed, boot-slots-suffice, object-at}
 use Rattle.model.specs.declared.entries.CapabilityEntry.{CapabilityEntry}
 use Rattle.model.specs.declared.entries.ObjectEntry.{ObjectEntry}
 use Rattle.model.specs.declared.slot_entries.Entry.{Entry}

@@ -8,7 +8,7 @@ use Rattle.std.proofs.lemmas.List.Sums.{fold-append}
 use Rattle.std.proofs.Math.Pow.{pow_mono}
 use Rattle.std.proofs.lemmas.Option.{get_or_from_slice_get, slice_get_within}
 use Rattle.format_laws.proofs.Laws.{is-fitting}
-use Rattle.boot_laws.proofs.Laws.{are-formed, object-stands, used_with}
+use Rattle.soundness.proofs.Laws.{are-formed, object-stands, used_with}
 use Rattle.model.specs.Acceptance.Accepted.{IsWellFormed}
 use Rattle.model.specs.declared.entries.ObjectEntry.{ObjectEntry}
 use Rattle.model.specs.declared.entries.UntypedEntry.{UntypedEntry}

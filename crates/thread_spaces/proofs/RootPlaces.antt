@@ -1,7 +1,7 @@
 -- The root table of a thread of a well-formed image stands at a page.
 use Rattle.std.proofs.Common.{ℕ, ◌≡◌, true, false, subst}
 use Rattle.std.proofs.lemmas.Bool.{eqb-true}
-use Rattle.boot_laws.proofs.Laws.{described-sound}
+use Rattle.soundness.proofs.Laws.{described-sound}
 use Rattle.model.specs.declared.capabilities.Cap.{Cap}
 use Rattle.model.specs.declared.capabilities.Cap.TheVariants.{Empty, Untyped, Endpoint, Notification, CNode, Frame, PageTable, Tcb, RootTable, InterruptControl, InterruptHandler}
 use Rattle.model.specs.Acceptance.Accepted.{IsWellFormed}

@@ -3,7 +3,7 @@ use Rattle.std.proofs.Common.{ℕ, ◌≡◌, ◌∙◌, ◌<◌, true, false, O
 use Rattle.std.specs.Prelude.{is_some, slice_index}
 use Rattle.format_laws.specs.Fitting.{IsFitting, ThreadFits}
 use Rattle.format_laws.proofs.Laws.{is-fitting}
-use Rattle.boot_laws.proofs.Laws.{are-formed}
+use Rattle.soundness.proofs.Laws.{are-formed}
 use Rattle.model.specs.declared.capabilities.Cap.{Cap}
 use Rattle.model.specs.declared.capabilities.Cap.TheVariants.{CNode}
 use Rattle.model.specs.declared.entries.ObjectEntry.{ObjectEntry}

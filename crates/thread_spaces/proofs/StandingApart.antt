@@ -1,7 +1,7 @@
 -- The CNodes of a thread of a well-formed image stand apart from one another and from all other slots.
 use Rattle.std.proofs.Common.{◌≡◌, true, arith}
 use Rattle.format_laws.proofs.Laws.{is-fitting}
-use Rattle.boot_laws.proofs.Laws.{are-formed}
+use Rattle.soundness.proofs.Laws.{are-formed}
 use Rattle.model.specs.Acceptance.Accepted.{IsWellFormed}
 use Rattle.model.specs.Images.Image.{Image, Thread, whole_image}
 use Rattle.thread_spaces.specs.Given.{IsListed}

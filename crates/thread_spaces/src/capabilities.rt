@@ -10,8 +10,7 @@ ghost use Rattle.model.specs.Kernel.Retype.{first_capability, type_of};
 ghost use Rattle.model.specs.declared.capabilities.Cap.TheVariants.{Empty};
 ghost use Rattle.thread_spaces.specs.Given.{AreOffsets, IsEntry};
 
-use image_entries::{header_of, object_of};
-use image_reading::ImageRef;
+use image_reading::{ImageRef, header_of, object_of};
 use model::{Cap, CapabilityEntry, ObjectEntry, Rights};
 use typestate::{NotedSlot, SlotKey};
 

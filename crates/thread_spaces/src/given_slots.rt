@@ -8,8 +8,7 @@ ghost use Rattle.thread_spaces.specs.Given.{AreOffsets, IsEntry};
 ghost use Rattle.typestate.specs.Orders.{Rise};
 
 use crate::capabilities::listed_slot;
-use image_entries::{capability_of, header_of};
-use image_reading::{ImageRef, ThreadRef};
+use image_reading::{ImageRef, ThreadRef, capability_of, header_of};
 use model::CapabilityEntry;
 use std::alloc::{AllocError, Global};
 use typestate::NotedSlot;

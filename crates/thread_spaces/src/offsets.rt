@@ -6,8 +6,7 @@ ghost use Rattle.model.specs.Capabilities.Placement.{align, place_of_object};
 ghost use Rattle.model.specs.Images.Places.{bits_of, object_at, offset_of, used_before};
 ghost use Rattle.thread_spaces.specs.Given.{AreOffsets};
 
-use image_entries::{header_of, object_of, untyped_of};
-use image_reading::ImageRef;
+use image_reading::{ImageRef, header_of, object_of, untyped_of};
 use std::alloc::{AllocError, Global};
 use wellformed::{bits_of, power};
 

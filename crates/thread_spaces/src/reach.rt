@@ -6,8 +6,7 @@ ghost use Rattle.model.specs.declared.refusals.Refusal.TheVariants.{OutOfMemory}
 ghost use Rattle.model.specs.Acceptance.ThreadRules.{is_cnode_source, reached, with_named};
 ghost use Rattle.thread_spaces.specs.Reaching.{AwaitsListed, AwaitsMore, Begins, Follows, IsWithin, awaits, is_among};
 
-use image_entries::{capability_of, header_of, listed_in};
-use image_reading::{ImageRef, ThreadRef};
+use image_reading::{ImageRef, ThreadRef, capability_of, header_of, listed_in};
 use model::Refusal;
 use std::alloc::Global;
 use std::collections::btree_set::BTreeSet;

@@ -2,10 +2,12 @@
 
 use crate::certification::{NotCertified, certified};
 use crate::messages::line_of;
-use console::{DONE, REFUSED, WordsFault, failed, refused, words, wrong_words};
+use console::{
+    DONE, FileFault, REFUSED, WordsFault, failed, read_bytes, read_text, refused, words,
+    write_bytes, wrong_words,
+};
 use drawing::{DrawingFault, chart, draw};
 use explaining::{ExplainFault, Explained, explain};
-use files::{FileFault, read_bytes, read_text, write_bytes};
 use progress::{Progress, Told};
 use sinks::{Sink, SinkFault, put_all};
 use std::alloc::{AllocError, Global};

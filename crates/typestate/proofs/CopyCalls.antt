@@ -1,7 +1,7 @@
 -- Copy and Mint: an empty destination, a full source, and a child of it.
 use Rattle.std.proofs.Common.{ℕ, ◌≡◌, ◌∙◌, Bool, true, false, not, nat_lt, Some, Result, Ok, Err, List, refl, sym, ap}
 use Rattle.std.specs.Prelude.{IfOk}
-use Rattle.cap_copies.specs.Copies.{copy_of, minted_copy_of}
+use Rattle.derivation.specs.cap_copies.Copies.{copy_of, minted_copy_of}
 use Rattle.model.specs.Acceptance.CallRules.{may_travel, names_such}
 use Rattle.model.specs.Acceptance.NotedKernel.{noted_after, noted_kernel, noted_root, noted_slots, slot_of_key}
 use Rattle.model.specs.Acceptance.NotedStates.{NotedSlot, with_noted}

@@ -19,8 +19,8 @@ ghost use Rattle.typestate.specs.Spaces.{AreOwn, StandsApart};
 
 use crate::roots::OwnRoot;
 use crate::{NotedSlot, NotedSlots, OwnSlots, Removed, SlotChange, SlotKey, ThreadSlots};
-use cap_copies::{copy_of, minted_copy_of};
 use cspace::argument_slot;
+use derivation::{copy_of, minted_copy_of};
 use model::{CNodeCall, Cap, KError, Point, Refusal, SlotName};
 
 /// An empty slot, and a full one with what it holds.

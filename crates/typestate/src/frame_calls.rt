@@ -21,7 +21,7 @@ ghost use Rattle.typestate.specs.declared.slot_changes.SlotChange.TheVariants.{P
 use crate::held_slots::HeldSlot;
 use crate::noted::{left, numbered};
 use crate::{NotedSlot, NotedSlots, SlotChange, Space, ThreadSlots};
-use image_entries::{lists_page, lists_region};
+use image_reading::{lists_page, lists_region};
 use model::{Cap, FrameCall, FrameMapping, KError, Point, Refusal, Rights, SlotName};
 use vspace::{mapping_rights, may_be_mapped, page_named};
 

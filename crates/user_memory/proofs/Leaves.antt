@@ -4,7 +4,7 @@ use Rattle.std.proofs.Math.Logic.{∥∥₁_elim, ∥∥₁_map}
 use Rattle.std.specs.Coded.{coded_option, coded_ℕ}
 use base.Stored.{Coded-set}
 use Rattle.std.proofs.lemmas.Bool.Decides.{nat_tests}
-use Rattle.cached_slots.specs.Mappings.{IsMapped, LeavesAgree}
+use Rattle.packed_slots.specs.cached_slots.Mappings.{IsMapped, LeavesAgree}
 use Rattle.model.specs.Capabilities.CapabilityWords.{AreMappingRights, IsCapability}
 use Rattle.model.specs.Capabilities.Slots.{Slots}
 use Rattle.model.specs.Kernel.State.{State}
@@ -12,11 +12,11 @@ use Rattle.model.specs.Machine.Sv32.{◌>>=◌, entry_at, is_leaf, is_valid, lea
 use Rattle.model.specs.Shared.Bytes.{word_at}
 use Rattle.model.specs.declared.capabilities.Cap.{Cap}
 use Rattle.model.specs.declared.capabilities.Cap.TheVariants.{Frame, RootTable}
-use Rattle.object_lifetimes.specs.Kernels.{Parts, state_in}
+use Rattle.cnode_ops.specs.object_lifetimes.Kernels.{Parts, state_in}
 use Rattle.objects.specs.Tables.{state_of}
 use Rattle.user_memory.specs.Views.{IsUsable}
 use Rattle.vspace.specs.Tables.{Holds, MapsFrame, MapsTable, TablesAgree}
-use Rattle.cached_slots.specs.KeptLeaves.{leaf_of}
+use Rattle.packed_slots.specs.cached_slots.KeptLeaves.{leaf_of}
 
 -- ---- the entries that the kernel writes
 

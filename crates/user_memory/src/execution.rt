@@ -11,15 +11,15 @@ ghost use Rattle.model.specs.Machine.Instructions.{IsInstr};
 ghost use Rattle.model.specs.Machine.ProgramMemory.{loaded};
 ghost use Rattle.model.specs.declared.instructions.Access.TheVariants.{Fetch};
 ghost use Rattle.model.specs.declared.instructions.AccessSize.TheVariants.{Word};
-ghost use Rattle.object_lifetimes.specs.Kernels.{state_in};
+ghost use Rattle.cnode_ops.specs.object_lifetimes.Kernels.{state_in};
 
 use crate::keeping::{keep_page, keep_reached};
 use crate::roots::root_of;
 use crate::spaces::Space;
 use crate::view::UserMemory;
-use cached_slots::WalkStore;
+use cnode_ops::Kernel;
 use model::{Access, Exec, Instr, MemoryFault};
-use object_lifetimes::Kernel;
+use packed_slots::WalkStore;
 use rv32_exec::{Regs, exec};
 
 /// The word that a thread runs next, at its program counter; the first byte of it that the thread may not

@@ -4,10 +4,10 @@ ghost use Rattle.std.specs.Prelude.{◌≡◌, ◌+◌, ◌^◌, ◌≤◌, ◌&
 ghost use Rattle.model.specs.Capabilities.Slots.{OutsideSlots};
 ghost use Rattle.model.specs.Kernel.AddressSpaces.{page_size};
 ghost use Rattle.model.specs.Kernel.Setup.{fill, is_frame_object};
-ghost use Rattle.object_lifetimes.specs.Kernels.{state_in};
+ghost use Rattle.cnode_ops.specs.object_lifetimes.Kernels.{state_in};
 ghost use Rattle.user_memory.specs.Fills.{AreWritten};
 
-use object_lifetimes::Kernel;
+use cnode_ops::Kernel;
 use slots::SlotStore;
 
 /// How many bytes a frame has.

@@ -2,11 +2,11 @@
 
 ghost use Rattle.std.specs.Prelude.{◌≡◌};
 ghost use Rattle.std.specs.Option.{ForSome};
-ghost use Rattle.cached_slots.specs.Mappings.{LeavesAgree};
+ghost use Rattle.packed_slots.specs.cached_slots.Mappings.{LeavesAgree};
 ghost use Rattle.model.specs.Machine.Instructions.{IsInstr, IsRegister};
 
-use cached_slots::WalkStore;
 use model::{Instr, Register};
+use packed_slots::WalkStore;
 use rv32_exec::Regs;
 
 /// Keeps the leaf of the page of an address under a root table, if there is one.

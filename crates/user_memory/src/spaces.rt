@@ -3,12 +3,12 @@
 ghost use Rattle.std.specs.Prelude.{◌≡◌, ◌%◌};
 ghost use Rattle.model.specs.declared.instructions.AccessSize.TheVariants.{Word};
 ghost use Rattle.model.specs.Machine.ProgramMemory.{IsNamed, loaded, place_at};
-ghost use Rattle.object_lifetimes.specs.Kernels.{state_in};
+ghost use Rattle.cnode_ops.specs.object_lifetimes.Kernels.{state_in};
 ghost use Rattle.user_memory.specs.Views.{IsUsable, content_under};
 
-use cached_slots::WalkStore;
+use cnode_ops::Kernel;
 use model::{Access, MemoryFault};
-use object_lifetimes::Kernel;
+use packed_slots::WalkStore;
 
 /// The address space under a root table. Without one no address has a place.
 #[derive(Drop)]

@@ -1,13 +1,13 @@
 //! Memory as the instructions of a thread see it.
 
 ghost use Rattle.std.specs.Prelude.{◌≡◌};
-ghost use Rattle.object_lifetimes.specs.Kernels.{state_in};
+ghost use Rattle.cnode_ops.specs.object_lifetimes.Kernels.{state_in};
 ghost use Rattle.user_memory.specs.Views.{Beside, IsUsable, beside_of, content_under};
 
 use crate::spaces::Space;
-use cached_slots::WalkStore;
+use cnode_ops::Kernel;
 use model::{Access, AccessSize, MemoryFault};
-use object_lifetimes::Kernel;
+use packed_slots::WalkStore;
 use rv32_exec::View;
 
 /// Memory under a root table, or none, with the kernel that its bytes stand in.

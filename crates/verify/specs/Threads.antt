@@ -1,6 +1,6 @@
 -- What is true of the threads of an accepted image.
 use Rattle.std.specs.Prelude.{◌≡◌, ◌++◌, false, List, [], ◌∷◌, Some, Contains}
-use Rattle.thread_laws.specs.facts.Standing.{AllStand}
+use Rattle.headline.specs.facts.Standing.{AllStand}
 use Rattle.model.specs.Acceptance.ThreadInvariants.{ThreadInvariant, tcb_of}
 use Rattle.model.specs.Images.Described.{Numbered, described, numbered_threads}
 use Rattle.model.specs.Images.Image.{Image}
@@ -11,8 +11,8 @@ use Rattle.model.specs.Kernel.Waits.{is_fault}
 use Rattle.model.specs.declared.events.Event.{Event}
 use Rattle.model.specs.declared.events.Event.TheVariants.{Step}
 use Rattle.model.specs.declared.labels.Label.{Label}
-use Rattle.thread_laws.specs.moves.Steps.{GoesWell}
-use Rattle.thread_laws.specs.steps.Points.{ReachesNoCall}
+use Rattle.headline.specs.moves.Steps.{GoesWell}
+use Rattle.headline.specs.steps.Points.{ReachesNoCall}
 
 -- behind events a thread stands as its certificate says
 abbrev pub StandsBehind : Image → Numbered → List Event → Type 0

@@ -9,14 +9,14 @@ ghost use Rattle.model.specs.declared.refusals.Refusal.TheVariants.{OutOfMemory}
 ghost use Rattle.verify.specs.Threads.{AllStandAtFirst, EventsGoWell, PlainStepsAreKept, ThreadsStart};
 
 use headline::events_keep_all_standing;
+use headline::kept::all_stand_at_the_start;
+use headline::starts::threads_start_as_certified;
+use headline::steps::plain_steps_keep_threads;
 use image_reading::{ImageRef, read};
 use model::Refusal;
 use program_rules::check_programs;
 use std::alloc::Global;
 use std::marker::Model;
-use thread_laws::kept::all_stand_at_the_start;
-use thread_laws::starts::threads_start_as_certified;
-use thread_laws::steps::plain_steps_keep_threads;
 use wellformed::well_formed;
 
 /// An image that the verifier accepted, lent from the bytes that it verified.

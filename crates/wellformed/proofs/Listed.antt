@@ -7,8 +7,8 @@ use Rattle.std.proofs.lemmas.List.Folds.{list_any_more}
 use Rattle.std.proofs.lemmas.Option.{get_or_from_slice_get, slice_get_within}
 use Rattle.model.specs.declared.entries.CapabilityEntry.{CapabilityEntry}
 use Rattle.model.specs.Acceptance.ThreadRules.{is_member}
-use Rattle.image_entries.specs.Keys.{AreListedIn}
-use Rattle.image_entries.proofs.Laws.{any-here, any-no}
+use Rattle.image_reading.specs.image_entries.Keys.{AreListedIn}
+use Rattle.image_reading.proofs.Laws.{any-here, any-no}
 use Rattle.wellformed.proofs.RulesLeft.{rest-next}
 
 -- ---- whether one of those that are left passes

@@ -11,8 +11,8 @@ use Rattle.std.proofs.lemmas.Option.{none-some, same_Some, slice_get_within}
 use Rattle.model.specs.declared.entries.CapabilityEntry.{CapabilityEntry}
 use Rattle.model.specs.Acceptance.ThreadRules.{is_cnode_source, is_member, reached, reached_within, with_named}
 use Rattle.model.specs.Images.Image.{Image, Thread}
-use Rattle.image_entries.specs.Keys.{AreListedIn}
-use Rattle.image_entries.proofs.Laws.{any-here, key-at}
+use Rattle.image_reading.specs.image_entries.Keys.{AreListedIn}
+use Rattle.image_reading.proofs.Laws.{any-here, key-at}
 use Rattle.wellformed.specs.Answering.{with_listed, with_number}
 use Rattle.wellformed.proofs.Named.{member-with, same-number}
 use Rattle.wellformed.proofs.RulesLeft.{rest-next}

@@ -12,8 +12,7 @@ use crate::number_sets::NumberSet;
 use crate::object_types::{
     has_slot, is_notification, is_page_table, is_thread, is_untyped, may_have, object_at, source_at,
 };
-use image_entries::header_of;
-use image_reading::ImageRef;
+use image_reading::{ImageRef, header_of};
 use model::{CapabilityEntry, InterruptEntry, Refusal};
 
 /// Whether capability `item` does not fit. Threads and page tables are no sources, and untyped memory is one once.

@@ -11,8 +11,7 @@ ghost use Rattle.wellformed.specs.Answering.{Answers, AreNamed, AreTwice, with_n
 
 use crate::number_sets::NumberSet;
 use crate::object_types::{is_frame, is_page_table, is_root_table, object_at};
-use image_entries::{header_of, lists_region};
-use image_reading::{ContentRef, ImageRef};
+use image_reading::{ContentRef, ImageRef, header_of, lists_region};
 use model::{FrameEntry, Refusal, TableEntry};
 use std::alloc::Global;
 

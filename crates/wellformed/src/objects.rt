@@ -13,8 +13,7 @@ ghost use Rattle.format_laws.specs.Fitting.{HeaderFits, ObjectFits, UntypedFits}
 ghost use Rattle.wellformed.specs.Answering.{Answers};
 
 use crate::object_types::{bits_of, power};
-use image_entries::{header_of, object_of, untyped_of};
-use image_reading::ImageRef;
+use image_reading::{ImageRef, header_of, object_of, untyped_of};
 use model::{ImageHeader, ObjectEntry, Refusal, UntypedEntry};
 use untyped::place;
 

@@ -7,8 +7,7 @@ ghost use Rattle.wellformed.specs.Answering.{with_listed, with_number};
 
 use crate::number_sets::NumberSet;
 use crate::object_types::is_cnode_source;
-use image_entries::{capability_of, header_of, listed_in};
-use image_reading::{ImageRef, ThreadRef};
+use image_reading::{ImageRef, ThreadRef, capability_of, header_of, listed_in};
 use model::{CapabilityEntry, Refusal};
 use std::alloc::Global;
 

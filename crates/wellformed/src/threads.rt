@@ -15,8 +15,7 @@ use crate::mappings::{ADDRESS_LIMIT, PAGE, executes};
 use crate::number_sets::NumberSet;
 use crate::object_types::{is_guard, is_root_table, is_thread, object_at, radix_of, source_at};
 use crate::reach::reached;
-use image_entries::{capability_of, frame_at, header_of, listed_in};
-use image_reading::{ImageRef, ThreadRef};
+use image_reading::{ImageRef, ThreadRef, capability_of, frame_at, header_of, listed_in};
 use model::{CapabilityEntry, Refusal, ThreadHeader};
 use std::alloc::Global;
 

@@ -6,7 +6,7 @@ use Rattle.model.specs.Kernel.Outcomes.{Gives}
 use Rattle.model.specs.Kernel.State.{State}
 use Rattle.model.specs.declared.capabilities.Cap.{Cap}
 use Rattle.model.specs.declared.errors.KError.{KError}
-use Rattle.cap_copies.specs.Copies.{copy_of}
+use Rattle.derivation.specs.cap_copies.Copies.{copy_of}
 use Rattle.cnode_ops.specs.Nodes.{HasOpenSlots}
 use Rattle.cnode_ops.proofs.Answered.{child-bytes, child-gives, child-nodes, copy-gives, copy-unnamed}
 use Rattle.cnode_ops.proofs.Kept.{node-made}

@@ -5,7 +5,7 @@ use Rattle.model.proofs.Ancestors.{full-open}
 use Rattle.model.specs.Capabilities.Slots.{IsFull, SameOutside, Slots, is_empty, parent_at, recapped, relocated}
 use Rattle.model.specs.Kernel.State.{with_slots}
 use Rattle.model.specs.declared.capabilities.Cap.{Cap}
-use Rattle.cap_copies.specs.Copies.{mutation_of}
+use Rattle.derivation.specs.cap_copies.Copies.{mutation_of}
 use Rattle.cnode_ops.specs.Nodes.{CNodesAreOpen, HasOpenSlots}
 use Rattle.cnode_ops.proofs.Kept.{node-made, nodes-mutated}
 use Rattle.cnode_ops.proofs.Mutated.{full-moved, mutate-gives, mutate-unnamed, mutated-valid, outside-moved}

@@ -3,7 +3,7 @@ use Rattle.headline.proofs.RunningLabels.{runs-within}
 use Rattle.headline.proofs.SpentLabels.{keeps-budget}
 use Rattle.headline.proofs.budget_laws.standing_threads_keep_their_budgets.Goals as goal
 use Rattle.model.specs.Acceptance.ThreadInvariants.{tcb_of}
-use Rattle.thread_laws.proofs.Laws.{IsGiven, given}
+use Rattle.headline.proofs.Laws.{IsGiven, given}
 
 pub returns : goal.returns
 returns c = λ bytes image events accepted stand t listed.

@@ -6,7 +6,7 @@ use Rattle.objects.proofs.Laws.{objects-then}
 use Rattle.model.specs.Kernel.Messages.{waits_to_receive}
 use Rattle.model.specs.Kernel.State.{State, endpoint_at}
 use Rattle.objects.specs.Tables.{state_of}
-use Rattle.thread_records.specs.Threads.{sender_of}
+use Rattle.objects.specs.thread_records.Threads.{sender_of}
 
 pub returns-in-Some-clause-state : goal.returns-in-Some-clause-state
 returns-in-Some-clause-state g c =

@@ -6,7 +6,7 @@ use Rattle.model.specs.Kernel.Messages.{deliver, received}
 use Rattle.model.specs.Kernel.Scheduling.{wake}
 use Rattle.model.specs.Kernel.State.{State}
 use Rattle.objects.specs.Tables.{state_of}
-use Rattle.thread_records.specs.Threads.{sender_of, sent_of}
+use Rattle.objects.specs.thread_records.Threads.{sender_of, sent_of}
 
 pub returns-clause-state : goal.returns-clause-state
 returns-clause-state g c =

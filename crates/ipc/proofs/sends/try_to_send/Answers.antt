@@ -5,7 +5,7 @@ use Rattle.ipc.proofs.Taken.{calls-then, tried-to}
 use Rattle.ipc.proofs.sends.try_to_send.Goals as goal
 use Rattle.objects.proofs.Laws.{objects-then}
 use Rattle.objects.specs.Tables.{state_of}
-use Rattle.thread_records.specs.Threads.{sender_of}
+use Rattle.objects.specs.thread_records.Threads.{sender_of}
 
 pub returns-in-Some-clause-state : goal.returns-in-Some-clause-state
 returns-in-Some-clause-state g c =

@@ -3,12 +3,12 @@ use Rattle.std.proofs.Common.{◌≡◌, ◌∙◌, ◌<◌, Err, Ok, Some, ap, 
 use Rattle.std.proofs.lemmas.Result.{err_from_is_err_and}
 use Rattle.irq.proofs.Binding.{bind-kept, bind-left, bind-refused, bind-whole, slot-empty, source-full, source-room}
 use Rattle.irq.proofs.handlers.bind.Goals as goal
-use Rattle.object_lifetimes.proofs.Laws.{of-some}
+use Rattle.cnode_ops.proofs.Laws.{of-some}
 use Rattle.model.specs.Capabilities.Slots.{IsFull, depth_of, inserted}
 use Rattle.model.specs.Kernel.InterruptCalls.{bind}
 use Rattle.model.specs.Kernel.Soundness.{IsSound}
 use Rattle.model.specs.declared.capabilities.Cap.{Cap}
-use Rattle.object_lifetimes.specs.Kernels.{state_in}
+use Rattle.cnode_ops.specs.object_lifetimes.Kernels.{state_in}
 use Rattle.objects.specs.Tables.{state_of}
 use Rattle.soundness.specs.Calls.{IsRoot}
 

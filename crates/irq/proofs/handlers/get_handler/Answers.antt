@@ -4,7 +4,7 @@ use Rattle.std.proofs.lemmas.Result.{err_from_is_err_and}
 use Rattle.model.specs.Capabilities.Slots.{capability_at}
 use Rattle.model.specs.Kernel.InterruptCalls.{get_handler}
 use Rattle.model.specs.declared.capabilities.Cap.TheVariants.{InterruptControl}
-use Rattle.object_lifetimes.specs.Kernels.{state_in}
+use Rattle.cnode_ops.specs.object_lifetimes.Kernels.{state_in}
 use Rattle.objects.specs.Tables.{state_of}
 use Rattle.soundness.specs.Calls.{IsRoot}
 use Rattle.irq.proofs.Handling.{IsNewPlace, handler-left, handler-refused, handler-whole, new-place}

@@ -4,8 +4,8 @@ use Rattle.irq.proofs.Bound.{still-there}
 use Rattle.irq.proofs.lines.ack.Goals as goal
 use Rattle.irq.specs.Signals.{as_signal}
 use Rattle.kernel_invariant.specs.Wholeness.{IsWhole}
-use Rattle.object_lifetimes.proofs.Laws.{kept, state_before}
-use Rattle.object_lifetimes.specs.Kernels.{state_in}
+use Rattle.cnode_ops.proofs.Laws.{kept, state_before}
+use Rattle.cnode_ops.specs.object_lifetimes.Kernels.{state_in}
 use Rattle.objects.proofs.Laws.{objects-then}
 use Rattle.objects.specs.Frames.{SameObjects}
 use Rattle.objects.specs.Tables.{state_of}

@@ -3,7 +3,7 @@ use Rattle.kernel_invariant.specs.Wholeness.{IsWhole}
 use Rattle.soundness.proofs.Laws.{tick-machine, tick-whole}
 use Rattle.std.proofs.Common.{subst, sym}
 use Rattle.kernel.proofs.events.pass_tick.Goals as goal
-use Rattle.object_lifetimes.proofs.Laws.{kept}
+use Rattle.cnode_ops.proofs.Laws.{kept}
 
 pub invariant_of-kernel : goal.invariant_of-kernel
 invariant_of-kernel g c =

@@ -3,7 +3,7 @@ use Rattle.kernel_invariant.specs.Wholeness.{IsWhole}
 use Rattle.soundness.proofs.Laws.{fault-machine, fault-whole}
 use Rattle.std.proofs.Common.{rules, subst, sym}
 use Rattle.kernel.proofs.failures.fail.Goals as goal
-use Rattle.object_lifetimes.proofs.Laws.{kept}
+use Rattle.cnode_ops.proofs.Laws.{kept}
 
 pub invariant_of-kernel : goal.invariant_of-kernel
 invariant_of-kernel g c =

@@ -3,7 +3,7 @@ use Rattle.std.proofs.Common.{◌+◌, ◌/◌, ◌∙◌, Some, option_map, sym
 use Rattle.kernel_machine.proofs.HeldSlots.{parent-held, slot-inside}
 use Rattle.kernel_machine.proofs.holders.look_at.Goals as goal
 use Rattle.kernel_machine.specs.Setups.{entry_of}
-use Rattle.object_lifetimes.specs.Kernels.{state_in}
+use Rattle.cnode_ops.specs.object_lifetimes.Kernels.{state_in}
 use Rattle.model.specs.Kernel.Soundness.{IsSound}
 
 pub returns-in_default-clause-held : goal.returns-in_default-clause-held

@@ -2,7 +2,7 @@
 use Rattle.std.proofs.Common.{ℕ, ◌≡◌, ◌∙◌, ◌≤◌, None, List, length, ap, subst}
 use Rattle.kernel_machine.proofs.Sizes.{none-behind}
 use Rattle.kernel_machine.proofs.looks.memory_size.Goals as goal
-use Rattle.object_lifetimes.specs.Kernels.{state_in}
+use Rattle.cnode_ops.specs.object_lifetimes.Kernels.{state_in}
 
 pub returns-clause-inside : goal.returns-clause-inside
 returns-clause-inside g c place behind =

@@ -2,7 +2,7 @@
 use Rattle.std.proofs.Common.{◌∙◌, ◌^◌, ℕ, Bool, Some, None, if◌then◌else◌, sym, ap, subst}
 use Rattle.kernel_machine.proofs.Roots.{put-empty, put-passed, put-refused, root-agrees, root-state}
 use Rattle.kernel_machine.proofs.puts.put.Goals as goal
-use Rattle.object_lifetimes.specs.Kernels.{state_in}
+use Rattle.cnode_ops.specs.object_lifetimes.Kernels.{state_in}
 use Rattle.model.specs.Capabilities.Slots.{Slots, inserted}
 use Rattle.model.specs.Kernel.Setup.{put_in_boot_slot}
 use Rattle.model.specs.Kernel.Soundness.{IsSound}

@@ -2,7 +2,7 @@
 use Rattle.std.proofs.Common.{◌∙◌, ◌+◌, ◌*◌, ◌^◌, ℕ, Bool, Some, None, if◌then◌else◌, sym, ap}
 use Rattle.kernel_machine.proofs.Untypeds.{may-tested, memory-few, untyped-none, untyped-put, untyped-valid}
 use Rattle.kernel_machine.proofs.puts.put_untyped.Goals as goal
-use Rattle.object_lifetimes.specs.Kernels.{state_in}
+use Rattle.cnode_ops.specs.object_lifetimes.Kernels.{state_in}
 use Rattle.model.specs.Kernel.Setup.{may_be_untyped}
 use Rattle.soundness.proofs.Laws.{put_untyped-whole}
 

@@ -1,7 +1,7 @@
 -- Links, record and who may reply are written.
 use Rattle.std.proofs.Common.{ap, refl}
 use Rattle.objects.proofs.Made.{thread-made}
-use Rattle.thread_records.specs.Threads.{thread_state}
+use Rattle.objects.specs.thread_records.Threads.{thread_state}
 use Rattle.objects.proofs.beginnings.begin_thread_bytes.Goals as goal
 
 pub returns-clause-bytes : goal.returns-clause-bytes

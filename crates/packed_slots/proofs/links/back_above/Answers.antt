@@ -2,7 +2,7 @@
 use Rattle.std.proofs.Common.{◌∙◌, ◌-◌, ◌+◌, ◌<◌, ◌≤◌, sym, ap, arith}
 use Rattle.packed_slots.specs.Words.{words_in}
 use Rattle.packed_slots.proofs.Steps.{back_step}
-use Rattle.preorder.specs.Chains.{back_above}
+use Rattle.slots.specs.preorder.Chains.{back_above}
 use Rattle.packed_slots.proofs.links.back_above.Goals as goal
 
 pub back-preserved : goal.back-preserved

@@ -1,7 +1,7 @@
 -- What is left to go back finds what all of it does.
 use Rattle.std.proofs.Common.{◌≡◌, ◌-◌, ◌≤◌}
 use Rattle.packed_slots.specs.Words.{words_in}
-use Rattle.preorder.specs.Chains.{back_above}
+use Rattle.slots.specs.preorder.Chains.{back_above}
 use Rattle.packed_slots.proofs.links.back_above.Given as goal
 
 abbrev pub invariant-back : goal.invariant-back

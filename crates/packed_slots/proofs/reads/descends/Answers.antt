@@ -4,7 +4,7 @@ use Rattle.std.proofs.lemmas.Bool.{lt-ltb, le-ltb}
 use Rattle.packed_slots.specs.Packing.{Packed, packing}
 use Rattle.packed_slots.specs.Words.{is_one, words_in}
 use Rattle.packed_slots.proofs.Reading.{descent-found, some-open}
-use Rattle.preorder.specs.Chains.{back_above}
+use Rattle.slots.specs.preorder.Chains.{back_above}
 use Rattle.packed_slots.proofs.reads.descends.Goals as goal
 
 pub returns-then-depth-root_depth : goal.returns-then-depth-root_depth

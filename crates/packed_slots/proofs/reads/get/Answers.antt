@@ -5,8 +5,8 @@ use Rattle.packed_slots.specs.Packing.{Packed, packed_rows, packing}
 use Rattle.packed_slots.specs.Words.{words_in}
 use Rattle.packed_slots.proofs.PackedFacts.{as-open}
 use Rattle.packed_slots.proofs.Reading.{parent-found, some-open}
-use Rattle.preorder.specs.Chains.{back_above}
-use Rattle.preorder.specs.Preorder.{parents_of}
+use Rattle.slots.specs.preorder.Chains.{back_above}
+use Rattle.slots.specs.preorder.Preorder.{parents_of}
 use Rattle.packed_slots.proofs.reads.get.Goals as goal
 
 pub returns-clause-held : goal.returns-clause-held

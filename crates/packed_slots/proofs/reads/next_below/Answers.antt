@@ -3,7 +3,7 @@ use Rattle.std.proofs.Common.{◌∙◌, sym, ap}
 use Rattle.packed_slots.specs.Packing.{Packed, packing}
 use Rattle.packed_slots.specs.Words.{words_in}
 use Rattle.packed_slots.proofs.Below.{below, below_none}
-use Rattle.preorder.specs.Chains.{if_deeper}
+use Rattle.slots.specs.preorder.Chains.{if_deeper}
 use Rattle.packed_slots.proofs.reads.next_below.Goals as goal
 
 pub returns-then-not-is_full : goal.returns-then-not-is_full

@@ -1,7 +1,7 @@
 -- A thread stands in no queue exactly where its links name none.
 use Rattle.std.proofs.Common.{ℕ, ◌≡◌, ◌∙◌, Option, Some, None, true, false, is_some, length, refl, sym, ap}
 use Rattle.model.specs.Shared.Lists.{times_in}
-use Rattle.links.proofs.Laws.{unowned}
+use Rattle.queues.proofs.links.Laws.{unowned}
 use Rattle.queues.specs.Queues.{waiting_in}
 use Rattle.queues.proofs.Standings.{queue-is}
 use Rattle.queues.proofs.waiting.is_queued.Goals as goal

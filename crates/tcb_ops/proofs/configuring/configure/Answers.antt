@@ -5,8 +5,8 @@ use Rattle.kernel_invariant.specs.Wholeness.{IsWhole}
 use Rattle.model.specs.Kernel.State.{State}
 use Rattle.model.specs.Kernel.ThreadCalls.{configure}
 use Rattle.model.specs.declared.capabilities.Cap.TheVariants.{Tcb}
-use Rattle.object_lifetimes.proofs.Laws.{state_before}
-use Rattle.object_lifetimes.specs.Kernels.{state_in}
+use Rattle.cnode_ops.proofs.Laws.{state_before}
+use Rattle.cnode_ops.specs.object_lifetimes.Kernels.{state_in}
 use Rattle.objects.specs.Tables.{state_of}
 use Rattle.soundness.proofs.Laws.{configure-whole}
 use Rattle.tcb_ops.proofs.Checks.{configure-passes, configure-refused, may-configure}

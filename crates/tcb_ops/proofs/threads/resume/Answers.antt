@@ -2,9 +2,9 @@
 use Rattle.std.proofs.Common.{◌∙◌, rules, subst, sym}
 use Rattle.kernel_invariant.specs.Wholeness.{IsWhole}
 use Rattle.model.specs.declared.capabilities.Cap.TheVariants.{Tcb}
-use Rattle.object_lifetimes.proofs.Laws.{kept}
+use Rattle.cnode_ops.proofs.Laws.{kept}
 use Rattle.vspace.specs.Tables.{Holds}
-use Rattle.object_lifetimes.specs.Kernels.{state_in}
+use Rattle.cnode_ops.specs.object_lifetimes.Kernels.{state_in}
 use Rattle.objects.proofs.Laws.{objects-then}
 use Rattle.objects.specs.Frames.{SameObjects}
 use Rattle.objects.specs.Tables.{state_of}

@@ -2,7 +2,7 @@
 use Rattle.std.proofs.Common.{arith, subst, sym}
 use Rattle.kernel_invariant.specs.Wholeness.{IsWhole}
 use Rattle.model.specs.declared.capabilities.Cap.TheVariants.{Tcb}
-use Rattle.object_lifetimes.proofs.Laws.{kept}
+use Rattle.cnode_ops.proofs.Laws.{kept}
 use Rattle.vspace.specs.Tables.{Holds}
 use Rattle.tcb_ops.proofs.Passed.{priority-keeps}
 use Rattle.tcb_ops.proofs.ThreadsNear.{held-inside, thread-there}

@@ -2,7 +2,7 @@
 use Rattle.std.proofs.Common.{arith, refl, rules, subst, sym}
 use Rattle.kernel_invariant.specs.Wholeness.{IsWhole}
 use Rattle.model.specs.declared.capabilities.Cap.TheVariants.{Tcb}
-use Rattle.object_lifetimes.proofs.Laws.{kept}
+use Rattle.cnode_ops.proofs.Laws.{kept}
 use Rattle.vspace.specs.Tables.{Holds}
 use Rattle.model.specs.Kernel.State.{State}
 use Rattle.objects.specs.Tables.{state_of}

@@ -1,7 +1,7 @@
 -- By the rules on threads.
 use Rattle.std.proofs.Common.{ℕ, ◌≡◌, ◌<◌, ◌≤◌, ◌+◌, ◌*◌, ◌^◌, false, nat_le, nat_lt, arith}
 use Rattle.std.proofs.lemmas.Bool.Decides.{nat_tests}
-use Rattle.boot_laws.proofs.Laws.{are-formed}
+use Rattle.soundness.proofs.Laws.{are-formed}
 use Rattle.thread_spaces.proofs.space_laws.programs_have_their_places.Goals as goal
 
 not-above : (a b : ℕ) → nat_lt b a ≡ false → a ≤ b

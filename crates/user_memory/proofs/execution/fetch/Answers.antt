@@ -4,7 +4,7 @@ use Rattle.model.specs.Kernel.AddressSpaces.{content_of}
 use Rattle.model.specs.Machine.ProgramMemory.{loaded}
 use Rattle.model.specs.declared.instructions.Access.TheVariants.{Fetch}
 use Rattle.model.specs.declared.instructions.AccessSize.TheVariants.{Word}
-use Rattle.object_lifetimes.specs.Kernels.{state_in}
+use Rattle.cnode_ops.specs.object_lifetimes.Kernels.{state_in}
 use Rattle.user_memory.proofs.Leaves.{kernel-leaves}
 use Rattle.user_memory.proofs.Running.{kept-parts, root-kernel, usable-kept, usable-kernel}
 use Rattle.user_memory.specs.Views.{content_under}

@@ -2,7 +2,7 @@
 use Rattle.std.proofs.Common.{rules, ◌≡◌, ◌∙◌, ap, subst, sym}
 use Rattle.model.specs.Kernel.AddressSpaces.{content_of, with_content}
 use Rattle.model.specs.Machine.Effects.{effect}
-use Rattle.object_lifetimes.specs.Kernels.{state_in}
+use Rattle.cnode_ops.specs.object_lifetimes.Kernels.{state_in}
 use Rattle.objects.specs.Standing.{Standing}
 use Rattle.user_memory.proofs.Leaves.{kernel-leaves}
 use Rattle.user_memory.proofs.Running.{in-the-end, kept-parts, root-kernel, state-left, usable-kept, usable-kernel}

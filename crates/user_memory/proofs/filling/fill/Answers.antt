@@ -3,7 +3,7 @@ use Rattle.std.proofs.Common.{◌≡◌, ◌∙◌, Some, true, ap, arith, lengt
 use Rattle.kernel_invariant.specs.Wholeness.{IsWhole}
 use Rattle.model.specs.Capabilities.Slots.{Slots}
 use Rattle.model.specs.Kernel.Setup.{fill}
-use Rattle.object_lifetimes.specs.Kernels.{state_in}
+use Rattle.cnode_ops.specs.object_lifetimes.Kernels.{state_in}
 use Rattle.objects.specs.Tables.{state_of}
 use Rattle.user_memory.proofs.Filled.{all-small, filled-whole}
 use Rattle.user_memory.proofs.FilledFrames.{fill-done, fill-most, fill-outside, fill-within, may_fill, not-filled}

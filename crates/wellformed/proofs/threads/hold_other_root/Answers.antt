@@ -1,7 +1,7 @@
 -- By one CNode more.
 use Rattle.std.proofs.Common.{◌==◌, ◌+◌, ◌&&◌, not, ◌∙◌, refl, sym, take}
 use Rattle.model.specs.Acceptance.WellFormed.{is_root_type, source_type}
-use Rattle.image_entries.proofs.Laws.{any-no}
+use Rattle.image_reading.proofs.Laws.{any-no}
 use Rattle.wellformed.proofs.Listed.{set-found, set-later, two-tests}
 use Rattle.wellformed.proofs.threads.hold_other_root.Goals as goal
 

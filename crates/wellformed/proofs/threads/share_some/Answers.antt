@@ -1,7 +1,7 @@
 -- By one number more.
 use Rattle.std.proofs.Common.{◌∙◌, sym}
 use Rattle.model.specs.Acceptance.ThreadRules.{is_member}
-use Rattle.image_entries.proofs.Laws.{any-here}
+use Rattle.image_reading.proofs.Laws.{any-here}
 use Rattle.wellformed.proofs.Named.{any-next}
 use Rattle.wellformed.proofs.threads.share_some.Goals as goal
 

@@ -11,7 +11,7 @@ use Rattle.objects.proofs.Writing.{thread-here}
 use Rattle.objects.specs.Contents.{is_thread_kind}
 use Rattle.objects.specs.Tables.{kind_in, state_of}
 use Rattle.objects.specs.Waiting.{StandsNowhere, changed_at, has_waiting, joined}
-use Rattle.thread_records.specs.Records as thread_words
+use Rattle.objects.specs.thread_records.Records as thread_words
 use Rattle.objects.specs.contracts.tables.Objects.{the_view}
 use Rattle.objects.proofs.tables.Objects.enqueue.Goals as goal
 

@@ -3,9 +3,9 @@ use Rattle.std.proofs.Common.{◌∙◌, sym}
 use Rattle.objects.proofs.OneThread.{inside, stranded-none, stranded-there}
 use Rattle.removal_laws.specs.Finishing.{waits_nowhere}
 use Rattle.objects.specs.Tables.{state_of}
-use Rattle.thread_records.specs.Threads.{status_of}
+use Rattle.objects.specs.thread_records.Threads.{status_of}
 use Rattle.std.proofs.Common.{ap}
-use Rattle.thread_records.specs.declared.records.Status.{Status}
+use Rattle.objects.specs.declared.thread_records.records.Status.{Status}
 use Rattle.objects.proofs.tables.Objects.is_stranded.Goals as goal
 
 pub status-requires : goal.status-requires

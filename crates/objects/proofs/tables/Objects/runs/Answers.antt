@@ -4,8 +4,8 @@ use Rattle.model.specs.Kernel.Scheduling.{is_runnable}
 use Rattle.model.specs.Kernel.State.{ThreadState}
 use Rattle.objects.proofs.OneThread.{of-state, place-there, read-there}
 use Rattle.objects.specs.Contents.{is_thread_kind}
-use Rattle.thread_records.specs.Threads.{status_of}
-use Rattle.thread_records.specs.declared.records.Status.{Status}
+use Rattle.objects.specs.thread_records.Threads.{status_of}
+use Rattle.objects.specs.declared.thread_records.records.Status.{Status}
 use Rattle.objects.proofs.tables.Objects.runs.Goals as goal
 
 pub status-requires : goal.status-requires

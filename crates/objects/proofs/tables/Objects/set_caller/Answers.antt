@@ -7,7 +7,7 @@ use Rattle.objects.proofs.OneThread.{caller-done, of-state, record-there}
 use Rattle.objects.specs.Laid.{threads_by}
 use Rattle.objects.specs.Rights.{noted, replier_at}
 use Rattle.objects.specs.Tables.{Tables, state_of}
-use Rattle.thread_records.specs.Records.{IsRecordAt}
+use Rattle.objects.specs.thread_records.Records.{IsRecordAt}
 use Rattle.objects.specs.contracts.tables.Objects.{the_view}
 use Rattle.objects.proofs.tables.Objects.set_caller.Goals as goal
 

@@ -2,7 +2,7 @@
 use Rattle.std.proofs.Common.{◌∙◌, ap, refl, sym}
 use Rattle.objects.specs.Contents.{is_thread_kind}
 use Rattle.objects.proofs.OneThread.{of-state, record-there, sends-there, unsent-done}
-use Rattle.thread_records.specs.declared.records.Thread.{Thread}
+use Rattle.objects.specs.declared.thread_records.records.Thread.{Thread}
 use Rattle.objects.proofs.tables.Objects.set_sending_at.Goals as goal
 
 pub set_sending-requires : goal.set_sending-requires

@@ -2,7 +2,7 @@
 use Rattle.std.proofs.Common.{refl}
 use Rattle.model.specs.Kernel.State.{ThreadState}
 use Rattle.objects.proofs.OneThread.{field-done, record-there}
-use Rattle.thread_records.specs.Threads.{status_of}
+use Rattle.objects.specs.thread_records.Threads.{status_of}
 use Rattle.objects.proofs.tables.Objects.set_status_at.Goals as goal
 
 pub set_status-requires : goal.set_status-requires

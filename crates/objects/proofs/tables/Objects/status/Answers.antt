@@ -2,7 +2,7 @@
 use Rattle.std.proofs.Common.{◌∙◌, ap, sym}
 use Rattle.model.specs.Kernel.State.{ThreadState}
 use Rattle.objects.proofs.OneThread.{inside, read-none, read-there}
-use Rattle.thread_records.specs.Threads.{status_of}
+use Rattle.objects.specs.thread_records.Threads.{status_of}
 use Rattle.objects.proofs.tables.Objects.status.Goals as goal
 
 pub status-requires : goal.status-requires

@@ -3,7 +3,7 @@ use Rattle.std.proofs.Common.{◌∙◌, not, ap, sym}
 use Rattle.objects.specs.Contents as contents
 use Rattle.objects.specs.Contents.{contents_state, told_by}
 use Rattle.objects.specs.Tables.{contents_of, state_of}
-use Rattle.thread_records.specs.Threads.{status_of}
+use Rattle.objects.specs.thread_records.Threads.{status_of}
 use Rattle.removal_laws.specs.Finishing.{waits_nowhere}
 use Rattle.objects.proofs.tables.Objects.waits_nowhere.Goals as goal
 

@@ -5,7 +5,7 @@ use Rattle.model.specs.Acceptance.PointStates.{Noted, noted}
 use Rattle.model.specs.Acceptance.Rules.{first_broken}
 use Rattle.model.specs.declared.refusals.Point.{Point}
 use Rattle.model.specs.declared.refusals.Refusal.TheVariants.{RangeNotKept}
-use Rattle.point_rules.specs.Points.{noted_of}
+use Rattle.program_rules.specs.point_rules.Points.{noted_of}
 use Rattle.program_rules.proofs.EachPoint.{has-part, kept-at}
 use Rattle.program_rules.proofs.Outcomes.{told}
 use Rattle.program_rules.proofs.PointLists.{at-entry}

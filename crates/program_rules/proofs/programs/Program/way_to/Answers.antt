@@ -4,7 +4,7 @@ use Rattle.measure.specs.Measures.{measure_of}
 use Rattle.model.specs.Acceptance.PointRules.{edge_rules}
 use Rattle.model.specs.Acceptance.PointStates.{Noted}
 use Rattle.model.specs.Acceptance.Rules.{first_broken}
-use Rattle.point_rules.specs.Points.{edge_of}
+use Rattle.program_rules.specs.point_rules.Points.{edge_of}
 use Rattle.program_rules.proofs.Outcomes.{told}
 use Rattle.program_rules.proofs.programs.Program.way_to.Goals as goal
 use Rattle.program_rules.specs.Kept.{noted_by}

@@ -4,7 +4,7 @@ use Rattle.measure.specs.Measures.{measure_of}
 use Rattle.model.specs.Acceptance.NotedStates.{PointState}
 use Rattle.model.specs.Acceptance.PointRules.{kept_at}
 use Rattle.model.specs.Acceptance.Rules.{first_broken}
-use Rattle.point_rules.specs.Points.{edge_of}
+use Rattle.program_rules.specs.point_rules.Points.{edge_of}
 use Rattle.program_rules.proofs.programs.Program.way_within.Goals as goal
 
 pub returns : goal.returns

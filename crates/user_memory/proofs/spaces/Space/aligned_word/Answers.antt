@@ -1,7 +1,7 @@
 -- The four bytes lie in one page.
 use Rattle.std.proofs.Common.{ℕ, ◌∙◌, ◌+◌, ◌≤◌, List, Ok, length, ap, arith, subst, sym}
 use Rattle.model.specs.Shared.Bytes.{word_at}
-use Rattle.object_lifetimes.specs.Kernels.{state_in}
+use Rattle.cnode_ops.specs.object_lifetimes.Kernels.{state_in}
 use Rattle.user_memory.proofs.Words.{word-inside, word-loaded}
 use Rattle.user_memory.proofs.spaces.Space.aligned_word.Goals as goal
 

@@ -1,7 +1,7 @@
 -- A byte that is named lies in memory.
 use Rattle.std.proofs.Common.{ℕ, ◌∙◌, ◌<◌, List, length, ap, subst, sym}
 use Rattle.std.specs.Prelude.{slice_index}
-use Rattle.object_lifetimes.specs.Kernels.{state_in}
+use Rattle.cnode_ops.specs.object_lifetimes.Kernels.{state_in}
 use Rattle.user_memory.proofs.Reading.{byte-seen, named-inside}
 use Rattle.user_memory.proofs.spaces.Space.byte.Goals as goal
 

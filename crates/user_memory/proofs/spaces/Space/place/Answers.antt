@@ -2,7 +2,7 @@
 use Rattle.std.proofs.Common.{◌∙◌, ap, arith}
 use Rattle.std.specs.Option.{ok_or}
 use Rattle.model.specs.Machine.Sv32.{page_fault, walk}
-use Rattle.object_lifetimes.specs.Kernels.{state_in}
+use Rattle.cnode_ops.specs.object_lifetimes.Kernels.{state_in}
 use Rattle.user_memory.proofs.Leaves.{kernel-leaves}
 use Rattle.user_memory.proofs.Reading.{walk-err, walk-ok}
 use Rattle.user_memory.proofs.spaces.Space.place.Goals as goal

@@ -1,7 +1,7 @@
 -- A byte is written where the program may, in a frame: tables and slots stay.
 use Rattle.std.proofs.Common.{◌≡◌, arith, subst, sym}
 use Rattle.model.specs.Machine.ProgramMemory.{IsNamed, put_byte}
-use Rattle.object_lifetimes.specs.Kernels.{state_in}
+use Rattle.cnode_ops.specs.object_lifetimes.Kernels.{state_in}
 use Rattle.objects.specs.Tables.{state_of}
 use Rattle.user_memory.proofs.Reading.{named-inside}
 use Rattle.user_memory.proofs.Writing.{content-after, may-outside, rest-after, usable-after, whole-after}

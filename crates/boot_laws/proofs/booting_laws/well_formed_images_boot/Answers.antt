@@ -1,9 +1,0 @@
--- Phase after phase, entry after entry.
-use Rattle.boot_laws.proofs.WholeLoads.{boots-well}
-use Rattle.boot_laws.proofs.booting_laws.well_formed_images_boot.Goals as goal
-
-pub returns : goal.returns
-returns c = record {
-  boots = boots-well;
-  accepted = λ bytes image is. boots-well image is.spelled.fits is.formed;
-}

@@ -1,6 +1,0 @@
--- Each stands behind the ones before it in its untyped, and untypeds stand behind one another.
-use Rattle.boot_laws.proofs.PlacesApart.{stand-apart}
-use Rattle.boot_laws.proofs.placing_laws.objects_stand_inside_their_untypeds.Goals as goal
-
-pub returns : goal.returns
-returns c = stand-apart

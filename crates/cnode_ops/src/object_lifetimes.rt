@@ -1,0 +1,10 @@
+//! How objects begin and end, with their slots, their page tables and their bytes of memory.
+//! seL4 Reference Manual, "Kernel Memory Allocation" and "Deletion, Revocation, and Recycling".
+
+mod beginning;
+mod kernel_objects;
+mod kernels;
+mod making;
+
+pub use kernel_objects::KernelObjects;
+pub use kernels::Kernel;

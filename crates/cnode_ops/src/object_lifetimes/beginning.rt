@@ -1,0 +1,104 @@
+//! Making new objects one after another, as Retype asks for them.
+
+ghost use Rattle.std.specs.Prelude.{ℕ, ◌≡◌, ◌+◌, ◌*◌, ◌^◌, ◌≤◌, true};
+ghost use Rattle.kernel_invariant.proofs.Laws.{of_memory-law, of_slots-law};
+ghost use Rattle.kernel_invariant.specs.Agreement.{Agrees};
+ghost use Rattle.kernel_invariant.specs.Wholeness.{Agreed};
+ghost use Rattle.cnode_ops.specs.Placed.{new_objects, new_type, used_to};
+ghost use Rattle.cnode_ops.specs.object_lifetimes.Beginnings.{AreLaid, AreMade, MayUse};
+ghost use Rattle.model.specs.Capabilities.Slots.{SameOutside, capability_at, recapped};
+ghost use Rattle.model.specs.Kernel.Kinds.{kind_of};
+ghost use Rattle.model.specs.Kernel.Retype.{is_small_enough, object_bits, with_new};
+ghost use Rattle.objects.specs.Standing.{Standing};
+ghost use Rattle.objects.specs.Tables.{state_of};
+ghost use Rattle.objects.specs.Threads.{new_object};
+
+use crate::object_lifetimes::KernelObjects;
+use crate::object_lifetimes::making::{PAGE_SIZE, make_one, node_slots};
+use crate::{Begins, NewRange, NewType, Placing};
+use model::{Cap, Slot};
+use objects::{Kind, Objects};
+use slots::SlotStore;
+
+/// How many bytes an object has.
+fn object_size(kind: Kind) -> u32
+    requires { is_small_enough (kind_of (new_object kind)) ≡ true }
+    ensures { result ≡ 2 ^ object_bits (kind_of (new_object kind)) }
+{
+    match kind {
+        Kind::Thread => 512,
+        Kind::Endpoint | Kind::Notification => 16,
+        Kind::CNode { radix } => node_slots(radix) * 16,
+        Kind::Frame | Kind::PageTable | Kind::RootTable => PAGE_SIZE,
+    }
+}
+
+/// The same of whatever Retype makes.
+fn new_size(kind: NewType) -> u32
+    requires { is_small_enough (new_type kind) ≡ true }
+    ensures { result ≡ 2 ^ object_bits (new_type kind) }
+{
+    match kind {
+        NewType::Untyped { bits } => 1 << bits,
+        NewType::Object(kind) => object_size(kind),
+    }
+}
+
+/// Untyped memory is used up to a watermark.
+fn use_memory<S: SlotStore>(store: &mut S, slot: Slot, watermark: u32)
+    requires fits { MayUse (capability_at (S.slots store.old) slot) watermark }
+    ensures slots { S.slots store.new ≡ recapped (S.slots store.old) slot (used_to watermark (capability_at (S.slots store.old) slot)) }
+    ensures bytes { SameOutside (S.slots store.old) (S.memory store.old) (S.memory store.new) }
+{
+    if let Cap::Untyped { offset, bits, .. } = store.capability(slot) {
+        let used = Cap::Untyped {
+            offset,
+            bits,
+            watermark,
+        };
+        store.set_cap(slot, used);
+    }
+}
+
+/// Makes the objects one after another, with their first capabilities in the slots of the window.
+fn make_all<S: SlotStore>(objects: &mut Objects, store: &mut S, new: NewRange, at: Placing)
+    requires laid { AreLaid (new_objects new) }
+    requires none_yet { AreMade (state_of objects.old (S.slots store.old) (S.memory store.old))
+        (state_of objects.old (S.slots store.old) (S.memory store.old)) (S.memory store.old) (new_objects new) at.window at.parent 0 }
+    requires near { at.window + new.count ≤ 2 ^ 20 }
+    requires stands { Standing objects.old (S.slots store.old) (S.memory store.old) }
+    ensures state { state_of objects.new (S.slots store.new) (S.memory store.new)
+        ≡ with_new (state_of objects.old (S.slots store.old) (S.memory store.old)) (new_objects new) at.window at.parent }
+    ensures agree { Agrees (state_of objects.new (S.slots store.new) (S.memory store.new)) (S.memory store.new) }
+    ensures stands { Standing objects.new (S.slots store.new) (S.memory store.new) }
+{
+    let size = new_size(new.kind);
+    let window = at.window.number();
+    let mut place = new.first;
+    'objects: for index in 0..new.count {
+        make_one(
+            objects,
+            store,
+            new.kind,
+            place,
+            Slot::new(window + index),
+            at.parent,
+        );
+        place += size;
+    }
+}
+
+impl Begins for KernelObjects {
+    ghost state = { state_of };
+
+    ghost Agree = { Agreed };
+
+    fn begin<S: SlotStore>(&mut self, store: &mut S, new: NewRange, at: Placing) {
+        use_memory(store, at.parent, at.watermark);
+        make_all(&mut self.objects, store, new, at);
+    }
+
+    ghost of_slots = { of_slots-law };
+
+    ghost of_memory = { of_memory-law };
+}

@@ -1,6 +1,0 @@
-//! Files by their names, read and written whole.
-#![tactic(auto)]
-
-mod whole;
-
-pub use whole::{FileFault, read_bytes, read_text, write_bytes};

@@ -1,0 +1,15 @@
+-- What the other modules use of these proofs.
+pub use Rattle.headline.proofs.moves.Calling.{IsCounted, NoThread, counted}
+pub use Rattle.headline.proofs.moves.Interrupts.{bound-there, unchanged-stand}
+pub use Rattle.headline.proofs.moves.LeftAlone.{one-thread, stands-alone}
+pub use Rattle.headline.proofs.moves.MessageSteps.{call-goes-well}
+pub use Rattle.headline.proofs.moves.NamedSlots.{named-here}
+pub use Rattle.headline.proofs.moves.NotificationCalls.{HasSignalled, signal-leaves-so}
+pub use Rattle.headline.proofs.moves.Passing.{next-address}
+pub use Rattle.headline.proofs.moves.Places.{passed, passed-there, went-here, went-there}
+pub use Rattle.headline.proofs.moves.Puts.{decided, other-label, own-label}
+pub use Rattle.headline.proofs.moves.ReceiveCalls.{IsFine}
+pub use Rattle.headline.proofs.moves.Runs.{run-goes-by, step-goes-by}
+pub use Rattle.headline.proofs.moves.SimpleCalls.{calls-on, passes-stand, result-stands}
+pub use Rattle.headline.proofs.moves.Waiters.{StandsWaiting, stands-waiting}
+pub use Rattle.headline.proofs.moves.Woken.{runs-free}

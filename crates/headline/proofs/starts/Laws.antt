@@ -1,0 +1,4 @@
+-- What the other modules use of these proofs.
+pub use Rattle.headline.proofs.starts.GivenSlots.{IsListedSlot, at-key, slot-listed}
+pub use Rattle.headline.proofs.starts.LastFills.{any-flat}
+pub use Rattle.headline.proofs.starts.ListFacts.{contained, contains, none-at}

@@ -1,0 +1,6 @@
+-- What stands in a slot of a CNode is what is listed for it, and its parent stands in the boot CNode.
+use Rattle.headline.proofs.starts.GivenSlots.{slots-given}
+use Rattle.headline.proofs.starts.start_laws.slots_are_as_listed.Goals as goal
+
+pub returns : goal.returns
+returns c = slots-given

@@ -1,0 +1,7 @@
+-- What the other modules use of these proofs.
+pub use Rattle.headline.proofs.steps.Budgets.{state-next, trace-next, within-still}
+pub use Rattle.headline.proofs.steps.GivenThreads.{IsGiven, given}
+pub use Rattle.headline.proofs.steps.KeptRules.{point-kept}
+pub use Rattle.headline.proofs.steps.NotedForms.{after-low}
+pub use Rattle.headline.proofs.steps.PointForms.{known-form}
+pub use Rattle.headline.proofs.steps.SameSlots.{not-stray-formed, slots-back}

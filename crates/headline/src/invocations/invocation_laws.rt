@@ -1,0 +1,12 @@
+//! All threads, over a step that invokes a capability.
+
+ghost use Rattle.headline.specs.invocations.Laws.{InvocationsGoWell};
+
+use crate::invocations::laws::laws_on_invocations;
+
+/// An invocation has no fault and no error, and leaves all threads standing.
+pub fn invocations_go_well()
+    ensures { InvocationsGoWell }
+{
+    laws_on_invocations();
+}

@@ -1,5 +1,0 @@
--- An untyped that is there fits.
-use Rattle.image_entries.proofs.entries.untyped_of.Goals as goal
-
-pub returns-clause-fits : goal.returns-clause-fits
-returns-clause-fits c = c.header_of.ensures.fitting.untyped c.args.number c.untyped.result c.untyped.ensures

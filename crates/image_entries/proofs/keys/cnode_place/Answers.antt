@@ -1,7 +1,0 @@
--- Their keys rise.
-use Rattle.model.specs.Images.Image.{pair_key}
-use Rattle.image_entries.proofs.Places.{keys-rise}
-use Rattle.image_entries.proofs.keys.cnode_place.Goals as goal
-
-pub place_of-requires : goal.place_of-requires
-place_of-requires c = keys-rise (λ x. pair_key x.cnode x.index) c.args.image.now.capabilities c.header_of.ensures.fitting.slots_rise

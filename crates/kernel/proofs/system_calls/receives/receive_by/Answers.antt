@@ -1,0 +1,19 @@
+-- What a capability names is there.
+use Rattle.cnode_ops.specs.object_lifetimes.Kernels.{state_in}
+use Rattle.model.specs.Kernel.Kinds.{kind_at, object_named}
+use Rattle.model.specs.Kernel.Retype.{NewEndpoint, NewNotification}
+use Rattle.objects.specs.Tables.{state_of}
+use Rattle.std.proofs.Common.{◌≡◌, ◌∙◌, Some, ap, subst, sym}
+use Rattle.kernel.proofs.system_calls.receives.receive_by.Goals as goal
+
+pub receive_message-requires-clause-endpoint : goal.receive_message-requires-clause-endpoint
+unfolding state_of
+receive_message-requires-clause-endpoint g c =
+    subst (λ k. kind_at (state_in g.S.SlotMap.slots g.S.SlotStore.memory k) c.in-Endpoint.offset ≡ Some NewEndpoint) c.kernel.view_is
+    (c.kernel.invariant.sound.memory.named c.args.slot NewEndpoint c.in-Endpoint.offset (ap object_named (sym c.capability.ensures.value ∙ c.in-Endpoint.is)))
+
+pub receive_signal-requires-clause-notification : goal.receive_signal-requires-clause-notification
+unfolding state_of
+receive_signal-requires-clause-notification g c =
+    subst (λ k. kind_at (state_in g.S.SlotMap.slots g.S.SlotStore.memory k) c.in-Notification.offset ≡ Some NewNotification) c.kernel.view_is
+    (c.kernel.invariant.sound.memory.named c.args.slot NewNotification c.in-Notification.offset (ap object_named (sym c.capability.ensures.value ∙ c.in-Notification.is)))

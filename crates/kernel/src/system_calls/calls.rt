@@ -1,0 +1,63 @@
+//! All system calls.
+
+ghost use Rattle.std.specs.Prelude.{ℕ, ◌≡◌};
+ghost use Rattle.model.specs.Kernel.Steps.{calls, system_call};
+ghost use Rattle.cnode_ops.specs.object_lifetimes.Kernels.{state_in};
+ghost use Rattle.soundness.specs.Running.{IsRunning};
+
+use crate::system_calls::answers::{pass, unknown_call};
+use crate::system_calls::receives::receive_call;
+use crate::system_calls::replies::{give_way, reply};
+use crate::system_calls::send_calls::send_call;
+use cnode_ops::Kernel;
+use model::{Outcome, ReceiveCall, Register, SystemCall};
+use slots::SlotStore;
+
+/// A thread makes a system call.
+fn call<S: SlotStore>(kernel: &mut Kernel<S>, thread: u32, call: SystemCall) -> Outcome
+    requires runs { IsRunning (state_in S.slots S.memory kernel.old) thread }
+    ensures state { state_in S.slots S.memory kernel.new
+        ≡ (calls (state_in S.slots S.memory kernel.old) thread call).0 }
+    ensures outcome { result ≡ (calls (state_in S.slots S.memory kernel.old) thread call).1 }
+{
+    match call {
+        SystemCall::Sends(kind) => send_call(kernel, thread, kind),
+        SystemCall::Receives(kind) => receive_call(kernel, thread, kind),
+        SystemCall::RepliesAndReceives => {
+            reply(kernel, thread);
+            receive_call(kernel, thread, ReceiveCall::Receiving)
+        }
+        SystemCall::Replies => {
+            reply(kernel, thread);
+            pass(kernel, thread);
+            Outcome::Plain
+        }
+        SystemCall::Yields => {
+            give_way(kernel, thread);
+            Outcome::Plain
+        }
+        SystemCall::PutsCharacter => {
+            let byte = (kernel.registers(thread).read(Register::A0) % 0x100) as u8;
+            pass(kernel, thread);
+            Outcome::Put(byte)
+        }
+    }
+}
+
+/// The thread that runs makes the system call whose number is in a7, with the capability (or the byte) in a0, the
+/// info word in a1, and the words in a2 to a5 and s2 to s5. Another number is a fault.
+///
+/// seL4 Reference Manual, "System Calls".
+#[tactic(auto, unfolding(model::specs::Kernel::Steps::system_call))]
+pub fn system_call<S: SlotStore>(kernel: &mut Kernel<S>, thread: u32) -> Outcome
+    requires runs { IsRunning (state_in S.slots S.memory kernel.old) thread }
+    ensures state { state_in S.slots S.memory kernel.new
+        ≡ (system_call (state_in S.slots S.memory kernel.old) thread).0 }
+    ensures outcome { result ≡ (system_call (state_in S.slots S.memory kernel.old) thread).1 }
+{
+    let number = kernel.registers(thread).read(Register::A7);
+    match SystemCall::of_number(number) {
+        Some(known) => call(kernel, thread, known),
+        None => unknown_call(kernel, thread, number),
+    }
+}

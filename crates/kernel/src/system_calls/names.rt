@@ -1,0 +1,45 @@
+//! The capability that a call names.
+
+ghost use Rattle.std.specs.Prelude.{◌≡◌, ◌≤◌, IfErr, IfOk, Some};
+ghost use Rattle.model.specs.Capabilities.CapabilityWords.{IsCapability};
+ghost use Rattle.model.specs.Capabilities.LookupNumbers.{bits_left_of};
+ghost use Rattle.model.specs.Capabilities.Slots.{IsFull};
+ghost use Rattle.model.specs.Kernel.Kinds.{kind_at};
+ghost use Rattle.model.specs.Kernel.Retype.{NewThread};
+ghost use Rattle.model.specs.Kernel.State.{cspace_slot};
+ghost use Rattle.model.specs.Kernel.Steps.{cspace_of, named_slot};
+ghost use Rattle.cnode_ops.specs.object_lifetimes.Kernels.{state_in};
+
+use cnode_ops::Kernel;
+use cspace::called_slot;
+use model::{Cap, LookupFailure, Register, Slot};
+use slots::SlotStore;
+
+/// The root of a thread's capability space, which stands in its slot 0.
+#[tactic(auto, unfolding(objects::specs::Tables::state_of))]
+pub(crate) fn cspace_of<S: SlotStore>(kernel: &Kernel<S>, thread: u32) -> Cap
+    requires { kind_at (state_in S.slots S.memory kernel.now) thread ≡ Some NewThread }
+    ensures value { result ≡ cspace_of (state_in S.slots S.memory kernel.now) thread }
+    ensures valid { IsCapability result }
+{
+    kernel.store.capability(Slot::new(thread / 16))
+}
+
+/// The slot that a thread's a0 names, which holds a capability.
+#[tactic(auto, unfolding(objects::specs::Tables::state_of))]
+pub(crate) fn named_slot<S: SlotStore>(
+    kernel: &Kernel<S>,
+    thread: u32,
+) -> Result<Slot, LookupFailure>
+    requires { kind_at (state_in S.slots S.memory kernel.now) thread ≡ Some NewThread }
+    ensures value { result ≡ named_slot (state_in S.slots S.memory kernel.now) thread }
+    ensures full { IfOk result (IsFull (S.slots kernel.now.store)) }
+    ensures few { IfErr result (λ failure. bits_left_of failure ≤ 32) }
+{
+    let root = cspace_of(kernel, thread);
+    called_slot(
+        &kernel.store,
+        root,
+        kernel.registers(thread).read(Register::A0),
+    )
+}

@@ -1,0 +1,80 @@
+-- What each call leaves is what its definition says, and whole.
+use Rattle.std.proofs.Common.{◌≡◌, ◌∙◌, Ok, ap, refl, subst, sym}
+use Rattle.kernel_invariant.proofs.Laws.{own-tables}
+use Rattle.model.specs.Kernel.Outcomes.{GivesState}
+use Rattle.kernel_machine.proofs.perform_calls.Lent.{asked, given}
+use Rattle.kernel_machine.proofs.perform_calls.MappedTables.{frame-mapped, frame-unmapped, frame-within}
+use Rattle.kernel_machine.proofs.perform_calls.Roots.{held-at, may-call}
+use Rattle.kernel_machine.proofs.perform_calls.frame_calls.on_frame.Goals as goal
+use Rattle.kernel_machine.specs.perform_calls.Calls.{call_of}
+use Rattle.cnode_ops.specs.object_lifetimes.Kernels.{state_in}
+use Rattle.model.specs.Capabilities.Slots.{capability_at}
+use Rattle.model.specs.Kernel.Arguments.{Call}
+use Rattle.model.specs.Kernel.MappingCalls.{on_frame}
+use Rattle.model.specs.Kernel.State.{State}
+use Rattle.model.specs.declared.capabilities.Cap.TheVariants.{Frame}
+use Rattle.model.specs.declared.invocations.FrameCall.{FrameCall}
+use Rattle.objects.specs.Tables.{state_of}
+
+pub map_frame-requires-clause-valid : goal.map_frame-requires-clause-valid
+map_frame-requires-clause-valid g c =
+    (may-call c.kernel.inside.objects (g.S.SlotMap.slots c.kernel.inside.store) (g.S.SlotStore.memory c.kernel.inside.store) (call_of c.args.call) c.kernel.invariant (asked g.S.SlotMap.slots g.S.SlotStore.memory (call_of c.args.call) c.kernel.view_is c.requires.call)).root
+
+pub map_frame-requires-clause-agree : goal.map_frame-requires-clause-agree
+map_frame-requires-clause-agree g c = own-tables c.kernel.inside.objects (g.S.SlotMap.slots c.kernel.inside.store) (g.S.SlotStore.memory c.kernel.inside.store) (c.kernel.invariant.agrees, c.kernel.invariant.stands)
+
+pub map_frame-requires-clause-held : goal.map_frame-requires-clause-held
+map_frame-requires-clause-held g c =
+    let slots = g.S.SlotMap.slots c.kernel.inside.store in
+    let f = c.frame_of-frame.result in
+    let e = c.frame_of-frame.ensures in
+    ap (capability_at slots) e.slot ∙ held-at c.kernel.inside.objects slots (g.S.SlotStore.memory c.kernel.inside.store) (call_of c.args.call) (Frame f.offset f.rights f.mapping) (asked g.S.SlotMap.slots g.S.SlotStore.memory (call_of c.args.call) c.kernel.view_is c.requires.call) e.capability refl
+
+pub map_frame-requires-clause-within : goal.map_frame-requires-clause-within
+map_frame-requires-clause-within g c =
+    let slots = g.S.SlotMap.slots c.kernel.inside.store in
+    let f = c.frame_of-frame.result in
+    let e = c.frame_of-frame.ensures in
+    frame-within c.kernel.inside.objects slots (g.S.SlotStore.memory c.kernel.inside.store) c.args.call.slot f.offset f.rights f.mapping c.kernel.invariant
+    (held-at c.kernel.inside.objects slots (g.S.SlotStore.memory c.kernel.inside.store) (call_of c.args.call) (Frame f.offset f.rights f.mapping) (asked g.S.SlotMap.slots g.S.SlotStore.memory (call_of c.args.call) c.kernel.view_is c.requires.call) e.capability refl)
+
+pub returns-in-MapFrame-clause-outcome : goal.returns-in-MapFrame-clause-outcome
+returns-in-MapFrame-clause-outcome g c =
+    let k = c.in-MapFrame in
+    let f = c.frame_of-frame.result in
+    let e = c.frame_of-frame.ensures in
+    let s = state_of c.kernel.inside.objects (g.S.SlotMap.slots c.kernel.inside.store) (g.S.SlotStore.memory c.kernel.inside.store) in
+    let t = state_of c.kernel.inside.objects (g.S.SlotMap.slots c.map_frame.new.store) (g.S.SlotStore.memory c.map_frame.new.store) in
+    given g.S.SlotMap.slots g.S.SlotStore.memory (λ s. on_frame s (call_of c.args.call) c.args.held c.args.asked) c.map_frame.result _ c.kernel.view_is
+    (subst (λ (a : FrameCall). GivesState (on_frame s (call_of c.args.call) c.args.held a) c.map_frame.result t) (sym k.is)
+    (frame-mapped g.S.SlotMap.slots g.S.SlotStore.memory c.kernel.inside.objects c.kernel.inside.store c.map_frame.new.store (call_of c.args.call) f.slot f.offset f.rights c.args.held f.mapping k.root k.address k.rights c.map_frame.result e.slot e.rights c.kernel.invariant (asked g.S.SlotMap.slots g.S.SlotStore.memory (call_of c.args.call) c.kernel.view_is c.requires.call)
+    e.capability c.map_frame.ensures.bytes c.map_frame.ensures.agree c.map_frame.ensures.unchanged c.map_frame.ensures.outcome).0)
+
+pub invariant_of-kernel : goal.invariant_of-kernel
+invariant_of-kernel g c =
+    let k = c.in-MapFrame in
+    let f = c.frame_of-frame.result in
+    let e = c.frame_of-frame.ensures in
+    (frame-mapped g.S.SlotMap.slots g.S.SlotStore.memory c.kernel.inside.objects c.kernel.inside.store c.map_frame.new.store (call_of c.args.call) f.slot f.offset f.rights c.args.held f.mapping k.root k.address k.rights c.map_frame.result e.slot e.rights c.kernel.invariant (asked g.S.SlotMap.slots g.S.SlotStore.memory (call_of c.args.call) c.kernel.view_is c.requires.call)
+    e.capability c.map_frame.ensures.bytes c.map_frame.ensures.agree c.map_frame.ensures.unchanged c.map_frame.ensures.outcome).1
+
+pub unmap-requires : goal.unmap-requires
+unmap-requires g c = record { agree = (c.kernel.invariant.agrees, c.kernel.invariant.stands) }
+
+pub returns-in-UnmapFrame-clause-outcome : goal.returns-in-UnmapFrame-clause-outcome
+returns-in-UnmapFrame-clause-outcome g c =
+    let k = c.in-UnmapFrame in
+    let a = c.requires.applies in
+    let call : Call = call_of c.args.call in
+    let s = state_of c.kernel.inside.objects (g.S.SlotMap.slots c.kernel.inside.store) (g.S.SlotStore.memory c.kernel.inside.store) in
+    let t = state_of c.unmap.new.self (g.S.SlotMap.slots c.unmap.new.store) (g.S.SlotStore.memory c.unmap.new.store) in
+    subst (λ p. on_frame (state_in g.S.SlotMap.slots g.S.SlotStore.memory p) call c.args.held c.args.asked ≡ Ok t) c.kernel.view_is (subst (λ (a : FrameCall). on_frame s call c.args.held a ≡ Ok t) (sym k.is) (ap (λ (x : State). Ok x)
+    (frame-unmapped g.S.SlotMap.slots g.S.SlotStore.memory c.kernel.inside.objects c.unmap.new.self c.kernel.inside.store c.unmap.new.store call a.0 c.args.held a.1 c.kernel.invariant (asked g.S.SlotMap.slots g.S.SlotStore.memory (call_of c.args.call) c.kernel.view_is c.requires.call) a.2
+    c.unmap.ensures.slots c.unmap.ensures.state c.unmap.ensures.agree).0))
+
+pub invariant_of-kernel-in-UnmapFrame : goal.invariant_of-kernel-in-UnmapFrame
+invariant_of-kernel-in-UnmapFrame g c =
+    let a = c.requires.applies in
+    let call : Call = call_of c.args.call in
+    (frame-unmapped g.S.SlotMap.slots g.S.SlotStore.memory c.kernel.inside.objects c.unmap.new.self c.kernel.inside.store c.unmap.new.store call a.0 c.args.held a.1 c.kernel.invariant (asked g.S.SlotMap.slots g.S.SlotStore.memory (call_of c.args.call) c.kernel.view_is c.requires.call) a.2
+    c.unmap.ensures.slots c.unmap.ensures.state c.unmap.ensures.agree).1

@@ -1,6 +1,0 @@
--- By the lemma on the links.
-use Rattle.links.proofs.Laws.{named_stand}
-use Rattle.links.proofs.queue_laws.whoever_is_named_stands_there.Goals as goal
-
-pub returns : goal.returns
-returns c = named_stand

@@ -1,6 +1,0 @@
--- By the lemma on the links.
-use Rattle.links.proofs.Laws.{unowned}
-use Rattle.links.proofs.queue_laws.without_an_owner_is_in_no_queue.Goals as goal
-
-pub returns : goal.returns
-returns c = unowned

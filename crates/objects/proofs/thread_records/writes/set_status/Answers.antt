@@ -1,0 +1,23 @@
+-- The status is read from two words.
+use Rattle.std.proofs.Common.{ℕ, ◌≡◌, ◌∙◌, ◌+◌, ◌*◌, length, ap, subst, arith}
+use Rattle.pmem.specs.Words.{words_at}
+use Rattle.objects.specs.thread_records.Records.{SameBeside}
+use Rattle.objects.proofs.thread_records.Fields.{beside-record, status-count, status-set}
+use Rattle.objects.proofs.thread_records.writes.set_status.Goals as goal
+
+pub returns-clause-record : goal.returns-clause-record
+returns-clause-record g c =
+    let m = g.S.SlotStore.memory c.args.store.now in
+    let n = g.S.SlotStore.memory c.put_words.new.store in
+    let t = c.args.thread in
+    let count : length c.status_words.result ≡ 2 = ap length c.status_words.ensures ∙ status-count c.args.status in
+    status-set m n t c.args.status (subst (λ (k : ℕ). SameBeside (t + 192) (t + (192 + 4 * k)) m n) count c.put_words.ensures.others)
+    (subst (λ (k : ℕ). words_at n (t + 192) k ≡ c.status_words.result) count c.put_words.ensures.read ∙ c.status_words.ensures)
+
+pub returns-clause-bytes : goal.returns-clause-bytes
+returns-clause-bytes g c =
+    let m = g.S.SlotStore.memory c.args.store.now in
+    let n = g.S.SlotStore.memory c.put_words.new.store in
+    let t = c.args.thread in
+    let count : length c.status_words.result ≡ 2 = ap length c.status_words.ensures ∙ status-count c.args.status in
+    beside-record m n t 192 200 (subst (λ (k : ℕ). SameBeside (t + 192) (t + (192 + 4 * k)) m n) count c.put_words.ensures.others) (omega arith) (omega arith)

@@ -1,0 +1,11 @@
+-- What is kept is mapped by other slots.
+use Rattle.std.proofs.Common.{subst, sym}
+use Rattle.packed_slots.specs.cached_slots.Mappings.{AreMapped}
+use Rattle.model.specs.Capabilities.Slots.{Slots}
+use Rattle.packed_slots.proofs.cached_slots.Mapped.{mapped-recapped}
+use Rattle.packed_slots.proofs.cached_slots.cached.CachedSlotsSlotStore.set_cap.Goals as goal
+
+pub invariant_of-self : goal.invariant_of-self
+invariant_of-self g c =
+    subst (λ (s : Slots). AreMapped s c.forget.new.cache) (sym c.set_cap.ensures.slots)
+    (mapped-recapped (g.S.SlotMap.slots c.self.inside.store) c.forget.new.cache c.args.slot c.args.capability c.forget.ensures)

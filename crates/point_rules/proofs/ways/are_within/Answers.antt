@@ -1,6 +1,0 @@
--- The test that the ranges' own type has is the rule's.
-use Rattle.point_rules.proofs.WithinRanges.{decides}
-use Rattle.point_rules.proofs.ways.are_within.Goals as goal
-
-pub returns : goal.returns
-returns c = decides c.args.bounds.now c.args.others.now c.is_within.result c.is_within.ensures

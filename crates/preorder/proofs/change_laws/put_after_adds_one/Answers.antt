@@ -1,7 +1,0 @@
--- By the lemma on the rows, or the slots, one after another.
-use Rattle.preorder.proofs.Changes.{times-put_after, times-put_after_own}
-use Rattle.preorder.proofs.change_laws.put_after_adds_one.Goals as goal
-
-pub returns : goal.returns
-returns c =
-    record { own = times-put_after_own; others = times-put_after }

@@ -1,8 +1,0 @@
--- By the lemma on the rows, or the slots, one after another.
-use Rattle.preorder.specs.Preorder.{no_path}
-use Rattle.preorder.proofs.Paths.{put-others, put-own}
-use Rattle.preorder.proofs.row_laws.a_row_behind_its_parent_has_it.Goals as goal
-
-pub returns : goal.returns
-returns c =
-    record { own = λ rows parent slot. put-own rows no_path parent slot; others = λ rows parent slot s. put-others rows 0 no_path parent slot s }

@@ -1,7 +1,0 @@
--- By the lemma on the rows, or the slots, one after another.
-use Rattle.preorder.proofs.Counting.{few-rows}
-use Rattle.preorder.proofs.walk_laws.rows_are_few.Goals as goal
-
-pub returns : goal.returns
-returns c =
-    few-rows

@@ -1,0 +1,8 @@
+-- All pages so far are mapped.
+use Rattle.std.proofs.Common.{ℕ, ◌≡◌, ◌+◌, ◌<◌, ◌/◌, true}
+use Rattle.model.specs.Acceptance.PointRules.{is_mapped_for}
+use Rattle.typestate.specs.Differences.{slots_of}
+use Rattle.program_rules.proofs.point_rules.reach.Pages.are_mapped.Given as goal
+
+abbrev pub invariant-pages : goal.invariant-pages
+invariant-pages l = (i : ℕ) → i < l.index → is_mapped_for l.self.image.now l.self.thread.now (slots_of l.self.slots) l.access (l.first / 4096 + i) ≡ true

@@ -1,0 +1,20 @@
+//! The rules at a point of a program whose state a certificate notes: its memory, its ways on, and the entry.
+
+mod calls;
+mod entries;
+mod following;
+mod laws;
+mod noted;
+mod pages;
+mod reach;
+mod states;
+mod ways;
+
+pub use calls::{follows_call, registers_of};
+pub use entries::entered;
+pub use following::{Left, follows};
+pub use laws::{left_calls_are_kept, left_states_are_kept};
+pub use noted::Noted;
+pub use reach::Pages;
+pub use states::PointState;
+pub use ways::{Way, kept_at, leads_to};

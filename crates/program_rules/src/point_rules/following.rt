@@ -1,0 +1,65 @@
+//! What an instruction leaves for the next point, where no record notes that one.
+
+ghost use Rattle.std.specs.Prelude.{◌≡◌, ◌≤ℤ◌, ◌-◌, ◌^◌, List, false, negsuc, pos, if◌then◌else◌};
+ghost use Rattle.std.specs.Option.{option_map_or};
+ghost use Rattle.measure.specs.Measures.{measure_of};
+ghost use Rattle.model.specs.Acceptance.Edges.{after};
+ghost use Rattle.model.specs.Acceptance.Measures.{has_term, lowered};
+ghost use Rattle.model.specs.Acceptance.NotedStates.{NotedSlot};
+ghost use Rattle.model.specs.Acceptance.PointStates.{Known, Unmeasured, follows_edge};
+ghost use Rattle.model.specs.Acceptance.RangeRules.{destination};
+ghost use Rattle.model.specs.Machine.Instructions.{IsInstr};
+ghost use Rattle.program_rules.specs.point_rules.Points.{left_with};
+ghost use Rattle.typestate.specs.Calls.{known_with};
+
+use measure::{Measure, destination};
+use model::Instr;
+use ranges::{Bounds, after};
+
+/// What a point leaves for the next one.
+#[derive(Clone, Copy)]
+pub enum Left {
+    /// These ranges, and this measure.
+    Known { bounds: Bounds, measure: Measure },
+    /// No state.
+    Missing,
+    /// No state, only because a register of the measure is written.
+    Unmeasured,
+}
+
+/// Whether an instruction writes a register of a measure.
+fn writes_term(instr: Instr, measure: &Measure) -> bool
+    ensures { result ≡ option_map_or (λ rd. has_term (measure_of measure.now) rd.0) (destination instr) false }
+{
+    match destination(instr) {
+        Some(register) => measure.has_term(u32::from(register.0)),
+        None => false,
+    }
+}
+
+/// What is left with these ranges behind the instruction: one instruction less is left to run.
+fn behind(instr: Instr, measure: &Measure, bounds: Bounds) -> Left
+    requires { negsuc (2 ^ 63 - 2) ≤ℤ (measure_of measure.now).constant }
+    ensures { (slots : List NotedSlot) → left_with slots result ≡ (if option_map_or (λ rd. has_term (measure_of measure.now) rd.0) (destination instr) false then Unmeasured
+        else Known (record { ranges = bounds; slots = slots; measure = lowered (measure_of measure.now) (pos 1) })) }
+{
+    if writes_term(instr, measure) {
+        return Left::Unmeasured;
+    }
+    Left::Known {
+        bounds,
+        measure: measure.lowered(),
+    }
+}
+
+/// What the instruction at a pc leaves for the next point, whose slots are those of this one. It is no system call.
+pub fn follows(pc: u32, instr: Instr, bounds: &Bounds, measure: &Measure) -> Left
+    requires instr { IsInstr instr }
+    requires measure { negsuc (2 ^ 63 - 2) ≤ℤ (measure_of measure.now).constant }
+    ensures { (slots : List NotedSlot) → left_with slots result ≡ follows_edge instr (known_with bounds.now slots (measure_of measure.now)) (after pc instr bounds.now).fall_through }
+{
+    match after(pc, instr, bounds).fall_through {
+        Some(edge) => behind(instr, measure, edge.bounds),
+        None => Left::Missing,
+    }
+}

@@ -1,0 +1,160 @@
+//! Whether loads and stores reach only bytes that the thread may read or write.
+//! RISC-V Unprivileged ISA, 2.6 "Load and Store Instructions".
+
+ghost use Rattle.std.specs.Prelude.{◌≡◌, ◌<◌, ◌≤◌, ◌≤ℤ◌, ◌+ℤ◌, ◌^◌, Some, pos};
+ghost use Rattle.std.specs.Int.{byte_len};
+ghost use Rattle.std.specs.List.{list_any};
+ghost use Rattle.model.specs.Acceptance.PointRules.{are_mapped, is_allowed, is_mapped_for, is_unmapped, maps_for};
+ghost use Rattle.model.specs.Acceptance.Measures.{Measure};
+ghost use Rattle.model.specs.Capabilities.Rights.{rights};
+ghost use Rattle.model.specs.Machine.Effects.{load_size, store_size};
+ghost use Rattle.model.specs.Machine.Instructions.{IsInstr};
+ghost use Rattle.model.specs.Machine.ProgramMemory.{width_of};
+ghost use Rattle.typestate.specs.Calls.{known_with};
+ghost use Rattle.typestate.specs.Differences.{slots_of};
+
+use crate::point_rules::Pages;
+use image_reading::frame_at;
+use model::{Access, AccessSize, FrameEntry, Instr, LoadOp, Range, Rights, StoreOp};
+use ranges::Bounds;
+use typestate::allows;
+
+/// How many bytes a page has.
+const PAGE: u32 = 4096;
+
+/// How many bytes an access of this size has.
+fn width(size: AccessSize) -> u32
+    ensures value { result ≡ byte_len (width_of size) }
+    ensures range { (1 ≤ result) × (result ≤ 4) }
+{
+    match size {
+        AccessSize::Byte => 1,
+        AccessSize::Halfword => 2,
+        AccessSize::Word => 4,
+    }
+}
+
+/// How much a load reads.
+fn size_of_load(op: LoadOp) -> AccessSize
+    ensures { result ≡ load_size op }
+{
+    match op {
+        LoadOp::Lb | LoadOp::Lbu => AccessSize::Byte,
+        LoadOp::Lh | LoadOp::Lhu => AccessSize::Halfword,
+        LoadOp::Lw => AccessSize::Word,
+    }
+}
+
+/// How much a store writes.
+fn size_of_store(op: StoreOp) -> AccessSize
+    ensures { result ≡ store_size op }
+{
+    match op {
+        StoreOp::Sb => AccessSize::Byte,
+        StoreOp::Sh => AccessSize::Halfword,
+        StoreOp::Sw => AccessSize::Word,
+    }
+}
+
+/// The rights of a mapping.
+fn rights_of(frame: FrameEntry) -> Rights
+    requires { frame.rights ≤ 7 }
+    ensures { result ≡ rights frame.rights }
+{
+    Rights(frame.rights as u8)
+}
+
+/// The whole number that is so far behind an address.
+fn moved(address: u32, offset: i32) -> i64
+    ensures value { result ≡ pos address +ℤ offset }
+    ensures range { result ≤ℤ pos (2 ^ 40) }
+{
+    i64::from(address) + i64::from(offset)
+}
+
+impl Pages<'_, '_> {
+    /// Whether the image maps a page for an access.
+    fn is_listed(&self, access: Access, page: u32) -> bool
+        requires { page < 2 ^ 20 }
+        ensures { result ≡ list_any (maps_for access self.now.thread.now page) self.now.image.now.frames }
+    {
+        let root = self.thread.header().root;
+        match frame_at(self.image, root, page * PAGE) {
+            Some(frame) => allows(access, rights_of(frame)),
+            None => false,
+        }
+    }
+
+    /// Whether a page is mapped for an access.
+    fn is_mapped(&self, access: Access, page: u32) -> bool
+        requires { page < 2 ^ 20 }
+        ensures { result ≡ is_mapped_for self.now.image.now self.now.thread.now (slots_of self.now.slots) access page }
+    {
+        self.is_listed(access, page) || self.slots.maps(access, self.root, page)
+    }
+
+    /// Whether every page from that of one byte to that of another is mapped.
+    fn are_mapped(&self, access: Access, first: u32, last: u32) -> bool
+        requires { first ≤ last }
+        ensures { result ≡ are_mapped self.now.image.now self.now.thread.now (slots_of self.now.slots) access first last }
+    {
+        let start = first / PAGE;
+        'pages: for index in 0..last / PAGE + 1 - start {
+            if !self.is_mapped(access, start + index) {
+                return false;
+            }
+        }
+        true
+    }
+
+    /// Whether an access of so many bytes meets only mapped pages, from each address that lies between two, as whole numbers.
+    fn is_allowed(&self, access: Access, width: u32, least: i64, greatest: i64) -> bool
+        requires some { 1 ≤ width }
+        requires few { width ≤ 4 }
+        requires order { least ≤ℤ greatest }
+        requires high { greatest ≤ℤ pos (2 ^ 40) }
+        ensures { result ≡ is_allowed self.now.image.now self.now.thread.now (slots_of self.now.slots) access width least greatest }
+    {
+        let last = greatest + i64::from(width - 1);
+        if least < 0 {
+            return false;
+        }
+        if last > 0xffff_ffff {
+            return false;
+        }
+        self.are_mapped(access, least as u32, last as u32)
+    }
+
+    /// Whether an access from an address in this range and this offset behind it meets only mapped pages.
+    fn reaches(&self, access: Access, size: AccessSize, range: Range, offset: i32) -> bool
+        requires { range.low ≤ range.high }
+        ensures { result ≡ is_allowed self.now.image.now self.now.thread.now (slots_of self.now.slots) access (byte_len (width_of size)) (pos range.low +ℤ offset) (pos range.high +ℤ offset) }
+    {
+        let least = moved(range.low, offset);
+        let greatest = moved(range.high, offset);
+        self.is_allowed(access, width(size), least, greatest)
+    }
+
+    /// Whether a load or store may reach a byte that the thread may not read, or not write.
+    #[tactic(auto, unfolding(model::specs::Acceptance::PointRules::is_unmapped))]
+    pub fn is_unmapped(&self, instr: Instr, bounds: &Bounds) -> bool
+        requires { IsInstr instr }
+        ensures { (measure : Measure) → result ≡ is_unmapped self.now.image.now self.now.thread.now (known_with bounds.now (slots_of self.now.slots) measure) (Some instr) }
+    {
+        match instr {
+            Instr::Load {
+                op,
+                rs1,
+                offset,
+                ..
+            } => !self.reaches(Access::Load, size_of_load(op), bounds.get(rs1), offset),
+            Instr::Store {
+                op,
+                rs1,
+                offset,
+                ..
+            } => !self.reaches(Access::Store, size_of_store(op), bounds.get(rs1), offset),
+            _ => false,
+        }
+    }
+}

@@ -1,4 +1,0 @@
--- What the crates above use of these proofs.
-pub use Rattle.thread_laws.proofs.facts.Laws.{at-place, page-mapped, page-maps, with_number}
-pub use Rattle.thread_laws.proofs.moves.Laws.{other-label, own-label}
-pub use Rattle.thread_laws.proofs.steps.Laws.{IsGiven, given, state-next, trace-next}

@@ -1,2 +1,0 @@
-mod facts
-pub mod Laws

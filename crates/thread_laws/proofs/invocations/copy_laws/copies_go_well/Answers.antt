@@ -1,5 +1,0 @@
-use Rattle.thread_laws.proofs.invocations.CopyingCalls.{copies-well}
-use Rattle.thread_laws.proofs.invocations.copy_laws.copies_go_well.Goals as goal
-
-pub returns : goal.returns
-returns c = λ image t s slots slot destination source rights_word m may. copies-well image t s slots m slot destination source rights_word may

@@ -1,5 +1,0 @@
-use Rattle.thread_laws.proofs.invocations.CopyingCalls.{moves-well}
-use Rattle.thread_laws.proofs.invocations.copy_laws.moves_go_well.Goals as goal
-
-pub returns : goal.returns
-returns c = λ image t s slots slot destination source m may. moves-well image t s slots m slot destination source may

@@ -1,5 +1,0 @@
-use Rattle.thread_laws.proofs.invocations.FrameCalls.{unmaps-well}
-use Rattle.thread_laws.proofs.invocations.frame_laws.unmaps_go_well.Goals as goal
-
-pub returns : goal.returns
-returns c = λ image t s slots slot held m may. unmaps-well image t s slots m slot held may

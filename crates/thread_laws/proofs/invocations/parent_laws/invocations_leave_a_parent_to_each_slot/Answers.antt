@@ -1,6 +1,0 @@
--- By the slots that each call leaves.
-use Rattle.thread_laws.proofs.invocations.DerivedCalls.{derives-behind}
-use Rattle.thread_laws.proofs.invocations.parent_laws.invocations_leave_a_parent_to_each_slot.Goals as goal
-
-pub returns : goal.returns
-returns c = derives-behind

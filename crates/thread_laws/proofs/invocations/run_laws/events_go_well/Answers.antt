@@ -1,8 +1,0 @@
--- One event after another.
-use Rattle.thread_laws.proofs.invocations.AllRuns.{any-run-goes}
-use Rattle.thread_laws.proofs.invocations.run_laws.events_go_well.Goals as goal
-
-pub returns : goal.returns
-returns c = λ bytes image events accepted.
-    any-run-goes c.steps_go_well.ensures c.ticks_keep_all_standing.ensures c.interrupts_keep_all_standing.ensures bytes image events accepted
-    (c.all_stand_at_the_start.ensures bytes image accepted)

@@ -1,8 +1,0 @@
--- Field by field.
-use Rattle.thread_laws.proofs.kept.StandingOn.{stands-on}
-use Rattle.thread_laws.proofs.kept.ThreadsGiven.{given}
-use Rattle.thread_laws.proofs.kept.standing_laws.untouched_threads_stand_on.Goals as goal
-
-pub returns : goal.returns
-returns c = λ bytes image t s after own next point following state known accepted listed sound sound_after same.
-    stands-on image t s after (given image t accepted.formed listed) sound sound_after same own next point following state known

@@ -1,6 +1,0 @@
--- An interrupt is a signal, or stands pending.
-use Rattle.thread_laws.proofs.moves.Interrupts.{all-over-interrupt}
-use Rattle.thread_laws.proofs.moves.event_laws.interrupts_keep_all_standing.Goals as goal
-
-pub returns : goal.returns
-returns c = all-over-interrupt c.laws_below.ensures

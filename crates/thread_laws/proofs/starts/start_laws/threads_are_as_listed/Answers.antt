@@ -1,6 +1,0 @@
--- Nothing else stands at its offset, and no earlier thread has its object.
-use Rattle.thread_laws.proofs.starts.StartObjects.{object-started}
-use Rattle.thread_laws.proofs.starts.start_laws.threads_are_as_listed.Goals as goal
-
-pub returns : goal.returns
-returns c = object-started

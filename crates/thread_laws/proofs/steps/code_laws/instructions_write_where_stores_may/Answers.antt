@@ -1,6 +1,0 @@
--- Only a store puts bytes.
-use Rattle.thread_laws.proofs.steps.CodeStays.{effect-keeps}
-use Rattle.thread_laws.proofs.steps.code_laws.instructions_write_where_stores_may.Goals as goal
-
-pub returns : goal.returns
-returns c = effect-keeps

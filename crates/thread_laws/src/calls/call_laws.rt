@@ -1,8 +1,0 @@
-//! Where system calls lead.
-
-ghost use Rattle.thread_laws.specs.calls.Laws.{LeadsOn};
-
-/// A system call at a point with a state, which the rules allow, leads to the next point, and what is known behind it is noted there.
-pub fn calls_lead_behind()
-    ensures { LeadsOn }
-{}

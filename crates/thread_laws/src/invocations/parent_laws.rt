@@ -1,8 +1,0 @@
-//! What a thread's slots derive from, behind an invocation.
-
-ghost use Rattle.thread_laws.specs.invocations.Laws.{DeriveBehind};
-
-/// Behind an invocation each full slot of the thread's derives from something still.
-pub fn invocations_leave_a_parent_to_each_slot()
-    ensures { DeriveBehind }
-{}

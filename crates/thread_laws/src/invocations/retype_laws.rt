@@ -1,8 +1,0 @@
-//! Retype to endpoints, notifications and frames.
-
-ghost use Rattle.thread_laws.specs.invocations.Laws.{RetypesGoWell};
-
-/// Where Retype has no error on what is noted, it has none: new objects stand behind the pool's watermark, where nothing stands.
-pub fn retypes_go_well()
-    ensures { RetypesGoWell }
-{}

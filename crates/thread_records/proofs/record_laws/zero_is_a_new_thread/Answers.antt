@@ -1,7 +1,0 @@
--- By the lemma on zeros.
-use Rattle.std.proofs.Common.{refl}
-use Rattle.thread_records.proofs.Fields.{blank-zero}
-use Rattle.thread_records.proofs.record_laws.zero_is_a_new_thread.Goals as goal
-
-pub returns : goal.returns
-returns c = record { blank = blank-zero; new = refl }
