@@ -3,8 +3,8 @@
 also looks for contracts that no call can meet, which takes a twentieth more and proves nothing.
 
 A library that is built by several processes at once takes up to half as much time of processors again. So each has one process,
-and only where fewer libraries than processors are under way, at the beginning and at the end, that with the longest chain of others
-behind it has as many as there are processors.
+but that with the longest chain of others behind it has as many as there are processors, where that chain is longer than what all
+processors have left, or where fewer libraries than processors are under way, at the beginning and at the end.
 
   tools/checks/libraries.py NAME ..     at the top of the repository: these crates and all below them (none named: all)
   tools/checks/libraries.py rt WORD ..  in a crate's folder: the toolchain's command over libraries that were built so
@@ -39,7 +39,7 @@ def toolchain():
 RT = toolchain()
 SUMS = {}
 # What the toolchain takes for a crate before its first proof and behind its last, in lines of code.
-CRATE_IN_LINES = 100
+CRATE_IN_LINES = 300
 # A crate's command gives way to those of crates with a longer chain of others behind them.
 NICENESS = {}
 
@@ -110,10 +110,12 @@ def build_all(names):
             ready = sorted((it for it in left if built.issuperset(below.name for below in it.below())), key=lambda it: -behind[it.name])
             is_few = len(ready) + len(running) < lanes
             for crate in ready[: lanes - len(running)]:
+                rest = sum(own[it.name] for it in left) + sum(own[name] for name in running.values())
                 left.remove(crate)
                 is_last = any(behind[name] > behind[crate.name] for name in running.values())
                 NICENESS[crate.name] = 10 if is_last else 0
-                jobs = lanes if is_few and not is_last else 1
+                has_longest = is_few or behind[crate.name] > rest / lanes
+                jobs = lanes if has_longest and not is_last else 1
                 running[pool.submit(build_logged, crate, jobs)] = crate.name
             if not running:
                 break
