@@ -18,7 +18,8 @@ pub use contents::{ContentRef, Contents};
 pub use entries::Entries;
 pub use headers::radix_limit;
 pub use image_entries::{
-    capability_of, frame_at, header_of, listed_in, lists_page, lists_region, object_of, untyped_of,
+    CapabilityRange, capability_of, frame_at, header_of, listed_in, lists_page, lists_region,
+    object_of, untyped_of,
 };
 pub use model::Refusal;
 pub use reading::{ImageRef, read};

@@ -11,5 +11,7 @@ mod store;
 mod words;
 mod writes;
 
-pub use cached_slots::{CachedSlots, WalkStore};
+pub use cached_slots::{
+    CachedSlots, WalkStore, leaves_stay_where_entries_do, one_leaf_more_is_kept,
+};
 pub use store::PackedSlots;
