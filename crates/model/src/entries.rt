@@ -2,7 +2,7 @@
 //! objects from 0.
 
 /// Memory for objects: `2^bits` bytes at `offset` from the start of physical memory.
-#[derive(Clone, Copy, Debug, PartialEq, Eq)]
+#[derive(Clone, Copy)]
 pub struct UntypedEntry {
     pub offset: u32,
     pub bits: u32,
@@ -10,7 +10,7 @@ pub struct UntypedEntry {
 
 /// An object and the untyped memory that it is made in. `kind` is the object type's number, 1 to 8;
 /// `size` is the size in bits of an untyped, the radix of a CNode, and 0 for the others.
-#[derive(Clone, Copy, Debug, PartialEq, Eq)]
+#[derive(Clone, Copy)]
 pub struct ObjectEntry {
     pub untyped: u32,
     pub kind: u32,
@@ -19,7 +19,7 @@ pub struct ObjectEntry {
 
 /// A capability in a slot of a CNode. `source` is an object, or the number of objects plus the number
 /// of an interrupt for that interrupt's handler. `payload` is the badge or the guard word.
-#[derive(Clone, Copy, Debug, PartialEq, Eq)]
+#[derive(Clone, Copy)]
 pub struct CapabilityEntry {
     pub cnode: u32,
     pub index: u32,
@@ -29,7 +29,7 @@ pub struct CapabilityEntry {
 }
 
 /// An interrupt line, the notification that it signals, and the badge that it signals with.
-#[derive(Clone, Copy, Debug, PartialEq, Eq)]
+#[derive(Clone, Copy)]
 pub struct InterruptEntry {
     pub line: u32,
     pub notification: u32,
@@ -37,7 +37,7 @@ pub struct InterruptEntry {
 }
 
 /// A page table that covers the 4 MiB from a virtual address under a root table.
-#[derive(Clone, Copy, Debug, PartialEq, Eq)]
+#[derive(Clone, Copy)]
 pub struct TableEntry {
     pub root: u32,
     pub address: u32,
@@ -46,7 +46,7 @@ pub struct TableEntry {
 
 /// A frame that is mapped at a virtual address under a root table. `rights`: 1 write, 2 read,
 /// 4 execute.
-#[derive(Clone, Copy, Debug, PartialEq, Eq)]
+#[derive(Clone, Copy)]
 pub struct FrameEntry {
     pub root: u32,
     pub address: u32,
@@ -55,14 +55,14 @@ pub struct FrameEntry {
 }
 
 /// A register that a thread starts with, 1 to 31, and its value, which is not 0.
-#[derive(Clone, Copy, Debug, PartialEq, Eq)]
+#[derive(Clone, Copy)]
 pub struct RegisterEntry {
     pub register: u32,
     pub value: u32,
 }
 
 /// The range of unsigned values of a register, 1 to 31, both ends included.
-#[derive(Clone, Copy, Debug, PartialEq, Eq)]
+#[derive(Clone, Copy)]
 pub struct RangeEntry {
     pub register: u32,
     pub low: u32,
@@ -71,7 +71,7 @@ pub struct RangeEntry {
 
 /// What a slot of a CNode holds: the two words of a capability, and the parent slot's CNode and
 /// index, both 2^32 - 1 where the parent is in the boot CNode.
-#[derive(Clone, Copy, Debug, PartialEq, Eq)]
+#[derive(Clone, Copy)]
 pub struct SlotEntry {
     pub cnode: u32,
     pub index: u32,
@@ -82,14 +82,14 @@ pub struct SlotEntry {
 }
 
 /// A term of a measure: a register, 1 to 31, times a coefficient, which is not 0.
-#[derive(Clone, Copy, Debug, PartialEq, Eq)]
+#[derive(Clone, Copy)]
 pub struct TermEntry {
     pub register: u32,
     pub coefficient: i32,
 }
 
 /// The fixed part of an image: its sizes and how many entries each section has.
-#[derive(Clone, Copy, Debug, PartialEq, Eq)]
+#[derive(Clone, Copy)]
 pub struct ImageHeader {
     pub version: u32,
     /// Physical memory has `2^memory_bits` bytes.
@@ -107,7 +107,7 @@ pub struct ImageHeader {
 }
 
 /// The fixed part of a content: a frame object and how many words it begins with.
-#[derive(Clone, Copy, Debug, PartialEq, Eq)]
+#[derive(Clone, Copy)]
 pub struct ContentHeader {
     pub frame: u32,
     pub words: u32,
@@ -115,7 +115,7 @@ pub struct ContentHeader {
 
 /// The fixed part of a thread: its objects, how it starts, and how many registers, words of program
 /// and records of its certificate follow.
-#[derive(Clone, Copy, Debug, PartialEq, Eq)]
+#[derive(Clone, Copy)]
 pub struct ThreadHeader {
     pub tcb: u32,
     /// The CNode object at the root of its capability space, and that capability's guard word.
@@ -140,7 +140,7 @@ pub struct ThreadHeader {
 
 /// The fixed part of a record of a certificate: the point that it speaks of, how many ranges, slots
 /// and terms follow, and the constant of the measure.
-#[derive(Clone, Copy, Debug, PartialEq, Eq)]
+#[derive(Clone, Copy)]
 pub struct RecordHeader {
     pub point: u32,
     pub ranges: u32,

@@ -4,7 +4,7 @@
 use crate::Rights;
 
 /// A slot as two words of a call name it: an address, and how many of its low bits count, 1 to 32.
-#[derive(Clone, Copy, Debug, PartialEq, Eq)]
+#[derive(Clone, Copy)]
 pub struct SlotName {
     pub address: u32,
     pub depth: u32,

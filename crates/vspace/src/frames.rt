@@ -22,7 +22,7 @@ use slots::SlotStore;
 use sv32::Pte;
 
 /// A frame's capability, and the slot that holds it.
-#[derive(Clone, Copy, Debug, PartialEq, Eq)]
+#[derive(Clone, Copy)]
 pub struct FrameCap {
     pub slot: Slot,
     pub offset: u32,

@@ -22,7 +22,7 @@ use slots::SlotStore;
 use sv32::Pte;
 
 /// A page table's capability, and the slot that holds it.
-#[derive(Clone, Copy, Debug, PartialEq, Eq)]
+#[derive(Clone, Copy)]
 pub struct PageTableCap {
     pub slot: Slot,
     pub offset: u32,
