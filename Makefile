@@ -10,9 +10,9 @@ demo:
 test:
 	rt ci
 
-# What compiles a program that is proved: Rattle's own compiler, or clang (BACKEND=llvm), which takes half a minute more and makes
-# a faster one.
-BACKEND = rattle
+# What compiles a program that is proved: clang, or Rattle's own compiler (BACKEND=rattle), which is done sooner, says how much stack
+# the program takes, and makes a slower one.
+BACKEND = llvm
 
 # Proves every function of the program and of the crates below it, side by side, and leaves it at
 # crates/microsys/out/microsys.

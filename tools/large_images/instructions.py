@@ -1,6 +1,6 @@
 #!/usr/bin/env python3
 """Counts what `verify` takes for each kind of image that make.py writes, in instructions, which do not depend on what else the machine
-does (valgrind's callgrind). Asks for `make build BACKEND=llvm` before, and for valgrind.
+does (valgrind's callgrind). Asks for `make build` before, and for valgrind.
 
   tools/large_images/instructions.py [--program PROGRAM] [KIND ..]     no kind named: all
 

@@ -1,6 +1,6 @@
 #!/usr/bin/env bash
 # Times reading and booting at a sixteenth, a quarter and all of the format's limits (make.py says which), verifying images of
-# some 100 KiB, 1.5 MiB and 23 MiB, and a run of a million steps of a thread that counts, all to files. Asks for `make build BACKEND=llvm` before. The reader is proved and built in a copy
+# some 100 KiB, 1.5 MiB and 23 MiB, and a run of a million steps of a thread that counts, all to files. Asks for `make build` before. The reader is proved and built in a copy
 # of the crates that it needs, so that the gate knows nothing of it.
 set -euo pipefail
 here="$(cd "$(dirname "$0")" && pwd)"

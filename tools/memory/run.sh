@@ -3,7 +3,7 @@
 # status 3 and nothing on standard output, `source LINE 5` with status 1 for a text, or the whole answer, where the
 # program can do without. Then makes each call of the libraries by itself, with each of its allocations refused in turn:
 # it has to answer want of memory, and put nothing; a second call has to give the whole answer.
-# Usage: tools/memory/run.sh, after `make build BACKEND=llvm`. Needs a C compiler. It is no part of the gate. The second part proves
+# Usage: tools/memory/run.sh, after `make build`. Needs a C compiler. It is no part of the gate. The second part proves
 # and builds its program in a copy of the repository.
 set -eu
 root="$(cd "$(dirname "$0")/../.." && pwd)"
