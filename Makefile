@@ -6,12 +6,12 @@
 demo:
 	samples/demo.sh
 
-# The gate: every proof from nothing, the edits that must fail, the tests and the stored run.
+# The gate: every proof that this machine has not passed yet, the edits that must fail, the tests and the stored run.
 test:
 	rt ci
 
-# What compiles a program that is proved: clang, or Rattle's own compiler (BACKEND=rattle), which is done sooner, says how much stack
-# the program takes, and makes a slower one.
+# What compiles a program that is proved: clang, or Rattle's own compiler (BACKEND=rattle), which is done sooner, says
+# how much stack the program takes, and makes a slower one.
 BACKEND = llvm
 
 # Proves every function of the program and of the crates below it, side by side, and leaves it at
