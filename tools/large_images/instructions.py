@@ -19,6 +19,7 @@ ROOT = os.path.dirname(os.path.dirname(HERE))
 KINDS = {
     **{kind: (16, 4, 1) for kind in "noted carried jumps threads capabilities objects mappings chain".split()},
     **{kind: (16, 4, 1) for kind in "fan descents deletes revokes searches branches retypes maps".split()},
+    **{kind: (16, 4, 1) for kind in "rising falling moves movers noted_slots wide spread".split()},
     "verify": (232, 16),
 }
 

@@ -18,8 +18,10 @@ wait, load, add, store, branch and count, and begin with a record that notes a r
 (four terms are carried over programs of 65536 words), `jumps` (each word leads half the program away, and has a record), `threads`,
 `capabilities` (of one CNode), `objects`, `mappings` (of one root table, with its tables) and `chain` (CNodes, each held by the next); and in which
 a thread's calls change many slots: `fan` (copies of one capability), `descents` (chains of copies), `deletes` (copies, of which every second one is
-deleted), `revokes` (of nothing, beside many capabilities that the image lists), `searches` (of nothing, beside chains of copies), `branches` (beside copies), `retypes` (endpoints, one a call) and `maps` (frames
-that are made, mapped and written to). SHARE is 1, 4 or 16.
+deleted), `revokes` (of nothing, beside many capabilities that the image lists), `searches` (of nothing, beside chains of copies), `branches` (beside copies), `retypes` (endpoints, one a call), `maps` (frames that are made, mapped
+and written to), `rising` and `falling` (256 endpoints a call, into slots that rise or fall through four CNodes), `moves` (of one capability, with
+many copies of it), `movers` (of many capabilities, each to an endpoint of its own), `noted_slots` (branches to a record that notes 255 slots), `wide`
+(loads of a byte of 3072 pages that the image maps) and `spread` (loads of a byte of 1024 pages that the thread mapped). SHARE is 1, 4 or 16.
 """
 
 import struct
@@ -203,9 +205,16 @@ def waiting(count):
     return (*BLOCK[:3], jump(-4 * (count - 1)))
 
 
-def record(point, constant, ranges=(), terms=()):
-    head = words(point, len(ranges), 0, len(terms)) + struct.pack("<q", constant)
-    return head + b"".join(words(*it) for it in ranges) + b"".join(struct.pack("<Ii", *it) for it in terms)
+# A branch over so many bytes where x5 is below x6, signed.
+def branch(distance):
+    far = (distance >> 12 & 1) << 31 | (distance >> 5 & 0x3F) << 25 | (distance >> 1 & 0xF) << 8 | (distance >> 11 & 1) << 7
+    return far | 6 << 20 | 5 << 15 | 4 << 12 | 0x63
+
+
+def record(point, constant, ranges=(), terms=(), slots=()):
+    head = words(point, len(ranges), len(slots), len(terms)) + struct.pack("<q", constant)
+    noted = b"".join(words(*it) for it in ranges) + b"".join(words(*it) for it in slots)
+    return head + noted + b"".join(struct.pack("<Ii", *it) for it in terms)
 
 
 # All registers but those that the wait writes.
@@ -241,8 +250,8 @@ def quiet_program(count):
 # ---- programs whose calls change many slots
 
 SEND = 3
-RETYPE, COPY, DELETE, REVOKE, MAP = 1, 7, 11, 12, 13
-WORDS = {RETYPE: 6, COPY: 5, DELETE: 2, REVOKE: 2, MAP: 4}
+RETYPE, COPY, MOVE, DELETE, REVOKE, MAP = 1, 7, 9, 11, 12, 13
+WORDS = {RETYPE: 6, COPY: 5, MOVE: 4, DELETE: 2, REVOKE: 2, MAP: 4}
 # The slots of the first thread's CNode: its notification, the CNode itself, untyped memory and its root table.
 BELL, OWN, POOL, ROOT = 1, 2, 3, 4
 ECALL = 0x73
@@ -269,14 +278,18 @@ def begun_again(before, root):
 
 
 # Copies into new slots, each from the last one but for every 250th, which is of slot 1 again, or all of slot 1.
-def copying_program(copies, is_chain):
+def copies_made(copies, is_chain):
     words = [adds(17, SEND), adds(10, OWN), *info(COPY), adds(13, 32), adds(15, 32), adds(18, 2), adds(12, ROOT), adds(14, BELL)]
     for i in range(copies):
         words.append(adds(12, 1, 12))
         if is_chain:
             words.append(adds(14, BELL) if i % 250 == 0 else adds(14, -1, 12))
         words.append(ECALL)
-    return begun_again(words, BELL)
+    return words
+
+
+def copying_program(copies, is_chain):
+    return begun_again(copies_made(copies, is_chain), BELL)
 
 
 # Copies of slot 1 into new slots, of which every second one is deleted at once.
@@ -294,13 +307,13 @@ def revoking_program(revokes):
 
 # Chains of copies, and then as many Revokes of the last slot, from which nothing descends.
 def searching_program(calls):
-    words = copying_program(calls, True)[0][:-12]
+    words = copies_made(calls, True)
     return begun_again(words + [*info(REVOKE), adds(12, 0, 12)] + [ECALL] * calls, BELL)
 
 
 # Copies of slot 1, and then as many branches to the next word: each leads from slots to the same slots.
 def branching_program(calls):
-    words = copying_program(calls, False)[0][:-12]
+    words = copies_made(calls, False)
     return begun_again(words + [6 << 20 | 5 << 15 | 4 << 12 | 4 << 7 | 0x63] * calls, BELL)
 
 
@@ -311,29 +324,110 @@ def retyping_program(endpoints):
 
 
 # Frames of the memory in slot 3, each mapped and written to.
-def mapping_program(frames):
+def frames_mapped(frames):
     words = [adds(17, SEND), adds(10, POOL), *info(RETYPE), adds(12, 6), adds(13, 0), adds(14, 0), adds(15, 0), adds(18, ROOT + 1)]
     words += [adds(19, 128)] + [ECALL, adds(18, 128, 18)] * (frames // 128)
     words += [adds(10, ROOT), *info(MAP), adds(12, ROOT), adds(13, 32), high(14, 0x3FF), adds(15, 3), high(20, 1)]
     for _ in range(frames):
         words += [adds(10, 1, 10), 20 << 20 | 14 << 15 | 14 << 7 | 0x33, ECALL, 14 << 15 | 2 << 12 | 0x23]
+    return words
+
+
+def mapping_program(frames):
+    return begun_again(frames_mapped(frames), POOL)
+
+
+# Blocks of 256 endpoints of the memory in slot 3, one a call: the slots rise through the thread's own CNode and three more, or fall.
+# The block that holds the first slots of the own CNode is left out.
+def blocks_made(blocks, falls):
+    words = [adds(17, SEND), adds(10, POOL), *info(RETYPE), adds(12, 3), adds(13, 0), adds(19, 256)]
+    places = [(cnode, block) for cnode in range(4) for block in range(64) if (cnode, block) != (0, 0)][:blocks]
+    before = None
+    for cnode, block in reversed(places) if falls else places:
+        if cnode != before:
+            words += [adds(14, ROOT + cnode), adds(15, 32)] if cnode else [adds(14, 0), adds(15, 0)]
+            words += [high(18, block // 16), adds(18, block % 16 * 256 % 2048, 18)] + [adds(18, 1024, 18)] * (2 if block % 16 >= 8 else 0)
+            before = cnode
+        else:
+            words.append(adds(18, -256 if falls else 256, 18))
+        words.append(ECALL)
+    return words
+
+
+def block_program(blocks, falls):
+    return begun_again(blocks_made(blocks, falls), POOL)
+
+
+# Copies of slot 1, and then as many Moves of slot 1 to a slot and back.
+def moving_program(calls):
+    words = copies_made(calls, False)
+    free = ROOT + 1 + calls
+    words += [*info(MOVE), high(20, free + 2048 >> 12), adds(20, (free + 2048) % 4096 - 2048, 20)]
+    for _ in range(calls // 2):
+        words += [adds(12, 0, 20), adds(14, BELL), ECALL, adds(12, BELL), adds(14, 0, 20), ECALL]
+    return begun_again(words, BELL)
+
+
+# Endpoints of the memory in slot 3, 256 a call, and then a Move of each to a slot of its own.
+def movers_program(blocks):
+    words = blocks_made(blocks, False)
+    words += [adds(10, OWN), *info(MOVE), adds(13, 32), adds(15, 32), high(12, 2), adds(14, 255)]
+    return begun_again(words + [adds(12, 1, 12), adds(14, 1, 14), ECALL] * (256 * blocks), POOL)
+
+
+# Groups of 900 branches, each group to a record of its own that notes 255 slots, which copies of slot 1 filled: each branch leads from
+# slots to the same slots. What notes them is the number of the thread's CNode and where the notification lies.
+def noted_slots_program(groups):
+    def program(cnode, bell):
+        words = copies_made(255, False)
+        targets = []
+        for _ in range(groups):
+            words += [branch(4 * (900 - i)) for i in range(900)]
+            targets.append(len(words))
+        words, records = begun_again(words, BELL)
+        slots = [(cnode, ROOT + 1 + i, 4 | 2 << 4 | bell << 8, 0, cnode, BELL) for i in range(255)]
+        return words, records + [record(at, len(words) + 10 - at, slots=slots) for at in targets]
+
+    return program
+
+
+# Loads of a byte that may lie in any page of a range that is mapped, which one record gives.
+def loading_program(loads, low, high_end):
+    words = [6 << 15 | 7 << 7 | 0x03] * loads
+    words += waiting(len(words) + 4)
+    return words, [record(0, len(words) + 10, [(6, low, high_end)])]
+
+
+# Frames of the memory in slot 3, each mapped, and then loads of a byte that may lie in any of them.
+def spreading_program(frames, loads):
+    words = frames_mapped(frames)
+    # What is loaded is masked to their size, and begins where the first is mapped.
+    words += [14 << 15 | 2 << 12 | 6 << 7 | 0x03, high(21, frames), adds(21, -1, 21), 21 << 20 | 6 << 15 | 7 << 12 | 6 << 7 | 0x33]
+    words += [high(21, 0x400), 21 << 20 | 6 << 15 | 6 << 7 | 0x33]
+    words += [6 << 15 | 4 << 12 | 7 << 7 | 0x03] * loads
     return begun_again(words, POOL)
 
 
 # Threads with these programs, each with a CNode and its notification, an address space of one table, and pages of code. The first
 # thread's CNode has more capabilities, its space more tables and mappings, and a chain of CNodes hangs on it, each before the last one.
-def image_of(programs, endpoints=1, listed=0, radix=1, tables=0, mappings=0, chain=0, pool=0):
+# A program that notes slots is a function of its CNode's number and of where the notification lies. The first thread may have more CNodes, and
+# its registers may begin with values.
+def image_of(programs, endpoints=1, listed=0, radix=1, tables=0, mappings=0, chain=0, pool=0, further=0, registers=()):
     untypeds = untypeds_of(59)
     objects, capabilities, places, maps = [], [], [], []
-    put, _, _ = placing(untypeds, objects, 0)
+    put, room, at = placing(untypeds, objects, 0)
+    given, programs = programs, [it(0, 0) if callable(it) else it for it in programs]
     kinds = [[(8, 0, 12), (7, 0, 12)] + [(6, 0, 12)] * (len(program) // 1024 + 2) for program, _ in programs]
     parts = [[put(*it) for it in each] for each in kinds]
     page_tables = [put(7, 0, 12) for _ in range(tables)]
     tcbs = [put(2, 0, 9) for _ in programs]
     first = put(5, radix, radix + 4)
+    more = [put(5, radix, radix + 4) for _ in range(further)]
     links = [put(5, 1, 5) for _ in range(chain)]
     cnodes = [first] + [put(5, 1, 5) for _ in programs[1:]]
     bells = [put(4, 0, 4) for _ in programs]
+    bell = untypeds[at[0]][0] + (1 << untypeds[at[0]][1]) - room[at[0]] - 16 * len(programs)
+    programs = [it(first, bell) if callable(it) else it for it in given]
     sources = [put(3, 0, 4) for _ in range(endpoints)]
     for root, table, data, *code in parts:
         places.append((root, 0, table))
@@ -345,6 +439,7 @@ def image_of(programs, endpoints=1, listed=0, radix=1, tables=0, mappings=0, cha
     capabilities += [(cnode, 1, bell, 2, 0) for cnode, bell in zip(cnodes, bells)]
     if pool:
         capabilities += [(first, OWN, first, 0, 32 - radix), (first, POOL, memory, 0, 0), (first, ROOT, root, 0, 0)]
+    capabilities += [(first, ROOT + 1 + i, it, 0, 32 - radix) for i, it in enumerate(more)]
     capabilities += [(first, i + (ROOT + 1 if pool else 2), sources[i % len(sources)], 2, 0) for i in range(listed)]
     capabilities += [(links[i + 1] if i + 1 < chain else first, 0, link, 0, 31) for i, link in enumerate(links)]
     yield header(24, 14, (len(untypeds), len(objects), len(capabilities), 0, len(places), len(maps), 0, len(programs)))
@@ -353,7 +448,9 @@ def image_of(programs, endpoints=1, listed=0, radix=1, tables=0, mappings=0, cha
     for (program, records), tcb, cnode, (root, *_) in zip(programs, tcbs, cnodes, parts):
         guard = 32 - radix if cnode == first else 31
         yield words(tcb, cnode, guard, root, 100) + struct.pack("<Q", 1 << 40)
-        yield words(0, 0, 0x1000, 0, len(program), len(records)) + words(*program) + b"".join(records)
+        given = registers if cnode == first else ()
+        yield words(0, 0, 0x1000, len(given), len(program), len(records)) + b"".join(words(*it) for it in given)
+        yield words(*program) + b"".join(records)
 
 
 GROWING = {
@@ -373,6 +470,15 @@ GROWING = {
     "branches": lambda share: image_of([branching_program(8000 // share)], radix=14, pool=12),
     "retypes": lambda share: image_of([retyping_program(16000 // share)], radix=14, pool=18),
     "maps": lambda share: image_of([mapping_program(2048 // share)], radix=14, tables=2, pool=23),
+    "rising": lambda share: image_of([block_program(254 // share, False)], radix=14, pool=20, further=3),
+    "falling": lambda share: image_of([block_program(254 // share, True)], radix=14, pool=20, further=3),
+    "moves": lambda share: image_of([moving_program(8000 // share)], radix=14, pool=12),
+    "movers": lambda share: image_of([movers_program(32 // share)], radix=14, pool=20),
+    "noted_slots": lambda share: image_of([noted_slots_program(48 // share)], radix=14, pool=12),
+    "wide": lambda share: image_of(
+        [loading_program(60000 // share, 0x400000, 0xFFFFFC)], tables=3, mappings=3072, registers=((6, 0x400000),)
+    ),
+    "spread": lambda share: image_of([spreading_program(1024, 48000 // share)], radix=14, tables=2, pool=23),
 }
 
 
