@@ -8,7 +8,7 @@ from __future__ import annotations
 
 from collections import Counter
 from collections.abc import Callable
-from dataclasses import dataclass, field
+from dataclasses import dataclass, field, replace
 
 from faults import Fault, Place
 from frames import frame_of, is_save, moves_stack, registers_in, registers_of, saves_of
@@ -29,7 +29,7 @@ class Line:
     """An instruction of the program; a branch or jump leads to a label."""
 
     words: list[str]
-    place: Place
+    place: Place | None
     target: str | None = None
     labels: list[str] = field(default_factory=list)
     note: str = ""
@@ -51,10 +51,11 @@ class Program:
 
 @dataclass(frozen=True)
 class Caller:
-    """What a copy has to know of the functions that it is called by: where it goes on behind the return, their names,
-    the registers that they keep values in, and the bytes of stack that they use."""
+    """What a copy has to know of the functions that it is called by: where it goes on behind the return, the place of
+    the call, their names, the registers that they keep values in, and the bytes of stack that they use."""
 
     after: str | None = None
+    place: Place | None = None
     names: tuple[str, ...] = ()
     held: frozenset[str] = frozenset()
     depth: int = 0
@@ -84,6 +85,10 @@ def program_of(linked: Linked, entry: str) -> Program:
     return Program(within_reach(lines), stack)
 
 
+class Returned(Fault):
+    """The thread's function returns; the place is that of its end."""
+
+
 class Copier:
     """Copies functions one into another, and collects the lines."""
 
@@ -102,11 +107,12 @@ class Copier:
         return f"at_{self.labels}"
 
     def copy(self, address: int, caller: Caller) -> None:
-        """Copies the function at the address."""
-        function = self.linked.functions[address]
+        """Copies the function at the address. What of it has no place of its own has that of the call."""
+        function = at_place(self.linked.functions[address], caller.place)
         targets = {it.target for it in function.body}
         saved = saves_of(function)
         itself = Caller(
+            place=caller.place,
             names=(*caller.names, function.name),
             held=caller.held | registers_of(function, saved),
             depth=caller.depth + frame_of(function),
@@ -161,7 +167,7 @@ class Copier:
             circle = " calls ".join([*names[names.index(called) :], called])
             raise Fault(instruction.place, f"recursion, which has no bound: {circle}; write a loop")
         after = self.label() if is_call else copy.caller.after
-        self.copy(target, Caller(after, names, copy.itself.held, copy.itself.depth))
+        self.copy(target, Caller(after, instruction.place, names, copy.itself.held, copy.itself.depth))
         if is_call and after:
             self.pending.append(after)
 
@@ -170,7 +176,7 @@ class Copier:
         if instruction.operands == ("x0", "0(x1)"):
             if copy.caller.after is None:
                 advice = "returns, and a thread has nowhere to return to: end it with a loop that waits"
-                raise Fault(instruction.place, f"`{copy.function.name}` {advice}")
+                raise Returned(instruction.place, f"`{copy.function.name}` {advice}")
             self.put(["jal", "x0"], instruction, copy.caller.after)
         elif instruction.operands[0] == "x1":
             advice = "call by name, in a `switch` or with `if`"
@@ -178,6 +184,11 @@ class Copier:
         else:
             advice = "write `switch` or `if` in place of `goto *`"
             raise Fault(instruction.place, f"a jump to a computed address: {advice}")
+
+
+def at_place(function: Function, place: Place | None) -> Function:
+    """The function, with the place where an instruction has none."""
+    return Function(function.name, [it if it.place else replace(it, place=place) for it in function.body])
 
 
 def refusal_of(name: str) -> str:

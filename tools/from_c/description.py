@@ -17,10 +17,20 @@ WRITE, READ, EXECUTE = 1, 2, 4
 
 @dataclass(frozen=True)
 class Mapped:
-    """A page of an address space."""
+    """A page of an address space, and the line that says so."""
 
     frame: str
     rights: int
+    line: int
+
+
+@dataclass(frozen=True)
+class Held:
+    """A slot of a CNode: the object or handler that it names, with which rights, and the line that says so."""
+
+    source: str
+    rights: int
+    line: int
 
 
 @dataclass(frozen=True)
@@ -44,7 +54,8 @@ class Thread:
     entry: str
     base: int
     wanted: Wanted | None = None
-    sets_stack: bool = False
+    # The value of a line `reg x2`.
+    stack: int | None = None
 
 
 @dataclass
@@ -54,7 +65,8 @@ class Description:
     lines: list[str]
     threads: list[Thread] = field(default_factory=list)
     pages: dict[str, dict[int, Mapped]] = field(default_factory=dict)
-    slots: dict[str, dict[int, str]] = field(default_factory=dict)
+    slots: dict[str, dict[int, Held]] = field(default_factory=dict)
+    kinds: dict[str, str] = field(default_factory=dict)
     filled: set[str] = field(default_factory=set)
 
     def names(self, thread: Thread) -> dict[str, int]:
@@ -62,11 +74,20 @@ class Description:
         handler of that name, and PAGE_NAME, the address of the frame under its root table. What is there twice has
         none."""
         found: dict[str, list[int]] = {}
-        for index, source in self.slots.get(thread.cnode, {}).items():
-            found.setdefault(f"CAP_{source.upper()}", []).append(index)
+        for index, slot in self.slots.get(thread.cnode, {}).items():
+            found.setdefault(f"CAP_{slot.source.upper()}", []).append(index)
         for address, page in self.pages.get(thread.root, {}).items():
             found.setdefault(f"PAGE_{page.frame.upper()}", []).append(address)
         return {name: numbers[0] for name, numbers in found.items() if len(numbers) == 1}
+
+    def bell(self, thread: Thread) -> dict[str, int]:
+        """What `assert` waits for, as MICROSYS_BELL: the slot of a notification that the thread may read, or else of
+        an endpoint. Every thread that is accepted has one of them, since it waits."""
+        for kind in ("notification", "endpoint"):
+            for index, slot in sorted(self.slots.get(thread.cnode, {}).items()):
+                if self.kinds.get(slot.source) == kind and slot.rights & READ:
+                    return {"MICROSYS_BELL": index}
+        return {}
 
 
 def read(text: str, file: str) -> Description:
@@ -82,7 +103,7 @@ def read(text: str, file: str) -> Description:
             elif words[0] == "program":
                 thread.wanted = wanted(words, place)
             elif words[0] == "reg" and words[1] == "x2":
-                thread.sets_stack = True
+                thread.stack = number_of(words[2])
             elif words[0] == "end":
                 thread = None
         except (IndexError, ValueError) as error:
@@ -93,9 +114,13 @@ def read(text: str, file: str) -> Description:
 def declaration(words: list[str], place: Place, described: Description) -> Thread | None:
     """Notes a line outside threads; the thread that it begins, if it begins one."""
     if words[0] == "map":
-        described.pages.setdefault(words[1], {})[number_of(words[2])] = Mapped(words[3], number_of(words[4]))
+        page = Mapped(words[3], number_of(words[4]), place.line)
+        described.pages.setdefault(words[1], {})[number_of(words[2])] = page
     elif words[0] == "cap":
-        described.slots.setdefault(words[1], {})[number_of(words[2])] = words[3]
+        slot = Held(words[3], number_of(words[4]), place.line)
+        described.slots.setdefault(words[1], {})[number_of(words[2])] = slot
+    elif words[0] == "object":
+        described.kinds[words[1]] = words[3]
     elif words[0] == "data":
         described.filled.add(words[1])
     elif words[0] == "thread":

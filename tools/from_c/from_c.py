@@ -17,15 +17,16 @@ from pathlib import Path
 
 sys.dont_write_bytecode = True
 
-from copying import LONGEST, Program, program_of  # noqa: E402
-from description import EXECUTE, PAGE, READ, WRITE, Description, Thread, Wanted, read  # noqa: E402
-from faults import Fault  # noqa: E402
-from machine_code import Order, compile_and_link  # noqa: E402
+from copying import Returned, program_of  # noqa: E402
+from description import PAGE, Description, Thread, Wanted, read  # noqa: E402
+from faults import Fault, Place, Refused  # noqa: E402
+from layout import Part, check_apart, check_code, data_part, stack_part, wanted_place  # noqa: E402
+from machine_code import Order, compile_and_link, return_of  # noqa: E402
 
 
 def convert(source: Path, prefix: str) -> str:
     """The text of a description with the programs in their places."""
-    described = read(source.read_text(), source.name)
+    described = read(text_of(source), source.name)
     programs: dict[int, list[str]] = {}
     for thread in described.threads:
         if thread.wanted:
@@ -43,70 +44,51 @@ def convert(source: Path, prefix: str) -> str:
     return "\n".join(lines)
 
 
+def text_of(source: Path) -> str:
+    """The text of a file."""
+    try:
+        return source.read_bytes().decode()
+    except UnicodeDecodeError as error:
+        line = error.object[: error.start].count(b"\n") + 1
+        raise Fault(Place(source.name, line), "this is not UTF-8") from error
+
+
 def lines_of(thread: Thread, wanted: Wanted, described: Description, folder: Path, prefix: str) -> list[str]:
     """The lines of a thread's program, and those of its data."""
     sources = tuple(folder / name for name in wanted.files)
-    order = Order(sources, thread.entry, wanted.data, described.names(thread), wanted.place)
+    names = {**described.names(thread), **described.bell(thread)}
+    order = Order(sources, thread.entry, wanted.data, names, wanted.place)
     with tempfile.TemporaryDirectory() as room:
         linked = compile_and_link(order, Path(room), prefix)
-    program = program_of(linked, thread.entry)
+        try:
+            program = program_of(linked, thread.entry)
+        except Returned as fault:
+            begin = linked.functions[linked.addresses[thread.entry]].body[0].place
+            raise Fault(return_of(order, begin, fault.place, Path(room), prefix), fault.text) from fault
     check_code(thread, program, described)
-    data = data_lines(linked.data, thread, wanted, described)
-    stack = stack_lines(program, thread, wanted, described)
+    data = data_part(thread, len(linked.data), described)
+    stack = stack_part(thread, program.stack, described)
+    check_apart(thread, data, stack)
     length = len(program.lines)
     print(f"{thread.name}: {length} instructions, {program.stack} bytes of stack, {len(linked.data)} of data")
-    return [*stack, *(it.text() for it in program.lines), *data]
+    begins = [f"reg x2 {stack.end:#x}"] if stack.size and thread.stack is None else []
+    return [*begins, *(it.text() for it in program.lines), *data_lines(linked.data, data, thread, described)]
 
 
-def check_code(thread: Thread, program: Program, described: Description) -> None:
-    """The pages that the program lies in are mapped to execute."""
-    length = len(program.lines)
-    if length > LONGEST:
-        raise Fault(thread.place, f"the program of {thread.name} has {length} instructions, and {LONGEST} are the most")
-    check_pages(thread, thread.base, thread.base + 4 * length, EXECUTE, "the program", described)
-
-
-def check_pages(thread: Thread, start: int, end: int, rights: int, what: str, described: Description) -> None:
-    """The pages of the bytes from start to end are mapped with the rights."""
-    pages = described.pages.get(thread.root, {})
-    for address in range(start // PAGE * PAGE, end, PAGE):
-        if address not in pages or pages[address].rights & rights != rights:
-            line = f"`map {thread.root} {address:#x} FRAME {rights}`"
-            whose = f"{what} of {thread.name} from {start:#x} to {end - 1:#x}"
-            raise Fault(thread.place, f"{line} is missing, for {whose}")
-
-
-def data_lines(data: bytes, thread: Thread, wanted: Wanted, described: Description) -> list[str]:
+def data_lines(data: bytes, part: Part, thread: Thread, described: Description) -> list[str]:
     """The lines `data` of the frames that constants and variables lie in."""
-    if not data:
-        return []
-    if wanted.data is None:
-        what = f"the program of {thread.name} has {len(data)} bytes of constants and variables"
-        raise Fault(wanted.place, f"{what}: say `data ADDRESS` here")
-    check_pages(thread, wanted.data, wanted.data + len(data), READ, "the data", described)
     lines: list[str] = []
-    for start in range(0, len(data), PAGE):
-        frame = described.pages[thread.root][wanted.data + start].frame
-        part = data[start : start + PAGE].rstrip(b"\0")
-        words = struct.unpack(f"<{-(-len(part) // 4)}I", part + bytes(-len(part) % 4))
+    for address in part.pages() if data else ():
+        frame = described.pages[thread.root][address].frame
+        bytes_of_page = data[address - part.start :][:PAGE].rstrip(b"\0")
+        words = struct.unpack(f"<{-(-len(bytes_of_page) // 4)}I", bytes_of_page + bytes(-len(bytes_of_page) % 4))
         if frame in described.filled:
             advice = "give each thread frames of its own for its data"
-            raise Fault(wanted.place, f"the frame {frame} has data already: {advice}")
+            raise Fault(wanted_place(thread), f"the frame {frame} has data already: {advice}")
         described.filled.add(frame)
         if words:
             lines.append(f"data {frame} " + " ".join(f"{word:#x}" for word in words))
     return lines
-
-
-def stack_lines(program: Program, thread: Thread, wanted: Wanted, described: Description) -> list[str]:
-    """The line that sets the stack pointer, where the program has a stack."""
-    if not program.stack or thread.sets_stack:
-        return []
-    if wanted.stack is None:
-        what = f"the program of {thread.name} has {program.stack} bytes of stack"
-        raise Fault(wanted.place, f"{what}: say `stack ADDRESS` here, the address behind its last byte")
-    check_pages(thread, wanted.stack - program.stack, wanted.stack, READ | WRITE, "the stack", described)
-    return [f"reg x2 {wanted.stack:#x}"]
 
 
 def main() -> int:
@@ -120,10 +102,12 @@ def main() -> int:
         text = convert(words.source, words.prefix)
         words.made.write_text(text)
     except Fault as fault:
-        print(fault)
+        print(fault, file=sys.stderr)
+        return 1
+    except Refused:
         return 1
     except OSError as error:
-        print(f"file {error.filename}", file=sys.stderr)
+        print(f"{error.filename}: {error.strerror}", file=sys.stderr)
         return 3
     return 0
 

@@ -2,17 +2,26 @@
 
 from __future__ import annotations
 
+import json
+import os
 import re
 import subprocess
+import sys
+from collections.abc import Iterator
 from dataclasses import dataclass, field
 from pathlib import Path
 
-from faults import Fault, Place
+from faults import Fault, Place, Refused, Remark
 
 HERE = Path(__file__).resolve().parent
 RUNTIME = HERE / "runtime.c"
-HEADER = "microsys.h"
-
+# The sections of an object file that have a place in memory, and what others come from.
+USUAL = r"\.(text|rodata|srodata|data|sdata|bss|sbss|eh_frame|note)(\..*|_.*)?"
+UNUSUAL = (
+    (r"\.(pre)?init|\.ctors|\.fini|\.dtors", "a constructor or destructor: nothing runs before a thread, and it never ends"),
+    (r"\.t(data|bss)", "a variable of its own for each thread: each thread has variables of its own without that word"),
+    (r".*", "a section of its own: functions and variables lie where `program` says"),
+)
 # Code stands here while it is linked; the copies that become a program know no address of code.
 CODE = 0x4000_0000
 # Data stand here where the description names no place for them, which is a fault if there are any.
@@ -27,7 +36,9 @@ FLAGS = (
     # Loops stay as they are written: an index is no pointer and no second counter, and no loop a call of memset.
     "-fno-ivopts -fno-tree-loop-ivcanon -fno-tree-loop-distribute-patterns -fno-tree-vectorize "
     # A test stays a branch, behind which the verifier knows its outcome.
-    "-fno-if-conversion -fno-if-conversion2 -fno-ssa-phiopt -fno-tree-switch-conversion"
+    "-fno-if-conversion -fno-if-conversion2 -fno-ssa-phiopt -fno-tree-switch-conversion "
+    # Remarks are read, and shown in one form.
+    "-Wall -Wextra -fdiagnostics-format=json -pipe"
 ).split()
 
 # What gcc calls for C that RV32I has no instructions for, and what to write instead.
@@ -46,12 +57,13 @@ STORES = {"sb", "sh", "sw"}
 
 @dataclass(frozen=True)
 class Instruction:
-    """An instruction as objdump writes it: numeric registers, addresses in hexadecimal."""
+    """An instruction as objdump writes it: numeric registers, addresses in hexadecimal. What is of the runtime has no
+    place of its own."""
 
     address: int
     name: str
     operands: tuple[str, ...]
-    place: Place
+    place: Place | None
 
     @property
     def words(self) -> list[str]:
@@ -95,8 +107,13 @@ class Order:
 
 def compile_and_link(order: Order, room: Path, prefix: str) -> Linked:
     """The program that the order asks for. Files are made in the folder `room`."""
-    objects = [compile_one(source, order, room, prefix) for source in (*order.sources, RUNTIME)]
-    program = link(objects, order, room, prefix)
+    for source in order.sources:
+        if not source.is_file():
+            raise Fault(order.place, f"there is no file {source.name}")
+    made = [room / f"{number}.o" for number in range(len(order.sources) + 1)]
+    for source, it in zip((*order.sources, RUNTIME), made):
+        compile_one(source, it, order, prefix)
+    program = link(made, order, room, prefix)
     functions = disassemble(program, prefix)
     addresses = {function.name: address for address, function in functions.items()}
     if order.entry not in addresses:
@@ -104,19 +121,51 @@ def compile_and_link(order: Order, room: Path, prefix: str) -> Linked:
     return Linked(functions, addresses, data_of(program, room, prefix))
 
 
-def compile_one(source: Path, order: Order, room: Path, prefix: str) -> Path:
-    """The object file of a source. What gcc has against it is shown as gcc writes it."""
-    made = room / f"{source.stem}.o"
+def compile_one(source: Path, made: Path, order: Order, prefix: str, *options: str) -> list[Remark]:
+    """Makes the object file of a source. What the compiler remarks is shown, and where there is an error it ends the
+    conversion."""
     names = [f"-D{name}={value:#x}u" for name, value in order.names.items()]
-    command = [f"{prefix}gcc", *FLAGS, "-Wall", "-Wextra", f"-I{HERE}", *names, "-c", str(source), "-o", str(made)]
-    if source != RUNTIME and not source.is_file():
-        raise Fault(order.place, f"there is no file {source.name}")
+    folders = [f"-I{HERE}", f"-I{HERE / 'include'}"]
+    command = [f"{prefix}gcc", *FLAGS, *options, *folders, *names, "-c", str(source), "-o", str(made)]
     answer = run(command)
-    if answer.stderr:
-        print(answer.stderr, end="")
-    if answer.returncode:
+    remarks = list(remarks_of(answer.stderr, order))
+    if not options:
+        for remark in remarks:
+            print(remark, file=sys.stderr)
+    if answer.returncode and not any(it.is_error for it in remarks):
         raise Fault(order.place, f"{source.name} does not compile")
-    return made
+    if answer.returncode and not options:
+        raise Refused
+    if not options:
+        check_sections(made, source, prefix)
+    return remarks
+
+
+def remarks_of(errors: str, order: Order) -> Iterator[Remark]:
+    """What gcc says on standard error, with `-fdiagnostics-format=json`. The assembler's words come as lines behind
+    that; a line of a file that gcc made by itself is no place."""
+    _, bracket, rest = errors.partition("[")
+    remarks, end = json.JSONDecoder().raw_decode(bracket + rest) if bracket else ([], 0)
+    for it in remarks:
+        places = [spot["caret"] for spot in it["locations"] if "caret" in spot]
+        place = Place(Path(places[0]["file"]).name, places[0]["line"]) if places else order.place
+        yield Remark(place, it["kind"], it["message"])
+    for name, line, kind, text in re.findall(r"^(\S+?):(\d+): (Error|Warning): (.*)$", rest[end:], re.MULTILINE):
+        place = order.place if name.endswith(".s") or name.startswith("{") else Place(Path(name).name, int(line))
+        yield Remark(place, kind.lower(), text)
+
+
+def return_of(order: Order, begin: Place | None, end: Place, room: Path, prefix: str) -> Place:
+    """The last `return` of a `THREAD` between two places of a source, as gcc tells it where a `THREAD` says that it
+    never returns; the end, where there is none."""
+    for source in order.sources:
+        if source.name != end.file:
+            continue
+        remarks = compile_one(source, room / "returns.o", order, prefix, "-DMICROSYS_NEVER_RETURNS")
+        found = [it.place for it in remarks if it.text == "function declared 'noreturn' has a 'return' statement"]
+        inside = [it for it in found if it.line <= end.line and (begin is None or it.line >= begin.line)]
+        return inside[-1] if inside else end
+    return end
 
 
 def link(objects: list[Path], order: Order, room: Path, prefix: str) -> Path:
@@ -133,40 +182,81 @@ def link(objects: list[Path], order: Order, room: Path, prefix: str) -> Path:
     names = [str(it) for it in objects]
     answer = run([f"{prefix}gcc", "-march=rv32i", "-mabi=ilp32", *options, *names, "-o", str(program)])
     if answer.returncode:
-        raise undefined(answer.stderr, order)
+        raise fault_of_linker(answer.stderr, order)
+    check_start(program, data, order, prefix)
     return program
 
 
-def undefined(errors: str, order: Order) -> Fault:
-    """The fault of what the linker did not find."""
-    found = re.search(r"(\S+):(\d+): undefined reference to [`']([^`']+)'", errors)
+def fault_of_linker(errors: str, order: Order) -> Fault:
+    """The fault of what does not link, without the linker's own words."""
+    twice = re.search(
+        r"(?:(\S+\.\w+):(\d+)|\S+): multiple definition of [`']([^`']+)'; \S+?:(?:(\S+\.\w+):(\d+))?", errors
+    )
+    if twice:
+        first = f", and first at {Path(twice[4]).name}:{twice[5]}" if twice[4] else ""
+        place = Place(Path(twice[1]).name, int(twice[2])) if twice[1] else order.place
+        return Fault(place, f"`{twice[3]}` is defined here{first}: one of them is to be `static`, or has another name")
+    found = re.search(r"(?:(\S+):(\d+)|\(\S+\)): undefined reference to [`']([^`']+)'", errors)
     if not found:
-        return Fault(order.place, f"it does not link:\n{errors.strip()}")
-    place, name = Place(Path(found[1]).name, int(found[2])), found[3]
+        return Fault(order.place, "it does not link: the program or its data are too large, or lie in too odd a place")
+    place = Place(Path(found[1]).name, int(found[2])) if found[1] else order.place
     for pattern, advice in MISSING:
-        if re.fullmatch(pattern, name):
-            return Fault(place, f"`{name}` is not there, for {advice}")
-    return Fault(place, f"no function or variable `{name}`")
+        if re.fullmatch(pattern, found[3]):
+            return Fault(place, f"`{found[3]}` is not there, for {advice}")
+    return Fault(place, f"no function or variable `{found[3]}`")
+
+
+def check_sections(file: Path, source: Path, prefix: str) -> None:
+    """The object file of a source has code and data in the usual sections alone. What stands elsewhere would be lost."""
+    listed = run([f"{prefix}objdump", "-h", "-w", str(file)]).stdout
+    for name, size, flags in re.findall(r"^ *\d+ (\S+) +([0-9a-f]+) .*?2\*\*\d+ +(.*)$", listed, re.MULTILINE):
+        if "ALLOC" in flags and int(size, 16) and not re.fullmatch(USUAL, name):
+            what = next(text for pattern, text in UNUSUAL if re.match(pattern, name))
+            raise Fault(place_of_section(file, name, source, prefix), what)
+
+
+def place_of_section(file: Path, section: str, source: Path, prefix: str) -> Place:
+    """The line of the first variable or function of a section, or that a section of addresses leads to."""
+    listed = run([f"{prefix}objdump", "-t", "-r", "-j", section, str(file)]).stdout.split()
+    for text in run([f"{prefix}nm", "-l", str(file)]).stdout.splitlines():
+        found = re.fullmatch(r"\S+ \S (\S+)\t(.+):(\d+)", text)
+        if found and found[1] in listed:
+            return Place(Path(found[2]).name, int(found[3]))
+    return Place(source.name, 1)
+
+
+def check_start(program: Path, data: int, order: Order, prefix: str) -> None:
+    """The data begin where the description says: one whose alignment asks for more would move them."""
+    listed = run([f"{prefix}objdump", "-h", "-w", str(program)]).stdout
+    start = re.search(r"^ *\d+ \.data +[0-9a-f]+ +([0-9a-f]+) ", listed, re.MULTILINE)
+    if start and int(start[1], 16) != data:
+        raise Fault(order.place, f"a variable is aligned to more than the address {data:#x} is: {int(start[1], 16):#x}")
 
 
 def disassemble(program: Path, prefix: str) -> dict[int, Function]:
-    """The functions of a linked program, by address. An instruction's place is in the source that called, where the
-    header's functions were put in line."""
+    """The functions of a linked program, by address. An instruction's place is in the maker's source: where a function
+    of this folder was put in line, that of the call. What has none is of the runtime."""
     options = ["-d", "-l", "--inlines", "-M", "numeric,no-aliases", "--no-show-raw-insn", "-j", ".text"]
     functions: dict[int, Function] = {}
-    function, line, callers, place = Function(""), Place("?", 0), [], Place("?", 0)
+    function, spots, place = Function(""), [], None
     for text in run([f"{prefix}objdump", *options, str(program)]).stdout.split("\n"):
         if head := re.fullmatch(r"([0-9a-f]+) <(.+)>:", text):
             function = functions.setdefault(int(head[1], 16), Function(head[2]))
+            if not function.body:
+                place = None
         elif source := re.fullmatch(r"(inlined by )?(\S.*?):(\d+)(?: \(.*\))?", text):
-            found = Place(Path(source[2]).name, int(source[3]))
-            line, callers = (line, [*callers, found]) if source[1] else (found, [])
+            spots = [*(spots if source[1] else []), (Path(source[2]), int(source[3]))]
         elif row := re.fullmatch(r" *([0-9a-f]+):\t(\S+)(?:[ \t]+([^#]*?))?(?: *#.*)?", text):
-            place = next((it for it in [line, *callers] if it.file != HEADER), place)
+            place = next((Place(file.name, line) for file, line in spots if not is_own(file)), place)
             operands = tuple(re.sub(r" <.*>", "", it) for it in (row[3] or "").strip().split(",") if it)
             function.body.append(Instruction(int(row[1], 16), row[2], operands, place))
-            callers = []
+            spots = spots[:1]
     return functions
+
+
+def is_own(file: Path) -> bool:
+    """Whether it is a file of this folder, whose lines say nothing to who wrote the C."""
+    return file.parent in (HERE, HERE / "include")
 
 
 def data_of(program: Path, room: Path, prefix: str) -> bytes:
@@ -180,6 +270,7 @@ def data_of(program: Path, room: Path, prefix: str) -> bytes:
 def run(command: list[str]) -> subprocess.CompletedProcess[str]:
     """Runs one of gcc's programs."""
     try:
-        return subprocess.run(command, capture_output=True, text=True, check=False)
+        spoken = {**os.environ, "LC_ALL": "C"}
+        return subprocess.run(command, capture_output=True, text=True, check=False, env=spoken)
     except FileNotFoundError as missing:
         raise Fault(command[0], "not found: apt-get install gcc-riscv64-unknown-elf") from missing

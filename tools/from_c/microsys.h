@@ -14,9 +14,14 @@
 
 #define MICROSYS_INLINE static inline __attribute__((always_inline))
 
-/* A thread's function, which never returns: `THREAD control(void) { for (;;) { .. } }`. Its name is the label at which
- * the thread starts, so it is written in lower case. What it calls in its file is put in line by the compiler. */
+/* A thread's function, which must not return: `THREAD control(void) { for (;;) { .. } }`. Its name is the label at which
+ * the thread starts, so it is written in lower case. What it calls in its file is put in line by the compiler, which is
+ * not told that the function never returns: else it would leave the return out, and not say so. */
+#ifdef MICROSYS_NEVER_RETURNS
 #define THREAD __attribute__((noreturn, flatten)) void
+#else
+#define THREAD __attribute__((flatten)) void
+#endif
 
 /* The words of a page that the system maps at a known address, as `words_at(0x3000)[0]`. Each use is one load or store,
  * in the order of the program, as memory that threads share wants it. */
