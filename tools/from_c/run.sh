@@ -1,16 +1,32 @@
 #!/usr/bin/env bash
-# Makes texts of the programs and systems from C, has them certified, builds, verifies and runs them, and compares the
-# bytes that they put with what was worked out by hand; and compares what is said of C that cannot be converted.
-# Usage: tools/from_c/run.sh [CERTIFIER [MICROSYS]], after `make build tool`. CERTIFIER is called as `CERTIFIER certify SRC
-# OUT`. It is no part of the gate: it needs Debian's gcc for RISC-V (docs/FROM_C.md).
+# Compiles the programs for this machine and compares the bytes that they put with what is expected; makes texts of the
+# programs and systems from C, has them certified, builds, verifies and runs them, and compares the bytes again; and
+# compares what is said of C that cannot be converted. What lacks its program is skipped, and a line says so.
+# Usage: tools/from_c/run.sh [--cheap | CERTIFIER [MICROSYS]]. CERTIFIER is called as `CERTIFIER certify SRC OUT`; by itself
+# it is the one that `make build tool` leaves. With --cheap nothing is certified. tools/smoke.sh runs that.
 set -u
 here="$(cd "$(dirname "$0")" && pwd)"
 root="$(cd "$here/../.." && pwd)"
-certifier="$(realpath "${1:-$root/crates/microsys_tool/out/microsys_tool}")"
-microsys="$(realpath "${2:-$root/crates/microsys/out/microsys}")"
+cheap=''
+[ "${1:-}" != --cheap ] || { cheap=yes && shift; }
+certifier="$(realpath -m "${1:-$root/crates/microsys_tool/out/microsys_tool}")"
+microsys="$(realpath -m "${2:-$root/crates/microsys/out/microsys}")"
 room="$(mktemp -d)"
 trap 'rm -rf "$room"' EXIT
 bad=0
+
+# Whether the programs are there that a part needs; if not, a line says which part is skipped.
+have() {
+    local part="$1" program
+    shift
+    for program in "$@"; do
+        command -v "$program" >"$room/found" || { echo "skipped: $part: $program is not there" && return 1; }
+    done
+}
+
+have "programs on this machine" cc && native=yes || native=''
+have "texts from C" riscv64-unknown-elf-gcc && compiler=yes || compiler=''
+[ -n "$cheap" ] || have "certificates" "$certifier" "$microsys" || cheap=yes
 
 # What goes wrong, with the lines that it printed.
 wrong() {
@@ -34,7 +50,9 @@ step() {
 # One system: a description, its events, and the bytes that it must put.
 check() {
     local name="$1" description="$2" events="$3" expected="$4" made="$room/$1" budgets
+    [ -n "$compiler" ] || return 0
     step "$name" "not converted" "$here/from_c.py" "$description" "$made.text" || return
+    [ -z "$cheap" ] || return 0
     step "$name" "not certified" "$certifier" certify "$made.text" "$made.txt" || return
     budgets="$(grep -i budget "$room/said" | paste -sd' ')"
     step "$name" "not built" "$microsys" build "$made.txt" "$made.img" || return
@@ -54,8 +72,26 @@ describe() {
     sed "s/NAME/$name/" "$here/programs/thread.txt" >"$room/$name/$name.txt"
 }
 
+# A program on this machine, as it is and as it was before it was rewritten: the same bytes, and at most one line in
+# six is another.
+natively() {
+    local name="$1" source
+    for source in "$here/programs/$name.c" "$here/programs/before/$name.c"; do
+        [ -e "$source" ] || continue
+        step "$name" "does not compile for this machine" \
+            cc -O1 -w -fwrapv -DRINGS=1 -I"$here/host" -o "$room/native" "$source" || return
+        step "$name" "does not end on this machine" timeout 10 "$room/native" || return
+        cp "$room/said" "$room/native.bytes"
+        bytes_of "$here/programs/$name.expected" >"$room/wanted"
+        step "$name" "other bytes on this machine" diff "$room/wanted" "$room/native.bytes" || return
+    done
+    [ -e "$source" ] || return 0
+    step "$name" "more than one line in six is rewritten" python3 "$here/rewritten.py" "$source" "$here/programs/$name.c"
+}
+
 for source in "$here"/programs/*.c; do
     name="$(basename "$source" .c)"
+    [ -z "$native" ] || natively "$name"
     describe "$name" "$here/programs"
     check "$name" "$room/$name/$name.txt" "$here/programs/thread.events" "$here/programs/$name.expected"
 done
@@ -65,8 +101,10 @@ for folder in "$here"/systems/* "$root/samples/gallery/controller_from_c"; do
 done
 
 # The gallery's certified text, as it stands there.
-step certified.txt "not built" "$microsys" build "$root/samples/gallery/controller_from_c/certified.txt" "$room/it.img" &&
-    step certified.txt "not accepted" "$microsys" verify "$room/it.img"
+[ -n "$cheap" ] || {
+    step certified.txt "not built" "$microsys" build "$root/samples/gallery/controller_from_c/certified.txt" "$room/it.img" &&
+        step certified.txt "not accepted" "$microsys" verify "$room/it.img"
+}
 
 # The first thread of docs/FROM_C.md rings three times, and puts one, two and three stars.
 page="$root/docs/FROM_C.md"
@@ -90,7 +128,7 @@ text_of() {
 
 # What is not certified, and what is in its place.
 with='' pairs=0
-while read -r word rest; do
+[ -n "$cheap" ] || while read -r word rest; do
     case "$word" in
     with) with="$with $rest" ;;
     not)
@@ -105,40 +143,71 @@ while read -r word rest; do
         ;;
     esac
 done <"$here/instead.txt"
-echo "$pairs pairs of what is not certified, and what is"
+[ -n "$cheap" ] || echo "$pairs pairs of what is not certified, and what is"
 
 # What is no program: its first line says what is said of it, and no text is made.
-for source in "$here"/refused/*.c; do
-    name="$(basename "$source" .c)"
+refuses() {
+    local name
+    name="$(basename "$1" .c)"
     describe "$name" "$here/refused"
     "$here/from_c.py" "$room/$name/$name.txt" "$room/$name.text" >"$room/said" 2>&1 && wrong "$name" "converted"
-    sed -n '1s|^// ||p' "$source" | diff - "$room/said" >"$room/diff" || wrong "$name" "refused otherwise"
+    sed -n '1s|^// ||p' "$1" | diff - "$room/said" >"$room/diff" || wrong "$name" "refused otherwise"
     [ ! -e "$room/$name.text" ] || wrong "$name" "a text was made"
+}
+[ -z "$compiler" ] || for source in "$here"/refused/*.c; do
+    refuses "$source"
 done
 
-# Descriptions that lack something: the program, what replaces a line of thread.txt, and what is said.
+# Descriptions at fault: the program, what replaces a line of thread.txt, and what is said on standard error.
 lacks() {
     local name="$1" edit="$2" expected="$3"
     describe "$name" "$here/programs"
     sed -i "$edit" "$room/$name/$name.txt"
-    "$here/from_c.py" "$room/$name/$name.txt" "$room/lacks.text" >"$room/said" 2>&1 && wrong "$name, $edit" "converted"
+    "$here/from_c.py" "$room/$name/$name.txt" "$room/lacks.text" 2>"$room/said" >"$room/out" && wrong "$name, $edit" "converted"
     [ "$(cat "$room/said")" = "$expected" ] || wrong "$name, $edit" "refused otherwise"
 }
-lacks crc32 's/ data 0x4000//' \
-    "crc32.txt:23: the program of thread has 9 bytes of constants and variables: say \`data ADDRESS\` here"
-lacks sort 's/ stack 0x6000//' "sort.txt:23: the program of thread has 48 bytes of stack: say \`stack ADDRESS\` here,\
- the address behind its last byte"
-lacks crc32 '/^map space 0x4000/d' \
-    "crc32.txt:21: \`map space 0x4000 FRAME 2\` is missing, for the data of thread from 0x4000 to 0x4008"
-lacks sort '/^map space 0x5000/d' \
-    "sort.txt:21: \`map space 0x5000 FRAME 3\` is missing, for the stack of thread from 0x5fd0 to 0x5fff"
-lacks sort 's/^map space 0x1000 code 4/map space 0x1000 code 2/' \
-    "sort.txt:22: \`map space 0x1000 FRAME 4\` is missing, for the program of thread from 0x1000 to 0x1103"
-lacks crc32 's/^object bell/data data 1\nobject bell/' \
-    "crc32.txt:24: the frame data has data already: give each thread frames of its own for its data"
-lacks sort 's/ main 0x1000/ start 0x1000/' "sort.txt:23: no function \`start\` in sort.c"
 lacks sort 's/^program sort.c/program missing.c/' "sort.txt:23: there is no file missing.c"
 lacks sort 's/^program.*/program/' "sort.txt:23: the line is \`program FILE.c .. [data ADDRESS] [stack ADDRESS]\`"
+lacks sort 's/stack 0x6000$/stack 0x6008/' "sort.txt:23: data begin at a multiple of 4096, and a stack ends at a multiple of 16"
+lacks sort 's/^map space 0x5000.*/map space/' "sort.txt:21: not understood: map space"
+lacks sort '4s/$/ \xff/' "sort.txt:4: this is not UTF-8"
+
+# The same of programs that are compiled.
+places() {
+    lacks crc32 's/ data 0x4000//' \
+        "crc32.txt:23: the program of thread has 9 bytes of constants and variables: say \`data ADDRESS\` here"
+    lacks sort 's/ stack 0x6000//' "sort.txt:23: the program of thread has 48 bytes of stack: say \`stack ADDRESS\`\
+ here, the address behind its last byte"
+    lacks crc32 '/^map space 0x4000/d' \
+        "crc32.txt:21: \`map space 0x4000 FRAME 2\` is missing, for the data of thread from 0x4000 to 0x4008"
+    lacks sort '/^map space 0x5000/d' \
+        "sort.txt:21: \`map space 0x5000 FRAME 3\` is missing, for the stack of thread from 0x5fd0 to 0x5fff"
+    lacks sort 's/^map space 0x1000 code 4/map space 0x1000 code 2/' \
+        "sort.txt:22: \`map space 0x1000 FRAME 4\` is missing, for the program of thread from 0x1000 to 0x1103"
+    lacks crc32 's/^object bell/data data 1\nobject bell/' \
+        "crc32.txt:24: the frame data has data already: give each thread frames of its own for its data"
+    lacks sort 's/ main 0x1000/ start 0x1000/' "sort.txt:23: no function \`start\` in sort.c"
+    lacks pid 's/stack 0x6000/stack 0x4030/' "pid.txt:23: the data of thread, 20 bytes from 0x4000 to 0x4013, and the\
+ stack of thread, 48 bytes from 0x4000 to 0x402f, overlap: end the stack further on, in a page of its own"
+    lacks pid 's/ stack 0x6000/\nreg x2 0x4030/' "pid.txt:23: the data of thread, 20 bytes from 0x4000 to 0x4013, and the\
+ stack of thread, 48 bytes from 0x4000 to 0x402f, overlap: end the stack further on, in a page of its own"
+    lacks sort 's/stack 0x6000/&\nreg x2 0x6000/' \
+        "sort.txt:23: the end of the stack is said here and by \`reg x2 0x6000\`: say it once"
+    lacks sort 's/^map space 0x5000.*/&\nmap other 0x7000 stack 3/' "sort.txt:24: the stack of thread, 48 bytes from 0x5fd0\
+ to 0x5fff, and \`map other 0x7000 stack 3\` of line 22 share the frame stack: give the stack of thread a frame of its own"
+    lacks crc32 's/^map space 0x4000.*/&\nmap space 0x7000 data 2/' "crc32.txt:24: the data of thread, 9 bytes from 0x4000\
+ to 0x4008, and \`map space 0x7000 data 2\` of line 21 share the frame data: give the data of thread a frame of its own"
+    lacks crc32 's/^cap slots 2.*/&\ncap slots 3 data 3 0/' "crc32.txt:24: the data of thread, 9 bytes from 0x4000 to 0x4008,\
+ and \`cap slots 3 data\` of line 17, which can be mapped elsewhere, share the frame data: give the data of thread a frame of\
+ its own"
+}
+[ -z "$compiler" ] || places
+
+# Functions of a maker's own win over the runtime's.
+[ -z "$compiler" ] || {
+    text_of 'uint32_t __mulsi3(uint32_t a, uint32_t b) { return a << b; } static volatile uint32_t factor;' \
+        'sys_put_char(factor * factor);' && grep -q '^sll ' "$room/body/body.text" || wrong "__mulsi3" "not the maker's own"
+}
 
 [ "$bad" = 0 ] && echo "all as expected"
 [ "$bad" = 0 ]
