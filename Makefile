@@ -6,9 +6,10 @@
 demo:
 	samples/demo.sh
 
-# The gate: every proof that this machine has not passed yet, the edits that must fail, the tests and the stored run.
+# What is cheap of the scripts under tools/, and then the gate: every proof that this machine has not passed yet, the
+# edits that must fail, the tests and the stored run. It fails where either does; the last line is the gate's.
 test:
-	rt ci
+	@tools/smoke.sh; smoke=$$?; rt ci && [ $$smoke = 0 ]
 
 # What compiles a program that is proved: clang, or Rattle's own compiler (BACKEND=rattle), which is done sooner, says
 # how much stack the program takes, and makes a slower one.

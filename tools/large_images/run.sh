@@ -10,10 +10,10 @@ copy="$(mktemp -d)"
 trap 'rm -rf "$copy"' EXIT
 git -C "$copy" init -q
 mkdir -p "$copy/crates/read_all/src"
-for name in model capwords image; do
+(cd "$root" && tools/checks/below.py image) >"$copy/crates.txt"
+for name in $(cut -d: -f1 "$copy/crates.txt"); do
     cp -r "$root/crates/$name" "$copy/crates/"
 done
-grep -E '^(model|capwords|image):' "$root/crates.txt" >"$copy/crates.txt"
 echo "read_all: image" >>"$copy/crates.txt"
 cp "$here/read_all.rt.in" "$copy/crates/read_all/src/main.rt"
 : >"$copy/none.events"

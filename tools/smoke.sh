@@ -1,0 +1,119 @@
+#!/usr/bin/env bash
+# Starts what is cheap of each script under tools/, some seconds each: what needs nothing but Python 3 and the repository
+# runs everywhere; what lacks a compiler, another program, or the built product is skipped, and a line says so. Prints a
+# line for each part, and fails where one fails. `make test` runs it before the gate.
+set -u
+cd "$(dirname "$0")/.." || exit 1
+room="$(mktemp -d)"
+trap 'rm -rf "$room"' EXIT
+bad=0
+
+# Runs a part, whose lines are shown where it fails, and those of what it skips in any case.
+part() {
+    local name="$1"
+    shift
+    if "$@" >"$room/said" 2>&1; then
+        echo "as expected: $name"
+        grep '^skipped: ' "$room/said"
+    else
+        echo "FAILED: $name"
+        cat "$room/said"
+        bad=$((bad + 1))
+    fi
+}
+
+# Runs a part that needs programs, or says which of them is not there.
+part_with() {
+    local needed="$1" program
+    shift
+    for program in $needed; do
+        command -v "$program" >"$room/found" || { echo "skipped: $1: $program is not there" && return; }
+    done
+    part "$@"
+}
+
+# Each script is one: shell, Python and C, as far as they can be read without being run.
+scripts_are_read() {
+    local file
+    find tools samples -name '*.sh' | while read -r file; do bash -n "$file" || echo "$file"; done
+    python3 - <<'READ'
+from pathlib import Path
+for file in sorted(Path("tools").rglob("*.py")):
+    compile(file.read_text(encoding="utf-8"), str(file), "exec")
+READ
+}
+scripts_say_nothing() {
+    [ -z "$(scripts_are_read 2>&1 | tee /dev/stderr)" ]
+}
+
+# The crates that a copy of the repository gets: all that stand below one are there, with their folders.
+copies_are_whole() {
+    local name
+    for name in image verify kernel; do
+        tools/checks/below.py "$name" >"$room/below" || return 1
+        for below in $(sed 's/^[^:]*://; s/#.*//' "$room/below"); do
+            grep -q "^$below:" "$room/below" || [ ! -d "crates/$below" ] || { echo "$name: $below" && return 1; }
+        done
+    done
+}
+
+reckons_damage() {
+    # The counts of `crates/program_tests/src/damage` for the first bytes of a sample.
+    python3 tools/damage/reckon.py counts samples/bell.img few 0 100 >"$room/counts" &&
+        echo "accepted 2; refused (1, 12), (2, 12), (5, 258), (6, 12), (7, 1), (12, 3)" | diff - "$room/counts"
+}
+
+makes_crowd() {
+    python3 tools/hostile/crowd.py "$room" && cmp "$room/crowd.txt" samples/hostile/crowd.txt &&
+        cmp "$room/crowd.events" samples/hostile/crowd.events
+}
+
+# An image of 100 KiB that is well formed and accepted, by the rules alone.
+makes_large_image() {
+    python3 tools/large_images/make.py verify 232 "$room/large.img" && python3 tools/large_images/make.py count 1 "$room/count.img" &&
+        PYTHONDONTWRITEBYTECODE=1 PYTHONPATH=tools/damage python3 -c '
+import sys
+from rules import read, well_formed
+for name in sys.argv[1:]:
+    with open(name, "rb") as file:
+        well_formed(read(file.read()))' "$room/large.img" "$room/count.img"
+}
+
+# Twenty texts of loops, which are texts: their images are made, apart from the product.
+makes_loops() {
+    mkdir "$room/loops" && python3 tools/certify/loops.py "$room/loops" 20 &&
+        PYTHONDONTWRITEBYTECODE=1 PYTHONPATH=tools/traces python3 -c '
+import pathlib, sys
+from texts import assembled
+for file in sorted(pathlib.Path(sys.argv[1]).glob("loop*.txt")):
+    assert assembled(file.read_text().replace(" auto ", " 1000 "))[:4] == b"MSYS", file' "$room/loops"
+}
+
+compiles_c() {
+    cc -O1 -shared -fPIC -o "$room/refuse.so" tools/memory/refuse_nth.c -ldl
+}
+
+same_rows() {
+    python3 tools/rv32i_table.py >"$room/table.rt" && grep '|' "$room/table.rt" >"$room/rows" &&
+        grep '|' crates/kernel_tests/src/machine/table.rt | diff - "$room/rows"
+}
+
+part_with python3 "tools, read" scripts_say_nothing
+part_with python3 "tools/checks/below.py" copies_are_whole
+part_with python3 "tools/traces/reckon.py" python3 tools/traces/reckon.py compare samples/{bell,solo,worker,client_server} \
+    samples/gallery/controller
+part_with python3 "tools/damage/reckon.py" reckons_damage
+part_with python3 "tools/hostile/crowd.py" makes_crowd
+part_with python3 "tools/large_images/make.py" makes_large_image
+part_with python3 "tools/certify/loops.py" makes_loops
+part_with cc "tools/memory/refuse_nth.c" compiles_c
+part_with "python3 riscv64-unknown-elf-as qemu-riscv32" "tools/rv32i_table.py" same_rows
+part_with "python3 clang" "tools/assembled_table.py" tools/assembled_table.py compare
+part_with python3 "tools/from_c/run.sh --cheap" tools/from_c/run.sh --cheap
+part_with crates/microsys/out/microsys "tools/failing/run.sh" tools/failing/run.sh
+for script in bench damage kernel_run large_images memory certify; do
+    echo "skipped: tools/$script/run.sh: takes minutes, and the built product"
+done
+
+[ "$bad" = 0 ] && echo "tools: all as expected"
+[ "$bad" = 0 ]
