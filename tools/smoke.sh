@@ -108,7 +108,6 @@ part_with python3 "tools/large_images/make.py" makes_large_image
 part_with python3 "tools/certify/loops.py" makes_loops
 part_with cc "tools/memory/refuse_nth.c" compiles_c
 part_with "python3 riscv64-unknown-elf-as qemu-riscv32" "tools/rv32i_table.py" same_rows
-part_with "python3 clang" "tools/assembled_table.py" tools/assembled_table.py compare
 part_with python3 "tools/from_c/run.sh --cheap" tools/from_c/run.sh --cheap
 part_with crates/microsys/out/microsys "tools/failing/run.sh" tools/failing/run.sh
 for script in bench damage kernel_run large_images memory certify; do
