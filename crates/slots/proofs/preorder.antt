@@ -7,5 +7,6 @@ pub mod Laws
 mod Linked
 mod Paths
 mod RowDepths
+mod Runs
 mod Splices
 mod Walking

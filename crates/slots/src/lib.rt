@@ -2,6 +2,7 @@
 //! derived from.
 #![tactic(auto)]
 
+mod kin;
 mod maps;
 mod plain;
 pub mod preorder;
@@ -10,6 +11,7 @@ mod stores;
 mod table;
 
 pub use capwords::Cap;
+pub use kin::object_of;
 pub use maps::SlotMap;
 pub use model::{Entry, Slot};
 pub use plain::PlainSlots;

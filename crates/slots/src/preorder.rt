@@ -3,6 +3,7 @@
 
 mod change_laws;
 mod row_laws;
+mod run_laws;
 mod walk_laws;
 
 pub use change_laws::{
@@ -15,6 +16,7 @@ pub use row_laws::{
     children_of_a_row_taken_out_get_its_parent, descendants_are_the_run_behind,
     rows_have_their_depths,
 };
+pub use run_laws::{changes_keep_runs, neighbours_tell, runs_end_beside};
 pub use walk_laws::{
     descent_is_back, links_lead_through_rows, next_below_is_linked, next_is_linked, parent_is_back,
     rows_are_few,

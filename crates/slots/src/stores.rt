@@ -1,6 +1,6 @@
 //! A store of slots beside the bytes of the machine.
 
-ghost use Rattle.std.specs.Prelude.{ℕ, ◌≡◌, ◌≢◌, ◌↔◌, ◌+◌, ◌*◌, ◌^◌, ◌<◌, ◌≤◌, [], ◌∷◌, List, Some, None, IfSome, IsTrue, length, replicate};
+ghost use Rattle.std.specs.Prelude.{ℕ, ◌≡◌, ◌≢◌, ◌↔◌, ◌+◌, ◌*◌, ◌^◌, ◌<◌, ◌≤◌, [], ◌∷◌, List, Some, None, IfSome, IsTrue, true, false, length, replicate};
 ghost use Rattle.std.specs.Option.{ForSome};
 ghost use Rattle.model.specs.Shared.Bytes.{word_bytes, written};
 ghost use Rattle.model.specs.Capabilities.CapabilityWords.{IsCapability};
@@ -9,9 +9,12 @@ ghost use Rattle.model.specs.Capabilities.Orders.{IsOrderOf, next_in, descendant
 ghost use Rattle.model.specs.Shared.Lists.{without};
 ghost use Rattle.model.specs.declared.capabilities.Cap.{Cap};
 ghost use Rattle.model.specs.declared.capabilities.Cap.TheVariants.{Empty};
+ghost use Rattle.model.specs.Capabilities.CapabilityKinds.{object_of};
 ghost use Rattle.pmem.specs.Words.{words_bytes};
+ghost use Rattle.slots.specs.Kin.{IsKin, IsShared, object_at};
 
-use crate::SlotMap;
+use crate::kin::names_too;
+use crate::{SlotMap, object_of};
 use model::{Cap, Slot};
 use pmem::Mem;
 
@@ -97,6 +100,27 @@ pub trait SlotStore: SlotMap {
         }
     }
 
+    /// Whether another slot names the object that a full slot names: among all full slots, where the store has no shorter way.
+    fn is_shared(&self, slot: Slot) -> bool
+        requires { IsFull (Self.slots self.now) slot }
+        ensures shared { result ≡ true → IsShared (Self.slots self.now) slot }
+        ensures alone { result ≡ false → IsShared (Self.slots self.now) slot → ⊥ }
+    {
+        let Some(offset) = object_of(self.capability(slot)) else {
+            return false;
+        };
+        let mut at = None;
+        'slots: loop {
+            let Some(other) = self.next_full(at) else {
+                return false;
+            };
+            if names_too(object_of(self.capability(other)), offset, other, slot) {
+                return true;
+            }
+            at = Some(other);
+        }
+    }
+
     /// Opens `count` slots, all of them empty.
     fn open_range(&mut self, first: Slot, count: u32)
         requires within { 16 * (first + count) ≤ length (memory self.old) }
@@ -119,6 +143,7 @@ pub trait SlotStore: SlotMap {
         requires full { IsFull (Self.slots self.old) slot }
         requires valid { IsCapability capability }
         requires some { capability ≢ Cap.Empty }
+        requires alike { object_of capability ≡ object_at (Self.slots self.old) slot }
         ensures slots { Self.slots self.new ≡ recapped (Self.slots self.old) slot capability }
         ensures bytes { SameOutside (Self.slots self.old) (memory self.old) (memory self.new) }
         ensures order { order self.new ≡ order self.old };
@@ -130,6 +155,7 @@ pub trait SlotStore: SlotMap {
         requires some { capability ≢ Cap.Empty }
         requires full { ForSome parent (IsFull (Self.slots self.old)) }
         requires room { ForSome parent (λ p. depth_of (Self.slots self.old) p < 255) }
+        requires kin { IsKin (Self.slots self.old) capability parent }
         ensures slots { Self.slots self.new ≡ inserted (Self.slots self.old) slot capability parent }
         ensures bytes { SameOutside (Self.slots self.old) (memory self.old) (memory self.new) };
 

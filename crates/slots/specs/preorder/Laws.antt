@@ -1,5 +1,5 @@
 -- The laws of this crate on rows in preorder, on chains of slots, and on walks along them.
-use Rattle.std.specs.Prelude.{ℕ, ◌≡◌, ◌≢◌, ◌==◌, ◌+◌, ◌<◌, ◌≤◌, ◌&&◌, nat_lt, Some, None, false, List, [], ◌∷◌, filter, length}
+use Rattle.std.specs.Prelude.{ℕ, ◌≡◌, ◌≢◌, ◌==◌, ◌+◌, ◌<◌, ◌≤◌, ◌⊎◌, ◌&&◌, nat_lt, Some, None, false, List, [], ◌∷◌, filter, length}
 use Rattle.std.specs.Option.{option_map_or}
 use Rattle.model.proofs.Depths.{adopted_parent}
 use Rattle.model.specs.Capabilities.Orders.{first_of, next_after}
@@ -8,6 +8,7 @@ use Rattle.model.specs.Kernel.State.{put}
 use Rattle.model.specs.Shared.Lists.{times_in, without}
 use Rattle.slots.specs.preorder.Chains.{IsChain, IsLinked, Links, back_above, if_deeper, lowered_depths, put_after, put_at, rows_linked}
 use Rattle.slots.specs.preorder.Preorder.{AreDeep, Rises, Row, descends_by, first_row, first_row, parents_of, put_behind, renamed, renamed_slot, rows_of, run_behind, slots_of, taken_out}
+use Rattle.slots.specs.preorder.Runs.{AreRuns, HasKey, Keys, MayFollow, NoneHas, behind_run}
 
 -- ---- parents
 
@@ -135,3 +136,33 @@ DescentIsBack = (rows : List Row) (next previous : Links) (depths : ℕ → ℕ)
     → ((x : ℕ) → 0 < rows_of rows x → depths x ≤ 256) → 0 < rows_of rows s → length rows ≤ n
     → descends_by (parents_of rows) root s
     ≡ (nat_lt (depths root) (depths s) && option_map_or (λ x. x == root) (back_above previous depths n (depths root + 1) (previous s)) false)
+
+-- ---- runs
+
+-- the runs stay after each change; a list keeps them under keys that are the same at its slots
+pub record ChangesKeepRuns (K : Type 0) : Type 0 where
+  pub same : (rows : List Row) (old new : Keys K) → ((s : ℕ) → 0 < rows_of rows s → new s ≡ old s) → AreRuns old (slots_of rows) → AreRuns new (slots_of rows)
+  pub put : (rows : List Row) (keys : Keys K) (parent slot : ℕ) → MayFollow keys parent slot (slots_of rows) → AreRuns keys (slots_of rows)
+      → AreRuns keys (slots_of (put_behind parent slot rows))
+  pub first : (rows : List Row) (keys : Keys K) (slot : ℕ) → ((key : K) → keys slot ≡ Some key → NoneHas keys key (slots_of rows)) → AreRuns keys (slots_of rows)
+      → AreRuns keys (slots_of (first_row slot ∷ rows))
+  pub taken : (rows : List Row) (keys : Keys K) (gone : ℕ) → rows_of rows gone ≤ 1 → AreRuns keys (slots_of rows) → AreRuns keys (slots_of (taken_out gone rows))
+  pub moved : (rows : List Row) (keys : Keys K) (from to : ℕ) → rows_of rows from ≤ 1 → from ≢ to → keys to ≡ keys from → AreRuns keys (slots_of rows)
+      → AreRuns keys (slots_of (renamed from to rows))
+
+-- another slot has the key of a slot exactly if one of its neighbours has
+pub record NeighboursTell (K : Type 0) : Type 0 where
+  pub another : (rows : List Row) (keys : Keys K) (key : K) (next previous : Links) (depths : ℕ → ℕ) (s other : ℕ) → IsLinked next previous depths rows
+      → AreRuns keys (slots_of rows) → 0 < rows_of rows s → keys s ≡ Some key → 0 < rows_of rows other → other ≢ s → keys other ≡ Some key
+      → HasKey keys key (previous s) ⊎ HasKey keys key (next s)
+  pub next : (rows : List Row) (next previous : Links) (depths : ℕ → ℕ) (s other : ℕ) → IsLinked next previous depths rows → 0 < rows_of rows s
+      → next s ≡ Some other → (0 < rows_of rows other) × (other ≢ s)
+  pub previous : (rows : List Row) (next previous : Links) (depths : ℕ → ℕ) (s other : ℕ) → IsLinked next previous depths rows → 0 < rows_of rows s
+      → previous s ≡ Some other → (0 < rows_of rows other) × (other ≢ s)
+
+-- a key that is among the descendants of a root, and at a slot beside them too, is at the root or at the first slot behind them
+abbrev pub RunsEndBeside : Type 0 → Type 0
+RunsEndBeside K = (rows : List Row) (keys : Keys K) (key : K) (root s other : ℕ) → AreRuns keys (slots_of rows)
+    → 0 < times_in (slots_of (run_behind root rows)) s → keys s ≡ Some key
+    → 0 < rows_of rows other → times_in (slots_of (run_behind root rows)) other ≡ 0 → keys other ≡ Some key
+    → (keys root ≡ Some key) ⊎ HasKey keys key (first_of (slots_of (behind_run root rows)))

@@ -1,0 +1,31 @@
+//! The object that a capability names.
+
+ghost use Rattle.std.specs.Prelude.{ℕ, ◌≡◌, ◌==◌, ◌&&◌, not, false};
+ghost use Rattle.std.specs.Option.{option_map_or};
+ghost use Rattle.model.specs.Capabilities.CapabilityKinds.{object_of};
+
+use model::{Cap, Slot};
+
+/// The object that a capability names, by its offset: untyped memory is no object, and a line is none.
+pub fn object_of(capability: Cap) -> Option<u32>
+    ensures { result ≡ object_of capability }
+{
+    match capability {
+        Cap::Endpoint { offset, .. }
+        | Cap::Notification { offset, .. }
+        | Cap::CNode { offset, .. }
+        | Cap::Frame { offset, .. }
+        | Cap::PageTable { offset, .. }
+        | Cap::Tcb { offset }
+        | Cap::RootTable { offset } => Some(offset),
+        Cap::Empty | Cap::Untyped { .. } | Cap::InterruptControl | Cap::InterruptHandler { .. } =>
+            None,
+    }
+}
+
+/// Whether a slot is another than one, and what it names is the object at an offset.
+pub(crate) fn names_too(named: Option<u32>, offset: u32, other: Slot, slot: Slot) -> bool
+    ensures { result ≡ (not (other == slot) && option_map_or (λ named. named == offset) named false) }
+{
+    other.number() != slot.number() && named == Some(offset)
+}
