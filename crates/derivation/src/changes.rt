@@ -5,6 +5,7 @@ ghost use Rattle.model.specs.Capabilities.CapabilityWords.{IsCapability};
 ghost use Rattle.model.specs.Shared.Lists.{without};
 ghost use Rattle.model.specs.Capabilities.Slots.{Descendant, IsFull, SameOutside, depth_of, empty_entry, inserted, relocated, spliced};
 ghost use Rattle.derivation.specs.Moves.{name_after_move};
+ghost use Rattle.slots.specs.Kin.{IsKin};
 ghost use Rattle.model.specs.declared.capabilities.Cap.{Cap};
 ghost use Rattle.model.specs.declared.capabilities.Cap.TheVariants.{Empty};
 
@@ -23,6 +24,7 @@ pub fn insert_child<S: SlotStore>(
     requires valid { IsCapability capability }
     requires some { capability ≢ Cap.Empty }
     requires full { IsFull (S.slots store.old) parent }
+    requires kin { IsKin (S.slots store.old) capability (Some parent) }
     ensures when { IsOk result ↔ (depth_of (S.slots store.old) parent < 255) }
     ensures slots { OnOk result (S.slots store.new
         ≡ inserted (S.slots store.old) slot capability (Some parent)) }

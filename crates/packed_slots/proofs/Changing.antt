@@ -2,6 +2,7 @@
 use Rattle.std.proofs.Common.{ℕ, ◌≡◌, ◌≢◌, ◌∙◌, ◌+◌, ◌*◌, ◌%◌, ◌^◌, ◌<◌, ◌≤◌, inl, inr, Bool, true, false, if◌then◌else◌, Option, Some, None, List, [], ◌∷◌, length, refl, sym, ap, subst, arith}
 use Rattle.std.proofs.lemmas.Bool.Decides.{eqb_tells}
 use Rattle.model.proofs.Depths.{depth-none}
+use Rattle.model.specs.Capabilities.CapabilityKinds.{object_of}
 use Rattle.model.specs.Capabilities.CapabilityWords.{IsCapability, words_of}
 use Rattle.model.specs.Capabilities.Slots.{IsFull, SameOutside, Slots, closed, depth_of, depth_within, empty_entry, inserted, is_full, is_within, opened, parent_at, recapped, relocated, spliced}
 use Rattle.model.specs.Kernel.State.{put}
@@ -9,6 +10,7 @@ use Rattle.model.specs.Shared.Lists.{without}
 use Rattle.model.specs.declared.capabilities.Cap.{Cap}
 use Rattle.model.specs.declared.capabilities.Cap.TheVariants.{Empty, Untyped, Endpoint, Notification, CNode, Frame, PageTable, Tcb, RootTable, InterruptControl, InterruptHandler}
 use Rattle.slots.proofs.Laws.{depth-rows, none-without, slots-taken_out}
+use Rattle.slots.specs.Kin.{IsKin, object_at}
 use Rattle.slots.specs.preorder.Chains.{put_at}
 use Rattle.slots.specs.preorder.Preorder.{Row, first_row, put_behind, renamed, slots_of, taken_out}
 use Rattle.packed_slots.specs.Packing.{IsChanged, IsPacked, IsPackedAs, Packed, head_of, is_open_in, packed_order, packed_rows, packed_slots, packing, slots_as, tail_of}
@@ -122,10 +124,10 @@ put-facts : (p : Packed) (slot : ℕ) (capability : Cap) → IsPacked p → pack
 put-facts p slot capability is empty valid some = record { packed = is.packed; empty = empty; valid = valid; some = some; words = two-words capability }
 
 pub inserted_behind : (p : Packed) (slot parent : ℕ) (capability : Cap) → IsPacked p → packed_slots p slot ≡ Some empty_entry → IsCapability capability → capability ≢ Empty
-    → IsFull (packed_slots p) parent → depth_of (packed_slots p) parent < 255 → head_of capability < 2 ^ 32 → tail_of capability < 2 ^ 32
+    → IsFull (packed_slots p) parent → depth_of (packed_slots p) parent < 255 → IsKin (packed_slots p) capability (Some parent) → head_of capability < 2 ^ 32 → tail_of capability < 2 ^ 32
     → IsChanged p (packing (linked_behind (with_cap p.memory slot (head_of capability) (tail_of capability)) parent slot ((words_in p.memory).depth parent + 1)) p.open_slots p.first)
     (inserted (packed_slots p) slot capability (Some parent))
-inserted_behind p slot parent capability is empty valid some full room fits fits' =
+inserted_behind p slot parent capability is empty valid some full room kin fits fits' =
     let m = p.memory in
     let w = words_in m in
     let h = head_of capability in
@@ -151,17 +153,17 @@ inserted_behind p slot parent capability is empty valid some full room fits fits
       depth = put v.depth slot d;
       previous = put (put_at v.previous (v.next parent) (Some slot)) slot (Some parent);
     }) capped)
-    (behind-packs w p.open_slots p.first (packed_rows p) parent slot capability h t facts full room)
+    (behind-packs w p.open_slots p.first (packed_rows p) parent slot capability h t facts full room kin)
     (behind-slots w p.open_slots p.first (packed_rows p) parent slot capability h t facts full)
     (outside-from w p.open_slots (packed_rows p) m two (size' ∙ size)
     (closed-then p.open_slots m one two (closed-cap p.open_slots m slot h t own (inside p slot is own))
     (closed-behind p.open_slots one parent slot d above own near' (inside' parent above) (inside' slot own) (λ s same. inside' s (near' s same)))))
 
 pub inserted_first : (p : Packed) (slot : ℕ) (capability : Cap) → IsPacked p → packed_slots p slot ≡ Some empty_entry → IsCapability capability → capability ≢ Empty
-    → head_of capability < 2 ^ 32 → tail_of capability < 2 ^ 32
+    → IsKin (packed_slots p) capability None → head_of capability < 2 ^ 32 → tail_of capability < 2 ^ 32
     → IsChanged p (packing (linked_first (with_cap p.memory slot (head_of capability) (tail_of capability)) p.first slot) p.open_slots (Some slot))
     (inserted (packed_slots p) slot capability None)
-inserted_first p slot capability is empty valid some fits fits' =
+inserted_first p slot capability is empty valid some kin fits fits' =
     let m = p.memory in
     let w = words_in m in
     let h = head_of capability in
@@ -178,7 +180,7 @@ inserted_first p slot capability is empty valid some fits fits' =
     (is.long ∙ sym (size' ∙ size)) is.few
     (words-first one p.first slot (inside' slot own) (λ s same. inside' s (first-there p s is same)) (λ s same. near p s is (first-there p s is same)) (near p slot is own)
     ∙ ap (λ (v : Words). record v { next = put v.next slot p.first; depth = put v.depth slot 0; previous = put (put_at v.previous p.first (Some slot)) slot None }) capped)
-    (first-packs w p.open_slots p.first (packed_rows p) slot capability h t facts)
+    (first-packs w p.open_slots p.first (packed_rows p) slot capability h t facts kin)
     (first-slots w p.open_slots p.first (packed_rows p) slot capability h t facts)
     (outside-from w p.open_slots (packed_rows p) m two (size' ∙ size)
     (closed-then p.open_slots m one two (closed-cap p.open_slots m slot h t own (inside p slot is own))
@@ -339,10 +341,10 @@ moved p from to is full empty fits fits' =
 -- ---- the list stays
 
 pub recapped_in : (p : Packed) (slot : ℕ) (capability : Cap) → IsPacked p → IsFull (packed_slots p) slot → IsCapability capability → capability ≢ Empty
-    → head_of capability < 2 ^ 32 → tail_of capability < 2 ^ 32
+    → object_of capability ≡ object_at (packed_slots p) slot → head_of capability < 2 ^ 32 → tail_of capability < 2 ^ 32
     → IsChanged p (packing (with_cap p.memory slot (head_of capability) (tail_of capability)) p.open_slots p.first) (recapped (packed_slots p) slot capability)
     × (packed_order (packing (with_cap p.memory slot (head_of capability) (tail_of capability)) p.open_slots p.first) ≡ packed_order p)
-recapped_in p slot capability is full valid some fits fits' =
+recapped_in p slot capability is full valid some alike fits fits' =
     let m = p.memory in
     let w = words_in m in
     let o = p.open_slots in
@@ -353,7 +355,7 @@ recapped_in p slot capability is full valid some fits fits' =
     let q = packing one o p.first in
     let size = size-cap m slot h t (inside p slot is own) in
     let capped = words-cap m slot h t (inside p slot is own) fits fits' in
-    let packs = capped-packs w o p.first (packed_rows p) slot capability h t is.packed full valid some (two-words capability) in (
+    let packs = capped-packs w o p.first (packed_rows p) slot capability h t is.packed full valid some (two-words capability) alike in (
       changed-from p q (capped_words w slot h t) (packed_rows p) (recapped (packed_slots p) slot capability) (is.long ∙ sym size) is.few capped packs
           (capped-slots w o p.first (packed_rows p) slot capability h t is.packed full valid some (two-words capability))
           (outside-from w o (packed_rows p) m one size (closed-cap o m slot h t own (inside p slot is own))),

@@ -6,6 +6,7 @@ use Rattle.model.proofs.Derivations.{derivation-inserted}
 use Rattle.model.proofs.FieldsLemmas.{fields_of_words}
 use Rattle.model.proofs.SlotChanges.{capability_of, entry-other, entry-same, full-capability}
 use Rattle.model.specs.Capabilities.CapabilityFields.{fields_of}
+use Rattle.model.specs.Capabilities.CapabilityKinds.{object_of}
 use Rattle.model.specs.Capabilities.CapabilityWords.{IsCapability, words_of}
 use Rattle.model.specs.Capabilities.Orders.{first_of}
 use Rattle.model.specs.Capabilities.Slots.{IsFull, Slots, depth_of, empty_entry, inserted, is_empty, is_full}
@@ -14,9 +15,11 @@ use Rattle.model.specs.Shared.Lists.{times_in}
 use Rattle.model.specs.declared.capabilities.Cap.{Cap}
 use Rattle.model.specs.declared.capabilities.Cap.TheVariants.{Empty}
 use Rattle.model.specs.declared.slot_entries.Entry.{Entry}
-use Rattle.slots.proofs.Laws.{chain-first, chain-put_after, deep-first, deep-put_behind, first-others, first-own, put-others, put-own, rises-first, rises-put_behind, slots-put_behind, times-put_after, times-put_after_own}
+use Rattle.slots.proofs.Laws.{chain-first, chain-put_after, deep-first, deep-put_behind, first-others, first-own, put-others, put-own, rises-first, rises-put_behind, runs-first, runs-put_behind, runs-same, slots-put_behind, times-put_after, times-put_after_own}
+use Rattle.slots.specs.Kin.{IsKin, IsUnnamed, object_at}
 use Rattle.slots.specs.preorder.Chains.{IsChain, IsLinked, Links, put_after, put_at}
 use Rattle.slots.specs.preorder.Preorder.{Row, first_row, parents_of, put_behind, rows_of, slots_of}
+use Rattle.slots.specs.preorder.Runs.{AreRuns, MayFollow, NoneHas}
 use Rattle.packed_slots.specs.Packing.{IsPackedAs, is_open_in, slots_as}
 use Rattle.packed_slots.specs.Words.{Words, capability_in}
 use Rattle.packed_slots.proofs.PackedFacts.{as-closed, as-open, full-row, no-row, open-from, packs}
@@ -132,10 +135,44 @@ module _ (w : Words) (o : List Bool) (first : Option ℕ) (rows more : List Row)
   put-slots = λ i s. put-at s i
 
   pub put-packs : (first' : Option ℕ) → IsLinked next previous (put w.depth slot depth) more → first' ≡ first_of (slots_of more)
-      → ((p : ℕ) → parent ≡ Some p → IsFull (slots_as w o rows) p) → ((p : ℕ) → parent ≡ Some p → depth_of (slots_as w o rows) p < 255) → IsPackedAs new o first' more
-  put-packs first' linked begins full room =
+      → ((p : ℕ) → parent ≡ Some p → IsFull (slots_as w o rows) p) → ((p : ℕ) → parent ≡ Some p → depth_of (slots_as w o rows) p < 255)
+      → AreRuns (object_at (inserted (slots_as w o rows) slot capability parent)) (slots_of more) → IsPackedAs new o first' more
+  put-packs first' linked begins full room runs =
       packs new o first' more (inserted (slots_as w o rows) slot capability parent) put-slots linked begins put-lists put-whole put-blank
-      (derivation-inserted (slots_as w o rows) slot capability parent is.packed.derivation is.empty is.valid is.some full room)
+      (derivation-inserted (slots_as w o rows) slot capability parent is.packed.derivation is.empty is.valid is.some full room) runs
+
+-- ---- the objects that are named
+
+object-own : (slots : Slots) (slot : ℕ) (capability : Cap) (parent : Option ℕ) → object_at (inserted slots slot capability parent) slot ≡ object_of capability
+object-own slots slot capability parent = ap (λ e. object_of (capability_of e)) (entry-same slots slot (Some (record { capability = capability; parent = parent })))
+
+object-beside : (slots : Slots) (slot : ℕ) (capability : Cap) (parent : Option ℕ) (s : ℕ) → s ≢ slot → object_at (inserted slots slot capability parent) s ≡ object_at slots s
+object-beside slots slot capability parent s off = ap (λ e. object_of (capability_of e)) (entry-other slots slot (Some (record { capability = capability; parent = parent })) s off)
+
+-- the object is new among the rows
+unnamed-rows : (slots : Slots) (rows : List Row) (slot : ℕ) (capability : Cap) (parent : Option ℕ) → rows_of rows slot ≡ 0 → IsUnnamed slots capability
+    → (key : ℕ) → object_at (inserted slots slot capability parent) slot ≡ Some key → NoneHas (object_at (inserted slots slot capability parent)) key (slots_of rows)
+unnamed-rows slots rows slot capability parent none unnamed key own s there has =
+    unnamed key s (sym (object-own slots slot capability parent) ∙ own)
+    (sym (object-beside slots slot capability parent s (λ same. absurd (omega (arith, there, ap (rows_of rows) same, none)))) ∙ has)
+
+runs-kept : (slots : Slots) (rows : List Row) (slot : ℕ) (capability : Cap) (parent : Option ℕ) → rows_of rows slot ≡ 0 → AreRuns (object_at slots) (slots_of rows)
+    → AreRuns (object_at (inserted slots slot capability parent)) (slots_of rows)
+runs-kept slots rows slot capability parent none runs =
+    runs-same (object_at slots) (object_at (inserted slots slot capability parent)) (slots_of rows)
+    (λ s there. object-beside slots slot capability parent s (λ same. absurd (omega (arith, there, ap (rows_of rows) same, none)))) runs
+
+runs-behind : (slots : Slots) (rows : List Row) (at slot : ℕ) (capability : Cap) → rows_of rows slot ≡ 0 → 0 < rows_of rows at → IsKin slots capability (Some at)
+    → AreRuns (object_at slots) (slots_of rows) → AreRuns (object_at (inserted slots slot capability (Some at))) (slots_of (put_behind at slot rows))
+runs-behind slots rows at slot capability none there kin runs =
+    let keys = object_at (inserted slots slot capability (Some at)) in
+    let own = object-own slots slot capability (Some at) in
+    let above : keys at ≡ object_at slots at = object-beside slots slot capability (Some at) at (λ same. absurd (omega (arith, there, ap (rows_of rows) same, none))) in
+    let may : MayFollow keys at slot (slots_of rows) = elim kin [
+      | inl same ↦ inl (own ∙ same ∙ sym above)
+      | inr new ↦ inr (above ∙ new.0, unnamed-rows slots rows slot capability (Some at) none new.1)
+    ] in
+    runs-put_behind rows keys at slot may (runs-kept slots rows slot capability (Some at) none runs)
 
 -- ---- behind its parent
 
@@ -195,9 +232,9 @@ behind-slots w o first rows at slot capability head tail is full =
     (behind-more rows at slot w is.packed.linked (none-row w o first rows slot is.packed is.empty) (omega (arith, full-row w o first rows at is.packed full)))
 
 pub behind-packs : (w : Words) (o : List Bool) (first : Option ℕ) (rows : List Row) (at slot : ℕ) (capability : Cap) (head tail : ℕ) → IsPut w o first rows slot capability head tail
-    → IsFull (slots_as w o rows) at → depth_of (slots_as w o rows) at < 255
+    → IsFull (slots_as w o rows) at → depth_of (slots_as w o rows) at < 255 → IsKin (slots_as w o rows) capability (Some at)
     → IsPackedAs (behind_words w at slot head tail (w.depth at + 1)) o first (put_behind at slot rows)
-behind-packs w o first rows at slot capability head tail is full room =
+behind-packs w o first rows at slot capability head tail is full room kin =
     let none = none-row w o first rows slot is.packed is.empty in
     let there : 0 < rows_of rows at = omega (arith, full-row w o first rows at is.packed full) in
     put-packs w o first rows (put_behind at slot rows) slot capability head tail (w.depth at + 1) (Some at)
@@ -207,6 +244,7 @@ behind-packs w o first rows at slot capability head tail is full room =
     (is.packed.begins ∙ sym (ap first_of (slots-put_behind rows at slot) ∙ first-put (slots_of rows) at slot))
     (λ p same. subst (IsFull (slots_as w o rows)) (let e : at ≡ p = cc in e) full)
     (λ p same. subst (λ (x : ℕ). depth_of (slots_as w o rows) x < 255) (let e : at ≡ p = cc in e) room)
+    (runs-behind (slots_as w o rows) rows at slot capability none there kin is.packed.runs)
 
 -- ---- in front of all
 
@@ -243,9 +281,11 @@ first-slots w o first rows slot capability head tail is =
     (first-more rows slot w is.packed.linked (none-row w o first rows slot is.packed is.empty))
 
 pub first-packs : (w : Words) (o : List Bool) (first : Option ℕ) (rows : List Row) (slot : ℕ) (capability : Cap) (head tail : ℕ) → IsPut w o first rows slot capability head tail
-    → IsPackedAs (first_words w first slot head tail) o (Some slot) (first_row slot ∷ rows)
-first-packs w o first rows slot capability head tail is =
+    → IsKin (slots_as w o rows) capability None → IsPackedAs (first_words w first slot head tail) o (Some slot) (first_row slot ∷ rows)
+first-packs w o first rows slot capability head tail is kin =
     let none = none-row w o first rows slot is.packed is.empty in
     put-packs w o first rows (first_row slot ∷ rows) slot capability head tail 0 None (put w.next slot first) (put (put_at w.previous first (Some slot)) slot None) is
     (first-more rows slot w is.packed.linked none) (Some slot) (first-linked w rows slot first is.packed.linked is.packed.begins none) refl
     (λ p same. none-clash p same) (λ p same. none-clash p same)
+    (runs-first (object_at (inserted (slots_as w o rows) slot capability None)) slot (slots_of rows) (unnamed-rows (slots_as w o rows) rows slot capability None none kin)
+    (runs-kept (slots_as w o rows) rows slot capability None none is.packed.runs))

@@ -3,15 +3,17 @@ use Rattle.std.proofs.Common.{ℕ, ◌≡◌, ◌≢◌, ◌∙◌, ◌<◌, inl
 use Rattle.std.proofs.lemmas.Bool.Decides.{eqb_tells}
 use Rattle.model.proofs.Derivations.{derivation-closed, derivation-opened, derivation-recapped}
 use Rattle.model.proofs.FieldsLemmas.{fields_of_words}
-use Rattle.model.proofs.SlotChanges.{capability-closed, capability-opened, entry-other, entry-same, full-recapped}
+use Rattle.model.proofs.SlotChanges.{capability-closed, capability-opened, capability_of, entry-other, entry-same, full-recapped}
 use Rattle.model.specs.Capabilities.CapabilityFields.{fields_of}
+use Rattle.model.specs.Capabilities.CapabilityKinds.{object_of}
 use Rattle.model.specs.Capabilities.CapabilityWords.{IsCapability, words_of}
 use Rattle.model.specs.Capabilities.Slots.{closed, empty_entry, is_empty, is_full, is_within, opened, parent_at, recapped}
 use Rattle.model.specs.Kernel.State.{put}
 use Rattle.model.specs.declared.capabilities.Cap.{Cap}
 use Rattle.model.specs.declared.capabilities.Cap.TheVariants.{Empty}
 use Rattle.model.specs.declared.slot_entries.Entry.{Entry}
-use Rattle.slots.proofs.Laws.{chain-same, deep-same, none-without}
+use Rattle.slots.proofs.Laws.{chain-same, deep-same, none-without, runs-same}
+use Rattle.slots.specs.Kin.{object_at}
 use Rattle.slots.specs.preorder.Chains.{IsLinked}
 use Rattle.slots.specs.preorder.Preorder.{Row, parents_of, rows_of, slots_of}
 use Rattle.packed_slots.specs.Packing.{IsPackedAs, is_open_in, slots_as}
@@ -64,7 +66,7 @@ same-packs old new o first rows packed same =
     packs new o first rows (slots_as old o rows) (same-slots old new o rows same)
     (linked-same old new rows packed.linked (λ s is. same s (row-open old o first rows s packed is)))
     packed.begins packed.listed (λ s is. whole-same old new s (same s is) (packed.whole s is))
-    (λ s is empty. (same s is).depth ∙ packed.blank s is empty) packed.derivation
+    (λ s is empty. (same s is).depth ∙ packed.blank s is empty) packed.derivation packed.runs
 
 -- ---- another capability
 
@@ -109,8 +111,17 @@ module _ (w : Words) (o : List Bool) (first : Option ℕ) (rows : List Row) (slo
   pub capped-slots : slots_as new o rows ≡ recapped (slots_as w o rows) slot capability
   capped-slots = λ i s. capped-at s i
 
-  pub capped-packs : IsPackedAs new o first rows
-  capped-packs =
+  object-capped : object_of capability ≡ object_at (slots_as w o rows) slot → (s : ℕ) → object_at (recapped (slots_as w o rows) slot capability) s ≡ object_at (slots_as w o rows) s
+  object-capped alike s =
+      let slots = slots_as w o rows in
+      let held : Entry = record { capability = capability; parent = parent_at slots slot } in
+      elim (eqb_tells s slot) [
+        | inl here ↦ ap (object_at (recapped slots slot capability)) here.1 ∙ ap (λ e. object_of (capability_of e)) (entry-same slots slot (Some held)) ∙ alike ∙ ap (object_at slots) (sym here.1)
+        | inr off ↦ ap (λ e. object_of (capability_of e)) (entry-other slots slot (Some held) s off.1)
+      ]
+
+  pub capped-packs : object_of capability ≡ object_at (slots_as w o rows) slot → IsPackedAs new o first rows
+  capped-packs alike =
       let slots = slots_as w o rows in
       packs new o first rows (recapped slots slot capability) capped-slots packed.linked packed.begins
       (λ s. packed.listed s ∙ sym (ap (λ b. if b then 1 else 0) (full-recapped slots slot capability full some s)))
@@ -122,6 +133,7 @@ module _ (w : Words) (o : List Bool) (first : Option ℕ) (rows : List Row) (slo
       ])
       (λ s is empty. packed.blank s is (sym (full-recapped slots slot capability full some s) ∙ empty))
       (derivation-recapped slots slot capability packed.derivation valid some)
+      (runs-same (object_at slots) (object_at (recapped slots slot capability)) (slots_of rows) (λ s there. object-capped alike s) packed.runs)
 
 -- ---- slots are opened, and their bytes are zero
 
@@ -181,6 +193,8 @@ module _ (w : Words) (o o' : List Bool) (first : Option ℕ) (rows : List Row) (
         | false ↦ λ off. (beside s off).depth ∙ packed.blank s (sym (opens s ∙ ap (λ b. if b then true else is_open_in o s) off) ∙ is) (sym (full-opened s) ∙ empty)
       ] refl)
       (derivation-opened (slots_as w o rows) from count packed.derivation was)
+      (runs-same (object_at (slots_as w o rows)) (object_at (opened (slots_as w o rows) from count)) (slots_of rows)
+      (λ s there. ap object_of (capability-opened (slots_as w o rows) from count s was).0) packed.runs)
 
 -- ---- empty slots are closed
 
@@ -214,3 +228,5 @@ module _ (w : Words) (o o' : List Bool) (first : Option ℕ) (rows : List Row) (
       (λ s is. packed.whole s (still-open s is))
       (λ s is empty. packed.blank s (still-open s is) (sym (full-closed s) ∙ empty))
       (derivation-closed (slots_as w o rows) from count packed.derivation was)
+      (runs-same (object_at (slots_as w o rows)) (object_at (closed (slots_as w o rows) from count)) (slots_of rows)
+      (λ s there. ap object_of (capability-closed (slots_as w o rows) from count s was).0) packed.runs)

@@ -5,6 +5,7 @@ pub mod Changing
 pub mod Inserting
 pub mod Keeping
 pub mod Moving
+pub mod Sharing
 pub mod PackedFacts
 pub mod Reading
 pub mod Splicing

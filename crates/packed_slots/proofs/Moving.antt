@@ -5,6 +5,7 @@ use Rattle.std.proofs.lemmas.Bool.Decides.{eqb_tells}
 use Rattle.std.proofs.lemmas.Bool.{ne_eqb}
 use Rattle.model.proofs.Depths.{adopted_parent, depth-own_parent}
 use Rattle.model.proofs.Derivations.{derivation-relocated}
+use Rattle.model.specs.Capabilities.CapabilityKinds.{object_of}
 use Rattle.model.proofs.SlotChanges.{capability-adopted, capability_of, entry-other, entry-same}
 use Rattle.model.specs.Capabilities.CapabilityFields.{fields_of}
 use Rattle.model.specs.Capabilities.CapabilityWords.{words_of}
@@ -12,8 +13,11 @@ use Rattle.model.specs.Capabilities.Orders.{first_of}
 use Rattle.model.specs.Capabilities.Slots.{IsDerivation, Slots, adopted, empty_entry, is_empty, is_full, parent_at, relocated, with_entry, with_parent}
 use Rattle.model.specs.Shared.Lists.{times_in, without}
 use Rattle.model.specs.declared.capabilities.Cap.{Cap}
-use Rattle.slots.proofs.Laws.{deep-renamed, none-without, renamed-here, renamed-other, renamed-parents, rises-renamed, slots-renamed, times-put_after, times-put_after_own}
+use Rattle.slots.proofs.Laws.{deep-renamed, none-without, renamed-here, renamed-other, renamed-parents, rises-renamed, runs-renamed, runs-same, slots-renamed, times-put_after, times-put_after_own}
 use Rattle.slots.specs.preorder.Chains.{IsChain, IsLinked, put_after}
+use Rattle.model.specs.Kernel.State.{put}
+use Rattle.slots.specs.Kin.{object_at}
+use Rattle.slots.specs.preorder.Runs.{AreRuns}
 use Rattle.slots.specs.preorder.Preorder.{Row, parents_of, renamed, rows_of, slots_of}
 use Rattle.packed_slots.specs.Packing.{IsPackedAs, is_open_in, slots_as}
 use Rattle.packed_slots.specs.Words.{Words, capability_in, first_without}
@@ -212,13 +216,33 @@ module _ (w : Words) (o : List Bool) (first : Option ℕ) (rows : List Row) (fro
   moved-is : slots_as new o left ≡ relocated slots from to
   moved-is = λ i s. moved-at s i
 
+  abbrev mid : ℕ → Option ℕ
+  mid = put (object_at slots) to (object_at slots from)
+
+  moved-runs : AreRuns (object_at (relocated slots from to)) (slots_of left)
+  moved-runs =
+      runs-same mid (object_at (relocated slots from to)) (slots_of left)
+      (λ s is.
+      let off : s ≢ from = λ same. absurd (omega (arith, is, ap (rows_of left) same, times-from)) in
+      elim (eqb_tells s to) [
+        | inl at ↦
+            ap (object_at (relocated slots from to)) at.1 ∙ ap (λ e. object_of (capability_of e)) relocated-to
+            ∙ sym (put-here (object_at slots) to s (object_at slots from) at.1)
+        | inr off' ↦
+            ap (λ e. object_of (capability_of e)) (relocated-other s off off'.1) ∙ ap object_of (capability-adopted from (Some to) (slots s))
+            ∙ sym (put-off (object_at slots) to s (object_at slots from) off'.1)
+      ])
+      (runs-renamed rows mid from to (packed.linked.once from) apart
+      (put-here (object_at slots) to to (object_at slots from) refl ∙ sym (put-off (object_at slots) to from (object_at slots from) apart))
+      (runs-same (object_at slots) mid (slots_of rows) (λ s is. put-off (object_at slots) to s (object_at slots from) (not-in rows to s none is)) packed.runs))
+
   moved-packs : IsPackedAs new o (first_without (moved.previous from) (moved.next from) first) left
   moved-packs =
       packs new o (first_without (moved.previous from) (moved.next from) first) left (relocated slots from to) moved-is moved-linked
       (ap (first_without (moved.previous from) (moved.next from)) (packed.begins ∙ sym (first-behind (slots_of rows) from to))
       ∙ sym (first-without (put_after from to (slots_of rows)) moved.next moved.previous from moved-chain moved-once moved-there) ∙ ap first_of (sym order))
       moved-lists (whole-unlinked moved o from moved-whole) moved-blank
-      (derivation-relocated slots from to packed.derivation full empty)
+      (derivation-relocated slots from to packed.derivation full empty) moved-runs
 
 pub move-slots : (w : Words) (o : List Bool) (first : Option ℕ) (rows : List Row) (from to : ℕ) → IsPackedAs w o first rows → is_full (slots_as w o rows) from ≡ true
     → slots_as w o rows to ≡ Some empty_entry → slots_as (unlinked_words (moved_words w from to) from) o (renamed from to rows) ≡ relocated (slots_as w o rows) from to

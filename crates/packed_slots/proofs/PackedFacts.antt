@@ -15,6 +15,8 @@ use Rattle.model.specs.declared.slot_entries.Entry.{Entry}
 use Rattle.slots.proofs.Laws.{few-rows, linked-rows, next-in, none-without, previous-in}
 use Rattle.slots.specs.preorder.Chains.{IsLinked, rows_linked}
 use Rattle.slots.specs.preorder.Preorder.{Row, parents_of, rows_of, slots_of}
+use Rattle.slots.specs.Kin.{object_at}
+use Rattle.slots.specs.preorder.Runs.{AreRuns}
 use Rattle.packed_slots.specs.Packing.{IsPacked, IsPackedAs, Packed, is_open_in, packed_rows, packed_slots, slots_as}
 use Rattle.packed_slots.specs.Words.{Words, capability_in, words_in}
 
@@ -118,14 +120,15 @@ first-open w o first (r ∷ rest) n packed is =
 pub packs : (w : Words) (o : List Bool) (first : Option ℕ) (rows : List Row) (slots : Slots) → slots_as w o rows ≡ slots → IsLinked w.next w.previous w.depth rows
     → first ≡ first_of (slots_of rows) → IsOrderOf (slots_of rows) slots
     → ((s : ℕ) → is_open_in o s ≡ true → w.head s ∷ w.tail s ∷ [] ≡ words_of (capability_in w s))
-    → ((s : ℕ) → is_open_in o s ≡ true → is_full slots s ≡ false → w.depth s ≡ 0) → IsDerivation slots → IsPackedAs w o first rows
-packs w o first rows slots is linked begins lists whole blank sound = record {
+    → ((s : ℕ) → is_open_in o s ≡ true → is_full slots s ≡ false → w.depth s ≡ 0) → IsDerivation slots → AreRuns (object_at slots) (slots_of rows) → IsPackedAs w o first rows
+packs w o first rows slots is linked begins lists whole blank sound runs = record {
   linked = linked;
   begins = begins;
   listed = λ s. lists s ∙ ap (λ (f : Slots). if is_full f s then 1 else 0) (sym is);
   whole = whole;
   blank = λ s there empty. blank s there (ap (λ (f : Slots). is_full f s) (sym is) ∙ empty);
   derivation = subst IsDerivation (sym is) sound;
+  runs = subst (λ (f : Slots). AreRuns (object_at f) (slots_of rows)) (sym is) runs;
 }
 
 -- the rows of a memory are those that it packs

@@ -181,4 +181,5 @@ packed-new m o bits count least size most is made =
       whole = λ s there. absurd (let clash : false ≡ true = sym (closed s) ∙ there in cc);
       blank = λ s there empty. absurd (let clash : false ≡ true = sym (closed s) ∙ there in cc);
       derivation = sound-none (slots_as w o []) none;
+      runs = tt;
     })

@@ -6,15 +6,17 @@ use Rattle.std.proofs.lemmas.Bool.{eq-eqb, ne_eqb}
 use Rattle.model.proofs.Depths.{adopted_parent}
 use Rattle.model.proofs.Derivations.{derivation-spliced}
 use Rattle.model.proofs.Orders.{order-spliced, times-filter, without-absent}
-use Rattle.model.proofs.SlotChanges.{entry-other, entry-same, full-spliced}
+use Rattle.model.specs.Capabilities.CapabilityKinds.{object_of}
+use Rattle.model.proofs.SlotChanges.{capability-adopted, capability_of, entry-other, entry-same, full-spliced}
 use Rattle.model.specs.Capabilities.CapabilityFields.{fields_of}
 use Rattle.model.specs.Capabilities.CapabilityWords.{words_of}
 use Rattle.model.specs.Capabilities.Orders.{first_of}
 use Rattle.model.specs.Capabilities.Slots.{Slots, adopted, empty_entry, is_full, is_within, parent_at, spliced, with_parent}
 use Rattle.model.specs.Shared.Lists.{times_in, without}
 use Rattle.model.specs.declared.capabilities.Cap.{Cap}
-use Rattle.slots.proofs.Laws.{chain-same, chain-without, deep-same, deep-taken_out, low-beside, none-without, previous-in, rises-taken_out, slots-taken_out, taken-out}
+use Rattle.slots.proofs.Laws.{chain-same, chain-without, deep-same, deep-taken_out, low-beside, none-without, previous-in, rises-taken_out, runs-same, runs-taken_out, slots-taken_out, taken-out}
 use Rattle.slots.specs.preorder.Chains.{IsChain, IsLinked, Links, lowered_depths, put_at}
+use Rattle.slots.specs.Kin.{object_at}
 use Rattle.slots.specs.preorder.Preorder.{Row, parents_of, rows_of, slots_of, taken_out}
 use Rattle.packed_slots.specs.Packing.{IsPackedAs, is_open_in, slots_as}
 use Rattle.packed_slots.specs.Words.{Words, capability_in, first_without}
@@ -170,6 +172,12 @@ module _ (w : Words) (o : List Bool) (first : Option ℕ) (rows : List Row) (gon
         ∙ packed.blank s is was
   ]
 
+  object-left : (s : ℕ) → 0 < rows_of left s → object_at (spliced slots gone) s ≡ object_at slots s
+  object-left s is =
+      let off : s ≢ gone = λ same. absurd (omega (arith, is, ap (rows_of left) same, none-left)) in
+      ap (λ e. object_of (capability_of e)) (entry-other (with_parent slots gone (parent_at slots gone)) gone (Some empty_entry) s off)
+      ∙ ap object_of (capability-adopted gone (parent_at slots gone) (slots s))
+
   spliced-packs : IsPackedAs new o (first_without (w.previous gone) (w.next gone) first) left
   spliced-packs =
       packs new o (first_without (w.previous gone) (w.next gone) first) left (spliced slots gone) spliced-is spliced-linked
@@ -179,6 +187,8 @@ module _ (w : Words) (o : List Bool) (first : Option ℕ) (rows : List Row) (gon
       (whole-unlinked (lowered_words w gone n) o gone packed.whole)
       spliced-blank
       (derivation-spliced slots gone packed.derivation full)
+      (runs-same (object_at slots) (object_at (spliced slots gone)) (slots_of left) object-left
+      (runs-taken_out rows (object_at slots) gone (packed.linked.once gone) packed.runs))
 
 pub splice-slots : (w : Words) (o : List Bool) (first : Option ℕ) (rows : List Row) (gone n : ℕ) → IsPackedAs w o first rows → is_full (slots_as w o rows) gone ≡ true
     → length rows ≤ n → slots_as (unlinked_words (lowered_words w gone n) gone) o (taken_out gone rows) ≡ spliced (slots_as w o rows) gone

@@ -5,8 +5,10 @@ use Rattle.model.specs.Capabilities.Orders.{first_of}
 use Rattle.model.specs.Capabilities.Slots.{IsDerivation, SameOutside, Slots, is_full}
 use Rattle.model.specs.declared.capabilities.Cap.{Cap}
 use Rattle.packed_slots.specs.Words.{Words, capability_in, words_in}
+use Rattle.slots.specs.Kin.{object_at}
 use Rattle.slots.specs.preorder.Chains.{IsLinked, rows_linked}
 use Rattle.slots.specs.preorder.Preorder.{Row, parents_of, rows_of, slots_of}
+use Rattle.slots.specs.preorder.Runs.{AreRuns}
 
 -- the bytes of the machine, for each 16 of them whether they are an open slot, and the first full slot
 pub record Packed : Type 0 where
@@ -37,6 +39,8 @@ pub record IsPackedAs (words : Words) (open_slots : List Bool) (first : Option �
   pub whole : (s : ℕ) → is_open_in open_slots s ≡ true → words.head s ∷ words.tail s ∷ [] ≡ words_of (capability_in words s)
   pub blank : (s : ℕ) → is_open_in open_slots s ≡ true → is_full (slots_as words open_slots rows) s ≡ false → words.depth s ≡ 0
   pub derivation : IsDerivation (slots_as words open_slots rows)
+  -- those that name one object stand side by side
+  pub runs : AreRuns (object_at (slots_as words open_slots rows)) (slots_of rows)
 
 pub record IsPacked (p : Packed) : Type 0 where
   pub long : 16 * length p.open_slots ≡ length p.memory

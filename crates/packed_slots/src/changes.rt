@@ -8,6 +8,8 @@ ghost use Rattle.model.specs.Shared.Lists.{without};
 ghost use Rattle.model.specs.declared.capabilities.Cap.{Cap};
 ghost use Rattle.model.specs.declared.capabilities.Cap.TheVariants.{Empty};
 ghost use Rattle.packed_slots.specs.Packing.{IsChanged, IsPacked, head_of, packed_order, packed_slots, packing, tail_of};
+ghost use Rattle.model.specs.Capabilities.CapabilityKinds.{object_of};
+ghost use Rattle.slots.specs.Kin.{IsKin, object_at};
 ghost use Rattle.packed_slots.specs.Words.{first_without, next_in, previous_in, unlinked, with_cap, word_of};
 
 use crate::links::{link_behind, link_first, lower, unlink};
@@ -80,6 +82,7 @@ fn insert_behind(
     requires some { capability ≢ Empty }
     requires full { IsFull (packed_slots (packing memory.old open_slots.now first.now)) parent }
     requires room { depth_of (packed_slots (packing memory.old open_slots.now first.now)) parent < 255 }
+    requires kin { IsKin (packed_slots (packing memory.old open_slots.now first.now)) capability (Some parent) }
     ensures { IsChanged (packing memory.old open_slots.now first.now) (packing memory.new open_slots.now first.now)
         (inserted (packed_slots (packing memory.old open_slots.now first.now)) slot capability (Some parent)) }
 {
@@ -100,6 +103,7 @@ fn insert_first(
     requires empty { packed_slots (packing memory.old open_slots.now first.now) slot ≡ Some empty_entry }
     requires valid { IsCapability capability }
     requires some { capability ≢ Empty }
+    requires kin { IsKin (packed_slots (packing memory.old open_slots.now first.now)) capability None }
     ensures { IsChanged (packing memory.old open_slots.now first.now) (packing memory.new open_slots.now (Some slot))
         (inserted (packed_slots (packing memory.old open_slots.now first.now)) slot capability None) }
 {
@@ -122,6 +126,7 @@ pub(crate) fn insert(
     requires some { capability ≢ Empty }
     requires full { ForSome parent (IsFull (packed_slots (packing memory.old open_slots.now first.now))) }
     requires room { ForSome parent (λ p. depth_of (packed_slots (packing memory.old open_slots.now first.now)) p < 255) }
+    requires kin { IsKin (packed_slots (packing memory.old open_slots.now first.now)) capability parent }
     ensures { IsChanged (packing memory.old open_slots.now first.now) (packing memory.new open_slots.now result)
         (inserted (packed_slots (packing memory.old open_slots.now first.now)) slot capability parent) }
 {
@@ -189,6 +194,7 @@ pub(crate) fn recap(
     requires full { IsFull (packed_slots (packing memory.old open_slots.now first.now)) slot }
     requires valid { IsCapability capability }
     requires some { capability ≢ Empty }
+    requires alike { object_of capability ≡ object_at (packed_slots (packing memory.old open_slots.now first.now)) slot }
     ensures changed { IsChanged (packing memory.old open_slots.now first.now) (packing memory.new open_slots.now first.now)
         (recapped (packed_slots (packing memory.old open_slots.now first.now)) slot capability) }
     ensures order { packed_order (packing memory.new open_slots.now first.now) ≡ packed_order (packing memory.old open_slots.now first.now) }

@@ -5,6 +5,7 @@
 mod cached_slots;
 mod changes;
 mod links;
+mod neighbours;
 mod open_slots;
 mod reads;
 mod store;

@@ -4,7 +4,7 @@ ghost use Rattle.std.specs.Prelude.{ℕ, ◌≡◌, ◌^◌, ◌≤◌, None, If
 ghost use Rattle.packed_slots.specs.Packing.{packed_order, packed_slots};
 
 use crate::open_slots::OpenSlots;
-use crate::{changes, reads, writes};
+use crate::{changes, neighbours, reads, writes};
 use model::{Cap, Slot};
 use pmem::Mem;
 use slots::{SlotMap, SlotStore};
@@ -92,6 +92,10 @@ impl SlotStore for PackedSlots {
 
     fn next_below(&self, root: Slot, previous: Option<Slot>) -> Option<Slot> {
         reads::next_below(&self.memory, &self.open_slots, &self.first, root, previous)
+    }
+
+    fn is_shared(&self, slot: Slot) -> bool {
+        neighbours::is_shared(&self.memory, &self.open_slots, &self.first, slot)
     }
 
     fn open_range(&mut self, first: Slot, count: u32) {

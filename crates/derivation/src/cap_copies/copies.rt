@@ -3,7 +3,7 @@
 
 ghost use Rattle.std.specs.Prelude.{◌≡◌, ◌≢◌, IfOk};
 ghost use Rattle.derivation.specs.cap_copies.Copies.{copy_of, minted_copy_of, mutation_of};
-ghost use Rattle.model.specs.Capabilities.CapabilityKinds.{badge_fits, carries_messages, copied, guard_fits, is_badged, may_be_copied, with_payload};
+ghost use Rattle.model.specs.Capabilities.CapabilityKinds.{badge_fits, carries_messages, copied, guard_fits, is_badged, may_be_copied, object_of, with_payload};
 ghost use Rattle.model.specs.Capabilities.CapabilityWords.{IsCapability};
 
 use capwords::is_guard_word;
@@ -116,6 +116,7 @@ fn with_payload(capability: Cap, payload: u32) -> Cap
 /// A copy of a capability, if it may be copied (`IllegalOperation`).
 pub fn copy_of(held: Cap, rights_word: u32) -> Result<Cap, KError>
     ensures value { result ≡ copy_of held rights_word }
+    ensures kin { IfOk result (λ copy. object_of copy ≡ object_of held) }
     ensures valid { IsCapability held → IfOk result IsCapability }
 {
     if !may_be_copied(held) {
@@ -129,6 +130,7 @@ pub fn copy_of(held: Cap, rights_word: u32) -> Result<Cap, KError>
 /// guard word is none of the CNode (`IllegalOperation`).
 pub fn minted_copy_of(held: Cap, rights_word: u32, payload: u32) -> Result<Cap, KError>
     ensures value { result ≡ minted_copy_of held rights_word payload }
+    ensures kin { IfOk result (λ copy. object_of copy ≡ object_of held) }
     ensures valid { IsCapability held → IfOk result IsCapability }
 {
     if !may_be_copied(held) || is_badged(held) {
@@ -146,7 +148,8 @@ pub fn minted_copy_of(held: Cap, rights_word: u32, payload: u32) -> Result<Cap, 
 /// The capability with another guard word, if it names a CNode. It is an illegal operation on an
 /// endpoint and a notification, and with a guard word that is none of the CNode.
 pub fn mutation_of(held: Cap, payload: u32) -> Result<Cap, KError>
-    ensures { result ≡ mutation_of held payload }
+    ensures value { result ≡ mutation_of held payload }
+    ensures kin { IfOk result (λ left. object_of left ≡ object_of held) }
 {
     if carries_messages(held) || !guard_fits(held, payload) {
         return Err(KError::IllegalOperation);

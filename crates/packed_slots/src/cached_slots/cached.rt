@@ -84,6 +84,10 @@ impl<S: SlotStore> SlotStore for CachedSlots<S> {
         self.store.next_below(root, previous)
     }
 
+    fn is_shared(&self, slot: Slot) -> bool {
+        self.store.is_shared(slot)
+    }
+
     fn open_range(&mut self, first: Slot, count: u32) {
         self.store.open_range(first, count);
     }

@@ -30,5 +30,5 @@ returns c =
     let slot = c.args.slot in
     subst (λ (m : List ℕ). IsChanged p (packing m p.open_slots (Some slot)) (inserted (packed_slots p) slot c.args.capability None))
     (sym (c.link_first.ensures.bytes ∙ ap (λ m. linked_first m p.first slot) c.put_capability.ensures.bytes))
-    (inserted_first p slot c.args.capability c.requires.packed c.requires.empty c.requires.valid c.requires.some
+    (inserted_first p slot c.args.capability c.requires.packed c.requires.empty c.requires.valid c.requires.some c.requires.kin
     c.put_capability.ensures.head c.put_capability.ensures.tail)

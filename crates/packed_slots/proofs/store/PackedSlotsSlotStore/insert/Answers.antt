@@ -1,6 +1,7 @@
 -- The store is what its parts are.
 use Rattle.std.proofs.Common.{◌≡◌, ◌∙◌, ◌<◌, Some, sym, ap, subst}
 use Rattle.model.specs.Capabilities.Slots.{IsFull, depth_of, empty_entry, inserted}
+use Rattle.slots.specs.Kin.{IsKin}
 use Rattle.packed_slots.specs.Packing.{Packed, packed_slots}
 use Rattle.packed_slots.proofs.store.PackedSlotsSlotStore.insert.Goals as goal
 
@@ -21,3 +22,6 @@ insert-self-inside-requires-clause-full c = λ s is. subst (λ (p : Packed). IsF
 
 pub invariant_of-self : goal.invariant_of-self
 invariant_of-self c = c.insert-self-inside.ensures.packed
+
+pub insert-self-inside-requires-clause-kin : goal.insert-self-inside-requires-clause-kin
+insert-self-inside-requires-clause-kin c = subst (λ (p : Packed). IsKin (packed_slots p) c.args.capability c.args.parent) (sym c.self.view_is) c.requires.kin
