@@ -1,3 +1,4 @@
+mod Handled
 pub mod Listing
 pub mod Tables
 pub mod Laws

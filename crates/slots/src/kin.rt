@@ -1,8 +1,8 @@
-//! The object that a capability names.
+//! The object that a capability names, and the line that it is a handler of.
 
 ghost use Rattle.std.specs.Prelude.{ℕ, ◌≡◌, ◌==◌, ◌&&◌, not, false};
 ghost use Rattle.std.specs.Option.{option_map_or};
-ghost use Rattle.model.specs.Capabilities.CapabilityKinds.{object_of};
+ghost use Rattle.model.specs.Capabilities.CapabilityKinds.{is_handler_of, names_object, object_of};
 
 use model::{Cap, Slot};
 
@@ -20,6 +20,23 @@ pub fn object_of(capability: Cap) -> Option<u32>
         | Cap::RootTable { offset } => Some(offset),
         Cap::Empty | Cap::Untyped { .. } | Cap::InterruptControl | Cap::InterruptHandler { .. } =>
             None,
+    }
+}
+
+/// Whether a capability names the object at an offset.
+pub(crate) fn names(capability: Cap, offset: u32) -> bool
+    ensures { result ≡ names_object offset capability }
+{
+    object_of(capability) == Some(offset)
+}
+
+/// Whether a capability is a handler of a line.
+pub fn is_handler_of(capability: Cap, line: u8) -> bool
+    ensures { result ≡ is_handler_of line capability }
+{
+    match capability {
+        Cap::InterruptHandler { line: handled } => handled == line,
+        _ => false,
     }
 }
 

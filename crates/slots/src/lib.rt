@@ -11,7 +11,7 @@ mod stores;
 mod table;
 
 pub use capwords::Cap;
-pub use kin::object_of;
+pub use kin::{is_handler_of, object_of};
 pub use maps::SlotMap;
 pub use model::{Entry, Slot};
 pub use plain::PlainSlots;

@@ -1,9 +1,9 @@
 //! A store of slots beside the bytes of the machine.
 
-ghost use Rattle.std.specs.Prelude.{ℕ, ◌≡◌, ◌≢◌, ◌↔◌, ◌+◌, ◌*◌, ◌^◌, ◌<◌, ◌≤◌, [], ◌∷◌, List, Some, None, IfSome, IsTrue, true, false, length, replicate};
+ghost use Rattle.std.specs.Prelude.{ℕ, ◌≡◌, ◌≢◌, ◌↔◌, ◌+◌, ◌*◌, ◌/◌, ◌^◌, ◌<◌, ◌≤◌, [], ◌∷◌, List, Some, None, IfSome, IsTrue, true, false, length, replicate};
 ghost use Rattle.std.specs.Option.{ForSome};
 ghost use Rattle.model.specs.Shared.Bytes.{word_bytes, written};
-ghost use Rattle.model.specs.Capabilities.CapabilityWords.{IsCapability};
+ghost use Rattle.model.specs.Capabilities.CapabilityWords.{IsCapability, IsPlace};
 ghost use Rattle.model.specs.Capabilities.Slots.{IsDerivation, IsFull, IsOpen, OutsideSlots, SameOutside, closed, depth_of, empty_entry, inserted, is_descendant, opened, recapped, relocated, spliced};
 ghost use Rattle.model.specs.Capabilities.Orders.{IsOrderOf, next_in, descendants};
 ghost use Rattle.model.specs.Shared.Lists.{without};
@@ -12,9 +12,10 @@ ghost use Rattle.model.specs.declared.capabilities.Cap.TheVariants.{Empty};
 ghost use Rattle.model.specs.Capabilities.CapabilityKinds.{object_of};
 ghost use Rattle.pmem.specs.Words.{words_bytes};
 ghost use Rattle.slots.specs.Kin.{IsKin, IsShared, object_at};
+ghost use Rattle.slots.specs.Listed.{is_handled, is_naming, naming};
 
-use crate::kin::names_too;
-use crate::{SlotMap, object_of};
+use crate::kin::{names, names_too};
+use crate::{SlotMap, is_handler_of, object_of};
 use model::{Cap, Slot};
 use pmem::Mem;
 
@@ -119,6 +120,43 @@ pub trait SlotStore: SlotMap {
             }
             at = Some(other);
         }
+    }
+
+    /// The slot behind `previous` in the store's own order that names the object at the offset of a page, or the first one:
+    /// among all full slots, where the store has no shorter way.
+    fn next_naming(&self, object: u32, previous: Option<Slot>) -> Option<Slot>
+        requires page { IsPlace object 12 }
+        requires full { ForSome previous (IsFull (Self.slots self.now)) }
+        requires known { ForSome previous (λ slot. IsTrue (is_naming (Self.slots self.now) object slot)) }
+        ensures next { result ≡ next_in (naming (order self.now) (Self.slots self.now) object) previous }
+        ensures lists { IsOrderOf (order self.now) (Self.slots self.now) }
+        ensures found_full { IfSome result (IsFull (Self.slots self.now)) }
+        ensures found_known { IfSome result (λ slot. IsTrue (is_naming (Self.slots self.now) object slot)) }
+    {
+        let mut at = previous;
+        'slots: loop {
+            let Some(slot) = self.next_full(at) else {
+                return None;
+            };
+            if names(self.capability(slot), object) {
+                return Some(slot);
+            }
+            at = Some(slot);
+        }
+    }
+
+    /// Whether some slot holds a handler of a line, 0 to 63: by a walk over all slots, where the store has no shorter way.
+    fn is_handled(&self, line: u8) -> bool
+        requires { line < 64 }
+        ensures { result ≡ is_handled (Self.slots self.now) (length (memory self.now) / 16) line }
+    {
+        let count = self.count();
+        'slots: for number in 0..count {
+            if is_handler_of(self.capability(Slot::new(number)), line) {
+                return true;
+            }
+        }
+        false
     }
 
     /// Opens `count` slots, all of them empty.

@@ -1,5 +1,5 @@
 -- Who shares the object stands behind the slot that was looked at last, or nobody does.
-use Rattle.std.proofs.Common.{ℕ, ◌≡◌, ◌≢◌, ◌∙◌, ◌==◌, ◌+◌, ◌<◌, ◌&&◌, not, inl, inr, true, false, Bool, if◌then◌else◌, Option, Some, None, List, [], ◌∷◌, length, refl, sym, ap, subst, arith}
+use Rattle.std.proofs.Common.{ℕ, ◌≡◌, ◌≢◌, ◌∙◌, ◌==◌, ◌+◌, ◌<◌, ◌&&◌, not, true, false, if◌then◌else◌, Option, Some, List, [], ◌∷◌, length, refl, sym, ap, subst, arith}
 use Rattle.std.proofs.lemmas.Bool.{eq-eqb, ne_eqb}
 use Rattle.std.specs.Option.{option_map_or}
 use Rattle.model.specs.Capabilities.CapabilityKinds.{object_of}
@@ -7,7 +7,7 @@ use Rattle.model.specs.Capabilities.Slots.{IsFull, Slots}
 use Rattle.model.specs.Shared.Lists.{times_in}
 use Rattle.model.proofs.Ancestors.{listed-full, order-once}
 use Rattle.model.proofs.Orders.{after-behind, behind, behind-step, first-none, first-some, times-behind}
-use Rattle.slots.specs.Kin.{IsShared, object_at}
+use Rattle.slots.specs.Kin.{object_at}
 use Rattle.slots.proofs.stores.SlotStore.is_shared.Goals as goal
 
 -- the test of a slot that names the object
