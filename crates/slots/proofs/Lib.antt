@@ -1,3 +1,4 @@
+mod Families
 mod Handled
 pub mod Listing
 pub mod Tables

@@ -1,8 +1,8 @@
 -- Which capabilities may stand where, so that those to one object stand side by side in the order of derivation.
 -- seL4 Reference Manual, "Capability Derivation Tree".
-use Rattle.std.specs.Prelude.{ℕ, ◌≡◌, ◌≢◌, ◌⊎◌, Option, Some, None}
+use Rattle.std.specs.Prelude.{ℕ, ◌≡◌, ◌≢◌, ◌⊎◌, false, Option, Some, None}
 use Rattle.model.specs.Capabilities.CapabilityKinds.{object_of}
-use Rattle.model.specs.Capabilities.Slots.{Slots, capability_at}
+use Rattle.model.specs.Capabilities.Slots.{Slots, capability_at, is_descendant, parent_at, spliced}
 use Rattle.model.specs.declared.capabilities.Cap.{Cap}
 
 -- the object that the capability in each slot names
@@ -25,3 +25,18 @@ pub record IsShared (slots : Slots) (slot : ℕ) : Type 0 where
   pub other : ℕ
   pub apart : other ≢ slot
   pub names : object_at slots other ≡ Some offset
+
+-- a slot that does not descend from a root names the object that a slot names
+pub record IsSharedBeside (slots : Slots) (root slot : ℕ) : Type 0 where
+  pub offset : ℕ
+  pub own : object_at slots slot ≡ Some offset
+  pub other : ℕ
+  pub beside : is_descendant slots root other ≡ false
+  pub names : object_at slots other ≡ Some offset
+
+-- the slot that one is derived from, if nothing is derived from it any more once that one is emptied
+pub data LeavesChildless (slots : Slots) (slot : ℕ) : Option ℕ → Type 0 where
+  childless : (parent : ℕ) → parent_at slots slot ≡ Some parent → ((other : ℕ) → parent_at (spliced slots slot) other ≢ Some parent)
+      → LeavesChildless slots slot (Some parent)
+  has_child : (parent other : ℕ) → parent_at slots slot ≡ Some parent → parent_at (spliced slots slot) other ≡ Some parent → LeavesChildless slots slot None
+  no_parent : parent_at slots slot ≡ None → LeavesChildless slots slot None

@@ -46,3 +46,10 @@ pub(crate) fn names_too(named: Option<u32>, offset: u32, other: Slot, slot: Slot
 {
     other.number() != slot.number() && named == Some(offset)
 }
+
+/// Whether a slot is not below a root, and what it names is the object at an offset.
+pub(crate) fn names_beside(named: Option<u32>, offset: u32, is_below: bool) -> bool
+    ensures { result ≡ (not is_below && option_map_or (λ named. named == offset) named false) }
+{
+    !is_below && named == Some(offset)
+}

@@ -11,10 +11,10 @@ ghost use Rattle.model.specs.declared.capabilities.Cap.{Cap};
 ghost use Rattle.model.specs.declared.capabilities.Cap.TheVariants.{Empty};
 ghost use Rattle.model.specs.Capabilities.CapabilityKinds.{object_of};
 ghost use Rattle.pmem.specs.Words.{words_bytes};
-ghost use Rattle.slots.specs.Kin.{IsKin, IsShared, object_at};
+ghost use Rattle.slots.specs.Kin.{IsKin, IsShared, IsSharedBeside, LeavesChildless, object_at};
 ghost use Rattle.slots.specs.Listed.{is_handled, is_naming, naming};
 
-use crate::kin::{names, names_too};
+use crate::kin::{names, names_beside, names_too};
 use crate::{SlotMap, is_handler_of, object_of};
 use model::{Cap, Slot};
 use pmem::Mem;
@@ -120,6 +120,49 @@ pub trait SlotStore: SlotMap {
             }
             at = Some(other);
         }
+    }
+
+    /// Whether a slot that does not descend from a root names the object that a slot names which does. `last` is the last one
+    /// that does in the store's own order. Among all full slots, where the store has no shorter way.
+    fn is_shared_beside(&self, root: Slot, last: Slot, slot: Slot) -> bool
+        requires below { IsTrue (is_descendant (Self.slots self.now) root slot) }
+        requires last_below { IsTrue (is_descendant (Self.slots self.now) root last) }
+        requires none_behind { next_in (descendants (order self.now) (Self.slots self.now) root) (Some last) ≡ None }
+        ensures shared { result ≡ true → IsSharedBeside (Self.slots self.now) root slot }
+        ensures alone { result ≡ false → IsSharedBeside (Self.slots self.now) root slot → ⊥ }
+    {
+        let _last = last;
+        let Some(offset) = object_of(self.capability(slot)) else {
+            return false;
+        };
+        let mut at = None;
+        'slots: loop {
+            let Some(other) = self.next_full(at) else {
+                return false;
+            };
+            let is_below = self.descends(root, other);
+            if names_beside(object_of(self.capability(other)), offset, is_below) {
+                return true;
+            }
+            at = Some(other);
+        }
+    }
+
+    /// The slot that a full slot is derived from, if nothing is derived from it any more once this one is emptied: by the
+    /// descendants of that one, where the store has no shorter way.
+    fn childless_without(&self, slot: Slot) -> Option<Slot>
+        requires { IsFull (Self.slots self.now) slot }
+        ensures { LeavesChildless (Self.slots self.now) slot result }
+    {
+        let (_held, above) = self.get(slot);
+        let Some(parent) = above else {
+            return None;
+        };
+        let first = self.next_below(parent, None);
+        if self.next_below(parent, first).is_some() {
+            return None;
+        }
+        Some(parent)
     }
 
     /// The slot behind `previous` in the store's own order that names the object at the offset of a page, or the first one:

@@ -7,6 +7,6 @@ pub use Rattle.slots.proofs.preorder.Descents.{descendants-run}
 pub use Rattle.slots.proofs.preorder.Linked.{IsIn, chain-first, chain-put_after, chain-same, chain-without, next-in, previous-in}
 pub use Rattle.slots.proofs.preorder.Paths.{put-others, put-own, rows-here, rows-rest}
 pub use Rattle.slots.proofs.preorder.RowDepths.{depth-rows}
-pub use Rattle.slots.proofs.preorder.Runs.{another-beside, next-another, previous-another, runs-end, runs-first, runs-put_behind, runs-renamed, runs-same, runs-taken_out}
+pub use Rattle.slots.proofs.preorder.Runs.{another-beside, next-another, previous-another, run-ends, runs-end, runs-first, runs-put_behind, runs-renamed, runs-same, runs-taken_out}
 pub use Rattle.slots.proofs.preorder.Splices.{taken-out}
 pub use Rattle.slots.proofs.preorder.Walking.{behind-first, behind-next, behind-none, linked-next, linked-rows, parents-back}

@@ -2,7 +2,7 @@
 use Rattle.std.proofs.Common.{ℕ, ◌≡◌, ◌≢◌, ◌∙◌, ◌==◌, ◌+◌, ◌<◌, ◌≤◌, ◌⊎◌, inl, inr, if◌then◌else◌, not, cond, Option, Some, None, List, [], ◌∷◌, true, false, refl, sym, ap, subst, arith}
 use Rattle.std.proofs.lemmas.Bool.Decides.{eqb_tells, nat_tests}
 use Rattle.std.proofs.lemmas.Bool.{cases_lt, eq-eqb, le-ltb, lt-ltb, ne_eqb}
-use Rattle.model.specs.Capabilities.Orders.{first_of}
+use Rattle.model.specs.Capabilities.Orders.{first_of, next_after}
 use Rattle.model.specs.Shared.Lists.{times_in, without}
 use Rattle.model.proofs.Orders.{times-first}
 use Rattle.slots.specs.preorder.Chains.{IsChain, Links, put_after}
@@ -257,6 +257,30 @@ previous-another xs next previous s o chain once there is =
 
 -- ---- a run that reaches beyond the descendants of a root
 
+-- what stands in a run stands in the rows
+in-run : (rows : List Row) (d s : ℕ) → 0 < times_in (slots_of (run d rows)) s → 0 < times_in (slots_of rows) s
+in-run [] d s there = there
+in-run (r ∷ rest) d s there = elim (cases_lt d r.depth) [
+  | inl deep ↦
+      let inside : 0 < times_in (r.slot ∷ slots_of (run d rest)) s = subst (λ l. 0 < times_in (slots_of l) s) (ap (λ b. if b then r ∷ run d rest else []) (lt-ltb d r.depth deep)) there in
+      elim (eqb_tells r.slot s) [
+        | inl own ↦ subst (λ y. 0 < times_in (slots_of (r ∷ rest)) y) own.1 (omega (arith, times-first r.slot (slots_of rest)))
+        | inr other ↦ omega (arith, in-run rest d s (omega (arith, inside, times-rest r.slot (slots_of (run d rest)) s other.1)), times-tail r.slot (slots_of rest) s)
+      ]
+  | inr end ↦
+      let none : 0 < times_in [] s = subst (λ l. 0 < times_in (slots_of l) s) (ap (λ b. if b then r ∷ run d rest else []) (le-ltb d r.depth end)) there in
+      absurd (omega (arith, none))
+]
+
+pub in-behind : (rows : List Row) (root s : ℕ) → 0 < times_in (slots_of (run_behind root rows)) s → 0 < times_in (slots_of rows) s
+in-behind [] root s there = there
+in-behind (r ∷ rest) root s there = elim (eqb_tells r.slot root) [
+  | inl here ↦
+      omega (arith, in-run rest r.depth s (subst (λ l. 0 < times_in (slots_of l) s) (ap (λ b. if b then run r.depth rest else run_behind root rest) here.0) there), times-tail r.slot (slots_of rest) s)
+  | inr off ↦
+      omega (arith, in-behind rest root s (subst (λ l. 0 < times_in (slots_of l) s) (ap (λ b. if b then run r.depth rest else run_behind root rest) off.0) there), times-tail r.slot (slots_of rest) s)
+]
+
 -- from a slot before the root on, the root has the key
 root-has : {K : Type 0} (keys : Keys K) (key : K) (rows : List Row) (root s : ℕ) → AreRuns keys (slots_of rows) → IsAtOnce keys key (slots_of rows)
     → 0 < times_in (slots_of (run_behind root rows)) s → keys s ≡ Some key → keys root ≡ Some key
@@ -269,29 +293,6 @@ root-has keys key (r ∷ rest) root s runs once there is =
       | inr off ↦
           root-has keys key rest root s runs.1 (runs.0 key own)
           (subst (λ l. 0 < times_in (slots_of l) s) (ap (λ b. if b then run r.depth rest else run_behind root rest) off.0) there) is
-    ]
-  where
-    in-run : (rows : List Row) (d s : ℕ) → 0 < times_in (slots_of (run d rows)) s → 0 < times_in (slots_of rows) s
-    in-run [] d s there = there
-    in-run (r ∷ rest) d s there = elim (cases_lt d r.depth) [
-      | inl deep ↦
-          let inside : 0 < times_in (r.slot ∷ slots_of (run d rest)) s = subst (λ l. 0 < times_in (slots_of l) s) (ap (λ b. if b then r ∷ run d rest else []) (lt-ltb d r.depth deep)) there in
-          elim (eqb_tells r.slot s) [
-            | inl own ↦ subst (λ y. 0 < times_in (slots_of (r ∷ rest)) y) own.1 (omega (arith, times-first r.slot (slots_of rest)))
-            | inr other ↦ omega (arith, in-run rest d s (omega (arith, inside, times-rest r.slot (slots_of (run d rest)) s other.1)), times-tail r.slot (slots_of rest) s)
-          ]
-      | inr end ↦
-          let none : 0 < times_in [] s = subst (λ l. 0 < times_in (slots_of l) s) (ap (λ b. if b then r ∷ run d rest else []) (le-ltb d r.depth end)) there in
-          absurd (omega (arith, none))
-    ]
-
-    in-behind : (rows : List Row) (root s : ℕ) → 0 < times_in (slots_of (run_behind root rows)) s → 0 < times_in (slots_of rows) s
-    in-behind [] root s there = there
-    in-behind (r ∷ rest) root s there = elim (eqb_tells r.slot root) [
-      | inl here ↦
-          omega (arith, in-run rest r.depth s (subst (λ l. 0 < times_in (slots_of l) s) (ap (λ b. if b then run r.depth rest else run_behind root rest) here.0) there), times-tail r.slot (slots_of rest) s)
-      | inr off ↦
-          omega (arith, in-behind rest root s (subst (λ l. 0 < times_in (slots_of l) s) (ap (λ b. if b then run r.depth rest else run_behind root rest) off.0) there), times-tail r.slot (slots_of rest) s)
     ]
 
 -- the first slot behind a run has the key that is in the run and behind it; the slot before the rows may have it too
@@ -359,6 +360,68 @@ runs-end (r ∷ rest) keys key root s other runs inside is there out has = elim 
             (runs-end rest keys key root s other runs.1 within is (omega (arith, there, times-rest r.slot (slots_of rest) other apart.1)) beside has)
       ]
 ]
+
+-- ---- the end of a run
+
+-- nothing is in a run: then what stands behind it is all
+none-runs : (rows : List Row) (d : ℕ) → first_of (slots_of (run d rows)) ≡ None → first_of (slots_of rows) ≡ first_of (slots_of (past d rows))
+none-runs [] d none = refl
+none-runs (r ∷ rest) d none = elim (cases_lt d r.depth) [
+  | inl deep ↦
+      let clash : Some r.slot ≡ None = sym (ap (λ b. first_of (slots_of (if b then r ∷ run d rest else []))) (lt-ltb d r.depth deep)) ∙ none in
+      absurd cc
+  | inr end ↦ sym (ap (λ b. first_of (slots_of (if b then past d rest else r ∷ rest))) (le-ltb d r.depth end))
+]
+
+after-here : (x : ℕ) (rest : List ℕ) (s : ℕ) → x ≡ s → next_after (x ∷ rest) s ≡ first_of rest
+after-here x rest s here = ap (λ b. if b then first_of rest else next_after rest s) (eq-eqb x s here)
+
+after-off : (x : ℕ) (rest : List ℕ) (s : ℕ) → x ≢ s → next_after (x ∷ rest) s ≡ next_after rest s
+after-off x rest s off = ap (λ b. if b then first_of rest else next_after rest s) (ne_eqb x s off)
+
+run-last : (rows : List Row) (d s : ℕ) → 0 < times_in (slots_of (run d rows)) s → next_after (slots_of (run d rows)) s ≡ None
+    → next_after (slots_of rows) s ≡ first_of (slots_of (past d rows))
+run-last [] d s there none = absurd (omega (arith, there))
+run-last (r ∷ rest) d s there none = elim (cases_lt d r.depth) [
+  | inl deep ↦
+      let more = slots_of (run d rest) in
+      let whole : slots_of (run d (r ∷ rest)) ≡ r.slot ∷ more = ap (λ b. slots_of (if b then r ∷ run d rest else [])) (lt-ltb d r.depth deep) in
+      let end : first_of (slots_of (past d (r ∷ rest))) ≡ first_of (slots_of (past d rest)) =
+      ap (λ b. first_of (slots_of (if b then past d rest else r ∷ rest))) (lt-ltb d r.depth deep) in
+      elim (eqb_tells r.slot s) [
+        | inl here ↦
+            after-here r.slot (slots_of rest) s here.1
+            ∙ none-runs rest d (sym (after-here r.slot more s here.1) ∙ sym (ap (λ l. next_after l s) whole) ∙ none) ∙ sym end
+        | inr off ↦
+            after-off r.slot (slots_of rest) s off.1
+            ∙ run-last rest d s (omega (arith, there, ap (λ l. times_in l s) whole, times-rest r.slot more s off.1))
+            (sym (after-off r.slot more s off.1) ∙ sym (ap (λ l. next_after l s) whole) ∙ none)
+            ∙ sym end
+      ]
+  | inr end ↦ absurd (omega (arith, there, ap (λ b. times_in (slots_of (if b then r ∷ run d rest else [])) s) (le-ltb d r.depth end)))
+]
+
+-- behind the last descendant of a root stands the first row behind the root's run
+pub run-ends : (rows : List Row) (root s : ℕ) → ((y : ℕ) → rows_of rows y ≤ 1) → 0 < times_in (slots_of (run_behind root rows)) s
+    → next_after (slots_of (run_behind root rows)) s ≡ None → next_after (slots_of rows) s ≡ first_of (slots_of (behind_run root rows))
+run-ends [] root s once there none = absurd (omega (arith, there))
+run-ends (r ∷ rest) root s once there none = elim (eqb_tells r.slot root) [
+  | inl here ↦
+      let run_is = ap (λ b. if b then run r.depth rest else run_behind root rest) here.0 in
+      let inside : 0 < times_in (slots_of (run r.depth rest)) s = subst (λ l. 0 < times_in (slots_of l) s) run_is there in
+      after-off r.slot (slots_of rest) s (apart (in-run rest r.depth s inside))
+      ∙ run-last rest r.depth s inside (sym (ap (λ l. next_after (slots_of l) s) run_is) ∙ none)
+      ∙ sym (ap (λ b. first_of (slots_of (if b then past r.depth rest else behind_run root rest))) here.0)
+  | inr off ↦
+      let run_is = ap (λ b. if b then run r.depth rest else run_behind root rest) off.0 in
+      let inside : 0 < times_in (slots_of (run_behind root rest)) s = subst (λ l. 0 < times_in (slots_of l) s) run_is there in
+      after-off r.slot (slots_of rest) s (apart (in-behind rest root s inside))
+      ∙ run-ends rest root s (λ y. omega (arith, once y, times-tail r.slot (slots_of rest) y)) inside (sym (ap (λ l. next_after (slots_of l) s) run_is) ∙ none)
+      ∙ sym (ap (λ b. first_of (slots_of (if b then past r.depth rest else behind_run root rest))) off.0)
+]
+  where
+    apart : 0 < times_in (slots_of rest) s → r.slot ≢ s
+    apart later same = absurd (omega (arith, later, once s, ap (λ y. times_in (r.slot ∷ slots_of rest) y) (sym same), times-first r.slot (slots_of rest), ap (times_in (slots_of rest)) same))
 
 -- ---- the same of rows
 
