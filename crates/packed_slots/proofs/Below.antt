@@ -15,7 +15,7 @@ use Rattle.packed_slots.specs.Words.{word_of, words_in}
 use Rattle.packed_slots.proofs.PackedFacts.{full-row, no-row, parent-as}
 use Rattle.packed_slots.proofs.WordWrites.{depth-small}
 
-below-run : (p : Packed) (root : ℕ) → IsPacked p → descendants (packed_order p) (packed_slots p) root ≡ slots_of (run_behind root (packed_rows p))
+pub below-run : (p : Packed) (root : ℕ) → IsPacked p → descendants (packed_order p) (packed_slots p) root ≡ slots_of (run_behind root (packed_rows p))
 below-run p root is =
     let w = words_in p.memory in
     let rows = packed_rows p in

@@ -2,6 +2,9 @@ pub mod Below
 pub mod Beside
 pub mod BitLists
 pub mod Changing
+pub mod ChildTests
+pub mod Children
+pub mod Edges
 pub mod Inserting
 pub mod Keeping
 pub mod Moving

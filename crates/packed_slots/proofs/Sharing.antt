@@ -26,27 +26,27 @@ named-so (Some x) offset is = elim (eqb_tells x offset) [
 so-named : (o : Option ℕ) (offset : ℕ) → o ≡ Some offset → option_map_or (λ named. named == offset) o false ≡ true
 so-named o offset is = ap (λ o. option_map_or (λ named. named == offset) o false) is ∙ eq-eqb offset offset refl
 
-at-found : (slots : Slots) (offset : ℕ) (found : Option ℕ) → is_named_at slots offset found ≡ true → (s : ℕ) × (found ≡ Some s) × (object_at slots s ≡ Some offset)
+pub at-found : (slots : Slots) (offset : ℕ) (found : Option ℕ) → is_named_at slots offset found ≡ true → (s : ℕ) × (found ≡ Some s) × (object_at slots s ≡ Some offset)
 at-found slots offset None is = absurd (let clash : false ≡ true = is in cc)
 at-found slots offset (Some s) is = (s, refl, named-so (object_at slots s) offset is)
 
-found-at : (slots : Slots) (offset : ℕ) (found : Option ℕ) → HasKey (object_at slots) offset found → is_named_at slots offset found ≡ true
+pub found-at : (slots : Slots) (offset : ℕ) (found : Option ℕ) → HasKey (object_at slots) offset found → is_named_at slots offset found ≡ true
 found-at slots offset None has = absurd has
 found-at slots offset (Some s) has = so-named (object_at slots s) offset has
 
-either : (a b : Bool) → (a || b) ≡ true → (a ≡ true) ⊎ (b ≡ true)
+pub either : (a b : Bool) → (a || b) ≡ true → (a ≡ true) ⊎ (b ≡ true)
 either true b is = inl refl
 either false b is = inr is
 
-or-left : (a b : Bool) → a ≡ true → (a || b) ≡ true
+pub or-left : (a b : Bool) → a ≡ true → (a || b) ≡ true
 or-left a b is = ap (λ x. x || b) is
 
-or-right : (a b : Bool) → b ≡ true → (a || b) ≡ true
+pub or-right : (a b : Bool) → b ≡ true → (a || b) ≡ true
 or-right true b is = refl
 or-right false b is = is
 
 -- what names an object is full
-named-full : (capability : Cap) (offset : ℕ) → object_of capability ≡ Some offset → is_empty capability ≡ false
+pub named-full : (capability : Cap) (offset : ℕ) → object_of capability ≡ Some offset → is_empty capability ≡ false
 named-full Empty offset is = absurd (let clash : None ≡ Some offset = is in cc)
 named-full (Untyped _ _ _) offset is = refl
 named-full (Endpoint _ _ _) offset is = refl

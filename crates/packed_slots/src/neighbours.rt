@@ -1,14 +1,16 @@
-//! Whether a slot is the last one that names its object: its neighbours tell.
+//! What the neighbours of a slot tell: whether it is the last one that names its object, and its parent's last child.
 
-ghost use Rattle.std.specs.Prelude.{ℕ, ◌≡◌, true, false};
-ghost use Rattle.model.specs.Capabilities.Slots.{IsFull};
-ghost use Rattle.packed_slots.specs.Sharing.{has_like_neighbour, is_named_at};
-ghost use Rattle.packed_slots.specs.Packing.{IsPacked, packed_slots, packing};
-ghost use Rattle.slots.specs.Kin.{IsShared};
+ghost use Rattle.std.specs.Prelude.{ℕ, ◌≡◌, ◌%◌, Some, None, IsTrue, true, false, length};
+ghost use Rattle.model.specs.Capabilities.Orders.{descendants, next_in};
+ghost use Rattle.model.specs.Capabilities.Slots.{IsFull, is_descendant};
+ghost use Rattle.packed_slots.specs.Sharing.{has_like_edge, has_like_neighbour, is_as_deep, is_named_at};
+ghost use Rattle.packed_slots.specs.Packing.{IsPacked, packed_order, packed_slots, packing};
+ghost use Rattle.packed_slots.specs.Words.{words_in};
+ghost use Rattle.slots.specs.Kin.{IsShared, IsSharedBeside, LeavesChildless};
 
 use crate::open_slots::OpenSlots;
 use crate::reads::capability;
-use crate::words::{next, previous};
+use crate::words::{depth, next, previous};
 use model::Slot;
 use pmem::Mem;
 use slots::object_of;
@@ -62,4 +64,81 @@ pub(crate) fn is_shared(
     ensures alone { result ≡ false → IsShared (packed_slots (packing memory.now open_slots.now first.now)) slot → ⊥ }
 {
     has_like_neighbour(memory, open_slots, first, slot)
+}
+
+/// Whether a root, or the slot behind the last one that descends from it, names what a slot names.
+fn has_like_edge(
+    memory: &Mem,
+    open_slots: &OpenSlots,
+    first: &Option<Slot>,
+    root: Slot,
+    last: Slot,
+    slot: Slot,
+) -> bool
+    requires packed { IsPacked (packing memory.now open_slots.now first.now) }
+    ensures { result ≡ has_like_edge (packing memory.now open_slots.now first.now) root last slot }
+{
+    match object_of(capability(memory, open_slots, first, slot)) {
+        Some(offset) => {
+            is_named_at(memory, open_slots, first, offset, Some(root))
+                || is_named_at(memory, open_slots, first, offset, next(memory, last))
+        }
+        None => false,
+    }
+}
+
+/// Whether a slot that does not descend from a root names the object that a slot names which does, of which `last` is the
+/// last one. Two slots are looked at.
+pub(crate) fn is_shared_beside(
+    memory: &Mem,
+    open_slots: &OpenSlots,
+    first: &Option<Slot>,
+    root: Slot,
+    last: Slot,
+    slot: Slot,
+) -> bool
+    requires packed { IsPacked (packing memory.now open_slots.now first.now) }
+    requires below { IsTrue (is_descendant (packed_slots (packing memory.now open_slots.now first.now)) root slot) }
+    requires last_below { IsTrue (is_descendant (packed_slots (packing memory.now open_slots.now first.now)) root last) }
+    requires none_behind { next_in (descendants (packed_order (packing memory.now open_slots.now first.now)) (packed_slots (packing memory.now open_slots.now first.now)) root) (Some last) ≡ None }
+    ensures shared { result ≡ true → IsSharedBeside (packed_slots (packing memory.now open_slots.now first.now)) root slot }
+    ensures alone { result ≡ false → IsSharedBeside (packed_slots (packing memory.now open_slots.now first.now)) root slot → ⊥ }
+{
+    has_like_edge(memory, open_slots, first, root, last, slot)
+}
+
+/// Whether there is a slot, and it is as deep as a depth, or deeper.
+fn is_as_deep(memory: &Mem, own_depth: u32, found: Option<Slot>) -> bool
+    requires { length memory.now % 16 ≡ 0 }
+    ensures { result ≡ is_as_deep (words_in memory.now) own_depth found }
+{
+    match found {
+        Some(slot) => depth(memory, slot) >= own_depth,
+        None => false,
+    }
+}
+
+/// The slot that a full slot is derived from, if nothing is derived from it any more once this one is emptied: that is the
+/// slot before this one, if it is less deep, and the slot behind this one is less deep too.
+pub(crate) fn childless_without(
+    memory: &Mem,
+    open_slots: &OpenSlots,
+    first: &Option<Slot>,
+    slot: Slot,
+) -> Option<Slot>
+    requires packed { IsPacked (packing memory.now open_slots.now first.now) }
+    requires full { IsFull (packed_slots (packing memory.now open_slots.now first.now)) slot }
+    ensures { LeavesChildless (packed_slots (packing memory.now open_slots.now first.now)) slot result }
+{
+    let own_depth = depth(memory, slot);
+    let Some(before) = previous(memory, slot) else {
+        return None;
+    };
+    if is_as_deep(memory, own_depth, Some(before)) {
+        return None;
+    }
+    if is_as_deep(memory, own_depth, next(memory, slot)) {
+        return None;
+    }
+    Some(before)
 }

@@ -98,6 +98,21 @@ impl SlotStore for PackedSlots {
         neighbours::is_shared(&self.memory, &self.open_slots, &self.first, slot)
     }
 
+    fn is_shared_beside(&self, root: Slot, last: Slot, slot: Slot) -> bool {
+        neighbours::is_shared_beside(
+            &self.memory,
+            &self.open_slots,
+            &self.first,
+            root,
+            last,
+            slot,
+        )
+    }
+
+    fn childless_without(&self, slot: Slot) -> Option<Slot> {
+        neighbours::childless_without(&self.memory, &self.open_slots, &self.first, slot)
+    }
+
     fn open_range(&mut self, first: Slot, count: u32) {
         changes::open(
             &mut self.memory,

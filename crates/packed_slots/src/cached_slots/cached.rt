@@ -88,6 +88,14 @@ impl<S: SlotStore> SlotStore for CachedSlots<S> {
         self.store.is_shared(slot)
     }
 
+    fn is_shared_beside(&self, root: Slot, last: Slot, slot: Slot) -> bool {
+        self.store.is_shared_beside(root, last, slot)
+    }
+
+    fn childless_without(&self, slot: Slot) -> Option<Slot> {
+        self.store.childless_without(slot)
+    }
+
     fn open_range(&mut self, first: Slot, count: u32) {
         self.store.open_range(first, count);
     }
