@@ -12,6 +12,7 @@ mod Refused
 mod RefusedLaw
 mod RetypeSteps
 mod SomeSlot
+mod StillNamed
 mod Values
 mod Unsettling
 mod Waiters

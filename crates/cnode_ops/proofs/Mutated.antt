@@ -3,7 +3,7 @@ use Rattle.std.proofs.Common.{ℕ, ◌≡◌, ◌≢◌, ◌∙◌, ◌/◌, Boo
 use Rattle.std.specs.Option.{option_map}
 use Rattle.std.proofs.lemmas.Bool.Decides.{nat_tests}
 use Rattle.model.proofs.SlotChanges.{capability_of, entry-other, entry-same, full-not-empty, full-not-none}
-use Rattle.model.specs.Capabilities.CapabilityKinds.{carries_messages, guard_fits, is_guard_word, with_payload}
+use Rattle.model.specs.Capabilities.CapabilityKinds.{carries_messages, guard_fits, is_guard_word, object_of, with_payload}
 use Rattle.model.specs.Capabilities.CapabilityWords.{IsCapability, IsGuardWord}
 use Rattle.model.specs.Capabilities.Slots.{IsFull, SameOutside, Slots, adopted, capability_at, empty_entry, is_empty, recapped, relocated, with_entry, with_parent}
 use Rattle.model.specs.Kernel.Arguments.{◌>>=◌, Call, check}
@@ -18,6 +18,7 @@ use Rattle.derivation.specs.cap_copies.Copies.{mutation_of}
 use Rattle.cnode_ops.specs.Results.{named_slots}
 use Rattle.cnode_ops.proofs.Answered.{behind-names, names-refused}
 use Rattle.cnode_ops.proofs.Values.{mutated-made}
+use Rattle.slots.specs.Kin.{object_at}
 
 -- ---- the capability
 
@@ -49,6 +50,16 @@ full-moved slots from to full empty =
     let moved = with_parent slots from (Some to) in
     let other : to ≢ from = λ e. full-not-empty slots from to full empty (sym e) in
     ap (λ o. not (is_empty (capability_of o))) (entry-other (with_entry moved to (slots from)) from (Some empty_entry) to other ∙ entry-same moved to (slots from)) ∙ full
+
+-- what was moved names what it named
+pub object-moved : (slots now : Slots) (from to : ℕ) (made held : Cap) → IsFull slots from → slots to ≡ Some empty_entry → now ≡ relocated slots from to
+    → object_of made ≡ object_of held → held ≡ capability_at slots from → object_of made ≡ object_at now to
+object-moved slots now from to made held full empty is same held_is =
+    let moved = with_parent slots from (Some to) in
+    let other : to ≢ from = λ e. full-not-empty slots from to full empty (sym e) in
+    same ∙ ap object_of held_is
+    ∙ sym (ap (λ (f : Slots). object_at f to) is
+    ∙ ap (λ o. object_of (capability_of o)) (entry-other (with_entry moved to (slots from)) from (Some empty_entry) to other ∙ entry-same moved to (slots from)))
 
 closed-moved : (slots : Slots) (from to s : ℕ) → IsFull slots from → slots to ≡ Some empty_entry → slots s ≡ None → relocated slots from to s ≡ None
 closed-moved slots from to s full empty closed =

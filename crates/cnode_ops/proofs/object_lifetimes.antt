@@ -3,4 +3,5 @@ mod Marked
 mod OneAfterAnother
 mod OneMade
 mod Places
+mod Unnamed
 pub mod Laws

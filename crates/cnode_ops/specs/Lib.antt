@@ -7,6 +7,7 @@ pub mod Refusals
 pub mod Results
 pub mod RetypeChecks
 pub mod Sets
+pub mod StillNamed
 pub mod Unsettled
 pub mod Counted
 pub mod object_lifetimes

@@ -1,8 +1,8 @@
 //! Emptying one slot of a removal, with all that goes with its capability.
 
-ghost use Rattle.std.specs.Prelude.{ℕ, ◌≡◌, true, false};
+ghost use Rattle.std.specs.Prelude.{◌≡◌};
+ghost use Rattle.cnode_ops.specs.StillNamed.{IsNamedStill};
 ghost use Rattle.cnode_ops.specs.Unsettled.{Notes, ObjectsLie};
-ghost use Rattle.model.specs.Capabilities.CapabilityKinds.{names_object, object_of};
 ghost use Rattle.model.specs.Capabilities.Slots.{IsFull, capability_at, parent_at, spliced};
 ghost use Rattle.model.specs.Kernel.Removal.{emptied};
 ghost use Rattle.model.specs.Kernel.State.{with_slots};
@@ -12,70 +12,20 @@ ghost use Rattle.removal_laws.specs.Steps.{IfUnnamed, IsReady, IsThere, WithWate
 use crate::Ends;
 use crate::settling::Unsettled;
 use model::{Cap, Slot};
-use slots::SlotStore;
+use slots::{SlotStore, object_of};
 
-/// The object that a capability names, by its offset: untyped memory is no object, and a line is none.
-pub(crate) fn object_of(capability: Cap) -> Option<u32>
-    ensures { result ≡ object_of capability }
-{
-    match capability {
-        Cap::Endpoint { offset, .. }
-        | Cap::Notification { offset, .. }
-        | Cap::CNode { offset, .. }
-        | Cap::Frame { offset, .. }
-        | Cap::PageTable { offset, .. }
-        | Cap::Tcb { offset }
-        | Cap::RootTable { offset } => Some(offset),
-        Cap::Empty | Cap::Untyped { .. } | Cap::InterruptControl | Cap::InterruptHandler { .. } =>
-            None,
-    }
-}
-
-/// Whether the capability in a slot names the object at an offset.
-fn names<S: SlotStore>(store: &S, slot: Slot, offset: u32) -> bool
-    ensures { result ≡ names_object offset (capability_at (S.slots store.now) slot) }
-{
-    object_of(store.capability(slot)) == Some(offset)
-}
-
-/// Whether some slot's capability names the object at an offset.
-fn is_named<S: SlotStore>(store: &S, offset: u32) -> bool
-    ensures some { result ≡ true → (slot : ℕ) × (names_object offset (capability_at (S.slots store.now) slot) ≡ true) }
-    ensures none { result ≡ false → (slot : ℕ) → names_object offset (capability_at (S.slots store.now) slot) ≡ false }
-{
-    let mut at = None;
-    'slots: loop {
-        let Some(slot) = store.next_full(at) else {
-            return false;
-        };
-        if names(store, slot, offset) {
-            return true;
-        }
-        at = Some(slot);
-    }
-}
-
-/// Whether some slot's capability names the object at an offset. The slot that one was derived from is looked at first,
-/// since it names the same object in most cases.
-fn is_named_still<S: SlotStore>(store: &S, parent: &Option<Slot>, offset: u32) -> bool
-    ensures some { result ≡ true → (slot : ℕ) × (names_object offset (capability_at (S.slots store.now) slot) ≡ true) }
-    ensures none { result ≡ false → (slot : ℕ) → names_object offset (capability_at (S.slots store.now) slot) ≡ false }
-{
-    if let Some(above) = parent {
-        if names(store, *above, offset) {
-            return true;
-        }
-    }
-    is_named(store, offset)
-}
-
-/// Empties a slot, with the mapping of its capability: what that was, and the slot that it was derived
-/// from.
-fn take_out<S: SlotStore, E: Ends>(store: &mut S, ends: &mut E, slot: Slot) -> (Cap, Option<Slot>)
+/// Empties a slot, with the mapping of its capability: what that was, whether another capability names the same object,
+/// and the slot that it was derived from.
+fn take_out<S: SlotStore, E: Ends>(
+    store: &mut S,
+    ends: &mut E,
+    slot: Slot,
+) -> (Cap, bool, Option<Slot>)
     requires full { IsFull (S.slots store.old) slot }
     requires agree { E.Agree ends.old (S.slots store.old) (S.memory store.old) }
     ensures removed { result.0 ≡ capability_at (unmapped_at (S.slots store.old) slot) slot }
-    ensures parent { result.1 ≡ parent_at (S.slots store.old) slot }
+    ensures shared { IsNamedStill (S.slots store.new) result.0 result.1 }
+    ensures parent { result.2 ≡ parent_at (S.slots store.old) slot }
     ensures slots { S.slots store.new ≡ spliced (unmapped_at (S.slots store.old) slot) slot }
     ensures state { E.state ends.new (S.slots store.new) (S.memory store.new)
         ≡ with_slots (E.state ends.old (S.slots store.old) (S.memory store.old)) (S.slots store.new) }
@@ -83,20 +33,22 @@ fn take_out<S: SlotStore, E: Ends>(store: &mut S, ends: &mut E, slot: Slot) -> (
     ensures agree { E.Agree ends.new (S.slots store.new) (S.memory store.new) }
 {
     ends.unmap(store, slot);
-    let held = store.get(slot);
+    let is_shared = store.is_shared(slot);
+    let (removed, parent) = store.get(slot);
     store.splice_out(slot);
-    held
+    (removed, is_shared, parent)
 }
 
-/// Ends the object that a removed capability named, if no other names it. `parent` is the slot that it was derived from.
-/// What is left to settle is so much more then.
+/// Ends the object that a removed capability named, if it is not shared: no other capability names it. What is left to
+/// settle is so much more then.
 fn end_unnamed<S: SlotStore, E: Ends>(
     store: &mut S,
     ends: &mut E,
     left: Unsettled,
     removed: Cap,
-    parent: &Option<Slot>,
+    is_shared: bool,
 ) -> Unsettled
+    requires shared { IsNamedStill (S.slots store.old) removed is_shared }
     requires agree { E.Agree ends.old (S.slots store.old) (S.memory store.old) }
     requires there { IsThere (E.state ends.old (S.slots store.old) (S.memory store.old)) removed }
     requires lie { ObjectsLie (E.state ends.old (S.slots store.old) (S.memory store.old)) }
@@ -110,7 +62,7 @@ fn end_unnamed<S: SlotStore, E: Ends>(
     let Some(offset) = object_of(removed) else {
         return left;
     };
-    if is_named_still(store, parent, offset) {
+    if is_shared {
         return left;
     }
     let own = ends.slots_of(store, offset);
@@ -164,8 +116,8 @@ pub(crate) fn empty_slot<S: SlotStore, E: Ends>(
     ensures order { S.order store.new ≡ without slot (S.order store.old) }
     ensures agree { E.Agree ends.new (S.slots store.new) (S.memory store.new) }
 {
-    let (removed, parent) = take_out(store, ends, slot);
-    let left = end_unnamed(store, ends, left, removed, &parent);
+    let (removed, is_shared, parent) = take_out(store, ends, slot);
+    let left = end_unnamed(store, ends, left, removed, is_shared);
     if let Some(parent) = parent {
         rewind(store, ends, parent);
     }

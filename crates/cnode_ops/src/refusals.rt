@@ -12,11 +12,10 @@ ghost use Rattle.model.specs.Kernel.Soundness.{IsSound};
 ghost use Rattle.model.specs.Kernel.State.{State};
 ghost use Rattle.cnode_ops.specs.Sets.{set_of};
 
-use crate::emptying::object_of;
 use crate::sets::{Removed, is_removed, next_removed};
 use crate::windows::any_full;
 use model::{Cap, Slot};
-use slots::{SlotStore, is_taken};
+use slots::{SlotStore, is_taken, object_of};
 
 /// Whether a slot is full, and none of those that go.
 pub(crate) fn stays<S: SlotStore>(store: &S, set: &Removed, slot: Slot) -> bool

@@ -1,5 +1,5 @@
 -- Where the watermark is set, none of the objects is made yet, and there is room for all of them.
-use Rattle.std.proofs.Common.{ℕ, ◌≡◌, ◌≢◌, ◌∙◌, ◌+◌, ◌-◌, ◌*◌, ◌^◌, ◌<◌, ◌≤◌, inl, inr, not, true, false, Option, Some, IsSome, List, refl, sym, ap, subst, arith}
+use Rattle.std.proofs.Common.{ℕ, ◌≡◌, ◌≢◌, ◌∙◌, ◌+◌, ◌-◌, ◌*◌, ◌^◌, ◌<◌, ◌≤◌, inl, inr, not, true, false, Option, Some, None, IsSome, List, refl, sym, ap, subst, arith}
 use Rattle.std.proofs.Math.Pow.{pow_mono}
 use Rattle.std.proofs.lemmas.Bool.Decides.{eqb_tells}
 use Rattle.kernel_invariant.proofs.Laws.{growing-base, put-closes, slots-law, stands-law}
@@ -8,7 +8,8 @@ use Rattle.kernel_invariant.specs.Growing.{Growing}
 use Rattle.cnode_ops.specs.Placed.{IsPlaced, used_to}
 use Rattle.cnode_ops.specs.declared.beginnings.Placing.{Placing}
 use Rattle.cnode_ops.proofs.object_lifetimes.OneAfterAnother.{made-none}
-use Rattle.cnode_ops.specs.object_lifetimes.Beginnings.{AreLaid, AreMade, MayUse}
+use Rattle.cnode_ops.proofs.object_lifetimes.Unnamed.{first-unnamed, marked-nameless}
+use Rattle.cnode_ops.specs.object_lifetimes.Beginnings.{AreLaid, AreMade, MayUse, NoneNamed}
 use Rattle.model.proofs.Ancestors.{full-open}
 use Rattle.model.proofs.Depths.{depth-same}
 use Rattle.model.proofs.Derivations.{derivation-recapped}
@@ -23,7 +24,9 @@ use Rattle.model.specs.declared.capabilities.Cap.TheVariants.{Empty, Untyped}
 use Rattle.model.specs.declared.slot_entries.Entry.{Entry}
 use Rattle.objects.specs.Standing.{Standing}
 use Rattle.objects.specs.Tables.{Tables, state_of}
+use Rattle.slots.specs.Kin.{object_at}
 use Rattle.soundness.proofs.Laws.{slot-near, unused-free}
+use Rattle.soundness.specs.Unused.{IsFree}
 
 -- ---- another capability in a slot
 
@@ -131,9 +134,28 @@ module _ (o : Tables) (slots now : Slots) (old memory : List ℕ) (new : NewObje
     marked-room : depth_of (recapped slots at.parent used) at.parent < 255
     marked-room = subst (λ (n : ℕ). n < 255) (sym (depth-same 256 (parent_at slots) (parent_at (recapped slots at.parent used)) (parent-recapped slots at.parent used) at.parent)) room
 
+    -- nothing stands where the objects are to stand
+    new-free : IsFree s new.first (new.first + new.count * size_of new)
+    new-free =
+        let unused = unused-free s sound at.parent placed.offset placed.bits placed.used placed.memory in
+        let behind = placed.behind in
+        let within = placed.within in
+        let fits = placed.fits in
+        record {
+          objects = λ offset kind is. elim (unused.free.objects offset kind is) [ inl before ↦ inl (omega (arith, before, behind)) | inr past ↦ inr (omega (arith, past, within, fits)) ];
+          slots = λ place low high. unused.free.slots place (omega (arith, low, behind)) (omega (arith, high, within, fits));
+          bytes = λ place low high. unused.free.bytes place (omega (arith, low, behind)) (omega (arith, high, within, fits));
+        }
+
+    marked-unnamed : NoneNamed (recapped slots at.parent used) new.first (new.first + new.count * size_of new)
+    unfolding state_of
+    marked-unnamed = first-unnamed s at.parent placed.offset placed.bits at.watermark new.first (new.first + new.count * size_of new) sound new-free
+
     pub none-made : AreMade (state_of o now memory) (state_of o now memory) memory new at.window at.parent 0
     unfolding state_of
     none-made =
         made-none (state_of o now memory) memory new at.window at.parent growing-marked
         (λ i less. ap (λ (f : Slots). f (at.window + i)) marked-slots ∙ window-empty i less) (subst IsDerivation (sym marked-slots) marked-derivation)
         (subst (λ (f : Slots). IsFull f at.parent) (sym marked-slots) marked-full) (subst (λ (f : Slots). depth_of f at.parent < 255) (sym marked-slots) marked-room)
+        (subst (λ (f : Slots). NoneNamed f new.first (new.first + new.count * size_of new)) (sym marked-slots) marked-unnamed)
+        (subst (λ (f : Slots). object_at f at.parent ≡ None) (sym marked-slots) (marked-nameless slots at.parent placed.offset placed.bits at.watermark))

@@ -1,10 +1,11 @@
 -- Objects one after another: none is made at first, one more each time, and all at the end.
-use Rattle.std.proofs.Common.{ℕ, ◌≡◌, ◌≢◌, ◌∙◌, ◌+◌, ◌-◌, ◌*◌, ◌/◌, ◌%◌, ◌^◌, ◌<◌, ◌≤◌, inl, inr, pow_pos, Bool, true, false, if◌then◌else◌, Option, Some, IsSome, List, refl, sym, ap, subst, arith}
+use Rattle.std.proofs.Common.{ℕ, ◌≡◌, ◌≢◌, ◌∙◌, ◌+◌, ◌-◌, ◌*◌, ◌/◌, ◌%◌, ◌^◌, ◌<◌, ◌≤◌, inl, inr, pow_pos, Bool, true, false, if◌then◌else◌, Option, Some, None, IsSome, List, refl, sym, ap, subst, arith}
 use Rattle.std.proofs.Math.Nat.{add-mul-mod_self_right, mul-le-mul_right}
 use Rattle.kernel_invariant.proofs.Laws.{alone, inserted-first, none-yet, one-more, parent-depth, parent-full, rest-empty, sixteen, slots-opened, slots-within, window-apart}
 use Rattle.kernel_invariant.specs.Growing.{Growing, one_placed}
 use Rattle.cnode_ops.proofs.object_lifetimes.Places.{of-some, room-depth, room-full, room-of_open}
-use Rattle.cnode_ops.specs.object_lifetimes.Beginnings.{AreLaid, AreMade}
+use Rattle.cnode_ops.proofs.object_lifetimes.Unnamed.{nameless-more, unnamed-more, unnamed-part}
+use Rattle.cnode_ops.specs.object_lifetimes.Beginnings.{AreLaid, AreMade, NoneNamed}
 use Rattle.model.proofs.Derivations.{derivation-inserted, derivation-opened}
 use Rattle.model.proofs.SlotChanges.{bounds-within, within-bounds}
 use Rattle.model.specs.Capabilities.CapabilityWords.{IsCapability}
@@ -14,6 +15,7 @@ use Rattle.model.specs.Kernel.Retype.{NewObject, NewObjects, first_capability, o
 use Rattle.model.specs.Kernel.State.{State}
 use Rattle.model.specs.declared.capabilities.Cap.TheVariants.{Empty}
 use Rattle.model.specs.declared.slot_entries.Entry.{Entry}
+use Rattle.slots.specs.Kin.{object_at}
 use Rattle.soundness.proofs.Laws.{first-fresh, first-valid}
 
 -- ---- places
@@ -78,14 +80,16 @@ growing-part s memory from to until growing less =
 
 pub made-none : (t : State) (memory : List ℕ) (new : NewObjects) (window parent : ℕ) → Growing t memory new.first (new.first + new.count * size_of new)
     → ((i : ℕ) → i < new.count → t.slots (window + i) ≡ Some empty_entry) → IsDerivation t.slots → IsFull t.slots parent → depth_of t.slots parent < 255
-    → AreMade t t memory new window parent 0
-made-none t memory new window parent growing empty tree full room = record {
+    → NoneNamed t.slots new.first (new.first + new.count * size_of new) → object_at t.slots parent ≡ None → AreMade t t memory new window parent 0
+made-none t memory new window parent growing empty tree full room unnamed nameless = record {
   state = sym (none-yet t new.kind new.first window parent);
   growing = subst (λ (place : ℕ). Growing t memory place (new.first + new.count * size_of new)) (omega arith) growing;
   rest = λ i low less. empty i less;
   derivation = tree;
   full = full;
   room = room;
+  unnamed = subst (λ (place : ℕ). NoneNamed t.slots place (new.first + new.count * size_of new)) (omega arith) unnamed;
+  nameless = nameless;
 }
 
 module _ (t s : State) (old : List ℕ) (new : NewObjects) (window parent i : ℕ) (made : AreMade t s old new window parent i) (laid : AreLaid new) (less : i < new.count) where
@@ -97,6 +101,9 @@ module _ (t s : State) (old : List ℕ) (new : NewObjects) (window parent i : �
 
   pub room-for_one : Growing s old place (place + size_of new)
   room-for_one = growing-part s old place (new.first + new.count * size_of new) (place + size_of new) made.growing inside
+
+  pub one-unnamed : NoneNamed s.slots place (place + size_of new)
+  one-unnamed = unnamed-part s.slots place (new.first + new.count * size_of new) (place + size_of new) made.unnamed inside
 
   pub one-near : place < 2 ^ 24
   one-near = let end = inside in let near = laid.near in let size = pow_pos (object_bits new.kind) in omega (arith, end, near, size)
@@ -140,6 +147,10 @@ module _ (t s : State) (old : List ℕ) (new : NewObjects) (window parent i : �
           (parent-full s new.kind place (window + i) parent place (place + size_of new) room-for_one.free (omega arith) (omega arith) sixteenth one-empty made.full);
       room = subst (λ (n : ℕ). n < 255) (sym (ap (λ (u : State). depth_of u.slots parent) is
           ∙ parent-depth s new.kind place (window + i) parent place (place + size_of new) room-for_one.free (omega arith) (omega arith) sixteenth one-empty made.derivation made.full)) made.room;
+      unnamed = subst (λ (u : State). NoneNamed u.slots (place_of_new new (i + 1)) (new.first + new.count * size_of new)) (sym is)
+          (subst (λ (p : ℕ). NoneNamed (one_placed s new.kind place (window + i) parent).slots p (new.first + new.count * size_of new)) (next-place new.first (size_of new) i)
+          (unnamed-more s new.kind place (window + i) parent (new.first + new.count * size_of new) made.unnamed));
+      nameless = subst (λ (u : State). object_at u.slots parent ≡ None) (sym is) (nameless-more s new.kind place (window + i) parent made.full one-empty made.nameless);
     }
 
   -- the same, where place and slot have other names

@@ -7,11 +7,12 @@ ghost use Rattle.cnode_ops.specs.Placed.{new_type};
 ghost use Rattle.model.specs.Capabilities.Slots.{IsFull, OutsideSlots, SameOutside, depth_of, empty_entry, opened};
 ghost use Rattle.model.specs.Kernel.Kinds.{kind_of};
 ghost use Rattle.model.specs.Kernel.Retype.{first_capability, is_large_enough, is_small_enough, object_bits};
-ghost use Rattle.cnode_ops.specs.object_lifetimes.Beginnings.{with_begun};
+ghost use Rattle.cnode_ops.specs.object_lifetimes.Beginnings.{NoneNamed, with_begun};
 ghost use Rattle.objects.specs.Frames.{IsRoom, SameBesideObjects};
 ghost use Rattle.objects.specs.Standing.{Standing};
 ghost use Rattle.objects.specs.Tables.{state_of};
 ghost use Rattle.objects.specs.Threads.{new_object};
+ghost use Rattle.slots.specs.Kin.{object_at};
 
 use crate::NewType;
 use model::{Cap, Rights, Slot};
@@ -151,8 +152,10 @@ pub(crate) fn make_one<S: SlotStore>(
     requires aligned { place % 2 ^ object_bits (new_type kind) ≡ 0 }
     requires large { is_large_enough (new_type kind) ≡ true }
     requires small { is_small_enough (new_type kind) ≡ true }
+    requires unnamed { NoneNamed (S.slots store.old) place (place + 2 ^ object_bits (new_type kind)) }
     requires empty { S.slots store.old slot ≡ Some empty_entry }
     requires full { IsFull (S.slots store.old) parent }
+    requires nameless { object_at (S.slots store.old) parent ≡ None }
     requires room { depth_of (S.slots store.old) parent < 255 }
     requires stands { Standing objects.old (S.slots store.old) (S.memory store.old) }
     ensures state { state_of objects.new (S.slots store.new) (S.memory store.new)

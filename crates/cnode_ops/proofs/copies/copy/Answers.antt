@@ -1,6 +1,7 @@
 -- A copy is what the definition says, and names no CNode but its source's.
-use Rattle.std.proofs.Common.{◌∙◌, Result, Ok, Err, not, sym, ap, subst}
+use Rattle.std.proofs.Common.{◌∙◌, inl, Result, Ok, Err, not, sym, ap, subst}
 use Rattle.std.proofs.lemmas.Result.{err_from_is_err_and}
+use Rattle.model.specs.Capabilities.CapabilityKinds.{object_of}
 use Rattle.model.specs.Capabilities.Slots.{Slots, is_empty}
 use Rattle.model.specs.Kernel.Outcomes.{Gives}
 use Rattle.model.specs.Kernel.State.{State}
@@ -38,6 +39,9 @@ insert_child-requires-clause-some g c =
 
 pub insert_child-requires-clause-full : goal.insert_child-requires-clause-full
 insert_child-requires-clause-full g c = c.in_ok-to.ensures.full
+
+pub insert_child-requires-clause-kin : goal.insert_child-requires-clause-kin
+insert_child-requires-clause-kin g c = inl (c.in_ok-capability.ensures.kin ∙ ap object_of c.capability.ensures.value)
 
 pub returns-clause-unchanged : goal.returns-clause-unchanged
 returns-clause-unchanged g c = c.insert_child.ensures.same

@@ -1,17 +1,25 @@
--- No slot names the object.
-use Rattle.std.proofs.Common.{ℕ, ◌≡◌, ◌∙◌, rules, false, sym, ap, subst}
-use Rattle.model.specs.Capabilities.CapabilityKinds.{names_object}
+-- The object ends where no slot names it.
+use Rattle.std.proofs.Common.{ℕ, ◌≡◌, ◌∙◌, rules, true, false, Some, refl, sym, ap, subst}
+use Rattle.model.specs.Capabilities.CapabilityKinds.{names_object, object_of}
 use Rattle.model.specs.Capabilities.Slots.{Slots, capability_at}
-use Rattle.removal_laws.specs.Steps.{ends}
+use Rattle.removal_laws.specs.Steps.{ends, stays}
 use Rattle.cnode_ops.specs.Unsettled.{with_waiting}
 use Rattle.cnode_ops.proofs.Unsettling.{noted-fits, notes-ended}
 use Rattle.cnode_ops.proofs.emptying.end_unnamed.Goals as goal
+
+pub returns-then-is_shared-clause-state : goal.returns-then-is_shared-clause-state
+returns-then-is_shared-clause-state g c =
+    let has = g.met.E.Ends.of_slots c.args.ends.now (g.S.SlotMap.slots c.args.store.now) (g.S.SlotStore.memory c.args.store.now) in
+    stays
+    (subst (λ (t : Slots). (offset : ℕ) → object_of c.args.removed ≡ Some offset → (slot : ℕ) × (names_object offset (capability_at t slot) ≡ true)) (sym has)
+    (c.requires.shared.some c.if-is_shared.true)) refl
 
 pub returns-clause-state : goal.returns-clause-state
 returns-clause-state g c =
     let has = g.met.E.Ends.of_slots c.args.ends.now (g.S.SlotMap.slots c.args.store.now) (g.S.SlotStore.memory c.args.store.now) in
     ends c.in-Some.offset (sym c.object_of.ensures ∙ c.in-Some.is)
-    (subst (λ (t : Slots). (slot : ℕ) → names_object c.in-Some.offset (capability_at t slot) ≡ false) (sym has) (c.is_named_still.ensures.none c.if-is_named_still.false))
+    (subst (λ (t : Slots). (slot : ℕ) → names_object c.in-Some.offset (capability_at t slot) ≡ false) (sym has)
+    (c.requires.shared.none c.if-is_shared.false c.in-Some.offset (sym c.object_of.ensures ∙ c.in-Some.is)))
     c.end.ensures.state
 
 pub with_slots_of-requires : goal.with_slots_of-requires

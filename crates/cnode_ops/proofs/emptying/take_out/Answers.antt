@@ -1,7 +1,11 @@
 -- What has to agree still does without the capability.
-use Rattle.std.proofs.Common.{◌≡◌, sym, subst}
+use Rattle.std.proofs.Common.{◌≡◌, ◌∙◌, refl, ap, sym, subst}
 use Rattle.model.specs.Capabilities.CapabilityKinds.{unmapped}
-use Rattle.model.specs.Capabilities.Slots.{IsFull, Slots, capability_at}
+use Rattle.model.specs.Capabilities.Slots.{IsFull, Slots, capability_at, parent_at, spliced}
+use Rattle.model.proofs.SlotChanges.{capability_of, parent_of}
+use Rattle.removal_laws.proofs.Laws.{unmapped-itself}
+use Rattle.removal_laws.specs.Steps.{unmapped_at}
+use Rattle.cnode_ops.proofs.StillNamed.{still-named}
 use Rattle.cnode_ops.proofs.Emptied.{bare-full, bare-unmapped}
 use Rattle.cnode_ops.proofs.emptying.take_out.Goals as goal
 
@@ -16,3 +20,16 @@ returns-clause-agree g c =
     let bare : unmapped (capability_at slots x) ≡ capability_at slots x = subst (λ (t : Slots). unmapped (capability_at t x) ≡ capability_at t x) (sym c.unmap.ensures.slots) (bare-unmapped before x) in
     subst (λ (t : Slots). g.E.Ends.Agree e t (g.S.SlotStore.memory c.splice_out.new.self)) (sym c.splice_out.ensures.slots)
     (g.met.E.Ends.agree_without e slots _ x bytes full bare)
+
+pub returns-clause-shared : goal.returns-clause-shared
+returns-clause-shared g c =
+    still-named (unmapped_at (g.S.SlotMap.slots c.args.store.now) c.args.slot) (g.S.SlotMap.slots c.unmap.new.store) (g.S.SlotMap.slots c.splice_out.new.self) c.args.slot
+    c.get-removed.result.0 c.is_shared-is_shared.result c.unmap.ensures.slots
+    (ap capability_of (sym c.get-removed.ensures.held) ∙ ap (λ (f : Slots). capability_at f c.args.slot) c.unmap.ensures.slots)
+    (c.splice_out.ensures.slots ∙ ap (λ (f : Slots). spliced f c.args.slot) c.unmap.ensures.slots) c.is_shared-is_shared.ensures.shared c.is_shared-is_shared.ensures.alone
+
+pub returns-clause-parent : goal.returns-clause-parent
+returns-clause-parent g c =
+    let slots : Slots = g.S.SlotMap.slots c.args.store.now in
+    ap parent_of (sym c.get-removed.ensures.held) ∙ ap (λ (f : Slots). parent_at f c.args.slot) c.unmap.ensures.slots
+    ∙ (unmapped-itself slots c.args.slot (capability_at slots c.args.slot) refl).1

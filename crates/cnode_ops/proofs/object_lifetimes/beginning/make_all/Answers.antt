@@ -2,7 +2,8 @@
 use Rattle.std.proofs.Common.{ℕ, ◌∙◌, ◌+◌, ◌%◌, ◌^◌, ap, sym, subst}
 use Rattle.kernel_invariant.specs.Growing.{Growing}
 use Rattle.cnode_ops.specs.Placed.{new_objects, new_type}
-use Rattle.cnode_ops.proofs.object_lifetimes.OneAfterAnother.{made-at, next-place, one-aligned, one-empty, room-for_one}
+use Rattle.cnode_ops.proofs.object_lifetimes.OneAfterAnother.{made-at, next-place, one-aligned, one-empty, one-unnamed, room-for_one}
+use Rattle.cnode_ops.specs.object_lifetimes.Beginnings.{NoneNamed}
 use Rattle.cnode_ops.proofs.object_lifetimes.beginning.make_all.Goals as goal
 use Rattle.model.specs.Kernel.Retype.{object_bits}
 use Rattle.objects.specs.Tables.{state_of}
@@ -27,6 +28,17 @@ make_one-requires-clause-empty g c =
 pub make_one-requires-clause-full : goal.make_one-requires-clause-full
 unfolding state_of
 make_one-requires-clause-full g c = c.objects.invariant.made.full
+
+pub make_one-requires-clause-unnamed : goal.make_one-requires-clause-unnamed
+unfolding state_of
+make_one-requires-clause-unnamed g c =
+    let now = state_of c.objects.objects (g.S.SlotMap.slots c.objects.store) (g.S.SlotStore.memory c.objects.store) in
+    subst (λ (p : ℕ). NoneNamed (g.S.SlotMap.slots c.objects.store) p (p + 2 ^ object_bits (new_type c.args.new.kind))) (sym c.objects.invariant.place)
+    (one-unnamed _ now _ (new_objects c.args.new) c.args.at.window c.args.at.parent c.objects.index c.objects.invariant.made c.requires.laid c.objects-test.true)
+
+pub make_one-requires-clause-nameless : goal.make_one-requires-clause-nameless
+unfolding state_of
+make_one-requires-clause-nameless g c = c.objects.invariant.made.nameless
 
 pub make_one-requires-clause-room : goal.make_one-requires-clause-room
 unfolding state_of

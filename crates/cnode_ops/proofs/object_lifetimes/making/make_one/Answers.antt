@@ -4,6 +4,7 @@ use Rattle.kernel_invariant.proofs.Laws.{is-room, room-stands, room-state, sixte
 use Rattle.cnode_ops.specs.Placed.{new_type}
 use Rattle.cnode_ops.proofs.object_lifetimes.OneMade.{growing-made, stands-made, state-made}
 use Rattle.cnode_ops.proofs.object_lifetimes.Places.{of-some, place-closed, place-free, place-near, room-depth, room-full, room-of_open}
+use Rattle.cnode_ops.proofs.object_lifetimes.Unnamed.{kin-made}
 use Rattle.cnode_ops.proofs.object_lifetimes.making.make_one.Goals as goal
 use Rattle.model.specs.Capabilities.Slots.{IsFull, Slots, depth_of, inserted}
 use Rattle.model.specs.Kernel.State.{State}
@@ -75,6 +76,12 @@ insert-requires-clause-room g c = λ x is.
     c.requires.growing (g.S.SlotMap.slots c.make_room.new.store) multiple c.make_room.ensures.slots c.args.parent in
     of-some (λ y. depth_of (g.S.SlotMap.slots c.begin_object.new.store) y < 255) c.args.parent x
     (subst (λ (n : ℕ). n < 255) (sym (ap (λ (f : Slots). depth_of f c.args.parent) c.begin_object.ensures.slots ∙ same)) c.requires.room) is
+
+pub insert-requires-clause-kin : goal.insert-requires-clause-kin
+unfolding state_of
+insert-requires-clause-kin g c =
+    kin-made (g.S.SlotMap.slots c.args.store.now) (g.S.SlotMap.slots c.make_room.new.store) (g.S.SlotMap.slots c.begin_object.new.store) (new_type c.args.kind) c.args.place c.args.parent
+    c.first_capability.result c.requires.unnamed c.requires.nameless c.make_room.ensures.slots c.begin_object.ensures.slots c.first_capability.ensures
 
 pub returns-clause-state : goal.returns-clause-state
 returns-clause-state g c =
