@@ -2,14 +2,16 @@
 use Rattle.std.proofs.Common.{ℕ, ◌≡◌, ◌∙◌, ◌==◌, ◌/◌, ◌<◌, inl, inr, true, if◌then◌else◌, is_some, Option, Some, None, refl, sym, ap, arith}
 use Rattle.std.proofs.lemmas.Bool.Decides.{eqb_tells}
 use Rattle.model.proofs.Depths.{depth-leaf}
-use Rattle.model.proofs.SlotChanges.{full-not-empty, parent_of}
-use Rattle.model.specs.Capabilities.CapabilityKinds.{cnode_of}
+use Rattle.model.proofs.SlotChanges.{capability_of, full-not-empty, parent_of}
+use Rattle.model.specs.Capabilities.CapabilityKinds.{cnode_of, object_of}
 use Rattle.model.specs.Capabilities.CapabilityWords.{IsCapability}
 use Rattle.model.specs.Capabilities.Slots.{IsDerivation, IsFull, Slots, depth_of, empty_entry, inserted, parent_at}
 use Rattle.model.specs.Kernel.State.{cspace_slot}
 use Rattle.model.specs.Kernel.ThreadCalls.{given_guard_fits, with_guard}
 use Rattle.model.specs.declared.capabilities.Cap.{Cap}
+use Rattle.model.specs.declared.capabilities.Cap.TheVariants.{Empty, Untyped, Endpoint, Notification, CNode, Frame, PageTable, Tcb, RootTable, InterruptControl, InterruptHandler}
 use Rattle.model.specs.declared.slot_entries.Entry.{Entry}
+use Rattle.slots.specs.Kin.{object_at}
 use Rattle.soundness.proofs.Laws.{IsQuiet, cnode-quiet, no-badge, payload-valid}
 
 -- ---- the copy of the CNode's capability
@@ -23,6 +25,21 @@ quiet c some = elim (cnode_of c) as (λ o. cnode_of c ≡ o → is_some o ≡ tr
 pub guarded-valid : (c : Cap) (guard : Option ℕ) → IsCapability c → is_some (cnode_of c) ≡ true → given_guard_fits c guard ≡ true → IsCapability (with_guard c guard)
 guarded-valid c None valid node fits = valid
 guarded-valid c (Some word) valid node fits = payload-valid c word valid (no-badge c word (quiet c node).silent) fits
+
+-- it names the CNode that it named
+pub guarded-object : (c : Cap) (guard : Option ℕ) → object_of (with_guard c guard) ≡ object_of c
+guarded-object c None = refl
+guarded-object Empty (Some word) = refl
+guarded-object (Untyped o b w) (Some word) = refl
+guarded-object (Endpoint o r b) (Some word) = refl
+guarded-object (Notification o r b) (Some word) = refl
+guarded-object (CNode o r g) (Some word) = refl
+guarded-object (Frame f r m) (Some word) = refl
+guarded-object (PageTable t m) (Some word) = refl
+guarded-object (Tcb o) (Some word) = refl
+guarded-object (RootTable o) (Some word) = refl
+guarded-object InterruptControl (Some word) = refl
+guarded-object (InterruptHandler line) (Some word) = refl
 
 -- ---- the other slots
 
@@ -48,3 +65,11 @@ room-still slots now slot made parent thread other derivation empty at full room
     let free : slots slot ≡ Some empty_entry = ap slots (sym own) ∙ empty in
     let deep = ap (λ (n : Slots). depth_of n other) is ∙ same-depth slots slot made parent other derivation free (full-not-empty slots other slot full free) in
     omega (arith, deep, room)
+
+-- another slot names what it named
+pub object-still : (slots now : Slots) (slot : ℕ) (made : Cap) (parent : Option ℕ) (thread other : ℕ) → slots (cspace_slot thread) ≡ Some empty_entry
+    → slot ≡ thread / 16 → IsFull slots other → now ≡ inserted slots slot made parent → object_at now other ≡ object_at slots other
+object-still slots now slot made parent thread other empty at full is =
+    let own : cspace_slot thread ≡ slot = omega (arith, at) in
+    let free : slots slot ≡ Some empty_entry = ap slots (sym own) ∙ empty in
+    ap (λ (n : Slots). object_at n other) is ∙ ap (λ e. object_of (capability_of e)) (still slots slot made parent other (full-not-empty slots other slot full free))
