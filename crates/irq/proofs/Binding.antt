@@ -3,6 +3,7 @@ use Rattle.std.proofs.Common.{ℕ, ◌≡◌, ◌∙◌, ◌==◌, ◌<◌, ◌^
 use Rattle.kernel_invariant.specs.Wholeness.{Agreed, IsWhole}
 use Rattle.irq.proofs.Left.{Child, child-state, child-whole}
 use Rattle.irq.specs.Handlers.{bound_source}
+use Rattle.model.specs.Capabilities.CapabilityKinds.{object_of}
 use Rattle.model.specs.Capabilities.Slots.{IsFull, SameOutside, Slots, capability_at, depth_of, empty_entry, inserted, is_empty, is_full}
 use Rattle.model.specs.Images.Boot.{boot_root}
 use Rattle.model.specs.Kernel.Arguments.{◌>>=◌, Call, check, may_have_child, source_slot}
@@ -16,6 +17,7 @@ use Rattle.model.specs.declared.errors.KError.{KError}
 use Rattle.model.specs.declared.errors.KError.TheVariants.{IllegalOperation, InvalidCapability}
 use Rattle.model.specs.declared.invocations.SlotName.{SlotName}
 use Rattle.objects.specs.Tables.{Tables, state_of}
+use Rattle.slots.specs.Kin.{object_at}
 use Rattle.soundness.proofs.Laws.{Binds, bind-sound, bindable, check-passes, deleted-leaves, empty-open, line-empty, line-open, passes-both, room-below, room-still, source-plain, source-same}
 use Rattle.soundness.specs.Calls.{IsRoot, boot}
 
@@ -145,6 +147,11 @@ module _ (o : Tables) (slots : Slots) (memory : List ℕ) (root : Cap) (line : �
     pub source-full : IsFull bare source
     unfolding state_of
     source-full = ap (λ (c : Cap). not (is_empty c)) bare-line.same ∙ binds.full
+
+    -- the source names what it named
+    pub source-kin : (capability : Cap) → capability ≡ capability_at slots source → object_of capability ≡ object_at bare source
+    unfolding state_of
+    source-kin capability is = ap object_of is ∙ sym (ap object_of bare-line.same)
 
     pub source-room : depth_of bare source < 255
     unfolding state_of

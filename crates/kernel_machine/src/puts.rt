@@ -2,6 +2,7 @@
 
 ghost use Rattle.std.specs.Prelude.{◌≡◌, None, Some, false, if◌then◌else◌};
 ghost use Rattle.cnode_ops.specs.object_lifetimes.Kernels.{state_in};
+ghost use Rattle.model.specs.Capabilities.CapabilityKinds.{object_of};
 ghost use Rattle.model.specs.Capabilities.CapabilityWords.{IsCapability};
 ghost use Rattle.model.specs.Capabilities.Slots.{is_empty};
 ghost use Rattle.model.specs.Kernel.Setup.{put_control, put_in_boot_slot, put_untyped};
@@ -15,11 +16,12 @@ use cnode_ops::Kernel;
 use model::{Cap, Slot};
 use slots::SlotStore;
 
-/// Puts a capability without a parent into an empty boot slot, if it is one.
+/// Puts a capability that names no object, without a parent, into an empty boot slot, if it is one.
 fn put<S: SlotStore>(kernel: &mut Kernel<S>, index: u32, capability: Cap) -> bool
     requires valid { IsCapability capability }
     requires plain { IsWithoutTables capability }
     requires some { is_empty capability ≡ false }
+    requires nameless { object_of capability ≡ None }
     requires sound { (t : State) → IsSound (state_in S.slots S.memory kernel.old)
         → put_in_boot_slot (state_in S.slots S.memory kernel.old) index capability ≡ Some t → IsSound t }
     ensures outcome { put_in_boot_slot (state_in S.slots S.memory kernel.old) index capability

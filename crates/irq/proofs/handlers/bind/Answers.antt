@@ -1,7 +1,7 @@
 -- The checks are those of the definition, the source stays where the old binding goes, and what is left is whole.
-use Rattle.std.proofs.Common.{◌≡◌, ◌∙◌, ◌<◌, Err, Ok, Some, ap, subst, sym}
+use Rattle.std.proofs.Common.{◌≡◌, ◌∙◌, ◌<◌, inl, Err, Ok, Some, ap, subst, sym}
 use Rattle.std.proofs.lemmas.Result.{err_from_is_err_and}
-use Rattle.irq.proofs.Binding.{bind-kept, bind-left, bind-refused, bind-whole, slot-empty, source-full, source-room}
+use Rattle.irq.proofs.Binding.{bind-kept, bind-left, bind-refused, bind-whole, slot-empty, source-full, source-kin, source-room}
 use Rattle.irq.proofs.handlers.bind.Goals as goal
 use Rattle.cnode_ops.proofs.Laws.{of-some}
 use Rattle.model.specs.Capabilities.Slots.{IsFull, depth_of, inserted}
@@ -42,6 +42,14 @@ insert-requires-clause-full g c = λ x is.
     (source-full c.kernel.inside.objects (g.S.SlotMap.slots c.kernel.inside.store) (g.S.SlotStore.memory c.kernel.inside.store) c.args.root c.args.line c.args.notification
     c.remove_slot.new.ends (g.S.SlotMap.slots c.remove_slot.new.store) (g.S.SlotStore.memory c.remove_slot.new.store) c.in_ok-source.source c.binding-binding.result
     c.kernel.invariant root line c.in_ok-source.ensures (c.binding-binding.ensures _ _) c.in_ok-remove_slot.ensures.outcome) is
+
+pub insert-requires-clause-kin : goal.insert-requires-clause-kin
+insert-requires-clause-kin g c =
+    let root = subst (λ k. IsRoot (state_in g.S.SlotMap.slots g.S.SlotStore.memory k) c.args.root) (sym c.kernel.view_is) c.requires.root in
+    let line = c.requires.line (subst (λ k. IsSound (state_in g.S.SlotMap.slots g.S.SlotStore.memory k)) c.kernel.view_is c.kernel.invariant.sound) in
+    inl (source-kin c.kernel.inside.objects (g.S.SlotMap.slots c.kernel.inside.store) (g.S.SlotStore.memory c.kernel.inside.store) c.args.root c.args.line c.args.notification
+    c.remove_slot.new.ends (g.S.SlotMap.slots c.remove_slot.new.store) (g.S.SlotStore.memory c.remove_slot.new.store) c.in_ok-source.source c.binding-binding.result
+    c.kernel.invariant root line c.in_ok-source.ensures (c.binding-binding.ensures _ _) c.in_ok-remove_slot.ensures.outcome c.capability-capability.result c.capability-capability.ensures.value)
 
 pub insert-requires-clause-room : goal.insert-requires-clause-room
 insert-requires-clause-room g c = λ x is.

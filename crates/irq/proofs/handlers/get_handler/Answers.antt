@@ -1,6 +1,7 @@
 -- The checks are those of the definition, in its order, and what is left is whole.
-use Rattle.std.proofs.Common.{◌≡◌, Err, Ok, subst, sym}
+use Rattle.std.proofs.Common.{ℕ, ◌≡◌, inr, Err, Ok, Option, Some, None, ap, subst, sym}
 use Rattle.std.proofs.lemmas.Result.{err_from_is_err_and}
+use Rattle.model.specs.Capabilities.CapabilityKinds.{object_of}
 use Rattle.model.specs.Capabilities.Slots.{capability_at}
 use Rattle.model.specs.Kernel.InterruptCalls.{get_handler}
 use Rattle.model.specs.declared.capabilities.Cap.TheVariants.{InterruptControl}
@@ -22,6 +23,11 @@ insert-requires-clause-empty g c =
     let root = subst (λ k. IsRoot (state_in g.S.SlotMap.slots g.S.SlotStore.memory k) c.args.root) (sym c.kernel.view_is) c.requires.root in
     IsNewPlace.empty (new-place c.kernel.inside.objects (g.S.SlotMap.slots c.kernel.inside.store) (g.S.SlotStore.memory c.kernel.inside.store) c.args.root c.args.slot c.args.line c.args.destination
     c.kernel.invariant.sound root c.in_ok-place.place c.in_ok-place.ensures.value)
+
+pub insert-requires-clause-kin : goal.insert-requires-clause-kin
+insert-requires-clause-kin g c =
+    let held = subst (λ k. capability_at (g.S.SlotMap.slots k.store) c.args.slot ≡ InterruptControl) (sym c.kernel.view_is) c.requires.held in
+    inr (ap object_of held, λ offset slot names is. absurd (let clash : None ≡ Some offset = names in cc))
 
 pub returns-clause-outcome : goal.returns-clause-outcome
 returns-clause-outcome g c = λ call at here.

@@ -1,5 +1,5 @@
 -- As the test of the slot says.
-use Rattle.std.proofs.Common.{◌∙◌, ◌^◌, ℕ, Bool, Some, None, if◌then◌else◌, sym, ap, subst}
+use Rattle.std.proofs.Common.{◌≡◌, ◌∙◌, ◌^◌, ℕ, Bool, Option, Some, None, if◌then◌else◌, sym, ap, subst}
 use Rattle.kernel_machine.proofs.Roots.{put-empty, put-passed, put-refused, root-agrees, root-state}
 use Rattle.kernel_machine.proofs.puts.put.Goals as goal
 use Rattle.cnode_ops.specs.object_lifetimes.Kernels.{state_in}
@@ -14,6 +14,9 @@ insert-requires-clause-empty g c =
     let slots : Slots = g.S.SlotMap.slots c.kernel.inside.store in
     let many = c.boot_slots-count.ensures.value ∙ ap (λ k. 2 ^ (state_in g.S.SlotMap.slots g.S.SlotStore.memory k).boot_radix) (sym c.kernel.view_is) in
     ap slots c.new.ensures ∙ put-empty c.kernel.inside.objects slots (g.S.SlotStore.memory c.kernel.inside.store) c.boot_slots-count.result c.args.index c.args.capability c.is_free-free.result many c.is_free-free.ensures c.kernel.invariant.sound c.if-free.true
+
+pub insert-requires-clause-kin : goal.insert-requires-clause-kin
+insert-requires-clause-kin g c = λ offset slot names is. absurd (let clash : None ≡ Some offset = sym c.requires.nameless ∙ names in cc)
 
 pub invariant_of-kernel : goal.invariant_of-kernel
 invariant_of-kernel g c =
