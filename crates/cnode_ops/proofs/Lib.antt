@@ -1,4 +1,5 @@
 mod Answered
+mod Childless
 mod Emptied
 mod Kept
 mod LinesTaken
@@ -16,7 +17,7 @@ mod StillNamed
 mod Values
 mod Unsettling
 mod Waiters
-mod Watermarks
+mod NoneBelow
 mod EmptiedSets
 mod ClosedSlots
 mod CountedSlots

@@ -3,11 +3,12 @@
 ghost use Rattle.std.specs.Prelude.{◌≡◌};
 ghost use Rattle.cnode_ops.specs.StillNamed.{IsNamedStill};
 ghost use Rattle.cnode_ops.specs.Unsettled.{Notes, ObjectsLie};
-ghost use Rattle.model.specs.Capabilities.Slots.{IsFull, capability_at, parent_at, spliced};
+ghost use Rattle.model.specs.Capabilities.Slots.{IsFull, capability_at, spliced};
 ghost use Rattle.model.specs.Kernel.Removal.{emptied};
 ghost use Rattle.model.specs.Kernel.State.{with_slots};
 ghost use Rattle.model.specs.Shared.Lists.{without};
-ghost use Rattle.removal_laws.specs.Steps.{IfUnnamed, IsReady, IsThere, WithWatermark, alone, unmapped_at};
+ghost use Rattle.removal_laws.specs.Steps.{IfUnnamed, IsChildless, IsReady, IsThere, WithWatermark, alone, unmapped_at};
+ghost use Rattle.slots.specs.Kin.{LeavesChildless};
 
 use crate::Ends;
 use crate::settling::Unsettled;
@@ -15,7 +16,7 @@ use model::{Cap, Slot};
 use slots::{SlotStore, object_of};
 
 /// Empties a slot, with the mapping of its capability: what that was, whether another capability names the same object,
-/// and the slot that it was derived from.
+/// and the slot that it was derived from, if nothing is derived from that any more.
 fn take_out<S: SlotStore, E: Ends>(
     store: &mut S,
     ends: &mut E,
@@ -25,7 +26,7 @@ fn take_out<S: SlotStore, E: Ends>(
     requires agree { E.Agree ends.old (S.slots store.old) (S.memory store.old) }
     ensures removed { result.0 ≡ capability_at (unmapped_at (S.slots store.old) slot) slot }
     ensures shared { IsNamedStill (S.slots store.new) result.0 result.1 }
-    ensures parent { result.2 ≡ parent_at (S.slots store.old) slot }
+    ensures childless { LeavesChildless (unmapped_at (S.slots store.old) slot) slot result.2 }
     ensures slots { S.slots store.new ≡ spliced (unmapped_at (S.slots store.old) slot) slot }
     ensures state { E.state ends.new (S.slots store.new) (S.memory store.new)
         ≡ with_slots (E.state ends.old (S.slots store.old) (S.memory store.old)) (S.slots store.new) }
@@ -34,9 +35,10 @@ fn take_out<S: SlotStore, E: Ends>(
 {
     ends.unmap(store, slot);
     let is_shared = store.is_shared(slot);
-    let (removed, parent) = store.get(slot);
+    let removed = store.capability(slot);
+    let childless = store.childless_without(slot);
     store.splice_out(slot);
-    (removed, is_shared, parent)
+    (removed, is_shared, childless)
 }
 
 /// Ends the object that a removed capability named, if it is not shared: no other capability names it. What is left to
@@ -71,8 +73,9 @@ fn end_unnamed<S: SlotStore, E: Ends>(
     left.with_slots_of(offset / 16, own).with_waiting(waited)
 }
 
-/// Untyped memory in a slot is unused again, if nothing is derived from it any more.
+/// Untyped memory in a slot that nothing is derived from any more is unused again.
 fn rewind<S: SlotStore, E: Ends>(store: &mut S, ends: &E, parent: Slot)
+    requires childless { IsChildless (S.slots store.old) parent }
     requires full { IsFull (S.slots store.old) parent }
     requires agree { E.Agree ends.now (S.slots store.old) (S.memory store.old) }
     ensures slots { WithWatermark (S.slots store.old) parent (S.slots store.new) }
@@ -84,9 +87,6 @@ fn rewind<S: SlotStore, E: Ends>(store: &mut S, ends: &E, parent: Slot)
     let Cap::Untyped { offset, bits, .. } = store.capability(parent) else {
         return;
     };
-    if store.next_below(parent, None).is_some() {
-        return;
-    }
     let unused = Cap::Untyped {
         offset,
         bits,
@@ -116,9 +116,9 @@ pub(crate) fn empty_slot<S: SlotStore, E: Ends>(
     ensures order { S.order store.new ≡ without slot (S.order store.old) }
     ensures agree { E.Agree ends.new (S.slots store.new) (S.memory store.new) }
 {
-    let (removed, is_shared, parent) = take_out(store, ends, slot);
+    let (removed, is_shared, childless) = take_out(store, ends, slot);
     let left = end_unnamed(store, ends, left, removed, is_shared);
-    if let Some(parent) = parent {
+    if let Some(parent) = childless {
         rewind(store, ends, parent);
     }
     left

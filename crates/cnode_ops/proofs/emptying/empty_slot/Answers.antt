@@ -1,8 +1,9 @@
 -- The steps together.
-use Rattle.std.proofs.Common.{◌≡◌, ◌∙◌, None, Some, refl, sym, subst}
-use Rattle.model.specs.Capabilities.Slots.{IsDerivation, Slots}
+use Rattle.std.proofs.Common.{◌≡◌, ◌∙◌, Some, refl, sym, subst}
+use Rattle.model.specs.Capabilities.Slots.{IsDerivation, Slots, parent_at}
 use Rattle.model.specs.Kernel.State.{State}
 use Rattle.removal_laws.proofs.Laws.{emptied-in-steps, parent-full, there-taken}
+use Rattle.cnode_ops.proofs.Childless.{childless-left, none-left, parent-was}
 use Rattle.cnode_ops.proofs.Unsettling.{notes-slots, notes-then}
 use Rattle.cnode_ops.proofs.emptying.empty_slot.Goals as goal
 
@@ -16,7 +17,18 @@ rewind-requires-clause-full g c =
     let has = g.met.E.Ends.of_slots c.args.ends.now before (g.S.SlotStore.memory c.args.store.now) in
     let tree : IsDerivation before = subst (λ (n : Slots). IsDerivation n) has c.requires.ready.derivation in
     parent-full before taken after one two c.take_out-removed.result.0 c.args.slot c.in-Some.parent
-    tree (sym c.take_out-removed.ensures.parent ∙ c.in-Some.is) c.take_out-removed.ensures.slots (g.met.E.Ends.of_slots _ _ _) c.end_unnamed-left.ensures.state (g.met.E.Ends.of_slots _ _ _)
+    tree (parent-was before taken after one two c.take_out-removed.result.0 c.args.slot c.take_out-removed.ensures.slots (g.met.E.Ends.of_slots _ _ _) c.end_unnamed-left.ensures.state (g.met.E.Ends.of_slots _ _ _)
+    c.take_out-removed.result.2 c.in-Some.parent c.take_out-removed.ensures.childless c.in-Some.is) c.take_out-removed.ensures.slots (g.met.E.Ends.of_slots _ _ _) c.end_unnamed-left.ensures.state (g.met.E.Ends.of_slots _ _ _)
+
+pub rewind-requires-clause-childless : goal.rewind-requires-clause-childless
+rewind-requires-clause-childless g c =
+    let before : Slots = g.S.SlotMap.slots c.args.store.now in
+    let taken : Slots = g.S.SlotMap.slots c.take_out-removed.new.store in
+    let after : Slots = g.S.SlotMap.slots c.end_unnamed-left.new.store in
+    let one : State = g.E.Ends.state c.take_out-removed.new.ends taken (g.S.SlotStore.memory c.take_out-removed.new.store) in
+    let two : State = g.E.Ends.state c.end_unnamed-left.new.ends after (g.S.SlotStore.memory c.end_unnamed-left.new.store) in
+    childless-left before taken after one two c.take_out-removed.result.0 c.args.slot c.take_out-removed.ensures.slots (g.met.E.Ends.of_slots _ _ _) c.end_unnamed-left.ensures.state (g.met.E.Ends.of_slots _ _ _)
+    c.take_out-removed.result.2 c.in-Some.parent c.take_out-removed.ensures.childless c.in-Some.is
 
 pub returns-in-Some-clause-state : goal.returns-in-Some-clause-state
 returns-in-Some-clause-state g c =
@@ -32,7 +44,9 @@ returns-in-Some-clause-state g c =
     emptied-in-steps zero_is one two three before taken after now c.args.slot c.take_out-removed.result.0 (Some c.in-Some.parent)
     (g.met.E.Ends.of_slots c.args.ends.now before memory) c.requires.ready c.requires.full
     c.take_out-removed.ensures.removed c.take_out-removed.ensures.slots c.take_out-removed.ensures.state c.end_unnamed-left.ensures.state (g.met.E.Ends.of_slots _ _ _)
-    (sym c.take_out-removed.ensures.parent ∙ c.in-Some.is) c.rewind.ensures.slots c.rewind.ensures.state
+    (parent-was before taken after one two c.take_out-removed.result.0 c.args.slot c.take_out-removed.ensures.slots (g.met.E.Ends.of_slots _ _ _) c.end_unnamed-left.ensures.state (g.met.E.Ends.of_slots _ _ _)
+    c.take_out-removed.result.2 c.in-Some.parent c.take_out-removed.ensures.childless c.in-Some.is)
+    c.rewind.ensures.slots c.rewind.ensures.state
 
 pub returns-in_default-clause-state : goal.returns-in_default-clause-state
 returns-in_default-clause-state g c =
@@ -44,10 +58,13 @@ returns-in_default-clause-state g c =
     let one : State = g.E.Ends.state c.take_out-removed.new.ends taken (g.S.SlotStore.memory c.take_out-removed.new.store) in
     let two : State = g.E.Ends.state c.end_unnamed-left.new.ends after (g.S.SlotStore.memory c.end_unnamed-left.new.store) in
     let has : two.slots ≡ after = g.met.E.Ends.of_slots _ _ _ in
-    emptied-in-steps zero_is one two two before taken after after c.args.slot c.take_out-removed.result.0 None
+    emptied-in-steps zero_is one two two before taken after after c.args.slot c.take_out-removed.result.0 (parent_at before c.args.slot)
     (g.met.E.Ends.of_slots c.args.ends.now before memory) c.requires.ready c.requires.full
     c.take_out-removed.ensures.removed c.take_out-removed.ensures.slots c.take_out-removed.ensures.state c.end_unnamed-left.ensures.state has
-    (sym c.take_out-removed.ensures.parent ∙ c.in_default.is) refl (λ i. record two { slots = has i })
+    refl
+    (none-left before taken after one two c.take_out-removed.result.0 c.args.slot c.take_out-removed.ensures.slots (g.met.E.Ends.of_slots _ _ _) c.end_unnamed-left.ensures.state has
+    c.take_out-removed.result.2 c.take_out-removed.ensures.childless c.in_default.is)
+    (λ i. record two { slots = has i })
 
 pub end_unnamed-left-requires-clause-there : goal.end_unnamed-left-requires-clause-there
 end_unnamed-left-requires-clause-there g c =

@@ -1,20 +1,12 @@
--- By the first descendant.
-use Rattle.std.proofs.Common.{◌∙◌, refl, sym, ap, subst}
+-- The watermark alone changes.
+use Rattle.std.proofs.Common.{◌∙◌, sym, ap, subst}
 use Rattle.model.specs.Capabilities.Slots.{Slots, recapped}
-use Rattle.removal_laws.specs.Steps.{still, reset, unused}
-use Rattle.cnode_ops.proofs.Watermarks.{child-found, childless, none-of, some-of}
+use Rattle.removal_laws.specs.Steps.{reset, unused}
 use Rattle.cnode_ops.proofs.emptying.rewind.Goals as goal
-
-pub returns-then-is_some-clause-slots : goal.returns-then-is_some-clause-slots
-returns-then-is_some-clause-slots g c =
-    let found = some-of c.next_below.result (sym c.is_some.ensures ∙ c.if-is_some.true) in
-    let child = child-found (g.S.SlotMap.slots c.args.store.now) c.args.parent c.next_below.result found.0 found.1 c.next_below.ensures.found_known in
-    still child.0 child.1 refl
 
 pub returns-clause-slots : goal.returns-clause-slots
 returns-clause-slots g c =
-    let none = none-of c.next_below.result (sym c.is_some.ensures ∙ c.if-is_some.false) in
-    reset (childless _ _ _ c.next_below.ensures.derivation c.next_below.ensures.lists (sym c.next_below.ensures.next ∙ none))
+    reset c.requires.childless
     (c.set_cap.ensures.slots ∙ ap (λ k. recapped (g.S.SlotMap.slots c.args.store.now) c.args.parent (unused k)) (sym c.in-Untyped.is ∙ c.capability.ensures.value))
 
 pub returns-clause-agree : goal.returns-clause-agree

@@ -1,11 +1,10 @@
 -- What has to agree still does without the capability.
-use Rattle.std.proofs.Common.{◌≡◌, ◌∙◌, refl, ap, sym, subst}
+use Rattle.std.proofs.Common.{◌≡◌, ◌∙◌, ap, sym, subst}
 use Rattle.model.specs.Capabilities.CapabilityKinds.{unmapped}
-use Rattle.model.specs.Capabilities.Slots.{IsFull, Slots, capability_at, parent_at, spliced}
-use Rattle.model.proofs.SlotChanges.{capability_of, parent_of}
-use Rattle.removal_laws.proofs.Laws.{unmapped-itself}
+use Rattle.model.specs.Capabilities.Slots.{IsFull, Slots, capability_at, spliced}
 use Rattle.removal_laws.specs.Steps.{unmapped_at}
 use Rattle.cnode_ops.proofs.StillNamed.{still-named}
+use Rattle.slots.specs.Kin.{LeavesChildless}
 use Rattle.cnode_ops.proofs.Emptied.{bare-full, bare-unmapped}
 use Rattle.cnode_ops.proofs.emptying.take_out.Goals as goal
 
@@ -24,12 +23,10 @@ returns-clause-agree g c =
 pub returns-clause-shared : goal.returns-clause-shared
 returns-clause-shared g c =
     still-named (unmapped_at (g.S.SlotMap.slots c.args.store.now) c.args.slot) (g.S.SlotMap.slots c.unmap.new.store) (g.S.SlotMap.slots c.splice_out.new.self) c.args.slot
-    c.get-removed.result.0 c.is_shared-is_shared.result c.unmap.ensures.slots
-    (ap capability_of (sym c.get-removed.ensures.held) ∙ ap (λ (f : Slots). capability_at f c.args.slot) c.unmap.ensures.slots)
+    c.capability-removed.result c.is_shared-is_shared.result c.unmap.ensures.slots
+    (c.capability-removed.ensures.value ∙ ap (λ (f : Slots). capability_at f c.args.slot) c.unmap.ensures.slots)
     (c.splice_out.ensures.slots ∙ ap (λ (f : Slots). spliced f c.args.slot) c.unmap.ensures.slots) c.is_shared-is_shared.ensures.shared c.is_shared-is_shared.ensures.alone
 
-pub returns-clause-parent : goal.returns-clause-parent
-returns-clause-parent g c =
-    let slots : Slots = g.S.SlotMap.slots c.args.store.now in
-    ap parent_of (sym c.get-removed.ensures.held) ∙ ap (λ (f : Slots). parent_at f c.args.slot) c.unmap.ensures.slots
-    ∙ (unmapped-itself slots c.args.slot (capability_at slots c.args.slot) refl).1
+pub returns-clause-childless : goal.returns-clause-childless
+returns-clause-childless g c =
+    subst (λ (f : Slots). LeavesChildless f c.args.slot c.childless_without-childless.result) c.unmap.ensures.slots c.childless_without-childless.ensures

@@ -1,7 +1,7 @@
 -- Where no descendant is listed there is none.
 use Rattle.std.proofs.Common.{◌∙◌, sym, ap}
 use Rattle.cnode_ops.specs.Sets.{set_of}
-use Rattle.cnode_ops.proofs.Watermarks.{no-descendants}
+use Rattle.cnode_ops.proofs.NoneBelow.{no-descendants}
 use Rattle.cnode_ops.proofs.sets.first_removed.Goals as goal
 
 pub returns-in-Below-clause-none : goal.returns-in-Below-clause-none
