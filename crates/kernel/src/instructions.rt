@@ -1,6 +1,7 @@
 //! One instruction of the thread that runs.
 
 ghost use Rattle.std.specs.Prelude.{ℕ, ◌≡◌};
+ghost use Rattle.model.specs.Kernel.AddressSpaces.{vspace_of};
 ghost use Rattle.model.specs.Kernel.Steps.{executes, runs, runs_decoded};
 ghost use Rattle.model.specs.Machine.Decoding.{decoded};
 ghost use Rattle.model.specs.Machine.Instructions.{IsInstr};
@@ -13,17 +14,23 @@ use cnode_ops::Kernel;
 use model::{Cause, Exec, Instr, MemoryFault, Outcome};
 use packed_slots::WalkStore;
 use rv32_isa::decode;
-use user_memory::fetch;
+use user_memory::{fetch, root_of};
 
-/// The thread that runs executes an instruction.
-fn execute<S: WalkStore>(kernel: &mut Kernel<S>, thread: u32, instruction: Instr) -> Outcome
+/// The thread that runs executes an instruction, over the memory under its root table.
+fn execute<S: WalkStore>(
+    kernel: &mut Kernel<S>,
+    thread: u32,
+    root: Option<u32>,
+    instruction: Instr,
+) -> Outcome
+    requires root { root ≡ vspace_of (state_in S.slots S.memory kernel.old) thread }
     requires runs { IsRunning (state_in S.slots S.memory kernel.old) thread }
     requires instruction { IsInstr instruction }
     ensures state { state_in S.slots S.memory kernel.new
         ≡ (executes (state_in S.slots S.memory kernel.old) thread instruction).0 }
     ensures outcome { result ≡ (executes (state_in S.slots S.memory kernel.old) thread instruction).1 }
 {
-    match user_memory::execute(kernel, thread, instruction) {
+    match user_memory::execute(kernel, thread, root, instruction) {
         Exec::Next => Outcome::Plain,
         Exec::Ecall => system_call(kernel, thread),
         Exec::Trap(cause) => trap(kernel, thread, cause),
@@ -35,14 +42,20 @@ fn execute<S: WalkStore>(kernel: &mut Kernel<S>, thread: u32, instruction: Instr
 }
 
 /// The thread that runs executes a word, if that is an instruction.
-fn execute_word<S: WalkStore>(kernel: &mut Kernel<S>, thread: u32, word: u32) -> Outcome
+fn execute_word<S: WalkStore>(
+    kernel: &mut Kernel<S>,
+    thread: u32,
+    root: Option<u32>,
+    word: u32,
+) -> Outcome
+    requires root { root ≡ vspace_of (state_in S.slots S.memory kernel.old) thread }
     requires runs { IsRunning (state_in S.slots S.memory kernel.old) thread }
     ensures state { state_in S.slots S.memory kernel.new
         ≡ (runs_decoded (state_in S.slots S.memory kernel.old) thread (decoded word)).0 }
     ensures outcome { result ≡ (runs_decoded (state_in S.slots S.memory kernel.old) thread (decoded word)).1 }
 {
     match decode(word) {
-        Some(instruction) => execute(kernel, thread, instruction),
+        Some(instruction) => execute(kernel, thread, root, instruction),
         None => trap(kernel, thread, Cause::Illegal),
     }
 }
@@ -55,8 +68,9 @@ pub(crate) fn run<S: WalkStore>(kernel: &mut Kernel<S>, thread: u32) -> Outcome
         ≡ (runs (state_in S.slots S.memory kernel.old) thread).0 }
     ensures outcome { result ≡ (runs (state_in S.slots S.memory kernel.old) thread).1 }
 {
-    match fetch(kernel, thread) {
-        Ok(word) => execute_word(kernel, thread, word),
+    let root = root_of(kernel, thread);
+    match fetch(kernel, thread, root) {
+        Ok(word) => execute_word(kernel, thread, root, word),
         Err(fault) => miss(kernel, thread, fault),
     }
 }

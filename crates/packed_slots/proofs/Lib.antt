@@ -11,6 +11,7 @@ pub mod Moving
 pub mod Sharing
 pub mod PackedFacts
 pub mod Reading
+pub mod RootWords
 pub mod Splicing
 pub mod Steps
 pub mod WordWrites

@@ -8,6 +8,7 @@ mod links;
 mod neighbours;
 mod open_slots;
 mod reads;
+mod roots;
 mod store;
 mod words;
 mod writes;
@@ -15,4 +16,5 @@ mod writes;
 pub use cached_slots::{
     CachedSlots, WalkStore, leaves_stay_where_entries_do, one_leaf_more_is_kept,
 };
+pub use roots::RootStore;
 pub use store::PackedSlots;

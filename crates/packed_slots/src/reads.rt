@@ -2,6 +2,8 @@
 
 ghost use Rattle.std.specs.Prelude.{ℕ, ◌≡◌, ◌%◌, ◌∷◌, [], IsTrue, Some, length};
 ghost use Rattle.std.specs.Option.{ForSome};
+ghost use Rattle.model.specs.Capabilities.CapabilityFields.{fields_of};
+ghost use Rattle.model.specs.Capabilities.CapabilityKinds.{root_of};
 ghost use Rattle.model.specs.Capabilities.CapabilityWords.{IsCapability, words_of};
 ghost use Rattle.model.specs.Capabilities.Orders.{descendants, next_in};
 ghost use Rattle.model.specs.Capabilities.Slots.{IsFull, IsOpen, capability_at, depth_of, is_descendant, is_full};
@@ -44,6 +46,38 @@ pub(crate) fn capability(
         held(memory, slot)
     } else {
         Cap::Empty
+    }
+}
+
+/// The kind of the capabilities of root tables, in the first of their two words.
+const ROOT_TABLE: u32 = 8;
+
+/// The root table that the first word of a capability names, whatever the second is.
+#[tactic(auto, using(crate::proofs::RootWords::root_by_kind))]
+fn root_in(head: u32) -> Option<u32>
+    ensures { (tail : ℕ) → result ≡ root_of (fields_of head tail) }
+{
+    if head % 0x10 == ROOT_TABLE {
+        Some(head / 0x1000 * 0x10)
+    } else {
+        None
+    }
+}
+
+/// The root table that the capability in a slot names, which one word tells.
+pub(crate) fn root_table(
+    memory: &Mem,
+    open_slots: &OpenSlots,
+    first: &Option<Slot>,
+    slot: Slot,
+) -> Option<u32>
+    requires { IsPacked (packing memory.now open_slots.now first.now) }
+    ensures { result ≡ root_of (capability_at (packed_slots (packing memory.now open_slots.now first.now)) slot) }
+{
+    if open_slots.contains(slot) {
+        root_in(word(memory, slot, 0))
+    } else {
+        None
     }
 }
 

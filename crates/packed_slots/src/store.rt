@@ -4,6 +4,7 @@ ghost use Rattle.std.specs.Prelude.{ℕ, ◌≡◌, ◌^◌, ◌≤◌, None, If
 ghost use Rattle.packed_slots.specs.Packing.{packed_order, packed_slots};
 
 use crate::open_slots::OpenSlots;
+use crate::roots::RootStore;
 use crate::{changes, neighbours, reads, writes};
 use model::{Cap, Slot};
 use pmem::Mem;
@@ -200,5 +201,11 @@ impl SlotStore for PackedSlots {
             offset,
             count,
         );
+    }
+}
+
+impl RootStore for PackedSlots {
+    fn root_table(&self, slot: Slot) -> Option<u32> {
+        reads::root_table(&self.memory, &self.open_slots, &self.first, slot)
     }
 }

@@ -64,6 +64,11 @@ pub root-kernel : {S : Type 0} (slots : S → Slots) (memory : S → List ℕ) (
 unfolding state_of
 root-kernel slots memory thread root is of_thread = of_thread ∙ ap (λ k. root_of (capability_at (slots k.store) (vspace_slot thread))) is
 
+pub root-inside : {S : Type 0} (slots : S → Slots) (memory : S → List ℕ) (thread : ℕ) (root : Option ℕ) {parts kernel : Parts S} → parts ≡ kernel
+    → root ≡ vspace_of (state_in slots memory kernel) thread → root ≡ root_of (capability_at (slots parts.store) (vspace_slot thread))
+unfolding state_of
+root-inside slots memory thread root is own = own ∙ ap (λ k. root_of (capability_at (slots k.store) (vspace_slot thread))) (sym is)
+
 -- the same once its store has kept a leaf, and is what it was
 abbrev parts_of : {S : Type 0} → S → Tables → Parts S
 parts_of store tables = record { store = store; tables = tables }

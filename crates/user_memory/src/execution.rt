@@ -1,7 +1,7 @@
 //! The next instruction of a thread, and what it does.
 
 ghost use Rattle.std.specs.Prelude.{◌≡◌, ◌≢◌, Some};
-ghost use Rattle.model.specs.Kernel.AddressSpaces.{content_of, with_content};
+ghost use Rattle.model.specs.Kernel.AddressSpaces.{content_of, vspace_of, with_content};
 ghost use Rattle.model.specs.Kernel.Kinds.{kind_at};
 ghost use Rattle.model.specs.Kernel.Messages.{with_registers};
 ghost use Rattle.model.specs.Kernel.Retype.{NewThread};
@@ -14,7 +14,6 @@ ghost use Rattle.model.specs.declared.instructions.AccessSize.TheVariants.{Word}
 ghost use Rattle.cnode_ops.specs.object_lifetimes.Kernels.{state_in};
 
 use crate::keeping::{keep_page, keep_reached};
-use crate::roots::root_of;
 use crate::spaces::Space;
 use crate::view::UserMemory;
 use cnode_ops::Kernel;
@@ -23,14 +22,18 @@ use packed_slots::WalkStore;
 use rv32_exec::{Regs, exec};
 
 /// The word that a thread runs next, at its program counter; the first byte of it that the thread may not
-/// run is a fault. The leaf of its page is kept, which changes nothing else.
-pub fn fetch<S: WalkStore>(kernel: &mut Kernel<S>, thread: u32) -> Result<u32, MemoryFault>
+/// run is a fault. The leaf of its page is kept, which changes nothing else. Asks for the thread's root table.
+pub fn fetch<S: WalkStore>(
+    kernel: &mut Kernel<S>,
+    thread: u32,
+    root: Option<u32>,
+) -> Result<u32, MemoryFault>
+    requires root { root ≡ vspace_of (state_in S.slots S.memory kernel.old) thread }
     ensures value { result ≡ loaded (content_of (state_in S.slots S.memory kernel.old) thread) Fetch Word
         (registers_of (state_in S.slots S.memory kernel.old) thread).pc }
     ensures unchanged { kernel.new ≡ kernel.old }
 {
     let address = kernel.pc(thread);
-    let root = root_of(&kernel.store, thread);
     keep_page(&mut kernel.store, root, address);
     let space = Space { kernel, root };
     if address % 4 == 0 {
@@ -44,26 +47,33 @@ pub fn fetch<S: WalkStore>(kernel: &mut Kernel<S>, thread: u32) -> Result<u32, M
 fn run<S: WalkStore>(
     kernel: &mut Kernel<S>,
     thread: u32,
+    root: Option<u32>,
     registers: &mut Regs,
     instruction: Instr,
 ) -> Exec
     requires instruction { IsInstr instruction }
+    requires root { root ≡ vspace_of (state_in S.slots S.memory kernel.old) thread }
     ensures outcome { result ≡ (effect registers.old (content_of (state_in S.slots S.memory kernel.old) thread) instruction).exec }
     ensures registers { registers.new ≡ (effect registers.old (content_of (state_in S.slots S.memory kernel.old) thread) instruction).registers }
     ensures state { state_in S.slots S.memory kernel.new
         ≡ with_content (state_in S.slots S.memory kernel.old)
         (effect registers.old (content_of (state_in S.slots S.memory kernel.old) thread) instruction).content }
 {
-    let root = root_of(&kernel.store, thread);
     keep_reached(&mut kernel.store, root, registers, instruction);
     let mut memory = UserMemory { kernel, root };
     exec(registers, instruction, &mut memory)
 }
 
 /// Runs an instruction of a thread: its registers change, and the bytes of its frames. Where the answer is
-/// not `Next`, nothing does.
-pub fn execute<S: WalkStore>(kernel: &mut Kernel<S>, thread: u32, instruction: Instr) -> Exec
+/// not `Next`, nothing does. Asks for the thread's root table.
+pub fn execute<S: WalkStore>(
+    kernel: &mut Kernel<S>,
+    thread: u32,
+    root: Option<u32>,
+    instruction: Instr,
+) -> Exec
     requires instruction { IsInstr instruction }
+    requires root { root ≡ vspace_of (state_in S.slots S.memory kernel.old) thread }
     requires there { kind_at (state_in S.slots S.memory kernel.old) thread ≡ Some NewThread }
     ensures outcome { result ≡ (effect (registers_of (state_in S.slots S.memory kernel.old) thread)
         (content_of (state_in S.slots S.memory kernel.old) thread) instruction).exec }
@@ -73,7 +83,7 @@ pub fn execute<S: WalkStore>(kernel: &mut Kernel<S>, thread: u32, instruction: I
     ensures unchanged { result ≢ Exec.Next → state_in S.slots S.memory kernel.new ≡ state_in S.slots S.memory kernel.old }
 {
     let mut registers = kernel.objects.objects.registers(&kernel.store, thread);
-    let outcome = run(kernel, thread, &mut registers, instruction);
+    let outcome = run(kernel, thread, root, &mut registers, instruction);
     kernel
         .objects
         .objects

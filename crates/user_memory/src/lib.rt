@@ -12,3 +12,4 @@ mod view;
 
 pub use execution::{execute, fetch};
 pub use filling::fill;
+pub use roots::root_of;

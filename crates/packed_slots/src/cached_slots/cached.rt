@@ -6,6 +6,7 @@ ghost use Rattle.packed_slots.specs.cached_slots.Mappings.{AreMapped};
 use crate::cached_slots::WalkStore;
 use crate::cached_slots::caches::Tlb;
 use crate::cached_slots::forgetting::forget;
+use crate::roots::RootStore;
 use model::{Access, Cap, PageFault, Slot};
 use pmem::Mem;
 use slots::{SlotMap, SlotStore};
@@ -139,7 +140,13 @@ impl<S: SlotStore> SlotStore for CachedSlots<S> {
     }
 }
 
-impl<S: SlotStore> WalkStore for CachedSlots<S> {
+impl<S: RootStore> RootStore for CachedSlots<S> {
+    fn root_table(&self, slot: Slot) -> Option<u32> {
+        self.store.root_table(slot)
+    }
+}
+
+impl<S: RootStore> WalkStore for CachedSlots<S> {
     fn keep_leaf(&mut self, root: u32, address: u32) {
         self.cache.keep(self.store.mem(), root, address);
     }

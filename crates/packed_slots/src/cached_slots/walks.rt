@@ -5,12 +5,12 @@ ghost use Rattle.std.specs.Option.{ok_or};
 ghost use Rattle.packed_slots.specs.cached_slots.Mappings.{LeavesAgree};
 ghost use Rattle.model.specs.Machine.Sv32.{page_fault, walk};
 
+use crate::roots::RootStore;
 use model::{Access, PageFault};
-use slots::SlotStore;
 
 /// A store of slots that may keep leaves of the walks through the page tables in its memory. What it keeps is seen in no
 /// clause. It asks that memory has the leaves of the mappings in capabilities, and no others under the root table.
-pub trait WalkStore: SlotStore {
+pub trait WalkStore: RootStore {
     /// Keeps the leaf of the page of an address under the root table at the offset `root`, if there is one.
     fn keep_leaf(&mut self, root: u32, address: u32)
         requires { LeavesAgree (Self.slots self.old) (Self.memory self.old) root }

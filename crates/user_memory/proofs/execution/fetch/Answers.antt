@@ -6,7 +6,7 @@ use Rattle.model.specs.declared.instructions.Access.TheVariants.{Fetch}
 use Rattle.model.specs.declared.instructions.AccessSize.TheVariants.{Word}
 use Rattle.cnode_ops.specs.object_lifetimes.Kernels.{state_in}
 use Rattle.user_memory.proofs.Leaves.{kernel-leaves}
-use Rattle.user_memory.proofs.Running.{kept-parts, root-kernel, usable-kept, usable-kernel}
+use Rattle.user_memory.proofs.Running.{kept-parts, root-inside, usable-kept, usable-kernel}
 use Rattle.user_memory.specs.Views.{content_under}
 use Rattle.user_memory.proofs.execution.fetch.Goals as goal
 
@@ -14,23 +14,23 @@ pub keep_page-requires : goal.keep_page-requires
 keep_page-requires g c = λ table is.
     let slots = g.S.SlotMap.slots in
     let memory = g.S.SlotStore.memory in
-    kernel-leaves slots memory c.root_of-root.result table c.kernel.view_is
-    (usable-kernel slots memory c.args.thread c.root_of-root.result c.kernel.view_is c.kernel.invariant c.root_of-root.ensures) is
+    kernel-leaves slots memory c.args.root table c.kernel.view_is
+    (usable-kernel slots memory c.args.thread c.args.root c.kernel.view_is c.kernel.invariant (root-inside g.S.SlotMap.slots g.S.SlotStore.memory c.args.thread c.args.root c.kernel.view_is c.requires.root)) is
 
 pub invariant_of-space : goal.invariant_of-space
 invariant_of-space g c =
-    record { usable = usable-kept g.S.SlotMap.slots g.S.SlotStore.memory c.args.thread c.root_of-root.result c.keep_page.ensures c.kernel.invariant c.root_of-root.ensures }
+    record { usable = usable-kept g.S.SlotMap.slots g.S.SlotStore.memory c.args.thread c.args.root c.keep_page.ensures c.kernel.invariant (root-inside g.S.SlotMap.slots g.S.SlotStore.memory c.args.thread c.args.root c.kernel.view_is c.requires.root) }
 
 pub invariant_of-space-else-address-eq0 : goal.invariant_of-space-else-address-eq0
 invariant_of-space-else-address-eq0 g c =
-    record { usable = usable-kept g.S.SlotMap.slots g.S.SlotStore.memory c.args.thread c.root_of-root.result c.keep_page.ensures c.kernel.invariant c.root_of-root.ensures }
+    record { usable = usable-kept g.S.SlotMap.slots g.S.SlotStore.memory c.args.thread c.args.root c.keep_page.ensures c.kernel.invariant (root-inside g.S.SlotMap.slots g.S.SlotStore.memory c.args.thread c.args.root c.kernel.view_is c.requires.root) }
 
 pub returns-then-address-eq0-clause-value : goal.returns-then-address-eq0-clause-value
 returns-then-address-eq0-clause-value g c =
     let s = state_in g.S.SlotMap.slots g.S.SlotStore.memory c.args.kernel.now in
-    let own = root-kernel g.S.SlotMap.slots g.S.SlotStore.memory c.args.thread c.root_of-root.result c.kernel.view_is c.root_of-root.ensures in
+    let own = c.requires.root in
     c.aligned_word.ensures
-    ∙ ap (λ k. loaded (content_under (state_in g.S.SlotMap.slots g.S.SlotStore.memory k) c.root_of-root.result) Fetch Word c.pc-address.result)
+    ∙ ap (λ k. loaded (content_under (state_in g.S.SlotMap.slots g.S.SlotStore.memory k) c.args.root) Fetch Word c.pc-address.result)
     (kept-parts c.keep_page.ensures c.kernel.view_is)
     ∙ ap (λ root. loaded (content_under s root) Fetch Word c.pc-address.result) own
     ∙ ap (λ (address : ℕ). loaded (content_of s c.args.thread) Fetch Word address) c.pc-address.ensures
@@ -38,9 +38,9 @@ returns-then-address-eq0-clause-value g c =
 pub returns-else-address-eq0-clause-value : goal.returns-else-address-eq0-clause-value
 returns-else-address-eq0-clause-value g c =
     let s = state_in g.S.SlotMap.slots g.S.SlotStore.memory c.args.kernel.now in
-    let own = root-kernel g.S.SlotMap.slots g.S.SlotStore.memory c.args.thread c.root_of-root.result c.kernel.view_is c.root_of-root.ensures in
+    let own = c.requires.root in
     c.word.ensures
-    ∙ ap (λ k. loaded (content_under (state_in g.S.SlotMap.slots g.S.SlotStore.memory k) c.root_of-root.result) Fetch Word c.pc-address.result)
+    ∙ ap (λ k. loaded (content_under (state_in g.S.SlotMap.slots g.S.SlotStore.memory k) c.args.root) Fetch Word c.pc-address.result)
     (kept-parts c.keep_page.ensures c.kernel.view_is)
     ∙ ap (λ root. loaded (content_under s root) Fetch Word c.pc-address.result) own
     ∙ ap (λ (address : ℕ). loaded (content_of s c.args.thread) Fetch Word address) c.pc-address.ensures

@@ -5,7 +5,7 @@ use Rattle.model.specs.Machine.Effects.{effect}
 use Rattle.cnode_ops.specs.object_lifetimes.Kernels.{state_in}
 use Rattle.objects.specs.Standing.{Standing}
 use Rattle.user_memory.proofs.Leaves.{kernel-leaves}
-use Rattle.user_memory.proofs.Running.{in-the-end, kept-parts, root-kernel, state-left, usable-kept, usable-kernel}
+use Rattle.user_memory.proofs.Running.{in-the-end, kept-parts, root-inside, state-left, usable-kept, usable-kernel}
 use Rattle.user_memory.specs.Views.{Beside, content_under}
 use Rattle.user_memory.proofs.execution.run.Goals as goal
 
@@ -13,28 +13,28 @@ pub keep_reached-requires-clause-agree : goal.keep_reached-requires-clause-agree
 keep_reached-requires-clause-agree g c = λ table is.
     let slots = g.S.SlotMap.slots in
     let memory = g.S.SlotStore.memory in
-    kernel-leaves slots memory c.root_of-root.result table c.kernel.view_is
-    (usable-kernel slots memory c.args.thread c.root_of-root.result c.kernel.view_is c.kernel.invariant c.root_of-root.ensures) is
+    kernel-leaves slots memory c.args.root table c.kernel.view_is
+    (usable-kernel slots memory c.args.thread c.args.root c.kernel.view_is c.kernel.invariant (root-inside g.S.SlotMap.slots g.S.SlotStore.memory c.args.thread c.args.root c.kernel.view_is c.requires.root)) is
 
 pub invariant_of-memory : goal.invariant_of-memory
 invariant_of-memory g c =
-    record { usable = usable-kept g.S.SlotMap.slots g.S.SlotStore.memory c.args.thread c.root_of-root.result c.keep_reached.ensures c.kernel.invariant c.root_of-root.ensures }
+    record { usable = usable-kept g.S.SlotMap.slots g.S.SlotStore.memory c.args.thread c.args.root c.keep_reached.ensures c.kernel.invariant (root-inside g.S.SlotMap.slots g.S.SlotStore.memory c.args.thread c.args.root c.kernel.view_is c.requires.root) }
 
 pub returns-clause-outcome : goal.returns-clause-outcome
 returns-clause-outcome g c =
     let s = state_in g.S.SlotMap.slots g.S.SlotStore.memory c.args.kernel.now in
-    let own = root-kernel g.S.SlotMap.slots g.S.SlotStore.memory c.args.thread c.root_of-root.result c.kernel.view_is c.root_of-root.ensures in
+    let own = c.requires.root in
     c.exec.ensures.outcome
-    ∙ ap (λ k. (effect c.args.registers.now (content_under (state_in g.S.SlotMap.slots g.S.SlotStore.memory k) c.root_of-root.result) c.args.instruction).exec)
+    ∙ ap (λ k. (effect c.args.registers.now (content_under (state_in g.S.SlotMap.slots g.S.SlotStore.memory k) c.args.root) c.args.instruction).exec)
     (kept-parts c.keep_reached.ensures c.kernel.view_is)
     ∙ ap (λ root. (effect c.args.registers.now (content_under s root) c.args.instruction).exec) own
 
 pub returns-clause-registers : goal.returns-clause-registers
 returns-clause-registers g c =
     let s = state_in g.S.SlotMap.slots g.S.SlotStore.memory c.args.kernel.now in
-    let own = root-kernel g.S.SlotMap.slots g.S.SlotStore.memory c.args.thread c.root_of-root.result c.kernel.view_is c.root_of-root.ensures in
+    let own = c.requires.root in
     c.exec.ensures.registers
-    ∙ ap (λ k. (effect c.args.registers.now (content_under (state_in g.S.SlotMap.slots g.S.SlotStore.memory k) c.root_of-root.result) c.args.instruction).registers)
+    ∙ ap (λ k. (effect c.args.registers.now (content_under (state_in g.S.SlotMap.slots g.S.SlotStore.memory k) c.args.root) c.args.instruction).registers)
     (kept-parts c.keep_reached.ensures c.kernel.view_is)
     ∙ ap (λ root. (effect c.args.registers.now (content_under s root) c.args.instruction).registers) own
 
@@ -43,14 +43,14 @@ returns-clause-state g c =
     let o = c.kernel.inside.objects in
     let kept = c.keep_reached.new.store in
     let s = state_in g.S.SlotMap.slots g.S.SlotStore.memory c.args.kernel.now in
-    let own = root-kernel g.S.SlotMap.slots g.S.SlotStore.memory c.args.thread c.root_of-root.result c.kernel.view_is c.root_of-root.ensures in
+    let own = c.requires.root in
     let stood = subst (λ store. Standing o (g.S.SlotMap.slots store) (g.S.SlotStore.memory store)) (sym c.keep_reached.ensures) c.kernel.invariant.stands in
     let view = c.exec.new.view in
     let left = state-left o view.kernel.now.tables (g.S.SlotMap.slots kept) (g.S.SlotMap.slots view.kernel.now.store) (g.S.SlotStore.memory kept)
-    (g.S.SlotStore.memory view.kernel.now.store) c.root_of-root.result view.root _ _ c.exec.ensures.rest stood _ c.exec.ensures.content in
+    (g.S.SlotStore.memory view.kernel.now.store) c.args.root view.root _ _ c.exec.ensures.rest stood _ c.exec.ensures.content in
     in-the-end (λ k. state_in g.S.SlotMap.slots g.S.SlotStore.memory k ≡ with_content s (effect c.args.registers.now (content_of s c.args.thread) c.args.instruction).content)
     _ view.kernel.now _ view.kernel.ghost_name (search rules) (sym (ap (λ (b : Beside). b.store) c.exec.ensures.rest))
     (left
     ∙ ap (λ k. let t = state_in g.S.SlotMap.slots g.S.SlotStore.memory k in
-    with_content t (effect c.args.registers.now (content_under t c.root_of-root.result) c.args.instruction).content) (kept-parts c.keep_reached.ensures c.kernel.view_is)
+    with_content t (effect c.args.registers.now (content_under t c.args.root) c.args.instruction).content) (kept-parts c.keep_reached.ensures c.kernel.view_is)
     ∙ ap (λ root. with_content s (effect c.args.registers.now (content_under s root) c.args.instruction).content) own)
