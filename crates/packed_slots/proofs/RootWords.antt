@@ -1,5 +1,5 @@
 -- The root table that a capability names is told by the first of its words.
-use Rattle.std.proofs.Common.{ℕ, ◌≡◌, ◌∙◌, ◌==◌, ◌/◌, ◌%◌, ◌*◌, ◌^◌, inl, inr, Bool, true, false, if◌then◌else◌, Option, Some, None, refl, sym, ap}
+use Rattle.std.proofs.Common.{ℕ, ◌≡◌, ◌∙◌, ◌==◌, ◌/◌, ◌%◌, ◌*◌, ◌^◌, inl, inr, Bool, true, false, if◌then◌else◌, Some, None, refl, sym, ap}
 use Rattle.std.proofs.lemmas.Bool.Decides.{eqb_tells}
 use Rattle.model.specs.declared.capabilities.Cap.{Cap}
 use Rattle.model.specs.declared.capabilities.Cap.TheVariants.{Empty, RootTable, InterruptControl, InterruptHandler}

@@ -8,6 +8,7 @@ pub mod Reading
 pub mod Running
 pub mod Stored
 pub mod Unchanged
+pub mod WordStores
 pub mod Words
 pub mod Writing
 pub mod Written

@@ -1,6 +1,6 @@
 //! The next instruction of a thread, and what it does.
 
-ghost use Rattle.std.specs.Prelude.{◌≡◌, ◌≢◌, Some};
+ghost use Rattle.std.specs.Prelude.{ℕ, ◌≡◌, ◌≢◌, Some, Ok};
 ghost use Rattle.model.specs.Kernel.AddressSpaces.{content_of, vspace_of, with_content};
 ghost use Rattle.model.specs.Kernel.Kinds.{kind_at};
 ghost use Rattle.model.specs.Kernel.Messages.{with_registers};
@@ -34,6 +34,60 @@ pub fn fetch<S: WalkStore>(
     ensures unchanged { kernel.new ≡ kernel.old }
 {
     let address = kernel.pc(thread);
+    fetch_at(kernel, thread, root, address)
+}
+
+/// The same of any address: at first as it is kept.
+fn fetch_at<S: WalkStore>(
+    kernel: &mut Kernel<S>,
+    thread: u32,
+    root: Option<u32>,
+    address: u32,
+) -> Result<u32, MemoryFault>
+    requires root { root ≡ vspace_of (state_in S.slots S.memory kernel.old) thread }
+    ensures value { result ≡ loaded (content_of (state_in S.slots S.memory kernel.old) thread) Fetch Word address }
+    ensures unchanged { kernel.new ≡ kernel.old }
+{
+    match kept_word(kernel, thread, root, address) {
+        Some(word) => Ok(word),
+        None => walked_word(kernel, thread, root, address),
+    }
+}
+
+/// The word at an address that a thread may run, where the leaf of its page is kept.
+fn kept_word<S: WalkStore>(
+    kernel: &Kernel<S>,
+    thread: u32,
+    root: Option<u32>,
+    address: u32,
+) -> Option<u32>
+    requires root { root ≡ vspace_of (state_in S.slots S.memory kernel.now) thread }
+    ensures { (word : ℕ) → result ≡ Some word
+        → Ok word ≡ loaded (content_of (state_in S.slots S.memory kernel.now) thread) Fetch Word address }
+{
+    if address % 4 != 0 {
+        return None;
+    }
+    let Some(table) = root else {
+        return None;
+    };
+    match kernel.store.kept_place(table, address, Access::Fetch) {
+        Some(place) => Some(kernel.store.mem().read32(place)),
+        None => None,
+    }
+}
+
+/// The word at an address that a thread may run, by walks. The leaf of its page is kept.
+fn walked_word<S: WalkStore>(
+    kernel: &mut Kernel<S>,
+    thread: u32,
+    root: Option<u32>,
+    address: u32,
+) -> Result<u32, MemoryFault>
+    requires root { root ≡ vspace_of (state_in S.slots S.memory kernel.old) thread }
+    ensures value { result ≡ loaded (content_of (state_in S.slots S.memory kernel.old) thread) Fetch Word address }
+    ensures unchanged { kernel.new ≡ kernel.old }
+{
     keep_page(&mut kernel.store, root, address);
     let space = Space { kernel, root };
     if address % 4 == 0 {

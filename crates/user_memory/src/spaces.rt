@@ -1,6 +1,6 @@
 //! Address spaces, for reading.
 
-ghost use Rattle.std.specs.Prelude.{◌≡◌, ◌%◌};
+ghost use Rattle.std.specs.Prelude.{ℕ, ◌≡◌, ◌%◌, Some, Ok};
 ghost use Rattle.model.specs.declared.instructions.AccessSize.TheVariants.{Word};
 ghost use Rattle.model.specs.Machine.ProgramMemory.{IsNamed, loaded, place_at};
 ghost use Rattle.cnode_ops.specs.object_lifetimes.Kernels.{state_in};
@@ -19,8 +19,23 @@ pub(crate) struct Space<'a, S: WalkStore> {
 }
 
 impl<S: WalkStore> Space<'_, S> {
-    /// The place in memory that an address names for an access.
-    pub(crate) fn place(&self, address: u32, access: Access) -> Result<u32, MemoryFault>
+    /// The place in memory that an address names for an access, where the leaf of its page is kept and gives one. Else
+    /// there may be one or not.
+    pub(crate) fn kept_place(&self, address: u32, access: Access) -> Option<u32>
+        ensures { (place : ℕ) → result ≡ Some place
+            → Ok place ≡ place_at (content_under (state_in S.slots S.memory self.now.kernel.now) self.now.root) access address }
+    {
+        match self.root {
+            Some(root) => {
+                let kernel = self.kernel;
+                kernel.store.kept_place(root, address, access)
+            }
+            None => None,
+        }
+    }
+
+    /// The place in memory that an address names for an access, by a walk.
+    fn walked_place(&self, address: u32, access: Access) -> Result<u32, MemoryFault>
         ensures { result ≡ place_at (content_under (state_in S.slots S.memory self.now.kernel.now) self.now.root) access address }
     {
         let Some(root) = self.root else {
@@ -33,6 +48,16 @@ impl<S: WalkStore> Space<'_, S> {
         }
     }
 
+    /// The place in memory that an address names for an access.
+    pub(crate) fn place(&self, address: u32, access: Access) -> Result<u32, MemoryFault>
+        ensures { result ≡ place_at (content_under (state_in S.slots S.memory self.now.kernel.now) self.now.root) access address }
+    {
+        match self.kept_place(address, access) {
+            Some(place) => Ok(place),
+            None => self.walked_place(address, access),
+        }
+    }
+
     /// The byte in a place that some address names.
     pub(crate) fn byte(&self, place: u32) -> u8
         requires { IsNamed (content_under (state_in S.slots S.memory self.now.kernel.now) self.now.root) place }
@@ -42,15 +67,27 @@ impl<S: WalkStore> Space<'_, S> {
         kernel.store.mem().read8(place)
     }
 
+    /// The word at a multiple of 4, by a walk.
+    fn walked_word(&self, address: u32, access: Access) -> Result<u32, MemoryFault>
+        requires { address % 4 ≡ 0 }
+        ensures { result ≡ loaded (content_under (state_in S.slots S.memory self.now.kernel.now) self.now.root) access Word address }
+    {
+        let kernel = self.kernel;
+        match self.walked_place(address, access) {
+            Ok(place) => Ok(kernel.store.mem().read32(place)),
+            Err(fault) => Err(fault),
+        }
+    }
+
     /// The word at a multiple of 4, which lies in one page.
     pub(crate) fn aligned_word(&self, address: u32, access: Access) -> Result<u32, MemoryFault>
         requires { address % 4 ≡ 0 }
         ensures { result ≡ loaded (content_under (state_in S.slots S.memory self.now.kernel.now) self.now.root) access Word address }
     {
         let kernel = self.kernel;
-        match self.place(address, access) {
-            Ok(place) => Ok(kernel.store.mem().read32(place)),
-            Err(fault) => Err(fault),
+        match self.kept_place(address, access) {
+            Some(place) => Ok(kernel.store.mem().read32(place)),
+            None => self.walked_word(address, access),
         }
     }
 

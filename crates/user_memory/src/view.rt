@@ -1,6 +1,9 @@
 //! Memory as the instructions of a thread see it.
 
-ghost use Rattle.std.specs.Prelude.{◌≡◌};
+ghost use Rattle.std.specs.Prelude.{◌≡◌, ◌%◌, ◌<◌, ◌^◌, Ok};
+ghost use Rattle.model.specs.Machine.ProgramMemory.{place_at, stored};
+ghost use Rattle.model.specs.declared.instructions.Access.TheVariants.{Store};
+ghost use Rattle.model.specs.declared.instructions.AccessSize.TheVariants.{Word};
 ghost use Rattle.cnode_ops.specs.object_lifetimes.Kernels.{state_in};
 ghost use Rattle.user_memory.specs.Views.{Beside, IsUsable, beside_of, content_under};
 
@@ -9,6 +12,9 @@ use cnode_ops::Kernel;
 use model::{Access, AccessSize, MemoryFault};
 use packed_slots::WalkStore;
 use rv32_exec::View;
+
+/// No memory has more bytes.
+const MOST_MEMORY: u32 = 0x100_0000;
 
 /// Memory under a root table, or none, with the kernel that its bytes stand in.
 #[derive(Drop)]
@@ -28,6 +34,23 @@ impl<S: WalkStore> UserMemory<'_, S> {
             kernel: self.kernel,
             root: self.root,
         }
+    }
+
+    /// Puts the four bytes of a number at a multiple of 4 whose place is known.
+    fn put_word(&mut self, address: u32, place: u32, value: u32)
+        requires aligned { address % 4 ≡ 0 }
+        requires named { place_at (content_under (state_in S.slots S.memory self.old.kernel.now) self.old.root) Store address ≡ Ok place }
+        requires near { place < 2 ^ 24 }
+        ensures content { stored (content_under (state_in S.slots S.memory self.old.kernel.now) self.old.root) Word address value
+            ≡ Ok (content_under (state_in S.slots S.memory self.new.kernel.now) self.new.root) }
+        ensures rest { beside_of self.new.kernel.now.tables (S.slots self.new.kernel.now.store) (S.memory self.new.kernel.now.store) self.new.root self.new.kernel.ghost_name
+            ≡ beside_of self.old.kernel.now.tables (S.slots self.old.kernel.now.store) (S.memory self.old.kernel.now.store) self.old.root self.old.kernel.ghost_name }
+    {
+        let bytes = value.to_le_bytes();
+        self.set_byte(place, bytes[0]);
+        self.set_byte(place + 1, bytes[1]);
+        self.set_byte(place + 2, bytes[2]);
+        self.set_byte(place + 3, bytes[3]);
     }
 }
 
@@ -58,5 +81,20 @@ impl<S: WalkStore> View for UserMemory<'_, S> {
     fn set_byte(&mut self, place: u32, value: u8) {
         let kernel = &mut *self.kernel;
         kernel.store.write8(place, value);
+    }
+
+    fn store(&mut self, address: u32, size: AccessSize, value: u32) -> Result<(), MemoryFault> {
+        match size {
+            AccessSize::Word if address % 4 == 0 => {
+                match self.space().kept_place(address, Access::Store) {
+                    Some(place) if place < MOST_MEMORY => {
+                        self.put_word(address, place, value);
+                        Ok(())
+                    }
+                    _ => self.set_number(address, size, value),
+                }
+            }
+            _ => self.set_number(address, size, value),
+        }
     }
 }

@@ -1,6 +1,7 @@
 -- What the leaf of a page says of walks, and what leaves it as it is.
-use Rattle.std.proofs.Common.{ℕ, ◌≡◌, ◌∙◌, ◌+◌, ◌*◌, ◌/◌, ◌%◌, ◌^◌, ◌&&◌, true, false, nat_le, if◌then◌else◌, Option, Some, None, List, length, refl, sym, ap, arith}
-use Rattle.model.specs.Machine.Sv32.{◌>>=◌, entry_at, is_leaf, is_valid, leaf_place, page_address, place_of, walk}
+use Rattle.std.proofs.lemmas.Bool.Decides.{nat_tests}
+use Rattle.std.proofs.Common.{ℕ, ◌≡◌, ◌∙◌, ◌+◌, ◌-◌, ◌<◌, ◌≤◌, ◌==◌, nat_lt, ◌*◌, ◌/◌, ◌%◌, ◌^◌, ◌&&◌, true, false, nat_le, if◌then◌else◌, Option, Some, None, List, length, refl, sym, ap, arith}
+use Rattle.model.specs.Machine.Sv32.{◌>>=◌, entry_at, is_leaf, is_valid, leaf_place, page_address, permits, place_of, walk}
 use Rattle.model.specs.Shared.Bytes.{word_at}
 use Rattle.model.specs.declared.instructions.Access.{Access}
 use Rattle.model.proofs.BytesLemmas.{word_at-same}
@@ -65,6 +66,21 @@ walk_leaf memory root address leaf access is =
     let high : address / 2 ^ 22 ≡ address / 2 ^ 12 / 2 ^ 10 = omega arith in
     ap (λ n. entry_at memory root n >>= place_below memory number address access) high
     ∙ top-leaf memory number address access leaf (entry_at memory root (address / 2 ^ 12 / 2 ^ 10)) is
+
+-- ---- the place that an address has in the page that a leaf names
+
+pub near_leaf : (memory : List ℕ) (entry address place : ℕ) (access : Access) → entry < 2 ^ 32 → length memory ≤ 2 ^ 24 → permits entry access ≡ true
+    → place ≡ (entry + 3758096384) % 2 ^ 32 / 2 ^ 10 * 2 ^ 12 + address % 2 ^ 12 → place < length memory → leaf_place memory entry 12 address access ≡ Some place
+unfolding leaf_place
+near_leaf memory entry address place access fits few allowed is inside =
+    let small : (entry + 3758096384) % 2 ^ 32 < 2 ^ 22 = omega (arith, is, inside, few) in
+    let part : entry ≡ 2 ^ 29 + (entry + 3758096384) % 2 ^ 32 = omega (arith, small, fits) in
+    let physical : page_address entry + address % 2 ^ 12 ≡ 2 ^ 31 + place = omega (arith, part, is) in
+    let above : nat_le (2 ^ 31) (2 ^ 31 + place) ≡ true = grind (arith, nat_tests) in
+    let back : 2 ^ 31 + place - 2 ^ 31 ≡ place = omega arith in
+    let whole : (page_address entry % 2 ^ 12 == 0) ≡ true = grind (arith, nat_tests) in
+    let within : nat_lt place (length memory) ≡ true = grind (arith, nat_tests) in
+    rw (physical, above, back, allowed, whole, within) refl
 
 -- ---- the same entries have the same leaf
 

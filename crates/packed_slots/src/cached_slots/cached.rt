@@ -154,4 +154,9 @@ impl<S: RootStore> WalkStore for CachedSlots<S> {
     fn walk(&self, root: u32, address: u32, access: Access) -> Result<u32, PageFault> {
         self.cache.walk(self.store.mem(), root, address, access)
     }
+
+    fn kept_place(&self, root: u32, address: u32, access: Access) -> Option<u32> {
+        self.cache
+            .kept_place(self.store.mem(), root, address, access)
+    }
 }

@@ -62,6 +62,25 @@ fn place_in(memory: &Mem, leaf: Pte, address: u32, access: Access) -> Option<u32
     }
 }
 
+/// What leads from a leaf of the first page of memory to 0, with a wrap.
+const BEFORE_MEMORY: u32 = 0xE000_0000;
+
+/// Where a number in an entry stands: above ten bits.
+const PAGE_NUMBER: u32 = 0x400;
+
+/// The place that an address has in the page that a leaf names, if it is in memory and the leaf permits the access.
+fn near_place(memory: &Mem, leaf: u32, address: u32, access: Access) -> Option<u32>
+    ensures { (place : ℕ) → result ≡ Some place → leaf_place memory.now leaf 12 address access ≡ Some place }
+{
+    let number = leaf.wrapping_add(BEFORE_MEMORY) / PAGE_NUMBER;
+    let place = u64::from(number) * PAGE_SIZE + u64::from(address) % PAGE_SIZE;
+    if Pte(leaf).permits(access) && place < u64::from(memory.len()) {
+        Some(place as u32)
+    } else {
+        None
+    }
+}
+
 /// The leaf of the last level that the page of this number has under a root.
 #[tactic(auto, unfolding(crate::specs::cached_slots::KeptLeaves::leaf_of))]
 fn leaf_of(memory: &Mem, root: u32, page: u32) -> Option<Pte>
@@ -151,6 +170,17 @@ impl Tlb {
         match self.find(root, address >> PAGE_BITS) {
             Some(kept) => place_in(memory, Pte(kept.leaf), address, access).ok_or(PageFault),
             None => sv32::walk(memory, root, address, access),
+        }
+    }
+    /// The place that an address names for an access, where the leaf of its page is kept and gives one. Else there may be
+    /// one or not. Asks that what is kept stands in memory.
+    pub fn kept_place(&self, memory: &Mem, root: u32, address: u32, access: Access) -> Option<u32>
+        requires { AreAmong (leaf_of memory.now) self.now }
+        ensures { (place : ℕ) → result ≡ Some place → walk memory.now root address access ≡ Some place }
+    {
+        match self.find(root, address >> PAGE_BITS) {
+            Some(kept) => near_place(memory, kept.leaf, address, access),
+            None => None,
         }
     }
 }

@@ -1,6 +1,6 @@
 //! Stores that know a short way for walks.
 
-ghost use Rattle.std.specs.Prelude.{◌≡◌};
+ghost use Rattle.std.specs.Prelude.{ℕ, ◌≡◌, Some};
 ghost use Rattle.std.specs.Option.{ok_or};
 ghost use Rattle.packed_slots.specs.cached_slots.Mappings.{LeavesAgree};
 ghost use Rattle.model.specs.Machine.Sv32.{page_fault, walk};
@@ -21,4 +21,9 @@ pub trait WalkStore: RootStore {
     fn walk(&self, root: u32, address: u32, access: Access) -> Result<u32, PageFault>
         requires { LeavesAgree (Self.slots self.now) (Self.memory self.now) root }
         ensures { result ≡ ok_or (walk (Self.memory self.now) root address access) page_fault };
+
+    /// The same, where the store knows it without a walk. Where it does not, there may be such a byte or not.
+    fn kept_place(&self, root: u32, address: u32, access: Access) -> Option<u32>
+        requires { LeavesAgree (Self.slots self.now) (Self.memory self.now) root }
+        ensures { (place : ℕ) → result ≡ Some place → walk (Self.memory self.now) root address access ≡ Some place };
 }

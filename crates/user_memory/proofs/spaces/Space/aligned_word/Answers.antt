@@ -9,14 +9,14 @@ pub read32-requires : goal.read32-requires
 read32-requires g c =
     let space = c.args.self.now in
     let bytes = c.mem.ensures ∙ ap (λ k. g.S.SlotStore.memory k.store) c.kernel.view_is in
-    subst (λ (memory : List ℕ). c.in-Ok.place + 4 ≤ length memory) (sym bytes)
+    subst (λ (memory : List ℕ). c.in-Some.place + 4 ≤ length memory) (sym bytes)
     (word-inside (state_in g.S.SlotMap.slots g.S.SlotStore.memory space.kernel.now) (g.S.SlotStore.memory space.kernel.now.store)
-    space.root space.usable c.args.access c.args.address c.in-Ok.place c.requires (omega (arith, c.ranges.address.fits)) (sym c.place.ensures ∙ c.in-Ok.is))
+    space.root space.usable c.args.access c.args.address c.in-Some.place c.requires (omega (arith, c.ranges.address.fits)) (sym (c.kept_place.ensures c.in-Some.place c.in-Some.is)))
 
-pub returns-in-Ok : goal.returns-in-Ok
-returns-in-Ok g c =
+pub returns-in-Some : goal.returns-in-Some
+returns-in-Some g c =
     let space = c.args.self.now in
     let bytes = c.mem.ensures ∙ ap (λ k. g.S.SlotStore.memory k.store) c.kernel.view_is in
-    ap Ok (c.read32.ensures ∙ ap (λ (memory : List ℕ). word_at memory c.in-Ok.place) bytes)
+    ap Ok (c.read32.ensures ∙ ap (λ (memory : List ℕ). word_at memory c.in-Some.place) bytes)
     ∙ word-loaded space.kernel.now.tables (g.S.SlotMap.slots space.kernel.now.store) (g.S.SlotStore.memory space.kernel.now.store)
-    space.root c.args.access c.args.address c.in-Ok.place space.usable c.requires (omega (arith, c.ranges.address.fits)) (sym c.place.ensures ∙ c.in-Ok.is)
+    space.root c.args.access c.args.address c.in-Some.place space.usable c.requires (omega (arith, c.ranges.address.fits)) (sym (c.kept_place.ensures c.in-Some.place c.in-Some.is))

@@ -1,6 +1,5 @@
 -- A kernel has usable memory, and to keep a leaf changes nothing.
-use Rattle.std.proofs.Common.{ℕ, ◌∙◌, ap}
-use Rattle.model.specs.Kernel.AddressSpaces.{content_of}
+use Rattle.std.proofs.Common.{◌∙◌, ap}
 use Rattle.model.specs.Machine.ProgramMemory.{loaded}
 use Rattle.model.specs.declared.instructions.Access.TheVariants.{Fetch}
 use Rattle.model.specs.declared.instructions.AccessSize.TheVariants.{Word}
@@ -8,7 +7,7 @@ use Rattle.cnode_ops.specs.object_lifetimes.Kernels.{state_in}
 use Rattle.user_memory.proofs.Leaves.{kernel-leaves}
 use Rattle.user_memory.proofs.Running.{kept-parts, root-inside, usable-kept, usable-kernel}
 use Rattle.user_memory.specs.Views.{content_under}
-use Rattle.user_memory.proofs.execution.fetch.Goals as goal
+use Rattle.user_memory.proofs.execution.walked_word.Goals as goal
 
 pub keep_page-requires : goal.keep_page-requires
 keep_page-requires g c = λ table is.
@@ -30,17 +29,15 @@ returns-then-address-eq0-clause-value g c =
     let s = state_in g.S.SlotMap.slots g.S.SlotStore.memory c.args.kernel.now in
     let own = c.requires.root in
     c.aligned_word.ensures
-    ∙ ap (λ k. loaded (content_under (state_in g.S.SlotMap.slots g.S.SlotStore.memory k) c.args.root) Fetch Word c.pc-address.result)
+    ∙ ap (λ k. loaded (content_under (state_in g.S.SlotMap.slots g.S.SlotStore.memory k) c.args.root) Fetch Word c.args.address)
     (kept-parts c.keep_page.ensures c.kernel.view_is)
-    ∙ ap (λ root. loaded (content_under s root) Fetch Word c.pc-address.result) own
-    ∙ ap (λ (address : ℕ). loaded (content_of s c.args.thread) Fetch Word address) c.pc-address.ensures
+    ∙ ap (λ root. loaded (content_under s root) Fetch Word c.args.address) own
 
 pub returns-else-address-eq0-clause-value : goal.returns-else-address-eq0-clause-value
 returns-else-address-eq0-clause-value g c =
     let s = state_in g.S.SlotMap.slots g.S.SlotStore.memory c.args.kernel.now in
     let own = c.requires.root in
     c.word.ensures
-    ∙ ap (λ k. loaded (content_under (state_in g.S.SlotMap.slots g.S.SlotStore.memory k) c.args.root) Fetch Word c.pc-address.result)
+    ∙ ap (λ k. loaded (content_under (state_in g.S.SlotMap.slots g.S.SlotStore.memory k) c.args.root) Fetch Word c.args.address)
     (kept-parts c.keep_page.ensures c.kernel.view_is)
-    ∙ ap (λ root. loaded (content_under s root) Fetch Word c.pc-address.result) own
-    ∙ ap (λ (address : ℕ). loaded (content_of s c.args.thread) Fetch Word address) c.pc-address.ensures
+    ∙ ap (λ root. loaded (content_under s root) Fetch Word c.args.address) own

@@ -5,7 +5,7 @@ use Rattle.model.specs.Machine.Sv32.{page_fault, walk}
 use Rattle.cnode_ops.specs.object_lifetimes.Kernels.{state_in}
 use Rattle.user_memory.proofs.Leaves.{kernel-leaves}
 use Rattle.user_memory.proofs.Reading.{walk-err, walk-ok}
-use Rattle.user_memory.proofs.spaces.Space.place.Goals as goal
+use Rattle.user_memory.proofs.spaces.Space.walked_place.Goals as goal
 
 pub walk-requires : goal.walk-requires
 walk-requires g c =
