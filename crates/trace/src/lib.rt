@@ -4,4 +4,4 @@
 mod digits;
 mod lines;
 
-pub use lines::line;
+pub use lines::{line, plain_line};
