@@ -1,23 +1,50 @@
 //! The changes of a store, each of them made where the store allows it.
 
-ghost use Rattle.std.specs.Prelude.{ℕ, ◌≡◌, ◌+◌, ◌^◌, ◌<◌, ◌≤◌, Some, None, IsTrue, length};
+ghost use Rattle.std.specs.Prelude.{ℕ, ◌≡◌, ◌≢◌, ◌+◌, ◌^◌, ◌<◌, ◌≤◌, Some, None, IsTrue, length};
 ghost use Rattle.model.specs.Capabilities.Slots.{OutsideSlots, empty_entry};
+ghost use Rattle.slots.specs.Kin.{IsUnnamed, object_at};
 
 use capwords::is_capability;
 use derivation::{insert_child, relocate, remove_descendants, splice_out};
 use model::{Cap, KError, Slot};
-use slots::{SlotStore, is_free, is_taken};
+use slots::{SlotStore, is_free, is_taken, object_of};
+
+/// Whether no slot names the object at an offset. Each slot of memory is looked at.
+fn is_new<S: SlotStore>(store: &S, offset: u32) -> bool
+    ensures { IsTrue result → (y : ℕ) → object_at (S.slots store.now) y ≢ Some offset }
+{
+    let count = store.count();
+    'slots: for number in 0..count {
+        if object_of(store.capability(Slot::new(number))) == Some(offset) {
+            return false;
+        }
+    }
+    true
+}
+
+/// Whether no slot names what a capability names.
+fn is_unnamed<S: SlotStore>(store: &S, held: Cap) -> bool
+    ensures { IsTrue result → IsUnnamed (S.slots store.now) held }
+{
+    match object_of(held) {
+        Some(offset) => is_new(store, offset),
+        None => true,
+    }
+}
 
 /// Puts a capability that derives from nothing into an empty slot.
 pub(crate) fn put<S: SlotStore>(store: &mut S, at: Slot, held: Cap) -> bool {
     if !is_free(store, at) || !is_capability(held) || matches!(held, Cap::Empty) {
         return false;
     }
+    if !is_unnamed(store, held) {
+        return false;
+    }
     store.insert(at, held, None);
     true
 }
 
-/// Puts a capability into an empty slot, derived from what a full one holds.
+/// Puts a capability into an empty slot, derived from what a full one holds, where both name the same object or none.
 pub(crate) fn put_child<S: SlotStore>(
     store: &mut S,
     at: Slot,
@@ -28,6 +55,7 @@ pub(crate) fn put_child<S: SlotStore>(
         || !is_taken(store, parent)
         || !is_capability(held)
         || matches!(held, Cap::Empty)
+        || object_of(held) != object_of(store.capability(parent))
     {
         return Ok(0);
     }
@@ -53,9 +81,12 @@ pub(crate) fn move_to<S: SlotStore>(store: &mut S, from: Slot, to: Slot) -> bool
     true
 }
 
-/// Puts another capability into a full slot.
+/// Puts another capability into a full slot, to the same object.
 pub(crate) fn recap<S: SlotStore>(store: &mut S, at: Slot, held: Cap) -> bool {
     if !is_taken(store, at) || !is_capability(held) || matches!(held, Cap::Empty) {
+        return false;
+    }
+    if object_of(held) != object_of(store.capability(at)) {
         return false;
     }
     store.set_cap(at, held);
