@@ -89,7 +89,7 @@ pub(crate) fn line_of_copies<S: SlotStore>(
 const FRONT: &str = "open 400 200 = 1
 put 400 = cnode 4000 9 17
 put 401 = endpoint 20 b 0
-put 402 = endpoint 20 b 5
+put 402 = endpoint 40 b 5
 put 403 = notification 30 3 0
 put 404 = frame 7000 3 0 9000 401 3
 put 405 = untyped 8000 c 40
@@ -177,10 +177,10 @@ parent 414 = 404
 held 404 = frame 7000 3 0 9000 401 3
 parent 404 = none
 copy 15 20 2 20 6 0 = 1
-held 415 = endpoint 20 2 5
+held 415 = endpoint 40 2 5
 parent 415 = 402
 copy 16 20 15 20 f 0 = 1
-held 416 = endpoint 20 2 5
+held 416 = endpoint 40 2 5
 parent 416 = 415
 mint 17 20 8 20 0 ffffffff = 1
 held 417 = root 9000
