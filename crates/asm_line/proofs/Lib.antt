@@ -4,4 +4,5 @@ mod ListedTexts
 mod NumberLaws
 mod PlainWords
 mod Splitting
+mod MeantLines
 pub mod Laws

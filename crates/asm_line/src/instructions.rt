@@ -1,6 +1,8 @@
 //! Instructions: their operands in the manual's order, and loads, stores and `jalr` as `lw x1 4(x2)`.
 
-ghost use Rattle.std.specs.Prelude.{◌<◌, ◌≤ℤ◌, IfOk, pos, negsuc};
+ghost use Rattle.std.specs.Prelude.{◌≡◌, ◌==◌, ◌<◌, ◌≤ℤ◌, IfOk, Ok, Some, pos, negsuc, option_map, position, drop};
+ghost use Rattle.asm_line.specs.Instructions.{address_first, address_of, address_in_parts, bare_line, bare_of, branch_line, coded, immediate_line, immediate_of, instruction_of, jump_line, jump_register_line, load_line, opened, unclosed, register_and_address, register_operand, registers_and_number_of, registers_line, shift_line, spelling, store_line, upper_line};
+ghost use Rattle.model.specs.Machine.Instructions.{IsInstr};
 
 use crate::faults::{RANGE, SYNTAX};
 use crate::keywords::is;
@@ -15,56 +17,112 @@ use rv32_isa::{
     BranchOp, ImmediateOp, Instr, LoadOp, Register, RegisterOp, ShiftOp, StoreOp, UpperOp, encode,
 };
 
-/// A signed number from `low` to `high`.
-fn signed_between(number: i64, low: i32, high: i32) -> Result<i32, u8>
-    ensures { IfOk result (λ n. (low ≤ℤ n) × (n ≤ℤ high)) }
+/// A 12-bit immediate.
+#[tactic(auto, unfolding(crate::specs::Instructions::immediate_of))]
+fn immediate_in(number: i64) -> Result<i32, u8>
+    ensures value { result ≡ immediate_of number }
+    ensures range { IfOk result (λ n. (negsuc 2047 ≤ℤ n) × (n ≤ℤ pos 2047)) }
 {
-    if low as i64 <= number && number <= high as i64 {
+    if -2048 <= number && number <= 2047 {
         Ok(number as i32)
     } else {
         Err(RANGE)
     }
 }
 
-/// A 12-bit immediate.
-fn immediate_in(number: i64) -> Result<i32, u8>
-    ensures { IfOk result (λ n. (negsuc 2047 ≤ℤ n) × (n ≤ℤ pos 2047)) }
-{
-    signed_between(number, -2048, 2047)
-}
-
 /// A register, and the words behind it.
 fn register(words: Words<'_>) -> Result<(Register, Words<'_>), u8>
-    ensures { IfOk result (λ x. x.0.0 < 32) }
+    ensures value { result ≡ register_operand words.entry }
+    ensures small { IfOk result (λ x. x.0.0 < 32) }
 {
     let (number, words) = words.register()?;
     Ok((Register(number), words))
 }
 
-/// An offset and a register, as `4(x2)`, and the words behind them.
-fn address(words: Words<'_>) -> Result<(i64, Register, Words<'_>), u8>
-    ensures { IfOk result (λ x. x.1.0 < 32) }
+/// What stands before the parenthesis with which a word ends.
+fn unclosed(word: &[u8]) -> Option<&[u8]>
+    ensures { option_map (λ text. text.now) result ≡ unclosed word.now }
 {
-    let Some((word, words)) = words.first() else {
-        return Err(SYNTAX);
-    };
-    let [front @ .., b')'] = word else {
-        return Err(SYNTAX);
-    };
-    let Some(open) = front.iter().position(|byte| *byte == b'(') else {
-        return Err(SYNTAX);
-    };
-    let (offset, base) = front.split_at(open);
-    let [_, base @ ..] = base else {
-        return Err(SYNTAX);
-    };
+    match word {
+        [front @ .., b')'] => Some(front),
+        _ => None,
+    }
+}
+
+/// Where the first parenthesis stands.
+fn opening(text: &[u8]) -> Option<usize>
+    ensures { result ≡ position (λ byte. byte == 40) text.now }
+{
+    text.iter().position(|byte| *byte == b'(')
+}
+
+/// What stands behind the first byte.
+fn behind_first(text: &[u8]) -> &[u8]
+    ensures { result.now ≡ drop 1 text.now }
+{
+    match text {
+        [_, rest @ ..] => rest,
+        [] => text,
+    }
+}
+
+/// What stands before the first parenthesis and behind it.
+fn opened(text: &[u8]) -> Option<(&[u8], &[u8])>
+    ensures { option_map (λ parts. (parts.0.now, parts.1.now)) result ≡ opened text.now }
+{
+    match opening(text) {
+        Some(at) => {
+            let (front, rest) = text.split_at(at);
+            Some((front, behind_first(rest)))
+        }
+        None => None,
+    }
+}
+
+/// An offset and a register, as `4` and `x2`.
+fn address_parts(offset: &[u8], base: &[u8]) -> Result<(i64, Register), u8>
+    ensures value { result ≡ address_in_parts (Some (offset.now, base.now)) }
+    ensures small { IfOk result (λ x. x.1.0 < 32) }
+{
     let number = register_in(base)?;
-    Ok((number_in(offset)?, Register(number), words))
+    Ok((number_in(offset)?, Register(number)))
+}
+
+/// An offset and a register, as `4(x2)`.
+#[tactic(auto, unfolding(crate::specs::Instructions::address_of))]
+fn address_in(word: &[u8]) -> Result<(i64, Register), u8>
+    ensures value { result ≡ address_of word.now }
+    ensures small { IfOk result (λ x. x.1.0 < 32) }
+{
+    match unclosed(word) {
+        Some(front) => match opened(front) {
+            Some((offset, base)) => address_parts(offset, base),
+            None => Err(SYNTAX),
+        },
+        None => Err(SYNTAX),
+    }
+}
+
+/// An offset and a register, and the words behind them.
+#[tactic(auto, unfolding(crate::specs::Instructions::address_first))]
+fn address(words: Words<'_>) -> Result<(i64, Register, Words<'_>), u8>
+    ensures value { result ≡ address_first words.entry }
+    ensures small { IfOk result (λ x. x.1.0 < 32) }
+{
+    match words.first() {
+        Some((word, words)) => {
+            let (offset, base) = address_in(word)?;
+            Ok((offset, base, words))
+        }
+        None => Err(SYNTAX),
+    }
 }
 
 /// A register and a signed 12-bit offset from another one, as `x1 4(x2)`, and no more.
+#[tactic(auto, unfolding(crate::specs::Instructions::register_and_address))]
 fn register_and_place(words: Words<'_>) -> Result<(Register, Register, i32), u8>
-    ensures { IfOk result (λ x. (x.0.0 < 32) × (x.1.0 < 32) × (negsuc 2047 ≤ℤ x.2) × (x.2 ≤ℤ pos 2047)) }
+    ensures value { result ≡ register_and_address words.entry }
+    ensures ranges { IfOk result (λ x. (x.0.0 < 32) × (x.1.0 < 32) × (negsuc 2047 ≤ℤ x.2) × (x.2 ≤ℤ pos 2047)) }
 {
     let (first, words) = register(words)?;
     let (offset, base, words) = address(words)?;
@@ -73,24 +131,41 @@ fn register_and_place(words: Words<'_>) -> Result<(Register, Register, i32), u8>
 }
 
 /// Two registers and a number, as `x1 x2 4`, and no more.
+#[tactic(auto, unfolding(crate::specs::Instructions::registers_and_number_of))]
 fn registers_and_number(words: Words<'_>) -> Result<(Register, Register, i64), u8>
-    ensures { IfOk result (λ x. (x.0.0 < 32) × (x.1.0 < 32)) }
+    ensures value { result ≡ registers_and_number_of words.entry }
+    ensures small { IfOk result (λ x. (x.0.0 < 32) × (x.1.0 < 32)) }
 {
     let (first, words) = register(words)?;
     let (second, words) = register(words)?;
     Ok((first, second, words.last_number()?))
 }
 
+/// The word of an instruction.
+#[tactic(auto, unfolding(crate::specs::Instructions::spelling))]
+fn spelled(instr: Instr) -> u32
+    requires { IsInstr instr }
+    ensures { result ≡ spelling instr }
+{
+    encode(instr)
+}
+
 /// The operands `rd number`.
-fn upper<'a>(op: UpperOp, words: Words<'a>) -> Result<Code<'a>, u8> {
+#[tactic(auto, unfolding(crate::specs::Instructions::upper_line))]
+fn upper<'a>(op: UpperOp, words: Words<'a>) -> Result<Code<'a>, u8>
+    ensures { result ≡ upper_line op words.entry }
+{
     let (rd, words) = register(words)?;
     let number = words.last_number()?;
     let immediate = between(number, 0, (1 << 20) - 1)?;
-    Ok(Code::Word(encode(Instr::Upper { op, rd, immediate })))
+    Ok(Code::Word(spelled(Instr::Upper { op, rd, immediate })))
 }
 
 /// The operands `rd label`.
-fn jump<'a>(words: Words<'a>) -> Result<Code<'a>, u8> {
+#[tactic(auto, unfolding(crate::specs::Instructions::jump_line))]
+fn jump<'a>(words: Words<'a>) -> Result<Code<'a>, u8>
+    ensures { result ≡ jump_line words.entry }
+{
     let (rd, words) = register(words)?;
     let (target, words) = words.name()?;
     words.end()?;
@@ -98,13 +173,19 @@ fn jump<'a>(words: Words<'a>) -> Result<Code<'a>, u8> {
 }
 
 /// The operands `rd offset(rs1)` of `jalr`.
-fn jump_register<'a>(words: Words<'a>) -> Result<Code<'a>, u8> {
+#[tactic(auto, unfolding(crate::specs::Instructions::jump_register_line))]
+fn jump_register<'a>(words: Words<'a>) -> Result<Code<'a>, u8>
+    ensures { result ≡ jump_register_line words.entry }
+{
     let (rd, rs1, offset) = register_and_place(words)?;
-    Ok(Code::Word(encode(Instr::Jalr { rd, rs1, offset })))
+    Ok(Code::Word(spelled(Instr::Jalr { rd, rs1, offset })))
 }
 
 /// The operands `rs1 rs2 label`.
-fn branch<'a>(op: BranchOp, words: Words<'a>) -> Result<Code<'a>, u8> {
+#[tactic(auto, unfolding(crate::specs::Instructions::branch_line))]
+fn branch<'a>(op: BranchOp, words: Words<'a>) -> Result<Code<'a>, u8>
+    ensures { result ≡ branch_line op words.entry }
+{
     let (rs1, words) = register(words)?;
     let (rs2, words) = register(words)?;
     let (target, words) = words.name()?;
@@ -118,9 +199,12 @@ fn branch<'a>(op: BranchOp, words: Words<'a>) -> Result<Code<'a>, u8> {
 }
 
 /// The operands `rd offset(rs1)` of a load.
-fn load<'a>(op: LoadOp, words: Words<'a>) -> Result<Code<'a>, u8> {
+#[tactic(auto, unfolding(crate::specs::Instructions::load_line))]
+fn load<'a>(op: LoadOp, words: Words<'a>) -> Result<Code<'a>, u8>
+    ensures { result ≡ load_line op words.entry }
+{
     let (rd, rs1, offset) = register_and_place(words)?;
-    Ok(Code::Word(encode(Instr::Load {
+    Ok(Code::Word(spelled(Instr::Load {
         op,
         rd,
         rs1,
@@ -129,9 +213,12 @@ fn load<'a>(op: LoadOp, words: Words<'a>) -> Result<Code<'a>, u8> {
 }
 
 /// The operands `rs2 offset(rs1)`.
-fn store<'a>(op: StoreOp, words: Words<'a>) -> Result<Code<'a>, u8> {
+#[tactic(auto, unfolding(crate::specs::Instructions::store_line))]
+fn store<'a>(op: StoreOp, words: Words<'a>) -> Result<Code<'a>, u8>
+    ensures { result ≡ store_line op words.entry }
+{
     let (rs2, rs1, offset) = register_and_place(words)?;
-    Ok(Code::Word(encode(Instr::Store {
+    Ok(Code::Word(spelled(Instr::Store {
         op,
         rs1,
         rs2,
@@ -140,10 +227,13 @@ fn store<'a>(op: StoreOp, words: Words<'a>) -> Result<Code<'a>, u8> {
 }
 
 /// The operands `rd rs1 number`.
-fn immediate<'a>(op: ImmediateOp, words: Words<'a>) -> Result<Code<'a>, u8> {
+#[tactic(auto, unfolding(crate::specs::Instructions::immediate_line))]
+fn immediate<'a>(op: ImmediateOp, words: Words<'a>) -> Result<Code<'a>, u8>
+    ensures { result ≡ immediate_line op words.entry }
+{
     let (rd, rs1, number) = registers_and_number(words)?;
     let immediate = immediate_in(number)?;
-    Ok(Code::Word(encode(Instr::Immediate {
+    Ok(Code::Word(spelled(Instr::Immediate {
         op,
         rd,
         rs1,
@@ -152,10 +242,13 @@ fn immediate<'a>(op: ImmediateOp, words: Words<'a>) -> Result<Code<'a>, u8> {
 }
 
 /// The operands `rd rs1 amount`.
-fn shift<'a>(op: ShiftOp, words: Words<'a>) -> Result<Code<'a>, u8> {
+#[tactic(auto, unfolding(crate::specs::Instructions::shift_line))]
+fn shift<'a>(op: ShiftOp, words: Words<'a>) -> Result<Code<'a>, u8>
+    ensures { result ≡ shift_line op words.entry }
+{
     let (rd, rs1, number) = registers_and_number(words)?;
     let amount = between(number, 0, 31)? as u8;
-    Ok(Code::Word(encode(Instr::Shift {
+    Ok(Code::Word(spelled(Instr::Shift {
         op,
         rd,
         rs1,
@@ -164,31 +257,48 @@ fn shift<'a>(op: ShiftOp, words: Words<'a>) -> Result<Code<'a>, u8> {
 }
 
 /// The operands `rd rs1 rs2`.
-fn registers<'a>(op: RegisterOp, words: Words<'a>) -> Result<Code<'a>, u8> {
+#[tactic(auto, unfolding(crate::specs::Instructions::registers_line))]
+fn registers<'a>(op: RegisterOp, words: Words<'a>) -> Result<Code<'a>, u8>
+    ensures { result ≡ registers_line op words.entry }
+{
     let (rd, words) = register(words)?;
     let (rs1, words) = register(words)?;
     let (rs2, words) = register(words)?;
     words.end()?;
-    Ok(Code::Word(encode(Instr::Registers { op, rd, rs1, rs2 })))
+    Ok(Code::Word(spelled(Instr::Registers { op, rd, rs1, rs2 })))
 }
 
 /// An instruction without operands.
-fn bare<'a>(word: &[u8], words: Words<'a>) -> Result<Code<'a>, u8> {
-    let instr = if is(word, "fence") {
-        Instr::Fence
-    } else if is(word, "ecall") {
-        Instr::Ecall
-    } else if is(word, "ebreak") {
-        Instr::Ebreak
-    } else {
-        return Err(SYNTAX);
-    };
+#[tactic(auto, unfolding(crate::specs::Instructions::bare_line))]
+fn alone<'a>(instr: Instr, words: Words<'a>) -> Result<Code<'a>, u8>
+    requires { IsInstr instr }
+    ensures { result ≡ bare_line instr words.entry }
+{
     words.end()?;
-    Ok(Code::Word(encode(instr)))
+    Ok(Code::Word(spelled(instr)))
+}
+
+/// The instruction without operands that has this name.
+#[tactic(auto, unfolding(crate::specs::Instructions::bare_of))]
+fn bare<'a>(word: &[u8], words: Words<'a>) -> Result<Code<'a>, u8>
+    ensures { result ≡ bare_of word.now words.entry }
+{
+    if is(word, "fence") {
+        alone(Instr::Fence, words)
+    } else if is(word, "ecall") {
+        alone(Instr::Ecall, words)
+    } else if is(word, "ebreak") {
+        alone(Instr::Ebreak, words)
+    } else {
+        Err(SYNTAX)
+    }
 }
 
 /// The instruction that begins with this word.
-pub(crate) fn instruction<'a>(word: &[u8], words: Words<'a>) -> Result<Code<'a>, u8> {
+#[tactic(auto, unfolding(crate::specs::Instructions::instruction_of))]
+pub(crate) fn instruction<'a>(word: &[u8], words: Words<'a>) -> Result<Code<'a>, u8>
+    ensures { result ≡ instruction_of word.now words.entry }
+{
     if let Some(op) = immediate_op(word) {
         immediate(op, words)
     } else if let Some(op) = register_op(word) {

@@ -1,80 +1,140 @@
 //! The names of instructions (RISC-V Unprivileged ISA, RV32I), by their formats.
 
+ghost use Rattle.std.specs.Prelude.{◌≡◌};
+ghost use Rattle.asm_line.specs.Instructions.{branch_op_of, immediate_op_of, load_op_of, register_op_of, shift_op_of, store_op_of, upper_op_of};
+
+use crate::keywords::is;
 use rv32_isa::{BranchOp, ImmediateOp, LoadOp, RegisterOp, ShiftOp, StoreOp, UpperOp};
 
-pub(crate) fn upper_op(word: &[u8]) -> Option<UpperOp> {
-    match word {
-        b"lui" => Some(UpperOp::Lui),
-        b"auipc" => Some(UpperOp::Auipc),
-        _ => None,
+#[tactic(auto, unfolding(crate::specs::Instructions::upper_op_of))]
+pub(crate) fn upper_op(word: &[u8]) -> Option<UpperOp>
+    ensures { result ≡ upper_op_of word.now }
+{
+    if is(word, "lui") {
+        Some(UpperOp::Lui)
+    } else if is(word, "auipc") {
+        Some(UpperOp::Auipc)
+    } else {
+        None
     }
 }
 
-pub(crate) fn branch_op(word: &[u8]) -> Option<BranchOp> {
-    match word {
-        b"beq" => Some(BranchOp::Beq),
-        b"bne" => Some(BranchOp::Bne),
-        b"blt" => Some(BranchOp::Blt),
-        b"bge" => Some(BranchOp::Bge),
-        b"bltu" => Some(BranchOp::Bltu),
-        b"bgeu" => Some(BranchOp::Bgeu),
-        _ => None,
+#[tactic(auto, unfolding(crate::specs::Instructions::branch_op_of))]
+pub(crate) fn branch_op(word: &[u8]) -> Option<BranchOp>
+    ensures { result ≡ branch_op_of word.now }
+{
+    if is(word, "beq") {
+        Some(BranchOp::Beq)
+    } else if is(word, "bne") {
+        Some(BranchOp::Bne)
+    } else if is(word, "blt") {
+        Some(BranchOp::Blt)
+    } else if is(word, "bge") {
+        Some(BranchOp::Bge)
+    } else if is(word, "bltu") {
+        Some(BranchOp::Bltu)
+    } else if is(word, "bgeu") {
+        Some(BranchOp::Bgeu)
+    } else {
+        None
     }
 }
 
-pub(crate) fn load_op(word: &[u8]) -> Option<LoadOp> {
-    match word {
-        b"lb" => Some(LoadOp::Lb),
-        b"lh" => Some(LoadOp::Lh),
-        b"lw" => Some(LoadOp::Lw),
-        b"lbu" => Some(LoadOp::Lbu),
-        b"lhu" => Some(LoadOp::Lhu),
-        _ => None,
+#[tactic(auto, unfolding(crate::specs::Instructions::load_op_of))]
+pub(crate) fn load_op(word: &[u8]) -> Option<LoadOp>
+    ensures { result ≡ load_op_of word.now }
+{
+    if is(word, "lb") {
+        Some(LoadOp::Lb)
+    } else if is(word, "lh") {
+        Some(LoadOp::Lh)
+    } else if is(word, "lw") {
+        Some(LoadOp::Lw)
+    } else if is(word, "lbu") {
+        Some(LoadOp::Lbu)
+    } else if is(word, "lhu") {
+        Some(LoadOp::Lhu)
+    } else {
+        None
     }
 }
 
-pub(crate) fn store_op(word: &[u8]) -> Option<StoreOp> {
-    match word {
-        b"sb" => Some(StoreOp::Sb),
-        b"sh" => Some(StoreOp::Sh),
-        b"sw" => Some(StoreOp::Sw),
-        _ => None,
+#[tactic(auto, unfolding(crate::specs::Instructions::store_op_of))]
+pub(crate) fn store_op(word: &[u8]) -> Option<StoreOp>
+    ensures { result ≡ store_op_of word.now }
+{
+    if is(word, "sb") {
+        Some(StoreOp::Sb)
+    } else if is(word, "sh") {
+        Some(StoreOp::Sh)
+    } else if is(word, "sw") {
+        Some(StoreOp::Sw)
+    } else {
+        None
     }
 }
 
-pub(crate) fn immediate_op(word: &[u8]) -> Option<ImmediateOp> {
-    match word {
-        b"addi" => Some(ImmediateOp::Addi),
-        b"slti" => Some(ImmediateOp::Slti),
-        b"sltiu" => Some(ImmediateOp::Sltiu),
-        b"xori" => Some(ImmediateOp::Xori),
-        b"ori" => Some(ImmediateOp::Ori),
-        b"andi" => Some(ImmediateOp::Andi),
-        _ => None,
+#[tactic(auto, unfolding(crate::specs::Instructions::immediate_op_of))]
+pub(crate) fn immediate_op(word: &[u8]) -> Option<ImmediateOp>
+    ensures { result ≡ immediate_op_of word.now }
+{
+    if is(word, "addi") {
+        Some(ImmediateOp::Addi)
+    } else if is(word, "slti") {
+        Some(ImmediateOp::Slti)
+    } else if is(word, "sltiu") {
+        Some(ImmediateOp::Sltiu)
+    } else if is(word, "xori") {
+        Some(ImmediateOp::Xori)
+    } else if is(word, "ori") {
+        Some(ImmediateOp::Ori)
+    } else if is(word, "andi") {
+        Some(ImmediateOp::Andi)
+    } else {
+        None
     }
 }
 
-pub(crate) fn shift_op(word: &[u8]) -> Option<ShiftOp> {
-    match word {
-        b"slli" => Some(ShiftOp::Slli),
-        b"srli" => Some(ShiftOp::Srli),
-        b"srai" => Some(ShiftOp::Srai),
-        _ => None,
+#[tactic(auto, unfolding(crate::specs::Instructions::shift_op_of))]
+pub(crate) fn shift_op(word: &[u8]) -> Option<ShiftOp>
+    ensures { result ≡ shift_op_of word.now }
+{
+    if is(word, "slli") {
+        Some(ShiftOp::Slli)
+    } else if is(word, "srli") {
+        Some(ShiftOp::Srli)
+    } else if is(word, "srai") {
+        Some(ShiftOp::Srai)
+    } else {
+        None
     }
 }
 
-pub(crate) fn register_op(word: &[u8]) -> Option<RegisterOp> {
-    match word {
-        b"add" => Some(RegisterOp::Add),
-        b"sub" => Some(RegisterOp::Sub),
-        b"sll" => Some(RegisterOp::Sll),
-        b"slt" => Some(RegisterOp::Slt),
-        b"sltu" => Some(RegisterOp::Sltu),
-        b"xor" => Some(RegisterOp::Xor),
-        b"srl" => Some(RegisterOp::Srl),
-        b"sra" => Some(RegisterOp::Sra),
-        b"or" => Some(RegisterOp::Or),
-        b"and" => Some(RegisterOp::And),
-        _ => None,
+#[tactic(auto, unfolding(crate::specs::Instructions::register_op_of))]
+pub(crate) fn register_op(word: &[u8]) -> Option<RegisterOp>
+    ensures { result ≡ register_op_of word.now }
+{
+    if is(word, "add") {
+        Some(RegisterOp::Add)
+    } else if is(word, "sub") {
+        Some(RegisterOp::Sub)
+    } else if is(word, "sll") {
+        Some(RegisterOp::Sll)
+    } else if is(word, "slt") {
+        Some(RegisterOp::Slt)
+    } else if is(word, "sltu") {
+        Some(RegisterOp::Sltu)
+    } else if is(word, "xor") {
+        Some(RegisterOp::Xor)
+    } else if is(word, "srl") {
+        Some(RegisterOp::Srl)
+    } else if is(word, "sra") {
+        Some(RegisterOp::Sra)
+    } else if is(word, "or") {
+        Some(RegisterOp::Or)
+    } else if is(word, "and") {
+        Some(RegisterOp::And)
+    } else {
+        None
     }
 }

@@ -1,13 +1,14 @@
 //! Whole lines.
 
-ghost use Rattle.std.specs.Prelude.{◌≡◌, ◌⊎◌, ◌==◌, ◌∷◌, IfErr, Ok, Some, None, nat_lt, option_map, position};
+ghost use Rattle.std.specs.Prelude.{◌≡◌, ◌==◌, ◌∷◌, Ok, nat_lt, option_map, position};
 ghost use Rattle.std.specs.List.{list_all};
+ghost use Rattle.asm_line.specs.Words.{words_of};
 ghost use Rattle.asm_line.specs.Listed.{Lists};
 ghost use Rattle.asm_line.specs.declared.lines.Line.{Line};
-ghost use Rattle.asm_line.specs.Words.{words_of};
-ghost use Rattle.asm_line.specs.Parsing.{IsKnown, before_comment, label_declared, label_line, label_of, line_for, line_of, plain_word_of};
+ghost use Rattle.asm_line.specs.Meaning.{code_of, labelled_line, line_said, line_with, other_line_of, said_by};
+ghost use Rattle.asm_line.specs.Parsing.{before_comment, label_declared, label_of, plain_word_of};
 
-use crate::faults::{RANGE, SYNTAX};
+use crate::faults::SYNTAX;
 use crate::instructions::instruction;
 use crate::keywords::{Keyword, is, keyword_in};
 use crate::lines::{Code, Line};
@@ -35,9 +36,9 @@ fn plain_word(words: Words<'_>) -> Result<Code<'_>, u8>
 }
 
 /// What a line says that begins with a keyword.
-#[tactic(auto, unfolding(crate::specs::Parsing::line_for))]
+#[tactic(auto, unfolding(crate::specs::Parsing::line_for, crate::specs::Meaning::line_with))]
 fn declared(keyword: Keyword, words: Words<'_>) -> Result<Line<'_>, u8>
-    ensures { (line : Line) → IsKnown line → line_for keyword words.entry ≡ Ok line → result ≡ Ok line }
+    ensures { result ≡ line_with keyword words.entry }
 {
     match keyword {
         Keyword::Memory => sections::memory(words),
@@ -65,7 +66,10 @@ fn declared(keyword: Keyword, words: Words<'_>) -> Result<Line<'_>, u8>
 }
 
 /// What makes a word of a program.
-fn code<'a>(word: &[u8], words: Words<'a>) -> Result<Code<'a>, u8> {
+#[tactic(auto, unfolding(crate::specs::Meaning::code_of))]
+fn code<'a>(word: &[u8], words: Words<'a>) -> Result<Code<'a>, u8>
+    ensures { result ≡ code_of word.now words.entry }
+{
     if is(word, "word") {
         plain_word(words)
     } else {
@@ -75,7 +79,7 @@ fn code<'a>(word: &[u8], words: Words<'a>) -> Result<Code<'a>, u8> {
 
 /// What a line says that begins with a label, with what stands behind it.
 fn labelled<'a>(name: &'a [u8], words: Words<'a>) -> Result<Line<'a>, u8>
-    ensures { (line : Line) → label_line (Some name.now) words.entry ≡ Some (Ok line) → result ≡ Ok line }
+    ensures { result ≡ labelled_line name.now words.entry }
 {
     let label = name_in(name)?;
     match words.first() {
@@ -88,8 +92,9 @@ fn labelled<'a>(name: &'a [u8], words: Words<'a>) -> Result<Line<'a>, u8>
 }
 
 /// What a line says that begins with no keyword: a label, or an instruction.
+#[tactic(auto, unfolding(crate::specs::Meaning::other_line_of))]
 fn other_line<'a>(word: &'a [u8], words: Words<'a>) -> Result<Line<'a>, u8>
-    ensures { (line : Line) → label_line (label_of word.now) words.entry ≡ Some (Ok line) → result ≡ Ok line }
+    ensures { result ≡ other_line_of word.now words.entry }
 {
     match label_in(word) {
         Some(name) => labelled(name, words),
@@ -101,9 +106,9 @@ fn other_line<'a>(word: &'a [u8], words: Words<'a>) -> Result<Line<'a>, u8>
 }
 
 /// What a line says that begins with this word.
-#[tactic(auto, unfolding(crate::specs::Parsing::line_of))]
+#[tactic(auto, unfolding(crate::specs::Meaning::said_by))]
 fn line_from<'a>(word: &'a [u8], words: Words<'a>) -> Result<Line<'a>, u8>
-    ensures { (line : Line) → IsKnown line → line_of (word.now ∷ words.entry) ≡ Some (Ok line) → result ≡ Ok line }
+    ensures { result ≡ said_by (word.now ∷ words.entry) }
 {
     match keyword_in(word) {
         Some(keyword) => declared(keyword, words),
@@ -112,9 +117,9 @@ fn line_from<'a>(word: &'a [u8], words: Words<'a>) -> Result<Line<'a>, u8>
 }
 
 /// What the words of a line say.
-#[tactic(auto, unfolding(crate::specs::Parsing::line_of))]
+#[tactic(auto, unfolding(crate::specs::Meaning::said_by))]
 fn line_in(words: Words<'_>) -> Result<Line<'_>, u8>
-    ensures { (line : Line) → IsKnown line → line_of words.entry ≡ Some (Ok line) → result ≡ Ok line }
+    ensures { result ≡ said_by words.entry }
 {
     match words.first() {
         Some((word, words)) => line_from(word, words),
@@ -146,6 +151,18 @@ fn without_comment(text: &[u8]) -> &[u8]
     }
 }
 
+/// What a text says, with a comment behind its words or none.
+#[tactic(auto, unfolding(crate::specs::Meaning::line_said))]
+fn meant(text: &[u8]) -> Result<Line<'_>, u8>
+    ensures { result ≡ line_said text.now }
+{
+    if is_ascii(text) {
+        line_in(Words::of(without_comment(text)))
+    } else {
+        Err(SYNTAX)
+    }
+}
+
 /// What one line of an image's text says: the text without the end of its line.
 ///
 /// # Errors
@@ -153,32 +170,10 @@ fn without_comment(text: &[u8]) -> &[u8]
 /// `SYNTAX` if the line is none of the text form, and else `RANGE` if a number of it is out of the
 /// range that the line by itself can tell.
 pub fn parse_line(text: &str) -> Result<Line<'_>, u8>
+    ensures said { result ≡ line_said text.now }
     ensures listed { (line : Line) → Lists line text.now → result ≡ Ok line }
-    ensures kind { IfErr result (λ kind. (kind ≡ 1) ⊎ (kind ≡ 4)) }
 {
-    let bytes = text.as_bytes();
-    if !is_ascii(bytes) {
-        return Err(SYNTAX);
-    }
-    told(line_in(Words::of(without_comment(bytes))))
-}
-
-/// The line, or its fault as one of the two.
-fn told(read: Result<Line<'_>, u8>) -> Result<Line<'_>, u8>
-    ensures line { (line : Line) → read.entry ≡ Ok line → result ≡ Ok line }
-    ensures kind { IfErr result (λ kind. (kind ≡ 1) ⊎ (kind ≡ 4)) }
-{
-    match read {
-        Ok(line) => Ok(line),
-        Err(kind) => Err(fault_in(kind)),
-    }
-}
-
-/// The kind of a fault: syntax, if it is none of the two.
-fn fault_in(kind: u8) -> u8
-    ensures { (result ≡ 1) ⊎ (result ≡ 4) }
-{
-    if kind == RANGE { RANGE } else { SYNTAX }
+    meant(text.as_bytes())
 }
 
 /// The label with which a line of an image's text begins, a name and a colon, whatever stands behind it: a line that is at fault

@@ -1,10 +1,7 @@
 //! The lines with which threads begin, and those of their registers and certificates.
 
-ghost use Rattle.std.specs.Prelude.{◌≡◌, ◌==◌, ◌&&◌, [], ◌∷◌, Ok, true};
-ghost use Rattle.model.specs.Capabilities.CapabilityWords.{IsCapability, words_of};
-ghost use Rattle.model.specs.declared.capabilities.Cap.{Cap};
-ghost use Rattle.asm_line.specs.declared.lines.Line.{Line};
-ghost use Rattle.asm_line.specs.Parsing.{IsKnown};
+ghost use Rattle.std.specs.Prelude.{◌≡◌, ◌==◌, ◌&&◌};
+ghost use Rattle.asm_line.specs.Meaning.{known, known_slot_of};
 ghost use Rattle.asm_line.specs.Lines.{budget_of, all_pairs, all_terms, coefficient_of, constant_of, measure_of, named_register, parent_first, parent_with, range_of, register_line_of, slot_of, slot_said, slot_words_of, term_first, term_of, thread_of, thread_said, thread_words_of};
 
 use crate::faults::{RANGE, SYNTAX};
@@ -14,6 +11,7 @@ use crate::names::{Name, name_in};
 use crate::numbers::{between, number_in, word};
 use crate::registers::register_in;
 use crate::words::Words;
+use image_reading::unpacks;
 use model::{RangeEntry, RegisterEntry, TermEntry};
 
 /// A number of instructions from one wait to the next.
@@ -242,33 +240,40 @@ fn slot_fields(words: Words<'_>) -> Result<Line<'_>, u8>
     slot_in_ranges(slot_words(words)?)
 }
 
-/// Whether two words are those of a capability.
-fn unpacks(word0: u32, word1: u32) -> bool
-    ensures { (capability : Cap) → IsCapability capability → word0 ∷ word1 ∷ [] ≡ words_of capability → result ≡ true }
-{
-    capwords::unpack([word0, word1]).is_some()
-}
-
-/// Whether the words of a line `slot` are those of a capability.
-fn notes_capability(line: &Line<'_>) -> bool
-    ensures { IsKnown line.now → result ≡ true }
+/// A line, of which the words of a slot are to be those of a capability.
+#[tactic(auto, unfolding(crate::specs::Meaning::known))]
+fn known(line: Line<'_>) -> Result<Line<'_>, u8>
+    ensures { result ≡ known line.entry }
 {
     match line {
-        Line::Slot { word0, word1, .. } => unpacks(*word0, *word1),
-        _ => true,
+        Line::Slot {
+            cnode,
+            index,
+            word0,
+            word1,
+            parent,
+        } => {
+            if !unpacks(word0, word1) {
+                return Err(RANGE);
+            }
+            Ok(Line::Slot {
+                cnode,
+                index,
+                word0,
+                word1,
+                parent,
+            })
+        }
+        line => Ok(line),
     }
 }
 
 /// `slot CNODE INDEX WORD0 WORD1 PARENT INDEX`
+#[tactic(auto, unfolding(crate::specs::Meaning::known_slot_of))]
 pub(crate) fn slot(words: Words<'_>) -> Result<Line<'_>, u8>
-    ensures { (line : Line) → IsKnown line → slot_of words.entry ≡ Ok line → result ≡ Ok line }
+    ensures { result ≡ known_slot_of words.entry }
 {
-    let line = slot_fields(words)?;
-    if notes_capability(&line) {
-        Ok(line)
-    } else {
-        Err(RANGE)
-    }
+    known(slot_fields(words)?)
 }
 
 /// A constant of a measure.

@@ -1,25 +1,27 @@
-use Rattle.std.specs.Prelude.{ℕ, ◌==◌, nat_lt, Option, None, take}
+use Rattle.std.specs.Prelude.{ℕ, ◌==◌, nat_lt, Option, None, take, if◌then◌else◌}
 use Rattle.std.specs.Option.{option_map_or}
-use Rattle.std.proofs.Common.{◌≡◌, sym, ap, ◌∙◌, true, false}
+use Rattle.std.proofs.Common.{◌≡◌, ap, ◌∙◌}
 use Rattle.std.specs.List.{list_all, position}
 use Rattle.asm_line.specs.Words.{words_of}
-use Rattle.asm_line.specs.Parsing.{before_comment, line_of}
+use Rattle.asm_line.specs.Parsing.{before_comment}
+use Rattle.asm_line.specs.Meaning.{line_said, said_by}
 use Rattle.model.specs.Images.Listing.{Text}
+use Rattle.asm_line.specs.declared.lines.Line.{Line}
 use Rattle.asm_line.proofs.ListedTexts.{reads, reads-ascii, reads-code, reads-says}
+use Rattle.asm_line.proofs.MeantLines.{said-from}
+use Rattle.std.proofs.Common.{Ok, Err, Bool, Result}
+use Rattle.asm_line.specs.Listed.{Lists}
 use Rattle.asm_line.proofs.parsing.parse_line.Goals as goal
-
-pub returns-then-not-is_ascii-clause-listed : goal.returns-then-not-is_ascii-clause-listed
-returns-then-not-is_ascii-clause-listed c line h =
-    let ascii = reads-ascii line c.args.text.now (reads line c.args.text.now h) in
-    let same = ap (list_all (λ b. nat_lt b 128)) c.as_bytes-bytes.ensures.value in
-    let no : false ≡ true = sym c.if-not-is_ascii.true ∙ (c.is_ascii.ensures ∙ (same ∙ ascii)) in absurd cc
 
 bare-text : (text : Text) → position (λ b. b == 35) text ≡ None → before_comment text ≡ text
 bare-text text none = ap (λ (o : Option ℕ). option_map_or (λ end. take end text) o text) none
 
+listed-said : (l : Line) (text : Text) → Lists l text → line_said text ≡ Ok l
+unfolding line_said
+listed-said l text h =
+    let r = reads l text h in
+    ap (λ (b : Bool). if b then said_by (words_of (before_comment text)) else Err 1) (reads-ascii l text r)
+    ∙ (ap (λ t. said_by (words_of t)) (bare-text text (reads-code l text r)) ∙ said-from (words_of text) l r.known (reads-says l text r))
+
 pub returns-clause-listed : goal.returns-clause-listed
-returns-clause-listed c line h =
-    let r = reads line c.args.text.now h in
-    let same = c.as_bytes-bytes.ensures.value in
-    let bare = c.without_comment.ensures ∙ bare-text _ (ap (position (λ b. b == 35)) same ∙ reads-code line c.args.text.now r) in
-    c.told.ensures.line line (c.line_in.ensures line r.known (ap line_of (c.of.ensures ∙ ap words_of (bare ∙ same)) ∙ reads-says line c.args.text.now r))
+returns-clause-listed c l h = c.meant.ensures ∙ (ap line_said c.as_bytes.ensures.value ∙ listed-said l c.args.text.now h)
