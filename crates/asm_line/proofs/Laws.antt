@@ -3,3 +3,5 @@ pub use Rattle.asm_line.proofs.ListedLines.{Reads, next-term, terms-say}
 pub use Rattle.asm_line.proofs.ListedTexts.{reads}
 pub use Rattle.asm_line.proofs.NumberLaws.{number-decimal}
 pub use Rattle.asm_line.proofs.PlainWords.{is_plain, line-all}
+pub use Rattle.asm_line.proofs.MeantLines.{listed-said}
+pub use Rattle.asm_line.proofs.SpellingLaws.{spelled-once, spelling-spells}

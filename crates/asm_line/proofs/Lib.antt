@@ -5,4 +5,5 @@ mod NumberLaws
 mod PlainWords
 mod Splitting
 mod MeantLines
+mod SpellingLaws
 pub mod Laws

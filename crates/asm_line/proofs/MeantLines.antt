@@ -1,5 +1,8 @@
 -- What a line of a listing says is what it means.
-use Rattle.std.proofs.Common.{◌≡◌, ℕ, ◌∷◌, [], List, true, Option, Some, None, Result, Ok, Err, refl, sym, ap, ◌∙◌, is_some, get_or}
+use Rattle.std.specs.Prelude.{ℕ, ◌==◌, nat_lt, take, if◌then◌else◌}
+use Rattle.std.specs.List.{position}
+use Rattle.std.specs.Option.{option_map_or}
+use Rattle.std.proofs.Common.{◌≡◌, ◌∷◌, [], List, Bool, true, Option, Some, None, Result, Ok, Err, refl, sym, ap, ◌∙◌, is_some, get_or}
 use Rattle.std.proofs.lemmas.Option.{same_Some}
 use Rattle.model.specs.Capabilities.CapabilityFields.{unpacked}
 use Rattle.model.specs.declared.capabilities.Cap.{Cap}
@@ -10,11 +13,13 @@ use Rattle.asm_line.specs.declared.keywords.Keyword.{Keyword}
 use Rattle.asm_line.specs.declared.keywords.Keyword.TheVariants as keyword
 use Rattle.asm_line.specs.declared.lines.Line.{Line}
 use Rattle.asm_line.specs.declared.lines.Line.TheVariants as line
-use Rattle.asm_line.specs.Words.{◌>>=◌, name_of}
+use Rattle.asm_line.specs.Listed.{Lists}
+use Rattle.asm_line.specs.Words.{◌>>=◌, name_of, words_of}
 use Rattle.asm_line.specs.Lines.{keyword_of, slot_of}
-use Rattle.asm_line.specs.Parsing.{IsKnown, label_line, label_of, line_for, line_of}
+use Rattle.asm_line.specs.Parsing.{IsKnown, before_comment, label_line, label_of, line_for, line_of}
 use Rattle.asm_line.specs.Instructions.{instruction_of}
-use Rattle.asm_line.specs.Meaning.{known, known_slot_of, labelled_line, line_with, other_line_of, said_by}
+use Rattle.asm_line.specs.Meaning.{known, known_slot_of, labelled_line, line_read, line_said, line_with, other_line_of, said_by, told}
+use Rattle.asm_line.proofs.ListedTexts.{reads, reads-ascii, reads-code, reads-says}
 
 known-words : (word0 word1 : ℕ) (c : Cap) → IsCapability c → word0 ∷ word1 ∷ [] ≡ words_of_capability c → is_some (unpacked word0 word1) ≡ true
 known-words word0 word1 c valid own =
@@ -60,7 +65,7 @@ with-keyword keyword.Range words l h e = e
 with-keyword keyword.Word words l h e = e
 with-keyword keyword.End words l h e = e
 
-pub said-from : (words : List Text) (l : Line) → IsKnown l → line_of words ≡ Some (Ok l) → said_by words ≡ Ok l
+said-from : (words : List Text) (l : Line) → IsKnown l → line_of words ≡ Some (Ok l) → said_by words ≡ Ok l
 unfolding line_of said_by other_line_of
 said-from [] l h e = same_Some _ _ e
 said-from (word ∷ words) l h e = by-keyword (keyword_of word) refl e
@@ -78,3 +83,13 @@ said-from (word ∷ words) l h e = by-keyword (keyword_of word) refl e
         → ◌≡◌ {A = Result Line ℕ} (elim o [ Some k ↦ line_with k words | None ↦ other_line_of word words ]) (Ok l)
     by-keyword (Some k) is e = with-keyword k words l h (same_Some _ _ e)
     by-keyword None is e = by-label (label_of word) e
+
+bare-text : (text : Text) → position (λ b. b == 35) text ≡ None → before_comment text ≡ text
+bare-text text none = ap (λ (o : Option ℕ). option_map_or (λ end. take end text) o text) none
+
+pub listed-said : (l : Line) (text : Text) → Lists l text → line_said text ≡ Ok l
+unfolding line_said line_read
+listed-said l text h =
+    let r = reads l text h in
+    ap told (ap (λ (b : Bool). if b then said_by (words_of (before_comment text)) else Err 1) (reads-ascii l text r)
+    ∙ (ap (λ t. said_by (words_of t)) (bare-text text (reads-code l text r)) ∙ said-from (words_of text) l r.known (reads-says l text r)))

@@ -1,14 +1,14 @@
 //! Whole lines.
 
-ghost use Rattle.std.specs.Prelude.{◌≡◌, ◌==◌, ◌∷◌, Ok, nat_lt, option_map, position};
+ghost use Rattle.std.specs.Prelude.{◌≡◌, ◌==◌, ◌∷◌, Ok, nat_lt, option_map, position, ◌⊎◌, IfErr};
 ghost use Rattle.std.specs.List.{list_all};
 ghost use Rattle.asm_line.specs.Words.{words_of};
 ghost use Rattle.asm_line.specs.Listed.{Lists};
 ghost use Rattle.asm_line.specs.declared.lines.Line.{Line};
-ghost use Rattle.asm_line.specs.Meaning.{code_of, labelled_line, line_said, line_with, other_line_of, said_by};
+ghost use Rattle.asm_line.specs.Meaning.{code_of, labelled_line, fault_told, line_read, line_said, told, line_with, other_line_of, said_by};
 ghost use Rattle.asm_line.specs.Parsing.{before_comment, label_declared, label_of, plain_word_of};
 
-use crate::faults::SYNTAX;
+use crate::faults::{RANGE, SYNTAX};
 use crate::instructions::instruction;
 use crate::keywords::{Keyword, is, keyword_in};
 use crate::lines::{Code, Line};
@@ -152,9 +152,9 @@ fn without_comment(text: &[u8]) -> &[u8]
 }
 
 /// What a text says, with a comment behind its words or none.
-#[tactic(auto, unfolding(crate::specs::Meaning::line_said))]
-fn meant(text: &[u8]) -> Result<Line<'_>, u8>
-    ensures { result ≡ line_said text.now }
+#[tactic(auto, unfolding(crate::specs::Meaning::line_read))]
+fn read(text: &[u8]) -> Result<Line<'_>, u8>
+    ensures { result ≡ line_read text.now }
 {
     if is_ascii(text) {
         line_in(Words::of(without_comment(text)))
@@ -163,17 +163,38 @@ fn meant(text: &[u8]) -> Result<Line<'_>, u8>
     }
 }
 
+/// The line, or its fault as one of the two.
+fn told(read: Result<Line<'_>, u8>) -> Result<Line<'_>, u8>
+    ensures told { result ≡ told read.entry }
+    ensures kind { IfErr result (λ kind. (kind ≡ 1) ⊎ (kind ≡ 4)) }
+{
+    match read {
+        Ok(line) => Ok(line),
+        Err(kind) => Err(fault_in(kind)),
+    }
+}
+
+/// The kind of a fault: syntax, if it is none of the two.
+fn fault_in(kind: u8) -> u8
+    ensures told { result ≡ fault_told kind }
+    ensures kind { (result ≡ 1) ⊎ (result ≡ 4) }
+{
+    if kind == RANGE { RANGE } else { SYNTAX }
+}
+
 /// What one line of an image's text says: the text without the end of its line.
 ///
 /// # Errors
 ///
 /// `SYNTAX` if the line is none of the text form, and else `RANGE` if a number of it is out of the
 /// range that the line by itself can tell.
+#[tactic(auto, unfolding(crate::specs::Meaning::line_said))]
 pub fn parse_line(text: &str) -> Result<Line<'_>, u8>
     ensures said { result ≡ line_said text.now }
     ensures listed { (line : Line) → Lists line text.now → result ≡ Ok line }
+    ensures kind { IfErr result (λ kind. (kind ≡ 1) ⊎ (kind ≡ 4)) }
 {
-    meant(text.as_bytes())
+    told(read(text.as_bytes()))
 }
 
 /// The label with which a line of an image's text begins, a name and a colon, whatever stands behind it: a line that is at fault
