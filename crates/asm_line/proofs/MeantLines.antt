@@ -79,6 +79,7 @@ said-from (word ∷ words) l h e = by-keyword (keyword_of word) refl e
         by-words (Some name) [] e = same_Some _ _ e
         by-words (Some name) (w ∷ ws) e = absurd (let no : None ≡ Some (Ok l) = e in cc)
         by-words None ws e = absurd (let no : None ≡ Some (Ok l) = e in cc)
+
     by-keyword : (o : Option Keyword) → keyword_of word ≡ o → ◌≡◌ {A = Option (Result Line ℕ)} (elim o [ Some k ↦ Some (line_for k words) | None ↦ label_line (label_of word) words ]) (Some (Ok l))
         → ◌≡◌ {A = Result Line ℕ} (elim o [ Some k ↦ line_with k words | None ↦ other_line_of word words ]) (Ok l)
     by-keyword (Some k) is e = with-keyword k words l h (same_Some _ _ e)

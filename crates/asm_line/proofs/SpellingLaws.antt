@@ -16,7 +16,7 @@ spelling-spells (Store op rs1 rs2 offset) h = (h, refl)
 spelling-spells (Immediate op rd rs1 immediate) h = (h, refl)
 spelling-spells (Shift op rd rs1 amount) h = (h, refl)
 spelling-spells (Registers op rd rs1 rs2) h = (h, refl)
-spelling-spells Fence h = (omega arith, (refl, refl))
+spelling-spells Fence h = (omega arith, refl, refl)
 spelling-spells Ecall h = refl
 spelling-spells Ebreak h = refl
 
