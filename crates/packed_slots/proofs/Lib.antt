@@ -5,10 +5,13 @@ pub mod Changing
 pub mod ChildTests
 pub mod Children
 pub mod Edges
+pub mod Counting
 pub mod Inserting
 pub mod Keeping
 pub mod Moving
 pub mod Sharing
+pub mod Naming
+pub mod NamedChanges
 pub mod PackedFacts
 pub mod Reading
 pub mod RootWords

@@ -16,14 +16,14 @@ use Rattle.packed_slots.specs.Packing.{IsPacked, Packed, packed_rows, packed_slo
 use Rattle.packed_slots.specs.Words.{words_in}
 use Rattle.packed_slots.proofs.PackedFacts.{full-row}
 
-named-so : (o : Option ℕ) (offset : ℕ) → option_map_or (λ named. named == offset) o false ≡ true → o ≡ Some offset
+pub named-so : (o : Option ℕ) (offset : ℕ) → option_map_or (λ named. named == offset) o false ≡ true → o ≡ Some offset
 named-so None offset is = absurd (let clash : false ≡ true = is in cc)
 named-so (Some x) offset is = elim (eqb_tells x offset) [
   | inl here ↦ ap Some here.1
   | inr off ↦ absurd (let clash : false ≡ true = sym off.0 ∙ is in cc)
 ]
 
-so-named : (o : Option ℕ) (offset : ℕ) → o ≡ Some offset → option_map_or (λ named. named == offset) o false ≡ true
+pub so-named : (o : Option ℕ) (offset : ℕ) → o ≡ Some offset → option_map_or (λ named. named == offset) o false ≡ true
 so-named o offset is = ap (λ o. option_map_or (λ named. named == offset) o false) is ∙ eq-eqb offset offset refl
 
 pub at-found : (slots : Slots) (offset : ℕ) (found : Option ℕ) → is_named_at slots offset found ≡ true → (s : ℕ) × (found ≡ Some s) × (object_at slots s ≡ Some offset)

@@ -1,5 +1,5 @@
 -- What the neighbours of a slot name.
-use Rattle.std.specs.Prelude.{ℕ, ◌||◌, nat_le, Bool, false, Option, Some}
+use Rattle.std.specs.Prelude.{ℕ, ◌≡◌, ◌≢◌, ◌||◌, nat_le, Bool, false, if◌then◌else◌, Option, Some, None}
 use Rattle.std.specs.Option.{option_map_or}
 use Rattle.model.specs.Capabilities.CapabilityKinds.{names_object}
 use Rattle.model.specs.Capabilities.Slots.{Slots, capability_at}
@@ -26,3 +26,12 @@ has_like_edge p root last slot =
 -- there is a slot, and it is as deep as a depth, or deeper
 abbrev pub is_as_deep : Words → ℕ → Option ℕ → Bool
 is_as_deep words own found = option_map_or (λ s. nat_le own (words.depth s)) found false
+
+-- a slot, if there is one and it names an object
+abbrev pub if_naming : Slots → ℕ → Option ℕ → Option ℕ
+if_naming slots offset found = if is_named_at slots offset found then found else None
+
+-- another slot names the object at an offset that a slot names, or no other does
+pub record IsOther (slots : Slots) (offset slot : ℕ) (other : Option ℕ) : Type 0 where
+  pub some : (s : ℕ) → other ≡ Some s → (s ≢ slot) × (object_at slots s ≡ Some offset)
+  pub none : other ≡ None → (s : ℕ) → object_at slots s ≡ Some offset → s ≡ slot

@@ -4,7 +4,10 @@
 
 mod cached_slots;
 mod changes;
+mod handlers;
+mod indexed;
 mod links;
+mod named_pages;
 mod neighbours;
 mod open_slots;
 mod reads;
@@ -16,5 +19,6 @@ mod writes;
 pub use cached_slots::{
     CachedSlots, WalkStore, leaves_stay_where_entries_do, one_leaf_more_is_kept,
 };
+pub use indexed::IndexedSlots;
 pub use roots::RootStore;
 pub use store::PackedSlots;

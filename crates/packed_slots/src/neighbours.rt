@@ -1,11 +1,14 @@
-//! What the neighbours of a slot tell: whether it is the last one that names its object, and its parent's last child.
+//! What the neighbours of a slot tell: whether it is the last one that names its object, which others do, and its parent's last
+//! child.
 
 ghost use Rattle.std.specs.Prelude.{ℕ, ◌≡◌, ◌%◌, Some, None, IsTrue, true, false, length};
+ghost use Rattle.std.specs.Option.{ForSome};
 ghost use Rattle.model.specs.Capabilities.Orders.{descendants, next_in};
 ghost use Rattle.model.specs.Capabilities.Slots.{IsFull, is_descendant};
-ghost use Rattle.packed_slots.specs.Sharing.{has_like_edge, has_like_neighbour, is_as_deep, is_named_at};
+ghost use Rattle.packed_slots.specs.Sharing.{IsOther, has_like_edge, has_like_neighbour, if_naming, is_as_deep, is_named_at};
 ghost use Rattle.packed_slots.specs.Packing.{IsPacked, packed_order, packed_slots, packing};
 ghost use Rattle.packed_slots.specs.Words.{words_in};
+ghost use Rattle.slots.specs.Listed.{is_naming, naming};
 ghost use Rattle.slots.specs.Kin.{IsShared, IsSharedBeside, LeavesChildless};
 
 use crate::open_slots::OpenSlots;
@@ -141,4 +144,107 @@ pub(crate) fn childless_without(
         return None;
     }
     Some(before)
+}
+
+/// A slot, if there is one and its capability names the object at an offset.
+fn if_naming(
+    memory: &Mem,
+    open_slots: &OpenSlots,
+    first: &Option<Slot>,
+    offset: u32,
+    found: Option<Slot>,
+) -> Option<Slot>
+    requires { IsPacked (packing memory.now open_slots.now first.now) }
+    ensures { result ≡ if_naming (packed_slots (packing memory.now open_slots.now first.now)) offset found }
+{
+    match found {
+        Some(slot) if object_of(capability(memory, open_slots, first, slot)) == Some(offset) => {
+            Some(slot)
+        }
+        _ => None,
+    }
+}
+
+/// The slot behind one that names the same object: the one that is linked behind it, if that does.
+fn next_naming(
+    memory: &Mem,
+    open_slots: &OpenSlots,
+    first: &Option<Slot>,
+    offset: u32,
+    slot: Slot,
+) -> Option<Slot>
+    requires packed { IsPacked (packing memory.now open_slots.now first.now) }
+    requires known { is_naming (packed_slots (packing memory.now open_slots.now first.now)) offset slot ≡ true }
+    ensures { result ≡ next_in (naming (packed_order (packing memory.now open_slots.now first.now))
+        (packed_slots (packing memory.now open_slots.now first.now)) offset) (Some slot) }
+{
+    if_naming(memory, open_slots, first, offset, next(memory, slot))
+}
+
+/// The first slot that names the object which a slot names: the first one back before which another stands.
+fn first_naming(
+    memory: &Mem,
+    open_slots: &OpenSlots,
+    first: &Option<Slot>,
+    offset: u32,
+    slot: Slot,
+) -> Slot
+    requires packed { IsPacked (packing memory.now open_slots.now first.now) }
+    requires known { is_naming (packed_slots (packing memory.now open_slots.now first.now)) offset slot ≡ true }
+    ensures { Some result ≡ next_in (naming (packed_order (packing memory.now open_slots.now first.now))
+        (packed_slots (packing memory.now open_slots.now first.now)) offset) None }
+{
+    let mut here = slot;
+    'back: while let Some(before) = if_naming(
+        memory,
+        open_slots,
+        first,
+        offset,
+        previous(memory, here),
+    ) {
+        here = before;
+    }
+    here
+}
+
+/// The slot behind `previous` in the order that names an object, or the first one: some slot is known that names it, if one
+/// does.
+pub(crate) fn next_alike(
+    memory: &Mem,
+    open_slots: &OpenSlots,
+    first: &Option<Slot>,
+    offset: u32,
+    previous: Option<Slot>,
+    known: Option<Slot>,
+) -> Option<Slot>
+    requires packed { IsPacked (packing memory.now open_slots.now first.now) }
+    requires names { ForSome previous (λ slot. IsTrue (is_naming (packed_slots (packing memory.now open_slots.now first.now)) offset slot)) }
+    requires some { ForSome known (λ slot. IsTrue (is_naming (packed_slots (packing memory.now open_slots.now first.now)) offset slot)) }
+    requires none { known ≡ None → (slot : ℕ) → is_naming (packed_slots (packing memory.now open_slots.now first.now)) offset slot ≡ false }
+    ensures { result ≡ next_in (naming (packed_order (packing memory.now open_slots.now first.now))
+        (packed_slots (packing memory.now open_slots.now first.now)) offset) previous }
+{
+    match (previous, known) {
+        (Some(slot), _) => next_naming(memory, open_slots, first, offset, slot),
+        (None, Some(slot)) => Some(first_naming(memory, open_slots, first, offset, slot)),
+        (None, None) => None,
+    }
+}
+
+/// Another slot that names the object which a slot names, if one does: a neighbour.
+pub(crate) fn beside_naming(
+    memory: &Mem,
+    open_slots: &OpenSlots,
+    first: &Option<Slot>,
+    offset: u32,
+    slot: Slot,
+) -> Option<Slot>
+    requires packed { IsPacked (packing memory.now open_slots.now first.now) }
+    requires known { is_naming (packed_slots (packing memory.now open_slots.now first.now)) offset slot ≡ true }
+    ensures { IsOther (packed_slots (packing memory.now open_slots.now first.now)) offset slot result }
+{
+    match if_naming(memory, open_slots, first, offset, previous(memory, slot)) {
+        Some(before) => Some(before),
+        None => if_naming(memory, open_slots, first, offset, next(memory, slot)),
+    }
 }

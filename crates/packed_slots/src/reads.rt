@@ -8,12 +8,12 @@ ghost use Rattle.model.specs.Capabilities.CapabilityWords.{IsCapability, words_o
 ghost use Rattle.model.specs.Capabilities.Orders.{descendants, next_in};
 ghost use Rattle.model.specs.Capabilities.Slots.{IsFull, IsOpen, capability_at, depth_of, is_descendant, is_full};
 ghost use Rattle.packed_slots.specs.Packing.{IsPacked, packed_order, packed_slots, packing};
-ghost use Rattle.packed_slots.specs.Words.{capability_in, is_one, words_in};
+ghost use Rattle.packed_slots.specs.Words.{capability_in, words_in};
 ghost use Rattle.slots.specs.preorder.Chains.{back_above, if_deeper};
 
 use crate::links::back_above;
 use crate::open_slots::OpenSlots;
-use crate::words::{depth, next, previous, word};
+use crate::words::{depth, is_slot, next, previous, word};
 use capwords::unpack;
 use model::{Cap, Slot};
 use pmem::Mem;
@@ -178,16 +178,6 @@ pub(crate) fn next_below(
     }
     let after = next(memory, last.unwrap_or(root));
     if_deeper(memory, depth(memory, root), after)
-}
-
-/// Whether a slot is another.
-fn is_slot(found: Option<Slot>, slot: Slot) -> bool
-    ensures { result ≡ is_one slot found }
-{
-    match found {
-        Some(other) => other.number() == slot.number(),
-        None => false,
-    }
 }
 
 /// Whether an open slot descends from a root: whether the first slot back that is as deep as the root, or less deep, is the root.

@@ -1,7 +1,12 @@
 //! A store of slots that are packed into the bytes of the machine.
 
-ghost use Rattle.std.specs.Prelude.{ℕ, ◌≡◌, ◌^◌, ◌≤◌, None, IfOk, replicate};
+ghost use Rattle.std.specs.Prelude.{ℕ, ◌≡◌, ◌^◌, ◌≤◌, None, IfOk, IfSome, IsTrue, true, false, replicate};
+ghost use Rattle.std.specs.Option.{ForSome};
+ghost use Rattle.model.specs.Capabilities.Orders.{IsOrderOf, next_in};
+ghost use Rattle.model.specs.Capabilities.Slots.{IsFull};
 ghost use Rattle.packed_slots.specs.Packing.{packed_order, packed_slots};
+ghost use Rattle.packed_slots.specs.Sharing.{IsOther};
+ghost use Rattle.slots.specs.Listed.{is_naming, naming};
 
 use crate::open_slots::OpenSlots;
 use crate::roots::RootStore;
@@ -47,6 +52,42 @@ impl PackedSlots {
             open_slots,
             first: None,
         })
+    }
+}
+
+impl PackedSlots {
+    /// The slot behind `previous` in the store's order that names an object, or the first one: some slot is known that names
+    /// it, if one does.
+    pub(crate) fn next_alike(
+        &self,
+        object: u32,
+        previous: Option<Slot>,
+        known: Option<Slot>,
+    ) -> Option<Slot>
+        requires names { ForSome previous (λ slot. IsTrue (is_naming (packed_slots self.now) object slot)) }
+        requires some { ForSome known (λ slot. IsTrue (is_naming (packed_slots self.now) object slot)) }
+        requires none { known ≡ None → (slot : ℕ) → is_naming (packed_slots self.now) object slot ≡ false }
+        ensures next { result ≡ next_in (naming (packed_order self.now) (packed_slots self.now) object) previous }
+        ensures lists { IsOrderOf (packed_order self.now) (packed_slots self.now) }
+        ensures found_full { IfSome result (IsFull (packed_slots self.now)) }
+        ensures found_known { IfSome result (λ slot. IsTrue (is_naming (packed_slots self.now) object slot)) }
+    {
+        neighbours::next_alike(
+            &self.memory,
+            &self.open_slots,
+            &self.first,
+            object,
+            previous,
+            known,
+        )
+    }
+
+    /// Another slot that names the object which a slot names, if one does.
+    pub(crate) fn other_alike(&self, object: u32, slot: Slot) -> Option<Slot>
+        requires { is_naming (packed_slots self.now) object slot ≡ true }
+        ensures { IsOther (packed_slots self.now) object slot result }
+    {
+        neighbours::beside_naming(&self.memory, &self.open_slots, &self.first, object, slot)
     }
 }
 

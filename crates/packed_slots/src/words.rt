@@ -1,7 +1,7 @@
 //! The words of a slot.
 
 ghost use Rattle.std.specs.Prelude.{ℕ, ◌≡◌, ◌+◌, ◌*◌, ◌%◌, ◌^◌, ◌<◌, ◌≤◌, length};
-ghost use Rattle.packed_slots.specs.Words.{back_word, blanked, depth_in, link_word, next_in, previous_in, with_back, with_back_at, with_link, with_next_at, with_word, word_of};
+ghost use Rattle.packed_slots.specs.Words.{back_word, blanked, depth_in, is_one, link_word, next_in, previous_in, with_back, with_back_at, with_link, with_next_at, with_word, word_of};
 
 use model::Slot;
 use pmem::Mem;
@@ -128,4 +128,14 @@ pub(crate) fn blank(memory: &mut Mem, slot: Slot, count: u32)
     ensures size { length memory.new ≡ length memory.old }
 {
     memory.zero(SLOT_SIZE * slot.number(), SLOT_SIZE * count);
+}
+
+/// Whether there is a slot, and it is this one.
+pub(crate) fn is_slot(found: Option<Slot>, slot: Slot) -> bool
+    ensures { result ≡ is_one slot found }
+{
+    match found {
+        Some(other) => other.number() == slot.number(),
+        None => false,
+    }
 }

@@ -97,6 +97,14 @@ impl<S: SlotStore> SlotStore for CachedSlots<S> {
         self.store.childless_without(slot)
     }
 
+    fn next_naming(&self, object: u32, previous: Option<Slot>) -> Option<Slot> {
+        self.store.next_naming(object, previous)
+    }
+
+    fn is_handled(&self, line: u8) -> bool {
+        self.store.is_handled(line)
+    }
+
     fn open_range(&mut self, first: Slot, count: u32) {
         self.store.open_range(first, count);
     }
