@@ -1,4 +1,3 @@
-pub mod Lines
 pub mod Listed
 pub mod Nodes
 pub mod Outcomes

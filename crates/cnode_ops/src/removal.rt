@@ -11,7 +11,7 @@ ghost use Rattle.removal_laws.specs.Steps.{BindingEmptied, IsReady, SameShape, b
 
 use crate::Ends;
 use crate::emptying::empty_slot;
-use crate::lines::lines_taken;
+use crate::lines::{lines_handled, lines_lost};
 use crate::refusals::wants_revoke_first;
 use crate::sets::{Removed, first_removed};
 use crate::settling::{Unsettled, settle};
@@ -115,9 +115,10 @@ fn remove<S: SlotStore, E: Ends>(store: &mut S, ends: &mut E, set: Removed) -> R
     if wants_revoke_first(store, set) {
         return Err(KError::RevokeFirst);
     }
-    let lines = lines_taken(store, set);
+    let handled = lines_handled(store);
     let left = Unsettled::nothing(store.count());
     let left = empty_all(store, ends, left, &set);
+    let lines = lines_lost(store, &handled);
     let left = empty_bindings(store, ends, left, &lines);
     settle(store, ends, left);
     Ok(())

@@ -4,9 +4,9 @@ use Rattle.std.specs.List.{list_any, range_with_len}
 use Rattle.std.proofs.lemmas.Bool.{leb-true}
 use Rattle.kernel_invariant.specs.Agreement.{Agrees}
 use Rattle.kernel_invariant.specs.Wholeness.{IsWhole}
-use Rattle.cnode_ops.specs.Refusals.{some_slot}
 use Rattle.irq.proofs.Left.{Child, child-state, child-whole}
-use Rattle.irq.specs.Handlers.{handler_place, is_handled}
+use Rattle.irq.specs.Handlers.{handler_place}
+use Rattle.slots.specs.Listed.{is_handled}
 use Rattle.model.specs.Capabilities.CapabilityKinds.{is_handler_of}
 use Rattle.model.specs.Capabilities.Slots.{IsFull, SameOutside, Slots, capability_at, depth_of, empty_entry, inserted, is_empty}
 use Rattle.model.specs.Kernel.Arguments.{◌>>=◌, Call, check, destination_slot, may_have_child}
@@ -47,7 +47,7 @@ module _ (o : Tables) (slots : Slots) (memory : List ℕ) (root : Cap) (slot lin
   place_of = handler_place slots (length memory / 16) root slot line name
 
   handled-same : Agrees s memory → holds_some s (is_handler_of line) ≡ is_handled slots (length memory / 16) line
-  unfolding state_of slot_numbers some_slot
+  unfolding state_of slot_numbers
   handled-same agrees = ap (λ (n : ℕ). list_any (λ at. is_handler_of line (capability_at slots at)) (range_with_len 0 (n / 16))) agrees.size
 
   abbrev made : ℕ → State

@@ -1,8 +1,6 @@
 -- What the calls on interrupt control and on handlers ask of the slots, in their order.
 -- seL4 Reference Manual, "Hardware I/O", seL4_IRQControl and seL4_IRQHandler.
-use Rattle.std.specs.Prelude.{ℕ, Bool, not, nat_le, Result, Ok}
-use Rattle.cnode_ops.specs.Refusals.{some_slot}
-use Rattle.model.specs.Capabilities.CapabilityKinds.{is_handler_of}
+use Rattle.std.specs.Prelude.{ℕ, not, nat_le, Result, Ok}
 use Rattle.model.specs.Capabilities.Slots.{Slots, capability_at}
 use Rattle.model.specs.Kernel.Arguments.{◌>>=◌, check, destination_slot, may_have_child, source_slot}
 use Rattle.model.specs.Kernel.InterruptCalls.{may_be_bound}
@@ -10,10 +8,7 @@ use Rattle.model.specs.declared.capabilities.Cap.{Cap}
 use Rattle.model.specs.declared.errors.KError.{KError}
 use Rattle.model.specs.declared.errors.KError.TheVariants.{InvalidCapability, RangeError, RevokeFirst}
 use Rattle.model.specs.declared.invocations.SlotName.{SlotName}
-
--- of the first so many slots one holds a handler of the line
-abbrev pub is_handled : Slots → ℕ → ℕ → Bool
-is_handled slots count line = some_slot 0 count (λ slot. is_handler_of line (capability_at slots slot))
+use Rattle.slots.specs.Listed.{is_handled}
 
 -- where a new handler of a line goes, below the slot of interrupt control
 abbrev pub handler_place : Slots → ℕ → Cap → ℕ → ℕ → SlotName → Result ℕ KError

@@ -2,8 +2,7 @@
 
 ghost use Rattle.std.specs.Prelude.{ℕ, ◌≡◌, ◌/◌, ◌<◌, ◌≤◌, IfOk, OnErr, length};
 ghost use Rattle.model.specs.Kernel.Outcomes.{GivesState};
-ghost use Rattle.irq.specs.Handlers.{bound_source, handler_place, is_handled};
-ghost use Rattle.model.specs.Capabilities.CapabilityKinds.{is_handler_of};
+ghost use Rattle.irq.specs.Handlers.{bound_source, handler_place};
 ghost use Rattle.model.specs.Capabilities.CapabilityWords.{IsCapability};
 ghost use Rattle.model.specs.Capabilities.Slots.{IsOpen, capability_at};
 ghost use Rattle.model.specs.Kernel.Arguments.{Call};
@@ -19,33 +18,6 @@ use cnode_ops::{Ends, Kernel, may_have_child, remove_slot};
 use cspace::{destination_slot, source_slot};
 use model::{Cap, KError, Slot, SlotName};
 use slots::SlotStore;
-
-/// Whether a capability is a handler of a line.
-fn is_handler_of(capability: Cap, line: u32) -> bool
-    ensures { result ≡ is_handler_of line capability }
-{
-    match capability {
-        Cap::InterruptHandler { line: handled } => u32::from(handled) == line,
-        _ => false,
-    }
-}
-
-/// Whether some slot holds a handler of a line.
-fn is_handled<S: SlotStore>(store: &S, line: u32) -> bool
-    ensures { result ≡ is_handled (S.slots store.now) (length (S.memory store.now) / 16) line }
-{
-    let mut at = None;
-    'slots: loop {
-        let Some(slot) = store.next_full(at) else {
-            return false;
-        };
-        prove!(slot.number() < store.count());
-        if is_handler_of(store.capability(slot), line) {
-            return true;
-        }
-        at = Some(slot);
-    }
-}
 
 /// The empty slot of this name, for a handler of a line below the slot of interrupt control. Errors are
 /// those of [`get_handler`].
@@ -64,7 +36,7 @@ fn handler_place<S: SlotStore>(
     if line > 63 {
         return Err(KError::RangeError);
     }
-    if is_handled(store, line) {
+    if store.is_handled(line as u8) {
         return Err(KError::RevokeFirst);
     }
     let place = destination_slot(store, root, name)?;

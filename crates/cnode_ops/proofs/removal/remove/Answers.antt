@@ -1,20 +1,17 @@
 -- The loops, and what settles them, are the removal.
-use Rattle.std.proofs.Common.{◌≡◌, ◌∙◌, ◌^◌, length, sym, ap}
+use Rattle.std.proofs.Common.{◌≡◌, ◌∙◌, ◌^◌, false, length, slice_index_or, sym, ap}
 use Rattle.cnode_ops.specs.Sets.{set_of}
 use Rattle.model.specs.Capabilities.Slots.{Slots}
 use Rattle.model.specs.Kernel.Removal.{remove}
 use Rattle.model.specs.Kernel.State.{State}
 use Rattle.removal_laws.proofs.Laws.{refused, sound-ready}
+use Rattle.cnode_ops.proofs.LinesTaken.{lines-told}
 use Rattle.cnode_ops.proofs.Unsettling.{sound-lie}
 use Rattle.cnode_ops.proofs.RemovedSets.{LoopsRan, loops-cover, loops-may-settle, loops-remove, near-open}
 use Rattle.cnode_ops.proofs.removal.remove.Goals as goal
 
 pub wants_revoke_first-requires : goal.wants_revoke_first-requires
 wants_revoke_first-requires g c =
-    record { near = near-open (g.E.Ends.state c.args.ends.now (g.S.SlotMap.slots c.args.store.now) (g.S.SlotStore.memory c.args.store.now)) _ _ (g.met.E.Ends.of_slots _ _ _) c.requires.sound (g.met.E.Ends.of_memory _ _ _ c.requires.agree) }
-
-pub lines_taken-lines-requires : goal.lines_taken-lines-requires
-lines_taken-lines-requires g c =
     record { near = near-open (g.E.Ends.state c.args.ends.now (g.S.SlotMap.slots c.args.store.now) (g.S.SlotStore.memory c.args.store.now)) _ _ (g.met.E.Ends.of_slots _ _ _) c.requires.sound (g.met.E.Ends.of_memory _ _ _ c.requires.agree) }
 
 pub returns-then-wants_revoke_first-clause-outcome : goal.returns-then-wants_revoke_first-clause-outcome
@@ -42,17 +39,21 @@ settle-requires-clause-may g c =
     let two : State = g.E.Ends.state c.empty_bindings-left.new.ends (g.S.SlotMap.slots c.empty_bindings-left.new.store) (g.S.SlotStore.memory c.empty_bindings-left.new.store) in
     let has : w.slots ≡ slots = g.met.E.Ends.of_slots _ _ _ in
     let size : 2 ^ w.memory_bits ≡ length (g.S.SlotStore.memory c.args.store.now) = g.met.E.Ends.of_memory _ _ _ c.requires.agree in
-    let ran : LoopsRan w one two slots c.args.set c.lines_taken-lines.result = record {
+    let ran : LoopsRan w one two slots c.args.set c.lines_lost-lines.result = record {
       has = has;
       sound = c.requires.sound;
       members = c.requires.members;
       shape = c.empty_all-left.ensures.shape;
       taken = c.empty_all-left.ensures.taken;
-      last = c.lines_taken-lines.ensures w has size;
+      last = λ line few. lines-told w one slots (g.S.SlotMap.slots c.empty_all-left.new.store) (length (g.S.SlotStore.memory c.args.store.now))
+          (length (g.S.SlotStore.memory c.empty_all-left.new.store)) c.args.set line (slice_index_or c.lines_handled-handled.result line false)
+          (slice_index_or c.lines_lost-lines.result line false) has (g.met.E.Ends.of_slots _ _ _) size (g.met.E.Ends.of_memory _ _ _ c.empty_all-left.ensures.agree)
+          c.empty_all-left.ensures.shape.bits c.empty_all-left.ensures.ready.derivation c.empty_all-left.ensures.taken
+          (c.lines_handled-handled.ensures line few) (c.lines_lost-lines.ensures line few);
       bound = c.empty_bindings-left.ensures.state;
       kept_first = sym (c.wants_revoke_first.ensures w has c.requires.sound size) ∙ c.if-wants_revoke_first.false;
     } in
-    loops-may-settle w one two slots c.args.set c.lines_taken-lines.result ran
+    loops-may-settle w one two slots c.args.set c.lines_lost-lines.result ran
 
 pub settle-requires-clause-covered : goal.settle-requires-clause-covered
 settle-requires-clause-covered g c =
@@ -62,17 +63,21 @@ settle-requires-clause-covered g c =
     let two : State = g.E.Ends.state c.empty_bindings-left.new.ends (g.S.SlotMap.slots c.empty_bindings-left.new.store) (g.S.SlotStore.memory c.empty_bindings-left.new.store) in
     let has : w.slots ≡ slots = g.met.E.Ends.of_slots _ _ _ in
     let size : 2 ^ w.memory_bits ≡ length (g.S.SlotStore.memory c.args.store.now) = g.met.E.Ends.of_memory _ _ _ c.requires.agree in
-    let ran : LoopsRan w one two slots c.args.set c.lines_taken-lines.result = record {
+    let ran : LoopsRan w one two slots c.args.set c.lines_lost-lines.result = record {
       has = has;
       sound = c.requires.sound;
       members = c.requires.members;
       shape = c.empty_all-left.ensures.shape;
       taken = c.empty_all-left.ensures.taken;
-      last = c.lines_taken-lines.ensures w has size;
+      last = λ line few. lines-told w one slots (g.S.SlotMap.slots c.empty_all-left.new.store) (length (g.S.SlotStore.memory c.args.store.now))
+          (length (g.S.SlotStore.memory c.empty_all-left.new.store)) c.args.set line (slice_index_or c.lines_handled-handled.result line false)
+          (slice_index_or c.lines_lost-lines.result line false) has (g.met.E.Ends.of_slots _ _ _) size (g.met.E.Ends.of_memory _ _ _ c.empty_all-left.ensures.agree)
+          c.empty_all-left.ensures.shape.bits c.empty_all-left.ensures.ready.derivation c.empty_all-left.ensures.taken
+          (c.lines_handled-handled.ensures line few) (c.lines_lost-lines.ensures line few);
       bound = c.empty_bindings-left.ensures.state;
       kept_first = sym (c.wants_revoke_first.ensures w has c.requires.sound size) ∙ c.if-wants_revoke_first.false;
     } in
-    loops-cover w one two slots c.args.set c.lines_taken-lines.result ran (g.S.SlotMap.slots c.empty_bindings-left.new.store) c.count.result c.nothing-left.result c.empty_all-left.result
+    loops-cover w one two slots c.args.set c.lines_lost-lines.result ran (g.S.SlotMap.slots c.empty_bindings-left.new.store) c.count.result c.nothing-left.result c.empty_all-left.result
     c.empty_bindings-left.result (g.met.E.Ends.of_slots _ _ _) (c.count.ensures.value ∙ sym size) c.nothing-left.ensures c.empty_all-left.ensures.noted c.empty_bindings-left.ensures.noted
 
 pub returns-clause-outcome : goal.returns-clause-outcome
@@ -83,14 +88,18 @@ returns-clause-outcome g c =
     let two : State = g.E.Ends.state c.empty_bindings-left.new.ends (g.S.SlotMap.slots c.empty_bindings-left.new.store) (g.S.SlotStore.memory c.empty_bindings-left.new.store) in
     let has : w.slots ≡ slots = g.met.E.Ends.of_slots _ _ _ in
     let size : 2 ^ w.memory_bits ≡ length (g.S.SlotStore.memory c.args.store.now) = g.met.E.Ends.of_memory _ _ _ c.requires.agree in
-    let ran : LoopsRan w one two slots c.args.set c.lines_taken-lines.result = record {
+    let ran : LoopsRan w one two slots c.args.set c.lines_lost-lines.result = record {
       has = has;
       sound = c.requires.sound;
       members = c.requires.members;
       shape = c.empty_all-left.ensures.shape;
       taken = c.empty_all-left.ensures.taken;
-      last = c.lines_taken-lines.ensures w has size;
+      last = λ line few. lines-told w one slots (g.S.SlotMap.slots c.empty_all-left.new.store) (length (g.S.SlotStore.memory c.args.store.now))
+          (length (g.S.SlotStore.memory c.empty_all-left.new.store)) c.args.set line (slice_index_or c.lines_handled-handled.result line false)
+          (slice_index_or c.lines_lost-lines.result line false) has (g.met.E.Ends.of_slots _ _ _) size (g.met.E.Ends.of_memory _ _ _ c.empty_all-left.ensures.agree)
+          c.empty_all-left.ensures.shape.bits c.empty_all-left.ensures.ready.derivation c.empty_all-left.ensures.taken
+          (c.lines_handled-handled.ensures line few) (c.lines_lost-lines.ensures line few);
       bound = c.empty_bindings-left.ensures.state;
       kept_first = sym (c.wants_revoke_first.ensures w has c.requires.sound size) ∙ c.if-wants_revoke_first.false;
     } in
-    loops-remove w one two slots c.args.set c.lines_taken-lines.result ran _ c.settle.ensures.state
+    loops-remove w one two slots c.args.set c.lines_lost-lines.result ran _ c.settle.ensures.state
