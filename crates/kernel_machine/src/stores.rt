@@ -3,11 +3,11 @@
 ghost use Rattle.std.specs.Prelude.{ℕ, ◌≡◌, ◌^◌, ◌≤◌, IfOk, None, replicate};
 ghost use Rattle.kernel_machine.specs.Stores.{bytes_of, slots_of};
 
-use packed_slots::{CachedSlots, PackedSlots};
+use packed_slots::{CachedSlots, IndexedSlots};
 use std::alloc::{AllocError, Global};
 
-/// The slots in memory itself, in preorder, with the leaves of walks kept beside it.
-pub type Store = CachedSlots<PackedSlots>;
+/// The slots in memory itself, in preorder. Beside it stand what is known of its capabilities, and the leaves of walks.
+pub type Store = CachedSlots<IndexedSlots>;
 
 /// Memory of 2^`bits` bytes, all zero, and no open slot.
 pub(crate) fn empty_store(alloc: Global, bits: u32) -> Result<Store, AllocError>
@@ -16,6 +16,6 @@ pub(crate) fn empty_store(alloc: Global, bits: u32) -> Result<Store, AllocError>
     ensures bytes { IfOk result (λ store. bytes_of store ≡ replicate (2 ^ bits) 0) }
     ensures slots { IfOk result (λ store. (s : ℕ) → slots_of store s ≡ None) }
 {
-    let store = PackedSlots::new(alloc, bits)?;
+    let store = IndexedSlots::new(alloc, bits)?;
     Ok(CachedSlots::new(store))
 }
