@@ -9,6 +9,7 @@ ghost use Rattle.packed_slots.specs.Sharing.{IsOther};
 use crate::PackedSlots;
 use crate::handlers::Handlers;
 use crate::named_pages::NamedPages;
+use crate::roots::RootStore;
 use model::{Cap, Slot};
 use pmem::Mem;
 use slots::{SlotMap, SlotStore, object_of};
@@ -198,5 +199,11 @@ impl SlotStore for IndexedSlots {
 
     fn zero(&mut self, offset: u32, count: u32) {
         self.store.zero(offset, count);
+    }
+}
+
+impl RootStore for IndexedSlots {
+    fn root_table(&self, slot: Slot) -> Option<u32> {
+        self.store.root_table(slot)
     }
 }
