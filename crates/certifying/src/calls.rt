@@ -36,7 +36,7 @@ pub(crate) struct Called {
 /// The changes that make a difference to the image's slots.
 fn told(alloc: Global, slots: &NotedSlots<'_>) -> Result<Vec<NotedSlot>, Fault> {
     let mut kept = Vec::new(alloc);
-    for change in slots.changes {
+    for change in slots.changes.iter() {
         if makes_difference(slots.image, change) {
             kept.push(*change)?;
         }

@@ -51,7 +51,7 @@ fn listed(slots: &[NotedSlot], key: SlotKey) -> Cap {
 /// The changes that make a difference to the image's slots.
 pub(crate) fn told(alloc: Global, slots: &NotedSlots<'_>) -> Result<Vec<NotedSlot>, AllocError> {
     let mut kept = Vec::new(alloc);
-    for change in slots.changes {
+    for change in slots.changes.iter() {
         let before = listed(slots.image, change.key);
         if before != change.capability || change.parent.is_some() {
             kept.push(*change)?;

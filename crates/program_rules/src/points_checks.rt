@@ -21,7 +21,7 @@ use crate::programs::Program;
 use image_reading::RecordRef;
 use model::{Instr, Refusal};
 use rv32_isa::decode;
-use typestate::{NotedSlots, ShownPart};
+use typestate::ShownPart;
 
 impl Program<'_, '_> {
     /// The rules on a point with this state: an `Err` names the first that it breaks, or says that memory was refused.
@@ -109,12 +109,8 @@ impl Program<'_, '_> {
             (noted self.now.space.image.now (thread_of self.now) self.now.space.thread.now.header.entry))) result }
     {
         let entry = self.space.thread.header().entry;
-        let start = NotedSlots {
-            image: self.slots,
-            changes: &[],
-            families: None,
-            pages: None,
-        };
+        let nothing = ShownPart::new(self.alloc);
+        let start = nothing.slots(self.slots);
         let kept = points.kept[entry as usize];
         let shown = kept.shown(self.alloc, &points.log)?;
         match kept.noted(self.slots, &shown) {

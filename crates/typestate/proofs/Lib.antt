@@ -9,6 +9,7 @@ mod MessageCalls
 mod Unpacked
 mod Rising
 mod Searched
+mod NumberedChanges
 mod Compared
 mod SomeHeld
 mod TidyChanges

@@ -6,7 +6,7 @@ ghost use Rattle.model.specs.Capabilities.CapabilityFields.{same_words};
 ghost use Rattle.model.specs.Capabilities.CapabilityWords.{words_of};
 ghost use Rattle.typestate.specs.Differences.{are_same_at, is_same_held, slots_of};
 
-use crate::{NotedSlot, NotedSlots, SlotKey};
+use crate::{Changes, NotedSlot, NotedSlots, SlotKey};
 use capwords::pack;
 
 /// Whether the two words of capabilities are the same.
@@ -55,11 +55,11 @@ fn is_same_held(a: Option<NotedSlot>, b: Option<NotedSlot>) -> bool
 }
 
 impl NotedSlots<'_> {
-    /// Whether both hold the same at these keys.
-    fn agrees_at(&self, other: &NotedSlots<'_>, keys: &[NotedSlot]) -> bool
+    /// Whether both hold the same at the keys of these changes.
+    fn agrees_at(&self, other: &NotedSlots<'_>, keys: &Changes) -> bool
         ensures { result ≡ are_same_at (slots_of self.now) (slots_of other.now) keys.now }
     {
-        for slot in keys {
+        for slot in keys.iter() {
             if !is_same_held(self.at(slot.key), other.at(slot.key)) {
                 return false;
             }

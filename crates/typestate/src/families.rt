@@ -8,7 +8,7 @@ ghost use Rattle.typestate.specs.Families.{HasLink, KeepsLinks, child_at, childr
 
 use crate::change_lists::is_parent;
 use crate::comparisons::is_same_parent;
-use crate::noted::{left, note_found, numbered};
+use crate::noted::{left, note_found};
 use crate::{NotedSlot, NotedSlots, SlotKey};
 use std::alloc::{AllocError, Global};
 use std::collections::btree_set::{BTreeSet, Range};
@@ -86,7 +86,7 @@ impl NotedSlots<'_> {
     pub(crate) fn child(&self, parent: SlotKey, number: u64) -> Option<NotedSlot>
         ensures { result ≡ child_at self.now.changes.now parent number }
     {
-        let change = numbered(self.changes, number)?;
+        let change = self.changes.numbered(number)?;
         if has_parent(parent, left(change)) {
             Some(change)
         } else {

@@ -19,7 +19,7 @@ ghost use Rattle.typestate.specs.SlotChanges.{left_or_refused};
 ghost use Rattle.typestate.specs.declared.slot_changes.SlotChange.TheVariants.{Puts};
 
 use crate::held_slots::HeldSlot;
-use crate::noted::{left, numbered};
+use crate::noted::left;
 use crate::{NotedSlot, NotedSlots, SlotChange, Space, ThreadSlots};
 use image_reading::{lists_page, lists_region};
 use model::{Cap, FrameCall, FrameMapping, KError, Point, Refusal, Rights, SlotName};
@@ -102,7 +102,7 @@ impl NotedSlots<'_> {
     fn takes_at(&self, number: u64, root: u32, page: u32) -> bool
         ensures { result ≡ option_map_or (λ c. option_map_or (λ s. maps_page root page s.capability) (left_by c) false) (found self.now.changes.now number) false }
     {
-        match numbered(self.changes, number) {
+        match self.changes.numbered(number) {
             Some(change) => takes(left(change), root, page),
             None => false,
         }

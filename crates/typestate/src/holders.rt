@@ -9,7 +9,7 @@ ghost use Rattle.model.specs.Kernel.AddressSpaces.{allows};
 ghost use Rattle.typestate.specs.Differences.{left_by, slots_of};
 ghost use Rattle.typestate.specs.Families.{found};
 
-use crate::noted::{left, numbered};
+use crate::noted::left;
 use crate::{NotedSlot, NotedSlots};
 use model::{Access, Cap, Rights};
 
@@ -52,7 +52,7 @@ impl NotedSlots<'_> {
     fn holds_at(&self, number: u64, access: Access, root: u32, page: u32) -> bool
         ensures { result ≡ option_map_or (λ c. option_map_or (holds_for access root page) (left_by c) false) (found self.now.changes.now number) false }
     {
-        match numbered(self.changes, number) {
+        match self.changes.numbered(number) {
             Some(change) => holds(left(change), access, root, page),
             None => false,
         }

@@ -12,7 +12,7 @@ ghost use Rattle.typestate.specs.Levels.{all_below, touched_by};
 ghost use Rattle.typestate.specs.Orders.{Rise};
 
 use crate::change_lists::emptied;
-use crate::noted::{note_found, numbered};
+use crate::noted::note_found;
 use crate::{NotedSlot, NotedSlots, Removed, SlotKey};
 use std::alloc::{AllocError, Global};
 use std::collections::btree_set::BTreeSet;
@@ -133,7 +133,7 @@ impl NotedSlots<'_> {
     {
         let mut all = Vec::new(alloc);
         for number in numbers {
-            let change = numbered(self.changes, *number);
+            let change = self.changes.numbered(*number);
             note_found(change, &mut all)?;
         }
         Ok(all)

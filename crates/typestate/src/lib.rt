@@ -4,6 +4,7 @@
 mod behind;
 mod calls_at_points;
 mod change_lists;
+mod changes;
 mod cnode_calls;
 mod comparisons;
 mod families;
@@ -18,7 +19,6 @@ mod lines;
 mod logs;
 mod mapped_pages;
 mod messages;
-mod near;
 mod new_objects;
 mod noted;
 mod own_slots;
@@ -45,6 +45,7 @@ mod window;
 mod windows;
 
 pub use behind::{Behind, Written};
+pub use changes::Changes;
 pub use families::Families;
 pub use holders::allows;
 pub use keys::{NotedSlot, SlotKey};

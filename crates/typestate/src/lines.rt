@@ -39,9 +39,8 @@ impl NotedSlots<'_> {
         ensures { result ≡ nat_lt (noted_depth 256 (slots_of self.now) key) 255 }
     {
         let mut place = key;
-        let mut near = 0;
         for above in 0..MOST {
-            let slot = match self.at_near(&mut near, place) {
+            let slot = match self.at(place) {
                 Some(slot) => slot,
                 None => return above < 255,
             };

@@ -47,7 +47,8 @@ impl Part {
 impl ShownPart {
     /// Of a log without parts: no changes.
     pub fn new(alloc: Global) -> Self
-        ensures { (log : List NotedSlot) → ShowsSome log result }
+        ensures shown { (log : List NotedSlot) → ShowsSome log result }
+        ensures none { result.changes ≡ [] }
     {
         ShownPart {
             part: Part { first: 0, end: 0 },

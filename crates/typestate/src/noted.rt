@@ -41,7 +41,7 @@ impl NotedSlots<'_> {
     pub fn at(&self, key: SlotKey) -> Option<NotedSlot>
         ensures { result ≡ slot_at (slots_of self.now) key }
     {
-        match listed(self.changes, key) {
+        match self.changes.at(key) {
             Some(change) => left(change),
             None => listed(self.image, key),
         }
@@ -68,7 +68,7 @@ pub(crate) fn listed(slots: &[NotedSlot], key: SlotKey) -> Option<NotedSlot>
 }
 
 /// The slot of this number in a list whose keys rise.
-pub(crate) fn numbered(slots: &[NotedSlot], number: u64) -> Option<NotedSlot>
+fn numbered(slots: &[NotedSlot], number: u64) -> Option<NotedSlot>
     requires { Rise slots.now }
     ensures { result ≡ found slots.now number }
 {

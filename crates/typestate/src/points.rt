@@ -7,7 +7,7 @@ ghost use Rattle.typestate.specs.Orders.{AreNarrow, Rise};
 ghost use Rattle.typestate.specs.Pages.{ArePaged};
 ghost use Rattle.typestate.specs.Unlinked.{AreUnlinked};
 
-use crate::{Families, MappedPages, NotedSlot};
+use crate::{Changes, Families, MappedPages, NotedSlot};
 
 /// The full slots of a thread's CNodes at a point: those that the image lists, with changes made. The keys of both rise. What the
 /// image lists has no parents and no mappings: only changes bring them.
@@ -15,7 +15,7 @@ use crate::{Families, MappedPages, NotedSlot};
 #[derive(Clone, Copy)]
 pub struct NotedSlots<'s> {
     pub image: &'s [NotedSlot],
-    pub changes: &'s [NotedSlot],
+    pub changes: &'s Changes,
     /// The changes by what their slots were derived from: none where no change brings a parent.
     pub families: Option<&'s Families>,
     /// The changes by the pages that their slots map: none where no change brings a mapping.

@@ -1,13 +1,12 @@
 //! Changes by their slots, by what these were derived from, and by the pages that they map.
 
-ghost use Rattle.std.specs.Prelude.{◌≡◌, ◌^◌, [], IfErr, IfOk, Some, List, if◌then◌else◌, nat_lt, true};
+ghost use Rattle.std.specs.Prelude.{◌≡◌, [], IfOk, Some, List, if◌then◌else◌};
 ghost use Rattle.model.specs.Acceptance.NotedStates.{NotedSlot, SlotKey, is_same_key, slot_at};
 ghost use Rattle.typestate.specs.Differences.{changed, slots_of};
-ghost use Rattle.typestate.specs.Orders.{AreNarrow, Rise, is_narrow};
+ghost use Rattle.typestate.specs.Orders.{Rise};
 ghost use Rattle.typestate.specs.Unlinked.{AreUnlinked};
 
-use crate::noted::listed;
-use crate::{Families, MappedPages, NotedSlot, NotedSlots};
+use crate::{Changes, Families, MappedPages, NotedSlot, NotedSlots};
 use std::alloc::{AllocError, Global};
 use std::marker::Model;
 
@@ -15,41 +14,9 @@ use std::marker::Model;
 /// their list.
 #[derive(Drop)]
 pub struct ShownChanges {
-    changes: Vec<NotedSlot>,
+    changes: Changes,
     families: Families,
     pages: MappedPages,
-}
-
-/// An index has 32 bits.
-fn low(index: u32)
-    ensures { nat_lt index (2 ^ 32) ≡ true }
-{
-    let _ = index;
-}
-
-/// What a slot was derived from has an index of 32 bits, as its type says.
-fn narrow(slot: &NotedSlot)
-    ensures { is_narrow slot.now ≡ true }
-{
-    if let Some(key) = slot.parent {
-        low(key.index);
-    }
-}
-
-/// Puts a change among changes whose keys rise, in place of one to the same slot. Memory may be refused.
-pub(crate) fn put(changes: &mut Vec<NotedSlot>, change: NotedSlot) -> Result<(), AllocError>
-    requires { Rise changes.old.items }
-    ensures rising { IfOk result (λ _. Rise changes.new.items) }
-    ensures same { IfOk result (λ _. (key : SlotKey) → slot_at changes.new.items key ≡ (if is_same_key change.key key then Some change else slot_at changes.old.items key)) }
-    ensures narrow { IfOk result (λ _. AreNarrow changes.old.items → AreNarrow changes.new.items) }
-    ensures kept { IfErr result (λ _. changes.new.items ≡ changes.old.items) }
-{
-    narrow(&change);
-    match changes.binary_search_by_key(&change.key.number(), |slot| slot.key.number()) {
-        Ok(place) => changes[place] = change,
-        Err(place) => changes.insert(place, change)?,
-    }
-    Ok(())
 }
 
 impl Model for ShownChanges {
@@ -61,9 +28,9 @@ impl Model for ShownChanges {
 
     ghost Value = { List NotedSlot };
 
-    ghost view = { λ shown. shown.changes.items };
+    ghost view = { λ shown. shown.changes };
 
-    ghost invariant = { λ shown. AreLinked shown.changes.items shown.families.links.keys × ArePaged shown.changes.items shown.pages.slots.keys × AreNarrow shown.changes.items };
+    ghost invariant = { λ shown. AreLinked shown.changes shown.families.links.keys × ArePaged shown.changes shown.pages.slots.keys × AreNarrow shown.changes };
 }
 
 impl ShownChanges {
@@ -72,7 +39,7 @@ impl ShownChanges {
         ensures { result ≡ [] }
     {
         ShownChanges {
-            changes: Vec::new(alloc),
+            changes: Changes::new(alloc),
             families: Families::new(alloc),
             pages: MappedPages::new(alloc),
         }
@@ -84,11 +51,9 @@ impl ShownChanges {
         ensures rising { IfOk result (λ _. Rise self.new) }
         ensures same { IfOk result (λ _. (key : SlotKey) → slot_at self.new key ≡ (if is_same_key change.key key then Some change else slot_at self.old key)) }
     {
-        let before = listed(&self.changes, change.key);
         self.families.add(change)?;
         self.pages.add(change)?;
-        put(&mut self.changes, change)?;
-        if let Some(before) = before {
+        if let Some(before) = self.changes.put(change)? {
             self.families.replace(before, change);
             self.pages.replace(before, change);
         }

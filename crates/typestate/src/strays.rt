@@ -87,18 +87,31 @@ impl Space<'_, '_> {
         false
     }
 
-    /// Whether one of these is a slot that the thread may not have, where no other slot is full: what has a parent is one.
+    /// Whether one of the slots that the changes name is one that the thread may not have.
+    fn one_change_stray(&self, slots: &NotedSlots<'_>) -> bool
+        ensures { result ≡ list_any (λ k. is_stray_at self.now (slots_of slots.now) k.key) slots.now.changes.now }
+    {
+        for change in slots.changes.iter() {
+            if self.holds_stray(slots, change.key) {
+                return true;
+            }
+        }
+        false
+    }
+
+    /// Whether a slot is one that the thread may not have, where no other slot is full: what has a parent is one.
+    fn is_stray_alone(&self, slot: NotedSlot) -> bool
+        ensures { result ≡ is_stray_in self.now [] slot }
+    {
+        self.is_unfit(slot) || slot.parent.is_some()
+    }
+
+    /// Whether one of these is a slot that the thread may not have, where no other slot is full.
     pub fn lists_stray(&self, listed: &[NotedSlot]) -> bool
         ensures { result ≡ list_any (is_stray_in self.now []) listed.now }
     {
-        let none = NotedSlots {
-            image: &[],
-            changes: &[],
-            families: None,
-            pages: None,
-        };
         for slot in listed {
-            if self.is_stray(&none, *slot) {
+            if self.is_stray_alone(*slot) {
                 return true;
             }
         }
@@ -136,7 +149,7 @@ impl ToldSlots<'_, '_, '_> {
         ensures { result ≡ list_any (is_stray_in self.now.space (slots_of self.now.slots)) (slots_of self.now.slots) }
     {
         let listed = self.keeps_stray();
-        let changed = self.space.one_stray(&self.slots, self.slots.changes);
+        let changed = self.space.one_change_stray(&self.slots);
         listed || changed
     }
 

@@ -24,7 +24,7 @@ notes-init c =
         clean = tt;
       },
       subst (λ (rs : List StateRecord). AreLeft own 0 rs) (sym c.of-records.ensures) (all-left own c.args.program.now.fits),
-      c.new-shown.ensures log,
+      c.new-shown.ensures.shown log,
     )
 
 pub note-requires-clause-noted : goal.note-requires-clause-noted

@@ -1,5 +1,5 @@
 -- By what is kept of the entry.
-use Rattle.std.proofs.Common.{◌∙◌, ◌<◌, inl, inr, Some, length, refl, sym, ap, arith}
+use Rattle.std.proofs.Common.{◌∙◌, ◌<◌, inl, inr, Some, [], length, refl, sym, ap, arith}
 use Rattle.model.specs.Acceptance.PointRules.{entry_rules}
 use Rattle.model.specs.Acceptance.PointStates.{Noted, noted}
 use Rattle.model.specs.Acceptance.Rules.{first_broken}
@@ -11,6 +11,7 @@ use Rattle.program_rules.proofs.Outcomes.{told}
 use Rattle.program_rules.proofs.PointLists.{at-entry}
 use Rattle.program_rules.proofs.programs.Program.entry_rules.Goals as goal
 use Rattle.program_rules.specs.Programs.{thread_of}
+use Rattle.typestate.specs.Differences.{changed}
 
 pub shown-requires : goal.shown-requires
 shown-requires c =
@@ -29,7 +30,8 @@ returns-in-Known c =
     let entry = ap (λ h. h.entry) c.header-entry.ensures in
     let within : c.header-entry.result.entry < length c.args.points.now.kept.items = omega (arith, count, entry, c.args.self.now.entry) in
     let is = kept-at image t c.args.self.now.slots.now c.args.points.now.log c.args.points.now.kept.items c.header-entry.result.entry c.index.result.now c.requires.read.noted within c.index.ensures in
-    told _ c.entered.result (c.entered.ensures image t refl (at-entry t c.header-entry.result.entry c.at.result entry c.at.ensures) c.args.self.now.listed
+    told _ c.entered.result (c.entered.ensures image t refl (at-entry t c.header-entry.result.entry c.at.result entry c.at.ensures)
+    (c.slots-start.ensures.slots ∙ ap (changed c.args.self.now.slots.now) c.new-nothing.ensures.none ∙ c.args.self.now.listed)
     ∙ ap (λ (n : Noted). first_broken (entry_rules image t n)) (ap noted_of (sym c.in-Known.is) ∙ c.noted.ensures.noted c.args.points.now.log c.in_ok-shown.ensures.own ∙ is.same ∙ ap (noted image t) entry))
 
 pub returns : goal.returns
@@ -46,3 +48,6 @@ returns c =
       | inl missing ↦ inr (sym (ap (λ (p : Point). Some (RangeNotKept p)) at ∙ ap (λ (n : Noted). first_broken (entry_rules image t n)) (ap noted_of (sym missing) ∙ same)))
       | inr unmeasured ↦ inr (sym (ap (λ (p : Point). Some (RangeNotKept p)) at ∙ ap (λ (n : Noted). first_broken (entry_rules image t n)) (ap noted_of (sym unmeasured) ∙ same)))
     ]
+
+pub slots-start-requires-clause-shown : goal.slots-start-requires-clause-shown
+slots-start-requires-clause-shown c = (c.new-nothing.ensures.shown []).rising

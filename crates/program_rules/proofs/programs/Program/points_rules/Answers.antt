@@ -12,7 +12,7 @@ use Rattle.program_rules.specs.Programs.{thread_of}
 pub rules-init : goal.rules-init
 rules-init c =
     let own = c.args.self.now.space.thread.now in
-    (c.requires.read, subst (λ (rs : List StateRecord). AreLeft own 0 rs) (sym c.of-records.ensures) (all-left own c.args.self.now.fits), refl, c.new-shown.ensures c.args.points.now.log)
+    (c.requires.read, subst (λ (rs : List StateRecord). AreLeft own 0 rs) (sym c.of-records.ensures) (all-left own c.args.self.now.fits), refl, c.new-shown.ensures.shown c.args.points.now.log)
 
 pub point_rules-requires-clause-noted : goal.point_rules-requires-clause-noted
 point_rules-requires-clause-noted c =

@@ -1,7 +1,7 @@
--- Both hold the same at the keys so far.
-use Rattle.std.proofs.Common.{◌≡◌, drop}
+-- What is left of the keys decides.
+use Rattle.std.proofs.Common.{◌≡◌}
 use Rattle.typestate.specs.Differences.{are_same_at, slots_of}
 use Rattle.typestate.proofs.points.NotedSlots.agrees_at.Given as goal
 
 abbrev pub invariant-loop-slot : goal.invariant-loop-slot
-invariant-loop-slot l = are_same_at (slots_of l.self) (slots_of l.other) (drop l.slot-index l.keys) ≡ are_same_at (slots_of l.self) (slots_of l.other) l.fn.keys
+invariant-loop-slot l = are_same_at (slots_of l.fn.self) (slots_of l.fn.other) l.slot-iterator ≡ are_same_at (slots_of l.fn.self) (slots_of l.fn.other) l.fn.keys

@@ -14,5 +14,5 @@ returns-in-Some c =
 pub returns-in-None : goal.returns-in-None
 returns-in-None c =
     let noted = c.args.self.now in
-    c.listed-in-None.ensures ∙ ap (λ (found : Option NotedSlot). found_or found (slot_at noted.image.now c.args.key)) (c.in-None.ensures)
+    c.listed.ensures ∙ ap (λ (found : Option NotedSlot). found_or found (slot_at noted.image.now c.args.key)) (c.in-None.ensures)
     ∙ sym (changed-at noted.changes.now noted.image.now 0 c.args.key (from-first noted.changes.now noted.ordered))

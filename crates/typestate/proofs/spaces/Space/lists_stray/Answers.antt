@@ -10,13 +10,13 @@ pub loop-slot-preserved : goal.loop-slot-preserved
 loop-slot-preserved c =
     let test : NotedSlot → Bool = is_stray_in c.args.self.now [] in
     one-fails test c.args.listed.now c.loop-slot.slot-index c.slot-item.result (list_any test c.args.listed.now) c.loop-slot-test.true c.slot-item.is
-    (sym c.is_stray.ensures ∙ c.if-is_stray.false) c.loop-slot.invariant
+    (sym c.is_stray_alone.ensures ∙ c.if-is_stray_alone.false) c.loop-slot.invariant
 
-pub returns-then-is_stray : goal.returns-then-is_stray
-returns-then-is_stray c =
+pub returns-then-is_stray_alone : goal.returns-then-is_stray_alone
+returns-then-is_stray_alone c =
     let test : NotedSlot → Bool = is_stray_in c.args.self.now [] in
     this-passes test c.args.listed.now c.loop-slot.slot-index c.slot-item.result (list_any test c.args.listed.now) c.loop-slot-test.true c.slot-item.is
-    (sym c.is_stray.ensures ∙ c.if-is_stray.true) c.loop-slot.invariant
+    (sym c.is_stray_alone.ensures ∙ c.if-is_stray_alone.true) c.loop-slot.invariant
 
 pub returns : goal.returns
 returns c =
