@@ -1,14 +1,14 @@
 -- The rules on the ways on from an instruction.
-use Rattle.std.proofs.Common.{ℕ, ℤ, ◌≡◌, ◌≢◌, ◌∙◌, ◌+◌, ◌++◌, true, false, Option, Some, None, Result, Ok, Err, List, [], ◌∷◌, refl, ap}
+use Rattle.std.proofs.Common.{ℕ, ℤ, ◌≡◌, ◌≢◌, ◌∙◌, ◌+◌, ◌++◌, ◌&&◌, Bool, true, false, not, Option, Some, None, Result, Ok, Err, List, [], ◌∷◌, refl, ap}
 use Rattle.std.specs.Prelude.{flat_map}
 use Rattle.std.specs.Option.{option_or}
 use Rattle.model.specs.Acceptance.CallRules.{AfterCall}
 use Rattle.model.specs.Acceptance.Edges.{Edge, after, behind, branch_edge, branch_ranges}
-use Rattle.model.specs.Acceptance.Measures.{Form, Measure}
-use Rattle.model.specs.Acceptance.NotedStates.{NotedSlot, PointState}
-use Rattle.model.specs.Acceptance.PointRules.{ProgramEdge, call_edge, call_edges, edge_rules, edges_at, edges_of, noted_at, refused_call, rules_on_edges}
+use Rattle.model.specs.Acceptance.Measures.{Form, Measure, falls, stays_below}
+use Rattle.model.specs.Acceptance.NotedStates.{NotedSlot, PointState, are_same_slots}
+use Rattle.model.specs.Acceptance.PointRules.{ProgramEdge, are_ranges_within, call_edge, call_edges, edge_rules, kept_at, edges_at, edges_of, noted_at, refused_call, rules_on_edges}
 use Rattle.model.specs.Acceptance.PointStates.{Noted, address_of, call_at, instruction_at, point_of}
-use Rattle.model.specs.Acceptance.Rules.{Rule, first_broken}
+use Rattle.model.specs.Acceptance.Rules.{Rule, first_broken, refuse_if}
 use Rattle.model.specs.Images.Described.{Numbered}
 use Rattle.model.specs.Images.Image.{Image, Thread}
 use Rattle.model.specs.Machine.Effects.{plus}
@@ -18,9 +18,22 @@ use Rattle.model.specs.declared.instructions.Instr.{Instr}
 use Rattle.model.specs.declared.instructions.Register.{Register}
 use Rattle.model.specs.declared.ranges.Range.{Range}
 use Rattle.model.specs.declared.refusals.Point.{Point}
+use Rattle.model.specs.declared.refusals.Refusal.TheVariants.{CapNotThere, MeasureNotFalling, OverBudget, RangeNotKept}
 use Rattle.model.specs.declared.refusals.Refusal.{Refusal}
 use Rattle.program_rules.proofs.FirstBroken.{first-both}
 use Rattle.program_rules.specs.PointChecks.{IsBefore, later_rules, way_rules}
+
+-- ---- a point with the same slots
+
+pub kept-beside : (t : Thread) (at : Point) (m : Measure) (edge : ProgramEdge) (ranges : List Range) (here there : List NotedSlot) (measure : Measure)
+    → are_same_slots edge.slots here ≡ are_same_slots edge.slots there
+    → first_broken (kept_at t at m edge (record { ranges = ranges; slots = here; measure = measure }))
+    ≡ first_broken (kept_at t at m edge (record { ranges = ranges; slots = there; measure = measure }))
+kept-beside t at m edge ranges here there measure same =
+    ap (λ (b : Bool). first_broken (refuse_if (not (are_ranges_within edge.ranges ranges)) (RangeNotKept at)
+    ∷ refuse_if (not b) (CapNotThere at)
+    ∷ refuse_if (not edge.is_wait && not (falls m measure edge.value_of edge.before edge.ranges)) (MeasureNotFalling at)
+    ∷ refuse_if (edge.is_wait && not (stays_below t.header.budget measure edge.value_of edge.before edge.ranges)) (OverBudget at) ∷ [])) same
 
 -- ---- one way
 

@@ -1,3 +1,4 @@
 pub mod WithinRanges
+mod PageRuns
 pub mod EntryTests
-mod LeftStates
+pub mod LeftStates

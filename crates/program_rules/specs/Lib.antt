@@ -1,5 +1,6 @@
 pub mod Left
 pub mod Kept
+pub mod SameParts
 pub mod Programs
 pub mod PointChecks
 pub mod point_rules

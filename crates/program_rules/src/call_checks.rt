@@ -21,6 +21,7 @@ use crate::kept::Known;
 use crate::point_rules::{Way, registers_of};
 use crate::points::Points;
 use crate::programs::Program;
+use crate::same_parts::SameParts;
 use image_reading::RecordRef;
 use measure::AfterCall;
 use model::Refusal;
@@ -57,7 +58,18 @@ impl Program<'_, '_> {
         };
         let at = self.at(point);
         let next = self.address(point) + 4;
-        self.way_to(points, shown, part, at, &known.measure, &way, &step, next)
+        let mut same = SameParts::new(self.alloc);
+        self.way_to(
+            points,
+            shown,
+            part,
+            at,
+            &known.measure,
+            &way,
+            &step,
+            next,
+            &mut same,
+        )
     }
 
     /// Whether the way on behind a system call that leaves this, and makes these changes of slots, keeps its rules.

@@ -7,10 +7,11 @@ ghost use Rattle.model.specs.Acceptance.Rules.{first_broken};
 ghost use Rattle.thread_spaces.specs.Given.{AreOffsets, IsListed};
 ghost use Rattle.wellformed.specs.Answering.{Answers};
 
+use crate::point_rules::runs_of;
 use crate::programs::Program;
 use format_laws::{certificates_that_fit_keep_their_limits, images_that_fit_keep_their_limits};
 use image_reading::{ImageRef, ThreadRef};
-use model::Refusal;
+use model::{Access, Refusal};
 use std::alloc::Global;
 use thread_spaces::{
     given_space, offsets_of, programs_have_their_places, reached_of, slots_of, windows_of,
@@ -36,11 +37,15 @@ fn check_program(
     let windows = windows_of(alloc, image, thread, offsets, &cnodes)?;
     let slots = slots_of(alloc, image, thread, offsets, &cnodes)?;
     let space = given_space(image, thread, offsets, &windows);
+    let loads = runs_of(alloc, image, thread, Access::Load)?;
+    let stores = runs_of(alloc, image, thread, Access::Store)?;
     let program = Program {
         space,
         number,
         slots: &slots,
         lists_stray: space.lists_stray(&slots),
+        loads: &loads,
+        stores: &stores,
         alloc,
     };
     program.check()

@@ -1,6 +1,7 @@
 //! What is kept of a point.
 
 ghost use Rattle.std.specs.Prelude.{◌≡◌, IfOk, List};
+ghost use Rattle.measure.specs.Measures.{measure_of};
 ghost use Rattle.model.specs.Acceptance.NotedStates.{NotedSlot};
 ghost use Rattle.program_rules.specs.point_rules.Points.{HasImage, noted_of, state_of};
 ghost use Rattle.program_rules.specs.Kept.{HasPart, ShowsKept, has_state, noted_by, state_by};
@@ -42,6 +43,7 @@ impl Known {
         requires rising { Rise slots.now }
         requires unlinked { AreUnlinked slots.now }
         ensures slots { slots_of result.slots ≡ changed slots.now shown.now.changes }
+        ensures same { state_of result ≡ record { ranges = self.now.bounds; slots = changed slots.now shown.now.changes; measure = measure_of self.now.measure } }
         ensures state { (log : List NotedSlot) → Shows log self.now.part shown.now → state_of result ≡ state_by slots.now log self.now }
         ensures image { result.slots.image.now ≡ slots.now }
     {

@@ -13,6 +13,7 @@ mod points;
 mod points_checks;
 mod programs;
 mod records;
+mod same_parts;
 mod space_rules;
 mod ways;
 

@@ -63,6 +63,8 @@ impl Program<'_, '_> {
             thread: self.space.thread,
             root: self.space.table,
             slots: *slots,
+            loads: self.loads,
+            stores: self.stores,
         };
         match instr {
             Some(instr) => pages.is_unmapped(instr, bounds),

@@ -9,6 +9,7 @@ ghost use Rattle.model.specs.Acceptance.PointStates as states;
 ghost use Rattle.model.specs.Acceptance.Rules.{first_broken};
 ghost use Rattle.program_rules.specs.Kept.{IsCleanIn, IsRead, IsSound, state_by};
 ghost use Rattle.program_rules.specs.Programs.{thread_of};
+ghost use Rattle.program_rules.specs.SameParts.{AreSame};
 ghost use Rattle.program_rules.specs.declared.kept.Kept.TheVariants as kept;
 ghost use Rattle.typestate.specs.Logs.{KeepsParts, Shows, ShowsSome};
 ghost use Rattle.wellformed.specs.Answering.{Answers};
@@ -18,6 +19,7 @@ use crate::notes::RecordsLeft;
 use crate::point_rules::{Noted, entered};
 use crate::points::Points;
 use crate::programs::Program;
+use crate::same_parts::SameParts;
 use image_reading::RecordRef;
 use model::{Instr, Refusal};
 use rv32_isa::decode;
@@ -34,6 +36,7 @@ impl Program<'_, '_> {
         noted: Option<&RecordRef<'_>>,
         is_next_noted: bool,
         known: &Known,
+        same: &mut SameParts,
     ) -> Result<(), Refusal>
         requires read { IsRead self.now.space.image.now (thread_of self.now) self.now.slots.now points.old.log points.old.kept.items }
         requires within { point < self.now.space.thread.now.header.words }
@@ -43,6 +46,8 @@ impl Program<'_, '_> {
         requires sound { IsSound points.old.log point (kept.Known known.now) }
         requires part { Shows points.old.log known.now.part shown.now }
         requires clean { IsCleanIn self.now.space.image.now self.now.space.thread.now self.now.slots.now points.old.log (kept.Known known.now) }
+        requires same { AreSame self.now.slots.now points.old.log same.old }
+        ensures same { IfOk result (λ _. AreSame self.now.slots.now points.new.log same.new) }
         ensures broken { Answers (first_broken (state_rules self.now.space.image.now (thread_of self.now) point (state_by self.now.slots.now points.old.log known.now))) result }
         ensures read { IfOk result (λ _. IsRead self.now.space.image.now (thread_of self.now) self.now.slots.now points.new.log points.new.kept.items) }
         ensures others { IfOk result (λ _. KeepsParts points.old.log points.new.log) }
@@ -54,7 +59,9 @@ impl Program<'_, '_> {
             Some(Instr::Ecall) => {
                 self.call_rules(points, shown, point, noted, is_next_noted, known)
             }
-            Some(instr) => self.ways_rules(points, shown, point, instr, known, is_next_noted),
+            Some(instr) => {
+                self.ways_rules(points, shown, point, instr, known, is_next_noted, same)
+            }
             None => Ok(()),
         }
     }
@@ -68,12 +75,15 @@ impl Program<'_, '_> {
         point: u32,
         noted: Option<&RecordRef<'_>>,
         is_next_noted: bool,
+        same: &mut SameParts,
     ) -> Result<(), Refusal>
         requires read { IsRead self.now.space.image.now (thread_of self.now) self.now.slots.now points.old.log points.old.kept.items }
         requires within { point < self.now.space.thread.now.header.words }
         requires noted { option_map (λ r. r.now) noted ≡ record_of self.now.space.thread.now point }
         requires next { is_next_noted ≡ false → record_of self.now.space.thread.now (point + 1) ≡ None }
         requires some { ShowsSome points.old.log shown.old }
+        requires same { AreSame self.now.slots.now points.old.log same.old }
+        ensures same { IfOk result (λ _. AreSame self.now.slots.now points.new.log same.new) }
         ensures broken { Answers (first_broken (point_rules self.now.space.image.now (thread_of self.now) point)) result }
         ensures read { IfOk result (λ _. IsRead self.now.space.image.now (thread_of self.now) self.now.slots.now points.new.log points.new.kept.items) }
         ensures shown { IfOk result (λ _. ShowsSome points.new.log shown.new) }
@@ -81,7 +91,7 @@ impl Program<'_, '_> {
         match points.kept[point as usize] {
             Kept::Known(known) => {
                 points.log.show(shown, known.part)?;
-                self.state_rules(points, shown, point, noted, is_next_noted, &known)
+                self.state_rules(points, shown, point, noted, is_next_noted, &known, same)
             }
             Kept::Missing | Kept::Unmeasured => Ok(()),
         }
@@ -94,10 +104,18 @@ impl Program<'_, '_> {
     {
         let mut records = RecordsLeft::of(self.space.thread);
         let mut shown = ShownPart::new(self.alloc);
+        let mut same = SameParts::new(self.alloc);
         'rules: for point in 0..self.space.thread.word_count() {
             let noted = records.take(point);
             let is_next_noted = records.is_next(point + 1);
-            self.point_rules(points, &mut shown, point, noted.as_ref(), is_next_noted)?;
+            self.point_rules(
+                points,
+                &mut shown,
+                point,
+                noted.as_ref(),
+                is_next_noted,
+                &mut same,
+            )?;
         }
         Ok(())
     }

@@ -5,10 +5,14 @@ ghost use Rattle.std.specs.List.{list_any};
 ghost use Rattle.format_laws.specs.Fitting.{CertificateFits};
 ghost use Rattle.model.specs.Acceptance.Accepted.{IsWellFormed};
 ghost use Rattle.model.specs.Acceptance.NotedStates.{image_slots};
+ghost use Rattle.model.specs.Acceptance.PointRules.{maps_for};
+ghost use Rattle.model.specs.declared.instructions.Access.TheVariants as accesses;
+ghost use Rattle.program_rules.specs.point_rules.Runs.{AreRuns};
 ghost use Rattle.typestate.specs.Orders.{Rise};
 ghost use Rattle.typestate.specs.Strays.{is_stray_in};
 ghost use Rattle.typestate.specs.Unlinked.{AreUnlinked};
 
+use crate::point_rules::PageRun;
 use std::alloc::Global;
 use typestate::{NotedSlot, Space};
 
@@ -22,6 +26,9 @@ pub(crate) struct Program<'a, 's> {
     pub(crate) slots: &'s [NotedSlot],
     /// Whether these hold what the thread may not have. They are the same at each point, so this is told once.
     pub(crate) lists_stray: bool,
+    /// The pages that the image maps for loads, and those for stores. They are the same at each point too.
+    pub(crate) loads: &'s [PageRun],
+    pub(crate) stores: &'s [PageRun],
     /// For the lists of slots that calls change.
     pub(crate) alloc: Global,
     ghost formed: { IsWellFormed space.image.now },
@@ -30,6 +37,8 @@ pub(crate) struct Program<'a, 's> {
     ghost rising: { Rise slots.now },
     ghost unlinked: { AreUnlinked slots.now },
     ghost told: { lists_stray ≡ list_any (is_stray_in space []) slots.now },
+    ghost loaded: { AreRuns (λ page. list_any (maps_for accesses.Load space.thread.now page) space.image.now.frames) loads.now },
+    ghost stored: { AreRuns (λ page. list_any (maps_for accesses.Store space.thread.now page) space.image.now.frames) stores.now },
     ghost fits: { CertificateFits space.thread.now },
     // Its words lie in memory.
     ghost inside: { space.thread.now.header.base + 4 * space.thread.now.header.words ≤ 2 ^ 31 },

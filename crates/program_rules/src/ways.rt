@@ -4,7 +4,7 @@ ghost use Rattle.std.specs.Prelude.{ℕ, ◌≡◌, ◌+◌, ◌<◌, ◌≢◌,
 ghost use Rattle.std.specs.Result.{result_err};
 ghost use Rattle.measure.specs.Measures.{measure_of};
 ghost use Rattle.model.specs.Acceptance.Edges.{Edge as RuleEdge, after};
-ghost use Rattle.model.specs.Acceptance.NotedStates.{NotedSlot, PointState as State, record_of};
+ghost use Rattle.model.specs.Acceptance.NotedStates.{NotedSlot, PointState as State, are_same_slots, record_of};
 ghost use Rattle.model.specs.Acceptance.PointRules.{edge_rules, noted_at, point_at, rules_on_edges};
 ghost use Rattle.model.specs.Acceptance.PointStates.{address_of, instruction_at, noted};
 ghost use Rattle.model.specs.Acceptance.PointStates as states;
@@ -19,7 +19,8 @@ ghost use Rattle.program_rules.specs.PointChecks.{IsBefore, is_branch, later_rul
 ghost use Rattle.program_rules.specs.Programs.{thread_of};
 ghost use Rattle.ranges.specs.Edges.{way_of};
 ghost use Rattle.typestate.specs.Differences.{changed, slots_of};
-ghost use Rattle.typestate.specs.Logs.{Shows};
+ghost use Rattle.program_rules.specs.SameParts.{AreSame};
+ghost use Rattle.typestate.specs.Logs.{Holds, Shows, part_of};
 ghost use Rattle.typestate.specs.Orders.{Rise};
 ghost use Rattle.wellformed.specs.Answering.{Answers};
 
@@ -27,9 +28,11 @@ use crate::kept::{Kept, Known};
 use crate::point_rules::{Way, kept_at, leads_to, left_calls_are_kept, left_states_are_kept};
 use crate::points::Points;
 use crate::programs::Program;
+use crate::same_parts::SameParts;
 use measure::{AfterInstruction, Measure, Step};
 use model::{Instr, Point, Refusal};
 use ranges::{Bounds, Edge, after};
+use std::alloc::AllocError;
 use typestate::{Part, ShownPart};
 
 /// The ranges before an instruction, for the values that come this way: a branch leaves only some of them.
@@ -80,7 +83,38 @@ impl Program<'_, '_> {
         }
     }
 
-    /// Whether a way on that leads from this part's slots to a point with the same part keeps its rules: the slots are not looked at.
+    /// Whether the slots of a part, which is shown, are those of another one. Those that were found to be are not compared again.
+    fn has_same_slots(
+        &self,
+        points: &Points,
+        shown: &ShownPart,
+        part: Part,
+        other: Part,
+        same: &mut SameParts,
+    ) -> Result<bool, AllocError>
+        requires shown { Shows points.now.log part shown.now }
+        requires held { Holds points.now.log other }
+        requires same { AreSame self.now.slots.now points.now.log same.old }
+        ensures is { IfOk result (λ is. is ≡ true → are_same_slots (changed self.now.slots.now (part_of points.now.log part)) (changed self.now.slots.now (part_of points.now.log other)) ≡ true) }
+        ensures same { IfOk result (λ _. AreSame self.now.slots.now points.now.log same.new) }
+    {
+        if part.is_same(other) {
+            return Ok(true);
+        }
+        if same.has(part, other) {
+            return Ok(true);
+        }
+        let there = points.log.shown(other)?;
+        let mine = shown.slots(self.slots);
+        let theirs = there.slots(self.slots);
+        if !mine.is_same(&theirs) {
+            return Ok(false);
+        }
+        same.note(part, other)?;
+        Ok(true)
+    }
+
+    /// Whether a way on that leads from this part's slots to a point with the same slots keeps its rules: they are not looked at.
     fn way_within<S: Step>(
         &self,
         shown: &ShownPart,
@@ -93,7 +127,7 @@ impl Program<'_, '_> {
         requires image { way.now.slots.image.now ≡ self.now.slots.now }
         requires shown { Rise shown.now.changes }
         requires slots { slots_of way.now.slots ≡ changed self.now.slots.now shown.now.changes }
-        ensures { (log : List NotedSlot) (t : Thread) (a : ℕ) → Shows log known.now.part shown.now → t.header.budget ≡ self.now.space.thread.now.header.budget
+        ensures { (log : List NotedSlot) (t : Thread) (a : ℕ) → are_same_slots (slots_of way.now.slots) (changed self.now.slots.now (part_of log known.now.part)) ≡ true → t.header.budget ≡ self.now.space.thread.now.header.budget
             → result_err result ≡ first_broken (edge_rules t at (measure_of measure.now) (edge_of a (S.value_of step.now) way.now) (states.Known (state_by self.now.slots.now log known.now))) }
     {
         let state = known.state(self.slots, shown);
@@ -114,6 +148,65 @@ impl Program<'_, '_> {
         )
     }
 
+    /// Whether a way on to a point of which this is kept keeps its rules: their slots are compared.
+    fn way_compared<S: Step>(
+        &self,
+        points: &Points,
+        at: Point,
+        measure: &Measure,
+        way: &Way<'_>,
+        step: &S,
+        kept: &Kept,
+    ) -> Result<(), Refusal>
+        requires held { HasPart points.now.log kept.now }
+        requires image { way.now.slots.image.now ≡ self.now.slots.now }
+        requires plain { way.now.keeps_slots ≡ false }
+        ensures { (t : Thread) (a : ℕ) → t.header.budget ≡ self.now.space.thread.now.header.budget
+            → Answers (first_broken (edge_rules t at (measure_of measure.now) (edge_of a (S.value_of step.now) way.now) (noted_by self.now.slots.now points.now.log kept.now))) result }
+    {
+        let there = kept.shown(self.alloc, &points.log)?;
+        let target = kept.noted(self.slots, &there);
+        leads_to(
+            self.space.thread.header().budget,
+            at,
+            measure,
+            way,
+            step,
+            &target,
+        )
+    }
+
+    /// Whether a way on that leads from the slots of this part to a point with this state keeps its rules. Slots that were found to be
+    /// the same are not compared again.
+    fn way_known<S: Step>(
+        &self,
+        points: &Points,
+        shown: &ShownPart,
+        part: Part,
+        at: Point,
+        measure: &Measure,
+        way: &Way<'_>,
+        step: &S,
+        known: &Known,
+        same: &mut SameParts,
+    ) -> Result<(), Refusal>
+        requires held { Holds points.now.log known.now.part }
+        requires image { way.now.slots.image.now ≡ self.now.slots.now }
+        requires plain { way.now.keeps_slots ≡ false }
+        requires shown { Shows points.now.log part shown.now }
+        requires slots { slots_of way.now.slots ≡ changed self.now.slots.now shown.now.changes }
+        requires same { AreSame self.now.slots.now points.now.log same.old }
+        ensures same { IfOk result (λ _. AreSame self.now.slots.now points.now.log same.new) }
+        ensures answers { (t : Thread) (a : ℕ) → t.header.budget ≡ self.now.space.thread.now.header.budget
+            → Answers (first_broken (edge_rules t at (measure_of measure.now) (edge_of a (S.value_of step.now) way.now) (states.Known (state_by self.now.slots.now points.now.log known.now)))) result }
+    {
+        if self.has_same_slots(points, shown, part, known.part, same)? {
+            return self.way_within(shown, at, measure, way, step, known);
+        }
+        let kept = Kept::Known(*known);
+        self.way_compared(points, at, measure, way, step, &kept)
+    }
+
     /// Whether a way on that leads from the slots of this part to an address keeps its rules. An `Err` names the first that it breaks, or
     /// says that memory was refused.
     pub(crate) fn way_to<S: Step>(
@@ -126,31 +219,25 @@ impl Program<'_, '_> {
         way: &Way<'_>,
         step: &S,
         address: u32,
+        same: &mut SameParts,
     ) -> Result<(), Refusal>
         requires read { IsRead self.now.space.image.now (thread_of self.now) self.now.slots.now points.now.log points.now.kept.items }
         requires image { way.now.slots.image.now ≡ self.now.slots.now }
         requires plain { way.now.keeps_slots ≡ false }
         requires shown { Shows points.now.log part shown.now }
         requires slots { slots_of way.now.slots ≡ changed self.now.slots.now shown.now.changes }
-        ensures { (t : Thread) (a : ℕ) → t.header.budget ≡ self.now.space.thread.now.header.budget
+        requires same { AreSame self.now.slots.now points.now.log same.old }
+        ensures same { IfOk result (λ _. AreSame self.now.slots.now points.now.log same.new) }
+        ensures answers { (t : Thread) (a : ℕ) → t.header.budget ≡ self.now.space.thread.now.header.budget
             → Answers (first_broken (edge_rules t at (measure_of measure.now) (edge_of a (S.value_of step.now) way.now) (noted_at self.now.space.image.now (thread_of self.now) address))) result }
     {
         let kept = self.kept_at(points, address);
         match kept {
-            Kept::Known(known) if known.part.is_same(part) => {
-                self.way_within(shown, at, measure, way, step, &known)
-            }
-            _ => {
-                let there = kept.shown(self.alloc, &points.log)?;
-                let target = kept.noted(self.slots, &there);
-                leads_to(
-                    self.space.thread.header().budget,
-                    at,
-                    measure,
-                    way,
-                    step,
-                    &target,
-                )
+            Kept::Known(known) => self.way_known(
+                points, shown, part, at, measure, way, step, &known, same,
+            ),
+            Kept::Missing | Kept::Unmeasured => {
+                self.way_compared(points, at, measure, way, step, &kept)
             }
         }
     }
@@ -164,11 +251,14 @@ impl Program<'_, '_> {
         instr: Instr,
         known: &Known,
         way: &Edge,
+        same: &mut SameParts,
     ) -> Result<(), Refusal>
         requires read { IsRead self.now.space.image.now (thread_of self.now) self.now.slots.now points.now.log points.now.kept.items }
         requires instr { IsInstr instr }
         requires shown { Shows points.now.log known.now.part shown.now }
-        ensures { (edge : RuleEdge) → way_of edge ≡ way.now → edge.before ≡ (if is_branch instr then edge.ranges else known.now.bounds)
+        requires same { AreSame self.now.slots.now points.now.log same.old }
+        ensures same { IfOk result (λ _. AreSame self.now.slots.now points.now.log same.new) }
+        ensures answers { (edge : RuleEdge) → way_of edge ≡ way.now → edge.before ≡ (if is_branch instr then edge.ranges else known.now.bounds)
             → Answers (first_broken (way_rules self.now.space.image.now (thread_of self.now) point (state_by self.now.slots.now points.now.log known.now) instr (Some edge))) result }
     {
         let found = Way {
@@ -189,6 +279,7 @@ impl Program<'_, '_> {
             &found,
             &step,
             way.target,
+            same,
         )
     }
 
@@ -201,15 +292,18 @@ impl Program<'_, '_> {
         instr: Instr,
         known: &Known,
         way: &Option<Edge>,
+        same: &mut SameParts,
     ) -> Result<(), Refusal>
         requires read { IsRead self.now.space.image.now (thread_of self.now) self.now.slots.now points.now.log points.now.kept.items }
         requires instr { IsInstr instr }
         requires shown { Shows points.now.log known.now.part shown.now }
-        ensures { (edge : Option RuleEdge) → option_map way_of edge ≡ way.now → IsBefore instr known.now.bounds edge
+        requires same { AreSame self.now.slots.now points.now.log same.old }
+        ensures same { IfOk result (λ _. AreSame self.now.slots.now points.now.log same.new) }
+        ensures answers { (edge : Option RuleEdge) → option_map way_of edge ≡ way.now → IsBefore instr known.now.bounds edge
             → Answers (first_broken (way_rules self.now.space.image.now (thread_of self.now) point (state_by self.now.slots.now points.now.log known.now) instr edge)) result }
     {
         match way {
-            Some(way) => self.way_rules(points, shown, point, instr, known, way),
+            Some(way) => self.way_rules(points, shown, point, instr, known, way, same),
             None => Ok(()),
         }
     }
@@ -246,18 +340,21 @@ impl Program<'_, '_> {
         point: u32,
         instr: Instr,
         known: &Known,
+        same: &mut SameParts,
     ) -> Result<(), Refusal>
         requires read { IsRead self.now.space.image.now (thread_of self.now) self.now.slots.now points.now.log points.now.kept.items }
         requires within { point < self.now.space.thread.now.header.words }
         requires instr { IsInstr instr }
         requires shown { Shows points.now.log known.now.part shown.now }
-        ensures { Answers (first_broken (way_rules self.now.space.image.now (thread_of self.now) point (state_by self.now.slots.now points.now.log known.now) instr (after (address_of self.now.space.thread.now point) instr known.now.bounds).taken)) result }
+        requires same { AreSame self.now.slots.now points.now.log same.old }
+        ensures same { IfOk result (λ _. AreSame self.now.slots.now points.now.log same.new) }
+        ensures answers { Answers (first_broken (way_rules self.now.space.image.now (thread_of self.now) point (state_by self.now.slots.now points.now.log known.now) instr (after (address_of self.now.space.thread.now point) instr known.now.bounds).taken)) result }
     {
         if takes_no_way(instr) {
             return Ok(());
         }
         let ways = after(self.address(point), instr, &known.bounds);
-        self.option_rules(points, shown, point, instr, known, &ways.taken)
+        self.option_rules(points, shown, point, instr, known, &ways.taken, same)
     }
 
     /// The rules on the ways on from an instruction that is no system call, the taken one first.
@@ -269,6 +366,7 @@ impl Program<'_, '_> {
         instr: Instr,
         known: &Known,
         is_next_noted: bool,
+        same: &mut SameParts,
     ) -> Result<(), Refusal>
         requires read { IsRead self.now.space.image.now (thread_of self.now) self.now.slots.now points.now.log points.now.kept.items }
         requires within { point < self.now.space.thread.now.header.words }
@@ -278,13 +376,15 @@ impl Program<'_, '_> {
         requires is { instruction_at self.now.space.thread.now point ≡ Some instr }
         requires plain { instr ≢ Ecall }
         requires shown { Shows points.now.log known.now.part shown.now }
-        ensures { Answers (first_broken (rules_on_edges self.now.space.image.now (thread_of self.now) point (state_by self.now.slots.now points.now.log known.now))) result }
+        requires same { AreSame self.now.slots.now points.now.log same.old }
+        ensures same { IfOk result (λ _. AreSame self.now.slots.now points.now.log same.new) }
+        ensures answers { Answers (first_broken (rules_on_edges self.now.space.image.now (thread_of self.now) point (state_by self.now.slots.now points.now.log known.now))) result }
     {
         if self.leaves_next(points, point, is_next_noted) {
-            return self.taken_rules(points, shown, point, instr, known);
+            return self.taken_rules(points, shown, point, instr, known, same);
         }
         let ways = after(self.address(point), instr, &known.bounds);
-        self.option_rules(points, shown, point, instr, known, &ways.taken)?;
-        self.option_rules(points, shown, point, instr, known, &ways.fall_through)
+        self.option_rules(points, shown, point, instr, known, &ways.taken, same)?;
+        self.option_rules(points, shown, point, instr, known, &ways.fall_through, same)
     }
 }

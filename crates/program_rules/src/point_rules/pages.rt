@@ -1,26 +1,22 @@
 //! Whether loads and stores reach only bytes that the thread may read or write.
 //! RISC-V Unprivileged ISA, 2.6 "Load and Store Instructions".
 
-ghost use Rattle.std.specs.Prelude.{◌≡◌, ◌<◌, ◌≤◌, ◌≤ℤ◌, ◌+ℤ◌, ◌^◌, Some, pos};
+ghost use Rattle.std.specs.Prelude.{ℕ, ◌≡◌, ◌<◌, ◌≤◌, ◌≤ℤ◌, ◌+ℤ◌, ◌^◌, IfNone, IfSome, Some, false, pos, true};
 ghost use Rattle.std.specs.Int.{byte_len};
 ghost use Rattle.std.specs.List.{list_any};
 ghost use Rattle.model.specs.Acceptance.PointRules.{are_mapped, is_allowed, is_mapped_for, is_unmapped, maps_for};
 ghost use Rattle.model.specs.Acceptance.Measures.{Measure};
-ghost use Rattle.model.specs.Capabilities.Rights.{rights};
 ghost use Rattle.model.specs.Machine.Effects.{load_size, store_size};
 ghost use Rattle.model.specs.Machine.Instructions.{IsInstr};
 ghost use Rattle.model.specs.Machine.ProgramMemory.{width_of};
+ghost use Rattle.program_rules.specs.point_rules.Runs.{AreRuns};
 ghost use Rattle.typestate.specs.Calls.{known_with};
 ghost use Rattle.typestate.specs.Differences.{slots_of};
 
 use crate::point_rules::Pages;
-use image_reading::frame_at;
-use model::{Access, AccessSize, FrameEntry, Instr, LoadOp, Range, Rights, StoreOp};
+use crate::point_rules::listed_pages::{PAGE, PageRun, is_listed, run_end};
+use model::{Access, AccessSize, Instr, LoadOp, Range, StoreOp};
 use ranges::Bounds;
-use typestate::allows;
-
-/// How many bytes a page has.
-const PAGE: u32 = 4096;
 
 /// How many bytes an access of this size has.
 fn width(size: AccessSize) -> u32
@@ -56,14 +52,6 @@ fn size_of_store(op: StoreOp) -> AccessSize
     }
 }
 
-/// The rights of a mapping.
-fn rights_of(frame: FrameEntry) -> Rights
-    requires { frame.rights ≤ 7 }
-    ensures { result ≡ rights frame.rights }
-{
-    Rights(frame.rights as u8)
-}
-
 /// The whole number that is so far behind an address.
 fn moved(address: u32, offset: i32) -> i64
     ensures value { result ≡ pos address +ℤ offset }
@@ -73,15 +61,14 @@ fn moved(address: u32, offset: i32) -> i64
 }
 
 impl Pages<'_, '_> {
-    /// Whether the image maps a page for an access.
-    fn is_listed(&self, access: Access, page: u32) -> bool
-        requires { page < 2 ^ 20 }
-        ensures { result ≡ list_any (maps_for access self.now.thread.now page) self.now.image.now.frames }
+    /// The pages, run by run, that the image maps for an access.
+    fn runs(&self, access: Access) -> &[PageRun]
+        ensures { AreRuns (λ page. list_any (maps_for access self.now.thread.now page) self.now.image.now.frames) result.now }
     {
-        let root = self.thread.header().root;
-        match frame_at(self.image, root, page * PAGE) {
-            Some(frame) => allows(access, rights_of(frame)),
-            None => false,
+        match access {
+            Access::Load => self.loads,
+            Access::Store => self.stores,
+            Access::Fetch => &[],
         }
     }
 
@@ -90,7 +77,26 @@ impl Pages<'_, '_> {
         requires { page < 2 ^ 20 }
         ensures { result ≡ is_mapped_for self.now.image.now self.now.thread.now (slots_of self.now.slots) access page }
     {
-        self.is_listed(access, page) || self.slots.maps(access, self.root, page)
+        is_listed(self.image, self.thread, access, page) || self.slots.maps(access, self.root, page)
+    }
+
+    /// A page after this one, up to which all are mapped for an access: none, where this one is not. Those that the image maps
+    /// one after another are one step.
+    fn mapped_to(&self, access: Access, page: u32) -> Option<u32>
+        requires { page < 2 ^ 20 }
+        ensures later { IfSome result (λ next. page < next) }
+        ensures mapped { IfSome result (λ next. (p : ℕ) → page ≤ p → p < next → is_mapped_for self.now.image.now self.now.thread.now (slots_of self.now.slots) access p ≡ true) }
+        ensures missing { IfNone result (is_mapped_for self.now.image.now self.now.thread.now (slots_of self.now.slots) access page ≡ false) }
+    {
+        let end = run_end(self.runs(access), page);
+        if page < end {
+            return Some(end);
+        }
+        if self.is_mapped(access, page) {
+            Some(page + 1)
+        } else {
+            None
+        }
     }
 
     /// Whether every page from that of one byte to that of another is mapped.
@@ -98,11 +104,16 @@ impl Pages<'_, '_> {
         requires { first ≤ last }
         ensures { result ≡ are_mapped self.now.image.now self.now.thread.now (slots_of self.now.slots) access first last }
     {
-        let start = first / PAGE;
-        'pages: for index in 0..last / PAGE + 1 - start {
-            if !self.is_mapped(access, start + index) {
-                return false;
+        let end = last / PAGE + 1;
+        let mut page = first / PAGE;
+        'pages: for _ in 0..end - page {
+            if end <= page {
+                return true;
             }
+            page = match self.mapped_to(access, page) {
+                Some(next) => next,
+                None => return false,
+            };
         }
         true
     }

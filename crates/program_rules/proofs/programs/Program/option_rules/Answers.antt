@@ -10,16 +10,16 @@ use Rattle.ranges.specs.Edges.{way_of}
 use Rattle.ranges.specs.declared.edges.Edge.{Edge as Way}
 use Rattle.wellformed.specs.Answering.{Answers}
 
-pub returns-in-Some : goal.returns-in-Some
-returns-in-Some c = λ edge is before.
+pub returns-in-Some-clause-answers : goal.returns-in-Some-clause-answers
+returns-in-Some-clause-answers c = λ edge is before.
     elim edge as (λ e. option_map way_of e ≡ c.args.way.now → IsBefore c.args.instr c.args.known.now.bounds e
     → Answers (first_broken (way_rules c.args.self.now.space.image.now (thread_of c.args.self.now) c.args.point (state_by c.args.self.now.slots.now c.args.points.now.log c.args.known.now) c.args.instr e)) c.way_rules.result) [
       | None ↦ λ is before. absurd (let clash : ◌≡◌ {A = Option Way} None (Some c.in-Some.way) = is ∙ c.in-Some.is in cc)
-      | Some e ↦ λ is before. c.way_rules.ensures e (same_Some (way_of e) c.in-Some.way (is ∙ c.in-Some.is)) before
+      | Some e ↦ λ is before. c.way_rules.ensures.answers e (same_Some (way_of e) c.in-Some.way (is ∙ c.in-Some.is)) before
     ] is before
 
-pub returns-in-None : goal.returns-in-None
-returns-in-None c = λ edge is before.
+pub returns-in-None-clause-answers : goal.returns-in-None-clause-answers
+returns-in-None-clause-answers c = λ edge is before.
     elim edge as (λ e. option_map way_of e ≡ c.args.way.now
     → first_broken (way_rules c.args.self.now.space.image.now (thread_of c.args.self.now) c.args.point (state_by c.args.self.now.slots.now c.args.points.now.log c.args.known.now) c.args.instr e) ≡ None) [
       | None ↦ λ is. refl

@@ -12,7 +12,7 @@ use Rattle.program_rules.specs.Programs.{thread_of}
 pub rules-init : goal.rules-init
 rules-init c =
     let own = c.args.self.now.space.thread.now in
-    (c.requires.read, subst (λ (rs : List StateRecord). AreLeft own 0 rs) (sym c.of-records.ensures) (all-left own c.args.self.now.fits), refl, c.new-shown.ensures.shown c.args.points.now.log)
+    (c.requires.read, subst (λ (rs : List StateRecord). AreLeft own 0 rs) (sym c.of-records.ensures) (all-left own c.args.self.now.fits), refl, c.new-shown.ensures.shown c.args.points.now.log, c.new-same.ensures c.args.self.now.slots.now c.args.points.now.log)
 
 pub point_rules-requires-clause-noted : goal.point_rules-requires-clause-noted
 point_rules-requires-clause-noted c =
@@ -33,6 +33,7 @@ rules-preserved c =
       subst (λ (rs : List StateRecord). AreLeft own (c.rules.point + 1) rs) (sym c.take-noted.ensures.left) (next-record own c.rules.point c.rules.records c.rules.invariant.1).1,
       one-more-kept (point_rules image t) c.rules.point c.rules.invariant.2 c.in_ok-point_rules.ensures.broken,
       c.in_ok-point_rules.ensures.shown,
+      c.in_ok-point_rules.ensures.same,
     )
 
 pub point_rules-requires-clause-next : goal.point_rules-requires-clause-next

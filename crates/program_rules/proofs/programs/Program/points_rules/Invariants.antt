@@ -8,6 +8,7 @@ use Rattle.program_rules.proofs.NextRecords.{AreLeft}
 use Rattle.program_rules.proofs.programs.Program.points_rules.Given as goal
 use Rattle.program_rules.specs.Kept.{IsRead}
 use Rattle.program_rules.specs.Programs.{thread_of}
+use Rattle.program_rules.specs.SameParts.{AreSame}
 use Rattle.typestate.specs.Logs.{ShowsSome}
 
 abbrev pub invariant-rules : goal.invariant-rules
@@ -15,4 +16,4 @@ invariant-rules l =
     let image = l.fn.self.space.image.now in
     let t = thread_of l.fn.self in
     IsRead image t l.fn.self.slots.now l.points.log l.points.kept.items × AreLeft l.fn.self.space.thread.now l.point l.records
-    × (first_broken (flat_map (point_rules image t) (range_with_len 0 l.point)) ≡ None) × ShowsSome l.points.log l.shown
+    × (first_broken (flat_map (point_rules image t) (range_with_len 0 l.point)) ≡ None) × ShowsSome l.points.log l.shown × AreSame l.fn.self.slots.now l.points.log l.same

@@ -7,12 +7,15 @@ use Rattle.model.specs.Acceptance.Rules.{first_broken}
 use Rattle.model.specs.Machine.Decoding.{decoded}
 use Rattle.model.specs.declared.instructions.Instr.TheVariants.{Ecall}
 use Rattle.model.specs.declared.refusals.Refusal.{Refusal}
-use Rattle.program_rules.proofs.Outcomes.{passed-on}
+use Rattle.program_rules.proofs.Outcomes.{follows-from, passed-on}
 use Rattle.program_rules.proofs.PointLists.{illegal-breaks, later-answers, plain-later, state-first}
 use Rattle.program_rules.proofs.programs.Program.state_rules.Goals as goal
 use Rattle.program_rules.specs.Kept.{state_by}
 use Rattle.program_rules.specs.PointChecks.{later_rules, own_rules}
 use Rattle.program_rules.specs.Programs.{thread_of}
+use Rattle.program_rules.specs.SameParts.{AreSame}
+use Rattle.program_rules.proofs.ShownParts.{same-grown}
+use Rattle.typestate.specs.Logs.{KeepsParts}
 use Rattle.typestate.specs.Calls.{known_with}
 use Rattle.typestate.specs.Differences.{slots_of}
 use Rattle.typestate.specs.Strays.{NoneStray}
@@ -66,4 +69,11 @@ returns-in-Some-clause-broken c =
     (ap decoded (sym c.word.ensures) ∙ sym c.decode-instr.ensures.value) c.in-Some.is
     (ap (λ (all : List NotedSlot). known_with bounds all m) (c.slots-slots.ensures.slots ∙ c.requires.part.same c.args.self.now.slots.now c.args.self.now.rising))
     c.in_ok-own_rules.ensures
-    (subst (λ (broken : Option Refusal). Answers broken c.ways_rules.result) (sym (plain-later image t c.args.point s c.in-Some.instr plain)) c.ways_rules.ensures)
+    (subst (λ (broken : Option Refusal). Answers broken c.ways_rules.result) (sym (plain-later image t c.args.point s c.in-Some.instr plain)) c.ways_rules.ensures.answers)
+
+pub returns-in-Some-Ecall-clause-same : goal.returns-in-Some-Ecall-clause-same
+returns-in-Some-Ecall-clause-same c =
+    let slots = c.args.self.now.slots.now in
+    let old = c.args.points.now.log in
+    let new = c.call_rules.new.points.log in
+    follows-from (λ _. KeepsParts old new) (λ _. AreSame slots new c.args.same.now) c.call_rules.result (λ _ keeps. same-grown slots old new c.args.same.now keeps c.requires.same) c.call_rules.ensures.others

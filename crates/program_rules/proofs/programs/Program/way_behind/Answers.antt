@@ -27,4 +27,4 @@ returns c =
     let same = c.slots.ensures.slots ∙ c.requires.shown.same c.args.self.now.slots.now c.args.self.now.rising in
     subst (λ (x : Option Refusal). Answers x c.way_to.result)
     (λ i. broken (at i) (same i) (c.registers_of.ensures i) (ap (λ (n : ℕ). n + 4) c.address-next.ensures i))
-    (c.way_to.ensures t.thread next refl)
+    (c.way_to.ensures.answers t.thread next refl)

@@ -17,8 +17,8 @@ use Rattle.ranges.specs.declared.edges.Edge.{Edge as Way}
 use Rattle.typestate.specs.Differences.{slots_of}
 use Rattle.wellformed.specs.Answering.{Answers}
 
-pub returns : goal.returns
-returns c = λ edge is before.
+pub returns-clause-answers : goal.returns-clause-answers
+returns-clause-answers c = λ edge is before.
     let image = c.args.self.now.space.image.now in
     let t = thread_of c.args.self.now in
     let instr = c.args.instr in
@@ -35,4 +35,4 @@ returns c = λ edge is before.
     at first ranges (λ k. c.new-step.ensures k ∙ (λ i. behind_form instr (first i) (ranges i) k)) (ap (noted_at image t) target)
     ∙ ap (λ (all : List NotedSlot). first_broken (edge_rules t.thread (point_of t c.args.point) m (program_edge instr all edge) (noted_at image t edge.target)))
     (c.slots.ensures.slots ∙ c.requires.shown.same c.args.self.now.slots.now c.args.self.now.rising))
-    (c.way_to.ensures t.thread edge.target refl)
+    (c.way_to.ensures.answers t.thread edge.target refl)
