@@ -9,6 +9,9 @@ use std::time::{Clock, Instant};
 pub trait Progress {
     /// Takes notice of what a request has come to.
     fn reach(&mut self, stage: Stage);
+
+    /// How many whole seconds have passed since the request began, if that is known.
+    fn seconds(&self) -> Option<u64>;
 }
 
 /// Nobody.
@@ -17,6 +20,10 @@ pub struct Quiet;
 
 impl Progress for Quiet {
     fn reach(&mut self, _stage: Stage) {}
+
+    fn seconds(&self) -> Option<u64> {
+        None
+    }
 }
 
 /// A sink that gets a line once a second has passed, and then at most one for each second.
@@ -42,12 +49,6 @@ impl<'c, 'e, C: Clock, E: Sink> Told<'c, 'e, C, E> {
             told: 0,
         }
     }
-
-    /// How many whole seconds have passed, if the clock tells.
-    fn seconds(&self) -> Option<u64> {
-        let passed = self.began?.elapsed(self.clock).ok()?;
-        Some(passed.as_secs())
-    }
 }
 
 impl<'c, 'e, C: Clock, E: Sink> Progress for Told<'c, 'e, C, E> {
@@ -62,5 +63,10 @@ impl<'c, 'e, C: Clock, E: Sink> Progress for Told<'c, 'e, C, E> {
         if let Ok(line) = stage.line(self.alloc, seconds) {
             let _ = put_all(self.errors, line.as_bytes());
         }
+    }
+
+    fn seconds(&self) -> Option<u64> {
+        let passed = self.began?.elapsed(self.clock).ok()?;
+        Some(passed.as_secs())
     }
 }
