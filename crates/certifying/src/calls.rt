@@ -4,10 +4,13 @@ ghost use Rattle.std.specs.Prelude.{◌≡◌, []};
 ghost use Rattle.typestate.specs.Logs.{Holds};
 ghost use Rattle.certifying.specs.Given.{IsGiven};
 
-use crate::Fault;
+use crate::shared::{Called, Shared, Stretch};
+use crate::tables::are_same_changes;
+use crate::ways::State;
+use crate::{Effort, Fault};
 use model::{Point, Refusal};
 use ranges::Bounds;
-use std::alloc::{AllocError, Global};
+use std::alloc::Global;
 use thread_spaces::slots_are_own;
 use typestate::{
     Behind, NotedSlot, NotedSlots, Part, SlotLog, Space, ThreadSlots, ToldSlots,
@@ -23,14 +26,8 @@ pub(crate) struct Given<'a, 's> {
     pub(crate) slots: &'s [NotedSlot],
     /// Whether a slot that the image lists is one that the thread may not have.
     pub(crate) lists_stray: bool,
+    pub(crate) effort: Effort,
     pub(crate) alloc: Global,
-}
-
-/// What a system call leaves: of the registers, and of the slots as changes to those of the image.
-#[derive(Drop)]
-pub(crate) struct Called {
-    pub(crate) behind: Behind,
-    pub(crate) changes: Vec<NotedSlot>,
 }
 
 /// The changes that make a difference to the image's slots.
@@ -44,32 +41,87 @@ fn told(alloc: Global, slots: &NotedSlots<'_>) -> Result<Vec<NotedSlot>, Fault> 
     Ok(kept)
 }
 
-/// Whether a change leaves something else in its slot than the image puts there.
+/// Whether a change leaves something else in its slot than the image puts there. The keys of what that lists rise.
 fn makes_difference(listed: &[NotedSlot], change: &NotedSlot) -> bool {
-    for slot in listed {
-        if slot.key.is_same(change.key) {
-            return slot.capability != change.capability || change.parent.is_some();
-        }
+    match listed.binary_search_by_key(&change.key.number(), |slot| slot.key.number()) {
+        Ok(place) => match listed.get(place) {
+            Some(slot) => slot.capability != change.capability || change.parent.is_some(),
+            None => true,
+        },
+        Err(_) => change.capability != model::Cap::Empty,
     }
-    change.capability != model::Cap::Empty
 }
 
 impl Given<'_, '_> {
-    /// What the system call at a point leaves, where these changes are made to the slots of the image.
+    /// What the system call at a point leaves, where these changes are made to the slots of the image. In the state in which it was
+    /// looked at last it is not asked again.
     pub(crate) fn called(
+        &self,
+        point: u32,
+        state: &State,
+        shared: &mut Shared,
+    ) -> Result<Called, Fault>
+        requires { IsGiven self.now.space self.now.slots.now self.now.lists_stray }
+    {
+        if let Some(called) = shared.called(point, &state.bounds, state.changes) {
+            return Ok(called);
+        }
+        let mut made = Vec::new(self.alloc);
+        let behind = self.answered_behind(
+            point,
+            &state.bounds,
+            shared.part(state.changes),
+            &mut made,
+        )?;
+        shared.note(self.alloc, point, state, &behind, &made)
+    }
+
+    /// What the system call at a point leaves of the registers, behind these changes. Those that it makes are put into the list, which
+    /// is empty.
+    fn answered_behind(
         &self,
         point: u32,
         bounds: &Bounds,
         changes: &[NotedSlot],
-    ) -> Result<Called, Fault>
+        made: &mut Vec<NotedSlot>,
+    ) -> Result<Behind, Fault>
+        requires given { IsGiven self.now.space self.now.slots.now self.now.lists_stray }
+        requires none { made.old.items ≡ [] }
+    {
+        let mut log = SlotLog::new(self.alloc);
+        let part = log.follow(Part { first: 0, end: 0 }, changes)?;
+        self.answered_in(point, bounds, &log, part, made)
+    }
+
+    /// Those of some changes that make a difference to the image's slots, of several to one slot the last, in the order of their keys.
+    pub(crate) fn told(&self, changes: &[NotedSlot]) -> Result<Vec<NotedSlot>, Fault>
         requires { IsGiven self.now.space self.now.slots.now self.now.lists_stray }
     {
         let mut log = SlotLog::new(self.alloc);
         let part = log.follow(Part { first: 0, end: 0 }, changes)?;
-        let mut made = Vec::new(self.alloc);
-        let behind = self.answered_in(point, bounds, &log, part, &mut made)?;
-        let changes = self.changes_behind(&mut log, part, &made)?;
-        Ok(Called { behind, changes })
+        let left = log.shown(part)?;
+        told(self.alloc, &left.slots(self.slots))
+    }
+
+    /// Whether two stretches of changes leave the same slots.
+    pub(crate) fn are_same(
+        &self,
+        shared: &mut Shared,
+        one: Stretch,
+        other: Stretch,
+    ) -> Result<bool, Fault>
+        requires { IsGiven self.now.space self.now.slots.now self.now.lists_stray }
+    {
+        if shared.are_known_same(one, other) {
+            return Ok(true);
+        }
+        let first = self.told(shared.part(one))?;
+        let second = self.told(shared.part(other))?;
+        let are_same = are_same_changes(&first, &second);
+        if are_same {
+            shared.note_same(one, other);
+        }
+        Ok(are_same)
     }
 
     /// What the system call at a point leaves of the registers, where a part of a log changes the slots. Those that it changes are
@@ -92,21 +144,6 @@ impl Given<'_, '_> {
         };
         let before = log.shown(part)?;
         self.answered(at, bounds, &before.slots(self.slots), made)
-    }
-
-    /// What a part of a log, and changes that follow it, change of the image's slots.
-    fn changes_behind(
-        &self,
-        log: &mut SlotLog,
-        part: Part,
-        made: &[NotedSlot],
-    ) -> Result<Vec<NotedSlot>, Fault>
-        requires given { IsGiven self.now.space self.now.slots.now self.now.lists_stray }
-        requires held { Holds log.old part }
-    {
-        let part = log.follow(part, made)?;
-        let left = log.shown(part)?;
-        told(self.alloc, &left.slots(self.slots))
     }
 
     /// What the system call at a point leaves of the registers. The slots that it changes are put into the list, which is empty.

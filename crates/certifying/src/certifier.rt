@@ -44,6 +44,17 @@ pub struct Certificate {
     pub records: Vec<Record>,
 }
 
+/// How much a certificate notes.
+#[derive(Clone, Copy, Debug, PartialEq, Eq)]
+pub enum Effort {
+    /// Records where the rules need one, with the ranges that something rests on.
+    Least,
+    /// The same records with all ranges that are known.
+    AllRanges,
+    /// Records at all points that are reached, with all ranges that are known.
+    AllPoints,
+}
+
 /// Why an image gets no certificates.
 #[derive(Clone, Copy, Debug, PartialEq, Eq)]
 pub enum Unfit {
@@ -79,13 +90,22 @@ const MOST_TERMS: usize = 4;
 /// The greatest constant and budget.
 const GREATEST: u64 = 1 << 62;
 
-/// So many marks, none of which is set.
-fn no_marks(alloc: Global, count: u32) -> Result<Vec<bool>, Fault> {
+/// So many marks, all of which are set, or none.
+fn marks_of(alloc: Global, count: u32, are_set: bool) -> Result<Vec<bool>, Fault> {
     let mut marks = Vec::new(alloc);
     'points: for _ in 0..count {
-        marks.push(false)?;
+        marks.push(are_set)?;
     }
     Ok(marks)
+}
+
+/// All registers for each of so many points.
+fn all_registers(alloc: Global, count: u32) -> Result<Vec<Registers>, Fault> {
+    let mut all = Vec::new(alloc);
+    'points: for _ in 0..count {
+        all.push(Registers::all())?;
+    }
+    Ok(all)
 }
 
 /// Whether a point is marked.
@@ -149,21 +169,31 @@ fn writes_term(way: &Way, cost: &Form) -> bool {
     false
 }
 
-/// The measure that follows a way to the next point, or none if that needs a record.
-fn following(way: &Way, measure: Option<Form>) -> Option<Form> {
+/// The measure that the rules take for the next point behind a way, where no record stands there: behind a wait the budget, and else
+/// one less. None, where the way writes a register of the measure.
+fn following(way: &Way, measure: Option<Form>, budget: i64) -> Option<Form> {
     if way.is_wait {
-        return Some(Form::constant(0));
+        return Some(Form::constant(budget));
     }
     let measure = measure?;
     if writes_term(way, &measure) {
         None
     } else {
-        Some(measure)
+        Some(measure.raised(-1))
     }
 }
 
-/// Marks the points behind instructions that write a register of the measure there.
-fn mark_behind_writes(graph: &Graph, costs: &Costs, marks: &mut Vec<bool>) {
+/// Whether a measure is at least what a point has to have.
+fn suffices(graph: &Graph, costs: &Costs, point: u32, measure: Option<Form>) -> bool {
+    match (measure, cost_at(costs, point), graph.bounds_at(point)) {
+        (Some(measure), Some(cost), Some(bounds)) => cost.minus(&measure).greatest(bounds) <= 0,
+        (measure, _, _) => measure.is_some(),
+    }
+}
+
+/// Marks the points where no measure follows from the point before, or one that is not enough: so behind a register of the measure
+/// that is written, and behind a copy on which the measure goes on.
+fn mark_behind_writes(graph: &Graph, costs: &Costs, budget: i64, marks: &mut Vec<bool>) {
     let mut measure = None;
     'ways: for way in &graph.ways {
         if way.is_jump {
@@ -172,24 +202,24 @@ fn mark_behind_writes(graph: &Graph, costs: &Costs, marks: &mut Vec<bool>) {
         if is_marked(marks, way.from) {
             measure = cost_at(costs, way.from);
         }
-        measure = following(way, measure);
-        if measure.is_none() {
+        measure = following(way, measure, budget);
+        if !suffices(graph, costs, way.target, measure) {
             set(marks, way.target);
         }
     }
 }
 
-/// Which points need records: the entry, those that jumps lead to, and those behind an instruction that writes a register of
-/// the measure there.
-fn marked_points(graph: &Graph, costs: &Costs) -> Result<Vec<bool>, Fault> {
-    let mut marks = no_marks(graph.alloc, graph.count)?;
+/// Which points need records: the entry, those that jumps lead to, and those to which the point before leaves no measure that is
+/// enough.
+fn marked_points(graph: &Graph, costs: &Costs, budget: i64) -> Result<Vec<bool>, Fault> {
+    let mut marks = marks_of(graph.alloc, graph.count, false)?;
     set(&mut marks, graph.entry);
     'targets: for way in &graph.ways {
         if way.is_jump {
             set(&mut marks, way.target);
         }
     }
-    mark_behind_writes(graph, costs, &mut marks);
+    mark_behind_writes(graph, costs, budget, &mut marks);
     Ok(marks)
 }
 
@@ -209,48 +239,12 @@ fn budget_of(graph: &Graph, costs: &Costs, start: &Bounds) -> u64 {
     most.unsigned_abs()
 }
 
-/// The changes of slots at a point.
-fn changes_at(alloc: Global, flow: &Table, point: u32) -> Result<Vec<NotedSlot>, Fault> {
-    let mut changes = Vec::new(alloc);
-    if let Some(state) = flow.state(point) {
-        changes.extend_from_slice(&state.changes)?;
-    }
-    Ok(changes)
-}
-
 /// The ranges that are needed at a point, if it is reached.
 fn bounds_needed(graph: &Graph, needs: &[Registers], point: u32) -> Option<Bounds> {
     match (graph.bounds_at(point), needs.get(point as usize)) {
         (Some(bounds), Some(needed)) => Some(only(bounds, needed)),
         _ => None,
     }
-}
-
-/// The records at all marked points.
-fn records_of(
-    graph: &Graph,
-    costs: &Costs,
-    needs: &[Registers],
-    table: &Table,
-    marks: &[bool],
-) -> Result<Vec<Record>, Fault> {
-    let mut records = Vec::new(graph.alloc);
-    'points: for point in 0..graph.count {
-        if let (true, Some(cost), Some(bounds)) = (
-            is_marked(marks, point),
-            cost_at(costs, point),
-            bounds_needed(graph, needs, point),
-        ) {
-            records.push(Record {
-                point,
-                constant: cost.constant,
-                terms: terms_of(graph.alloc, &cost, point)?,
-                bounds,
-                changes: changes_at(graph.alloc, table, point)?,
-            })?;
-        }
-    }
-    Ok(records)
 }
 
 /// The ranges at all points.
@@ -281,12 +275,72 @@ impl Given<'_, '_> {
         Graph::new(self.alloc, self.count(), entry, ways, bounds)
     }
 
+    /// Which points get records.
+    fn marks(&self, graph: &Graph, costs: &Costs, budget: u64) -> Result<Vec<bool>, Fault> {
+        match self.effort {
+            Effort::Least | Effort::AllRanges => {
+                marked_points(graph, costs, budget.cast_signed())
+            }
+            Effort::AllPoints => marks_of(graph.alloc, graph.count, true),
+        }
+    }
+
+    /// Of which registers ranges are noted at each point.
+    fn noted(&self, graph: &Graph, costs: &Costs) -> Result<Vec<Registers>, Fault> {
+        match self.effort {
+            Effort::Least => self.needs(graph, costs),
+            Effort::AllRanges | Effort::AllPoints => all_registers(graph.alloc, graph.count),
+        }
+    }
+
+    /// The changes of slots at a point.
+    fn changes_at(&self, table: &Table, point: u32) -> Result<Vec<NotedSlot>, Fault>
+        requires { IsGiven self.now.space self.now.slots.now self.now.lists_stray }
+    {
+        match table.state(point) {
+            Some(state) => self.told(table.shared.part(state.changes)),
+            None => Ok(Vec::new(self.alloc)),
+        }
+    }
+
+    /// The records at all marked points.
+    fn records(
+        &self,
+        graph: &Graph,
+        costs: &Costs,
+        needs: &[Registers],
+        table: &Table,
+        marks: &[bool],
+    ) -> Result<Vec<Record>, Fault>
+        requires { IsGiven self.now.space self.now.slots.now self.now.lists_stray }
+    {
+        let mut records = Vec::new(graph.alloc);
+        'points: for point in 0..graph.count {
+            if let (true, Some(cost), Some(bounds)) = (
+                is_marked(marks, point),
+                cost_at(costs, point),
+                bounds_needed(graph, needs, point),
+            ) {
+                records.push(Record {
+                    point,
+                    constant: cost.constant,
+                    terms: terms_of(graph.alloc, &cost, point)?,
+                    bounds,
+                    changes: self.changes_at(table, point)?,
+                })?;
+            }
+        }
+        Ok(records)
+    }
+
     /// The thread's certificate, by what its points have to have at least.
-    fn certified(&self, graph: &Graph, costs: &Costs, table: &Table) -> Result<Certificate, Fault> {
-        let marks = marked_points(graph, costs)?;
-        let needs = self.needs(graph, costs)?;
+    fn certified(&self, graph: &Graph, costs: &Costs, table: &Table) -> Result<Certificate, Fault>
+        requires { IsGiven self.now.space self.now.slots.now self.now.lists_stray }
+    {
         let budget = self.budget(graph, costs)?;
-        let records = records_of(graph, costs, &needs, table, &marks)?;
+        let marks = self.marks(graph, costs, budget)?;
+        let needs = self.noted(graph, costs)?;
+        let records = self.records(graph, costs, &needs, table, &marks)?;
         Ok(Certificate { budget, records })
     }
 
@@ -316,6 +370,7 @@ fn certificate_of(
     image: &ImageRef<'_>,
     offsets: &[u32],
     number: u32,
+    effort: Effort,
 ) -> Result<Certificate, Fault>
     requires formed { IsWellFormed image.now }
     requires offsets { AreOffsets image.now image.now.header.objects offsets.now }
@@ -340,6 +395,7 @@ fn certificate_of(
         number,
         slots: &slots,
         lists_stray,
+        effort,
         alloc,
     };
     given.certificate()
@@ -351,7 +407,11 @@ fn certificate_of(
 /// # Errors
 ///
 /// The image is not well formed, or the first thread for which none is found, and why.
-pub fn certificates(alloc: Global, bytes: &[u8]) -> Result<Vec<Certificate>, Unfit> {
+pub fn certificates(
+    alloc: Global,
+    bytes: &[u8],
+    effort: Effort,
+) -> Result<Vec<Certificate>, Unfit> {
     let image = match read(bytes) {
         Ok(image) => image,
         Err(refusal) => return Err(Unfit::Refused(refusal)),
@@ -364,7 +424,7 @@ pub fn certificates(alloc: Global, bytes: &[u8]) -> Result<Vec<Certificate>, Unf
     };
     let mut all = Vec::new(alloc);
     'threads: for number in 0..image.header().threads {
-        let certificate = match certificate_of(alloc, &image, &offsets, number) {
+        let certificate = match certificate_of(alloc, &image, &offsets, number, effort) {
             Ok(certificate) => certificate,
             Err(fault) => return Err(Unfit::of_thread(number, fault)),
         };

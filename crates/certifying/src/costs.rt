@@ -8,6 +8,7 @@ use crate::ways::Way;
 use crate::{Fault, Reason};
 use measure::Value;
 use model::{Range, Register};
+use std::alloc::Global;
 
 /// How often a coefficient is raised at most.
 const MOST_TRIES: u32 = 64;
@@ -17,6 +18,15 @@ const MOST_ROUNDS: u32 = 1000;
 
 /// The greatest coefficient of a measure.
 const MOST_TIMES: i64 = 1 << 30;
+
+/// How many registers count a loop together at most: a measure has four, and loops around it have some of them.
+const MOST_TOGETHER: u32 = 3;
+
+/// How many forms of registers that count together are tried at most.
+const MOST_UNITS: usize = 4096;
+
+/// How many points are looked at at most for registers that count together, where each is tried once.
+const MOST_WORK: u64 = 1 << 18;
 
 /// What each point has to have at least, as far as it is known.
 pub(crate) type Costs = Vec<Option<Form>>;
@@ -30,7 +40,43 @@ struct Region {
     seed: Form,
 }
 
-/// The costs of a loop whose header has a multiple of a register.
+/// A loop that is to be counted, by its number, where it is cut, and its points.
+#[derive(Clone, Copy)]
+struct Cut<'p> {
+    number: usize,
+    header: u32,
+    points: &'p [u32],
+}
+
+/// What may count a loop: registers, each once, down or up.
+#[derive(Clone, Copy)]
+struct Unit {
+    form: Form,
+    /// The last of its registers.
+    last: u32,
+}
+
+impl Unit {
+    /// A register alone, so many times.
+    fn of(register: u32, times: i64) -> Self {
+        let mut form = Form::constant(0);
+        form.add(register, times);
+        Unit {
+            form,
+            last: register,
+        }
+    }
+
+    /// This and a register behind its own.
+    fn and(&self, counter: &Unit) -> Unit {
+        Unit {
+            form: self.form.plus(&counter.form),
+            last: counter.last,
+        }
+    }
+}
+
+/// The costs of a loop whose header has a multiple of a form.
 #[derive(Drop)]
 struct Solved {
     costs: Costs,
@@ -92,6 +138,22 @@ fn better(first: Option<Solved>, second: Option<Solved>) -> Option<Solved> {
         (Some(only), None) | (None, Some(only)) => Some(only),
         (None, None) => None,
     }
+}
+
+/// Each of some forms with each register behind its own.
+fn together(alloc: Global, units: &[Unit], counters: &[Unit]) -> Result<Vec<Unit>, Fault> {
+    let mut all = Vec::new(alloc);
+    'units: for unit in units {
+        'counters: for counter in counters {
+            if MOST_UNITS <= all.len() {
+                return Ok(all);
+            }
+            if unit.last < counter.last {
+                all.push(unit.and(counter))?;
+            }
+        }
+    }
+    Ok(all)
 }
 
 impl Counting {
@@ -337,22 +399,16 @@ impl Counting {
         }
     }
 
-    /// Finds the costs of a loop whose header has a register so many times, and answers how much that misses on the way back to it.
-    fn tried(
-        &mut self,
-        number: usize,
-        counter: Counter<'_>,
-        times: i64,
-    ) -> Result<Option<i64>, Fault> {
-        let mut seed = Form::constant(0);
-        seed.add(counter.register, times);
+    /// Finds the costs of a loop whose header has a form so many times, and answers how much that misses on the way back to it.
+    fn tried(&mut self, cut: Cut<'_>, unit: &Form, times: i64) -> Result<Option<i64>, Fault> {
+        let seed = Form::constant(0).with(unit, times);
         let region = Region {
-            number: Some(number),
+            number: Some(cut.number),
             seed,
         };
-        self.count(&region, counter.points)?;
-        let cost = cost_at(&self.costs, counter.header);
-        Ok(match (cost, self.graph.bounds_at(counter.header)) {
+        self.count(&region, cut.points)?;
+        let cost = cost_at(&self.costs, cut.header);
+        Ok(match (cost, self.graph.bounds_at(cut.header)) {
             (Some(cost), Some(bounds)) => Some(cost.minus(&seed).greatest(bounds)),
             _ => None,
         })
@@ -367,34 +423,30 @@ impl Counting {
         Ok(kept)
     }
 
-    /// The costs that are noted for a loop, with so many times its counter.
-    fn solution(&self, counter: Counter<'_>, times: i64) -> Result<Solved, Fault> {
-        let range = self.range_at(counter.header, counter.register);
-        let width = i64::from(range.high).saturating_sub(i64::from(range.low));
+    /// The costs that are noted for a loop, with so many times its form.
+    fn solution(&self, cut: Cut<'_>, unit: &Form, times: i64) -> Result<Solved, Fault> {
+        let width = match self.graph.bounds_at(cut.header) {
+            Some(bounds) => unit.width(bounds),
+            None => 0,
+        };
         Ok(Solved {
-            costs: self.kept(counter.points)?,
+            costs: self.kept(cut.points)?,
             span: times.saturating_mul(width),
         })
     }
 
-    /// The costs of a loop that a register counts, down or up, with the least coefficient.
-    fn counted(
-        &mut self,
-        number: usize,
-        counter: Counter<'_>,
-        sign: i64,
-    ) -> Result<Option<Solved>, Fault> {
+    /// The costs of a loop that a form counts, with the least coefficient.
+    fn counted(&mut self, cut: Cut<'_>, unit: &Form) -> Result<Option<Solved>, Fault> {
         let mut times = 0i64;
         'tries: for _ in 0..MOST_TRIES {
-            let missed = self.tried(number, counter, times.saturating_mul(sign))?;
-            let Some(missed) = missed else {
+            let Some(missed) = self.tried(cut, unit, times)? else {
                 return Ok(None);
             };
             if missed <= 0 {
-                return Ok(Some(self.solution(counter, times)?));
+                return Ok(Some(self.solution(cut, unit, times)?));
             }
-            let more = times.saturating_add(1).saturating_mul(sign);
-            let Some(next) = self.tried(number, counter, more)? else {
+            let more = times.saturating_add(1);
+            let Some(next) = self.tried(cut, unit, more)? else {
                 return Ok(None);
             };
             let gained = missed.saturating_sub(next);
@@ -420,38 +472,78 @@ impl Counting {
     }
 
     /// Whether a register counts in a loop: it is written as a sum or a difference, and its range is known where the loop begins.
-    fn counts(&self, number: usize, counter: Counter<'_>) -> bool {
-        if self.range_at(counter.header, counter.register) == Range::FULL {
+    fn counts(&self, cut: Cut<'_>, register: u32) -> bool {
+        if self.range_at(cut.header, register) == Range::FULL {
             return false;
         }
-        'points: for point in counter.points {
-            if self.counts_at(number, *point, counter.register) {
+        'points: for point in cut.points {
+            if self.counts_at(cut.number, *point, register) {
                 return true;
             }
         }
         false
     }
 
-    /// The costs of a loop whose inner loops have theirs.
-    fn solved(&mut self, number: usize, header: u32, points: &[u32]) -> Result<Costs, Fault> {
-        let mut best = None;
+    /// The registers that count in a loop, each down and up.
+    fn counters(&self, cut: Cut<'_>) -> Result<Vec<Unit>, Fault> {
+        let mut counters = Vec::new(self.graph.alloc);
         'registers: for register in 1..32u32 {
-            let counter = Counter {
-                header,
-                points,
-                register,
-            };
-            if self.counts(number, counter) {
-                let down = self.counted(number, counter, 1)?;
-                best = better(best, down);
-                let up = self.counted(number, counter, -1)?;
-                best = better(best, up);
+            if self.counts(cut, register) {
+                counters.push(Unit::of(register, 1))?;
+                counters.push(Unit::of(register, -1))?;
             }
+        }
+        Ok(counters)
+    }
+
+    /// The best of the costs of a loop that one of these forms counts. As long as there is work left, all are tried.
+    fn best_of(
+        &mut self,
+        cut: Cut<'_>,
+        units: &[Unit],
+        left: &mut u64,
+    ) -> Result<Option<Solved>, Fault> {
+        let mut best = None;
+        'units: for unit in units {
+            if *left == 0 {
+                break;
+            }
+            *left = left.saturating_sub(cut.points.len() as u64);
+            let solved = self.counted(cut, &unit.form)?;
+            best = better(best, solved);
+        }
+        Ok(best)
+    }
+
+    /// The costs of a loop that several registers count together, each on some ways: with few registers, if those are enough.
+    fn counted_together(
+        &mut self,
+        cut: Cut<'_>,
+        counters: &[Unit],
+    ) -> Result<Option<Solved>, Fault> {
+        let mut units = together(self.graph.alloc, counters, counters)?;
+        let mut left = MOST_WORK;
+        'sizes: for _ in 2..MOST_TOGETHER {
+            if let Some(solved) = self.best_of(cut, &units, &mut left)? {
+                return Ok(Some(solved));
+            }
+            units = together(self.graph.alloc, &units, counters)?;
+        }
+        self.best_of(cut, &units, &mut left)
+    }
+
+    /// The costs of a loop whose inner loops have theirs.
+    fn solved(&mut self, cut: Cut<'_>) -> Result<Costs, Fault> {
+        let counters = self.counters(cut)?;
+        let mut all = u64::MAX;
+        let mut best = self.best_of(cut, &counters, &mut all)?;
+        if best.is_none() {
+            best = self.counted_together(cut, &counters)?;
         }
         match best {
             Some(solved) => Ok(solved.costs),
             None => Err(Fault::At {
-                point: header,
+                point: cut.header,
                 reason: Reason::NoMeasure,
             }),
         }
@@ -471,7 +563,11 @@ impl Counting {
             None => return Ok(()),
         };
         let points = self.copied_points(Some(number))?;
-        let costs = self.solved(number, header, &points)?;
+        let costs = self.solved(Cut {
+            number,
+            header,
+            points: &points,
+        })?;
         if let Some(one) = self.loops.all.get_mut(number) {
             one.costs = costs;
         }
@@ -491,12 +587,4 @@ impl Counting {
         self.count(&all, &points)?;
         Ok((self.graph, self.costs))
     }
-}
-
-/// A register that may count a loop, whose header and points these are.
-#[derive(Clone, Copy)]
-struct Counter<'p> {
-    header: u32,
-    points: &'p [u32],
-    register: u32,
 }

@@ -2,16 +2,17 @@
 
 ghost use Rattle.certifying.specs.Given.{IsGiven};
 
-use crate::Fault;
 use crate::calls::Given;
+use crate::marks::Marks;
 use crate::ranged::joined;
+use crate::shared::Stretch;
 use crate::tables::{Table, start_bounds};
 use crate::ways::{Way, Ways};
+use crate::{Fault, Reason};
 use model::{ImmediateOp, Instr};
 use ranges::Bounds;
 use rv32_isa::decode;
 use std::alloc::Global;
-use typestate::NotedSlot;
 
 /// How many points are looked at at most, one after another: each range grows only so often.
 const MOST_VISITS: u32 = 1_000_000_000;
@@ -57,6 +58,76 @@ impl Arrivals {
             *place = both;
         }
     }
+}
+
+/// Where the ways on from a point lead.
+#[derive(Clone, Copy)]
+struct Leads {
+    next: Option<u32>,
+    taken: Option<u32>,
+}
+
+impl Leads {
+    /// Nowhere.
+    const NONE: Leads = Leads {
+        next: None,
+        taken: None,
+    };
+
+    /// Where some ways lead.
+    fn of(next: Option<Way>, taken: Option<Way>) -> Self {
+        Leads {
+            next: target_of(next),
+            taken: target_of(taken),
+        }
+    }
+}
+
+/// Where a way leads.
+fn target_of(way: Option<Way>) -> Option<u32> {
+    match way {
+        Some(way) => Some(way.target),
+        None => None,
+    }
+}
+
+/// What a round over all points found.
+#[derive(Drop)]
+struct Round {
+    back: Arrivals,
+    /// Where each point leads.
+    leads: Vec<Leads>,
+    /// Whether some ranges changed.
+    changes: bool,
+    /// Whether something is wrong at a point with what is known so far, so that it is not known where it leads.
+    has_fault: bool,
+}
+
+/// Puts a point on the stack of those whose ways are followed, unless it has been there.
+fn visit(stack: &mut Vec<u32>, seen: &mut Marks, point: Option<u32>) -> Result<(), Fault> {
+    if let Some(point) = point {
+        if seen.mark(point) {
+            stack.push(point)?;
+        }
+    }
+    Ok(())
+}
+
+/// Those of so many points to which ways lead from the entry, as marks.
+fn reached_from(alloc: Global, count: u32, entry: u32, leads: &[Leads]) -> Result<Marks, Fault> {
+    let mut seen = Marks::new(alloc, count)?;
+    let mut stack = Vec::new(alloc);
+    visit(&mut stack, &mut seen, Some(entry))?;
+    'points: for _ in 0..count {
+        let Some(point) = stack.pop() else {
+            break;
+        };
+        if let Some(on) = leads.get(point as usize) {
+            visit(&mut stack, &mut seen, on.next)?;
+            visit(&mut stack, &mut seen, on.taken)?;
+        }
+    }
+    Ok(seen)
 }
 
 /// The ranges that hold on both ways, or on the only one.
@@ -106,13 +177,13 @@ impl Given<'_, '_> {
     }
 
     /// The ways on from a point, if it is reached and nothing is wrong there with what is known so far.
-    fn ways_so_far(&self, table: &Table, point: u32) -> Result<Option<Ways>, Fault>
+    fn ways_so_far(&self, table: &mut Table, point: u32) -> Result<Option<Ways>, Fault>
         requires { IsGiven self.now.space self.now.slots.now self.now.lists_stray }
     {
         let Some(state) = table.state(point) else {
             return Ok(None);
         };
-        match self.ways(point, state) {
+        match self.ways(point, &state, &mut table.shared) {
             Ok(ways) => Ok(Some(ways)),
             Err(Fault::OutOfMemory) => Err(Fault::OutOfMemory),
             Err(Fault::At { .. }) => Ok(None),
@@ -126,9 +197,49 @@ impl Given<'_, '_> {
     {
         let next = point.saturating_add(1);
         match self.ways_so_far(table, point)? {
-            Some(ways) => reach_along_all(table, &ways, next),
+            Some(ways) => {
+                let next = self.reach_along(table, ways.next, ways.changes, next)?;
+                self.reach_along(table, ways.taken, ways.changes, next)
+            }
             None => Ok(next),
         }
+    }
+
+    /// Refuses a way that leaves other slots than are known at its target.
+    fn leaves_same(&self, table: &mut Table, way: &Way, changes: Stretch) -> Result<(), Fault>
+        requires { IsGiven self.now.space self.now.slots.now self.now.lists_stray }
+    {
+        let Some(state) = table.state(way.target) else {
+            return Ok(());
+        };
+        if self.are_same(&mut table.shared, state.changes, changes)? {
+            return Ok(());
+        }
+        Err(Fault::At {
+            point: way.from,
+            reason: Reason::SlotsDiffer,
+        })
+    }
+
+    /// Follows a way with these slots, and answers which point is looked at next: its target, if more is known there now and it
+    /// stands before the given one.
+    fn reach_along(
+        &self,
+        table: &mut Table,
+        way: Option<Way>,
+        changes: Stretch,
+        next: u32,
+    ) -> Result<u32, Fault>
+        requires { IsGiven self.now.space self.now.slots.now self.now.lists_stray }
+    {
+        let Some(way) = way else {
+            return Ok(next);
+        };
+        self.leaves_same(table, &way, changes)?;
+        if table.reach(&way, changes)? {
+            return Ok(next.min(way.target));
+        }
+        Ok(next)
     }
 
     /// Follows the ways on from all points that change, always from the first of them: so a loop is gone round until nothing changes
@@ -168,35 +279,65 @@ impl Given<'_, '_> {
         true
     }
 
-    /// Narrows all ranges once, in the order of the points, and answers whether some changed. Of ways back those of the round
-    /// before count.
-    fn narrow(&self, table: &mut Table, back: &mut Arrivals, sets: bool) -> Result<bool, Fault>
+    /// Goes over all points once, in their order. Where the round before is given, ranges are narrowed, and of ways back those of
+    /// that round count.
+    fn narrow(&self, table: &mut Table, before: Option<&Round>) -> Result<Round, Fault>
         requires { IsGiven self.now.space self.now.slots.now self.now.lists_stray }
     {
         let mut ahead = Arrivals::new(self.alloc, self.count())?;
-        let mut next_back = Arrivals::new(self.alloc, self.count())?;
-        let mut some = false;
+        let mut back = Arrivals::new(self.alloc, self.count())?;
+        let mut leads = Vec::new(self.alloc);
+        let mut changes = false;
+        let mut has_fault = false;
         'points: for point in 0..self.count() {
-            if sets {
-                let arrived = either(ahead.at(point), back.at(point));
-                some |= self.narrow_at(table, point, arrived);
+            if let Some(before) = before {
+                let arrived = either(ahead.at(point), before.back.at(point));
+                changes |= self.narrow_at(table, point, arrived);
             }
-            if let Some(ways) = self.ways_so_far(table, point)? {
-                note_arrivals(&mut ahead, &mut next_back, &ways);
+            match self.ways_so_far(table, point)? {
+                Some(ways) => {
+                    leads.push(Leads::of(ways.next, ways.taken))?;
+                    note_arrivals(&mut ahead, &mut back, &ways);
+                }
+                None => {
+                    leads.push(Leads::NONE)?;
+                    has_fault |= table.state(point).is_some();
+                }
             }
         }
-        *back = next_back;
+        Ok(Round {
+            back,
+            leads,
+            changes,
+            has_fault,
+        })
+    }
+
+    /// Forgets what was known of points to which no way leads any more, since ranges that are narrower rule it out. Answers whether
+    /// there were some.
+    fn forget_unreached(&self, table: &mut Table, round: &Round) -> Result<bool, Fault> {
+        if round.has_fault {
+            return Ok(false);
+        }
+        let entry = self.space.thread.header().entry;
+        let reached = reached_from(self.alloc, self.count(), entry, &round.leads)?;
+        let mut some = false;
+        'points: for point in 0..self.count() {
+            if !reached.has(point) {
+                some |= table.forget(point);
+            }
+        }
         Ok(some)
     }
 
     /// All ways on from points that are reached. The first point where something is wrong is told.
-    fn all_ways(&self, table: &Table) -> Result<Vec<Way>, Fault>
+    fn all_ways(&self, table: &mut Table) -> Result<Vec<Way>, Fault>
         requires { IsGiven self.now.space self.now.slots.now self.now.lists_stray }
     {
         let mut all = Vec::new(self.alloc);
         'points: for point in 0..self.count() {
             if let Some(state) = table.state(point) {
-                let ways = self.ways(point, state)?;
+                let ways = self.ways(point, &state, &mut table.shared)?;
                 add_ways(&mut all, &ways)?;
             }
         }
@@ -216,13 +357,18 @@ impl Given<'_, '_> {
     fn narrow_all(&self, table: &mut Table) -> Result<(), Fault>
         requires { IsGiven self.now.space self.now.slots.now self.now.lists_stray }
     {
-        let mut back = Arrivals::new(self.alloc, self.count())?;
-        self.narrow(table, &mut back, false)?;
+        let mut round = self.narrow(table, None)?;
         'narrowings: for _ in 0..MOST_NARROWINGS {
-            if !self.narrow(table, &mut back, true)? {
+            let forgets = self.forget_unreached(table, &round)?;
+            if forgets {
+                round = self.narrow(table, None)?;
+            }
+            round = self.narrow(table, Some(&round))?;
+            if !round.changes && !forgets {
                 break;
             }
         }
+        self.forget_unreached(table, &round)?;
         Ok(())
     }
 
@@ -233,31 +379,9 @@ impl Given<'_, '_> {
         let mut table = self.begun()?;
         self.follow_all(&mut table)?;
         self.narrow_all(&mut table)?;
-        let ways = self.all_ways(&table)?;
+        let ways = self.all_ways(&mut table)?;
         Ok(Flow { table, ways })
     }
-}
-
-/// Follows a way with these slots, and answers which point is looked at next: its target, if more is known there now and it stands
-/// before the given one.
-fn reach_along(
-    table: &mut Table,
-    way: &Option<Way>,
-    changes: &[NotedSlot],
-    next: u32,
-) -> Result<u32, Fault> {
-    if let Some(way) = way {
-        if table.reach(way, changes)? {
-            return Ok(next.min(way.target));
-        }
-    }
-    Ok(next)
-}
-
-/// Follows all of some ways, and answers which point is looked at next: the first of those that they change, or the given one.
-fn reach_along_all(table: &mut Table, ways: &Ways, next: u32) -> Result<u32, Fault> {
-    let next = reach_along(table, &ways.next, &ways.changes, next)?;
-    reach_along(table, &ways.taken, &ways.changes, next)
 }
 
 /// Adds ways behind others.

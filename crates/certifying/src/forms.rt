@@ -70,13 +70,18 @@ impl Form {
     }
 
     /// This form and another so many times.
-    fn with(&self, other: &Form, times: i64) -> Form {
+    pub(crate) fn with(&self, other: &Form, times: i64) -> Form {
         let by = other.constant.saturating_mul(times);
         let mut sum = self.raised(by);
         'registers: for register in 1..32u32 {
             sum.add(register, other.coefficient(register).saturating_mul(times));
         }
         sum
+    }
+
+    /// How far its greatest value over ranges is above its least.
+    pub(crate) fn width(&self, bounds: &Bounds) -> i64 {
+        self.greatest(bounds).saturating_sub(self.least(bounds))
     }
 
     /// The sum of two forms.

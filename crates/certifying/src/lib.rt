@@ -12,8 +12,9 @@ mod loops;
 mod marks;
 mod needs;
 mod ranged;
+mod shared;
 mod tables;
 mod ways;
 
-pub use certifier::{Certificate, Record, Unfit, certificates};
+pub use certifier::{Certificate, Effort, Record, Unfit, certificates};
 pub use faults::{Fault, Reason};

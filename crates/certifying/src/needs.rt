@@ -46,6 +46,11 @@ impl Registers {
         Registers { has: [false; 32] }
     }
 
+    /// All registers.
+    pub(crate) fn all() -> Self {
+        Registers { has: [true; 32] }
+    }
+
     /// Whether a register is one of them.
     pub(crate) fn contains(&self, register: u32) -> bool {
         match self.has.get(register as usize) {

@@ -1,8 +1,9 @@
 //! What is known of all points so far.
 
+use crate::Fault;
 use crate::ranged::{joined, widened};
+use crate::shared::{Shared, Stretch};
 use crate::ways::{State, Way};
-use crate::{Fault, Reason};
 use ranges::{Bounds, Range};
 use std::alloc::Global;
 use typestate::{NotedSlot, SlotKey};
@@ -26,8 +27,9 @@ pub(crate) struct Place {
 /// What is known of all points so far.
 #[derive(Drop)]
 pub(crate) struct Table {
-    alloc: Global,
     pub(crate) places: Vec<Place>,
+    /// The changes to slots at all points.
+    pub(crate) shared: Shared,
     /// Where ranges stop that are widened. They rise.
     thresholds: Vec<u32>,
 }
@@ -49,7 +51,7 @@ fn is_same_change(first: &NotedSlot, second: &NotedSlot) -> bool {
 }
 
 /// Whether changes are the same. Their keys rise.
-fn are_same_changes(first: &[NotedSlot], second: &[NotedSlot]) -> bool {
+pub(crate) fn are_same_changes(first: &[NotedSlot], second: &[NotedSlot]) -> bool {
     if first.len() != second.len() {
         return false;
     }
@@ -73,8 +75,8 @@ impl Table {
             })?;
         }
         Ok(Table {
-            alloc,
             places,
+            shared: Shared::new(alloc, count)?,
             thresholds: Vec::new(alloc),
         })
     }
@@ -126,7 +128,7 @@ impl Table {
         self.add_values(&bounds)?;
         let state = State {
             bounds,
-            changes: Vec::new(self.alloc),
+            changes: Stretch::NONE,
         };
         self.put(entry, state);
         Ok(())
@@ -137,6 +139,18 @@ impl Table {
         if let Some(place) = self.places.get_mut(point as usize) {
             place.state = Some(state);
             place.waits = true;
+        }
+    }
+
+    /// Forgets what was known of a point, and answers whether something was.
+    pub(crate) fn forget(&mut self, point: u32) -> bool {
+        match self.places.get_mut(point as usize) {
+            Some(place) => {
+                let was_known = place.state.is_some();
+                place.state = None;
+                was_known
+            }
+            None => false,
         }
     }
 
@@ -153,9 +167,9 @@ impl Table {
     }
 
     /// The state of a point, if it is reached.
-    pub(crate) fn state(&self, point: u32) -> Option<&State> {
+    pub(crate) fn state(&self, point: u32) -> Option<State> {
         match self.places.get(point as usize) {
-            Some(place) => place.state.as_ref(),
+            Some(place) => place.state,
             None => None,
         }
     }
@@ -207,28 +221,17 @@ impl Table {
         }
     }
 
-    /// Notes that a way leads to its target with these slots, and answers whether more is known there now.
-    pub(crate) fn reach(&mut self, way: &Way, changes: &[NotedSlot]) -> Result<bool, Fault> {
-        let Some(state) = self.state(way.target) else {
-            let mut kept = Vec::new(self.alloc);
-            kept.extend_from_slice(changes)?;
-            self.put(
-                way.target,
-                State {
-                    bounds: way.behind,
-                    changes: kept,
-                },
-            );
-            return Ok(true);
-        };
-        if !are_same_changes(&state.changes, changes) {
-            return Err(Fault::At {
-                point: way.from,
-                reason: Reason::SlotsDiffer,
-            });
+    /// Notes that a way leads to its target, whose slots it leaves as they are known there if some are, and answers whether more is
+    /// known there now.
+    pub(crate) fn reach(&mut self, way: &Way, changes: Stretch) -> Result<bool, Fault> {
+        match self.state(way.target) {
+            Some(state) => self.grow(way, &state.bounds),
+            None => {
+                let bounds = way.behind;
+                self.put(way.target, State { bounds, changes });
+                Ok(true)
+            }
         }
-        let before = state.bounds;
-        self.grow(way, &before)
     }
 
     /// Notes that a way leads to its target, where these ranges are known, and answers whether they grow.

@@ -5,20 +5,20 @@ ghost use Rattle.certifying.specs.Given.{IsGiven};
 ghost use Rattle.model.specs.Machine.Instructions.{IsInstr};
 
 use crate::calls::Given;
+use crate::shared::{Shared, Stretch};
 use crate::{Fault, Reason};
 use measure::{AfterCall, AfterInstruction, Step, Value};
 use model::{Instr, Point, Refusal};
 use program_rules::registers_of;
 use ranges::{Bounds, Edge, after};
 use rv32_isa::decode;
-use std::alloc::Global;
-use typestate::{NotedSlot, Written};
+use typestate::Written;
 
 /// What is known at a point: the ranges of the registers, and the slots as changes to those of the image.
-#[derive(Drop)]
+#[derive(Clone, Copy)]
 pub(crate) struct State {
     pub(crate) bounds: Bounds,
-    pub(crate) changes: Vec<NotedSlot>,
+    pub(crate) changes: Stretch,
 }
 
 /// What writes registers on a way.
@@ -59,23 +59,16 @@ pub(crate) struct Way {
 }
 
 /// The ways on from a point, and the slots behind it.
-#[derive(Drop)]
+#[derive(Clone, Copy)]
 pub(crate) struct Ways {
     pub(crate) next: Option<Way>,
     pub(crate) taken: Option<Way>,
-    pub(crate) changes: Vec<NotedSlot>,
+    pub(crate) changes: Stretch,
 }
 
 /// Whether it is a branch.
 fn is_branch(instr: Instr) -> bool {
     matches!(instr, Instr::Branch { .. })
-}
-
-/// A copy of changes of slots.
-fn copy_of(alloc: Global, changes: &[NotedSlot]) -> Result<Vec<NotedSlot>, Fault> {
-    let mut copy = Vec::new(alloc);
-    copy.extend_from_slice(changes)?;
-    Ok(copy)
 }
 
 impl Given<'_, '_> {
@@ -184,10 +177,15 @@ impl Given<'_, '_> {
     }
 
     /// The ways on from a system call.
-    fn ways_behind_call(&self, point: u32, state: &State) -> Result<Ways, Fault>
+    fn ways_behind_call(
+        &self,
+        point: u32,
+        state: &State,
+        shared: &mut Shared,
+    ) -> Result<Ways, Fault>
         requires { IsGiven self.now.space self.now.slots.now self.now.lists_stray }
     {
-        let called = self.called(point, &state.bounds, &state.changes)?;
+        let called = self.called(point, state, shared)?;
         let way = Way {
             from: point,
             target: self.point_at(point, self.address(point).wrapping_add(4))?,
@@ -200,24 +198,23 @@ impl Given<'_, '_> {
         Ok(Ways {
             next: Some(way),
             taken: None,
-            changes: called.changes,
+            changes: called.left,
         })
     }
 
     /// The ways on from a point in a state.
-    pub(crate) fn ways(&self, point: u32, state: &State) -> Result<Ways, Fault>
+    pub(crate) fn ways(&self, point: u32, state: &State, shared: &mut Shared) -> Result<Ways, Fault>
         requires { IsGiven self.now.space self.now.slots.now self.now.lists_stray }
     {
         let instr = self.instruction(point)?;
         if let Instr::Ecall = instr {
-            return self.ways_behind_call(point, state);
+            return self.ways_behind_call(point, state, shared);
         }
-        let changes = copy_of(self.alloc, &state.changes)?;
         let (next, taken) = self.ways_along(point, instr, &state.bounds)?;
         Ok(Ways {
             next,
             taken,
-            changes,
+            changes: state.changes,
         })
     }
 }

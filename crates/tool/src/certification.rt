@@ -6,7 +6,7 @@ ghost use Rattle.tool.specs.AcceptedTexts.{IsAcceptedText};
 use crate::trials::{drop_records, judged};
 use asm::{SourceFault, assemble};
 use certified_texts::{Draft, Layout, bare_text, layout_of};
-use certifying::{Certificate, Reason, Unfit, certificates};
+use certifying::{Certificate, Effort, Reason, Unfit, certificates};
 use image::write;
 use model::{Point, Refusal};
 use progress::{Progress, Stage};
@@ -27,8 +27,10 @@ pub enum Why {
     Unfit(Reason),
     /// The budget that is given is below the least that is found.
     BudgetTooSmall { given: u64, least: u64 },
-    /// What was found is not accepted.
+    /// The verifier refuses it, whatever certificate it gets.
     Refused(Refusal),
+    /// All certificates that are found are refused, which is a fault of the search.
+    NotAccepted(Refusal),
 }
 
 /// Why a text gets no certificates.
@@ -130,18 +132,28 @@ fn draft_of(
 }
 
 /// The certificates that are found for a text without any.
-fn found(alloc: Global, bare: &str, layout: &Layout<'_>) -> Result<Vec<Certificate>, NotCertified> {
+fn found(
+    alloc: Global,
+    bare: &str,
+    layout: &Layout<'_>,
+    effort: Effort,
+) -> Result<Vec<Certificate>, NotCertified> {
     let image = assemble(alloc, bare)?;
     let bytes = write(alloc, &image)?;
-    match certificates(alloc, bytes.as_slice()) {
+    match certificates(alloc, bytes.as_slice(), effort) {
         Ok(found) => Ok(found),
         Err(fault) => Err(unfit(layout, fault)),
     }
 }
 
 /// What is found for a text without certificates.
-fn drafts_of(alloc: Global, bare: &str, layout: &Layout<'_>) -> Result<Vec<Draft>, NotCertified> {
-    let found = found(alloc, bare, layout)?;
+fn drafts_of(
+    alloc: Global,
+    bare: &str,
+    layout: &Layout<'_>,
+    effort: Effort,
+) -> Result<Vec<Draft>, NotCertified> {
+    let found = found(alloc, bare, layout, effort)?;
     let mut drafts = Vec::new(alloc);
     'threads: for (number, certificate) in found.into_iter().enumerate() {
         drafts.push(draft_of(alloc, layout, number, certificate)?)?;
@@ -161,6 +173,46 @@ fn budgets_of(alloc: Global, layout: &Layout<'_>, drafts: &[Draft]) -> Result<St
     Ok(told)
 }
 
+/// Why a text gets no certificates whose first ones were refused, and all others too: pages that are not mapped are told by the
+/// verifier alone, and what else it refuses was to be found.
+fn searched_in_vain(first: NotCertified) -> NotCertified {
+    match first {
+        NotCertified::Line {
+            line,
+            why: Why::Refused(refusal),
+        } if !matches!(refusal, Refusal::NotMapped(_)) => NotCertified::Line {
+            line,
+            why: Why::NotAccepted(refusal),
+        },
+        other => other,
+    }
+}
+
+/// What is found for a text without certificates, if the verifier accepts it. Where it refuses that, more is noted.
+fn searched<P: Progress>(
+    alloc: Global,
+    text: &str,
+    bare: &str,
+    layout: &Layout<'_>,
+    progress: &mut P,
+) -> Result<Vec<Draft>, NotCertified> {
+    let mut first = None;
+    'efforts: for effort in [Effort::Least, Effort::AllRanges, Effort::AllPoints] {
+        let drafts = drafts_of(alloc, bare, layout, effort)?;
+        progress.reach(Stage::Found);
+        match judged(alloc, text, layout, drafts.as_slice()) {
+            Ok(_) => return Ok(drafts),
+            Err(NotCertified::OutOfMemory) => return Err(NotCertified::OutOfMemory),
+            Err(fault) => {
+                if first.is_none() {
+                    first = Some(fault);
+                }
+            }
+        }
+    }
+    Err(searched_in_vain(first.unwrap_or(NotCertified::OutOfMemory)))
+}
+
 /// The text with these certificates, from which the records go that it does not need.
 fn shortest<P: Progress>(
     alloc: Global,
@@ -171,8 +223,6 @@ fn shortest<P: Progress>(
 ) -> Result<CertifiedText, NotCertified>
     ensures accepted { IfOk result (λ made. IsAcceptedText made.text.items) }
 {
-    judged(alloc, text, layout, drafts.as_slice())?;
-    progress.reach(Stage::Judged);
     drop_records(alloc, text, layout, &mut drafts, progress)?;
     Ok(CertifiedText {
         text: judged(alloc, text, layout, drafts.as_slice())?,
@@ -195,7 +245,7 @@ pub fn certified<P: Progress>(
         return Err(NotCertified::Source(SourceFault { line: 1, kind: 1 }));
     };
     let layout = layout_of(alloc, bare)?;
-    let drafts = drafts_of(alloc, bare, &layout)?;
-    progress.reach(Stage::Found);
+    let drafts = searched(alloc, text, bare, &layout, progress)?;
+    progress.reach(Stage::Judged);
     shortest(alloc, text, &layout, drafts, progress)
 }

@@ -78,6 +78,13 @@ pub(crate) fn line_of(alloc: Global, fault: NotCertified) -> Result<String, Allo
                 )
             }
             Why::Refused(refusal) => refusal_line(alloc, line, refusal),
+            Why::NotAccepted(refusal) => {
+                let number = refusal.number();
+                let name = refusal.name();
+                format!(in alloc;
+                    "line {line} NotAccepted: what certify found is refused by {number} {name}, which is its own fault\n"
+                )
+            }
         },
         NotCertified::Image(refusal) => image_line(alloc, refusal),
         NotCertified::OutOfMemory => Err(AllocError),

@@ -14,6 +14,17 @@ use verify::verify;
 /// How many lines all trials may have together.
 const MOST_LINES: usize = 1 << 19;
 
+/// After how many seconds of a request no trial begins.
+const MOST_SECONDS: u64 = 1;
+
+/// Whether there is time for another trial. Without a clock there is.
+fn has_time<P: Progress>(progress: &P) -> bool {
+    match progress.seconds() {
+        Some(seconds) => seconds < MOST_SECONDS,
+        None => true,
+    }
+}
+
 /// Whether the verifier accepts the image of a text.
 fn check(alloc: Global, layout: &Layout<'_>, text: &str) -> Result<(), NotCertified>
     ensures { OnOk result (IsAcceptedText text.now) }
@@ -72,7 +83,8 @@ fn record_count(drafts: &[Draft], thread: usize) -> usize {
     }
 }
 
-/// Leaves out each record without which the text is accepted as well, as far as there is time for trials.
+/// Leaves out each record without which the text is accepted as well, as far as there is time for trials, by the clock and by how
+/// many lines they have.
 pub(crate) fn drop_records<P: Progress>(
     alloc: Global,
     text: &str,
@@ -84,7 +96,7 @@ pub(crate) fn drop_records<P: Progress>(
     let mut left = MOST_LINES / lines;
     'threads: for thread in 0..drafts.len() {
         'records: for record in 0..record_count(drafts, thread) {
-            if left == 0 {
+            if left == 0 || !has_time(progress) {
                 return Ok(());
             }
             left -= 1;
