@@ -1,4 +1,4 @@
-//! What is told of a text that takes long, by a clock that goes on by 600 milliseconds at each look.
+//! What is told of a text that takes long, by a clock that goes on by 300 milliseconds at each look.
 
 use crate::certification::rows::text_with;
 use progress::Told;
@@ -20,7 +20,7 @@ impl Clock for SlowClock {
     fn monotonic(&self) -> io::Result<Duration> {
         let looks = self.looks.get().saturating_add(1);
         self.looks.set(looks);
-        Ok(Duration::from_millis(looks.min(1000) * 600))
+        Ok(Duration::from_millis(looks.min(1000) * 300))
     }
 
     fn since_1970(&self) -> io::Result<Duration> {
@@ -29,7 +29,7 @@ impl Clock for SlowClock {
 }
 
 #[test]
-fn a_line_is_put_for_each_second(rt: HostRuntime) -> Result<(), Fail> {
+fn trials_end_after_a_second_and_a_line_says_so(rt: HostRuntime) -> Result<(), Fail> {
     let clock = SlowClock {
         looks: Cell::new(0),
     };
@@ -40,10 +40,9 @@ fn a_line_is_put_for_each_second(rt: HostRuntime) -> Result<(), Fail> {
     )?;
     let mut progress = Told::new(rt.alloc(), &clock, &mut errors);
     assert!(rt; certified(rt.alloc(), text.as_str(), &mut progress).is_ok());
-    // Certificates are found after 0.6 s and judged after 1.2; the records of the entry, the loop, its branch and the wait are tried
-    // after 1.8, 2.4, 3.0 and 3.6.
-    let told =
-        ".. 1 s: image judged\n.. 2 s: thread 0, record 1 of 4 tried\n.. 3 s: thread 0, record 2 of 4 tried\n";
+    // Certificates are found after 0.3 s and judged after 0.6; at 0.9 there is time to try the first record, which is done after 1.2;
+    // at 1.5 there is no more for the second.
+    let told = ".. 1 s: thread 0, record 0 of 4 tried\n";
     assert_eq!(rt; errors.bytes(), told.as_bytes());
     Ok(())
 }

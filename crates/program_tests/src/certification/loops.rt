@@ -52,3 +52,31 @@ fn loops_as_long_as_the_outer_one_stands(rt: HostRuntime) -> Result<(), Fail> {
         addi x5 x5 -1\nbne x5 x0 outer\n";
     loops_have(&rt, loops, "main budget 234\n")
 }
+
+#[test]
+fn a_counter_that_is_copied_tested_and_copied_back(rt: HostRuntime) -> Result<(), Fail> {
+    // 2 + 31 * 4 + 2 + 3: the copy is 32 in the last turn
+    let loops = "start: addi x9 x0 0\naddi x28 x0 31\nagain: addi x11 x9 1\nbltu x28 x11 wait\n\
+        addi x9 x11 0\njal x0 again\n";
+    loops_have(&rt, loops, "main budget 131\n")
+}
+
+#[test]
+fn two_counters_of_which_each_turn_moves_one(rt: HostRuntime) -> Result<(), Fail> {
+    // 4 + 31 * 7 + 1 + 3: the two arrays of 16 bytes are merged after 15 steps in one and 16 in the other
+    let loops =
+        "start: lui x8 2\naddi x9 x0 0\naddi x18 x0 0\naddi x28 x0 16\nagain: add x6 x9 x8\n\
+        lbu x5 0(x6)\nadd x6 x18 x8\nlbu x7 64(x6)\nbltu x5 x7 left\naddi x18 x18 1\n\
+        bltu x18 x28 again\njal x0 wait\nleft: addi x9 x9 1\nbltu x9 x28 again\n";
+    loops_have(&rt, loops, "main budget 225\n")
+}
+
+#[test]
+fn a_way_that_ranges_rule_out(rt: HostRuntime) -> Result<(), Fail> {
+    // 2 + (4 + 2) + 14 * (4 + 2 * 15) + 1 + 3: the first turn counts down from 1, the others from 15 at most; the way to `zero`, on
+    // which the outer loop would never end, is not gone, since x10 is not 0
+    let loops = "start: addi x20 x0 1\naddi x21 x0 16\nouter: addi x10 x20 0\naddi x20 x20 1\n\
+        beq x10 x0 zero\ninner: addi x10 x10 -1\nbne x10 x0 inner\nbltu x20 x21 outer\njal x0 wait\n\
+        zero: addi x20 x0 1\njal x0 outer\n";
+    loops_have(&rt, loops, "main budget 488\n")
+}
