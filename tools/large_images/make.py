@@ -473,7 +473,7 @@ GROWING = {
     "rising": lambda share: image_of([block_program(254 // share, False)], radix=14, pool=20, further=3),
     "falling": lambda share: image_of([block_program(254 // share, True)], radix=14, pool=20, further=3),
     "moves": lambda share: image_of([moving_program(8000 // share)], radix=14, pool=12),
-    "movers": lambda share: image_of([movers_program(32 // share)], radix=14, pool=20),
+    "movers": lambda share: image_of([movers_program(16 // share)], radix=14, pool=20),
     "noted_slots": lambda share: image_of([noted_slots_program(48 // share)], radix=14, pool=12),
     "wide": lambda share: image_of(
         [loading_program(60000 // share, 0x400000, 0xFFFFFC)], tables=3, mappings=3072, registers=((6, 0x400000),)
