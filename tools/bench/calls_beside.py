@@ -16,7 +16,7 @@ import sys
 import tempfile
 
 ROOT = os.path.dirname(os.path.dirname(os.path.dirname(os.path.realpath(__file__))))
-RETYPE, CONFIGURE, PRIORITY, REGISTER, RESUME, SUSPEND, COPY, MINT, MOVE, MUTATE, DELETE, REVOKE, MAP, UNMAP, MAP_TABLE, UNMAP_TABLE = range(1, 17)
+RETYPE, _, PRIORITY, REGISTER, RESUME, SUSPEND, COPY, MINT, MOVE, MUTATE, DELETE, REVOKE, MAP, UNMAP, MAP_TABLE, UNMAP_TABLE = range(1, 17)
 ACK, SET_NOTIFICATION, CLEAR = 18, 19, 20
 UNTYPED, TCB, ENDPOINT, NOTIFICATION, CNODE, FRAME, TABLE, ROOT_TABLE = range(1, 9)
 # The slots of the thread's CNode: what the image lists, what is made before the rounds, and where the rounds make something.
@@ -49,7 +49,7 @@ def make(kind, size, slot, count=1, pool=POOL):
     return call(pool, RETYPE, kind, size, 0, 0, slot, count)
 
 
-# The calls of a round, by kind: what each round does, it undoes. The first line of each says how many calls are in it.
+# The calls of a round, by kind: what each round does, it undoes.
 ROUNDS = {
     "copy and delete": call(OWN, COPY, HERE, DEPTH, BELL, DEPTH, 2) + call(OWN, DELETE, HERE, DEPTH),
     "mint and delete": call(OWN, MINT, HERE, DEPTH, DOOR, DEPTH, 2, 7) + call(OWN, DELETE, HERE, DEPTH),
@@ -72,18 +72,15 @@ ROUNDS = {
     "signal": ["addi x17 x0 4", f"addi x10 x0 {BELL}", "ecall"],
     "yield": ["addi x17 x0 7", "ecall"],
     "receive of nothing": ["addi x17 x0 8", f"addi x10 x0 {DOOR}", "ecall"],
-    # What goes over the whole of what it ends or makes, but no more: told for comparison of counts alone.
-    "configure and delete": make(TCB, 0, HERE, pool=SMALL) + call(HERE, CONFIGURE, 0, OWN, DEPTH, VS, DEPTH) + call(OWN, REVOKE, SMALL, DEPTH),
 }
 
 
-def text_of(lines, count, listed, rounds_of_calls):
+def text_of(lines, count, listed):
     """The text of a system whose thread makes some things and N endpoints (or has so many capabilities listed), and then the calls, over and over."""
     head = ["memory 24 14", "untyped u0 0x80000 17", "untyped u1 0x100000 20", "untyped u2 0x200000 21", "untyped u3 0x800000 23"]
     head += ["object code u0 frame", "object code2 u0 frame", "object vs u0 root", "object pt u0 table", "object t u0 tcb", "object bell u0 notification"]
     head += ["object door u0 endpoint", "object cs u1 cnode 14", "object small u1 untyped 16", "object wide u1 untyped 16", "object pool u3 untyped 22"]
     sources = min(count, 3900) if listed else 0
-    head[-4:-4] = []
     head += [f"object e{i} u3 endpoint" for i in range(sources)]
     head += ["irq line 3 bell 1", "cap cs 1 bell 3 0", "cap cs 2 cs 0 18", "cap cs 3 pool 0 0", "cap cs 4 vs 0 0", "cap cs 5 line 0 0", "cap cs 6 door 3 0"]
     head += ["cap cs 7 small 0 0", "cap cs 8 wide 0 0"]
@@ -115,7 +112,7 @@ def cost(program, kind, count, listed, folder):
     """Instructions a call, without those of a plain step."""
     calls, totals = ROUNDS[kind], []
     for lines in (calls, ["addi x0 x0 0" if line == "ecall" else line for line in calls]):
-        text, before = text_of(lines, count, listed, calls)
+        text, before = text_of(lines, count, listed)
         with open(f"{folder}/source.txt", "w", encoding="utf-8") as file:
             file.write("\n".join(text) + "\n")
         built = subprocess.run([program, "build", f"{folder}/source.txt", f"{folder}/image"], capture_output=True, text=True, check=False)
