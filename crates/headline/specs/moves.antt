@@ -1,3 +1,4 @@
+pub mod Ground
 pub mod Laws
 pub mod Moving
 pub mod Resting

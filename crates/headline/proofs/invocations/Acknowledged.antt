@@ -5,7 +5,7 @@ use Rattle.std.specs.Option.{option_map_or}
 use Rattle.headline.specs.facts.Standing.{AllStand}
 use Rattle.model.specs.declared.labels.Label.{Label}
 use Rattle.model.specs.Acceptance.Accepted.{IsAccepted}
-use Rattle.model.specs.Acceptance.Authority.{SameStore}
+use Rattle.headline.specs.moves.Ground.{SameGround}
 use Rattle.model.specs.Acceptance.CallRules.{AfterCall}
 use Rattle.model.specs.Acceptance.NotedStates.{PointState}
 use Rattle.model.specs.Images.Described.{Numbered, numbered_threads}
@@ -24,10 +24,10 @@ signals-same : (s : State) (masked pending : ℕ → Bool) (n badge y : ℕ) (o 
 signals-same s masked pending n badge y o [] = refl
 signals-same s masked pending n badge y o (w ∷ others) = refl
 
-signals-store : (s : State) (masked pending later : ℕ → Bool) (n badge : ℕ) (o : NotificationState) (waiters : List ℕ)
-    → SameStore s (record (signals (record s { masked = masked; pending = pending }) n badge o waiters) { masked = later })
-signals-store s masked pending later n badge o [] = record { memory_bits = refl; boot_radix = refl; slots = λ slot. refl; bytes = λ place. refl }
-signals-store s masked pending later n badge o (w ∷ others) = record { memory_bits = refl; boot_radix = refl; slots = λ slot. refl; bytes = λ place. refl }
+signals-store : (image : Image) (s : State) (masked pending later : ℕ → Bool) (n badge : ℕ) (o : NotificationState) (waiters : List ℕ)
+    → SameGround image s (record (signals (record s { masked = masked; pending = pending }) n badge o waiters) { masked = later })
+signals-store image s masked pending later n badge o [] = record { memory_bits = refl; boot_radix = refl; slots = λ slot. refl; bytes = λ frame place code low high. refl }
+signals-store image s masked pending later n badge o (w ∷ others) = record { memory_bits = refl; boot_radix = refl; slots = λ slot. refl; bytes = λ frame place code low high. refl }
 
 module _ (laws : Laws) (bytes : List ℕ) (image : Image) (s : State) (labels : List Label) (accepted : IsAccepted bytes image) (all : AllStand image s labels)
     (t : Numbered) (listed : Contains (numbered_threads image) t) (own : ThreadState) (point : ℕ) (state : PointState) (left : AfterCall)
@@ -46,12 +46,12 @@ module _ (laws : Laws) (bytes : List ℕ) (image : Image) (s : State) (labels : 
       let o = notification_at s n in
       signal-leaves-so laws bytes image s labels accepted all t listed own point state left at n there.old there.was bound.badge there.small
       (interrupt cleared line bound) sound
-      (signals-store s (put s.masked line false) (put s.pending line false) (put (put s.masked line false) line true) n bound.badge o o.waiters)
+      (signals-store image s (put s.masked line false) (put s.pending line false) (put (put s.masked line false) line true) n bound.badge o o.waiters)
       (λ y. signals-same s (put s.masked line false) (put s.pending line false) n bound.badge y o o.waiters)
 
   stays : IsSound unmasked → HasSignalled image t unmasked labels own point state left
   stays sound =
-      let store : SameStore s unmasked = record { memory_bits = refl; boot_radix = refl; slots = λ slot. refl; bytes = λ place. refl } in
+      let store : SameGround image s unmasked = record { memory_bits = refl; boot_radix = refl; slots = λ slot. refl; bytes = λ frame place code low high. refl } in
       record {
         all = unchanged-stand laws bytes image s labels labels accepted all (λ u member. refl) unmasked sound store (λ y. refl);
         at = calls-on laws bytes image s labels accepted all t listed own point state left at unmasked sound store own at.there refl refl;

@@ -9,7 +9,7 @@ use Rattle.model.specs.declared.labels.Label.{Label}
 use Rattle.model.specs.declared.labels.Label.TheVariants.{Ran}
 use Rattle.model.specs.declared.labels.Outcome.{Outcome}
 use Rattle.model.specs.Acceptance.Accepted.{IsAccepted}
-use Rattle.model.specs.Acceptance.Authority.{SameStore}
+use Rattle.headline.specs.moves.Ground.{SameGround}
 use Rattle.model.specs.Acceptance.CallRules.{AfterCall}
 use Rattle.model.specs.Acceptance.NotedStates.{PointState}
 use Rattle.model.specs.Acceptance.ThreadInvariants.{ThreadInvariant, tcb_of}
@@ -168,7 +168,7 @@ module _ (laws : Laws) (bytes : List ℕ) (image : Image) (s : State) (labels la
   own-control offset is = record { thread = t; listed = listed; is = is }
 
   -- it goes on behind a call that waits, or one that does not
-  pub own-passes : (after : State) → IsSound after → SameStore s after → left.slots ≡ state.slots → PassesWith after (tcb_of image t) own state left
+  pub own-passes : (after : State) → IsSound after → SameGround image s after → left.slots ≡ state.slots → PassesWith after (tcb_of image t) own state left
       → IsCounted image t labels later left.is_wait → ThreadInvariant image t after later × WaitsAsAsked image t after
   own-passes after sound store slots passes counts =
       let alone = touches-none bytes image t s after accepted listed all.sound sound store in (

@@ -10,7 +10,8 @@ use Rattle.model.specs.declared.capabilities.Cap.TheVariants.{Empty}
 use Rattle.model.specs.declared.labels.Label.{Label}
 use Rattle.model.specs.declared.slot_entries.Entry.{Entry}
 use Rattle.model.specs.Acceptance.Accepted.{IsAccepted}
-use Rattle.model.specs.Acceptance.Authority.{Holds, SameStore}
+use Rattle.model.specs.Acceptance.Authority.{Holds}
+use Rattle.headline.specs.moves.Ground.{SameGround}
 use Rattle.model.specs.Acceptance.CallRules.{AfterCall, badges, known_behind}
 use Rattle.model.specs.Acceptance.NotedStates.{PointState}
 use Rattle.model.specs.Acceptance.Ranges.{with_range}
@@ -39,7 +40,7 @@ use Rattle.headline.proofs.moves.Standing.{touches-none}
 
 -- ---- what a thread holds, it holds where slots stay
 
-pub holds-on : (image : Image) (t : Numbered) (s after : State) (queue : ℕ) → SameStore s after
+pub holds-on : (image : Image) (t : Numbered) (s after : State) (queue : ℕ) → SameGround image s after
     → Holds image t.thread s (NamesQueue queue) → Holds image t.thread after (NamesQueue queue)
 holds-on image t s after queue store held = record {
   slot = held.slot;
@@ -79,7 +80,7 @@ module _ (laws : Laws) (bytes : List ℕ) (image : Image) (s : State) (labels la
 
   -- ---- the notification's queue changes, and this thread moves
 
-  module _ (new : NotificationState) (after : State) (sound : IsSound after) (store : SameStore s after) (is : after.objects n ≡ Some (NotificationObject new))
+  module _ (new : NotificationState) (after : State) (sound : IsSound after) (store : SameGround image s after) (is : after.objects n ≡ Some (NotificationObject new))
       (others : (y : ℕ) → y ≢ n → y ≢ tcb_of image t → after.objects y ≡ s.objects y)
       (fewer : (thread : ℕ) → thread ≢ tcb_of image t → Contains new.waiters thread → Contains old.waiters thread) where
     queues-on : (thread : ℕ) → thread ≢ tcb → QueuesOn (NotificationObject old) (NotificationObject new) thread
@@ -112,7 +113,7 @@ module _ (laws : Laws) (bytes : List ℕ) (image : Image) (s : State) (labels la
   -- ---- the word is taken
 
   module _ (is_wait : Bool) (left_is : left ≡ known_behind state (with_range state.ranges a0 badges) is_wait (a0 ∷ []))
-      (after : State) (sound : IsSound after) (store : SameStore s after)
+      (after : State) (sound : IsSound after) (store : SameGround image s after)
       (objects : (y : ℕ) → after.objects y ≡ (deliver_word (with_notification s n (record old { word = 0 })) (tcb_of image t) old.word).objects y) where
     abbrev emptied : NotificationState
     emptied = record old { word = 0 }
@@ -144,7 +145,7 @@ module _ (laws : Laws) (bytes : List ℕ) (image : Image) (s : State) (labels la
   -- ---- the thread waits
 
   module _ (left_is : left ≡ behind_signal state) (held : Holds image t.thread s (NamesQueue n))
-      (after : State) (sound : IsSound after) (store : SameStore s after)
+      (after : State) (sound : IsSound after) (store : SameGround image s after)
       (objects : (y : ℕ) → after.objects y
       ≡ (block (with_notification s n (record old { waiters = old.waiters ++ tcb_of image t ∷ [] })) (tcb_of image t) (Blocked n)).objects y) where
     abbrev longer : NotificationState
@@ -192,10 +193,10 @@ module _ (laws : Laws) (bytes : List ℕ) (image : Image) (s : State) (labels la
       let m = notification_at s n in
       let taken = deliver_word (with_notification s n (record m { word = 0 })) tcb m.word in
       elim (m.word == 0) as (λ b. let after = if b then waits_for_signal s n tcb else taken in IsSound after → AllStand image after later) [
-        | true ↦ λ sound. blocks left_is held (waits_for_signal s n tcb) sound (record { memory_bits = refl; boot_radix = refl; slots = λ slot. refl; bytes = λ place. refl })
+        | true ↦ λ sound. blocks left_is held (waits_for_signal s n tcb) sound (record { memory_bits = refl; boot_radix = refl; slots = λ slot. refl; bytes = λ frame place code low high. refl })
             (λ y. ap (λ (o : NotificationState). (block (with_notification s n (record o { waiters = o.waiters ++ tcb ∷ [] })) tcb (Blocked n)).objects y) read-there)
         | false ↦ λ sound. takes-word true left_is taken sound
-            (record { memory_bits = refl; boot_radix = refl; slots = λ slot. refl; bytes = λ place. refl })
+            (record { memory_bits = refl; boot_radix = refl; slots = λ slot. refl; bytes = λ frame place code low high. refl })
             (λ y. ap (λ (o : NotificationState). (deliver_word (with_notification s n (record o { word = 0 })) tcb o.word).objects y) read-there)
       ]
 
@@ -217,7 +218,7 @@ module _ (laws : Laws) (bytes : List ℕ) (image : Image) (s : State) (labels la
       elim (m.word == 0) as (λ b. let after = if b then deliver_word s tcb 0 else taken in IsSound after → AllStand image after later) [
         | true ↦ gets-nothing left_is
         | false ↦ λ sound. takes-word false left_is taken sound
-            (record { memory_bits = refl; boot_radix = refl; slots = λ slot. refl; bytes = λ place. refl })
+            (record { memory_bits = refl; boot_radix = refl; slots = λ slot. refl; bytes = λ frame place code low high. refl })
             (λ y. ap (λ (o : NotificationState). (deliver_word (with_notification s n (record o { word = 0 })) tcb o.word).objects y) read-there)
       ]
 
@@ -252,12 +253,12 @@ module _ (laws : Laws) (bytes : List ℕ) (image : Image) (s : State) (labels : 
       ∙ passed-there one w (write (thread_at one w).registers a0 badge) (tcb_of image t) (waiter-apart w others first)
       ∙ put-there s.objects n (Some (NotificationObject (record old { waiters = others }))) (tcb_of image t) caller-apart
 
-  signals-store : (waiters : List ℕ) (o : NotificationState) → SameStore s (signals s n badge o waiters)
-  signals-store [] o = record { memory_bits = refl; boot_radix = refl; slots = λ slot. refl; bytes = λ place. refl }
-  signals-store (w ∷ others) o = record { memory_bits = refl; boot_radix = refl; slots = λ slot. refl; bytes = λ place. refl }
+  signals-store : (waiters : List ℕ) (o : NotificationState) → SameGround image s (signals s n badge o waiters)
+  signals-store [] o = record { memory_bits = refl; boot_radix = refl; slots = λ slot. refl; bytes = λ frame place code low high. refl }
+  signals-store (w ∷ others) o = record { memory_bits = refl; boot_radix = refl; slots = λ slot. refl; bytes = λ frame place code low high. refl }
 
   -- where slots, bytes and objects are those behind the signal
-  pub signal-leaves-so : (after : State) → IsSound after → SameStore s after → ((y : ℕ) → after.objects y ≡ (signal s n badge).objects y)
+  pub signal-leaves-so : (after : State) → IsSound after → SameGround image s after → ((y : ℕ) → after.objects y ≡ (signal s n badge).objects y)
       → HasSignalled image t after labels own point state left
   signal-leaves-so after sound store objects =
       let same : notification_at s n ≡ old = ap (λ (o : Option Object). option_map_or (λ (x : NotificationState). x) (as_notification o) new_notification) was in

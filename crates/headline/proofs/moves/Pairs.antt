@@ -7,7 +7,7 @@ use Rattle.headline.specs.facts.Standing.{AllStand}
 use Rattle.headline.specs.facts.Waiting.{WaitsAsAsked}
 use Rattle.model.specs.declared.labels.Label.{Label}
 use Rattle.model.specs.Acceptance.Accepted.{IsAccepted}
-use Rattle.model.specs.Acceptance.Authority.{SameStore}
+use Rattle.headline.specs.moves.Ground.{SameGround}
 use Rattle.model.specs.Acceptance.ThreadInvariants.{ThreadInvariant, tcb_of}
 use Rattle.model.specs.Images.Described.{Numbered, numbered_threads}
 use Rattle.model.specs.Images.Image.{Image}
@@ -32,7 +32,7 @@ neither-place a b y is = elim (eqb_tells y a) [
 ]
 
 module _ (laws : Laws) (bytes : List ℕ) (image : Image) (s : State) (labels later : List Label) (accepted : IsAccepted bytes image) (all : AllStand image s labels)
-    (after : State) (sound : IsSound after) (store : SameStore s after) (t : Numbered) (listed : Contains (numbered_threads image) t) (u : Numbered) (among : Contains (numbered_threads image) u)
+    (after : State) (sound : IsSound after) (store : SameGround image s after) (t : Numbered) (listed : Contains (numbered_threads image) t) (u : Numbered) (among : Contains (numbered_threads image) u)
     (from : ℕ) (is_from : from ≡ tcb_of image u) (counts : (thread : ℕ) → thread ≢ tcb_of image t → open_count thread later ≡ open_count thread labels)
     (queue : ℕ) (old new : Object) (was : s.objects queue ≡ Some old) (is : after.objects queue ≡ Some new) (old_none : NoThread old) (new_none : NoThread new)
     (next gone : ThreadState) (own_is : after.objects (tcb_of image t) ≡ Some (ThreadObject next)) (from_is : after.objects from ≡ Some (ThreadObject gone))

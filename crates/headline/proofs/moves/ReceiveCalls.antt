@@ -11,7 +11,8 @@ use Rattle.model.specs.declared.labels.Outcome.{Outcome}
 use Rattle.model.specs.declared.labels.Outcome.TheVariants.{Waited, Plain}
 use Rattle.model.specs.declared.lookup_failures.LookupFailure.TheVariants.{MissingCapability}
 use Rattle.model.specs.Acceptance.Accepted.{IsAccepted}
-use Rattle.model.specs.Acceptance.Authority.{Holds, IsOwnSlot, SameStore}
+use Rattle.model.specs.Acceptance.Authority.{Holds, IsOwnSlot}
+use Rattle.headline.specs.moves.Ground.{SameGround}
 use Rattle.model.specs.Acceptance.CallRules.{AfterCall, badges, by_capability, known_behind, message_registers, receive_rule, with_message}
 use Rattle.model.specs.Acceptance.NotedStates.{PointState}
 use Rattle.model.specs.Acceptance.PointStates.{point_of}
@@ -63,13 +64,13 @@ module _ (laws : Laws) (bytes : List ℕ) (image : Image) (s : State) (labels : 
     abbrev ready : State
     ready = with_caller s tcb None
 
-    store-received : (x : Sender) (f : EndpointState) (b : ℕ) (m : Message) (kind : Sent) → SameStore s (received_waiting (deliver (with_endpoint ready e f) tcb b m) x kind tcb)
-    store-received x f b m BySend = record { memory_bits = refl; boot_radix = refl; slots = λ slot. refl; bytes = λ place. refl }
-    store-received x f b m ByCall = elim x.grant_reply as (λ g. SameStore s (if g then with_caller (block (deliver (with_endpoint ready e f) tcb b m) x.thread AwaitsReply) tcb (Some x.thread) else block (deliver (with_endpoint ready e f) tcb b m) x.thread Inactive)) [
-      | true ↦ record { memory_bits = refl; boot_radix = refl; slots = λ slot. refl; bytes = λ place. refl }
-      | false ↦ record { memory_bits = refl; boot_radix = refl; slots = λ slot. refl; bytes = λ place. refl }
+    store-received : (x : Sender) (f : EndpointState) (b : ℕ) (m : Message) (kind : Sent) → SameGround image s (received_waiting (deliver (with_endpoint ready e f) tcb b m) x kind tcb)
+    store-received x f b m BySend = record { memory_bits = refl; boot_radix = refl; slots = λ slot. refl; bytes = λ frame place code low high. refl }
+    store-received x f b m ByCall = elim x.grant_reply as (λ g. SameGround image s (if g then with_caller (block (deliver (with_endpoint ready e f) tcb b m) x.thread AwaitsReply) tcb (Some x.thread) else block (deliver (with_endpoint ready e f) tcb b m) x.thread Inactive)) [
+      | true ↦ record { memory_bits = refl; boot_radix = refl; slots = λ slot. refl; bytes = λ frame place code low high. refl }
+      | false ↦ record { memory_bits = refl; boot_radix = refl; slots = λ slot. refl; bytes = λ frame place code low high. refl }
     ]
-    store-received x f b m (ByFault fault) = record { memory_bits = refl; boot_radix = refl; slots = λ slot. refl; bytes = λ place. refl }
+    store-received x f b m (ByFault fault) = record { memory_bits = refl; boot_radix = refl; slots = λ slot. refl; bytes = λ frame place code low high. refl }
 
     some-sends : (outcome : Outcome) → is_waited outcome ≡ left.is_wait → left ≡ known_behind state (with_message state.ranges badges) left.is_wait message_registers
         → Holds image t.thread s (NamesQueue e) → (otherwise : State) (x : Sender) (others : List Sender) → (endpoint_at ready e).senders ≡ x ∷ others
@@ -87,7 +88,7 @@ module _ (laws : Laws) (bytes : List ℕ) (image : Image) (s : State) (labels : 
         elim (endpoint_at ready e).senders as (λ xs. (endpoint_at ready e).senders ≡ xs → IsSound (receives ready e tcb (waits_to_receive ready e tcb) xs) → AllStand image (receives ready e tcb (waits_to_receive ready e tcb) xs) (behind Waited)) [
           | [] ↦ λ none sound.
               blocks-stand laws bytes image s labels (behind Waited) accepted all t listed own point state left at (counts Waited wait) e old was held (waits_to_receive ready e tcb) sound
-              (record { memory_bits = refl; boot_radix = refl; slots = λ slot. refl; bytes = λ place. refl }) none (λ y. refl) asks
+              (record { memory_bits = refl; boot_radix = refl; slots = λ slot. refl; bytes = λ frame place code low high. refl }) none (λ y. refl) asks
           | x ∷ others ↦ λ first sound. some-sends Waited wait asks_so held (waits_to_receive ready e tcb) x others first sound
         ] refl
 
@@ -110,7 +111,7 @@ module _ (laws : Laws) (bytes : List ℕ) (image : Image) (s : State) (labels : 
           within = fit.0;
         }) in
         it-passes laws bytes image s labels (behind Plain) accepted all t listed own point state left at (counts Plain (sym (ap (λ (l : AfterCall). l.is_wait) asks))) (deliver_word ready tcb 0) sound
-        (record { memory_bits = refl; boot_radix = refl; slots = λ slot. refl; bytes = λ place. refl }) (ap (λ (l : AfterCall). l.slots) asks) passes
+        (record { memory_bits = refl; boot_radix = refl; slots = λ slot. refl; bytes = λ frame place code low high. refl }) (ap (λ (l : AfterCall). l.slots) asks) passes
         (λ y other. passed-there ready tcb (write (thread_at ready tcb).registers a0 0) y other ∙ caller-there s tcb None y other)
 
     receive-polls : left ≡ known_behind state (with_message state.ranges badges) false message_registers → Holds image t.thread s (NamesQueue e) → IsSound (try_to_receive s e tcb) → AllStand image (try_to_receive s e tcb) (behind Plain)

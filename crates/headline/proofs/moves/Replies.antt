@@ -8,7 +8,7 @@ use Rattle.headline.specs.facts.Waiting.{WaitsAsAsked, WaitsSo, behind_reply}
 use Rattle.headline.proofs.facts.Laws.{at-place}
 use Rattle.model.specs.declared.labels.Label.{Label}
 use Rattle.model.specs.Acceptance.Accepted.{IsAccepted}
-use Rattle.model.specs.Acceptance.Authority.{SameStore}
+use Rattle.headline.specs.moves.Ground.{SameGround}
 use Rattle.model.specs.Acceptance.CallRules.{AfterCall}
 use Rattle.model.specs.Acceptance.NotedStates.{PointState}
 use Rattle.model.specs.Acceptance.ThreadInvariants.{IsWaiting, ThreadInvariant, runs as runs_so, waits as waits_so, tcb_of}
@@ -103,7 +103,7 @@ module _ (laws : Laws) (bytes : List ℕ) (image : Image) (s : State) (labels : 
   next = record own { caller = None }
 
   -- the thread itself stands where it stood, in any state that has it without a caller
-  module _ (after : State) (sound : IsSound after) (store : SameStore s after)
+  module _ (after : State) (sound : IsSound after) (store : SameGround image s after)
       (there : after.objects (tcb_of image t) ≡ Some (ThreadObject (record own { caller = None }))) where
     calls-still : CallsAt image t after labels next point state left
     calls-still = calls-on laws bytes image s labels accepted all t listed own point state left at after sound store next there refl refl
@@ -114,7 +114,7 @@ module _ (laws : Laws) (bytes : List ℕ) (image : Image) (s : State) (labels : 
   -- it has a caller
   module _ (caller : ℕ) (other : ThreadState) (other-there : s.objects caller ≡ Some (ThreadObject other))
       (u : Numbered) (member : Contains (numbered_threads image) u) (block : caller ≡ tcb_of image u) (status : other.status ≡ AwaitsReply)
-      (after : State) (sound : IsSound after) (store : SameStore s after)
+      (after : State) (sound : IsSound after) (store : SameGround image s after)
       (objects : (y : ℕ) → after.objects y ≡ (wake (deliver (with_caller s (tcb_of image t) None) caller 0 (message_of own)) caller).objects y) where
     abbrev one : State
     one = with_caller s tcb None
@@ -216,7 +216,7 @@ module _ (laws : Laws) (bytes : List ℕ) (image : Image) (s : State) (labels : 
       let one : State = reply_to_call (with_caller s tcb None) caller (message_of (thread_at s tcb)) in
       subst (λ (x : Status). HasReplied image t (by x) labels own point state left) (sym same)
       (replied-so caller other (AwaitsThere.is there) block.thread block.listed block.is status one (subst (λ (x : Status). IsSound (by x)) same sound)
-      (record { memory_bits = refl; boot_radix = refl; slots = λ slot. refl; bytes = λ place. refl })
+      (record { memory_bits = refl; boot_radix = refl; slots = λ slot. refl; bytes = λ frame place code low high. refl })
       (λ y. ap (λ (x : ThreadState). (wake (deliver (with_caller s tcb None) caller 0 (message_of x)) caller).objects y) (at-place s tcb own at.there)))
 
   -- it has none, and nothing changes

@@ -99,7 +99,7 @@ module _ (laws : Laws) (plain : PlainStepsGoWell) (bytes : List ℕ) (image : Im
   idle-goes : current s ≡ None → GoesWell image s labels Step
   idle-goes none =
       let stands = unchanged-stand laws bytes image s labels (labels ++ Idle ∷ []) accepted all (λ t listed. other-label (tcb_of image t) labels Idle refl) s all.sound
-      (record { memory_bits = refl; boot_radix = refl; slots = λ slot. refl; bytes = λ place. refl }) (λ y. refl) in
+      (record { memory_bits = refl; boot_radix = refl; slots = λ slot. refl; bytes = λ frame place code low high. refl }) (λ y. refl) in
       record {
         faults = ap (λ (x : State × Label). is_fault x.1) (idle-is none);
         errors = ap (λ (x : State × Label). is_error x.1) (idle-is none);

@@ -12,7 +12,8 @@ use Rattle.model.specs.declared.labels.Outcome.{Outcome}
 use Rattle.model.specs.declared.labels.Outcome.TheVariants.{Waited, Plain}
 use Rattle.model.specs.declared.rights.Rights.{Rights}
 use Rattle.model.specs.Acceptance.Accepted.{IsAccepted}
-use Rattle.model.specs.Acceptance.Authority.{Holds, IsOwnSlot, SameStore}
+use Rattle.model.specs.Acceptance.Authority.{Holds, IsOwnSlot}
+use Rattle.headline.specs.moves.Ground.{SameGround}
 use Rattle.model.specs.Acceptance.CallRules.{AfterCall, answers, by_capability, changes_nothing, known_behind, send_rule, with_answer}
 use Rattle.model.specs.Acceptance.NotedStates.{PointState}
 use Rattle.model.specs.Acceptance.PointStates.{point_of}
@@ -60,13 +61,13 @@ module _ (laws : Laws) (bytes : List ℕ) (image : Image) (s : State) (labels : 
         elim (endpoint_at s e).receivers as (λ xs. (endpoint_at s e).receivers ≡ xs → IsSound (sends s e x xs) → AllStand image (sends s e x xs) (behind Waited)) [
           | [] ↦ λ none sound.
               waits-stand laws bytes image s labels (behind Waited) accepted all t listed own point state left at (counts Waited wait) e old was held ByCall badge grants (waits_to_send s e x) sound
-              (record { memory_bits = refl; boot_radix = refl; slots = λ slot. refl; bytes = λ place. refl }) none (λ y. refl) (sym wait) (SendsSo.by_call refl grant asks)
+              (record { memory_bits = refl; boot_radix = refl; slots = λ slot. refl; bytes = λ frame place code low high. refl }) none (λ y. refl) (sym wait) (SendsSo.by_call refl grant asks)
           | r ∷ others ↦ λ first sound.
               let one = with_endpoint s e (record (endpoint_at s e) { receivers = others }) in
               called-stands laws bytes image s labels (behind Waited) accepted all t listed own point state left at (counts Waited wait) e old was held ByCall badge grants (send_to one x r) sound
-              (elim grants as (λ g. SameStore s (send_to one (sender tcb ByCall badge g) r)) [
-                | true ↦ record { memory_bits = refl; boot_radix = refl; slots = λ slot. refl; bytes = λ place. refl }
-                | false ↦ record { memory_bits = refl; boot_radix = refl; slots = λ slot. refl; bytes = λ place. refl }
+              (elim grants as (λ g. SameGround image s (send_to one (sender tcb ByCall badge g) r)) [
+                | true ↦ record { memory_bits = refl; boot_radix = refl; slots = λ slot. refl; bytes = λ frame place code low high. refl }
+                | false ↦ record { memory_bits = refl; boot_radix = refl; slots = λ slot. refl; bytes = λ frame place code low high. refl }
               ]) r others first small (λ y. refl) refl grant asks
         ] refl
 
@@ -77,7 +78,7 @@ module _ (laws : Laws) (bytes : List ℕ) (image : Image) (s : State) (labels : 
         elim (endpoint_at s e).receivers as (λ xs. (endpoint_at s e).receivers ≡ xs → IsSound (sends s e x xs) → AllStand image (sends s e x xs) (behind Waited)) [
           | [] ↦ λ none sound.
               waits-stand laws bytes image s labels (behind Waited) accepted all t listed own point state left at (counts Waited wait) e old was held BySend badge grants (waits_to_send s e x) sound
-              (record { memory_bits = refl; boot_radix = refl; slots = λ slot. refl; bytes = λ place. refl }) none (λ y. refl) (sym wait) (SendsSo.by_send refl asks)
+              (record { memory_bits = refl; boot_radix = refl; slots = λ slot. refl; bytes = λ frame place code low high. refl }) none (λ y. refl) (sym wait) (SendsSo.by_send refl asks)
           | r ∷ others ↦ λ first sound. to-receiver Waited wait grants r others first (asks ∙ ap (changes_nothing state) wait) sound
         ] refl
       where
@@ -86,7 +87,7 @@ module _ (laws : Laws) (bytes : List ℕ) (image : Image) (s : State) (labels : 
         to-receiver outcome waited grants r others first asks sound =
             sent-stands laws bytes image s labels (behind outcome) accepted all t listed own point state left at (counts outcome waited) e old was held BySend badge grants
             (send_to (with_endpoint s e (record (endpoint_at s e) { receivers = others })) (sender tcb BySend badge grants) r) sound
-            (record { memory_bits = refl; boot_radix = refl; slots = λ slot. refl; bytes = λ place. refl }) r others first small (λ y. refl) refl asks
+            (record { memory_bits = refl; boot_radix = refl; slots = λ slot. refl; bytes = λ frame place code low high. refl }) r others first small (λ y. refl) refl asks
 
     by-try : (grants : Bool) → left ≡ changes_nothing state false → IsSound (try_to_send s e (sender tcb BySend badge grants)) → AllStand image (try_to_send s e (sender tcb BySend badge grants)) (behind Plain)
     by-try grants asks =
@@ -97,7 +98,7 @@ module _ (laws : Laws) (bytes : List ℕ) (image : Image) (s : State) (labels : 
           | r ∷ others ↦ λ first sound.
               sent-stands laws bytes image s labels (behind Plain) accepted all t listed own point state left at (counts Plain wait) e old was held BySend badge grants
               (send_to (with_endpoint s e (record (endpoint_at s e) { receivers = others })) x r) sound
-              (record { memory_bits = refl; boot_radix = refl; slots = λ slot. refl; bytes = λ place. refl }) r others first small (λ y. refl) refl (asks ∙ ap (changes_nothing state) wait)
+              (record { memory_bits = refl; boot_radix = refl; slots = λ slot. refl; bytes = λ frame place code low high. refl }) r others first small (λ y. refl) refl (asks ∙ ap (changes_nothing state) wait)
         ] refl
 
   -- ---- notifications

@@ -7,7 +7,8 @@ use Rattle.headline.specs.facts.Waiting.{NamesQueue, SendsSo, WaitsAsAsked, Wait
 use Rattle.headline.proofs.facts.Laws.{at-place}
 use Rattle.model.specs.declared.labels.Label.{Label}
 use Rattle.model.specs.Acceptance.Accepted.{IsAccepted}
-use Rattle.model.specs.Acceptance.Authority.{Holds, SameStore}
+use Rattle.model.specs.Acceptance.Authority.{Holds}
+use Rattle.headline.specs.moves.Ground.{SameGround}
 use Rattle.model.specs.Acceptance.CallRules.{AfterCall, changes_nothing}
 use Rattle.model.specs.Acceptance.NotedStates.{PointState}
 use Rattle.model.specs.Acceptance.ThreadInvariants.{IsWaiting, ThreadInvariant, tcb_of}
@@ -64,7 +65,7 @@ module _ (laws : Laws) (bytes : List ℕ) (image : Image) (s : State) (labels la
     (t : Numbered) (listed : Contains (numbered_threads image) t) (own : ThreadState) (point : ℕ) (state : PointState) (left : AfterCall)
     (at : CallsAt image t s labels own point state left) (counts : IsCounted image t labels later left.is_wait)
     (e : ℕ) (old : EndpointState) (was : s.objects e ≡ Some (EndpointObject old)) (held : Holds image t.thread s (NamesQueue e))
-    (sent : Sent) (badge : ℕ) (grants : Bool) (after : State) (sound : IsSound after) (store : SameStore s after) where
+    (sent : Sent) (badge : ℕ) (grants : Bool) (after : State) (sound : IsSound after) (store : SameGround image s after) where
   abbrev tcb : ℕ
   tcb = tcb_of image t
 

@@ -8,7 +8,7 @@ use Rattle.headline.specs.facts.Waiting.{WaitsAsAsked, WaitsSo, behind_signal}
 use Rattle.headline.proofs.facts.Laws.{at-place}
 use Rattle.model.specs.declared.labels.Label.{Label}
 use Rattle.model.specs.Acceptance.Accepted.{IsAccepted}
-use Rattle.model.specs.Acceptance.Authority.{SameStore}
+use Rattle.headline.specs.moves.Ground.{SameGround}
 use Rattle.model.specs.Acceptance.CallRules.{AfterCall}
 use Rattle.model.specs.Acceptance.NotedStates.{PointState}
 use Rattle.model.specs.Acceptance.ThreadInvariants.{IsWaiting, ThreadInvariant, tcb_of}
@@ -92,7 +92,7 @@ module _ (s after : State) (n : ℕ) (old new : NotificationState) (moves : ℕ 
 module _ (laws : Laws) (bytes : List ℕ) (image : Image) (s : State) (labels later : List Label) (accepted : IsAccepted bytes image) (all : AllStand image s labels)
     (counts : (t : Numbered) → Contains (numbered_threads image) t → open_count (tcb_of image t) later ≡ open_count (tcb_of image t) labels)
     (n badge : ℕ) (small : badge < 2 ^ 28) (old : NotificationState) (was : s.objects n ≡ Some (NotificationObject old))
-    (after : State) (sound : IsSound after) (store : SameStore s after) where
+    (after : State) (sound : IsSound after) (store : SameGround image s after) where
   joins : ((y : ℕ) → after.objects y ≡ (with_notification s n (record old { word = bit_or old.word badge })).objects y) → AllStand image after later
   joins objects =
       let new : NotificationState = record old { word = bit_or old.word badge } in

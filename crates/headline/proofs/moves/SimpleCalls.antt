@@ -7,7 +7,7 @@ use Rattle.headline.specs.facts.Waiting.{WaitsAsAsked}
 use Rattle.headline.proofs.facts.Laws.{at-place}
 use Rattle.model.specs.declared.labels.Label.{Label}
 use Rattle.model.specs.Acceptance.Accepted.{IsAccepted}
-use Rattle.model.specs.Acceptance.Authority.{SameStore}
+use Rattle.headline.specs.moves.Ground.{SameGround}
 use Rattle.model.specs.Acceptance.CallRules.{AfterCall, changes_nothing, known_behind, with_answer}
 use Rattle.model.specs.Acceptance.Measures.{measured}
 use Rattle.model.specs.Acceptance.NotedStates.{PointState}
@@ -46,7 +46,7 @@ module _ (laws : Laws) (bytes : List ℕ) (image : Image) (s : State) (labels : 
     (t : Numbered) (listed : Contains (numbered_threads image) t) (own : ThreadState) (point : ℕ) (state : PointState) (left : AfterCall)
     (at : CallsAt image t s labels own point state left) where
   -- where slots and bytes stay, and its own registers and status
-  pub calls-on : (after : State) → IsSound after → SameStore s after → (next : ThreadState) → after.objects (tcb_of image t) ≡ Some (ThreadObject next)
+  pub calls-on : (after : State) → IsSound after → SameGround image s after → (next : ThreadState) → after.objects (tcb_of image t) ≡ Some (ThreadObject next)
       → next.status ≡ own.status → next.registers ≡ own.registers → CallsAt image t after labels next point state left
   calls-on after sound store next there status registers = record {
     there = there;
@@ -68,7 +68,7 @@ module _ (laws : Laws) (bytes : List ℕ) (image : Image) (s : State) (labels la
   tcb = tcb_of image t
 
   -- nobody else moves: it is enough to know where this thread stands
-  module _ (after : State) (sound : IsSound after) (store : SameStore s after) where
+  module _ (after : State) (sound : IsSound after) (store : SameGround image s after) where
     pub it-moves : OthersRest s after (λ y. y == tcb_of image t) → ThreadInvariant image t after later × WaitsAsAsked image t after → AllStand image after later
     it-moves rest stands =
         all-stand laws.stand_on bytes image s after labels later (λ y. y == tcb) accepted all sound store rest
@@ -108,14 +108,14 @@ module _ (laws : Laws) (bytes : List ℕ) (image : Image) (s : State) (labels la
 
   pub passes-stand : left ≡ changes_nothing state false → IsSound (passes s (tcb_of image t)) → AllStand image (passes s (tcb_of image t)) later
   passes-stand left_is sound =
-      as-it-is (passes s tcb) sound (record { memory_bits = refl; boot_radix = refl; slots = λ slot. refl; bytes = λ place. refl }) left_is
+      as-it-is (passes s tcb) sound (record { memory_bits = refl; boot_radix = refl; slots = λ slot. refl; bytes = λ frame place code low high. refl }) left_is
       (record own { registers = advanced own.registers }) (went-here s tcb own at.there) refl refl (went-there s tcb)
 
   pub yields-stand : left ≡ changes_nothing state false → IsSound (yielded (passes s (tcb_of image t)) (tcb_of image t))
       → AllStand image (yielded (passes s (tcb_of image t)) (tcb_of image t)) later
   yields-stand left_is sound =
       let one : ThreadState = record own { registers = advanced own.registers } in
-      as-it-is (yielded (passes s tcb) tcb) sound (record { memory_bits = refl; boot_radix = refl; slots = λ slot. refl; bytes = λ place. refl }) left_is
+      as-it-is (yielded (passes s tcb) tcb) sound (record { memory_bits = refl; boot_radix = refl; slots = λ slot. refl; bytes = λ frame place code low high. refl }) left_is
       (record one { slice = full_slice }) (yields-here (passes s tcb) tcb one (went-here s tcb own at.there)) refl refl
       (λ y other. yields-there (passes s tcb) tcb y other ∙ went-there s tcb y other)
 
@@ -124,7 +124,7 @@ module _ (laws : Laws) (bytes : List ℕ) (image : Image) (s : State) (labels la
       → PassesWith (passes_with s (tcb_of image t) (r (registers_of s (tcb_of image t)))) (tcb_of image t) own state left
       → IsSound (passes_with s (tcb_of image t) (r (registers_of s (tcb_of image t)))) → AllStand image (passes_with s (tcb_of image t) (r (registers_of s (tcb_of image t)))) later
   with-registers r slots passes sound =
-      it-passes (passes_with s tcb (r (registers_of s tcb))) sound (record { memory_bits = refl; boot_radix = refl; slots = λ slot. refl; bytes = λ place. refl }) slots passes
+      it-passes (passes_with s tcb (r (registers_of s tcb))) sound (record { memory_bits = refl; boot_radix = refl; slots = λ slot. refl; bytes = λ frame place code low high. refl }) slots passes
       (passed-there s tcb (r (registers_of s tcb)))
 
   pub result-stands : left ≡ known_behind state (with_answer state.ranges) false (a0 ∷ a1 ∷ [])

@@ -10,7 +10,7 @@ use Rattle.model.specs.declared.labels.Label.{Label}
 use Rattle.model.specs.declared.rights.Rights.{Rights}
 use Rattle.model.specs.declared.slot_entries.Entry.{Entry}
 use Rattle.model.specs.Acceptance.Accepted.{IsAccepted}
-use Rattle.model.specs.Acceptance.Authority.{SameStore}
+use Rattle.headline.specs.moves.Ground.{SameGround}
 use Rattle.model.specs.Acceptance.ThreadInvariants.{ThreadInvariant, root_table_of, tcb_of}
 use Rattle.model.specs.Capabilities.Slots.{Slots}
 use Rattle.model.specs.Images.Described.{Numbered, numbered_threads}
@@ -32,7 +32,7 @@ maps-too slots others same root page frame allowed maps = record {
 }
 
 pub touches-none : (bytes : List ℕ) (image : Image) (t : Numbered) (s after : State) → IsAccepted bytes image → Contains (numbered_threads image) t
-    → IsSound s → IsSound after → SameStore s after → IsLeftAlone image t s after
+    → IsSound s → IsSound after → SameGround image s after → IsLeftAlone image t s after
 touches-none bytes image t s after accepted listed sound still store = record {
   bytes = bytes;
   accepted = accepted;
@@ -45,12 +45,12 @@ touches-none bytes image t s after accepted listed sound still store = record {
     cspace = store.slots (cspace_slot (tcb_of image t));
     vspace = store.slots (vspace_slot (tcb_of image t));
     maps = λ page frame allowed. (maps-too after.slots s.slots (λ slot. sym (store.slots slot)) (root_table_of image t) page frame allowed, maps-too s.slots after.slots store.slots (root_table_of image t) page frame allowed);
-    bytes = λ frame place code low high. store.bytes place;
+    bytes = store.bytes;
   };
 }
 
 module _ (stand-on : StandsOn) (bytes : List ℕ) (image : Image) (s after : State) (labels later : List Label) (moves : ℕ → Bool) (accepted : IsAccepted bytes image)
-    (all : AllStand image s labels) (sound : IsSound after) (store : SameStore s after) (rest : OthersRest s after moves)
+    (all : AllStand image s labels) (sound : IsSound after) (store : SameGround image s after) (rest : OthersRest s after moves)
     (moved : (t : Numbered) → Contains (numbered_threads image) t → moves (tcb_of image t) ≡ true → ThreadInvariant image t after later × WaitsAsAsked image t after)
     (known : (offset : ℕ) (own : ThreadState) → moves offset ≡ true → after.objects offset ≡ Some (ThreadObject own) → IsControlBlock image offset)
     (counts : (t : Numbered) → Contains (numbered_threads image) t → moves (tcb_of image t) ≡ false → open_count (tcb_of image t) later ≡ open_count (tcb_of image t) labels) where

@@ -8,7 +8,7 @@ use Rattle.model.specs.declared.events.Event.TheVariants.{Tick}
 use Rattle.model.specs.declared.labels.Label.{Label}
 use Rattle.model.specs.declared.labels.Label.TheVariants.{Ticked}
 use Rattle.model.specs.Acceptance.Accepted.{IsAccepted}
-use Rattle.model.specs.Acceptance.Authority.{SameStore}
+use Rattle.headline.specs.moves.Ground.{SameGround}
 use Rattle.model.specs.Acceptance.ThreadInvariants.{tcb_of}
 use Rattle.model.specs.Images.Image.{Image}
 use Rattle.model.specs.Kernel.Scheduling.{current, full_slice, tick, ticked, yielded}
@@ -79,27 +79,27 @@ module _ (s after : State) (x slice : ℕ) (own : ThreadState) (there : s.object
 -- ---- all threads
 
 module _ (stand-on : StandsOn) (bytes : List ℕ) (image : Image) (s : State) (labels : List Label) (accepted : IsAccepted bytes image) (all : AllStand image s labels) where
-  stands-over : (after : State) → IsSound after → SameStore s after → OthersRest s after (λ _. false) → AllStand image after (labels ++ Ticked ∷ [])
+  stands-over : (after : State) → IsSound after → SameGround image s after → OthersRest s after (λ _. false) → AllStand image after (labels ++ Ticked ∷ [])
   stands-over after sound store rest =
       all-stand stand-on bytes image s after labels (labels ++ Ticked ∷ []) (λ _. false) accepted all sound store rest
       (λ t listed never. absurd (let clash : false ≡ true = never in cc)) (λ offset own never. absurd (let clash : false ≡ true = never in cc))
       (λ t listed none. other-label (tcb_of image t) labels Ticked refl)
 
-  sliced : (x slice : ℕ) (own : ThreadState) → s.objects x ≡ Some (ThreadObject own) → (after : State) → IsSound after → SameStore s after
+  sliced : (x slice : ℕ) (own : ThreadState) → s.objects x ≡ Some (ThreadObject own) → (after : State) → IsSound after → SameGround image s after
       → ((y : ℕ) → after.objects y ≡ put s.objects x (Some (ThreadObject (record own { slice = slice }))) y) → AllStand image after (labels ++ Ticked ∷ [])
   sliced x slice own there after sound store objects = stands-over after sound store (rest-sliced s after x slice own there objects)
 
-  same-store : (ready : ℕ → List ℕ) (objects : ℕ → Option Object) → SameStore s (record s { ready = ready; objects = objects })
-  same-store ready objects = record { memory_bits = refl; boot_radix = refl; slots = λ slot. refl; bytes = λ place. refl }
+  same-ground : (ready : ℕ → List ℕ) (objects : ℕ → Option Object) → SameGround image s (record s { ready = ready; objects = objects })
+  same-ground ready objects = record { memory_bits = refl; boot_radix = refl; slots = λ slot. refl; bytes = λ frame place code low high. refl }
 
   ticked-stands : (x : ℕ) (own : ThreadState) → s.objects x ≡ Some (ThreadObject own) → IsSound (ticked s x) → AllStand image (ticked s x) (labels ++ Ticked ∷ [])
   ticked-stands x own there =
       let slice = (thread_at s x).slice in
       let same : thread_at s x ≡ own = ap (λ (o : Option Object). option_map_or (λ (u : ThreadState). u) (as_thread o) new_thread) there in
       elim (nat_le slice 1) as (λ b. let after = if b then yielded s x else with_thread s x (record (thread_at s x) { slice = slice - 1 }) in IsSound after → AllStand image after (labels ++ Ticked ∷ [])) [
-        | true ↦ λ sound. sliced x full_slice own there (yielded s x) sound (record { memory_bits = refl; boot_radix = refl; slots = λ slot. refl; bytes = λ place. refl })
+        | true ↦ λ sound. sliced x full_slice own there (yielded s x) sound (record { memory_bits = refl; boot_radix = refl; slots = λ slot. refl; bytes = λ frame place code low high. refl })
             (λ y. ap (λ (u : ThreadState). put s.objects x (Some (ThreadObject (record u { slice = full_slice }))) y) same)
-        | false ↦ λ sound. sliced x (slice - 1) own there (with_thread s x (record (thread_at s x) { slice = slice - 1 })) sound (record { memory_bits = refl; boot_radix = refl; slots = λ slot. refl; bytes = λ place. refl })
+        | false ↦ λ sound. sliced x (slice - 1) own there (with_thread s x (record (thread_at s x) { slice = slice - 1 })) sound (record { memory_bits = refl; boot_radix = refl; slots = λ slot. refl; bytes = λ frame place code low high. refl })
             (λ y. ap (λ (u : ThreadState). put s.objects x (Some (ThreadObject (record u { slice = slice - 1 }))) y) same)
       ]
 
@@ -113,7 +113,7 @@ module _ (stand-on : StandsOn) (bytes : List ℕ) (image : Image) (s : State) (l
   tick-stands : IsSound (tick s) → AllStand image (tick s) (labels ++ Ticked ∷ [])
   tick-stands =
       elim (current s) as (λ o. current s ≡ o → IsSound (option_map_or (ticked s) o s) → AllStand image (option_map_or (ticked s) o s) (labels ++ Ticked ∷ [])) [
-        | None ↦ λ none sound. stands-over s sound (record { memory_bits = refl; boot_radix = refl; slots = λ slot. refl; bytes = λ place. refl }) rest-same
+        | None ↦ λ none sound. stands-over s sound (record { memory_bits = refl; boot_radix = refl; slots = λ slot. refl; bytes = λ frame place code low high. refl }) rest-same
         | Some x ↦ λ some sound. ticked-stands x (thread_at s x) (thread-there (s.objects x) (current-runs s all.sound.threads x some).kind) sound
       ] refl
 

@@ -6,7 +6,7 @@ use Rattle.headline.specs.facts.Standing.{AllStand}
 use Rattle.headline.specs.facts.Waiting.{WaitsAsAsked, WaitsSo}
 use Rattle.model.specs.declared.labels.Label.{Label}
 use Rattle.model.specs.Acceptance.Accepted.{IsAccepted}
-use Rattle.model.specs.Acceptance.Authority.{SameStore}
+use Rattle.headline.specs.moves.Ground.{SameGround}
 use Rattle.model.specs.Acceptance.CallRules.{AfterCall}
 use Rattle.model.specs.Acceptance.NotedStates.{PointState}
 use Rattle.model.specs.Acceptance.ThreadInvariants.{IsWaiting, LieWithin, StandsAt, ThreadInvariant, WaitsThere, runs as runs_so, waits as waits_so, tcb_of}
@@ -52,7 +52,7 @@ runs-status AwaitsReply is = absurd (let clash : false ≡ true = is in cc)
 runs-status AwaitsHandler is = absurd (let clash : false ≡ true = is in cc)
 
 module _ (laws : Laws) (bytes : List ℕ) (image : Image) (s : State) (labels later : List Label) (accepted : IsAccepted bytes image) (all : AllStand image s labels)
-    (after : State) (sound : IsSound after) (store : SameStore s after) (t : Numbered) (listed : Contains (numbered_threads image) t) (count : open_count (tcb_of image t) later ≡ open_count (tcb_of image t) labels)
+    (after : State) (sound : IsSound after) (store : SameGround image s after) (t : Numbered) (listed : Contains (numbered_threads image) t) (count : open_count (tcb_of image t) later ≡ open_count (tcb_of image t) labels)
     (own : ThreadState) (there : s.objects (tcb_of image t) ≡ Some (ThreadObject own)) (written : RegisterFile)
     (next : ThreadState) (is : after.objects (tcb_of image t) ≡ Some (ThreadObject next)) (runs : next.status ≡ Runnable) (goes : next.registers ≡ advanced written)
     (fits : (state : PointState) (left : AfterCall) → WaitsSo image t s state left own.status → AreRegisters own.registers state.ranges → FitsBehind state left own.registers written) where

@@ -4,7 +4,7 @@ use Rattle.model.specs.declared.events.Event.TheVariants.{Irq, Tick, Step}
 use Rattle.model.specs.declared.instructions.Instr.TheVariants.{Ecall}
 use Rattle.model.specs.declared.labels.Label.{Label}
 use Rattle.model.specs.Acceptance.Accepted.{IsAccepted}
-use Rattle.model.specs.Acceptance.Authority.{SameStore}
+use Rattle.headline.specs.moves.Ground.{SameGround}
 use Rattle.model.specs.Acceptance.CallRules.{AfterCall}
 use Rattle.model.specs.Acceptance.NotedStates.{PointState}
 use Rattle.model.specs.Acceptance.PointStates.{call_at, instruction_at}
@@ -63,17 +63,17 @@ CallsThatPassLeadOn =
 
 -- ---- all threads
 
--- where slots and bytes stay, each thread's slots, mappings and code do
-abbrev pub SameStoreTouchesNone : Type 0
-SameStoreTouchesNone =
+-- where slots and the bytes of code stay, each thread's slots, mappings and code do
+abbrev pub SameGroundTouchesNone : Type 0
+SameGroundTouchesNone =
     (bytes : List ℕ) (image : Image) (t : Numbered) (s after : State) → IsAccepted bytes image → Contains (numbered_threads image) t
-    → IsSound s → IsSound after → SameStore s after → IsLeftAlone image t s after
+    → IsSound s → IsSound after → SameGround image s after → IsLeftAlone image t s after
 
 -- those that a step moves stand, and the others rest
 abbrev pub AllStandWhereOthersRest : Type 0
 AllStandWhereOthersRest =
     (bytes : List ℕ) (image : Image) (s after : State) (labels later : List Label) (moves : ℕ → Bool) → IsAccepted bytes image
-    → AllStand image s labels → IsSound after → SameStore s after → OthersRest s after moves
+    → AllStand image s labels → IsSound after → SameGround image s after → OthersRest s after moves
     → ((t : Numbered) → Contains (numbered_threads image) t → moves (tcb_of image t) ≡ true
     → ThreadInvariant image t after later × WaitsAsAsked image t after)
     → ((offset : ℕ) (own : ThreadState) → moves offset ≡ true → after.objects offset ≡ Some (ThreadObject own) → IsControlBlock image offset)
