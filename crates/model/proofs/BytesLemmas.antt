@@ -11,7 +11,7 @@ length-written bytes at piece fits = grind (arith, common_steps)
 pub slice_index-written_inside : (bytes : List ℕ) (at : ℕ) (piece : List ℕ) (k : ℕ) → at + length piece ≤ length bytes → k < length piece → slice_index (written bytes at piece) (at + k) ≡ slice_index piece k
 slice_index-written_inside bytes at piece k fits inside = grind (arith, common_steps)
 
--- the bytes before and behind them
+-- the bytes before and after them
 pub slice_index-written_before : (bytes : List ℕ) (at : ℕ) (piece : List ℕ) (k : ℕ) → at + length piece ≤ length bytes → k < at → slice_index (written bytes at piece) k ≡ slice_index bytes k
 slice_index-written_before bytes at piece k fits before = grind (arith, common_steps)
 

@@ -1,4 +1,4 @@
--- What stands behind a slot in a list.
+-- What follows a slot in a list.
 use Rattle.std.proofs.Common.{ℕ, ◌≡◌, ◌≢◌, ◌∙◌, ◌==◌, ◌+◌, ◌≤◌, inl, inr, Bool, true, false, not, if◌then◌else◌, Option, Some, None, List, [], ◌∷◌, filter, cond, refl, sym, ap, arith}
 use Rattle.std.proofs.lemmas.Bool.{eq-eqb, ne_eqb}
 use Rattle.std.proofs.lemmas.Bool.Decides.{eqb_tells}
@@ -15,7 +15,7 @@ abbrev pub behind : List ℕ → Option ℕ → List ℕ
 behind order None = order
 behind order (Some previous) = behind_slot order previous
 
--- the next slot is the first one behind
+-- the next slot is the first one after
 next_after-behind : (order : List ℕ) (previous : ℕ) → next_after order previous ≡ first_of (behind_slot order previous)
 next_after-behind [] previous = refl
 next_after-behind (slot ∷ rest) previous =
@@ -28,7 +28,7 @@ pub after-behind : (order : List ℕ) (previous : Option ℕ) → next_in order 
 after-behind order None = refl
 after-behind order (Some previous) = next_after-behind order previous
 
--- no slot stands more often behind another than in the list
+-- no slot occurs more often after another than in the list
 times-behind_slot : (order : List ℕ) (previous slot : ℕ) → times_in (behind_slot order previous) slot ≤ times_in order slot
 times-behind_slot [] previous slot = omega arith
 times-behind_slot (s ∷ rest) previous slot =
@@ -38,18 +38,18 @@ times-behind_slot (s ∷ rest) previous slot =
       | false ↦ omega (arith, times-behind_slot rest previous slot, more)
     ]
 
--- the first slot of a list stands in it
+-- the first slot of a list is in it
 pub times-first : (slot : ℕ) (rest : List ℕ) → times_in (slot ∷ rest) slot ≡ times_in rest slot + 1
 times-first slot rest = ap (λ b. if b then times_in rest slot + 1 else times_in rest slot) (eq-eqb slot slot refl)
 
 times-tail : (s : ℕ) (tail : List ℕ) (slot : ℕ) → times_in tail slot ≤ times_in (s ∷ tail) slot
 times-tail s tail slot = elim (s == slot) as (λ b. times_in tail slot ≤ (if b then times_in tail slot + 1 else times_in tail slot)) [ true ↦ omega arith | false ↦ omega arith ]
 
--- a slot that stands behind the first is not the first
+-- a slot that is after the first is not the first
 not-first : (s slot : ℕ) (tail : List ℕ) → ((t : ℕ) → times_in (s ∷ tail) t ≤ 1) → 1 ≤ times_in tail slot → s ≢ slot
 not-first s slot tail once found = λ same. absurd (omega (arith, once slot, found, ap (λ b. if b then times_in tail slot + 1 else times_in tail slot) (eq-eqb s slot same)))
 
--- behind the first slot of what is behind another comes the rest of that
+-- after the first slot of what is after another comes the rest of that
 behind-next : (order : List ℕ) (previous slot : ℕ) (rest : List ℕ) → ((s : ℕ) → times_in order s ≤ 1) → behind_slot order previous ≡ slot ∷ rest → behind_slot order slot ≡ rest
 behind-next [] previous slot rest once is = absurd (let clash : [] ≡ slot ∷ rest = is in cc)
 behind-next (s ∷ tail) previous slot rest once is =
@@ -96,7 +96,7 @@ none-either : (b : Bool) → let none : ℕ = 0 in none ≡ (if b then none else
 none-either true = refl
 none-either false = refl
 
--- how often a slot stands in a part of a list
+-- how often a slot occurs in a part of a list
 pub times-filter : (test : ℕ → Bool) (order : List ℕ) (slot : ℕ) → times_in (filter test order) slot ≡ (if test slot then times_in order slot else 0)
 times-filter test [] slot = none-either (test slot)
 times-filter test (s ∷ rest) slot =
@@ -132,12 +132,12 @@ pub first-some : (l : List ℕ) (slot : ℕ) → first_of l ≡ Some slot → (r
 first-some [] slot is = absurd (let clash : None ≡ Some slot = is in cc)
 first-some (s ∷ rest) slot is = let same : s ≡ slot = cc in (rest, ap (λ t. t ∷ rest) same)
 
--- what stands first behind another stands in the list
+-- what is first after another is in the list
 pub times-behind : (order : List ℕ) (previous : Option ℕ) (slot : ℕ) (rest : List ℕ) → behind order previous ≡ slot ∷ rest → 1 ≤ times_in order slot
 times-behind order None slot rest is = omega (arith, ap (λ l. times_in l slot) is, times-first slot rest)
 times-behind order (Some previous) slot rest is = omega (arith, ap (λ l. times_in l slot) is, times-first slot rest, times-behind_slot order previous slot)
 
--- behind the first of a list comes the rest
+-- after the first of a list comes the rest
 pub next-first : (slot : ℕ) (rest : List ℕ) → next_after (slot ∷ rest) slot ≡ first_of rest
 next-first slot rest = ap (λ b. if b then first_of rest else next_after rest slot) (eq-eqb slot slot refl)
 

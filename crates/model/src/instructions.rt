@@ -134,7 +134,7 @@ pub enum Instr {
         rs2: Register,
         offset: i32,
     },
-    /// I-type: `rd` becomes what stands at the sum of `rs1` and the offset, -2048 to 2047.
+    /// I-type: `rd` becomes what memory holds at the sum of `rs1` and the offset, -2048 to 2047.
     Load {
         op: LoadOp,
         rd: Register,

@@ -29,9 +29,9 @@ pub enum Refusal {
     Trailing { offset: u64 },
     /// The field at `offset` is outside its range, or not in order.
     Limit { offset: u64 },
-    /// An untyped is misaligned, passes the end of memory, or overlaps what stands before it.
+    /// An untyped is misaligned, passes the end of memory, or overlaps what lies before it.
     UntypedOverlap { untyped: u32 },
-    /// An object does not fit behind those before it in its untyped.
+    /// An object does not fit after those before it in its untyped.
     NoRoom { object: u32 },
     /// The boot CNode has too few slots. `object` is the number of objects.
     BadObject { object: u32 },

@@ -5,7 +5,7 @@ ghost use Rattle.std.specs.Prelude.{◌≡◌, ◌^◌, ◌<◌};
 use std::marker::Model;
 
 /// A slot that can hold a capability, as a number below 2^20: a sixteenth of the offset of the
-/// object that the slot stands in, plus the slot's index in it. A clause sees the number.
+/// object that the slot lies in, plus the slot's index in it. A clause sees the number.
 #[derive(Clone, Copy, Debug, PartialEq, Eq)]
 pub struct Slot {
     number: u32,

@@ -1,4 +1,4 @@
--- Authority: what an event may change. A thread holds what stands in the slots of the CNodes that the image gives it, before
+-- Authority: what an event may change. A thread holds what the slots of the CNodes that the image gives it hold, before
 -- its step.
 -- seL4 Reference Manual, "Capability-based Access Control"; the clauses are our own.
 use Rattle.std.specs.Prelude.{ℕ, ◌≡◌, ◌≢◌, ◌+◌, ◌^◌, ◌<◌, ◌≤◌, ◌⊎◌, Bool, true, false, IsSome, IsTrue, bit_and, bit_or, Contains, Option, Some, None, Ok, List, [], ◌∷◌, ◌++◌}
@@ -125,7 +125,7 @@ pub data MappingGranted (image : Image) (t : Thread) (s : State) (capability : C
 
 -- ---- the right to reply
 
--- whether who receives from a sender gets the right to reply to it: it called with grant-reply, or tells a fault
+-- whether who receives from a sender gets the right to reply to it: it called with grant-reply, or reports a fault
 abbrev pub gives_right : Sender → Sent → Bool
 gives_right sender BySend = false
 gives_right sender ByCall = sender.grant_reply
@@ -170,7 +170,7 @@ pub record IsWoken (s after : State) (priority thread : ℕ) : Type 0 where
   pub runs : changed.status ≡ Runnable
   pub at : changed.priority ≡ priority
 
--- Without the thread itself the list is the old one with threads behind it that were woken, each once. The thread moves, or
+-- Without the thread itself the list is the old one with threads after it that were woken, each once. The thread moves, or
 -- leaves.
 pub record ReadyChange (s after : State) (self priority : ℕ) : Type 0 where
   pub added : List ℕ
@@ -229,7 +229,7 @@ pub record SameStore (s after : State) : Type 0 where
   pub slots : (slot : ℕ) → after.slots slot ≡ s.slots slot
   pub bytes : (place : ℕ) → after.bytes place ≡ s.bytes place
 
--- a tick changes the current thread's slice alone, and where it stands in the list of its priority
+-- a tick changes the current thread's slice alone, and where it is in the list of its priority
 pub record WithinTick (s after : State) : Type 0 where
   pub store : SameStore s after
   pub masked : (number : ℕ) → after.masked number ≡ s.masked number

@@ -1,4 +1,4 @@
--- The system calls that a program may make: what has to be known of each, and what is known behind it.
+-- The system calls that a program may make: what has to be known of each, and what is known after it.
 -- seL4 Reference Manual, "System Calls", for the calls; which of them are accepted is this project's own.
 use Rattle.std.specs.Prelude.{ℕ, ◌==◌, ◌-◌, ◌/◌, ◌%◌, ◌^◌, Bool, true, false, not, ◌&&◌, Option, Some, None, Result, Ok, Err, List, [], ◌∷◌, fold, take, if◌then◌else◌}
 use Rattle.model.specs.declared.capabilities.Cap.{Cap}
@@ -36,7 +36,7 @@ use Rattle.model.specs.Capabilities.Rights.{may_grant_reply, may_read, may_write
 use Rattle.model.specs.Capabilities.Slots.{Slots, capability_at}
 use Rattle.model.specs.Kernel.Steps.{SendCall, Calling, Sending, Trying, Receiving, Polling, SystemCall, Sends, Receives, RepliesAndReceives, Replies, Yields, PutsCharacter, call_of}
 
--- ---- what is known behind a call
+-- ---- what is known after a call
 
 pub record AfterCall : Type 0 where
   pub ranges : List Range
@@ -236,7 +236,7 @@ abbrev pub by_number : Image → Thread → Point → PointState → Option Syst
 by_number image t at state (Some call) = by_call image t at state call
 by_number image t at state None = Err (CallRefused at IllegalOperation)
 
--- What is known behind the system call at a point, or why it is refused.
+-- What is known after the system call at a point, or why it is refused.
 unfoldable pub after_call : Image → Thread → Point → PointState → Result AfterCall Refusal
 after_call image t at state = do
   number ← known at state a7

@@ -1,4 +1,4 @@
--- The ways on from an instruction: where each leads, the ranges that a branch leaves possible on it, and the ranges behind
+-- The ways on from an instruction: where each leads, the ranges that a branch leaves possible on it, and the ranges after
 -- it. RISC-V Unprivileged ISA, 2.5 "Control Transfer Instructions".
 use Rattle.std.specs.Prelude.{ℕ, ◌==◌, ◌+◌, ◌-◌, ◌%◌, ◌^◌, min, max, Bool, true, false, ◌&&◌, ◌||◌, nat_le, nat_lt, List, Option, Some, None, option_map, if◌then◌else◌}
 use Rattle.model.specs.declared.ranges.Range.{Range}
@@ -86,7 +86,7 @@ pub record Edge : Type 0 where
   pub target : ℕ
   -- the ranges before the instruction, for the values that come this way
   pub before : List Range
-  -- the ranges behind it
+  -- the ranges after it
   pub ranges : List Range
 
 -- each where there is one
@@ -97,7 +97,7 @@ pub record Edges : Type 0 where
 abbrev pub no_edges : Edges
 no_edges = record { fall_through = None; taken = None }
 
--- the address behind an instruction
+-- the address after an instruction
 abbrev pub behind : ℕ → ℕ
 behind pc = (pc + 4) % 2 ^ 32
 

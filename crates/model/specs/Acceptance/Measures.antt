@@ -144,18 +144,18 @@ other_value behind register =
 abbrev pub is_register : Option Register → ℕ → Bool
 is_register x register = option_map_or (λ y. y.0 == register) x false
 
--- a register behind an instruction
+-- a register after an instruction
 abbrev pub behind_form : Instr → List Range → List Range → ℕ → Form
 behind_form instr before behind register =
     if is_register (destination instr) register
     then option_map_or (λ form. form) (exact_sum instr before) (other_value behind register)
     else variable_form register
 
--- a register behind a call that writes these registers
+-- a register after a call that writes these registers
 abbrev pub call_form : List Register → ℕ → Form
 call_form written register = variable_form (if list_any (λ x. x.0 == register) written then fresh register else register)
 
--- the range of a variable on an edge, by the ranges before and behind it
+-- the range of a variable on an edge, by the ranges before and after it
 abbrev pub range_at : List Range → List Range → ℕ → Range
 range_at before behind variable =
     if nat_le 32 variable then range_of behind (register_numbered (variable - 32)) else range_of before (register_numbered variable)
@@ -164,12 +164,12 @@ range_at before behind variable =
 abbrev pub greatest_on : List Range → List Range → Form → ℤ
 greatest_on before behind form = greatest 64 form (range_at before behind)
 
--- whether the measure behind an edge is always less than the one before it
+-- whether the measure after an edge is always less than the one before it
 unfoldable pub falls : Measure → Measure → (ℕ → Form) → List Range → List Range → Bool
 falls from to value_of before behind =
     int_lt (greatest_on before behind (difference_form (substituted to value_of) (substituted from variable_form))) (pos 0)
 
--- whether the measure behind an edge is never above a budget
+-- whether the measure after an edge is never above a budget
 unfoldable pub stays_below : ℕ → Measure → (ℕ → Form) → List Range → List Range → Bool
 stays_below budget to value_of before behind =
     int_le (greatest_on before behind (substituted to value_of)) (pos budget)

@@ -24,7 +24,7 @@ slots_of_cnode image cnode = option_map_or (λ radix. 2 ^ radix) (radix_of (type
 abbrev pub stands_in : Image → ℕ → ℕ → Bool
 stands_in image slot cnode = is_within (cnode_slot image cnode 0) (slots_of_cnode image cnode) slot
 
--- the CNode and the index of a slot, if it stands in one of these CNodes
+-- the CNode and the index of a slot, if it is in one of these CNodes
 abbrev pub key_of : Image → List ℕ → ℕ → Option SlotKey
 key_of image cnodes slot =
     option_map (λ cnode. record { cnode = cnode; index = slot - cnode_slot image cnode 0 }) (find (stands_in image slot) cnodes)
@@ -34,7 +34,7 @@ slot_of_key image key = cnode_slot image key.cnode key.index
 
 -- ---- boot slots as parents
 
--- whether an object that is no untyped memory stands at an offset
+-- whether an object other than untyped memory lies at an offset
 abbrev pub is_object_at : Image → ℕ → ℕ → Bool
 is_object_at image offset number = not (is_untyped_type (type_at image number)) && offset_of image number == offset
 

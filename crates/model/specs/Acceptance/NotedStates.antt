@@ -58,7 +58,7 @@ put_in slot [] = slot ∷ []
 put_in slot (other ∷ others) =
     if nat_lt (number_of slot.key) (number_of other.key) then slot ∷ other ∷ others else other ∷ put_in slot others
 
--- a slot in place of what stands there, or nothing there where it is empty
+-- a slot in place of what is there, or nothing there where it is empty
 abbrev pub with_noted : List NotedSlot → NotedSlot → List NotedSlot
 with_noted slots slot =
     let others = without_key slot.key slots in if is_empty slot.capability then others else put_in slot others
@@ -83,7 +83,7 @@ are_same_slots (a ∷ as_) (b ∷ bs) = is_same_slot a b && are_same_slots as_ b
 
 -- ---- what the image gives a thread
 
--- whether a slot stands in one of the thread's CNodes
+-- whether a slot is in one of the thread's CNodes
 abbrev pub is_own : Image → List ℕ → SlotKey → Bool
 is_own image cnodes key = is_member key.cnode cnodes && has_slot image key.cnode key.index
 

@@ -33,12 +33,12 @@ use Rattle.model.specs.Acceptance.Rules.{Rule, refuse_if}
 
 pub record ProgramEdge : Type 0 where
   pub target : ℕ
-  -- the ranges before it, for the values that come this way, and those behind it
+  -- the ranges before it, for the values that come this way, and those after it
   pub before : List Range
   pub ranges : List Range
-  -- the slots behind it
+  -- the slots after it
   pub slots : List NotedSlot
-  -- what each register behind it is, by the registers before
+  -- what each register after it is, by the registers before
   pub value_of : ℕ → Form
   pub is_wait : Bool
 

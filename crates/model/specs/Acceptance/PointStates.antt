@@ -32,9 +32,9 @@ address_of t point = t.header.base + 4 * point
 abbrev pub instruction_at : Thread → ℕ → Option Instr
 instruction_at t point = decoded (slice_index t.words point)
 
--- ---- behind an instruction
+-- ---- after an instruction
 
--- behind a wait the budget is there anew
+-- after a wait the budget is there again
 abbrev pub whole_budget : Thread → Measure
 whole_budget t = record { constant = pos t.header.budget; terms = [] }
 

@@ -1,4 +1,4 @@
--- What stays true of a thread of an accepted image: it stands where its certificate says, with what that notes, and its
+-- What stays true of a thread of an accepted image: it is where its certificate says, with what that notes, and its
 -- instructions since the last wait and its measure together stay within its budget.
 use Rattle.std.specs.Prelude.{ℕ, ◌≡◌, ◌*◌, ◌^◌, ◌<◌, ◌≤◌, ◌⊎◌, ◌↔◌, ◌+ℤ◌, ◌≤ℤ◌, pos, true, Option, Some, None, Ok, List, Contains, slice_index}
 use Rattle.model.specs.declared.capabilities.Cap.TheVariants.{Frame}
@@ -41,7 +41,7 @@ LieWithin r ranges =
     (k : ℕ) → k < 32 → ((range_of ranges (register_numbered k)).low ≤ read r (register_numbered k))
     × (read r (register_numbered k) ≤ (range_of ranges (register_numbered k)).high)
 
--- each word of the program stands at its address, in a page that the thread executes
+-- each word of the program lies at its address, in a page that the thread executes
 abbrev pub ProgramStands : Image → Numbered → State → Type 0
 ProgramStands image t s =
     (point : ℕ) → point < t.thread.header.words
@@ -94,7 +94,7 @@ pub record HasBootParent (s : State) (slot : ℕ) : Type 0 where
 
 -- ---- at a point
 
--- the thread stands at a point with a state, and all but its measure is as noted there
+-- the thread is at a point with a state, and all but its measure is as noted there
 pub record StandsAt (image : Image) (t : Numbered) (s : State) (own : ThreadState) (point : ℕ) (state : PointState) : Type 0 where
   pub inside : point < t.thread.header.words
   pub known : noted image t point ≡ Known state
@@ -129,7 +129,7 @@ IsWaiting Inactive = ⊥
 IsWaiting Runnable = ⊥
 IsWaiting AwaitsHandler = ⊥
 
--- A thread that runs is within its budget; one that waits stands at its wait, and has run nothing since. No thread is
+-- A thread that runs is within its budget; one that waits is at its wait, and has run nothing since. No thread is
 -- stopped, and none has faulted.
 pub data ThreadInvariant (image : Image) (t : Numbered) (s : State) (labels : List Label) : Type 0 where
   runs : (own : ThreadState) (point : ℕ) (state : PointState)

@@ -30,13 +30,13 @@ abbrev pub end_before : Image → ℕ → ℕ
 end_before image zero = boot_area_end image.header.boot_radix
 end_before image (suc number) = untyped_end (untyped_at image number)
 
--- whether an untyped is misaligned, passes the end of memory, or overlaps what stands before it
+-- whether an untyped is misaligned, passes the end of memory, or overlaps what lies before it
 unfoldable pub overlaps : Image → ℕ × UntypedEntry → Bool
 overlaps image (number, u) =
     not (u.offset % 2 ^ u.bits == 0) || nat_lt (2 ^ image.header.memory_bits) (untyped_end u)
     || nat_lt u.offset (boot_area_end image.header.boot_radix) || nat_lt u.offset (end_before image number)
 
--- whether an object does not fit behind the ones before it in its untyped
+-- whether an object does not fit after the ones before it in its untyped
 unfoldable pub has_no_room : Image → ℕ → Bool
 has_no_room image number =
     let o = object_at image number in

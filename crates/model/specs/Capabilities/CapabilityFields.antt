@@ -1,4 +1,4 @@
--- The capability that two words stand for, if they are the words of one.
+-- The capability that two words represent, if they are the words of one.
 -- seL4 Reference Manual, "Capability Spaces", for the kinds; the layout is this project's own.
 use Rattle.std.specs.Prelude.{ℕ, ◌==◌, ◌+◌, ◌*◌, ◌/◌, ◌%◌, ◌^◌, bit_and, Bool, true, ◌&&◌, nat_eq, nat_le, nat_lt, Option, Some, None, List, [], ◌∷◌, if◌then◌else◌}
 use Rattle.std.specs.Option.{option_map_or}
@@ -12,7 +12,7 @@ use Rattle.model.specs.Capabilities.CapabilityKinds.{is_guard_word}
 use Rattle.model.specs.Capabilities.CapabilityWords.{words_of}
 use Rattle.model.specs.Capabilities.Rights.{rights}
 
--- ---- the fields that stand in two words, whether or not they are the words of a capability
+-- ---- the fields in two words, whether or not they are the words of a capability
 
 abbrev pub frame_mapping_of : ℕ → ℕ → Option FrameMapping
 frame_mapping_of bits word =

@@ -29,7 +29,7 @@ abbrev pub is_untyped : Cap → Bool
 is_untyped (Untyped offset bits watermark) = true
 is_untyped _ = false
 
--- a CNode: where it stands, and that it has 2 ^ radix slots
+-- a CNode: where it lies, and that it has 2 ^ radix slots
 pub record Node : Type 0 where
   pub offset : ℕ
   pub radix : ℕ

@@ -1,11 +1,11 @@
--- Capabilities, which of them there are, and the two words that stand for each.
+-- Capabilities, which of them there are, and the two words that represent each.
 use Rattle.std.specs.Prelude.{ℕ, ◌≡◌, ◌+◌, ◌*◌, ◌/◌, ◌%◌, ◌^◌, ◌<◌, ◌≤◌, ◌⊎◌, ⊤, Option, Some, None, List, [], ◌∷◌, bit_and}
 use Rattle.model.specs.declared.capabilities.Cap.{Cap}
 use Rattle.model.specs.declared.capabilities.Cap.TheVariants.{Empty, Untyped, Endpoint, Notification, CNode, Frame, PageTable, Tcb, RootTable, InterruptControl, InterruptHandler}
 use Rattle.model.specs.declared.capabilities.FrameMapping.{FrameMapping}
 use Rattle.model.specs.declared.capabilities.TableMapping.{TableMapping}
 
--- an object of 2 ^ bits bytes may stand here
+-- an object of 2 ^ bits bytes may lie here
 abbrev pub IsPlace : ℕ → ℕ → Type 0
 IsPlace offset bits = (offset % 2 ^ bits ≡ 0) × (offset < 2 ^ 24)
 

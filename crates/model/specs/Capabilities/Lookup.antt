@@ -8,7 +8,7 @@ use Rattle.model.specs.declared.lookup_failures.LookupFailure.{LookupFailure}
 use Rattle.model.specs.declared.lookup_failures.LookupFailure.TheVariants.{InvalidRoot, MissingCapability, DepthMismatch, GuardMismatch}
 
 -- one CNode takes its guard and then its index from the high end of the bits that are left: the index,
--- and how many bits are left behind it
+-- and how many bits are left after it
 abbrev pub resolve : ℕ → ℕ → ℕ → ℕ → Result (ℕ × ℕ) LookupFailure
 resolve radix guard_word address left =
     let size = guard_word % 2 ^ 5 in
@@ -31,7 +31,7 @@ is_cnode (RootTable _) = false
 is_cnode InterruptControl = false
 is_cnode (InterruptHandler _) = false
 
--- behind a CNode the lookup ends where no bits are left or the slot holds no CNode, and else goes on
+-- after a CNode the lookup ends where no bits are left or the slot holds no CNode, and else goes on
 abbrev pub go_on : Slots → ℕ → (Cap → ℕ → Result (ℕ × ℕ) LookupFailure) → Result (ℕ × ℕ) LookupFailure → Result (ℕ × ℕ) LookupFailure
 go_on slots offset next (Err failure) = Err failure
 go_on slots offset next (Ok place) =
@@ -46,7 +46,7 @@ lookup_within (suc n) slots (CNode offset radix guard_word) address left =
     go_on slots offset (λ held rest. lookup_within n slots held address rest) (resolve radix guard_word address left)
 lookup_within (suc n) slots _ address left = Err InvalidRoot
 
--- the slot that the low `depth` bits of an address name, and how many bits are left behind it; each CNode
+-- the slot that the low `depth` bits of an address name, and how many bits are left after it; each CNode
 -- takes at least one bit
 abbrev pub lookup : Slots → Cap → ℕ → ℕ → Result (ℕ × ℕ) LookupFailure
 lookup slots root address depth = lookup_within (suc depth) slots root address depth

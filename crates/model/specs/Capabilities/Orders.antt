@@ -12,12 +12,12 @@ abbrev pub first_of : List ℕ → Option ℕ
 first_of [] = None
 first_of (slot ∷ rest) = Some slot
 
--- the slot behind another in a list
+-- the slot after another in a list
 abbrev pub next_after : List ℕ → ℕ → Option ℕ
 next_after [] previous = None
 next_after (slot ∷ rest) previous = if slot == previous then first_of rest else next_after rest previous
 
--- the slot behind a slot, or the first one
+-- the slot after a slot, or the first one
 abbrev pub next_in : List ℕ → Option ℕ → Option ℕ
 next_in order None = first_of order
 next_in order (Some previous) = next_after order previous

@@ -118,7 +118,7 @@ pub record IsDerivation (slots : Slots) : Type 0 where
   pub parent_full : (slot parent : ℕ) → parent_at slots slot ≡ Some parent → IsFull slots parent
   pub shallow : (slot : ℕ) → depth_of slots slot ≤ 255
 
--- none of these bytes of memory stands where a slot is open
+-- none of these bytes of memory lies where a slot is open
 abbrev pub OutsideSlots : Slots → ℕ → ℕ → Type 0
 OutsideSlots slots offset count = (place : ℕ) → offset ≤ place → place < offset + count → slots (place / 16) ≡ None
 

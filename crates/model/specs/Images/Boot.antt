@@ -76,7 +76,7 @@ run_from image number s (Calls call ∷ later) = goes_on number (λ after. run_f
 run_from image number s (Fills place fills ∷ later) =
     goes_on_inside place (λ after. run_from image number after later) (option_and_then (fill_all s) fills)
 
--- the first untyped that is not where untyped memory may stand, or the number of untypeds where boot slots do not suffice
+-- the first untyped that is not where untyped memory may lie, or the number of untypeds where boot slots do not suffice
 abbrev pub misplaced : Image → Option ℕ
 misplaced image =
     option_map_or (λ u. Some u.0) (find (overlaps image) (numbered image.untypeds))

@@ -110,7 +110,7 @@ program_operation image t = Fills t.number (if has_place image t.thread then Som
 
 -- ---- the whole
 
--- the calls before frames are filled, and those behind
+-- the calls before frames are filled, and those after
 abbrev pub first_calls : Image → List LoaderCall
 first_calls image =
     map (object_call image) (range_with_len 0 image.header.objects) ++ map (interrupt_call image) (numbered image.interrupts)

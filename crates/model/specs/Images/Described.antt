@@ -45,7 +45,7 @@ numbered_threads image = map (λ t. record { number = t.0; thread = t.1 }) (numb
 
 -- ---- boot slots
 
--- untypeds are used up to behind their last object
+-- untypeds are used up to the end of their last object
 abbrev pub untyped_holding : Image → ℕ × UntypedEntry → Holding
 untyped_holding image u = holding u.0 (Untyped (u.1).offset (u.1).bits (watermark_of image u.0)) None
 
@@ -66,7 +66,7 @@ abbrev pub is_listed_pool : Image → ℕ → Bool
 is_listed_pool image number =
     is_untyped (original image number) && list_any (λ c. c.source == number) image.capabilities
 
--- the originals, each below the untyped that its object stands in
+-- the originals, each below the untyped that its object lies in
 abbrev pub original_holding : Image → ℕ → Holding
 original_holding image number = holding (original_slot image number) (original image number) (Some (object_at image number).untyped)
 
@@ -90,7 +90,7 @@ abbrev pub notification_holding : Image → ℕ × InterruptEntry → Holding
 notification_holding image i =
     holding (notification_copy_slot image i.0) (signalled image i.1) (Some (original_slot image (i.1).notification))
 
--- slot i of the interrupt table binds line i; the table stands behind the boot CNode
+-- slot i of the interrupt table binds line i; the table lies after the boot CNode
 abbrev pub binding_holding : Image → ℕ × InterruptEntry → Holding
 binding_holding image i =
     holding (line_slot image.header.boot_radix (i.1).line) (signalled image i.1) (Some (notification_copy_slot image i.0))

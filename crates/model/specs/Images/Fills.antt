@@ -1,4 +1,4 @@
--- What stands in the frames of a loaded image: its contents, and its threads' programs.
+-- What the frames of a loaded image hold: its contents, and its threads' programs.
 use Rattle.std.specs.Prelude.{ℕ, ◌==◌, ◌+◌, ◌-◌, ◌*◌, ◌/◌, Bool, false, ◌&&◌, Option, Some, None, option_map, List, ◌++◌, map, filter_map, find, flat_map, take, drop, length, reverse, slice_index, if◌then◌else◌}
 use Rattle.std.specs.List.{list_any, range_with_len}
 use Rattle.std.specs.Option.{option_map_or}
@@ -25,12 +25,12 @@ frame_at image root address = find (λ f. f.root == root && f.address == address
 abbrev pub content_fill : Image → ImageContent → Fill
 content_fill image c = record { offset = offset_of image c.header.frame; bytes = bytes_of c.words }
 
--- the addresses of the pages that a program stands in, from its base on
+-- the addresses of the pages that a program lies in, from its base on
 abbrev pub program_pages : Thread → List ℕ
 program_pages t =
     map (λ page. t.header.base + page * page_size) (range_with_len 0 ((4 * t.header.words + (page_size - 1)) / page_size))
 
--- the part of a program that stands in the page at an address
+-- the part of a program that lies in the page at an address
 abbrev pub page_bytes : Thread → ℕ → List ℕ
 page_bytes t address = take page_size (drop (address - t.header.base) (bytes_of t.words))
 
@@ -48,7 +48,7 @@ fills image = map (content_fill image) image.contents ++ flat_map (program_fills
 abbrev pub is_filled : ℕ → Fill → Bool
 is_filled place f = is_within f.offset (length f.bytes) place
 
--- what stands at a place: what the last fill there wrote, or 0
+-- what is at a place: what the last fill there wrote, or 0
 abbrev pub filled_byte : List Fill → ℕ → ℕ
 filled_byte all place =
     option_map_or (λ f. slice_index f.bytes (place - f.offset)) (find (is_filled place) (reverse all)) 0

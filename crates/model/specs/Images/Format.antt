@@ -6,7 +6,7 @@ use mir.Val.{bits, hbits}
 use Rattle.model.specs.declared.refusals.Refusal.{Refusal}
 use Rattle.model.specs.declared.refusals.Refusal.TheVariants.{Truncated, Trailing, Limit}
 
--- What reading at an offset of the bytes gives: the value and the offset behind it, or what is refused first.
+-- What reading at an offset of the bytes gives: the value and the offset after it, or what is refused first.
 -- Its spelling. Whether it is in its ranges and orders.
 pub record Format (A : Type 0) : Type 0 where
   pub reads : List ℕ → ℕ → Result (A × ℕ) Refusal
@@ -70,7 +70,7 @@ named to from format = record {
 }
 
 -- So many values one after the other, in an order: `format k` is the format of a value whose key is at least k,
--- and `next x` is the least key behind x.
+-- and `next x` is the least key after x.
 unfoldable pub many_read : {A : Type 0} → (ℕ → Format A) → (A → ℕ) → ℕ → ℕ → List ℕ → ℕ → Result (List A × ℕ) Refusal
 many_read format next least zero bytes at = Ok ([], at)
 many_read format next least (suc n) bytes at = do

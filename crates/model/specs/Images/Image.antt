@@ -244,7 +244,7 @@ pub record SlotFormat : Type 0 where
   pub count : Format ℕ
   pub entries : ℕ → Format (List SlotEntry)
 
--- what stands for no object and for no index: the parent is in the boot CNode
+-- the value for no object and for no index: the parent is in the boot CNode
 abbrev pub no_parent : ℕ
 no_parent = 2 ^ 32 - 1
 

@@ -1,4 +1,4 @@
--- Where an image's objects stand in memory, and which boot slot holds what.
+-- Where an image's objects lie in memory, and which boot slot holds what.
 -- seL4 Reference Manual, "Reusing Memory", for the placement.
 use Rattle.std.specs.Prelude.{ℕ, ◌==◌, ◌+◌, ◌-◌, ◌*◌, ◌^◌, Bool, nat_le, Option, List, take, slice_index_or, fold, if◌then◌else◌}
 use Rattle.std.specs.Option.{option_map_or}
@@ -25,12 +25,12 @@ type_at image number = type_of (object_at image number).kind (object_at image nu
 abbrev pub bits_of : ObjectEntry → ℕ
 bits_of o = option_map_or object_bits (type_of o.kind o.size) 0
 
--- how much of an untyped is used behind these objects, each of which stands behind the ones before it
+-- how much of an untyped is used up to the end of these objects, each of which lies after the ones before it
 unfoldable pub used_by : List ObjectEntry → ℕ → ℕ
 used_by objects untyped =
     fold (λ used o. if o.untyped == untyped then place_of_object used (bits_of o) 1 else used) 0 objects
 
--- the watermark of an untyped behind all of the image's objects
+-- the watermark of an untyped after all of the image's objects
 abbrev pub watermark_of : Image → ℕ → ℕ
 watermark_of image untyped = used_by image.objects untyped
 
@@ -49,7 +49,7 @@ abbrev pub cnode_slot : Image → ℕ → ℕ → ℕ
 cnode_slot image cnode i = slot_of (offset_of image cnode) i
 
 -- ---- the boot slots
--- The boot CNode stands at offset 0, so boot slot i is slot i. Untypeds come first, by their numbers.
+-- The boot CNode lies at offset 0, so boot slot i is slot i. Untypeds come first, by their numbers.
 
 -- the first capability to an object
 abbrev pub original_slot : Image → ℕ → ℕ
@@ -75,7 +75,7 @@ notification_copy_slot image interrupt =
 abbrev pub boot_slots : Image → ℕ
 boot_slots image = control_slot image + 1 + 2 * image.header.interrupts + image.header.frames
 
--- ---- the sources of listed capabilities: an object, or behind the objects the handler of an interrupt
+-- ---- the sources of listed capabilities: an object, or after the objects the handler of an interrupt
 
 abbrev pub is_handler : Image → ℕ → Bool
 is_handler image source = nat_le image.header.objects source

@@ -1,7 +1,7 @@
 -- What a step of one thread makes of another, and why: each change is named by the reason for it, and tied to the message, the
 -- badge and the queue of that reason.
 -- seL4 Reference Manual, "Message Passing (IPC)" and "Notifications". The threads of accepted images have no faults, so
--- none is told to another thread here.
+-- no fault is reported to another thread here.
 use Rattle.std.specs.Prelude.{ℕ, ◌≡◌, ◌≢◌, ◌==◌, if◌then◌else◌, IsTrue, Option, Some, None}
 use Rattle.model.specs.declared.capabilities.Cap.{Cap}
 use Rattle.model.specs.declared.capabilities.Cap.TheVariants.{Endpoint, Notification, InterruptHandler}
@@ -87,7 +87,7 @@ pub data Reason (s after : State) (self : ℕ) (Named : (Cap → Type 0) → Typ
   -- or to one whose fault it handles
   faulted : (thread_at s self).caller ≡ Some other → before.status ≡ AwaitsHandler → changed ≡ once_handled (thread_at s self) before
       → Reason s after self Named other before changed
-  -- what it waited on ended, and it stands at its call again
+  -- what it waited on ended, and it is at its call again
   set_back : (queue : ℕ) → before.status ≡ Blocked queue → s.objects queue ≢ None → after.objects queue ≡ None
       → changed ≡ woken before before.registers
       → Reason s after self Named other before changed

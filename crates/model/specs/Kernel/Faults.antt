@@ -1,4 +1,4 @@
--- Faults: what a thread that cannot go on tells its handler.
+-- Faults: what a thread that cannot go on reports to its handler.
 -- seL4 Reference Manual, "Faults"; the words of the messages are our own.
 use Rattle.std.specs.Prelude.{ℕ, ◌==◌, ◌&&◌, if◌then◌else◌, true, Option, Some, None, Result, Ok, Err, [], ◌∷◌}
 use Rattle.std.specs.Option.{option_map_or}

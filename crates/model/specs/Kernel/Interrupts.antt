@@ -38,7 +38,7 @@ interrupt s line bound = record (signal s bound.notification bound.badge) { mask
 abbrev pub with_pending : State → ℕ → Bool → State
 with_pending s line bit = record s { pending = put s.pending line bit }
 
--- An interrupt is delivered on a line that is bound and not masked, and stands pending on another. Lines above 63 do
+-- An interrupt is delivered on a line that is bound and not masked, and is pending on another. Lines above 63 do
 -- nothing.
 abbrev pub raise : State → ℕ → State
 raise s line =
@@ -46,7 +46,7 @@ raise s line =
     else if s.masked line then with_pending s line true
     else option_map_or (interrupt s line) (binding s line) (with_pending s line true)
 
--- the line is not masked any more; an interrupt that stands pending is delivered if the line is bound
+-- the line is not masked any more; an interrupt that is pending is delivered if the line is bound
 abbrev pub acknowledge : State → ℕ → State
 acknowledge s line =
     let unmasked = record s { masked = put s.masked line false } in

@@ -63,6 +63,6 @@ abbrev pub used_of : Cap → Option Piece
 used_of (Untyped offset bits watermark) = Some (record { first = offset; size = watermark })
 used_of _ = None
 
--- the offset of the frame that a place would stand in
+-- the offset of the frame that a place would be in
 abbrev pub frame_around : ℕ → ℕ
 frame_around place = place - place % page_size

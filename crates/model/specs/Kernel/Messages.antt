@@ -80,11 +80,11 @@ delivered r badge message =
 abbrev pub with_registers : State → ℕ → RegisterFile → State
 with_registers s thread registers = with_thread s thread (record (thread_at s thread) { registers = registers })
 
--- the thread goes on behind its ECALL
+-- the thread goes on after its ECALL
 abbrev pub passes : State → ℕ → State
 passes s thread = with_registers s thread (advanced (thread_at s thread).registers)
 
--- the thread goes on behind its ECALL with these registers
+-- the thread goes on after its ECALL with these registers
 abbrev pub passes_with : State → ℕ → RegisterFile → State
 passes_with s thread registers = passes (with_registers s thread registers) thread
 

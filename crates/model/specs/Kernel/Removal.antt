@@ -97,7 +97,7 @@ is_root_at offset _ = false
 abbrev pub ends_root : State → SlotSet → ℕ → Bool
 ends_root s set root = takes_last s set (is_root_at root)
 
--- a mapping goes with its root table, and that of a frame with the page table that it stands in
+-- a mapping goes with its root table, and that of a frame with the page table that it is in
 abbrev pub frame_loses : State → SlotSet → FrameMapping → Bool
 frame_loses s set mapping =
     ends_root s set mapping.root || some_inside s set (maps_region mapping.root (mapping.page / region_pages))

@@ -95,7 +95,7 @@ is_frame _ = false
 
 -- ---- the effect
 
--- some objects of one type, one behind another from an offset on
+-- some objects of one type, one after another from an offset on
 pub record NewObjects : Type 0 where
   pub kind : NewObject
   pub first : ℕ
@@ -133,7 +133,7 @@ abbrev pub with_new_bytes : NewObjects → (ℕ → Option ℕ) → ℕ → Opti
 with_new_bytes new bytes place =
     if is_frame new.kind && is_within new.first (new.count * size_of new) place then Some 0 else bytes place
 
--- the state with new objects, whose capabilities stand from the slot `window` on below the slot `parent`
+-- the state with new objects, whose capabilities are in the slots from the slot `window` on, below the slot `parent`
 abbrev pub with_new : State → NewObjects → ℕ → ℕ → State
 with_new s new window parent = record s {
   slots = with_first_capabilities new window parent (with_new_slots new s.slots);
@@ -153,7 +153,7 @@ node slots root name =
 abbrev pub any_full : Slots → ℕ → ℕ → Bool
 any_full slots first count = list_any (is_full slots) (range_with_len first count)
 
--- the untyped memory stands in `slot`
+-- the untyped memory is in `slot`
 unfoldable pub retype : State → Cap → ℕ → UntypedMemory → RetypeCall → Result State KError
 retype s root slot memory call = do
   kind ← wanted (type_of call.kind call.size) InvalidArgument

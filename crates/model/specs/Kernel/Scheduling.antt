@@ -33,7 +33,7 @@ is_runnable AwaitsHandler = false
 abbrev pub unready : State → ℕ → State
 unready s thread = record s { ready = λ priority. without thread (s.ready priority) }
 
--- the ready list with a thread behind the others of its priority
+-- the ready list with a thread after the others of its priority
 abbrev pub at_tail : State → ℕ → State
 at_tail s thread =
     let priority = (thread_at s thread).priority in

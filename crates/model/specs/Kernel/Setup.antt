@@ -38,7 +38,7 @@ put_in_boot_slot s slot capability =
 abbrev pub end_of : Cap → ℕ
 end_of capability = option_map_or (λ (p : Piece). p.first + p.size) (piece_of capability) 0
 
--- Of 2^4 to 2^24 bytes, aligned, inside memory, behind the boot area and behind all that stands: untyped memory, and objects,
+-- Of 2^4 to 2^24 bytes, aligned, inside memory, after the boot area and after all that is there: untyped memory, and objects,
 -- which may be left where the untyped memory around them was deleted. Each object has a capability.
 abbrev pub may_be_untyped : State → ℕ → ℕ → Bool
 may_be_untyped s offset bits =

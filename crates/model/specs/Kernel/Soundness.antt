@@ -55,7 +55,7 @@ pub data Lies (slots : Slots) (a b : ℕ) (p q : Piece) : Type 0 where
   around : (used : Piece) → used_of (capability_at slots a) ≡ Some used → IsInside q used → Descendant slots a b → Lies slots a b p q
 
 pub record MemoryIsSound (s : State) : Type 0 where
-  -- all that capabilities name lies in memory, behind the boot area
+  -- all that capabilities name lies in memory, after the boot area
   pub inside : (slot : ℕ) (p : Piece) → piece_of (capability_at s.slots slot) ≡ Some p
       → (boot_area_end s.boot_radix ≤ p.first) × (p.first + p.size ≤ 2 ^ s.memory_bits)
   pub lies : (a b : ℕ) (p q : Piece) → a ≢ b → piece_of (capability_at s.slots a) ≡ Some p → piece_of (capability_at s.slots b) ≡ Some q
@@ -127,7 +127,7 @@ pub record ThreadIsSound (t : ThreadState) : Type 0 where
   pub fault_address : t.fault_address < 2 ^ 32
   pub slice : IsTrue (is_runnable t.status) → (1 ≤ t.slice) × (t.slice ≤ full_slice)
 
--- what waits to be delivered is made of words, since a receiver's registers hold it later: a fault is told in at most eight
+-- what waits to be delivered is made of words, since a receiver's registers hold it later: a fault is reported in at most eight
 abbrev pub SentIsSound : Sent → Type 0
 SentIsSound BySend = ⊤
 SentIsSound ByCall = ⊤
@@ -139,7 +139,7 @@ pub record SenderIsSound (sender : Sender) : Type 0 where
 
 pub record ThreadsAreSound (s : State) : Type 0 where
   pub threads : (thread : ℕ) (t : ThreadState) → s.objects thread ≡ Some (ThreadObject t) → ThreadIsSound t
-  -- a thread stands in the ready list, at its priority and once, exactly if it runs
+  -- a thread is in the ready list, at its priority and once, exactly if it runs
   pub ready : (thread priority : ℕ) → times_in (s.ready priority) thread ≡ (if runs_at s thread priority then 1 else 0)
   -- and in the one queue that its status names, once
   pub queued : (thread queue : ℕ) → times_in (waiting_at (s.objects queue)) thread ≡ (if waits_at s thread queue then 1 else 0)

@@ -14,9 +14,9 @@ use Rattle.model.specs.declared.faults.FaultKind.{FaultKind}
 pub data Status : Type 0 where
   -- it runs again once it is resumed
   Inactive : Status
-  -- it stands in the ready list
+  -- it is in the ready list
   Runnable : Status
-  -- it stands in the queue of this endpoint or notification
+  -- it is in the queue of this endpoint or notification
   Blocked : ℕ → Status
   -- its Call was received, and it waits for the reply
   AwaitsReply : Status
@@ -48,7 +48,7 @@ new_thread = record {
 
 -- ---- endpoints and notifications
 
--- what a thread tells its handler
+-- what a thread reports to its handler
 pub record FaultMessage : Type 0 where
   pub kind : FaultKind
   pub words : List ℕ
@@ -81,7 +81,7 @@ pub record NotificationState : Type 0 where
 
 -- ---- objects
 
--- An untyped is no object here: it is its one capability. The bytes of frames stand apart.
+-- An untyped is no object here: it is its one capability. The bytes of frames are kept apart.
 pub data Object : Type 0 where
   ThreadObject : ThreadState → Object
   EndpointObject : EndpointState → Object
@@ -190,7 +190,7 @@ cspace_slot thread = slot_of thread 0
 abbrev pub vspace_slot : ℕ → ℕ
 vspace_slot thread = slot_of thread 1
 
--- The boot CNode stands at offset 0, and the interrupt table with a slot for each of 64 lines behind it: a line's slot, and
+-- The boot CNode lies at offset 0, and the interrupt table with a slot for each of 64 lines after it: a line's slot, and
 -- how many slots both have.
 abbrev pub line_slot : ℕ → ℕ → ℕ
 line_slot radix line = 2 ^ radix + line

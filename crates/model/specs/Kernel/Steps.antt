@@ -232,7 +232,7 @@ unfoldable pub trace : State → List Event → List Label
 trace s [] = []
 trace s (event ∷ events) = let next = step s event in next.1 ∷ trace next.0 events
 
--- the state behind them
+-- the state after them
 unfoldable pub state_after : State → List Event → State
 state_after s [] = s
 state_after s (event ∷ events) = state_after (step s event).0 events

@@ -52,7 +52,7 @@ set_priority s thread priority = do
   _ ← check (nat_le priority 255) RangeError
   Ok (with_priority s thread priority)
 
--- register 0 stands for the pc
+-- register 0 represents the pc
 abbrev pub with_register : State → ℕ → ℕ → ℕ → State
 with_register s thread index value =
     let r = (thread_at s thread).registers in

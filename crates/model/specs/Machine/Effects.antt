@@ -109,7 +109,7 @@ register_result And a b = bit_and a b
 
 -- ---- the effect
 
--- registers and memory behind an instruction, and what came of it
+-- registers and memory after an instruction, and what came of it
 pub record Effect : Type 0 where
   pub registers : RegisterFile
   pub content : Content
@@ -123,7 +123,7 @@ stays r content exec = record { registers = r; content = content; exec = exec }
 abbrev pub goes_on : RegisterFile → Content → Effect
 goes_on r content = record { registers = r; content = content; exec = outcomes.Next }
 
--- the address behind the instruction
+-- the address after the instruction
 abbrev pub next_pc : RegisterFile → ℕ
 next_pc r = (r.pc + 4) % 2 ^ 32
 

@@ -47,7 +47,7 @@ IsBranchOffset z = (negsuc 4095 ≤ℤ z) × (z ≤ℤ pos 4094) × (bits (word_
 abbrev pub IsJumpOffset : ℤ → Type 0
 IsJumpOffset z = (negsuc 1048575 ≤ℤ z) × (z ≤ℤ pos 1048574) × (bits (word_of z) 0 1 ≡ 0)
 
--- the formats: the opcode stands in bits 0 to 6, rd in 7 to 11, funct3 in 12 to 14, rs1 in 15 to 19, rs2 in 20 to 24,
+-- the formats: the opcode is in bits 0 to 6, rd in 7 to 11, funct3 in 12 to 14, rs1 in 15 to 19, rs2 in 20 to 24,
 -- funct7 in 25 to 31, and the immediate in the places that are left
 abbrev pub r_type : ℕ → Register → ℕ → Register → ℕ → ℕ → ℕ
 r_type opcode rd funct3 rs1 rs2 funct7 =
@@ -161,7 +161,7 @@ IsInstr Fence = Unit {0}
 IsInstr Ecall = Unit {0}
 IsInstr Ebreak = Unit {0}
 
--- The word stands for the instruction. Each has one word but for FENCE, whose fields rd, rs1 and immediate are ignored
+-- The word represents the instruction. Each has one word but for FENCE, whose fields rd, rs1 and immediate are ignored
 -- (2.7).
 abbrev pub Spells : ℕ → Instr → Type 0
 Spells word (Upper op rd immediate) = IsInstr (Upper op rd immediate) × (word ≡ u_type (upper_opcode op) rd immediate)

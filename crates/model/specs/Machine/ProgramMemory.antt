@@ -10,7 +10,7 @@ use Rattle.model.specs.declared.instructions.MemoryFault.{MemoryFault}
 
 -- ---- registers (2.1)
 
--- the pc and the 32 registers; what stands for register 0 is never read
+-- the pc and the 32 registers; the entry of register 0 is never read
 pub record RegisterFile : Type 0 where
   pub pc : ℕ
   pub words : List ℕ

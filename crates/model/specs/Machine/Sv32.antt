@@ -41,7 +41,7 @@ permits entry access = has_bit entry 4 && has_bit entry 6 && has_right entry acc
 
 -- ---- the walk
 
--- the place of a physical address, if it does not stand before memory
+-- the place of a physical address, if it does not lie before memory
 abbrev pub place_of : ℕ → Option ℕ
 place_of physical = if nat_le (2 ^ 31) physical then Some (physical - 2 ^ 31) else None
 
