@@ -1,4 +1,4 @@
--- The descendants of a slot are those behind it that are deeper.
+-- The descendants of a slot are those after it that are deeper.
 use Rattle.std.proofs.Common.{ℕ, ◌≡◌, ◌∙◌, true, false, if◌then◌else◌, IsTrue, IfSome, Option, Some, None, [], filter, refl, sym, ap, arith}
 use Rattle.std.proofs.lemmas.Option.{IfSome_then}
 use Rattle.std.specs.Option.{unwrap_or}
@@ -35,7 +35,7 @@ below_none p root last is empty =
     ap (λ l. next_in l last) (below-run p root is ∙ ap slots_of (behind-none rows root (no-row (words_in p.memory) p.open_slots p.first rows root is.packed empty)))
     ∙ next-none last
 
--- the first one below a full root is right behind it, and the next one behind the last
+-- the first one below a full root is right after it, and the next one after the last
 pub below : (p : Packed) (root : ℕ) (last : Option ℕ) → IsPacked p → IsFull (packed_slots p) root
     → ((s : ℕ) → last ≡ Some s → is_descendant (packed_slots p) root s ≡ true)
     → next_in (descendants (packed_order p) (packed_slots p) root) last

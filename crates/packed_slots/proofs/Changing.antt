@@ -362,7 +362,7 @@ recapped_in p slot capability is full valid some alike fits fits' =
       order-from q (capped_words w slot h t) (packed_rows p) capped packs,
     )
 
--- opened slots stand for bytes of open slots afterwards
+-- opened slots represent bytes of open slots afterwards
 pub opened_in : (p : Packed) (o : List Bool) (first count : ℕ) → IsPacked p → 16 * (first + count) ≤ length p.memory
     → ((s : ℕ) → is_within first count s ≡ true → packed_slots p s ≡ None) → length o ≡ length p.open_slots
     → ((s : ℕ) → is_open_in o s ≡ (if is_within first count s then true else is_open_in p.open_slots s))
@@ -442,7 +442,7 @@ spliced-is p gone m n first is same same' begins =
     ap (λ l. packing l p.open_slots first) (same' ∙ ap (λ l. unlinked l gone) same)
     ∙ ap (packing (spliced_memory p gone) p.open_slots) (begins ∙ ap (λ (v : Words). first_without (v.previous gone) (v.next gone) p.first) words)
 
--- a slot that was put behind another
+-- a slot that was put after another
 pub behind-words : (p : Packed) (from to : ℕ) → IsPacked p → IsFull (packed_slots p) from → packed_slots p to ≡ Some empty_entry
     → (words_in p.memory).head from < 2 ^ 32 → (words_in p.memory).tail from < 2 ^ 32
     → (words_in (behind_memory p from to) ≡ moved_words (words_in p.memory) from to) × (length (behind_memory p from to) ≡ length p.memory)

@@ -1,4 +1,4 @@
--- What the neighbours of a slot tell of its parent's children.
+-- What the neighbours of a slot show of its parent's children.
 use Rattle.std.proofs.Common.{ℕ, zero, suc, ◌≡◌, ◌≢◌, ◌∙◌, ◌&&◌, ◌+◌, ◌<◌, ◌≤◌, ◌⊎◌, nat_lt, inl, inr, Bool, true, false, if◌then◌else◌, Option, Some, None, List, [], ◌∷◌, length, refl, sym, ap, subst, arith}
 use Rattle.std.proofs.lemmas.Bool.Decides.{eqb_tells}
 use Rattle.std.proofs.lemmas.Bool.{cases_lt, le-ltb, lt-ltb}
@@ -37,7 +37,7 @@ one-longer previous depths (suc n) d p (Some s) is = elim (cases_lt (depths s) d
       (sym (ap (λ b. is_one p (if b then Some s else back_above previous depths n d (previous s))) (le-ltb (depths s) d most)) ∙ is)
 ]
 
--- from a slot as deep on, the walk goes on behind it
+-- from a slot as deep on, the walk goes on after it
 one-back : (previous : Links) (depths : ℕ → ℕ) (n d p s : ℕ) → d ≤ depths s → is_one p (back_above previous depths n d (Some s)) ≡ true → is_one p (back_above previous depths n d (previous s)) ≡ true
 one-back previous depths zero d p s most is = absurd (let clash : false ≡ true = is in cc)
 one-back previous depths (suc n) d p s most is =
@@ -140,7 +140,7 @@ module _ (p : Packed) (slot : ℕ) (is : IsPacked p) (full : IsFull (packed_slot
       behind-is : next_in (descendants (packed_order p) slots before) (Some slot) ≡ if_deeper deep (deep before) (next slot)
       behind-is = below p before (Some slot) is parent-full (λ s same. let e : slot ≡ s = cc in subst (λ y. is_descendant slots before y ≡ true) e own-below)
 
-      -- the slot behind descends from the parent too
+      -- the next slot descends from the parent too
       pub beside-next : (after : ℕ) → next slot ≡ Some after → deep slot ≤ deep after → LeavesChildless slots slot None
       beside-next after on most =
           let found : Some after ≡ next_in (descendants (packed_order p) slots before) (Some slot) =
@@ -148,7 +148,7 @@ module _ (p : Packed) (slot : ℕ) (is : IsPacked p) (full : IsFull (packed_slot
           let apart = next-another (slots_of (packed_rows p)) next previous None slot after is.packed.linked.chain is.packed.linked.once there on in
           leaves-other slots slot before is.packed.derivation up after apart.1 (found_known p before (Some slot) (Some after) is found)
 
-      -- nothing stands behind that does
+      -- and no slot after it does
       pub beside-none : if_deeper deep (deep before) (next slot) ≡ None → LeavesChildless slots slot (Some before)
       beside-none none =
           let link : next before ≡ Some slot = elim (next-back (slots_of (packed_rows p)) next previous None slot before is.packed.linked.chain there back) [

@@ -172,7 +172,7 @@ counted-relocated slots counts from to near near_to full empty counted =
           omega (arith, counted.each line few, put, taken, nothing, there, still, gone);
     }
 
--- ---- what the counts tell
+-- ---- what the counts show
 
 pub counts-few : (slots : Slots) (counts : List ℕ) → AreCounted slots counts → (line : ℕ) → line < 64 → slice_index_or counts line 0 ≤ 2 ^ 20
 counts-few slots counts counted line few = omega (arith, counted.each line few, times-most (handles slots line) (2 ^ 20))

@@ -1,4 +1,4 @@
--- What stands at the edges of a root's descendants tells of the objects that they share with others.
+-- What the slots at the edges of a root's descendants show of the objects that they share with others.
 use Rattle.std.proofs.Common.{ℕ, ◌≡◌, ◌∙◌, ◌+◌, ◌<◌, ◌||◌, ◌&&◌, nat_lt, inl, inr, not, true, false, if◌then◌else◌, Option, Some, None, length, refl, sym, ap, subst, arith}
 use Rattle.std.specs.Option.{option_map_or}
 use Rattle.model.proofs.Ancestors.{depth-child, descendant-from_test, descendant-full, descendants-once}
@@ -65,7 +65,7 @@ module _ (p : Packed) (root last slot : ℕ) (is : IsPacked p) (known : is_desce
         (descendant-full slots root last is.packed.derivation last_known),
   )
 
-  -- the slot behind the last descendant is the first one behind all of them
+  -- the slot after the last descendant is the first one after all of them
   edge-is : edge ≡ first_of (slots_of (behind_run root (packed_rows p)))
   edge-is =
       sym (linked-next (packed_order p) (words_in p.memory).next (words_in p.memory).previous None last is.packed.linked.chain last-full)

@@ -174,7 +174,7 @@ runs-behind slots rows at slot capability none there kin runs =
     ] in
     runs-put_behind rows keys at slot may (runs-kept slots rows slot capability (Some at) none runs)
 
--- ---- behind its parent
+-- ---- after its parent
 
 pub none-row : (w : Words) (o : List Bool) (first : Option ℕ) (rows : List Row) (slot : ℕ) → IsPackedAs w o first rows → slots_as w o rows slot ≡ Some empty_entry → rows_of rows slot ≡ 0
 none-row w o first rows slot packed empty = no-row w o first rows slot packed (empty-not-full (slots_as w o rows) slot empty)

@@ -33,7 +33,7 @@ adopted-other : (x : ℕ) (u was : Option ℕ) → was ≢ Some x → adopted_pa
 adopted-other x u None apart = refl
 adopted-other x u (Some p) apart = ap (λ b. if b then u else Some p) (ne_eqb p x (λ same. absurd (apart (ap Some same))))
 
--- the words with the slot's own put behind it, at its depth
+-- the words with the slot's own put after it, at its depth
 abbrev pub moved_words : Words → ℕ → ℕ → Words
 moved_words w from to = behind_words w from to (w.head from) (w.tail from) (w.depth from)
 

@@ -220,7 +220,7 @@ named-relocated slots named now from to capability full empty held told known =
         ∙ ap (λ (o : Option Entry). object_of (capability_of o)) (entry-other (with_parent slots from (Some to)) to (slots from) s off_to)
         ∙ ap object_of (capability-adopted from (Some to) (slots s))
 
--- ---- what is known tells
+-- ---- from what is known
 
 page-whole : (object : ℕ) → IsPlace object 12 → 2 ^ 12 * (object / 4096) ≡ object
 page-whole object place = omega (arith, place.0)

@@ -1,4 +1,4 @@
--- The slots that name one object stand side by side: the next one, the first one, and another one.
+-- The slots that name one object are side by side: the next one, the first one, and another one.
 use Rattle.std.proofs.Common.{ℕ, suc, ◌≡◌, ◌≢◌, ◌∙◌, ◌==◌, ◌+◌, ◌<◌, ◌≤◌, ◌⊎◌, inl, inr, not, Bool, true, false, IfSome, if◌then◌else◌, Option, Some, None, List, [], ◌∷◌, filter, cond, refl, sym, ap, subst, arith}
 use Rattle.std.proofs.lemmas.Bool.{ne_eqb}
 use Rattle.std.proofs.lemmas.Bool.Decides.{eqb_tells}
@@ -51,7 +51,7 @@ module _ (slots : Slots) (offset : ℕ) where
   naming-none [] none = refl
   naming-none (x ∷ rest) none = ap (λ b. if b then Some x else None) (fails x (none x (omega (arith, times-first x rest))))
 
-  -- the one that is linked behind, if it has the key
+  -- the next one in the links, if it has the key
   next-run : (xs : List ℕ) (next previous : Links) (before : Option ℕ) (s : ℕ) → IsChain next previous before xs → AreRuns (object_at slots) xs → 0 < times_in xs s
       → object_at slots s ≡ Some offset → first_of (filter test (behind_slot xs s)) ≡ if_naming slots offset (next s)
   next-run [] next previous before s chain runs there is = absurd (omega (arith, there))
@@ -68,7 +68,7 @@ module _ (slots : Slots) (offset : ℕ) where
         ∙ next-run rest next previous (Some x) s chain.2 runs.1 (rest-of x rest s apart.1 there) is
   ]
 
-  -- the first one back before which another stands
+  -- the first one back, before which there is another slot
   first-run : (xs : List ℕ) (next previous : Links) (before : Option ℕ) (s : ℕ) → IsChain next previous before xs → AreRuns (object_at slots) xs → 0 < times_in xs s
       → object_at slots s ≡ Some offset → (HasKey (object_at slots) offset (previous s) → ⊥) → first_of (filter test xs) ≡ Some s
   first-run [] next previous before s chain runs there is none = absurd (omega (arith, there))
@@ -94,7 +94,7 @@ module _ (slots : Slots) (offset : ℕ) where
       head-previous [] n p b t linked head = absurd (let clash : None ≡ Some t = head in cc)
       head-previous (y ∷ more) n p b t linked head = ap p (let same : t ≡ y = cc in same) ∙ linked.0
 
--- ---- how far from the front a slot stands
+-- ---- how far from the front a slot is
 
 abbrev pub place_of : List ℕ → ℕ → ℕ
 place_of [] s = 0

@@ -116,7 +116,7 @@ first-open w o first (r ∷ rest) n packed is =
 
 -- ---- what a change leaves
 
--- words and rows that stand for slots of which all this is known
+-- words and rows that represent slots of which all this is known
 pub packs : (w : Words) (o : List Bool) (first : Option ℕ) (rows : List Row) (slots : Slots) → slots_as w o rows ≡ slots → IsLinked w.next w.previous w.depth rows
     → first ≡ first_of (slots_of rows) → IsOrderOf (slots_of rows) slots
     → ((s : ℕ) → is_open_in o s ≡ true → w.head s ∷ w.tail s ∷ [] ≡ words_of (capability_in w s))

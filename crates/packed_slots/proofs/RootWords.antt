@@ -1,4 +1,4 @@
--- The root table that a capability names is told by the first of its words.
+-- The root table that a capability names is known by the first of its words.
 use Rattle.std.proofs.Common.{ℕ, ◌≡◌, ◌∙◌, ◌==◌, ◌/◌, ◌%◌, ◌*◌, ◌^◌, inl, inr, Bool, true, false, if◌then◌else◌, Some, None, refl, sym, ap}
 use Rattle.std.proofs.lemmas.Bool.Decides.{eqb_tells}
 use Rattle.model.specs.declared.capabilities.Cap.{Cap}
@@ -15,7 +15,7 @@ module _ (detail bits offset word : ℕ) where
   unfolding fields_of_kind
   kind-root kind is = ap (λ (k : ℕ). root_of (fields_of_kind k detail bits offset word)) is
 
-  -- the kinds behind that of root tables
+  -- the kinds after that of root tables
   abbrev last-kinds : ℕ → Cap
   last-kinds kind = if kind == 9 then InterruptControl else if kind == 10 then InterruptHandler (word % 2 ^ 8) else Empty
 

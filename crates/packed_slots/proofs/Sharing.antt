@@ -1,4 +1,4 @@
--- What the neighbours of a slot tell of the object that it names.
+-- What the neighbours of a slot show of the object that it names.
 use Rattle.std.proofs.Common.{ℕ, ◌≡◌, ◌∙◌, ◌==◌, ◌<◌, ◌⊎◌, ◌||◌, inl, inr, not, Bool, true, false, Option, Some, None, refl, sym, ap, arith}
 use Rattle.std.proofs.lemmas.Bool.Decides.{eqb_tells}
 use Rattle.std.proofs.lemmas.Bool.{eq-eqb}

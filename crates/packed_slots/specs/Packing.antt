@@ -1,4 +1,4 @@
--- Slots packed into the memory of the machine. All full slots stand in one list, in preorder.
+-- Slots packed into the memory of the machine. All full slots are in one list, in preorder.
 use Rattle.std.specs.Prelude.{ℕ, ◌≡◌, ◌*◌, ◌^◌, ◌≤◌, Bool, true, false, if◌then◌else◌, Option, Some, None, List, [], ◌∷◌, length, slice_index, slice_index_or}
 use Rattle.model.specs.Capabilities.CapabilityWords.{words_of}
 use Rattle.model.specs.Capabilities.Orders.{first_of}
@@ -23,7 +23,7 @@ is_open_in open_slots s = slice_index_or open_slots s false
 abbrev pub packed_rows : Packed → List Row
 packed_rows p = rows_linked (words_in p.memory).next (words_in p.memory).depth (length p.open_slots) p.first
 
--- the slots that words and rows stand for
+-- the slots that words and rows represent
 abbrev pub slots_as : Words → List Bool → List Row → Slots
 slots_as words open_slots rows s =
     if is_open_in open_slots s then Some (record { capability = capability_in words s; parent = parents_of rows s }) else None
@@ -39,7 +39,7 @@ pub record IsPackedAs (words : Words) (open_slots : List Bool) (first : Option �
   pub whole : (s : ℕ) → is_open_in open_slots s ≡ true → words.head s ∷ words.tail s ∷ [] ≡ words_of (capability_in words s)
   pub blank : (s : ℕ) → is_open_in open_slots s ≡ true → is_full (slots_as words open_slots rows) s ≡ false → words.depth s ≡ 0
   pub derivation : IsDerivation (slots_as words open_slots rows)
-  -- those that name one object stand side by side
+  -- those that name one object are side by side
   pub runs : AreRuns (object_at (slots_as words open_slots rows)) (slots_of rows)
 
 pub record IsPacked (p : Packed) : Type 0 where

@@ -17,7 +17,7 @@ has_like_neighbour p slot =
     option_map_or (λ offset. is_named_at (packed_slots p) offset ((words_in p.memory).previous slot) || is_named_at (packed_slots p) offset ((words_in p.memory).next slot))
     (object_at (packed_slots p) slot) false
 
--- a root, or the slot behind the last one that descends from it, names the object that a slot names
+-- a root, or the slot after the last one that descends from it, names the object that a slot names
 abbrev pub has_like_edge : Packed → ℕ → ℕ → ℕ → Bool
 has_like_edge p root last slot =
     option_map_or (λ offset. is_named_at (packed_slots p) offset (Some root) || is_named_at (packed_slots p) offset ((words_in p.memory).next last))

@@ -80,7 +80,7 @@ with_cap memory slot head tail = with_word (with_word memory slot 0 head) slot 1
 abbrev pub blanked : List ℕ → ℕ → ℕ → List ℕ
 blanked memory slot count = written memory (16 * slot) (replicate (16 * count) 0)
 
--- a slot linked behind another, at a depth
+-- a slot linked after another, at a depth
 abbrev pub linked_behind : List ℕ → ℕ → ℕ → ℕ → List ℕ
 linked_behind memory at slot depth =
     let after = next_in (word_of memory at 2) in
@@ -105,7 +105,7 @@ lowered_memory depth (suc n) (Some slot) memory =
     let word = word_of memory slot 2 in
     if nat_lt depth (depth_in word) then lowered_memory depth n (next_in word) (with_link memory slot (next_in word) (depth_in word - 1)) else memory
 
--- the first slot without one that stands between these neighbours
+-- the first slot without one that is between these neighbours
 abbrev pub first_without : Option ℕ → Option ℕ → Option ℕ → Option ℕ
 first_without None after first = after
 first_without (Some before) after first = first

@@ -67,7 +67,7 @@ fn take_out(memory: &mut Mem, first: &Option<Slot>, slot: Slot) -> Option<Slot>
     }
 }
 
-/// Puts a capability into an empty slot, right behind the slot that it is derived from.
+/// Puts a capability into an empty slot, right after the slot that it is derived from.
 fn insert_behind(
     memory: &mut Mem,
     open_slots: &OpenSlots,
@@ -162,7 +162,7 @@ pub(crate) fn splice(
     take_out(memory, first, slot)
 }
 
-/// Moves what a full slot holds to an empty one: the new slot is linked behind the old one, which is then taken out.
+/// Moves what a full slot holds to an empty one: the new slot is linked after the old one, which is then taken out.
 pub(crate) fn relocate(
     memory: &mut Mem,
     open_slots: &OpenSlots,

@@ -142,7 +142,7 @@ impl SlotStore for IndexedSlots {
     }
 
     fn is_handled(&self, line: u8) -> bool {
-        // No slot behind these is open.
+        // No slot after these is open.
         let _count = self.store.count();
         self.handlers.count(line) > 0
     }

@@ -33,7 +33,7 @@ fn put_next_at(memory: &mut Mem, slot: &Option<Slot>, next: &Option<Slot>)
     }
 }
 
-/// Links a slot behind another, at a depth.
+/// Links a slot after another, at a depth.
 pub(crate) fn link_behind(memory: &mut Mem, at: Slot, slot: Slot, own_depth: u32)
     requires whole { length memory.old % 16 ≡ 0 }
     requires inside { 16 * (slot + 1) ≤ length memory.old }

@@ -1,5 +1,5 @@
-//! What the neighbours of a slot tell: whether it is the last one that names its object, which others do, and its parent's last
-//! child.
+//! What the neighbours of a slot show: whether it is the last one that names its object, which others do, and its
+//! parent's last child.
 
 ghost use Rattle.std.specs.Prelude.{ℕ, ◌≡◌, ◌%◌, Some, None, IsTrue, true, false, length};
 ghost use Rattle.std.specs.Option.{ForSome};
@@ -69,7 +69,7 @@ pub(crate) fn is_shared(
     has_like_neighbour(memory, open_slots, first, slot)
 }
 
-/// Whether a root, or the slot behind the last one that descends from it, names what a slot names.
+/// Whether a root, or the slot after the last one that descends from it, names what a slot names.
 fn has_like_edge(
     memory: &Mem,
     open_slots: &OpenSlots,
@@ -122,7 +122,7 @@ fn is_as_deep(memory: &Mem, own_depth: u32, found: Option<Slot>) -> bool
 }
 
 /// The slot that a full slot is derived from, if nothing is derived from it any more once this one is emptied: that is the
-/// slot before this one, if it is less deep, and the slot behind this one is less deep too.
+/// slot before this one, if it is less deep, and the slot after this one is less deep too.
 pub(crate) fn childless_without(
     memory: &Mem,
     open_slots: &OpenSlots,
@@ -165,7 +165,7 @@ fn if_naming(
     }
 }
 
-/// The slot behind one that names the same object: the one that is linked behind it, if that does.
+/// The slot after one that names the same object: the one that is linked after it, if that does.
 fn next_naming(
     memory: &Mem,
     open_slots: &OpenSlots,
@@ -181,7 +181,7 @@ fn next_naming(
     if_naming(memory, open_slots, first, offset, next(memory, slot))
 }
 
-/// The first slot that names the object which a slot names: the first one back before which another stands.
+/// The first slot that names the object which a slot names: the first one back, before which there is another.
 fn first_naming(
     memory: &Mem,
     open_slots: &OpenSlots,
@@ -207,8 +207,8 @@ fn first_naming(
     here
 }
 
-/// The slot behind `previous` in the order that names an object, or the first one: some slot is known that names it, if one
-/// does.
+/// The slot after `previous` in the order that names an object, or the first one: some slot is known that names it, if
+/// one does.
 pub(crate) fn next_alike(
     memory: &Mem,
     open_slots: &OpenSlots,

@@ -10,7 +10,7 @@ use model::Slot;
 use std::alloc::{AllocError, Global};
 use std::marker::Model;
 
-/// How many slots a word tells of.
+/// How many slots a word has a bit for.
 const WORD_SLOTS: u32 = 64;
 
 /// For each slot, whether it is open: one bit each. A clause sees the list of it.

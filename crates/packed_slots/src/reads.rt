@@ -64,7 +64,7 @@ fn root_in(head: u32) -> Option<u32>
     }
 }
 
-/// The root table that the capability in a slot names, which one word tells.
+/// The root table that the capability in a slot names, which one word gives.
 pub(crate) fn root_table(
     memory: &Mem,
     open_slots: &OpenSlots,
@@ -132,7 +132,7 @@ pub(crate) fn depth_above(
     depth(memory, slot)
 }
 
-/// The full slot behind another, or the first one.
+/// The full slot after another, or the first one.
 pub(crate) fn next_full(
     memory: &Mem,
     open_slots: &OpenSlots,
@@ -160,7 +160,8 @@ fn if_deeper(memory: &Mem, root_depth: u32, found: Option<Slot>) -> Option<Slot>
     }
 }
 
-/// The descendant of a root behind another, or the first one: the slot that is linked behind, if it is deeper than the root.
+/// The descendant of a root after another, or the first one: the slot that is linked after it, if it is deeper than the
+/// root.
 pub(crate) fn next_below(
     memory: &Mem,
     open_slots: &OpenSlots,
@@ -172,7 +173,7 @@ pub(crate) fn next_below(
     requires known { ForSome last (λ slot. IsTrue (is_descendant (packed_slots (packing memory.now open_slots.now first.now)) root slot)) }
     ensures { result ≡ next_in (descendants (packed_order (packing memory.now open_slots.now first.now)) (packed_slots (packing memory.now open_slots.now first.now)) root) last }
 {
-    // (what stands in the bytes of a slot that is not full is no link)
+    // (what the bytes of a slot that is not full hold is no link)
     if !is_full(memory, open_slots, first, root) {
         return None;
     }

@@ -56,8 +56,8 @@ impl PackedSlots {
 }
 
 impl PackedSlots {
-    /// The slot behind `previous` in the store's order that names an object, or the first one: some slot is known that names
-    /// it, if one does.
+    /// The slot after `previous` in the store's order that names an object, or the first one: some slot is known that
+    /// names it, if one does.
     pub(crate) fn next_alike(
         &self,
         object: u32,

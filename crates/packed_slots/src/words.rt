@@ -21,7 +21,7 @@ const HAS_NEXT: u32 = 0x1000_0000;
 /// The bit that is set where there is a previous slot, one above the field of its number.
 const HAS_PREVIOUS: u32 = 0x10_0000;
 
-/// One of the four words of a slot: 0 behind the end of memory.
+/// One of the four words of a slot: 0 beyond the end of memory.
 #[tactic(auto, using(crate::proofs::WordsBehind::word_past))]
 pub(crate) fn word(memory: &Mem, slot: Slot, number: u32) -> u32
     requires whole { length memory.now % 16 ≡ 0 }
@@ -35,7 +35,7 @@ pub(crate) fn word(memory: &Mem, slot: Slot, number: u32) -> u32
     memory.read32(place)
 }
 
-/// The slot behind another.
+/// The slot after another.
 pub(crate) fn next(memory: &Mem, slot: Slot) -> Option<Slot>
     requires { length memory.now % 16 ≡ 0 }
     ensures { result ≡ next_in (word_of memory.now slot 2) }

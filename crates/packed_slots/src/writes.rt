@@ -44,7 +44,7 @@ pub(crate) fn write32(
     memory.write32(offset, word);
 }
 
-/// Writes numbers into four bytes each, one behind the other, the lowest byte of each first.
+/// Writes numbers into four bytes each, one after the other, the lowest byte of each first.
 pub(crate) fn write_words(
     memory: &mut Mem,
     open_slots: &OpenSlots,

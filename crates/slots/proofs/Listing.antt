@@ -19,7 +19,7 @@ full_from-skip slots first n m size none = rw (size, none) refl
 pub full_from-take : (slots : Slots) (first n m : ℕ) → n ≡ suc m → is_full slots first ≡ true → full_from slots first n ≡ first ∷ full_from slots (first + 1) m
 full_from-take slots first n m size full = rw (size, full) refl
 
--- behind a slot in the list come the full ones behind it
+-- after a slot in the list come the full ones that follow it
 pub next_after-full_from : (n : ℕ) (slots : Slots) (first at end : ℕ) → end ≡ first + n → first ≤ at → at < end → is_full slots at ≡ true → next_after (full_from slots first n) at ≡ first_of (full_from slots (at + 1) (end - (at + 1)))
 next_after-full_from zero slots first at end whole low high full = absurd (omega arith)
 next_after-full_from (suc n) slots first at end whole low high full =
@@ -39,7 +39,7 @@ next_after-full_from (suc n) slots first at end whole low high full =
           ] refl
     ]
 
--- a full slot stands in the table
+-- a full slot is in the table
 pub full-inside : (records : List (Option Entry)) (slot : ℕ) → is_full (table_slots records) slot ≡ true → slot < length records
 full-inside records slot full = elim (cases_lt slot (length records)) [
   | inl inside ↦ inside
@@ -85,7 +85,7 @@ times-within (suc n) slots first at low high =
           ] refl
     ]
 
--- nor is one behind the last
+-- nor is one after the last
 times-behind : (n : ℕ) (slots : Slots) (first at : ℕ) → first + n ≤ at → times_in (full_from slots first n) at ≡ 0
 times-behind zero slots first at high = refl
 times-behind (suc n) slots first at high =

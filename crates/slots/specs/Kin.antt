@@ -1,4 +1,4 @@
--- Which capabilities may stand where, so that those to one object stand side by side in the order of derivation.
+-- Which capabilities may be in which slots, so that those to one object are side by side in the order of derivation.
 -- seL4 Reference Manual, "Capability Derivation Tree".
 use Rattle.std.specs.Prelude.{ℕ, ◌≡◌, ◌≢◌, ◌⊎◌, false, Option, Some, None}
 use Rattle.model.specs.Capabilities.CapabilityKinds.{object_of}

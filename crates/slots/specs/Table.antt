@@ -3,7 +3,7 @@ use Rattle.std.specs.Prelude.{ℕ, zero, suc, ◌≡◌, ◌+◌, ◌*◌, ◌^�
 use Rattle.model.specs.Capabilities.Slots.{Slots, IsDerivation, is_full}
 use Rattle.model.specs.declared.slot_entries.Entry.{Entry}
 
--- the slots of a table; nothing is open behind its end
+-- the slots of a table; nothing is open after its end
 abbrev pub table_slots : List (Option Entry) → Slots
 table_slots records slot = slice_index_or records slot None
 

@@ -1,5 +1,5 @@
 //! Slots in preorder: the parent of each is the last one before it that is less deep. Laws on lists of rows, each a slot and its depth,
-//! and on links that lead through them. Each law stands as the contract of a function that does nothing.
+//! and on links that lead through them. Each law is the contract of a function that does nothing.
 
 mod change_laws;
 mod row_laws;

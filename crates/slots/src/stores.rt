@@ -19,7 +19,7 @@ use crate::{SlotMap, is_handler_of, object_of};
 use model::{Cap, Slot};
 use pmem::Mem;
 
-/// Slots that can be changed, beside the memory of the machine. Slot `s` stands for the 16 bytes from
+/// Slots that can be changed, beside the memory of the machine. Slot `s` is the 16 bytes from
 /// `16 * s` on: while it is open, what these bytes are is the store's own affair.
 pub trait SlotStore: SlotMap {
     // The bytes of the machine.
@@ -32,7 +32,7 @@ pub trait SlotStore: SlotMap {
     fn mem(&self) -> &Mem
         ensures { result.now ≡ memory self.now };
 
-    /// How many slots there are: one for each 16 bytes of memory. No slot behind them is open.
+    /// How many slots there are: one for each 16 bytes of memory. No slot after them is open.
     fn count(&self) -> u32
         ensures value { 16 * result ≡ length (memory self.now) }
         ensures most { result ≤ 2 ^ 20 }
@@ -48,7 +48,7 @@ pub trait SlotStore: SlotMap {
         ensures value { result ≡ depth_of (Self.slots self.now) slot }
         ensures derivation { IsDerivation (Self.slots self.now) };
 
-    /// The full slot behind `previous` in the store's own order, or the first one of all.
+    /// The full slot after `previous` in the store's own order, or the first one of all.
     fn next_full(&self, previous: Option<Slot>) -> Option<Slot>
         requires { ForSome previous (IsFull (Self.slots self.now)) }
         ensures next { result ≡ next_in (order self.now) previous }
@@ -78,7 +78,7 @@ pub trait SlotStore: SlotMap {
         false
     }
 
-    /// The descendant of a root behind `previous` in the store's own order, or the first one: among all
+    /// The descendant of a root after `previous` in the store's own order, or the first one: among all
     /// full slots, where the store has no shorter way.
     fn next_below(&self, root: Slot, previous: Option<Slot>) -> Option<Slot>
         requires full { ForSome previous (IsFull (Self.slots self.now)) }
@@ -165,8 +165,8 @@ pub trait SlotStore: SlotMap {
         Some(parent)
     }
 
-    /// The slot behind `previous` in the store's own order that names the object at the offset of a page, or the first one:
-    /// among all full slots, where the store has no shorter way.
+    /// The slot after `previous` in the store's own order that names the object at the offset of a page, or the first
+    /// one: among all full slots, where the store has no shorter way.
     fn next_naming(&self, object: u32, previous: Option<Slot>) -> Option<Slot>
         requires page { IsPlace object 12 }
         requires full { ForSome previous (IsFull (Self.slots self.now)) }
@@ -272,7 +272,7 @@ pub trait SlotStore: SlotMap {
         ensures bytes { memory self.new ≡ written (memory self.old) offset (word_bytes word) }
         ensures order { order self.new ≡ order self.old };
 
-    /// Writes numbers into four bytes each, one behind the other, the lowest byte of each first, where no slot is
+    /// Writes numbers into four bytes each, one after the other, the lowest byte of each first, where no slot is
     /// open.
     fn write_words(&mut self, offset: u32, words: &[u32])
         requires within { offset + 4 * length words.now ≤ length (memory self.old) }

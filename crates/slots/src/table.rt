@@ -90,7 +90,7 @@ fn first_full(records: &[Option<Entry>], first: u32) -> Option<Slot>
     None
 }
 
-/// The full slot behind `previous`, or the first one.
+/// The full slot after `previous`, or the first one.
 pub(crate) fn next_full(records: &[Option<Entry>], previous: Option<Slot>) -> Option<Slot>
     requires few { length records.now ≤ 2 ^ 20 }
     requires full { ForSome previous (IsFull (table_slots records.now)) }

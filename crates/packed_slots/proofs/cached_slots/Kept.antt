@@ -1,4 +1,4 @@
--- What is kept is the leaf of a mapping: at first, once a leaf more is kept, and once a mapping goes; and it stands in memory.
+-- What is kept is the leaf of a mapping: at first, once a leaf more is kept, and once a mapping goes; and it lies in memory.
 use Rattle.std.proofs.Common.{ℕ, ◌≡◌, ◌∙◌, ◌<◌, ◌^◌, inl, inr, true, false, Option, None, List, replicate, sym, ap, subst}
 use Rattle.std.proofs.Math.Logic.{∥∥₁_elim, ∥∥₁_map}
 use Rattle.std.specs.Coded.{coded_option, coded_ℕ}
@@ -20,7 +20,7 @@ pub none-beside : (slots : Slots) (gone : ℕ) (entries : List (Option TlbEntry)
 none-beside slots gone entries empty =
     subst (λ (e : List (Option TlbEntry)). AreMappedBeside slots gone e) (sym empty) (record { each = λ place kept is. nothing-kept 64 place kept is })
 
--- no mapping stands in a slot whose capability maps no frame
+-- no mapping is in a slot whose capability maps no frame
 pub all-beside : (slots : Slots) (gone : ℕ) (capability : Cap) (entries : List (Option TlbEntry)) → capability ≡ capability_at slots gone
     → is_some (frame_mapping capability) ≡ false → AreMapped slots entries → AreMappedBeside slots gone entries
 all-beside slots gone capability entries held none mapped = record {

@@ -15,7 +15,7 @@ use Rattle.packed_slots.specs.declared.cached_slots.caches.TlbEntry.{TlbEntry}
 mapped-full : (slots : Slots) (root page leaf : ℕ) (m : IsMapped slots root page leaf) → IsFull slots m.maps.slot
 mapped-full slots root page leaf m = ap (λ (c : Cap). not (is_empty c)) m.maps.capability
 
--- the same capability stands in this slot
+-- the same capability is in this slot
 mapped-in : (old new : Slots) (root page leaf slot : ℕ) (m : IsMapped old root page leaf) → capability_at new slot ≡ capability_at old m.maps.slot → IsMapped new root page leaf
 mapped-in old new root page leaf slot m same = record {
   frame = m.frame;
@@ -26,7 +26,7 @@ mapped-in old new root page leaf slot m same = record {
 
 -- ---- all that are kept
 
--- each capability stands in some slot
+-- each capability is in some slot
 are-mapped : (old new : Slots) (entries : List (Option TlbEntry)) → ((s : ℕ) → IsFull old s → (t : ℕ) × (capability_at new t ≡ capability_at old s))
     → AreMapped old entries → AreMapped new entries
 are-mapped old new entries stands mapped = record {

@@ -65,7 +65,7 @@ fn place_in(memory: &Mem, leaf: Pte, address: u32, access: Access) -> Option<u32
 /// What leads from a leaf of the first page of memory to 0, with a wrap.
 const BEFORE_MEMORY: u32 = 0xE000_0000;
 
-/// Where a number in an entry stands: above ten bits.
+/// Where a number in an entry is: above ten bits.
 const PAGE_NUMBER: u32 = 0x400;
 
 /// The place that an address has in the page that a leaf names, if it is in memory and the leaf permits the access.
@@ -136,7 +136,7 @@ impl Tlb {
     }
 
     /// Keeps the leaf of the page of an address, if it has one under the root table at the offset `root`. Asks that
-    /// what is kept stands in memory.
+    /// what is kept lies in memory.
     pub fn keep(&mut self, memory: &Mem, root: u32, address: u32)
         requires { AreAmong (leaf_of memory.now) self.old }
         ensures kept { self.new ≡ with_leaf self.old root (address / 2 ^ 12) (leaf_of memory.now root (address / 2 ^ 12)) }
@@ -156,7 +156,7 @@ impl Tlb {
     }
 
     /// The offset in memory of the byte that a virtual address names for an access, under the root table at the offset
-    /// `root`, as [`sv32::walk`] has it. Asks that what is kept stands in memory.
+    /// `root`, as [`sv32::walk`] has it. Asks that what is kept lies in memory.
     pub fn walk(
         &self,
         memory: &Mem,
@@ -173,7 +173,7 @@ impl Tlb {
         }
     }
     /// The place that an address names for an access, where the leaf of its page is kept and gives one. Else there may be
-    /// one or not. Asks that what is kept stands in memory.
+    /// one or not. Asks that what is kept lies in memory.
     pub fn kept_place(&self, memory: &Mem, root: u32, address: u32, access: Access) -> Option<u32>
         requires { AreAmong (leaf_of memory.now) self.now }
         ensures { (place : ℕ) → result ≡ Some place → walk memory.now root address access ≡ Some place }

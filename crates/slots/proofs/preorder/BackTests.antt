@@ -21,7 +21,7 @@ lt-step k d apart = elim (cases_lt k d) [
   | inr least ↦ le-ltb k (suc d) (omega (arith, least, apart)) ∙ sym (le-ltb k d least)
 ]
 
--- a slot stands on a path at its own depth
+-- a slot is on a path at its own depth
 on-depth : (parents : ℕ → Option ℕ) (depths : ℕ → ℕ) (p : Path) (root d : ℕ) → ((i : ℕ) → i < d → Stands parents p i)
     → ((i x : ℕ) → i < d → p i ≡ Some x → depths x ≡ i) → on_path p root d ≡ (nat_lt (depths root) d && is_one root (p (depths root)))
 on-depth parents depths p root zero live levels = sym (ap (λ b. b && is_one root (p (depths root))) (le-ltb (depths root) 0 (omega arith)))

@@ -46,7 +46,7 @@ slots-taken_out (r ∷ rest) gone once =
           ∙ sym (ap (λ b. cond (not b) (r.slot ∷ few) few) other.0)
     ]
 
--- a slot right behind another stands once more, if the other stands there
+-- a slot right after another occurs once more, if the other occurs there
 pub times-put_after : (xs : List ℕ) (before slot s : ℕ) → s ≢ slot → times_in (put_after before slot xs) s ≡ times_in xs s
 times-put_after [] before slot s apart = refl
 times-put_after (x ∷ rest) before slot s apart =
@@ -180,7 +180,7 @@ renamed-parents (r ∷ rest) p q from to s none apart paths =
     above-renamed p q zero paths = refl
     above-renamed p q (suc d) paths = paths d
 
--- renaming is putting the new slot behind the old one, and taking that out
+-- renaming is putting the new slot after the old one, and taking that out
 renamed-absent : (rows : List Row) (from to : ℕ) → rows_of rows from ≡ 0 → slots_of (renamed from to rows) ≡ slots_of rows
 renamed-absent [] from to none = refl
 renamed-absent (r ∷ rest) from to none =

@@ -100,7 +100,7 @@ low-deep (r ∷ rest) next previous before depths d (suc n) chain deep once few 
           (subst (λ (f : ℕ → ℕ). AreDeep f (r ∷ rest)) (sym is) deep)
     ]
 
--- a slot beside the rows keeps its depth when the run behind one of them is lowered
+-- a slot beside the rows keeps its depth when the run after one of them is lowered
 pub low-beside : (rows : List Row) (next previous : Links) (before : Option ℕ) (depths : ℕ → ℕ) (d n gone x : ℕ) → IsChain next previous before (slots_of rows)
     → 0 < rows_of rows gone → rows_of rows x ≡ 0 → lowered_depths next d n (next gone) depths x ≡ depths x
 low-beside [] next previous before depths d n gone x chain there none = absurd (omega (arith, there))

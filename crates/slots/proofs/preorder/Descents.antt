@@ -1,4 +1,4 @@
--- The descendants of a slot are the run of rows behind its own.
+-- The descendants of a slot are the run of rows after its own.
 use Rattle.std.proofs.Common.{ℕ, zero, suc, ◌≡◌, ◌≢◌, ◌∙◌, ◌==◌, ◌||◌, ◌+◌, ◌<◌, ◌≤◌, inl, inr, Bool, true, false, if◌then◌else◌, cond, filter, Option, Some, None, List, [], ◌∷◌, refl, sym, ap, arith}
 use Rattle.std.proofs.lemmas.Bool.Decides.{eqb_tells}
 use Rattle.std.proofs.lemmas.Bool.{cases_lt, eq-eqb, ne_eqb, lt-ltb, le-ltb}
@@ -10,7 +10,7 @@ use Rattle.slots.specs.preorder.Preorder.{AreDeep, Path, Rises, Row, above, desc
 use Rattle.slots.proofs.preorder.Paths.{above-same, from-here, from-rest, put-here, put-other, rows-here, rows-rest}
 use Rattle.slots.proofs.preorder.RowDepths.{depth-rows}
 
--- ---- the slots on a path are the ancestors of the row behind it
+-- ---- the slots on a path are the ancestors of the row after it
 
 -- the slot on a path at a depth has its own parent there
 pub record Stands (parents : ℕ → Option ℕ) (p : Path) (i : ℕ) : Type 0 where
@@ -18,7 +18,7 @@ pub record Stands (parents : ℕ → Option ℕ) (p : Path) (i : ℕ) : Type 0 w
   pub is : p i ≡ Some slot
   pub up : parents slot ≡ above p i
 
--- whether a slot stands on a path below a depth
+-- whether a slot is on a path below a depth
 abbrev pub on_path : Path → ℕ → ℕ → Bool
 on_path p root zero = false
 on_path p root (suc d) = elim (p d) [ Some s ↦ s == root || on_path p root d | None ↦ false ]
@@ -35,7 +35,7 @@ path-ancestors parents p root (suc d) s live up =
     ∙ ap (λ b. at.slot == root || b) (path-ancestors parents p root d at.slot (λ i under. live i (omega (arith, under))) at.up)
     ∙ sym (on-some p root d at.slot at.is)
 
--- a slot that stands nowhere on a path below a depth
+-- a slot that is nowhere on a path below a depth
 off-path : (p : Path) (root d : ℕ) → ((i : ℕ) → i < d → p i ≢ Some root) → on_path p root d ≡ false
 off-path p root zero apart = refl
 off-path p root (suc d) apart =
@@ -47,7 +47,7 @@ off-path p root (suc d) apart =
           ∙ off-path p root d (λ i under. apart i (omega (arith, under)))
     ] refl
 
--- and one that stands there
+-- and one that is there
 at-path : (p : Path) (root k d : ℕ) (parents : ℕ → Option ℕ) → k < d → p k ≡ Some root → ((i : ℕ) → i < d → Stands parents p i) → on_path p root d ≡ true
 at-path p root k zero parents less is live = absurd (omega (arith, less))
 at-path p root k (suc d) parents less is live = elim (eqb_tells k d) [
@@ -143,12 +143,12 @@ module _ (all : List Row) (depths : ℕ → ℕ) (root : ℕ) (rises : Rises 0 a
   take : (r : Row) (rest : List Row) → descends_by (parents_of all) root r.slot ≡ true → found (r ∷ rest) ≡ r.slot ∷ found rest
   take r rest is = ap (λ b. cond b (r.slot ∷ found rest) (found rest)) is
 
-  -- a row that the root does not stand above
+  -- a row that the root is not above
   passed : (r : Row) (rest : List Row) (bound : ℕ) (p : Path) → IsLeft all depths bound p (r ∷ rest) → ((i : ℕ) → i < r.depth → p i ≢ Some root)
       → found (r ∷ rest) ≡ found rest
   passed r rest bound p left apart = skip r rest (own-test all depths bound p r rest root rises deep shallow left ∙ off-path p root r.depth apart)
 
-  -- behind the run there are none
+  -- after the run there are none
   none-left : (rows : List Row) (bound : ℕ) (p : Path) → IsLeft all depths bound p rows → rows_of rows root ≡ 0
       → ((i : ℕ) → i < bound → p i ≢ Some root) → found rows ≡ []
   none-left [] bound p left none apart = refl

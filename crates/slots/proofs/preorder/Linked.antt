@@ -106,7 +106,7 @@ not-previous xs next previous before x y chain is none off same = elim (previous
 some-apart : (xs : List ℕ) (before : Option ℕ) (z : ℕ) → ((b : ℕ) → before ≡ Some b → times_in xs b ≡ 0) → 0 < times_in xs z → before ≢ Some z
 some-apart xs before z out is same = absurd (omega (arith, out z same, is))
 
--- the element that goes stands first
+-- the element that goes is the first
 gone-first : (rest : List ℕ) (next previous : Links) (before : Option ℕ) (gone : ℕ) → IsChain next previous before (gone ∷ rest)
     → ((y : ℕ) → times_in (gone ∷ rest) y ≤ 1) → ((b : ℕ) → before ≡ Some b → times_in (gone ∷ rest) b ≡ 0)
     → IsChain (put_at next (previous gone) (next gone)) (put_at previous (next gone) (previous gone)) before rest
@@ -173,7 +173,7 @@ chain-without (y ∷ rest) next previous before gone chain once out is =
           )
     ]
 
--- ---- a slot is put right behind another
+-- ---- a slot is put right after another
 
 pub chain-put_after : (xs : List ℕ) (next previous : Links) (before : Option ℕ) (at slot : ℕ) → IsChain next previous before xs
     → ((y : ℕ) → times_in xs y ≤ 1) → before ≢ Some slot → ((b : ℕ) → before ≡ Some b → times_in xs b ≡ 0) → times_in xs slot ≡ 0 → 0 < times_in xs at

@@ -47,7 +47,7 @@ same-paths (r ∷ rest) bound k p q s le same rises = elim (eqb_tells r.slot s) 
       ∙ sym (from-rest q r rest s other.1)
 ]
 
--- ---- a new row right behind its parent's
+-- ---- a new row right after its parent's
 
 behind-here : (parent slot : ℕ) (r : Row) (rest : List Row) → r.slot ≡ parent → put_behind parent slot (r ∷ rest) ≡ r ∷ (record { slot = slot; depth = r.depth + 1 }) ∷ rest
 behind-here parent slot r rest here =

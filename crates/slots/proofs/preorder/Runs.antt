@@ -1,4 +1,4 @@
--- What changes of a list leave of its runs, and what the neighbours of a slot tell.
+-- What changes of a list leave of its runs, and what the neighbours of a slot show.
 use Rattle.std.proofs.Common.{ℕ, ◌≡◌, ◌≢◌, ◌∙◌, ◌==◌, ◌+◌, ◌<◌, ◌≤◌, ◌⊎◌, inl, inr, if◌then◌else◌, not, cond, Option, Some, None, List, [], ◌∷◌, true, false, refl, sym, ap, subst, arith}
 use Rattle.std.proofs.lemmas.Bool.Decides.{eqb_tells, nat_tests}
 use Rattle.std.proofs.lemmas.Bool.{cases_lt, eq-eqb, le-ltb, lt-ltb, ne_eqb}
@@ -38,7 +38,7 @@ runs-same keys keys' (x ∷ rest) same runs =
       runs-same keys keys' rest later runs.1,
     )
 
--- ---- a slot is put right behind another, or in front
+-- ---- a slot is put right after another, or in front
 
 first-put : (xs : List ℕ) (at slot : ℕ) → first_of (put_after at slot xs) ≡ first_of xs
 first-put [] at slot = refl
@@ -51,7 +51,7 @@ put-here x at slot rest here = ap (λ b. if b then x ∷ slot ∷ rest else x �
 put-later : (x at slot : ℕ) (rest : List ℕ) → x ≢ at → put_after at slot (x ∷ rest) ≡ x ∷ put_after at slot rest
 put-later x at slot rest other = ap (λ b. if b then x ∷ slot ∷ rest else x ∷ put_after at slot rest) (ne_eqb x at other)
 
--- what stands in the list then stood there, or it is the new slot and the other stands there
+-- what is in the list then was there, or it is the new slot and the other is there
 in-put : (xs : List ℕ) (at slot s : ℕ) → 0 < times_in (put_after at slot xs) s → (0 < times_in xs s) ⊎ ((s ≡ slot) × (0 < times_in xs at))
 in-put [] at slot s there = inl there
 in-put (x ∷ rest) at slot s there = elim (eqb_tells x s) [
@@ -173,7 +173,7 @@ runs-without keys gone (x ∷ rest) runs = elim (eqb_tells x gone) [
       )
 ]
 
--- ---- what neighbours tell
+-- ---- what neighbours show
 
 -- the one before a slot has its key, if the one before the list has it
 before-has : {K : Type 0} (keys : Keys K) (key : K) (xs : List ℕ) (next previous : Links) (before : Option ℕ) (s : ℕ) → IsChain next previous before xs
@@ -257,7 +257,7 @@ previous-another xs next previous s o chain once there is =
 
 -- ---- a run that reaches beyond the descendants of a root
 
--- what stands in a run stands in the rows
+-- what is in a run is in the rows
 in-run : (rows : List Row) (d s : ℕ) → 0 < times_in (slots_of (run d rows)) s → 0 < times_in (slots_of rows) s
 in-run [] d s there = there
 in-run (r ∷ rest) d s there = elim (cases_lt d r.depth) [
@@ -295,7 +295,7 @@ root-has keys key (r ∷ rest) root s runs once there is =
           (subst (λ l. 0 < times_in (slots_of l) s) (ap (λ b. if b then run r.depth rest else run_behind root rest) off.0) there) is
     ]
 
--- the first slot behind a run has the key that is in the run and behind it; the slot before the rows may have it too
+-- the first slot after a run has the key that is in the run and after it; the slot before the rows may have it too
 past-has : {K : Type 0} (keys : Keys K) (key : K) (rows : List Row) (d other : ℕ) → AreRuns keys (slots_of rows) → IsAtOnce keys key (slots_of rows)
     → 0 < times_in (slots_of rows) other → times_in (slots_of (run d rows)) other ≡ 0 → keys other ≡ Some key
     → HasKey keys key (first_of (slots_of (past d rows)))
@@ -312,7 +312,7 @@ past-has keys key (r ∷ rest) d other runs once there out has =
       | inr end ↦ subst (λ l. HasKey keys key (first_of (slots_of l))) (sym (ap (λ b. if b then past d rest else r ∷ rest) (le-ltb d r.depth end))) own
     ]
 
--- in a run, and behind it
+-- in a run, and after it
 run-past : {K : Type 0} (keys : Keys K) (key : K) (rows : List Row) (d s other : ℕ) → AreRuns keys (slots_of rows) → 0 < times_in (slots_of (run d rows)) s → keys s ≡ Some key
     → 0 < times_in (slots_of rows) other → times_in (slots_of (run d rows)) other ≡ 0 → keys other ≡ Some key
     → HasKey keys key (first_of (slots_of (past d rows)))
@@ -363,7 +363,7 @@ runs-end (r ∷ rest) keys key root s other runs inside is there out has = elim 
 
 -- ---- the end of a run
 
--- nothing is in a run: then what stands behind it is all
+-- nothing is in a run: then what follows it is all
 none-runs : (rows : List Row) (d : ℕ) → first_of (slots_of (run d rows)) ≡ None → first_of (slots_of rows) ≡ first_of (slots_of (past d rows))
 none-runs [] d none = refl
 none-runs (r ∷ rest) d none = elim (cases_lt d r.depth) [
@@ -401,7 +401,7 @@ run-last (r ∷ rest) d s there none = elim (cases_lt d r.depth) [
   | inr end ↦ absurd (omega (arith, there, ap (λ b. times_in (slots_of (if b then r ∷ run d rest else [])) s) (le-ltb d r.depth end)))
 ]
 
--- behind the last descendant of a root stands the first row behind the root's run
+-- after the last descendant of a root comes the first row after the root's run
 pub run-ends : (rows : List Row) (root s : ℕ) → ((y : ℕ) → rows_of rows y ≤ 1) → 0 < times_in (slots_of (run_behind root rows)) s
     → next_after (slots_of (run_behind root rows)) s ≡ None → next_after (slots_of rows) s ≡ first_of (slots_of (behind_run root rows))
 run-ends [] root s once there none = absurd (omega (arith, there))

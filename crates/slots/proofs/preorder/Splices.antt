@@ -16,7 +16,7 @@ pub adopted-other : (x : ℕ) (u : Option ℕ) (was : Option ℕ) → was ≢ So
 adopted-other x u None apart = refl
 adopted-other x u (Some p) apart = ap (λ b. if b then u else Some p) (ne_eqb p x (λ same. absurd (apart (ap Some same))))
 
--- ---- a slot that stands neither on the path nor in the rows is no parent
+-- ---- a slot that is neither on the path nor in the rows is no parent
 
 some-apart : (r x : ℕ) → r ≢ x → Some r ≢ Some x
 some-apart r x apart same = apart (let e : r ≡ x = cc in e)

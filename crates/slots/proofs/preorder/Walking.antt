@@ -108,7 +108,7 @@ behind-none (r ∷ rest) root none = elim (eqb_tells r.slot root) [
 
 -- ---- back to the parent
 
--- a path tells what a walk back finds
+-- a path says what a walk back finds
 abbrev pub TellsBack : Links → (ℕ → ℕ) → Path → ℕ → ℕ → Option ℕ → Type 0
 TellsBack previous depths p bound seen before = (n e : ℕ) → seen ≤ n → e ≤ bound → above p e ≡ back_above previous depths n e before
 

@@ -8,7 +8,7 @@ use Rattle.slots.specs.preorder.Preorder.{AreDeep, Rises, Row, rows_of, slots_of
 abbrev pub Links : Type 0
 Links = ℕ → Option ℕ
 
--- the slots stand behind `before`, one behind another
+-- the slots are after `before`, one after another
 abbrev pub IsChain : Links → Links → Option ℕ → List ℕ → Type 0
 IsChain next previous before [] = Unit
 IsChain next previous before (slot ∷ rest) = (previous slot ≡ before) × (next slot ≡ first_of rest) × IsChain next previous (Some slot) rest
@@ -18,7 +18,7 @@ abbrev pub put_at : Links → Option ℕ → Option ℕ → Links
 put_at links None value = links
 put_at links (Some place) value = put links place value
 
--- a slot right behind another
+-- a slot right after another
 abbrev pub put_after : ℕ → ℕ → List ℕ → List ℕ
 put_after before slot [] = []
 put_after before slot (s ∷ rest) = if s == before then s ∷ slot ∷ rest else s ∷ put_after before slot rest

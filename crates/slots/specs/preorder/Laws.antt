@@ -12,7 +12,7 @@ use Rattle.slots.specs.preorder.Runs.{AreRuns, HasKey, Keys, MayFollow, NoneHas,
 
 -- ---- parents
 
--- a row right behind its parent's has that parent, and the others keep theirs
+-- a row right after its parent's has that parent, and the others keep theirs
 pub record PutBehindHasParent : Type 0 where
   pub own : (rows : List Row) (parent slot : ℕ) → 0 < rows_of rows parent → rows_of rows slot ≡ 0 → parents_of (put_behind parent slot rows) slot ≡ Some parent
   pub others : (rows : List Row) (parent slot s : ℕ) → Rises 0 rows → s ≢ slot → parents_of (put_behind parent slot rows) s ≡ parents_of rows s
@@ -41,7 +41,7 @@ abbrev pub RowsHaveTheirDepths : Type 0
 RowsHaveTheirDepths = (rows : List Row) (depths : ℕ → ℕ) (s : ℕ) → Rises 0 rows → AreDeep depths rows → 0 < rows_of rows s → depths s ≤ 256
     → depth_within 256 (parents_of rows) s ≡ depths s
 
--- the descendants of a slot are the run behind its row
+-- the descendants of a slot are the run after its row
 abbrev pub DescendantsAreTheRunBehind : Type 0
 DescendantsAreTheRunBehind = (rows : List Row) (depths : ℕ → ℕ) (root : ℕ) → Rises 0 rows → AreDeep depths rows → ((s : ℕ) → rows_of rows s ≤ 1)
     → ((s : ℕ) → 0 < rows_of rows s → depths s ≤ 256) → filter (descends_by (parents_of rows) root) (slots_of rows) ≡ slots_of (run_behind root rows)
@@ -61,14 +61,14 @@ pub record ChangesOrderSlots : Type 0 where
   pub taken : (rows : List Row) (gone : ℕ) → rows_of rows gone ≤ 1 → slots_of (taken_out gone rows) ≡ without gone (slots_of rows)
   pub moved : (rows : List Row) (from to : ℕ) → rows_of rows from ≤ 1 → from ≢ to → slots_of (renamed from to rows) ≡ without from (put_after from to (slots_of rows))
 
--- a slot that is put behind one of a list stands in it once more, and the others as often as before
+-- a slot that is put after one of a list occurs in it once more, and the others as often as before
 pub record PutAfterAddsOne : Type 0 where
   pub own : (slots : List ℕ) (before slot : ℕ) → 0 < times_in slots before → times_in (put_after before slot slots) slot ≡ times_in slots slot + 1
   pub others : (slots : List ℕ) (before slot s : ℕ) → s ≢ slot → times_in (put_after before slot slots) s ≡ times_in slots s
 
 -- ---- depths
 
--- the new depths are those of the rows behind each change, if they are the old ones but for what changed
+-- the new depths are those of the rows after each change, if they are the old ones but for what changed
 pub record ChangesKeepDepths : Type 0 where
   pub put : (rows : List Row) (old new : ℕ → ℕ) (parent slot : ℕ) → AreDeep old rows → ((s : ℕ) → 0 < rows_of rows s → new s ≡ old s)
       → new slot ≡ old parent + 1 → AreDeep new (put_behind parent slot rows)
@@ -77,7 +77,7 @@ pub record ChangesKeepDepths : Type 0 where
   pub moved : (rows : List Row) (old new : ℕ → ℕ) (from to : ℕ) → AreDeep old rows → ((s : ℕ) → 0 < rows_of rows s → s ≢ from → new s ≡ old s)
       → new to ≡ old from → AreDeep new (renamed from to rows)
 
--- the run behind a row is lowered along the links; what has no row keeps its depth
+-- the run after a row is lowered along the links; what has no row keeps its depth
 pub record LoweringKeepsDepths : Type 0 where
   pub taken : (rows : List Row) (next previous : Links) (depths : ℕ → ℕ) (gone n : ℕ) → IsLinked next previous depths rows → 0 < rows_of rows gone
       → length rows ≤ n → AreDeep (lowered_depths next (depths gone) n (next gone) depths) (taken_out gone rows)
@@ -112,7 +112,7 @@ LinksLeadThroughRows = (rows : List Row) (next previous : Links) (depths : ℕ �
 abbrev pub RowsAreFew : Type 0
 RowsAreFew = (rows : List Row) (n : ℕ) → ((s : ℕ) → rows_of rows s ≤ 1) → ((s : ℕ) → 0 < rows_of rows s → s < n) → length rows ≤ n
 
--- the slot behind another is the linked one
+-- the slot after another is the linked one
 abbrev pub NextIsLinked : Type 0
 NextIsLinked = (rows : List Row) (next previous : Links) (depths : ℕ → ℕ) (s : ℕ) → IsLinked next previous depths rows → 0 < rows_of rows s
     → next_after (slots_of rows) s ≡ next s
@@ -160,7 +160,7 @@ pub record NeighboursTell (K : Type 0) : Type 0 where
   pub previous : (rows : List Row) (next previous : Links) (depths : ℕ → ℕ) (s other : ℕ) → IsLinked next previous depths rows → 0 < rows_of rows s
       → previous s ≡ Some other → (0 < rows_of rows other) × (other ≢ s)
 
--- a key that is among the descendants of a root, and at a slot beside them too, is at the root or at the first slot behind them
+-- a key that is among the descendants of a root, and at a slot beside them too, is at the root or at the first slot after them
 abbrev pub RunsEndBeside : Type 0 → Type 0
 RunsEndBeside K = (rows : List Row) (keys : Keys K) (key : K) (root s other : ℕ) → AreRuns keys (slots_of rows)
     → 0 < times_in (slots_of (run_behind root rows)) s → keys s ≡ Some key

@@ -25,7 +25,7 @@ above path (suc d) = path d
 abbrev pub no_path : Path
 no_path i = None
 
--- the parent of a slot among the rows behind a path
+-- the parent of a slot among the rows after a path
 abbrev pub parent_from : Path → List Row → ℕ → Option ℕ
 parent_from path [] s = None
 parent_from path (r ∷ rest) s =
@@ -53,7 +53,7 @@ AreDeep depths (r ∷ rest) = (depths r.slot ≡ r.depth) × AreDeep depths rest
 abbrev pub first_row : ℕ → Row
 first_row slot = record { slot = slot; depth = 0 }
 
--- a new row right behind its parent's, one deeper
+-- a new row right after its parent's, one deeper
 abbrev pub put_behind : ℕ → ℕ → List Row → List Row
 put_behind parent slot [] = []
 put_behind parent slot (r ∷ rest) =
@@ -64,12 +64,12 @@ abbrev pub run : ℕ → List Row → List Row
 run depth [] = []
 run depth (r ∷ rest) = if nat_lt depth r.depth then r ∷ run depth rest else []
 
--- the run of a slot's descendants, right behind its row
+-- the run of a slot's descendants, right after its row
 abbrev pub run_behind : ℕ → List Row → List Row
 run_behind root [] = []
 run_behind root (r ∷ rest) = if r.slot == root then run r.depth rest else run_behind root rest
 
--- the run deeper than a depth, each row one less deep, and the rows behind it
+-- the run deeper than a depth, each row one less deep, and the rows after it
 abbrev pub lowered : ℕ → List Row → List Row
 lowered depth [] = []
 lowered depth (r ∷ rest) =

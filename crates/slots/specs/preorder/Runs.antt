@@ -1,5 +1,5 @@
--- Slots with one key stand side by side in a list: a run for each key.
--- seL4 Reference Manual, "Capability Derivation Tree": what stands next to a capability tells there too whether it is an object's last.
+-- Slots with one key are side by side in a list: a run for each key.
+-- seL4 Reference Manual, "Capability Derivation Tree": what is next to a capability shows there too whether it is an object's last.
 use Rattle.std.specs.Prelude.{ℕ, ◌≡◌, ◌≢◌, ◌==◌, ◌<◌, ◌⊎◌, nat_lt, if◌then◌else◌, Option, Some, None, List, [], ◌∷◌}
 use Rattle.model.specs.Capabilities.Orders.{first_of}
 use Rattle.model.specs.Shared.Lists.{times_in}
@@ -22,16 +22,16 @@ NoneHas keys key slots = (s : ℕ) → 0 < times_in slots s → keys s ≢ Some 
 abbrev pub IsAtOnce : {K : Type 0} → Keys K → K → List ℕ → Type 0
 IsAtOnce keys key slots = HasKey keys key (first_of slots) ⊎ NoneHas keys key slots
 
--- the key of each slot goes on right behind it, or not at all
+-- the key of each slot goes on right after it, or not at all
 abbrev pub AreRuns : {K : Type 0} → Keys K → List ℕ → Type 0
 AreRuns keys [] = Unit
 AreRuns {K} keys (slot ∷ rest) = ((key : K) → keys slot ≡ Some key → IsAtOnce keys key rest) × AreRuns keys rest
 
--- a slot may be put right behind another: it has the other's key, or the other has none and no slot has the new one's
+-- a slot may be put right after another: it has the other's key, or the other has none and no slot has the new one's
 abbrev pub MayFollow : {K : Type 0} → Keys K → ℕ → ℕ → List ℕ → Type 0
 MayFollow {K} keys at slot slots = (keys slot ≡ keys at) ⊎ ((keys at ≡ None) × ((key : K) → keys slot ≡ Some key → NoneHas keys key slots))
 
--- ---- what stands behind all that descends from a slot
+-- ---- what follows all that descends from a slot
 
 -- the rows from the first on that is not deeper than a depth
 abbrev pub past : ℕ → List Row → List Row

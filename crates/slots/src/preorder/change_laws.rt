@@ -12,12 +12,12 @@ pub fn changes_order_slots()
     ensures { ChangesOrderSlots }
 {}
 
-/// A slot that is put behind another stands in the list once more.
+/// A slot that is put after another occurs in the list once more.
 pub fn put_after_adds_one()
     ensures { PutAfterAddsOne }
 {}
 
-/// What is linked stays a chain when a slot is put behind one of it.
+/// What is linked stays a chain when a slot is put after one of it.
 pub fn put_after_keeps_chain()
     ensures { PutAfterKeepsChain }
 {}
@@ -32,12 +32,12 @@ pub fn without_keeps_chain()
     ensures { WithoutKeepsChain }
 {}
 
-/// New depths are those of the rows behind each change, if they are the old ones but for what changed.
+/// New depths are those of the rows after each change, if they are the old ones but for what changed.
 pub fn changes_keep_depths()
     ensures { ChangesKeepDepths }
 {}
 
-/// The run behind a row is lowered along the links, and the depths are those of the rows without that row.
+/// The run after a row is lowered along the links, and the depths are those of the rows without that row.
 pub fn lowering_keeps_depths()
     ensures { LoweringKeepsDepths }
 {}

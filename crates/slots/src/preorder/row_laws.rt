@@ -2,7 +2,7 @@
 
 ghost use Rattle.slots.specs.preorder.Laws.{DescendantsAreTheRunBehind, FirstHasNone, NoRowNoParent, PutBehindHasParent, RenamedIsAdopted, RowsHaveTheirDepths, TakenOutIsAdopted};
 
-/// A row right behind its parent's has that parent, and the others keep theirs.
+/// A row right after its parent's has that parent, and the others keep theirs.
 pub fn a_row_behind_its_parent_has_it()
     ensures { PutBehindHasParent }
 {}
@@ -32,7 +32,7 @@ pub fn rows_have_their_depths()
     ensures { RowsHaveTheirDepths }
 {}
 
-/// The descendants of a slot are the run behind its row.
+/// The descendants of a slot are the run after its row.
 pub fn descendants_are_the_run_behind()
     ensures { DescendantsAreTheRunBehind }
 {}

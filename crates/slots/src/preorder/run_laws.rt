@@ -1,4 +1,4 @@
-//! Laws on runs: the slots of one key stand side by side.
+//! Laws on runs: the slots of one key are side by side.
 
 ghost use Rattle.std.specs.Prelude.{ℕ};
 ghost use Rattle.slots.specs.preorder.Laws.{ChangesKeepRuns, NeighboursTell, RunsEndBeside};
@@ -13,7 +13,7 @@ pub fn neighbours_tell()
     ensures { NeighboursTell ℕ }
 {}
 
-/// A key among the descendants of a root and beside them is at the root or at the first slot behind them.
+/// A key among the descendants of a root and beside them is at the root or at the first slot after them.
 pub fn runs_end_beside()
     ensures { RunsEndBeside ℕ }
 {}

@@ -12,7 +12,7 @@ pub fn rows_are_few()
     ensures { RowsAreFew }
 {}
 
-/// The slot behind another is the linked one.
+/// The slot after another is the linked one.
 pub fn next_is_linked()
     ensures { NextIsLinked }
 {}

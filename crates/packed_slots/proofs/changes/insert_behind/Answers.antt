@@ -1,4 +1,4 @@
--- The slot is linked behind its parent.
+-- The slot is linked after its parent.
 use Rattle.std.proofs.Common.{ℕ, ◌∙◌, ◌+◌, List, Some, sym, ap, subst, arith}
 use Rattle.model.specs.Capabilities.Slots.{empty_entry, inserted}
 use Rattle.packed_slots.specs.Packing.{IsChanged, Packed, head_of, packed_rows, packed_slots, packing, tail_of}

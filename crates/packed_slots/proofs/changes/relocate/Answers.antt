@@ -1,4 +1,4 @@
--- The new slot is linked behind the old one, which is taken out.
+-- The new slot is linked after the old one, which is taken out.
 use Rattle.std.proofs.Common.{◌∙◌, sym, ap, subst}
 use Rattle.model.specs.Capabilities.Slots.{empty_entry, relocated}
 use Rattle.packed_slots.specs.Packing.{IsChanged, Packed, packed_rows, packed_slots, packing}

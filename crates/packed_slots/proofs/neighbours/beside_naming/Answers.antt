@@ -1,4 +1,4 @@
--- The slot before, or the slot behind.
+-- The slot before, or the next slot.
 use Rattle.std.proofs.Common.{◌∙◌, sym, ap, subst}
 use Rattle.packed_slots.specs.Packing.{Packed, packed_slots, packing}
 use Rattle.packed_slots.specs.Sharing.{IsOther, if_naming}

@@ -1,4 +1,4 @@
--- By the slot before, and by the slot behind.
+-- By the slot before, and by the next slot.
 use Rattle.std.proofs.Common.{◌∙◌, Some, sym, ap}
 use Rattle.packed_slots.specs.Packing.{Packed, packing}
 use Rattle.packed_slots.specs.Sharing.{is_as_deep}

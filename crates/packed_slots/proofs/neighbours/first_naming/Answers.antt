@@ -1,4 +1,4 @@
--- A step back along the list leads to a slot that names the object too; before the last one none stands that does.
+-- A step back along the list leads to a slot that names the object too; before the last one there is none that does.
 use Rattle.std.proofs.Common.{◌∙◌, sym, ap}
 use Rattle.packed_slots.specs.Packing.{Packed, packed_slots, packing}
 use Rattle.packed_slots.specs.Sharing.{if_naming}

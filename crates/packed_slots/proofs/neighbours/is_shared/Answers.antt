@@ -1,4 +1,4 @@
--- The neighbours tell.
+-- The neighbours show it.
 use Rattle.std.proofs.Common.{◌∙◌, sym}
 use Rattle.packed_slots.specs.Packing.{Packed, packing}
 use Rattle.packed_slots.proofs.Sharing.{alone-so, shared-so}

@@ -1,4 +1,4 @@
--- The root tells, or the slot behind its descendants.
+-- The root shows it, or the slot after its descendants.
 use Rattle.std.proofs.Common.{◌∙◌, sym}
 use Rattle.packed_slots.specs.Packing.{Packed, packing}
 use Rattle.packed_slots.proofs.Edges.{beside-so, none-beside}

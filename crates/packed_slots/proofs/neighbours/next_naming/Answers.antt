@@ -1,4 +1,4 @@
--- The slot that is linked behind, if it names the object.
+-- The next slot in the links, if it names the object.
 use Rattle.std.proofs.Common.{◌∙◌, ap}
 use Rattle.packed_slots.specs.Packing.{Packed, packed_slots, packing}
 use Rattle.packed_slots.specs.Sharing.{if_naming}

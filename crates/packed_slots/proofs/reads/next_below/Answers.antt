@@ -1,4 +1,4 @@
--- The slot that is linked behind, if it is deeper.
+-- The next slot in the links, if it is deeper.
 use Rattle.std.proofs.Common.{◌∙◌, sym, ap}
 use Rattle.packed_slots.specs.Packing.{Packed, packing}
 use Rattle.packed_slots.specs.Words.{words_in}

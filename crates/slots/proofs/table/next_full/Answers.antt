@@ -1,4 +1,4 @@
--- Behind a full slot come the full ones behind it.
+-- After a full slot come the full ones that follow it.
 use Rattle.std.proofs.Common.{◌≡◌, ◌∙◌, true, length, sym, ap, arith}
 use Rattle.model.specs.Capabilities.Slots.{is_full}
 use Rattle.model.specs.Capabilities.Orders.{next_in, next_after}

@@ -1,4 +1,4 @@
--- Where all is forgotten nothing is kept; and else no mapping stands in the slot.
+-- Where all is forgotten nothing is kept; and else no mapping is in the slot.
 use Rattle.std.proofs.Common.{◌∙◌, sym}
 use Rattle.packed_slots.proofs.cached_slots.Kept.{all-beside, none-beside}
 use Rattle.packed_slots.proofs.cached_slots.forgetting.forget.Goals as goal

@@ -1,4 +1,4 @@
--- The store is what its parts are, and no slot behind them is open.
+-- The store is what its parts are, and no slot after them is open.
 use Rattle.std.proofs.Common.{◌∙◌, ◌*◌, ◌<◌, length, sym, ap, subst}
 use Rattle.packed_slots.specs.Packing.{Packed}
 use Rattle.packed_slots.proofs.PackedFacts.{open-near}

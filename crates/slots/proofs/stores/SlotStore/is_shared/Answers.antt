@@ -1,4 +1,4 @@
--- Who shares the object stands behind the slot that was looked at last, or nobody does.
+-- Who shares the object is after the slot that was looked at last, or nobody does.
 use Rattle.std.proofs.Common.{ℕ, ◌≡◌, ◌≢◌, ◌∙◌, ◌==◌, ◌+◌, ◌<◌, ◌&&◌, not, true, false, if◌then◌else◌, Option, Some, List, [], ◌∷◌, length, refl, sym, ap, subst, arith}
 use Rattle.std.proofs.lemmas.Bool.{eq-eqb, ne_eqb}
 use Rattle.std.specs.Option.{option_map_or}

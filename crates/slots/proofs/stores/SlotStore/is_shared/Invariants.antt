@@ -1,4 +1,4 @@
--- Who shares the object stands behind the slot that was looked at last.
+-- Who shares the object is after the slot that was looked at last.
 use Rattle.std.proofs.Common.{ℕ, ◌≡◌, ◌≢◌, ◌<◌, Some, length}
 use Rattle.model.specs.Capabilities.Orders.{IsOrderOf}
 use Rattle.model.specs.Capabilities.Slots.{IsFull}

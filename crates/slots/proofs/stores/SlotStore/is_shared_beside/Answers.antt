@@ -1,4 +1,4 @@
--- Who shares the object beside the root's descendants stands behind the slot that was looked at last, or nobody does.
+-- Who shares the object beside the root's descendants is after the slot that was looked at last, or nobody does.
 use Rattle.std.proofs.Common.{◌≡◌, ◌≢◌, ◌∙◌, ◌<◌, true, false, Some, None, [], ◌∷◌, length, sym, ap, subst, arith}
 use Rattle.model.specs.Capabilities.CapabilityKinds.{object_of}
 use Rattle.model.specs.Capabilities.Slots.{IsFull, Slots, is_descendant}

@@ -1,4 +1,4 @@
--- What stands first behind a slot is the next full one; the descendants among them are those of the part.
+-- The first one after a slot is the next full one; the descendants among them are those of the part.
 use Rattle.std.proofs.Common.{◌≡◌, ◌∙◌, ◌<◌, true, false, Some, [], ◌∷◌, filter, cond, length, sym, ap, subst, arith}
 use Rattle.model.specs.Capabilities.Slots.{Slots, IsFull}
 use Rattle.model.specs.Capabilities.Orders.{first_of}

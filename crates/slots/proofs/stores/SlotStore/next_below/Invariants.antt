@@ -1,4 +1,4 @@
--- The first descendant behind here is the one that is looked for.
+-- The first descendant after here is the one that is looked for.
 use Rattle.std.proofs.Common.{ℕ, ◌≡◌, Some, filter, length}
 use Rattle.model.specs.Capabilities.Slots.{IsFull}
 use Rattle.model.specs.Capabilities.Orders.{next_in, descendants, first_of}

@@ -1,4 +1,4 @@
--- The first slot behind here that names the object is the one that is looked for.
+-- The first slot after here that names the object is the one that is looked for.
 use Rattle.std.proofs.Common.{ℕ, ◌≡◌, Some, filter, length}
 use Rattle.model.specs.Capabilities.Slots.{IsFull}
 use Rattle.model.specs.Capabilities.Orders.{next_in, first_of}

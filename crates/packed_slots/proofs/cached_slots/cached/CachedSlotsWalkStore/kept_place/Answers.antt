@@ -1,4 +1,4 @@
--- What is kept stands in memory.
+-- What is kept lies in memory.
 use Rattle.std.proofs.Common.{List, ℕ, subst, sym}
 use Rattle.packed_slots.specs.cached_slots.Mappings.{LeavesAgree}
 use Rattle.packed_slots.specs.cached_slots.KeptLeaves.{AreAmong, leaf_of}
