@@ -1,4 +1,4 @@
--- A new object stands at an offset where none was.
+-- A new object comes at an offset where none was.
 use Rattle.std.proofs.Common.{ℕ, ◌≡◌, ◌≢◌, ◌∙◌, ◌==◌, ◌+◌, ◌<◌, ◌&&◌, inl, inr, Bool, true, false, if◌then◌else◌, Option, Some, None, option_map, List, [], ◌∷◌, refl, sym, ap, arith}
 use Rattle.std.specs.Prelude.{option_and_then, slice_index}
 use Rattle.std.specs.Option.{option_map_or}
@@ -41,7 +41,7 @@ nobody queues queue none = elim (queues queue) as (λ l. ((thread : ℕ) → 0 <
   | x ∷ rest ↦ λ none. absurd (none x (omega (arith, ap (λ b. if b then times_in rest x + 1 else times_in rest x) (eq-eqb x x refl))))
 ] none
 
--- what stands at the offset of a new object that is no thread
+-- what is at the offset of a new object that is no thread
 abbrev pub record_of : Kind → Option Record
 record_of kinds.Thread = None
 record_of kinds.Endpoint = Some Endpoint

@@ -1,4 +1,4 @@
--- What stands goes on where objects end, wake and begin.
+-- The invariant of objects is kept where objects end, wake and begin.
 use Rattle.std.proofs.Common.{ℕ, ◌≡◌, ◌≢◌, ◌∙◌, ◌==◌, ◌+◌, ◌/◌, ◌^◌, ◌<◌, ◌≤◌, ◌⊎◌, ◌&&◌, inl, inr, Bool, true, false, if◌then◌else◌, Option, Some, None, IsSome, option_map, List, length, refl, sym, ap, subst, arith}
 use Rattle.std.specs.Prelude.{slice_index}
 use Rattle.std.specs.Option.{option_map_or}
@@ -175,7 +175,7 @@ module _ (s : State) (memory : List ℕ) (kind : Kind) (offset : ℕ) (fits : Fi
     ];
   }
 
--- ---- what stands goes on
+-- ---- the invariant of objects is kept
 
 module _ (o n : Contents) (before after : Slots) (old new : List ℕ) (kind : Kind) (offset : ℕ) (stands : Linked o before old) (same_slots : after ≡ before)
     (free : (contents_state o before old).objects offset ≡ None) (room : IsRoom (contents_state o before old) (kind_of (new_object kind)) offset) (same_ready : n.ready ≡ o.ready)

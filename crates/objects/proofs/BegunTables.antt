@@ -37,7 +37,7 @@ entry-place kinds.Frame bits offset may = may
 entry-place kinds.PageTable bits offset may = may
 entry-place kinds.RootTable bits offset may = may
 
--- the tables have an entry for what may stand there
+-- the tables have an entry for what may come there
 pub has-entry : (o : Tables) (slots : Slots) (memory : List ℕ) (kind : Kind) (offset : ℕ) → AreTables o → MayStand (state_of o slots memory).memory_bits kind offset
     → (offset % 16 ≡ 0) × (offset / 16 < length o.entries)
 unfolding state_of

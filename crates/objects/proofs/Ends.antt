@@ -57,7 +57,7 @@ module _ (o : Contents) (offset : ℕ) (slots : Slots) (memory : List ℕ) where
       ends-at other ∙ ap (λ b. option_map_or (λ _. b) (option_map thread_state (o.threads other)) false) apart
       ∙ any-false (option_map thread_state (o.threads other))
 
-  -- that thread alone, if one stands there
+  -- that thread alone, if one is there
   ends-itself : (t : Thread) → o.threads offset ≡ Some t → (other : ℕ) → (other == offset) ≡ ends_thread s offset other
   ends-itself t there other = elim (eqb_tells offset other) [
     | inl here ↦

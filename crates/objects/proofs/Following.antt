@@ -1,4 +1,4 @@
--- The state goes along with slots and with the bytes of frames, since neither a byte of a frame nor one of a record stands in an open slot.
+-- The state goes along with slots and with the bytes of frames, since neither a byte of a frame nor one of a record lies in an open slot.
 use Rattle.std.proofs.Common.{ℕ, ◌≡◌, ◌∙◌, ◌/◌, Bool, true, false, if◌then◌else◌, Option, Some, None, IsSome, option_map, List, refl, sym, ap, subst}
 use Rattle.std.specs.Prelude.{slice_index}
 use Rattle.std.specs.Option.{option_map_or}

@@ -10,7 +10,7 @@ use Rattle.objects.specs.declared.records.Entry.TheVariants as entries
 page-inside : (size count place : ℕ) → 16 * count ≡ size * 2 ^ 12 → (place - place % 2 ^ 12) / 16 < count → place < size * 2 ^ 12
 page-inside size count place whole less = omega (arith, whole, less)
 
--- a place around which a frame stands
+-- a place that lies in a frame
 pub framed-inside : (o : Tables) (place : ℕ) → AreTables o → entry_in o.entries (frame_around place) ≡ entries.Frame → place < 2 ^ o.bits
 framed-inside o place are is =
     let least = are.least_bits in

@@ -1,4 +1,4 @@
--- Calls that change records of objects leave the same objects, and what stands stands.
+-- Calls that change records of objects leave the same objects, and keep the invariant of objects.
 use Rattle.std.proofs.Common.{ℕ, ◌≡◌, ◌∙◌, ◌+◌, ◌/◌, ◌^◌, ◌<◌, ◌≤◌, ◌⊎◌, inl, inr, Bool, true, if◌then◌else◌, Option, Some, None, option_map, List, length, refl, sym, ap, subst, arith}
 use Rattle.std.proofs.lemmas.Bool.Decides.{eqb_tells}
 use Rattle.model.specs.Capabilities.Slots.{IsOpen}
@@ -92,7 +92,7 @@ one-changed s place change same = record {
 pub same-records : (s : State) (memory : List ℕ) → SameBesideRecords s memory memory
 same-records s memory = record { size = refl; bytes = λ place apart. refl }
 
--- a record stands in its object
+-- a record lies in its object
 in-object : (objects : ℕ → Option Object) (place : ℕ) (held : IsInRecord objects place)
     → ((offset : ℕ) (kind : NewObject) → option_map kind_of (objects offset) ≡ Some kind → has_record kind ≡ true → (place < offset) ⊎ (offset + 2 ^ object_bits kind ≤ place)) → ⊥
 in-object objects place held outside = elim (outside held.offset held.kind held.there held.kept) [

@@ -68,7 +68,7 @@ entry-there o offset is = thread-entry (entry_in o.entries offset) (ap is_thread
 pub kind-there : (o : Tables) (offset : ℕ) → entry_in o.entries offset ≡ entries.Thread → kind_in o offset ≡ Some NewThread
 kind-there o offset is = ap kind_of_entry is
 
--- ---- what stands
+-- ---- the invariant of objects
 
 pub linked : (o : Tables) (slots : Slots) (memory : List ℕ) → Standing o slots memory → Linked (contents_of o memory) slots memory
 unfolding state_of
@@ -89,7 +89,7 @@ standing o slots memory placed links known = record {
   rights = known;
 }
 
--- what a call leaves: a state, and that it stands
+-- what a call leaves: a state, and the invariant of objects
 pub record Done (n : Tables) (slots : Slots) (memory : List ℕ) (t : State) : Type 0 where
   pub state : state_of n slots memory ≡ t
   pub stands : Standing n slots memory
@@ -99,7 +99,7 @@ pub done : (n : Tables) (slots : Slots) (memory : List ℕ) (t : State) → AreT
 unfolding state_of
 done n slots memory t placed left known = record { state = left.state; stands = standing n slots memory placed left.stands known }
 
--- ---- where things stand
+-- ---- where things lie
 
 pub some-inside : (table : List Entry) (offset : ℕ) → is_some (kind_of_entry (entry_in table offset)) ≡ true → (offset % 16 ≡ 0) × (offset / 16 < length table)
 some-inside table offset some = elim (eqb_tells (offset % 16) 0) [
@@ -114,7 +114,7 @@ some-inside table offset some = elim (eqb_tells (offset % 16) 0) [
   ]
 ]
 
--- objects stand at multiples of 16 bytes
+-- objects lie at multiples of 16 bytes
 pub object-aligned : (o : Tables) (slots : Slots) (memory : List ℕ) (offset : ℕ) (kind : NewObject) → kind_at (state_of o slots memory) offset ≡ Some kind → offset % 16 ≡ 0
 object-aligned o slots memory offset kind is = (some-inside o.entries offset (ap is_some (sym (kind-state o offset slots memory) ∙ is))).0
 

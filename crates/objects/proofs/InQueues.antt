@@ -31,7 +31,7 @@ times-first (t ∷ rest) thread first =
 
 -- ---- bytes
 
--- links stand in records
+-- links lie in records
 pub waiting-records : (o : Contents) (slots : Slots) (memory old new : List ℕ) (queues : ℕ → List ℕ) → AreThreadsIn (places_of o) queues
     → SameBesideWaiting (places_of o) queues old new → SameBesideRecords (contents_state o slots memory) old new
 waiting-records o slots memory old new queues there same = record {

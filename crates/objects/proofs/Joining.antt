@@ -1,4 +1,4 @@
--- A thread comes to stand in a queue, behind all others.
+-- A thread joins a queue, after all others.
 use Rattle.std.proofs.Common.{ℕ, ◌≡◌, ◌≢◌, ◌∙◌, ◌==◌, ◌+◌, inl, inr, true, false, if◌then◌else◌, Option, Some, None, option_map, List, [], ◌∷◌, ◌++◌, map, refl, sym, ap, arith}
 use Rattle.std.specs.Prelude.{option_and_then}
 use Rattle.std.proofs.lemmas.Bool.{cases_lt}
@@ -63,9 +63,9 @@ more-receivers-end : (sends : ℕ → Option Sending) (waiting : List ℕ) (thre
 more-receivers-end sends [] thread is = grind (arith, is)
 more-receivers-end sends (x ∷ rest) thread is = grind (arith, more-receivers-end sends rest thread is)
 
--- ---- it stands behind all others
+-- ---- it is after all others
 
--- where threads wait, no thread stands
+-- where threads wait, no thread is
 no-thread-waits : (t : Option Thread) (p : Option Object) → has_waiting (option_map kind_of (object_from t p)) ≡ true → t ≡ None
 no-thread-waits (Some t) p is = absurd (let clash : false ≡ true = is in cc)
 no-thread-waits None p is = refl
@@ -74,7 +74,7 @@ pub free-queue : (o : Contents) (slots : Slots) (memory : List ℕ) (queue : ℕ
 unfolding told_by
 free-queue o slots memory queue = no-thread-waits (o.threads queue) _
 
--- who waits at an object stands in its queue
+-- who waits at an object is in its queue
 waits-queued : (threads : ℕ → Option Thread) (waiting : List ℕ) (thread : ℕ) (t : Option Thread) (r : Option Record)
     → has_waiting (option_map kind_of (object_from t (option_map (object_of threads waiting) r))) ≡ true
     → times_in (waiting_at (object_from t (option_map (object_of threads waiting) r))) thread ≡ times_in waiting thread
@@ -87,7 +87,7 @@ waits-queued threads waiting thread None (Some Frame) is = absurd (let clash : f
 waits-queued threads waiting thread None (Some PageTable) is = absurd (let clash : false ≡ true = is in cc)
 waits-queued threads waiting thread None (Some RootTable) is = absurd (let clash : false ≡ true = is in cc)
 
--- so who waits at no object stands in no queue
+-- so who waits at no object is in no queue
 pub nowhere-queued : (o : Contents) (slots : Slots) (memory : List ℕ) (thread : ℕ) → Linked o slots memory → StandsNowhere (contents_state o slots memory).objects thread
     → (queue : ℕ) → times_in (waiting_of o memory queue) thread ≡ 0
 unfolding told_by

@@ -45,7 +45,7 @@ module _ (o before : Tables) (index line : ℕ) (bit : Bool) (here : index ≡ l
   pending-state less =
       pending-at less ∙ ap (λ (n : ℕ). with_pending (state_of o slots memory) n bit) here ∙ ap (λ (t : Tables). with_pending (state_of t slots memory) line bit) is
 
--- what stands does with other lines
+-- the invariant of objects does not depend on other lines
 pub lines-stand : (o : Tables) (masked pending : List Bool) (slots : Slots) (memory : List ℕ) → Standing o slots memory
     → Standing (record o { masked = masked; pending = pending }) slots memory
 unfolding state_of told_by

@@ -12,7 +12,7 @@ pub record Linked (o : Contents) (slots : Slots) (memory : List ℕ) : Type 0 wh
   pub waiting : QueuesStand (places_of o) memory
   pub ready : ReadyStands (places_of o) o.ready memory
 
--- what is there stands at multiples of its least size, inside memory
+-- what is there lies at multiples of its least size, inside memory
 pub record AreContents (o : Contents) : Type 0 where
   pub most_bits : o.bits ≤ 24
   pub threads : (offset : ℕ) → is_some (o.threads offset) ≡ true → (offset % 512 ≡ 0) × (offset + 512 ≤ 2 ^ o.bits)

@@ -160,7 +160,7 @@ module _ (o : Tables) (slots : Slots) (memory : List ℕ) where
     | false ↦ λ no. absurd (let clash : false ≡ true = sym (stranded-none offset no) ∙ stranded in cc)
   ] refl
 
-  -- who waits at no object stands in no queue
+  -- who waits at no object is in no queue
   pub nowhere-here : Standing o slots memory → (thread : ℕ) → StandsNowhere (state_of o slots memory).objects thread → (queue : ℕ) → times_in (waiting_of o memory queue) thread ≡ 0
   unfolding state_of
   nowhere-here stands thread apart = subst (λ (p : Places). (queue : ℕ) → times_in (queue_of p memory queue) thread ≡ 0) (places-as o memory)

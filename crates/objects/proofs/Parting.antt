@@ -1,4 +1,4 @@
--- A thread leaves all queues, and nothing stands at an offset any more.
+-- A thread leaves all queues, and nothing is at an offset any more.
 use Rattle.std.proofs.Common.{ℕ, ◌≡◌, ◌≢◌, ◌∙◌, ◌==◌, ◌+◌, ◌*◌, inl, inr, true, false, if◌then◌else◌, Option, None, is_some, option_map, List, [], length, refl, sym, ap, subst, arith}
 use Rattle.std.proofs.lemmas.Bool.Decides.{eqb_tells}
 use Rattle.model.specs.Capabilities.Slots.{Slots}
@@ -192,7 +192,7 @@ module _ (o : Tables) (before after : Slots) (old : List ℕ) (stands : Standing
         pub forget-rights : (holder : ℕ) → has_right (thread_in n new holder) thread ≡ false
         forget-rights holder = ap (λ (t : Option Thread). has_right t thread) (void-all holder) ∙ void-gone thread (thread_in o old holder)
 
-    -- ---- nothing stands at an offset any more
+    -- ---- nothing is at an offset any more
 
     module _ (entries_now : List Entry) (offset : ℕ) (new : List ℕ) (long : length entries_now ≡ length o.entries)
         (cleared : (other : ℕ) → entry_in entries_now other ≡ put (entry_in o.entries) offset entries.Nothing other)

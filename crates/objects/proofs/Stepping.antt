@@ -1,4 +1,4 @@
--- A call that changes queues leaves a state, and what stands stands.
+-- A call that changes queues leaves a state, and keeps the invariant of objects.
 use Rattle.std.proofs.Common.{ℕ, ◌≡◌, ◌≢◌, ◌∙◌, ◌==◌, inl, inr, true, false, if◌then◌else◌, Option, Some, None, option_map, List, [], ◌∷◌, ◌++◌, drop, length, refl, sym, ap, subst}
 use Rattle.std.specs.Prelude.{slice_index}
 use Rattle.std.proofs.lemmas.Bool.Decides.{eqb_tells}
@@ -33,7 +33,7 @@ use Rattle.objects.specs.Contents.{Record}
 use Rattle.objects.specs.declared.thread_records.records.Sending.{Sending}
 use Rattle.objects.specs.declared.thread_records.records.Thread.{Thread}
 
--- what a call leaves: a state, and that it stands
+-- what a call leaves: a state, and the invariant of objects
 pub record Left (n : Contents) (slots : Slots) (memory : List ℕ) (t : State) : Type 0 where
   pub state : contents_state n slots memory ≡ t
   pub stands : Linked n slots memory
@@ -61,7 +61,7 @@ pub ready-then : (o : Contents) (slots : Slots) (a b : List ℕ) → Linked o sl
 ready-then o slots a b stands laid same =
     ready-beyond (places_of o) slots a b laid (waiting_of o a) (kinds_apart.waiters (places_of o) a stands.waiting) o.ready same stands.ready
 
--- No object comes: where bytes of records changed, the state is what the tables tell over the bytes that were there.
+-- No object comes: where bytes of records changed, the state is what the tables give with the bytes that were there.
 module _ (o n : Contents) (before after : Slots) (old new : List ℕ) (t : State) (stands : Linked o before old) (same_slots : after ≡ before) where
   abbrev s : State
   s = contents_state o before old
@@ -141,7 +141,7 @@ module _ (o : Contents) (before after : Slots) (old new : List ℕ) (stands : Li
         same,
       )
 
-  -- a thread comes to stand behind the others
+  -- a thread comes after the others
   pub enqueue-left : (threads : ℕ → Option Thread) (queue thread : ℕ) (held : Thread) (sending : Option Sending)
       → o.threads thread ≡ Some held → has_waiting (kind_at was queue) ≡ true → StandsNowhere was.objects thread
       → ((other : ℕ) → threads other ≡ put (o.threads) thread (Some (record held { sending = sending })) other)
@@ -233,7 +233,7 @@ module _ (o : Contents) (before after : Slots) (old new : List ℕ) (stands : Li
         same,
       )
 
-  -- nothing stands at an offset any more
+  -- nothing is at an offset any more
   module _ (records : ℕ → Option Record) (threads : ℕ → Option Thread) (offset : ℕ)
       (waits_not : (queue : ℕ) → times_in (waits queue) offset ≡ 0) (ready_not : (priority : ℕ) → times_in (runs priority) offset ≡ 0)
       (unrecorded : (other : ℕ) → records other ≡ put (o.records) offset None other)

@@ -133,7 +133,7 @@ sweep-thread s t number count less is none =
     ∙ ap (λ (n : ℕ). swept t (32 * number + 1) n) left
     ∙ sweep-on s t (32 * number) (32 * count) (omega (arith, less)) (is ∙ ap (woken-if s) at)
 
--- who is stranded is a thread, and stands at a multiple of its size
+-- who is stranded is a thread, and lies at a multiple of its size
 pub stranded-apart : (o : Tables) (slots : Slots) (memory : List ℕ) → Standing o slots memory → (place : ℕ) → place % 512 ≢ 0 → is_stranded (state_of o slots memory) place ≡ false
 unfolding state_of
 stranded-apart o slots memory stands place apart =

@@ -1,4 +1,4 @@
--- What stands where, as queues ask, and who stands in queues.
+-- What is where, as queues ask, and who is in queues.
 use Rattle.std.proofs.Common.{ℕ, ◌≡◌, ◌∙◌, ◌+◌, ◌/◌, ◌%◌, ◌^◌, ◌<◌, ◌≤◌, ◌⊎◌, inl, inr, Bool, true, false, if◌then◌else◌, Option, Some, None, IsSome, is_some, option_map, List, [], length, refl, sym, ap, subst, arith}
 use Rattle.std.specs.Prelude.{slice_index}
 use Rattle.std.proofs.lemmas.Bool.{cases_lt}
@@ -30,7 +30,7 @@ pub told : (o : Contents) (slots : Slots) (memory : List ℕ) → contents_state
 unfolding told_by
 told o slots memory = refl
 
--- who stands in a queue is a thread that is there, and waits where threads may
+-- who is in a queue is a thread that is there, and waits where threads may
 abbrev pub AreThere : State → (ℕ → List ℕ) → Type 0
 AreThere s queues = (queue thread : ℕ) → 0 < times_in (queues queue) thread → kind_at s thread ≡ Some NewThread
 
@@ -92,7 +92,7 @@ head-at-point k queue is = ap (λ b. is_some (if b then Some queue else None)) i
 pub has-head : (o : Contents) (queue head : ℕ) → (places_of o).heads queue ≡ Some head → (has_waiting (kind_in o queue) ≡ true) × (head ≡ queue)
 has-head o queue head is = if-head (has_waiting (kind_in o queue)) queue head is
 
--- ---- the tables hold what a kind tells
+-- ---- the tables hold what a kind says
 
 thread-from : (threads : ℕ → Option Thread) (t : Option Thread) (r : Option Record) → option_map kind_of (object_from t (option_map (object_of threads []) r)) ≡ Some NewThread → is_some t ≡ true
 thread-from threads (Some t) r is = refl
@@ -120,7 +120,7 @@ point-kind (Some NewFrame) is = absurd (let clash : false ≡ true = is in cc)
 point-kind (Some NewPageTable) is = absurd (let clash : false ≡ true = is in cc)
 point-kind (Some NewRootTable) is = absurd (let clash : false ≡ true = is in cc)
 
--- ---- bytes of links stand in records
+-- ---- bytes of links lie in records
 
 unfoldable pub in-thread : (s : State) (thread place : ℕ) → kind_at s thread ≡ Some NewThread → thread + 32 ≤ place → place < thread + 512 → IsInRecord s.objects place
 in-thread s thread place is from below = record { offset = thread; kind = NewThread; there = is; kept = refl; from = from; below = below }
@@ -197,7 +197,7 @@ module _ (o : Contents) (slots : Slots) (memory : List ℕ) (are : AreContents o
       outside = λ place from below. closed place (in-point s queue place waits-there from (omega (arith, below))).0;
     }
 
-  -- a queue's own words stand beside the links of all threads
+  -- a queue's own words are apart from the links of all threads
   beside : (queue thread : ℕ) → has_waiting (kind_in o queue) ≡ true → (places_of o).threads thread ≡ true → (queue + 8 ≤ thread + 244) ⊎ (thread + 268 ≤ queue)
   unfolding in-thread
   beside queue thread waits is = elim (cases_lt (queue + 7) (thread + 244)) [
@@ -236,7 +236,7 @@ module _ (o : Contents) (slots : Slots) (memory : List ℕ) (are : AreContents o
         ];
   }
 
--- ---- who stands in queues
+-- ---- who is in queues
 
 module _ (o : Contents) (slots : Slots) (memory : List ℕ) (stands : Linked o slots memory) where
   pub waiters : AreThere (contents_state o slots memory) (waiting_of o memory)

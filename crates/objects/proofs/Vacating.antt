@@ -1,4 +1,4 @@
--- Nothing stands at an offset any more.
+-- Nothing is at an offset any more.
 use Rattle.std.proofs.Common.{ℕ, ◌≡◌, ◌≢◌, ◌∙◌, ◌==◌, inl, inr, false, if◌then◌else◌, Option, Some, None, option_map, List, [], refl, sym, ap}
 use Rattle.std.specs.Prelude.{option_and_then, slice_index}
 use Rattle.std.specs.Option.{option_map_or}

@@ -14,7 +14,7 @@ use Rattle.objects.specs.declared.thread_records.records.Thread.{Thread}
 abbrev pub voided : ℕ → Thread → Thread
 voided gone t = record t { caller = if option_map_or (λ caller. caller == gone) t.caller false then None else t.caller }
 
--- nothing stands at an offset any more
+-- nothing is at an offset any more
 abbrev pub vacated : State → ℕ → State
 vacated s offset = record s {
   objects = λ other. if offset == other then None else s.objects other;
@@ -30,14 +30,14 @@ is_frame_kind (kinds.CNode radix) = false
 is_frame_kind kinds.PageTable = false
 is_frame_kind kinds.RootTable = false
 
--- a new object stands at an offset; the bytes of a frame are what is there
+-- a new object comes at an offset; the bytes of a frame are what is there
 abbrev pub begun : State → List ℕ → Kind → ℕ → State
 begun s memory kind offset = record s {
   objects = put s.objects offset (Some (new_object kind));
   bytes = λ place. if is_frame_kind kind && (offset == frame_around place) then Some (slice_index memory place) else s.bytes place;
 }
 
--- where an object of a kind may stand in memory of 2 ^ bits bytes
+-- where an object of a kind may lie in memory of 2 ^ bits bytes
 abbrev pub MayStand : ℕ → Kind → ℕ → Type 0
 MayStand bits kinds.Thread offset = (offset % 512 ≡ 0) × (offset < 2 ^ bits)
 MayStand bits (kinds.CNode radix) offset = (offset % 16 ≡ 0) × (offset < 2 ^ bits) × (radix ≤ 14)

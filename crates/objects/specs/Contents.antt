@@ -1,4 +1,4 @@
--- What the tables and the bytes of memory hold of objects, and the state that this stands for.
+-- What the tables and the bytes of memory hold of objects, and the state that these represent.
 -- seL4 Reference Manual, "Kernel Services and Objects".
 use Rattle.std.specs.Prelude.{ℕ, Bool, true, false, not, if◌then◌else◌, Option, Some, None, is_some, option_map, option_and_then, List, [], filter, filter_map, slice_index, slice_index_or}
 use Rattle.std.specs.Option.{option_map_or}
@@ -26,7 +26,7 @@ pub data Record : Type 0 where
   PageTable : Record
   RootTable : Record
 
--- what stands at each offset, and what the kernel keeps beside objects
+-- what is at each offset, and what the kernel keeps beside objects
 pub record Contents : Type 0 where
   -- memory has 2 ^ bits bytes, and the boot CNode 2 ^ radix slots
   pub bits : ℕ
@@ -132,7 +132,7 @@ abbrev pub byte_in : (ℕ → Option Record) → List ℕ → ℕ → Option ℕ
 byte_in records memory place =
     if option_map_or is_frame (records (frame_around place)) false then Some (slice_index memory place) else None
 
--- what the tables and the bytes of memory tell of a state, if these wait and are ready: all but its slots
+-- what the tables and the bytes of memory give of a state, if these wait and are ready: all but its slots
 abbrev pub told_with : Contents → (ℕ → List ℕ) → (ℕ → List ℕ) → List ℕ → State
 told_with o waiting ready memory = record {
   memory_bits = o.bits;

@@ -1,11 +1,11 @@
--- How the state and the bytes of memory stand beside one another.
+-- How the state and the bytes of memory are kept beside one another.
 use Rattle.std.specs.Prelude.{ℕ, ◌≡◌, ◌+◌, ◌/◌, ◌^◌, ◌<◌, ◌≤◌, ◌⊎◌, Bool, true, false, Option, Some, None, option_map, List, length, slice_index}
 use Rattle.model.specs.Capabilities.Slots.{IsOpen}
 use Rattle.model.specs.Kernel.Kinds.{kind_at, kind_of}
 use Rattle.model.specs.Kernel.Retype.{NewObject, NewUntyped, NewThread, NewEndpoint, NewNotification, NewCNode, NewFrame, NewPageTable, NewRootTable, object_bits}
 use Rattle.model.specs.Kernel.State.{State, Object}
 
--- whether the kernel keeps a record of such an object, which may stand in the object's own bytes
+-- whether the kernel keeps a record of such an object, which may lie in the object's own bytes
 abbrev pub has_record : NewObject → Bool
 has_record NewThread = true
 has_record NewEndpoint = true
@@ -27,7 +27,7 @@ has_slots NewFrame = false
 has_slots NewPageTable = false
 has_slots NewRootTable = false
 
--- how many bytes of such an object stand before its record: a thread begins with its two slots
+-- how many bytes of such an object lie before its record: a thread begins with its two slots
 abbrev pub slot_bytes : NewObject → ℕ
 slot_bytes NewThread = 32
 slot_bytes NewEndpoint = 0
@@ -38,7 +38,7 @@ slot_bytes NewFrame = 0
 slot_bytes NewPageTable = 0
 slot_bytes NewRootTable = 0
 
--- a place where the record of an object may stand that is there
+-- a place where the record of an object that is there may lie
 pub record IsInRecord (objects : ℕ → Option Object) (place : ℕ) : Type 0 where
   pub offset : ℕ
   pub kind : NewObject
@@ -47,19 +47,19 @@ pub record IsInRecord (objects : ℕ → Option Object) (place : ℕ) : Type 0 w
   pub from : offset + slot_bytes kind ≤ place
   pub below : place < offset + 2 ^ object_bits kind
 
--- the bytes that stand in no record are the same
+-- the bytes that lie in no record are the same
 pub record SameBesideRecords (s : State) (old new : List ℕ) : Type 0 where
   pub size : length new ≡ length old
   pub bytes : (place : ℕ) → (IsInRecord s.objects place → ⊥) → slice_index new place ≡ slice_index old place
 
--- the bytes that stand in no such object are the same
+-- the bytes that lie in no such object are the same
 pub record SameBesideObjects (s : State) (old new : List ℕ) : Type 0 where
   pub size : length new ≡ length old
   pub bytes : (place : ℕ)
       → ((offset : ℕ) (kind : NewObject) → kind_at s offset ≡ Some kind → has_record kind ≡ true → (place < offset) ⊎ (offset + 2 ^ object_bits kind ≤ place))
       → slice_index new place ≡ slice_index old place
 
--- the bytes that stand neither in such an object nor in a frame are the same
+-- the bytes that lie neither in such an object nor in a frame are the same
 pub record SameElsewhere (s : State) (old new : List ℕ) : Type 0 where
   pub size : length new ≡ length old
   pub bytes : (place : ℕ) → s.bytes place ≡ None
@@ -83,7 +83,7 @@ pub record SameBesideFrames (s : State) (old new : List ℕ) : Type 0 where
   pub size : length new ≡ length old
   pub bytes : (place : ℕ) → s.bytes place ≡ None → slice_index new place ≡ slice_index old place
 
--- the memory is as large as the state says; neither a byte of a frame nor one of a record stands in an open slot, no record in a frame, and none in another
+-- the memory is as large as the state says; neither a byte of a frame nor one of a record lies in an open slot, no record in a frame, and none in another
 pub record FitsMemory (s : State) (memory : List ℕ) : Type 0 where
   pub size : 2 ^ s.memory_bits ≡ length memory
   pub frames : (place : ℕ) → IsOpen s.slots (place / 16) → s.bytes place ≡ None
@@ -91,7 +91,7 @@ pub record FitsMemory (s : State) (memory : List ℕ) : Type 0 where
   pub apart : (place : ℕ) → IsInRecord s.objects place → s.bytes place ≡ None
   pub alone : (place : ℕ) (one two : IsInRecord s.objects place) → one.offset ≡ two.offset
 
--- nothing stands where a new object is to come, and no slot is open there but those that it begins with
+-- nothing is where a new object is to come, and no slot is open there but those that it begins with
 pub record IsRoom (s : State) (kind : NewObject) (offset : ℕ) : Type 0 where
   pub slots : (place : ℕ) → offset + slot_bytes kind ≤ place → place < offset + 2 ^ object_bits kind → has_slots kind ≡ false → s.slots (place / 16) ≡ None
   pub frames : (place : ℕ) → offset ≤ place → place < offset + 2 ^ object_bits kind → s.bytes place ≡ None

@@ -1,4 +1,4 @@
--- Where the records of threads stand in memory.
+-- Where the records of threads lie in memory.
 use Rattle.std.specs.Prelude.{ℕ, ◌≡◌, ◌+◌, ◌%◌, ◌^◌, ◌<◌, ◌≤◌, true, Option, Some, None, List, length, slice_index}
 use Rattle.model.specs.Capabilities.Slots.{OutsideSlots, Slots}
 use Rattle.model.specs.Kernel.Kinds.{kind_of}
@@ -26,7 +26,7 @@ pub record IsThreadPlace (slots : Slots) (size thread : ℕ) : Type 0 where
   pub within : thread + 512 ≤ size
   pub outside : OutsideSlots slots (thread + 48) 224
 
--- threads and notifications stand inside memory of this size, threads at multiples of their own
+-- threads and notifications lie inside memory of this size, threads at multiples of their own
 pub record AreThreadsPlaced (table : List Entry) (size : ℕ) : Type 0 where
   pub places : length table ≤ 2 ^ 20
   pub whole : length table % 32 ≡ 0
@@ -35,7 +35,7 @@ pub record AreThreadsPlaced (table : List Entry) (size : ℕ) : Type 0 where
   pub within : (thread : ℕ) → entry_in table thread ≡ entries.Thread → thread + 512 ≤ size
   pub points : (notification : ℕ) → entry_in table notification ≡ entries.Notification → notification + 16 ≤ size
 
--- there is an entry for each 16 bytes at most, and threads stand at multiples of their size
+-- there is an entry for each 16 bytes at most, and threads lie at multiples of their size
 pub record AreThreadsLaid (table : List Entry) (slots : Slots) (size : ℕ) : Type 0 where
   pub few : length table ≤ 2 ^ 20
   pub whole : length table % 32 ≡ 0
@@ -51,7 +51,7 @@ pub record SameBesideThreads (table : List Entry) (old new : List ℕ) : Type 0 
   pub size : length new ≡ length old
   pub bytes : (place : ℕ) → ((thread : ℕ) → entry_in table thread ≡ entries.Thread → IsRecordByte thread place → ⊥) → slice_index new place ≡ slice_index old place
 
--- where a new object of a kind may come to stand: its record lies in memory, and in no open slot
+-- where a new object of a kind may come: its record lies in memory, and in no open slot
 pub record IsRoomAt (kind : Kind) (slots : Slots) (size offset : ℕ) : Type 0 where
   pub few : size ≤ 2 ^ 24
   pub thread : kind ≡ kinds.Thread → (offset + 512 ≤ size) × OutsideSlots slots (offset + 32) 480

@@ -4,7 +4,7 @@ use Rattle.std.specs.Option.{option_map_or}
 use Rattle.model.specs.Shared.Bytes.{word_at}
 use Rattle.objects.specs.declared.thread_records.records.Thread.{Thread}
 
--- whether what stands at an offset is a thread with the right to reply to another
+-- whether what is at an offset is a thread with the right to reply to another
 abbrev pub has_right : Option Thread → ℕ → Bool
 has_right thread caller = option_map_or (λ (t : Thread). option_map_or (λ c. c == caller) t.caller false) thread false
 
@@ -25,7 +25,7 @@ abbrev pub noted : (ℕ → Option Thread) → ℕ → ℕ → Option ℕ → Op
 noted threads holder caller None = None
 noted threads holder caller (Some thread) = if not (thread == holder) && has_right (threads thread) caller then None else Some holder
 
--- all bytes are the same but those that tell who may reply to this thread
+-- all bytes are the same but those that say who may reply to this thread
 pub record SameBesideReplier (caller : Option ℕ) (old new : List ℕ) : Type 0 where
   pub size : length new ≡ length old
   pub bytes : (place : ℕ) → ((thread : ℕ) → caller ≡ Some thread → thread + 268 ≤ place → place < thread + 272 → ⊥) → slice_index new place ≡ slice_index old place

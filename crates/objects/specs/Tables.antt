@@ -1,4 +1,4 @@
--- The tables, and the state that they stand for together with the slots and the bytes of memory.
+-- The tables, and the state that they represent together with the slots and the bytes of memory.
 -- seL4 Reference Manual, "Kernel Services and Objects".
 use Rattle.std.specs.Prelude.{ℕ, ◌≡◌, ◌==◌, ◌+◌, ◌*◌, ◌/◌, ◌%◌, ◌^◌, ◌≤◌, Bool, if◌then◌else◌, Option, Some, None, option_and_then, List, length, slice_index_or}
 use Rattle.model.specs.Capabilities.Slots.{Slots}

@@ -1,4 +1,4 @@
--- Threads that come to stand in queues, and leave them as the first.
+-- Threads that join queues, and leave them as the first.
 -- seL4 Reference Manual, "Endpoints", "Notifications".
 use Rattle.std.specs.Prelude.{ℕ, ◌≡◌, ◌⊎◌, Bool, true, false, Option, Some, None, List, [], ◌∷◌, ◌++◌, drop, option_map}
 use Rattle.model.specs.Kernel.Kinds.{kind_at}
@@ -34,7 +34,7 @@ has_waiting (Some NewRootTable) = false
 
 -- ---- the object at which they wait
 
--- another thread stands behind those that wait, to send this or to receive
+-- another thread comes after those that wait, to send this or to receive
 abbrev pub endpoint_joined : EndpointState → ℕ → Option Sending → EndpointState
 endpoint_joined e thread (Some sending) = record e { senders = e.senders ++ sender_of thread sending ∷ [] }
 endpoint_joined e thread None = record e { receivers = e.receivers ++ thread ∷ [] }

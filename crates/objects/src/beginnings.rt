@@ -13,10 +13,10 @@ use crate::thread_records;
 use queues::{begin_head, begin_thread};
 use slots::SlotStore;
 
-/// How far into a notification its word stands.
+/// How far into a notification its word lies.
 pub(crate) const WORD: u32 = 8;
 
-/// A new object comes to stand at an offset, with nobody linked there.
+/// A new object comes at an offset, with nobody linked there.
 pub(crate) fn begin_bytes<S: SlotStore>(store: &mut S, offset: u32, kind: Kind)
     requires { IsRoomAt kind (S.slots store.old) (length (S.memory store.old)) offset }
     ensures bytes { BegunAt kind offset (S.memory store.old) (S.memory store.new) }
@@ -31,7 +31,7 @@ pub(crate) fn begin_bytes<S: SlotStore>(store: &mut S, offset: u32, kind: Kind)
     }
 }
 
-/// A thread begins that is new, stands in no queue, and to which nobody may reply.
+/// A new thread begins that is in no queue and to which nobody may reply.
 fn begin_thread_bytes<S: SlotStore>(store: &mut S, offset: u32)
     requires { IsRoomAt Thread (S.slots store.old) (length (S.memory store.old)) offset }
     ensures bytes { BegunAt Thread offset (S.memory store.old) (S.memory store.new) }

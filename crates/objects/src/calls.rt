@@ -1,4 +1,4 @@
-//! The calls on objects, which are lent the store beside which these stand: a form that keeps its records in
+//! The calls on objects, which are lent the store beside which these are kept: a form that keeps its records in
 //! the machine's bytes has the same.
 
 ghost use Rattle.std.specs.Prelude.{ℕ, ◌≡◌, ◌^◌, ◌<◌, ◌≤◌, List, None, is_some, length};
@@ -92,7 +92,7 @@ impl Objects {
         self.vacate(store, offset);
     }
 
-    /// A new object stands at an offset where nothing does. What memory holds there are the bytes of a frame.
+    /// A new object comes at an offset where nothing is. What memory holds there are the bytes of a frame.
     #[tactic(auto, unfolding(crate::specs::Tables::state_of, crate::specs::Contents::told_by))]
     pub fn begin<S: SlotStore>(&mut self, store: &mut S, offset: u32, kind: Kind)
         requires free { (state_of self.old (S.slots store.old) (S.memory store.old)).objects offset ≡ None }

@@ -1,4 +1,4 @@
-//! What stands where in memory: existence and kind are in no byte, since a new object is all zero.
+//! What is where in memory: existence and kind are in no byte, since a new object is all zero.
 
 ghost use Rattle.std.specs.Prelude.{ℕ, ◌≡◌, ◌^◌, ◌/◌, ◌%◌, ◌<◌, ◌≤◌, IfOk, length, replicate};
 ghost use Rattle.model.specs.Kernel.State.{put};
@@ -34,7 +34,7 @@ impl Model for Held {
 }
 
 impl Held {
-    /// Nothing stands in so many bytes of memory.
+    /// Nothing is in so many bytes of memory.
     pub(crate) fn new(alloc: Global, size: u32) -> Result<Self, AllocError>
         ensures { IfOk result (λ held. held ≡ replicate (size / 16) Nothing) }
     {

@@ -1,4 +1,4 @@
-//! The calls on interrupt lines, which are lent the store beside which the objects stand.
+//! The calls on interrupt lines, which are lent the store beside which the objects are kept.
 //! seL4 Reference Manual, "Hardware I/O"; the mask and pending bits are our own.
 
 ghost use Rattle.std.specs.Prelude.{ℕ, ◌≡◌, ◌<◌, List};
@@ -46,7 +46,7 @@ impl Objects {
         self.pending[usize::from(line)]
     }
 
-    /// An interrupt of a line, 0 to 63, stands pending, or none does.
+    /// An interrupt of a line, 0 to 63, is pending, or none is.
     #[tactic(auto, unfolding(crate::specs::Tables::state_of, crate::specs::Contents::told_by))]
     pub fn set_pending<S: SlotStore>(&mut self, store: &mut S, line: u8, bit: bool)
         requires line { line < 64 }
@@ -71,7 +71,7 @@ impl Objects {
         self.masked[usize::from(line)] = bit;
     }
 
-    /// An interrupt of a line stands pending, or none does.
+    /// An interrupt of a line is pending, or none is.
     fn set_pending_at(&mut self, line: u8, bit: bool)
         requires { line < 64 }
         ensures state { (slots : Slots) (memory : List ℕ)

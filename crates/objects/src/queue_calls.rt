@@ -1,5 +1,5 @@
 //! The calls on those that wait at endpoints and notifications, which are lent the store beside which the
-//! objects stand.
+//! objects are kept.
 
 ghost use Rattle.std.specs.Prelude.{ℕ, ◌≡◌, ◌↔◌, [], Some, false};
 ghost use Rattle.model.specs.Kernel.Kinds.{kind_at};
@@ -19,7 +19,7 @@ use crate::thread_records::Sending;
 use slots::SlotStore;
 
 impl Objects {
-    /// A thread that waits nowhere waits behind the others at an endpoint where nobody receives, to send this.
+    /// A thread that waits nowhere waits after the others at an endpoint where nobody receives, to send this.
     #[tactic(auto, unfolding(crate::specs::Tables::state_of, crate::specs::Contents::told_by))]
     pub fn push_sender<S: SlotStore>(
         &mut self,
@@ -43,7 +43,7 @@ impl Objects {
         self.enqueue(store, endpoint, thread, Some(sending));
     }
 
-    /// A thread that waits nowhere waits behind the others at an endpoint where nobody sends, to receive.
+    /// A thread that waits nowhere waits after the others at an endpoint where nobody sends, to receive.
     #[tactic(auto, unfolding(crate::specs::Tables::state_of, crate::specs::Contents::told_by))]
     pub fn push_receiver<S: SlotStore>(&mut self, store: &mut S, endpoint: u32, thread: u32)
         requires endpoint { kind_at (state_of self.old (S.slots store.old) (S.memory store.old)) endpoint ≡ Some NewEndpoint }
@@ -61,7 +61,7 @@ impl Objects {
         self.enqueue(store, endpoint, thread, None);
     }
 
-    /// A thread that waits nowhere waits behind the others at a notification.
+    /// A thread that waits nowhere waits after the others at a notification.
     #[tactic(auto, unfolding(crate::specs::Tables::state_of, crate::specs::Contents::told_by))]
     pub fn push_waiter<S: SlotStore>(&mut self, store: &mut S, notification: u32, thread: u32)
         requires notification { kind_at (state_of self.old (S.slots store.old) (S.memory store.old)) notification ≡ Some NewNotification }

@@ -1,4 +1,4 @@
-//! What stands where in memory, and who waits to send.
+//! What is where in memory, and who waits to send.
 
 use crate::thread_records::Sending;
 

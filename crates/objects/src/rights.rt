@@ -14,7 +14,7 @@ use crate::held::{Held, THREAD_SIZE};
 use crate::thread_records;
 use slots::SlotStore;
 
-/// How far into a thread the word stands.
+/// How far into a thread the word lies.
 const REPLIER: u32 = 268;
 
 /// The word that says that several threads may have the right.

@@ -1,4 +1,4 @@
-//! The calls on who runs, which are lent the store beside which the objects stand.
+//! The calls on who runs, which are lent the store beside which the objects are kept.
 //! seL4 Reference Manual, "Threads and Execution", "Scheduling".
 
 ghost use Rattle.std.specs.Prelude.{ℕ, ◌≡◌, Some};

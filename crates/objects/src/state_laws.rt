@@ -19,7 +19,7 @@ pub fn a_state_follows_its_slots()
         → state_of o now new ≡ with_slots (state_of o slots old) now }
 {}
 
-/// What stands still does then, if no slot was opened.
+/// The invariant of objects still holds then, if no slot was opened.
 pub fn what_stands_still_does()
     ensures { (o : Tables) (slots : Slots) (old new : List ℕ) (now : Slots) → Standing o slots old → SameOutside slots old new
         → ((slot : ℕ) → slots slot ≡ None → now slot ≡ None) → Standing o now new }
@@ -31,7 +31,7 @@ pub fn a_state_follows_other_bytes()
         → state_of o now new ≡ with_slots (state_of o slots old) now }
 {}
 
-/// What stands still does then, if no open slot stands in a frame or in a record.
+/// The invariant of objects still holds then, if no open slot lies in a frame or in a record.
 pub fn what_stands_beside_other_bytes()
     ensures { (o : Tables) (slots : Slots) (old new : List ℕ) (now : Slots) → Standing o slots old → SameKept (state_of o slots old) old new
         → ((place : ℕ) → IsOpen now (place / 16) → (state_of o slots old).bytes place ≡ None)
@@ -44,7 +44,7 @@ pub fn a_state_follows_its_frames()
         → state_of o slots new ≡ record (state_of o slots old) { bytes = λ place. option_map (λ _. slice_index new place) ((state_of o slots old).bytes place) } }
 {}
 
-/// What stands still does then.
+/// The invariant of objects still holds then.
 pub fn what_stands_beside_frames()
     ensures { (o : Tables) (slots : Slots) (old new : List ℕ) → Standing o slots old → SameBesideFrames (state_of o slots old) old new → Standing o slots new }
 {}

@@ -157,7 +157,7 @@ impl Objects {
         matches!(self.held.get(offset), Entry::Endpoint | Entry::Notification)
     }
 
-    /// Whether a place stands in a frame.
+    /// Whether a place lies in a frame.
     pub(crate) fn is_framed(&self, place: u32) -> bool
         ensures value { (memory : List ℕ) → result ≡ option_map_or is_frame ((contents_of self.now memory).records (frame_around place)) false }
         ensures inside { result ≡ true → place < 2 ^ self.now.bits }
@@ -203,7 +203,7 @@ impl Objects {
         }
     }
 
-    /// Nothing stands at an offset any more. No thread that stands there waits or is ready, and nobody may reply to it.
+    /// Nothing is at an offset any more. No thread that is there waits or is ready, and nobody may reply to it.
     pub(crate) fn vacate<S: SlotStore>(&mut self, store: &mut S, offset: u32)
         requires waits_not { (queue : ℕ) → times_in (waiting_of self.old (S.memory store.old) queue) offset ≡ 0 }
         requires ready_not { (priority : ℕ) → times_in (ready_at self.old (S.memory store.old) priority) offset ≡ 0 }

@@ -1,4 +1,4 @@
-//! The calls on threads, which are lent the store beside which the objects stand.
+//! The calls on threads, which are lent the store beside which the objects are kept.
 
 ghost use Rattle.std.specs.Prelude.{ℕ, ◌≡◌, Some};
 ghost use Rattle.model.specs.Kernel.Kinds.{kind_at};

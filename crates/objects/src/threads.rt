@@ -1,4 +1,4 @@
-//! How one thread changes while it stands where it stands.
+//! How one thread changes while it stays where it is.
 
 ghost use Rattle.std.specs.Prelude.{ℕ, ◌≡◌, Some};
 ghost use Rattle.model.specs.Kernel.Kinds.{kind_at};
@@ -44,7 +44,7 @@ impl Objects {
         thread_records::set_slice(store, offset, slice);
     }
 
-    /// Sets the priority of a thread, which may stand in the ready list at another one.
+    /// Sets the priority of a thread, which may be in the ready list at another one.
     pub(crate) fn set_priority_at<S: SlotStore>(&mut self, store: &mut S, offset: u32, priority: u8)
         requires there { kind_at (state_of self.old (S.slots store.old) (S.memory store.old)) offset ≡ Some NewThread }
         requires stands { Standing self.old (S.slots store.old) (S.memory store.old) }

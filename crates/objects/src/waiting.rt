@@ -16,7 +16,7 @@ use queues::waiting::{first, pop, push};
 use slots::SlotStore;
 
 impl Objects {
-    /// A thread that stands in no queue stands behind those that wait at an object, to send this or to receive.
+    /// A thread that is in no queue is put after those that wait at an object, to send this or to receive.
     pub(crate) fn enqueue<S: SlotStore>(
         &mut self,
         store: &mut S,
@@ -39,7 +39,7 @@ impl Objects {
         push(&self.held, store, queue, thread);
     }
 
-    /// A thread that stands in no queue is to send this, or to receive.
+    /// A thread that is in no queue is to send this, or to receive.
     fn set_sending_at<S: SlotStore>(&self, store: &mut S, thread: u32, sending: Option<Sending>)
         requires apart { StandsNowhere (state_of self.now (S.slots store.old) (S.memory store.old)).objects thread }
         requires there { kind_at (state_of self.now (S.slots store.old) (S.memory store.old)) thread ≡ Some NewThread }

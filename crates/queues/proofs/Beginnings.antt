@@ -1,4 +1,4 @@
--- Threads and objects begin with nobody named, and who stands in no queue is not named.
+-- Threads and objects begin with nobody named, and who is in no queue is not named.
 use Rattle.std.proofs.Common.{ℕ, suc, ◌≡◌, ◌∙◌, ◌+◌, ◌*◌, ◌<◌, ◌≤◌, inl, inr, if◌then◌else◌, None, List, [], length, slice_index, sym, ap, arith}
 use Rattle.std.proofs.lemmas.Bool.{cases_lt}
 use Rattle.model.proofs.BytesLemmas.{word_at-written}

@@ -1,4 +1,4 @@
--- What stays of queues where other bytes change, and where threads and objects come and go that stand in no queue.
+-- What stays of queues where other bytes change, and where threads and objects come and go that are in no queue.
 use Rattle.std.proofs.Common.{ℕ, ◌≡◌, ◌∙◌, ◌+◌, ◌*◌, ◌<◌, ◌⊎◌, inl, inr, Bool, true, if◌then◌else◌, Option, Some, None, List, length, refl, sym, ap, subst, arith}
 use Rattle.model.specs.Capabilities.Slots.{Slots}
 use Rattle.model.specs.Shared.Lists.{times_in}
@@ -88,7 +88,7 @@ module _ (p n : Places) (ends : List Ends) (old new : List ℕ) (size : length n
 -- ---- one kind of queues changes beside the other
 
 module _ (p : Places) (slots : Slots) (old new : List ℕ) (laid : AreLaidOut p slots (length old)) where
-  -- the links of threads that wait stand beside those of threads that are ready, and heads beside both
+  -- the links of threads that wait are beside those of threads that are ready, and heads beside both
   links-apart : (a b place : ℕ) → p.threads a ≡ true → p.threads b ≡ true → IsLinkByte 244 a place → IsLinkByte 256 b place → ⊥
   links-apart a b place is is' held held' =
       let one = laid.aligned a is in
@@ -123,7 +123,7 @@ module _ (p : Places) (slots : Slots) (old new : List ℕ) (laid : AreLaidOut p 
     ]);
   }
 
--- ---- who stands in queues
+-- ---- who is in queues
 
 pub waiting-threads : (p : Places) (memory : List ℕ) → QueuesStand p memory → (queue thread : ℕ) → 0 < times_in (queue_of p memory queue) thread → p.threads thread ≡ true
 waiting-threads p memory stands queue thread some =

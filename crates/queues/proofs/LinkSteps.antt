@@ -1,4 +1,4 @@
--- What linking behind the last one and taking out make of the links of all threads.
+-- What linking after the last one and taking out make of the links of all threads.
 use Rattle.std.proofs.Common.{ℕ, ◌≡◌, ◌∙◌, ◌+◌, ◌-◌, ◌^◌, ◌<◌, ◌≤◌, Bool, true, if◌then◌else◌, Option, Some, None, List, length, sym, ap, subst, arith}
 use Rattle.model.specs.Kernel.State.{put}
 use Rattle.slots.specs.preorder.Chains.{put_at}
@@ -54,7 +54,7 @@ module _ (base : ℕ) (threads : ℕ → Bool) (m : List ℕ) (places : AreInPla
         previous = put links.previous thread (back i);
       })
 
-  -- a link that stands in the bytes of a thread
+  -- a link that lies in the bytes of a thread
   pub link-there : (k : ℕ) → link_in base threads m k thread ≡ link_at base m thread k
   link-there k = ap (λ b. if b then link_at base m thread k else None) is
 

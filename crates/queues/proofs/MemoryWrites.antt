@@ -43,7 +43,7 @@ fits-word (Some x) = omega arith
 
 -- ---- the links of threads
 
--- threads stand in memory of this size, each at a multiple of its own
+-- threads lie in memory of this size, each at a multiple of its own
 pub record AreInPlace (threads : ℕ → Bool) (size : ℕ) : Type 0 where
   pub few : size ≤ 2 ^ 24
   pub aligned : (thread : ℕ) → threads thread ≡ true → thread % 512 ≡ 0

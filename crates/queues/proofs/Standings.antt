@@ -94,7 +94,7 @@ module _ (places : Places) (slots : Slots) (m : List ℕ) (laid : AreLaidOut pla
         | inr behind ↦ absurd (omega (arith, behind, below, held.0, most))
       ]))
 
--- ---- what is linked stands
+-- ---- what is linked
 
 pub stands-as : (places : Places) (old new : List ℕ) (w : Threaded) → waiting_in places new ≡ w → length new ≡ length old → AreLinked w (length old) → QueuesStand places new
 stands-as places old new w is size known = record {
@@ -116,7 +116,7 @@ pub named-thread : (places : Places) (memory : List ℕ) (o : Option ℕ) (queue
     → ((x : ℕ) → o ≡ Some x → (waiting_in places memory).owner x ≡ Some queue) → AreThreads places.threads o
 named-thread places memory o queue owned x is = linked-thread 244 places.threads memory 0 x queue (owned x is)
 
--- ---- who stands in no queue, and who is the first
+-- ---- who is in no queue, and who is the first
 
 pub idle : (places : Places) (m : List ℕ) (thread : ℕ) → QueuesStand places m → (waiting_in places m).owner thread ≡ None
     → (other : ℕ) → queue_of places m other ≡ without thread (queue_of places m other)
@@ -129,7 +129,7 @@ unfolding queue_of
 first-found places m queue =
     elim (end_in places.heads m 0 queue) as (λ o. head_of (linked (waiting_in places m).next (suc (length m)) o) ≡ o) [ None ↦ refl | Some x ↦ refl ]
 
--- a thread stands in no queue of what has no place for it
+-- a thread is in no queue of what has no place for it
 pub headed : (places : Places) (m : List ℕ) (queue thread : ℕ) → QueuesStand places m → (waiting_in places m).owner thread ≡ Some queue → places.heads queue ≢ None
 headed places m queue thread stands owned none =
     let w = waiting_in places m in
@@ -271,7 +271,7 @@ module _ (places : Places) (slots : Slots) (m : List ℕ) (laid : AreLaidOut pla
   push-queues other = queue-as places m end (pushed w queue thread) pushed-is size-end other
       ∙ pushing.queues w (length m) queue thread stands.linked unqueued (omega (arith, near)) other
 
-  -- who has the queue stands in it
+  -- who has the queue is in that queue
   in-new : (x : ℕ) → (pushed w queue thread).owner x ≡ Some queue → 0 < times_in (queue_of places end queue) x
   in-new x owned =
       let there' : 0 < times_in (listed (waiting_in places end) (length end) queue) x =

@@ -1,4 +1,4 @@
--- The laws of this crate on what stays of queues, where other bytes change, and where threads and objects come and go that stand in no queue.
+-- The laws of this crate on what stays of queues, where other bytes change, and where threads and objects come and go that are in no queue.
 use Rattle.std.specs.Prelude.{ℕ, ◌≡◌, ◌+◌, ◌<◌, ◌≤◌, ◌⊎◌, Bool, true, false, Option, Some, None, List, [], length, slice_index}
 use Rattle.model.specs.Capabilities.Slots.{Slots}
 use Rattle.model.specs.Shared.Lists.{times_in}
@@ -8,7 +8,7 @@ use Rattle.queues.specs.Ready.{ReadyStands, SameBesideReady, nobody, ready_of}
 use Rattle.queues.specs.Words.{end_at, end_in, link_at, link_in, with_ends, without_links}
 use Rattle.queues.specs.declared.words.Ends.{Ends}
 
--- a thread is as it was, with the bytes of its links, or it stands in no queue before and after
+-- a thread is as it was, with the bytes of its links, or it is in no queue before and after
 pub record IsKept (base : ℕ) (before after : ℕ → Bool) (old new : List ℕ) (thread : ℕ) : Type 0 where
   pub there : after thread ≡ before thread
   pub bytes : before thread ≡ true → (place : ℕ) → IsLinkByte base thread place → slice_index new place ≡ slice_index old place
@@ -45,7 +45,7 @@ pub record ReadyStays : Type 0 where
   pub queues : (p n : Places) (ends : List Ends) (old new : List ℕ) → length new ≡ length old → KeepThreads 256 p n old new → ReadyStands p ends old
       → (priority : ℕ) → ready_of n ends new priority ≡ ready_of p ends old priority
 
--- who stands in queues is a thread
+-- who is in queues is a thread
 abbrev pub AreThreadsIn : Places → (ℕ → List ℕ) → Type 0
 AreThreadsIn p queues = (queue thread : ℕ) → 0 < times_in (queues queue) thread → p.threads thread ≡ true
 
@@ -57,13 +57,13 @@ pub record KindsApart : Type 0 where
       → SameBesideReady queues old new → (thread : ℕ) → IsKept 244 p.threads p.threads old new thread
   pub heads : (p : Places) (slots : Slots) (old new : List ℕ) → AreLaidOut p slots (length old) → (queues : ℕ → List ℕ) → AreThreadsIn p queues
       → SameBesideReady queues old new → (queue : ℕ) → KeepsWaiting p.heads p.heads old new queue
-  -- who stands in queues is a thread, and waits at an object that may have such
+  -- who is in queues is a thread, and waits at an object that may have such
   pub waiters : (p : Places) (memory : List ℕ) → QueuesStand p memory → AreThreadsIn p (queue_of p memory)
   pub waited : (p : Places) (memory : List ℕ) → QueuesStand p memory → (queue thread : ℕ) → 0 < times_in (queue_of p memory queue) thread
       → (head : ℕ) × (p.heads queue ≡ Some head)
   pub runners : (p : Places) (ends : List Ends) (memory : List ℕ) → ReadyStands p ends memory → AreThreadsIn p (ready_of p ends memory)
 
--- who stands in no queue has no links there, and where nobody waits, the object names nobody
+-- who is in no queue has no links there, and where nobody waits, the object names nobody
 pub record NobodyNamed : Type 0 where
   pub idle : (p : Places) (memory : List ℕ) (thread : ℕ) → QueuesStand p memory → ((queue : ℕ) → times_in (queue_of p memory queue) thread ≡ 0)
       → link_in 244 p.threads memory 0 thread ≡ None

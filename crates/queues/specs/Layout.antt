@@ -1,9 +1,9 @@
--- What stands where in memory, as far as queues ask.
+-- What is where in memory, as far as queues ask.
 use Rattle.std.specs.Prelude.{ℕ, ◌≡◌, ◌≢◌, ◌+◌, ◌%◌, ◌^◌, ◌<◌, ◌≤◌, ◌⊎◌, Bool, true, Option, Some}
 use Rattle.model.specs.Capabilities.Slots.{OutsideSlots, Slots}
 
 pub record Places : Type 0 where
-  -- whether a thread stands at an offset
+  -- whether a thread is at an offset
   pub threads : ℕ → Bool
   -- where an object keeps the first and the last of those that wait at it
   pub heads : ℕ → Option ℕ
@@ -20,7 +20,7 @@ pub record IsHeadAt (slots : Slots) (size head : ℕ) : Type 0 where
   pub within : head + 8 ≤ size
   pub outside : OutsideSlots slots head 8
 
--- the links of threads, and what objects keep of those that wait at them, stand apart from each other in memory of this size
+-- the links of threads, and what objects keep of those that wait at them, lie apart from each other in memory of this size
 pub record AreLaidOut (places : Places) (slots : Slots) (size : ℕ) : Type 0 where
   pub aligned : (thread : ℕ) → places.threads thread ≡ true → thread % 512 ≡ 0
   pub threads : (thread : ℕ) → places.threads thread ≡ true → IsThreadAt slots size thread

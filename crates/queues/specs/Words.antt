@@ -18,7 +18,7 @@ abbrev pub word_of : Option ℕ → ℕ
 word_of None = 0
 word_of (Some offset) = (offset + 1) % 2 ^ 32
 
--- word 0 is the queue that a thread stands in, word 1 the next thread and word 2 the previous one
+-- word 0 is the queue that a thread is in, word 1 the next thread and word 2 the previous one
 abbrev pub link_at : ℕ → List ℕ → ℕ → ℕ → Option ℕ
 link_at base memory thread number = somebody (word_at memory (thread + (base + 4 * number)))
 
@@ -68,7 +68,7 @@ with_end memory head number word = written memory (head + 4 * number) (word_byte
 abbrev pub with_ends : List ℕ → ℕ → Ends → List ℕ
 with_ends memory head ends = with_end (with_end memory head 0 (word_of ends.first)) head 1 (word_of ends.last)
 
--- a thread linked behind the last one of a queue
+-- a thread linked after the last one of a queue
 abbrev pub linked_last : ℕ → List ℕ → Option ℕ → ℕ → ℕ → List ℕ
 linked_last base memory last queue thread =
     with_link_at base (with_link base (with_link base (with_link base memory thread 0 (word_of (Some queue))) thread 1 0) thread 2 (word_of last)) last 1 (word_of (Some thread))
@@ -82,6 +82,6 @@ taken_between base memory thread before after =
 abbrev pub taken_out : ℕ → List ℕ → ℕ → List ℕ
 taken_out base memory thread = taken_between base memory thread (link_at base memory thread 2) (link_at base memory thread 1)
 
--- a thread that stands in no queue and is not ready
+-- a thread that is in no queue and is not ready
 abbrev pub without_links : List ℕ → ℕ → List ℕ
 without_links memory thread = with_link 256 (with_link 244 memory thread 0 0) thread 0 0

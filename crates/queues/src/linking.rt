@@ -17,7 +17,7 @@ const NEXT: u32 = 1;
 
 const PREVIOUS: u32 = 2;
 
-/// The queue in which a thread stands, if it stands in one.
+/// The queue in which a thread is, if it is in one.
 pub(crate) fn queue_of_thread<S: SlotStore, L: Layout>(
     layout: &L,
     store: &S,
@@ -34,7 +34,7 @@ pub(crate) fn queue_of_thread<S: SlotStore, L: Layout>(
     }
 }
 
-/// Links a thread behind the last one of a queue, and answers the ends that the queue then has.
+/// Links a thread after the last one of a queue, and answers the ends that the queue then has.
 pub(crate) fn link_last<S: SlotStore>(
     store: &mut S,
     links: LinkWords,
@@ -114,7 +114,7 @@ fn end_without(towards: Option<u32>, away: Option<u32>, end: Option<u32>) -> Opt
     }
 }
 
-/// A thread begins that stands in no queue and is not ready.
+/// A thread begins that is in no queue and is not ready.
 pub fn begin_thread<S: SlotStore>(store: &mut S, thread: u32)
     requires { IsThreadAt (S.slots store.old) (length (S.memory store.old)) thread }
     ensures bytes { S.memory store.new ≡ without_links (S.memory store.old) thread }

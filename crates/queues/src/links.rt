@@ -1,5 +1,5 @@
 //! Queues of threads linked in both directions. Laws on what changes of links make of queues as lists; each law
-//! stands as the contract of a function that does nothing.
+//! is the contract of a function that does nothing.
 
 mod queue_laws;
 

@@ -12,12 +12,12 @@ pub fn ready_stays()
     ensures { ReadyStays }
 {}
 
-/// Who waits changes beside who is ready, and threads alone stand in queues, of objects that may have such.
+/// Who waits changes beside who is ready, and threads alone are in queues, of objects that may have such.
 pub fn kinds_stand_apart()
     ensures { KindsApart }
 {}
 
-/// Who stands in no queue is not named, and where nobody waits, nobody is.
+/// Who is in no queue is not named, and where nobody waits, nobody is.
 pub fn nobody_is_named()
     ensures { NobodyNamed }
 {}

@@ -62,7 +62,7 @@ impl ReadyList {
         self.ends[priority as usize].first
     }
 
-    /// Puts a thread that is not ready behind all others of this priority.
+    /// Puts a thread that is not ready after all others of this priority.
     pub fn push<S: SlotStore, L: Layout>(
         &mut self,
         layout: &L,

@@ -13,7 +13,7 @@ use crate::linking::{link_last, queue_of_thread, unlink};
 use crate::words::{LinkWords, put_ends, read_ends};
 use slots::SlotStore;
 
-/// Whether a thread stands in a queue.
+/// Whether a thread is in a queue.
 pub fn is_queued<S: SlotStore, L: Layout>(layout: &L, store: &S, thread: u32) -> bool
     requires laid { AreLaidOut (L.places layout.now) (S.slots store.now) (length (S.memory store.now)) }
     requires stands { QueuesStand (L.places layout.now) (S.memory store.now) }
@@ -33,7 +33,7 @@ pub fn first<S: SlotStore, L: Layout>(layout: &L, store: &S, queue: u32) -> Opti
     }
 }
 
-/// Puts a thread that stands in no queue behind all others of this queue.
+/// Puts a thread that is in no queue after all others of this queue.
 pub fn push<S: SlotStore, L: Layout>(layout: &L, store: &mut S, queue: u32, thread: u32)
     requires laid { AreLaidOut (L.places layout.now) (S.slots store.old) (length (S.memory store.old)) }
     requires stands { QueuesStand (L.places layout.now) (S.memory store.old) }
@@ -54,7 +54,7 @@ pub fn push<S: SlotStore, L: Layout>(layout: &L, store: &mut S, queue: u32, thre
     }
 }
 
-/// Takes a thread out of its queue, if it stands in one.
+/// Takes a thread out of its queue, if it is in one.
 pub fn leave<S: SlotStore, L: Layout>(layout: &L, store: &mut S, thread: u32)
     requires laid { AreLaidOut (L.places layout.now) (S.slots store.old) (length (S.memory store.old)) }
     requires stands { QueuesStand (L.places layout.now) (S.memory store.old) }

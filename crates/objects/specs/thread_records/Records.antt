@@ -75,7 +75,7 @@ cause_from number = if number == 2 then causes.Misaligned else causes.Illegal
 abbrev pub access_from : ℕ → Access
 access_from number = if number == 2 then accesses.Store else if number == 3 then accesses.Fetch else accesses.Load
 
--- the fault with this code, of which five words tell
+-- the fault with this code, that these five words hold
 abbrev pub fault_from : ℕ → ℕ → ℕ → ℕ → ℕ → ℕ → Option Fault
 fault_from code pc second third fourth fifth =
     if code == 3 then Some (faults.Capability pc second (is_set third) (failure_from fourth fifth)) else
@@ -148,7 +148,7 @@ blank_thread = record {
   sending = None;
 }
 
--- ---- where a record stands
+-- ---- where a record lies
 
 -- all bytes are the same but those from one place to another
 pub record SameBeside (from to : ℕ) (old new : List ℕ) : Type 0 where

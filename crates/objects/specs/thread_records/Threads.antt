@@ -1,4 +1,4 @@
--- What a thread's record stands for in a state.
+-- What a thread's record represents in a state.
 -- seL4 Reference Manual, "Kernel Services and Objects".
 use Rattle.std.specs.Prelude.{ℕ, if◌then◌else◌}
 use Rattle.model.specs.Kernel.Faults.{capability_fault, instruction_fault, memory_fault, unknown_call}

@@ -7,7 +7,7 @@ ghost use Rattle.objects.specs.declared.thread_records.records.Sent.TheVariants 
 use crate::thread_records::records::{Fault, Sending, Sent, Status};
 use model::{Access, Cause, LookupFailure, MemoryFault};
 
-/// How many words tell what a thread sends.
+/// How many words hold what a thread sends.
 pub(crate) const SENDING_WORDS: usize = 9;
 
 /// The status with this code, and the queue that it may name.
@@ -97,7 +97,7 @@ fn access_from(number: u32) -> Access
     }
 }
 
-/// The fault with this code, of which five words tell: none, where no fault has the code.
+/// The fault with this code, that these five words hold: none, where no fault has the code.
 fn fault_from(code: u32, pc: u32, second: u32, third: u32, fourth: u32, fifth: u32) -> Option<Fault>
     ensures { result ≡ fault_from code pc second third fourth fifth }
 {
@@ -154,7 +154,7 @@ pub(crate) fn sending_from(words: &[u32; SENDING_WORDS]) -> Option<Sending>
     }
 }
 
-/// The words that tell what is sent.
+/// The words of what is sent.
 fn sent_words(badge: u32, reply: u32, sent: Sent) -> [u32; SENDING_WORDS]
     ensures { result ≡ sent_words badge reply sent }
 {
@@ -165,7 +165,7 @@ fn sent_words(badge: u32, reply: u32, sent: Sent) -> [u32; SENDING_WORDS]
     }
 }
 
-/// The words that tell that a fault is sent.
+/// The words of a fault that is sent.
 fn fault_words(badge: u32, reply: u32, fault: Fault) -> [u32; SENDING_WORDS]
     ensures { result ≡ sent_words badge reply (Sent.Fault fault) }
 {
@@ -204,7 +204,7 @@ fn fault_words(badge: u32, reply: u32, fault: Fault) -> [u32; SENDING_WORDS]
     }
 }
 
-/// The words that tell what a thread sends: all zero, if that is nothing.
+/// The words of what a thread sends: all zero, if that is nothing.
 pub(crate) fn sending_words(sending: Option<Sending>) -> [u32; SENDING_WORDS]
     ensures { result ≡ sending_words sending }
 {

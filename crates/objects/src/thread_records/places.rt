@@ -1,4 +1,4 @@
-//! Where the fields of a record stand, in bytes from the first of the thread.
+//! Where the fields of a record lie, in bytes from the first of the thread.
 
 /// The address of the next instruction, in a word.
 pub(crate) const PC: u32 = 48;

@@ -34,7 +34,7 @@ fn byte(memory: &Mem, thread: u32, place: u32) -> u8
     memory.read8(thread + place)
 }
 
-/// Words of a thread's record, one behind the other: as many as there is room for.
+/// Words of a thread's record, one after the other: as many as there is room for.
 fn fill_words(memory: &Mem, thread: u32, place: u32, words: &mut [u32])
     requires within { thread + 512 ≤ length memory.now }
     requires inside { place + 4 * length words.old ≤ 512 }

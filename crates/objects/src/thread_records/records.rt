@@ -12,9 +12,9 @@ use rv32_exec::Regs;
 pub enum Status {
     /// It runs again once it is resumed.
     Inactive,
-    /// It stands in the ready list.
+    /// It is in the ready list.
     Runnable,
-    /// It stands in the queue of the endpoint or notification at this offset.
+    /// It is in the queue of the endpoint or notification at this offset.
     Blocked { queue: u32 },
     /// Its Call was received, and it waits for the reply.
     AwaitsReply,
@@ -22,7 +22,7 @@ pub enum Status {
     AwaitsHandler,
 }
 
-/// What a thread tells its handler.
+/// What a thread reports to its handler.
 #[derive(Clone, Copy)]
 pub enum Fault {
     /// A system call named no capability, or one that is not fit for it; whether it was a receive.

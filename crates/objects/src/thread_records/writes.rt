@@ -12,7 +12,7 @@ use crate::thread_records::records::{Sending, Status, Thread};
 use rv32_exec::Regs;
 use slots::SlotStore;
 
-/// Writes words of a thread's record, one behind the other.
+/// Writes words of a thread's record, one after the other.
 fn put_words<S: SlotStore>(store: &mut S, thread: u32, place: u32, words: &[u32])
     requires there { IsRecordAt (S.slots store.old) (length (S.memory store.old)) thread }
     requires first { 48 ≤ place }

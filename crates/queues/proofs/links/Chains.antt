@@ -25,7 +25,7 @@ pub put_at-off : (f : Links) (at value : Option ℕ) (other : ℕ) → at ≢ So
 put_at-off f None value other off = refl
 put_at-off f (Some place) value other off = put-off f place value other (λ same. off (ap Some (sym same)))
 
--- ---- how often a thread stands in a list
+-- ---- how often a thread is in a list
 
 pub times-tail : (x : ℕ) (rest : List ℕ) (y : ℕ) → times_in rest y ≤ times_in (x ∷ rest) y
 times-tail x rest y = grind (arith, nat_tests)
@@ -46,7 +46,7 @@ pub times-joined : (xs : List ℕ) (t y : ℕ) → times_in (xs ++ t ∷ []) y �
 times-joined [] t y = refl
 times-joined (x ∷ rest) t y = grind (arith, nat_tests, times-joined rest t y)
 
--- ---- a thread behind a list
+-- ---- a thread after a list
 
 last-off : (xs : List ℕ) (before : Option ℕ) (x : ℕ) → before ≢ Some x → times_in xs x ≡ 0 → last_or before xs ≢ Some x
 last-off [] before x off none = off
@@ -63,7 +63,7 @@ pub first-joined : (xs : List ℕ) (t : ℕ) → first_of (xs ++ t ∷ []) ≡ f
 first-joined [] t = refl
 first-joined (x ∷ rest) t = refl
 
--- the last of a list stands in it
+-- the last of a list is in it
 last-stands : (xs : List ℕ) (before : Option ℕ) (z : ℕ) → last_or before xs ≡ Some z → (before ≡ Some z) ⊎ (0 < times_in xs z)
 last-stands [] before z is = inl is
 last-stands (x ∷ rest) before z is = elim (last-stands rest (Some x) z is) [

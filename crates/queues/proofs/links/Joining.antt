@@ -1,4 +1,4 @@
--- A thread comes to stand behind all others of a queue.
+-- A thread is put after all others of a queue.
 use Rattle.std.proofs.Common.{ℕ, ◌≡◌, ◌≢◌, ◌∙◌, ◌==◌, ◌+◌, ◌<◌, ◌≤◌, inl, inr, true, false, if◌then◌else◌, Option, Some, None, List, [], ◌∷◌, ◌++◌, sym, ap, subst, arith}
 use Rattle.std.proofs.lemmas.Bool.Decides.{eqb_tells}
 use Rattle.std.proofs.lemmas.Bool.{eq-eqb}
@@ -16,7 +16,7 @@ use Rattle.queues.proofs.links.Listing.{elsewhere, out-as}
 abbrev pub more : (ℕ → List ℕ) → ℕ → ℕ → ℕ → List ℕ
 more lists queue thread = put lists queue (lists queue ++ thread ∷ [])
 
--- how often a thread stands in the new queue
+-- how often a thread is in the new queue
 joined-own : (lists : ℕ → List ℕ) (queue thread : ℕ) → times_in (lists queue) thread ≡ 0 → times_in (lists queue ++ thread ∷ []) thread ≡ 1
 joined-own lists queue thread none =
     times-joined (lists queue) thread thread ∙ times-first thread (lists queue) ∙ ap (λ n. n + 1) none

@@ -1,4 +1,4 @@
--- Links that say the same of those who stand in queues.
+-- Links that say the same of those who are in queues.
 use Rattle.std.proofs.Common.{ℕ, ◌∙◌, None, List, sym}
 use Rattle.slots.proofs.Laws.{chain-same}
 use Rattle.queues.specs.links.Threaded.{AreLinkedAs, SameQueues, Threaded}

@@ -15,7 +15,7 @@ use Rattle.queues.proofs.links.Listing.{elsewhere}
 abbrev pub less : (ℕ → List ℕ) → ℕ → ℕ → List ℕ
 less lists thread queue = without thread (lists queue)
 
--- a thread does not stand in a list without it, and the others stand there as before
+-- a thread is not in a list without it, and the others are in it as before
 without-own : (thread : ℕ) (xs : List ℕ) → times_in (without thread xs) thread ≡ 0
 without-own thread xs =
     times-filter (λ n. not (n == thread)) xs thread ∙ ap (λ b. if not b then times_in xs thread else 0) (eq-eqb thread thread refl)
@@ -34,7 +34,7 @@ module _ (w : Threaded) (lists : ℕ → List ℕ) (queue thread : ℕ) (known :
   absent : (other : ℕ) → other ≢ queue → times_in (lists other) thread ≡ 0
   absent other off = elsewhere w lists queue thread other known is off
 
-  -- a neighbour stands in no other queue
+  -- a neighbour is in no other queue
   apart : (o : Option ℕ) (other z : ℕ) → IsIn (lists queue) o → other ≢ queue → 0 < times_in (lists other) z → o ≢ Some z
   apart o other z some off stands same =
       absurd (let e : some.slot ≡ z = (let e : Some some.slot ≡ Some z = sym some.is ∙ same in cc) in

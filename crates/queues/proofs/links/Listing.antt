@@ -50,7 +50,7 @@ linked-as w lists n known near =
     let path : listed w n ≡ lists = λ i queue. found w lists n known near queue i in
     record { queues = subst (AreLinkedAs w) (sym path) known; near = near }
 
--- ---- who stands in no queue
+-- ---- who is in no queue
 
 pub out-as : (w : Threaded) (lists : ℕ → List ℕ) (thread : ℕ) → AreLinkedAs w lists → w.owner thread ≡ None → (other : ℕ) → times_in (lists other) thread ≡ 0
 out-as w lists thread known none other = elim (cases_lt 0 (times_in (lists other) thread)) [
@@ -65,7 +65,7 @@ none-as w lists thread known out =
       | Some queue ↦ λ is. absurd (omega (arith, out queue, known.stands queue thread is))
     ] refl
 
--- a thread that stands in one queue stands in no other
+-- a thread that is in one queue is in no other
 pub elsewhere : (w : Threaded) (lists : ℕ → List ℕ) (queue thread other : ℕ) → AreLinkedAs w lists → w.owner thread ≡ Some queue → other ≢ queue → times_in (lists other) thread ≡ 0
 elsewhere w lists queue thread other known is off = elim (cases_lt 0 (times_in (lists other) thread)) [
   | inl some ↦ absurd (let e : Some queue ≡ Some other = sym is ∙ known.owned other thread some in let f : other ≡ queue = cc in off f)

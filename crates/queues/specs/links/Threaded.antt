@@ -7,7 +7,7 @@ use Rattle.model.specs.Shared.Lists.{times_in}
 use Rattle.slots.specs.preorder.Chains.{IsChain, Links, put_at}
 
 pub record Threaded : Type 0 where
-  -- of each thread: the queue that it stands in, the next thread in it, and the previous one
+  -- of each thread: the queue that it is in, the next thread in it, and the previous one
   pub owner : Links
   pub next : Links
   pub previous : Links
@@ -25,7 +25,7 @@ linked next (suc n) (Some thread) = thread ∷ linked next n (next thread)
 abbrev pub listed : Threaded → ℕ → ℕ → List ℕ
 listed w size queue = linked w.next (suc size) (w.first queue)
 
--- the last of a list, or who stands before it
+-- the last of a list, or who is before it
 abbrev pub last_or : Option ℕ → List ℕ → Option ℕ
 last_or before [] = before
 last_or before (thread ∷ rest) = last_or (Some thread) rest
@@ -43,7 +43,7 @@ pub record AreLinked (w : Threaded) (size : ℕ) : Type 0 where
   pub queues : AreLinkedAs w (listed w size)
   pub near : (queue thread : ℕ) → w.owner thread ≡ Some queue → thread < size
 
--- the same threads stand in queues, linked in the same way
+-- the same threads are in queues, linked in the same way
 pub record SameQueues (w v : Threaded) : Type 0 where
   pub owner : (thread : ℕ) → v.owner thread ≡ w.owner thread
   pub next : (queue thread : ℕ) → w.owner thread ≡ Some queue → v.next thread ≡ w.next thread
@@ -53,12 +53,12 @@ pub record SameQueues (w v : Threaded) : Type 0 where
 
 -- ---- changes
 
--- the first of a queue, if another thread stands behind it
+-- the first of a queue, if another thread is after it
 abbrev pub first_joined : Option ℕ → ℕ → Option ℕ
 first_joined None thread = Some thread
 first_joined (Some first) thread = Some first
 
--- a thread that stands in no queue stands behind all others of this one
+-- a thread that is in no queue comes after all others of this one
 abbrev pub pushed : Threaded → ℕ → ℕ → Threaded
 pushed w queue thread = record {
   owner = put w.owner thread (Some queue);

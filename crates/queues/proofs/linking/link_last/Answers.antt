@@ -1,4 +1,4 @@
--- The last one still stands where it did, and memory is as long as it was.
+-- The last one is still where it was, and memory is as long as it was.
 use Rattle.std.proofs.Common.{◌∙◌}
 use Rattle.queues.proofs.linking.link_last.Goals as goal
 

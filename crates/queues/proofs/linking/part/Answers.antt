@@ -1,4 +1,4 @@
--- The neighbours still stand where they did, and memory is as long as it was.
+-- The neighbours are still where they were, and memory is as long as it was.
 use Rattle.std.proofs.Common.{◌∙◌}
 use Rattle.queues.proofs.linking.part.Goals as goal
 

@@ -1,4 +1,4 @@
--- A thread stands in no queue exactly where its links name none.
+-- A thread is in no queue exactly where its links name none.
 use Rattle.std.proofs.Common.{ℕ, ◌≡◌, ◌∙◌, Option, Some, None, true, false, is_some, length, refl, sym, ap}
 use Rattle.model.specs.Shared.Lists.{times_in}
 use Rattle.queues.proofs.links.Laws.{unowned}

@@ -1,4 +1,4 @@
--- The thread is linked behind the last one, and the object names it as its last.
+-- The thread is linked after the last one, and the object names it as its last.
 use Rattle.std.proofs.Common.{ℕ, ◌≡◌, ◌∙◌, List, Some, length, sym, ap, subst}
 use Rattle.queues.specs.Layout.{IsHeadAt}
 use Rattle.queues.specs.Queues.{QueuesStand, SameBesideWaiting, queue_of}

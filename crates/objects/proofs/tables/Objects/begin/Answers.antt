@@ -1,4 +1,4 @@
--- The new object stands there, and nobody is linked to it.
+-- The new object is there, and nobody is linked to it.
 use Rattle.std.proofs.Common.{ℕ, ◌≡◌, ◌∙◌, length, subst}
 use Rattle.model.specs.Kernel.State.{put}
 use Rattle.objects.proofs.BegunTables.{has-entry, room-at, tables-begun}

@@ -1,4 +1,4 @@
--- What waits there leaves, and then nothing stands there.
+-- What waits there leaves, and then nothing is there.
 use Rattle.std.proofs.Common.{◌∙◌, ap, refl, sym}
 use Rattle.model.specs.Kernel.State.{State}
 use Rattle.objects.proofs.Frames.{beside-objects, kind-left, moved-to, records-then}

@@ -1,4 +1,4 @@
--- It stands behind all others.
+-- It is after all others.
 use Rattle.std.proofs.Common.{◌∙◌, ap, subst, sym}
 use Rattle.model.specs.Kernel.Kinds.{kind_at}
 use Rattle.model.specs.Kernel.State.{State}

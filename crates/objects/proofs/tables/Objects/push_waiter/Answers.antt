@@ -1,4 +1,4 @@
--- It stands behind the others, and the objects are the same.
+-- It is after the others, and the objects are the same.
 use Rattle.std.proofs.Common.{◌∙◌, None, ap}
 use Rattle.objects.proofs.Endpoints.{changed-notification}
 use Rattle.objects.proofs.Frames.{kind-joined, moved-to, one-changed, same-objects}

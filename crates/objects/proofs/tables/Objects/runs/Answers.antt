@@ -1,4 +1,4 @@
--- The bytes tell of the thread.
+-- The bytes hold the thread.
 use Rattle.std.proofs.Common.{◌∙◌, ap, sym}
 use Rattle.model.specs.Kernel.Scheduling.{is_runnable}
 use Rattle.model.specs.Kernel.State.{ThreadState}

@@ -1,4 +1,4 @@
--- The bytes tell of the thread, if one is there.
+-- The bytes hold the thread, if one is there.
 use Rattle.std.proofs.Common.{◌∙◌, sym}
 use Rattle.objects.proofs.OneThread.{inside, sends-none, sends-there}
 use Rattle.objects.proofs.tables.Objects.sending_of.Goals as goal

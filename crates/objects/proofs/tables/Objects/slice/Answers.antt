@@ -1,4 +1,4 @@
--- The bytes tell of the thread, if one is there.
+-- The bytes hold the thread, if one is there.
 use Rattle.std.proofs.Common.{◌∙◌, ap, sym}
 use Rattle.model.specs.Kernel.State.{ThreadState}
 use Rattle.objects.proofs.OneThread.{inside, read-none, read-there}

@@ -1,4 +1,4 @@
--- The thread stands behind all others of its priority.
+-- The thread is after all others of its priority.
 use Rattle.std.proofs.Common.{◌∙◌, length, ap, subst, sym}
 use Rattle.model.specs.Kernel.State.{ThreadState}
 use Rattle.model.specs.Shared.Lists.{times_in}

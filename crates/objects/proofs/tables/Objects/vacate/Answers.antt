@@ -1,4 +1,4 @@
--- Nothing stands there any more.
+-- Nothing is there any more.
 use Rattle.objects.proofs.Holding.{laid-here}
 use Rattle.objects.proofs.Parting.{tables-less, vacate-done}
 use Rattle.objects.specs.contracts.tables.Objects.{the_view}

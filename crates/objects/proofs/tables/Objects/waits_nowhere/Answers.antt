@@ -1,4 +1,4 @@
--- The tables tell what is there, whoever waits there.
+-- The tables say what is there, whoever waits there.
 use Rattle.std.proofs.Common.{◌∙◌, not, ap, sym}
 use Rattle.objects.specs.Contents as contents
 use Rattle.objects.specs.Contents.{contents_state, told_by}

@@ -1,4 +1,4 @@
--- By what stands there.
+-- By what is there.
 use Rattle.std.proofs.Common.{ℕ, ◌+◌, ◌∙◌, ◌≤◌, List, length, ap, subst, sym, arith}
 use Rattle.model.specs.Shared.Bytes.{word_at}
 use Rattle.objects.proofs.NotificationWords.{word-nowhere, word-there}

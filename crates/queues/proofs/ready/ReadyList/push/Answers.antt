@@ -1,4 +1,4 @@
--- The thread is linked behind the last one of its priority.
+-- The thread is linked after the last one of its priority.
 use Rattle.std.proofs.Common.{ℕ, ◌∙◌, ◌<◌, List, length, sym, ap, subst, arith}
 use Rattle.queues.specs.Ready.{ReadyStands, SameBesideReady, ends_of, ready_of}
 use Rattle.queues.specs.declared.words.Ends.{Ends}
