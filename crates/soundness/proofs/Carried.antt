@@ -137,7 +137,7 @@ held-at s test slot less is =
     let place = λ (x : ℕ). test (capability_at s.slots x) in
     list_any_at place _ slot 0 (omega (arith, size, less)) (ap place (at ∙ omega arith) ∙ is)
 
--- a full slot stands inside memory
+-- a full slot lies inside memory
 pub full-near : (s : State) → HasShape s → SlotsAreSound s → MemoryIsSound s → (slot : ℕ) → IsFull s.slots slot → slot < 2 ^ s.memory_bits / 16
 full-near s shape slots memory slot full = slot-near s shape memory slot ((slots.there slot).0 (full-open s.slots slot full))
 

@@ -129,7 +129,7 @@ module _ (s : State) (whole : IsSound s) where
             ]
       ]
 
--- an interrupt that stands pending comes on the line that is not masked any more
+-- an interrupt that is pending comes on the line that is not masked any more
 acknowledged-by : (s t unmasked : State) (line : ℕ) (o : Option Signal) → IsSound t → IsSound unmasked → binding t line ≡ o
     → IsSound (option_map_or (interrupt t line) o unmasked)
 acknowledged-by s t unmasked line None whole otherwise is = otherwise

@@ -17,7 +17,7 @@ use Rattle.model.specs.Kernel.Soundness.{HasShape, of_boot_area, of_object, IsSo
 use Rattle.model.specs.Kernel.State.{State, as_thread, boot_area_slots, new_thread, thread_at}
 use Rattle.model.proofs.Depths.{depth-none}
 
--- a state in which nothing stands yet
+-- a state in which there is nothing yet
 record IsBare (s : State) : Type 0 where
   empty : (slot : ℕ) → capability_at s.slots slot ≡ Empty
   roots : (slot : ℕ) → parent_at s.slots slot ≡ None

@@ -82,7 +82,7 @@ module _ (s : State) (memory : MemoryIsSound s) where
       let fits : index < 2 ^ s.boot_radix = subst (λ (r : ℕ). index < 2 ^ r) b less in
       of_boot_cnode (omega (arith, a, fits))
 
-  -- behind a CNode
+  -- after a CNode
   goes-plain : (offset radix index rest : ℕ) (address n : ℕ) (found : ℕ × ℕ) (stops : Bool) → IsPlain s (offset / 16 + index)
       → ((left : ℕ) → lookup_within n s.slots (capability_at s.slots (offset / 16 + index)) address left ≡ Ok found → IsPlain s found.0)
       → ◌≡◌ {A = Found} (if stops then Ok (offset / 16 + index, rest) else lookup_within n s.slots (capability_at s.slots (offset / 16 + index)) address rest) (Ok found)

@@ -16,7 +16,7 @@ use Rattle.soundness.specs.Machines.{SameBase}
 
 -- ---- steps put together
 
--- one change behind another
+-- one change after another
 pub then-machine : (s t u : State) → SameBase s t → SameBase t u → SameBase s u
 then-machine s t u first second = record {
   memory_bits = second.memory_bits ∙ first.memory_bits;

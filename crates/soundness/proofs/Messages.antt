@@ -271,7 +271,7 @@ resumption-less pc (word ∷ words) less small = let first = All-head (λ (n : �
 -- the caller, for whom nobody holds a right any more
 module _ (s : State) (caller : ℕ) (message : Message) (whole : IsSound s) (is_thread : kind_at s caller ≡ Some NewThread) (sound : MessageIsSound message)
     (free : (thread : ℕ) → (thread_at s thread).caller ≢ Some caller) where
-  -- it stands in no queue
+  -- it is in no queue
   alone : (status : Status) → (thread_at s caller).status ≡ status → ((queue : ℕ) → ◌≡◌ {A = ℕ} (in_queue status queue) 0) → Moving (kind_at s) s caller (runs_of (s.objects caller)) (λ _. 0) false
   alone status is nowhere =
       let moving = standing s caller status whole is in

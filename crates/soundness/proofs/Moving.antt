@@ -1,4 +1,4 @@
--- One thread on its way from one place to another, and what is true of a state meanwhile: the thread stands in the lists as often as is
+-- One thread on its way from one place to another, and what is true of a state meanwhile: the thread is in the lists as often as is
 -- said apart from it, and each other thread as its own state says.
 use Rattle.std.proofs.Common.{ℕ, ◌≡◌, ◌≢◌, ◌∙◌, ◌==◌, ◌&&◌, ◌+◌, ◌^◌, ◌<◌, ◌++◌, ◌⊎◌, inl, inr, Bool, false, IsTrue, if◌then◌else◌, List, [], ◌∷◌, Option, Some, None, option_map, refl, sym, ap, subst}
 use Rattle.std.specs.Prelude.{All}
@@ -25,7 +25,7 @@ runs_of o priority = if option_map_or (λ t. is_runnable t.status && t.priority 
 abbrev pub waits_of : Option Object → ℕ → ℕ
 waits_of o queue = if option_map_or (λ t. is_blocked_on queue t.status) (as_thread o) false then 1 else 0
 
--- one stands where another stands
+-- one is in the same lists as another
 pub record StandsAs (o p : Option Object) : Type 0 where
   pub runs : (priority : ℕ) → runs_of o priority ≡ runs_of p priority
   pub waits : (queue : ℕ) → waits_of o queue ≡ waits_of p queue
@@ -69,7 +69,7 @@ put-either map place value P at other x = elim (eqb_tells x place) [
 
 -- ---- the lists
 
--- The objects are of these types; the thread x stands in the ready list and in queues as often as these functions say.
+-- The objects are of these types; the thread x is in the ready list and in queues as often as these functions say.
 pub record Listed (kinds : ℕ → Option NewObject) (s : State) (x : ℕ) (r w : ℕ → ℕ) : Type 0 where
   pub kind : (offset : ℕ) → kind_at s offset ≡ kinds offset
   pub rest : RestIsSound s
@@ -241,7 +241,7 @@ module _ (kinds : ℕ → Option NewObject) (s : State) (x : ℕ) (r w : ℕ →
       (put-either s.objects y (Some (ThreadObject t)) (λ thread o. (caller : ℕ) → (own_of o).caller ≡ Some caller → (thread_at s thread).caller ≡ Some caller) had (λ _ _ _ is. is))
       (λ caller other. (stands-rewritten same caller other).awaits)
 
--- The thread has another state: x may stand otherwise then, and another stands as before. A right to reply may go.
+-- The thread has another state: x may be in other lists then, and another is in those of before. A right to reply may go.
 pub rewritten : (kinds : ℕ → Option NewObject) (s : State) (x : ℕ) (r w : ℕ → ℕ) (awaits : Bool) (y : ℕ) (t : ThreadState)
     → Moving kinds s x r w awaits
     → kinds y ≡ Some NewThread → ThreadIsSound t → ((caller : ℕ) → t.caller ≡ Some caller → (thread_at s y).caller ≡ Some caller)

@@ -17,7 +17,7 @@ use Rattle.model.specs.Kernel.State.{Object, ThreadObject, EndpointObject, Notif
 use Rattle.soundness.proofs.Moving.{StandsAs, own_of}
 use Rattle.soundness.proofs.Pieces.{slots_of_kind}
 
--- what stands where nothing stood
+-- what is where nothing was
 pub record IsBorn (after : Option Object) : Type 0 where
   pub stands : StandsAs after None
   pub waiting : waiting_at after ≡ []
@@ -201,7 +201,7 @@ first-valid NewFrame at large small aligned less = ((aligned, less), omega arith
 first-valid NewPageTable at large small aligned less = ((aligned, less), tt)
 first-valid NewRootTable at large small aligned less = (aligned, less)
 
--- frames are told by a test
+-- a test for frames
 pub frame-kind : (kind : NewObject) → is_frame kind ≡ true → kind ≡ NewFrame
 frame-kind (NewUntyped bits) is = let e : false ≡ true = is in absurd cc
 frame-kind NewThread is = let e : false ≡ true = is in absurd cc

@@ -1,4 +1,4 @@
--- New objects in untyped memory: what stands where afterwards.
+-- New objects in untyped memory: what is where afterwards.
 use Rattle.std.proofs.Common.{ℕ, zero, suc, ◌≡◌, ◌≢◌, ◌∙◌, ◌==◌, ◌&&◌, ◌+◌, ◌-◌, ◌*◌, ◌/◌, ◌%◌, ◌^◌, ◌<◌, ◌≤◌, ◌⊎◌, inl, inr, Bool, true, false, not, is_some, IsSome, if◌then◌else◌, pow_pos, List, [], Option, Some, None, option_map, refl, sym, ap, subst, arith}
 use Rattle.std.specs.Option.{option_map_or}
 use Rattle.std.specs.Prelude.{All, ◌↔◌}
@@ -33,7 +33,7 @@ use Rattle.soundness.proofs.Places.{IsPlain, MayHold, StandsIn, full-may_hold, p
 use Rattle.soundness.proofs.Rest.{thread-kind}
 use Rattle.soundness.proofs.UnusedMemory.{Against, lies-against, object-elsewhere, unused-inside}
 
--- What is known before new objects come: where the untyped memory is, where the objects are to stand, and that their capabilities
+-- What is known before new objects come: where the untyped memory is, where the objects are to lie, and that their capabilities
 -- have room in slots of a CNode.
 pub record Retypes (s : State) (slot offset bits watermark : ℕ) (kind : NewObject) (first count mark window : ℕ) : Type 0 where
   pub memory : capability_at s.slots slot ≡ Untyped offset bits watermark
@@ -67,7 +67,7 @@ slotted-kind NewFrame some = refl
 slotted-kind NewPageTable some = refl
 slotted-kind NewRootTable some = refl
 
--- the frame of a place among frames that stand one behind another
+-- the frame of a place among frames that lie one after another
 frame-index : (first count p : ℕ) → first % 2 ^ 12 ≡ 0 → first ≤ p → p < first + count * 2 ^ 12
     → ((p - first) / 2 ^ 12 < count) × (first + (p - first) / 2 ^ 12 * 2 ^ 12 ≡ p - p % 2 ^ 12)
 frame-index first count p aligned low high = (omega (arith, aligned, low, high), omega (arith, aligned, low, high))
@@ -100,7 +100,7 @@ module _ (s : State) (sound : IsSound s) (slot offset bits watermark : ℕ) (kin
   abbrev whole_piece : Piece
   whole_piece = record { first = offset; size = 2 ^ bits }
 
-  -- an object stands in the free part of the memory
+  -- an object lies in the free part of the memory
   pub place-inside : (i : ℕ) → i < count → (offset + watermark ≤ place i) × (place i + 2 ^ object_bits kind ≤ offset + mark) × (mark ≤ 2 ^ bits)
   place-inside i less =
       let next = next-within i count (2 ^ object_bits kind) less in
@@ -137,7 +137,7 @@ module _ (s : State) (sound : IsSound s) (slot offset bits watermark : ℕ) (kin
   pub none-there : (i : ℕ) → i < count → s.objects (place i) ≡ None
   none-there i less = no-object i (s.objects (place i)) less refl
 
-  -- no slot stands there yet
+  -- no slot is there yet
   pub not-there : (i x : ℕ) → i < count → place i / 16 ≤ x → x < place i / 16 + slots_of_kind kind → HasSlot s x → ⊥
   not-there i x less low high (of_boot_area below) =
       let inside = (place-inside i less).0 in

@@ -1,4 +1,4 @@
--- Where Retype places new objects: one behind another, in the free part of untyped memory, each at a multiple of its size.
+-- Where Retype places new objects: one after another, in the free part of untyped memory, each at a multiple of its size.
 use Rattle.std.proofs.Common.{ℕ, zero, suc, ◌≡◌, ◌∙◌, ◌||◌, ◌+◌, ◌-◌, ◌*◌, ◌/◌, ◌%◌, ◌^◌, ◌<◌, ◌≤◌, inl, inr, Bool, true, false, if◌then◌else◌, nat_le, get_or, length, map, pow_pos, List, [], ◌∷◌, Option, Some, None, refl, sym, ap, arith}
 use Rattle.std.specs.List.{list_any, range_with_len}
 use Rattle.std.proofs.Math.Nat.{mul-le-mul_right}

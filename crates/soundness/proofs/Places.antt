@@ -1,4 +1,4 @@
--- Where the slots of sound states stand: each belongs to one object or to the boot area, inside memory.
+-- Where the slots of sound states lie: each belongs to one object or to the boot area, inside memory.
 use Rattle.std.proofs.Common.{ℕ, ◌≡◌, ◌≢◌, ◌∙◌, ◌+◌, ◌*◌, ◌/◌, ◌^◌, ◌<◌, ◌≤◌, inl, inr, IsSome, IsTrue, Option, Some, None, option_map, refl, sym, ap, subst, arith}
 use Rattle.std.specs.Option.{option_map_or}
 use Rattle.std.proofs.lemmas.Bool.Decides.{eqb_tells}
@@ -40,7 +40,7 @@ stands-slot s offset slot stands =
     bounds-within (offset / 16) (slot_count (s.objects offset)) slot stands.low (subst (λ (n : ℕ). slot < offset / 16 + n) (sym count) stands.high)
 
 module _ (s : State) (memory : MemoryIsSound s) where
-  -- an object's memory lies behind the boot area and inside memory
+  -- an object's memory lies after the boot area and inside memory
   pub object-inside : (offset : ℕ) (kind : NewObject) → kind_at s offset ≡ Some kind
       → (boot_area_end s.boot_radix ≤ offset) × (offset + 2 ^ object_bits kind ≤ 2 ^ s.memory_bits)
   object-inside offset kind is =
@@ -69,7 +69,7 @@ module _ (s : State) (memory : MemoryIsSound s) where
       (λ e. differ (ap (λ (o : Option (NewObject × ℕ)). option_map_or (λ (n : NewObject × ℕ). n.1) o 0) (sym x.1 ∙ ap (λ (z : ℕ). object_named (capability_at s.slots z)) e ∙ y.1)))
       (named-piece (capability_at s.slots x.0) (j, a) x.1) (named-piece (capability_at s.slots y.0) (k, b) y.1))
 
-  -- a slot stands in one object
+  -- a slot lies in one object
   pub one-object : (a b slot : ℕ) → StandsIn s a slot → StandsIn s b slot → a ≡ b
   one-object a b slot one other = elim (eqb_tells a b) [
     | inl here ↦ here.1

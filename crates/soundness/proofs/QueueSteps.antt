@@ -156,7 +156,7 @@ waiting-thread (Some FrameObject) q less = absurd (not-one less)
 waiting-thread (Some PageTableObject) q less = absurd (not-one less)
 waiting-thread (Some RootTableObject) q less = absurd (not-one less)
 
--- a thread that stands in a queue
+-- a thread that is in a queue
 pub record WaitsAt (s : State) (q x : ℕ) : Type 0 where
   pub kind : kind_at s x ≡ Some NewThread
   pub status : (thread_at s x).status ≡ Blocked q
@@ -170,7 +170,7 @@ waits-at s whole q x stands =
       status = blocked-on (thread_at s x).status q (subst (λ (n : ℕ). 1 ≤ n) (own-waits (s.objects x) q) less);
     }
 
--- how often a thread with this status stands in queues
+-- how often a thread with this status is in queues
 abbrev pub in_queue : Status → ℕ → ℕ
 in_queue status queue = if is_blocked_on queue status then 1 else 0
 

@@ -1,4 +1,4 @@
--- How often a thread stands in a list that another was put into or taken out of.
+-- How often a thread is in a list that another was put into or taken out of.
 use Rattle.std.proofs.Common.{ℕ, ◌≡◌, ◌≢◌, ◌∙◌, ◌==◌, ◌+◌, ◌++◌, true, false, not, if◌then◌else◌, List, [], ◌∷◌, refl, sym, ap, arith}
 use Rattle.std.proofs.lemmas.Bool.{eq-eqb, ne_eqb}
 use Rattle.model.proofs.Orders.{times-filter}
@@ -18,7 +18,7 @@ times-first_same thread threads = ap (λ b. if b then times_in threads thread + 
 pub times-first_other : (thread : ℕ) (threads : List ℕ) (other : ℕ) → other ≢ thread → times_in (thread ∷ threads) other ≡ times_in threads other
 times-first_other thread threads other differs = ap (λ b. if b then times_in threads other + 1 else times_in threads other) (ne_eqb thread other (λ e. differs (sym e)))
 
--- two lists behind one another
+-- two lists after one another
 pub times-append : (one two : List ℕ) (other : ℕ) → times_in (one ++ two) other ≡ times_in one other + times_in two other
 times-append [] two other = omega arith
 times-append (t ∷ one) two other =

@@ -41,7 +41,7 @@ some-thread test (Some FrameObject) is = let clash : false ≡ true = is in absu
 some-thread test (Some PageTableObject) is = let clash : false ≡ true = is in absurd cc
 some-thread test (Some RootTableObject) is = let clash : false ≡ true = is in absurd cc
 
--- a thread stands at one of the places
+-- a thread is at one of the places
 thread-place : (s : State) → IsSound s → (o : ℕ) (t : ThreadState) → s.objects o ≡ Some (ThreadObject t) → is_in (thread_places s) o ≡ true
 thread-place s sound o t is =
     let inner : is_slot_of s o (o / 16) ≡ true = bounds-within (o / 16) (slot_count (s.objects o)) (o / 16) (omega arith) (let two : slot_count

@@ -1,4 +1,4 @@
--- A thread that wakes, stops, leaves what it waits for, or changes where it stands.
+-- A thread that wakes, stops, leaves what it waits for, or changes where it is.
 use Rattle.std.proofs.Common.{ℕ, ◌≡◌, ◌≢◌, ◌∙◌, ◌==◌, ◌&&◌, ◌+◌, ◌^◌, ◌<◌, ◌++◌, ◌⊎◌, inl, inr, Bool, true, false, not, IsTrue, if◌then◌else◌, filter, map, List, [], ◌∷◌, Option, Some, None, option_map, refl, sym, ap, subst, arith}
 use Rattle.std.specs.Prelude.{All}
 use Rattle.std.specs.Option.{option_map_or}
@@ -54,7 +54,7 @@ own-fine kinds s x r w y listed is_thread =
     let own = thread-kind (s.objects y) (listed.kind y ∙ is_thread) in
     subst ThreadIsSound (sym (ap own_of own.1)) (listed.threads y own.0 own.1)
 
--- ---- where a thread comes to stand
+-- ---- where a thread comes to be
 
 module _ (kinds : ℕ → Option NewObject) (s : State) (x : ℕ) (r w : ℕ → ℕ) (awaits : Bool) (moving : Moving kinds s x r w awaits) (is_thread : kinds x ≡ Some NewThread) where
   fine : ThreadIsSound (thread_at s x)
@@ -74,7 +74,7 @@ module _ (kinds : ℕ → Option NewObject) (s : State) (x : ℕ) (r w : ℕ →
       (λ q. subst (λ (o : Option Object). w q ≡ waits_of o q) here (waits q))
       (λ a. subst (λ (o : Option Object). IsTrue (awaits_answer (own_of o).status)) here (answers a))
 
-  -- it does not run: it stands in no list, or in a queue that it was put into
+  -- it does not run: it is in no list, or in a queue that it was put into
   pub stopped-whole : (status : Status) → is_runnable status ≡ false → ((queue : ℕ) → ◌≡◌ {A = ℕ} (w queue) (if is_blocked_on queue status then 1 else 0))
       → (IsTrue awaits → IsTrue (awaits_answer status)) → IsSound (block s x status)
   stopped-whole status stops waits answers =
@@ -88,7 +88,7 @@ module _ (kinds : ℕ → Option NewObject) (s : State) (x : ℕ) (r w : ℕ →
       (λ q. subst (λ (o : Option Object). w q ≡ waits_of o q) here (waits q))
       (λ a. subst (λ (o : Option Object). IsTrue (awaits_answer (own_of o).status)) here (answers a))
 
-  -- it changes beside where it stands
+  -- it changes beside where it is
   pub rewritten-whole : (t : ThreadState) → ThreadIsSound t → ((caller : ℕ) → t.caller ≡ Some caller → (thread_at s x).caller ≡ Some caller)
       → ((priority : ℕ) → r priority ≡ runs_of (Some (ThreadObject t)) priority) → ((queue : ℕ) → w queue ≡ waits_of (Some (ThreadObject t)) queue)
       → (IsTrue awaits → IsTrue (awaits_answer t.status)) → IsSound (with_thread s x t)
@@ -100,7 +100,7 @@ module _ (kinds : ℕ → Option NewObject) (s : State) (x : ℕ) (r w : ℕ →
       (λ q. subst (λ (o : Option Object). w q ≡ waits_of o q) here (waits q))
       (λ a. subst (λ (o : Option Object). IsTrue (awaits_answer (own_of o).status)) here (answers a))
 
--- a thread that stands in no queue wakes, if nobody holds a right for it
+-- a thread that is in no queue wakes, if nobody holds a right for it
 pub woken-whole : (kinds : ℕ → Option NewObject) (s : State) (x : ℕ) (r : ℕ → ℕ) → Moving kinds s x r (λ _. 0) false
     → kinds x ≡ Some NewThread → IsSound (wake s x)
 woken-whole kinds s x r moving is_thread =
@@ -256,7 +256,7 @@ one-side x before e senders receivers sides = elim sides [
   | inr none ↦ inr (receivers ∙ ap (without x) none)
 ]
 
--- the thread stands nowhere, and nobody holds a right for it
+-- the thread is nowhere, and nobody holds a right for it
 pub left-moving : (kinds : ℕ → Option NewObject) (s : State) (x : ℕ) (r w : ℕ → ℕ) (awaits : Bool) → Moving kinds s x r w awaits
     → Moving kinds (leaves s x) x (λ _. 0) (λ _. 0) false
 left-moving kinds s x r w awaits moving = record {

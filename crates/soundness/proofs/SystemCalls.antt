@@ -280,7 +280,7 @@ reply-runs s thread (Some caller) whole runs is =
     running-object one (replied one caller (thread_at s caller).status (message_of (thread_at s thread))) thread
     (replied-object one caller thread (thread_at s caller).status (message_of (thread_at s thread)) other) (dropped-runs s thread whole runs.kind runs.runs)
 
--- and goes on behind its ECALL
+-- and goes on after its ECALL
 pub reply-passes-whole : (s : State) (thread : ℕ) → IsSound s → IsRunning s thread → IsSound (passes (reply s thread) thread)
 reply-passes-whole s thread whole runs =
     passes-whole (reply s thread) (reply-whole s thread whole runs.kind) thread (reply-runs s thread (thread_at s thread).caller whole runs refl).kind

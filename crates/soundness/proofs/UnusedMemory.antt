@@ -1,4 +1,4 @@
--- Behind the watermark of untyped memory nothing stands.
+-- There is nothing after the watermark of untyped memory.
 use Rattle.std.proofs.Common.{ℕ, ◌≡◌, ◌≢◌, ◌∙◌, ◌+◌, ◌*◌, ◌-◌, ◌/◌, ◌%◌, ◌^◌, ◌<◌, ◌≤◌, ◌⊎◌, inl, inr, IsSome, Option, Some, None, refl, sym, ap, subst, arith}
 use Rattle.std.proofs.lemmas.Nat.{mod-pow-add, pow-add}
 use Rattle.model.specs.Capabilities.CapabilityWords.{IsCapability}
@@ -13,7 +13,7 @@ use Rattle.soundness.proofs.Pieces.{named-piece, named-unused, slots-fit}
 use Rattle.soundness.proofs.Places.{slot-stands}
 use Rattle.soundness.specs.Unused.{IsUnused}
 
--- what lies against untyped memory is before the unused part or behind it, or it is untyped memory that this was made of
+-- what lies against untyped memory is before the unused part or after it, or it is untyped memory that this was made of
 abbrev pub Against : State → ℕ → ℕ → ℕ → ℕ → ℕ → Piece → Type 0
 Against s slot offset bits watermark y p = ((p.first + p.size ≤ offset + watermark) ⊎ (offset + 2 ^ bits ≤ p.first))
     ⊎ ((used : Piece) × (used_of (capability_at s.slots y) ≡ Some used) × IsInside (record { first = offset; size = 2 ^ bits }) used × Descendant s.slots y slot)

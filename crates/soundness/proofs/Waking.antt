@@ -23,7 +23,7 @@ abbrev pub is_in : List ℕ → ℕ → Bool
 is_in [] n = false
 is_in (x ∷ l) n = n == x || is_in l n
 
--- no number stands twice
+-- no number is twice
 abbrev pub AreApart : List ℕ → Type 0
 AreApart [] = Unit {0}
 AreApart (x ∷ l) = (is_in l x ≡ false) × AreApart l
@@ -31,7 +31,7 @@ AreApart (x ∷ l) = (is_in l x ≡ false) × AreApart l
 in-tail : (x n : ℕ) (l : List ℕ) → is_in l n ≡ true → is_in (x ∷ l) n ≡ true
 in-tail x n l is = ap (λ b. n == x || b) is ∙ or-true (n == x)
 
--- what stands in a part of a list passes the test, and stands in the list
+-- what is in a part of a list passes the test, and is in the list
 pub in-filter : (test : ℕ → Bool) (l : List ℕ) (n : ℕ) → is_in (filter test l) n ≡ true → (test n ≡ true) × (is_in l n ≡ true)
 in-filter test [] n is = let clash : false ≡ true = is in absurd cc
 in-filter test (x ∷ l) n is = elim (test x) as (λ b. test x ≡ b → is_in (cond b (x ∷ filter test l) (filter test l)) n ≡ true → (test n ≡ true) × (is_in (x ∷ l) n ≡ true)) [
@@ -99,7 +99,7 @@ in-places first (suc count) n low high = elim (eqb_tells n first) [
 
 -- ---- one thread
 
--- the threads of a list stand still
+-- the threads of a list are at rest
 abbrev stilled_if : Bool → Option Object → Option Object
 stilled_if still o = if still then stilled o else o
 
@@ -120,7 +120,7 @@ runs-same true (Some FrameObject) = refl
 runs-same true (Some PageTableObject) = refl
 runs-same true (Some RootTableObject) = refl
 
--- a state with other objects, in which a thread stands at the tail of a priority
+-- a state with other objects, in which a thread is at the tail of a priority
 abbrev tailed_with : State → ℕ → (ℕ → Option Object) → ℕ → State
 tailed_with s x objects priority =
     record s { objects = objects; ready = put (λ p. without x (s.ready p)) priority (without x (s.ready priority) ++ x ∷ []) }
@@ -161,7 +161,7 @@ module _ (s : State) (x : ℕ) (l : List ℕ) (apart : is_in l x ≡ false) wher
       ∙ ap (λ (t : ThreadState). t.priority) (sym (runs-same (is_in (x ∷ l) x) (s.objects x)))
       ∙ sym (ap (λ (o : Option Object). (own_of o).priority) (put-here others x (Some (ThreadObject (running_thread (own_of (others x)))))))
 
-  -- it makes no difference whether a thread wakes before or after the others of a list stand still
+  -- it makes no difference whether a thread wakes before or after the others of a list are at rest
   pub wakes-first : wake (resting (x ∷ l) s) x ≡ resting l (wake s x)
   unfolding woken others still-woken
   wakes-first = sym (λ i. tailed_with s x (λ o. same-object o i) (same-priority i))
@@ -171,7 +171,7 @@ module _ (s : State) (x : ℕ) (l : List ℕ) (apart : is_in l x ≡ false) wher
       ap (option_map kind_of) (put-other s.objects x (Some (ThreadObject (running_thread (thread_at s x)))) o
       (λ same. let clash : true ≡ false = sym is ∙ ap (is_in l) same ∙ apart in cc))
 
--- a thread that stands still wakes
+-- a thread that is at rest wakes
 wakes-still : (s : State) (x : ℕ) → IsSound s → (t : ThreadState) → s.objects x ≡ Some (ThreadObject t) → t.status ≡ Inactive → IsSound (wake s x)
 wakes-still s x sound t is still =
     woken-whole (kind_at s) s x (runs_of (s.objects x)) (standing s x Inactive sound (ap (λ (o : Option Object). (own_of o).status) is ∙ still)) (ap (option_map kind_of) is)

@@ -7,7 +7,7 @@ use Rattle.model.specs.Kernel.State.{State}
 use Rattle.model.specs.Images.Boot.{boot_root}
 use Rattle.model.specs.declared.capabilities.Cap.{Cap}
 
--- a capability space: its root stands in a slot, or is the loader's
+-- a capability space: its root is in a slot, or is the loader's
 pub data IsRoot (s : State) (root : Cap) : Type 0 where
   of_slot : (slot : ℕ) → capability_at s.slots slot ≡ root → IsRoot s root
   of_loader : root ≡ boot_root s.boot_radix → IsRoot s root

@@ -82,7 +82,7 @@ RetypeKeepsSoundness =
     (s t : State) (root : Cap) (slot : ℕ) (memory : UntypedMemory) (asked : RetypeCall) → IsSound s → IsRoot s root
     → capability_at s.slots slot ≡ Untyped memory.offset memory.bits memory.watermark → retype s root slot memory asked ≡ Ok t → IsSound t
 
--- behind the watermark of untyped memory nothing stands
+-- there is nothing after the watermark of untyped memory
 abbrev pub UnusedMemoryIsFree : Type 0
 UnusedMemoryIsFree = (s : State) (slot offset bits used : ℕ) → IsSound s → capability_at s.slots slot ≡ Untyped offset bits used → IsUnused s offset bits used
 

@@ -1,5 +1,5 @@
-//! Well-formed images boot: definitions of the states through which a loader goes, and laws on what comes of it. Each law stands
-//! as the contract of a function that does nothing.
+//! Well-formed images boot: definitions of the states through which a loader goes, and laws on what comes of it. Each
+//! law is the contract of a function that does nothing.
 
 mod booting_laws;
 mod placing_laws;

@@ -1,4 +1,4 @@
-//! Calls and events keep what is true of every state that the kernel reaches. Each law stands as the
+//! Calls and events keep what is true of every state that the kernel reaches. Each law is the
 //! contract of a function that does nothing.
 #![tactic(auto)]
 

@@ -27,7 +27,7 @@ pub fn reply_keeps_soundness()
     ensures { ReplyKeepsSoundness }
 {}
 
-/// A fault is told to its handler, or stops its thread.
+/// A fault is reported to its handler, or stops its thread.
 pub fn fault_keeps_soundness()
     ensures { FaultKeepsSoundness }
 {}

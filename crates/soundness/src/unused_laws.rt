@@ -1,8 +1,8 @@
-//! Where new objects may stand.
+//! Where new objects may lie.
 
 ghost use Rattle.soundness.specs.Laws.{UnusedMemoryIsFree};
 
-/// Behind the watermark of untyped memory nothing stands.
+/// There is nothing after the watermark of untyped memory.
 pub fn unused_memory_is_free()
     ensures { UnusedMemoryIsFree }
 {}

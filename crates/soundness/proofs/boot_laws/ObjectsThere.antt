@@ -1,4 +1,4 @@
--- The objects of a loaded state by their offsets: at most one of an image's objects stands at an offset.
+-- The objects of a loaded state by their offsets: at most one of an image's objects is at an offset.
 use Rattle.std.proofs.Common.{ℕ, zero, suc, ◌≡◌, ◌≢◌, ◌∙◌, ◌==◌, ◌+◌, ◌<◌, ◌≤◌, inl, inr, if◌then◌else◌, map, [], ◌∷◌, Option, Some, None, refl, sym, ap, arith}
 use Rattle.std.specs.List.{range_with_len}
 use Rattle.std.proofs.lemmas.Bool.{eq-eqb, ne_eqb}

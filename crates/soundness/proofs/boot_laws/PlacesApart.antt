@@ -1,4 +1,4 @@
--- What is said of all objects of a well-formed image: where they stand.
+-- What is said of all objects of a well-formed image: where they lie.
 use Rattle.std.proofs.Common.{ℕ, ◌≡◌, true, arith}
 use Rattle.format_laws.proofs.Laws.{is-fitting}
 use Rattle.soundness.proofs.boot_laws.PlacesObjects.{ObjectStands, UntypedStands, home_of, object-stands, objects-apart}

@@ -1,4 +1,4 @@
--- Where the objects of a well-formed image stand: inside their untypeds, behind the boot area, and apart.
+-- Where the objects of a well-formed image lie: inside their untypeds, after the boot area, and apart.
 use Rattle.std.proofs.Common.{ℕ, zero, suc, ◌≡◌, ◌≢◌, ◌∙◌, ◌==◌, ◌+◌, ◌*◌, ◌%◌, ◌^◌, ◌<◌, ◌≤◌, ◌⊎◌, inl, inr, true, false, if◌then◌else◌, take, pow_pos, Option, Some, None, refl, sym, ap, subst, arith}
 use Rattle.std.specs.Prelude.{is_none, nat_le, slice_get}
 use Rattle.std.proofs.lemmas.Bool.{true≢false, cases_order, eqb-true, ltb-false, not-false, or_parts}
@@ -64,14 +64,14 @@ untypeds-apart image j (suc k) fitting formed less inside =
 
 -- ---- objects
 
--- the untyped that an object stands in, and the number of its bytes
+-- the untyped that an object lies in, and the number of its bytes
 abbrev pub home_of : Image → ℕ → UntypedEntry
 home_of image number = untyped_at image (object_at image number).untyped
 
 abbrev pub size_at : Image → ℕ → ℕ
 size_at image number = 2 ^ bits_of (object_at image number)
 
--- how much is used behind it
+-- how much is used up to its end
 abbrev pub used_after : Image → ℕ → ℕ
 used_after image number = place_of_object (used_before image number) (bits_of (object_at image number)) 1
 
@@ -115,7 +115,7 @@ object-stands image number fitting formed inside =
       aligned = (let e : offset_of image number + 0 * size_at image number ≡ offset_of image number = omega arith in ap (λ (n : ℕ). n % size_at image number) (sym e) ∙ there.aligned 0);
     }
 
--- behind the boot area, and inside memory
+-- after the boot area, and inside memory
 pub object-bounds : (image : Image) (number : ℕ) → ObjectStands image number
     → (boot_area_end image.header.boot_radix ≤ offset_of image number) × (offset_of image number + size_at image number ≤ 2 ^ image.header.memory_bits)
 object-bounds image number stands =
@@ -126,7 +126,7 @@ object-bounds image number stands =
     let e = stands.fits in
     (omega (arith, a, c), omega (arith, b, d, e))
 
--- what stands before an object ends before it
+-- what lies before an object ends before it
 before-in-home : (image : Image) (i j : ℕ) → IsFitting image → AreFormed image → i < j → i < image.header.objects → j < image.header.objects
     → (object_at image i).untyped ≡ (object_at image j).untyped → offset_of image i + size_at image i ≤ offset_of image j
 before-in-home image i j fitting formed order inside_i inside_j same =
@@ -170,7 +170,7 @@ objects-apart image i j fitting formed inside_i inside_j other =
       | inr (inr above) ↦ inr (before-elsewhere image j i fitting formed two one above)
     ]
 
--- offsets tell objects apart
+-- objects differ by their offsets
 pub offsets-apart : (image : Image) (i j : ℕ) → IsFitting image → AreFormed image → i < image.header.objects → j < image.header.objects
     → offset_of image i ≡ offset_of image j → i ≡ j
 offsets-apart image i j fitting formed inside_i inside_j same = elim (eqb_tells i j) [

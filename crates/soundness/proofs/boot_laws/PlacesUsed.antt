@@ -1,4 +1,4 @@
--- How much of an untyped is used behind the first objects of a list, and that it only grows.
+-- How much of an untyped is used for the first objects of a list, and that it only grows.
 use Rattle.std.proofs.Common.{ℕ, zero, suc, ◌≡◌, ◌≢◌, ◌==◌, ◌^◌, ◌<◌, ◌≤◌, inl, inr, true, false, if◌then◌else◌, take, pow_pos, List, [], ◌∷◌, Some, ap, arith}
 use Rattle.std.specs.Prelude.{fold, slice_get}
 use Rattle.std.proofs.lemmas.Bool.Decides.{eqb_tells}
@@ -45,7 +45,7 @@ pub used-grows : (objects : List ObjectEntry) (n m untyped : ℕ) → n ≤ m �
 unfolding used_by
 used-grows objects n m untyped less = fold-grows (used_with untyped) (used-with-grows untyped) 0 objects n m less
 
--- behind an object of this untyped
+-- after an object of this untyped
 pub used-here : (untyped used : ℕ) (o : ObjectEntry) → o.untyped ≡ untyped → used_with untyped used o ≡ place_of_object used (bits_of o) 1
 used-here untyped used o same = elim (eqb_tells o.untyped untyped) [
   | inl here ↦ ap (λ b. if b then place_of_object used (bits_of o) 1 else used) here.0

@@ -66,7 +66,7 @@ module _ (image : Image) (fitting : IsFitting image) (formed : AreFormed image) 
     stands : UntypedStands image k
     stands = untyped-stands image k fitting formed inside
 
-    -- none of those before reaches behind where it begins
+    -- none of those before ends after where it begins
     ends-before : (j : ℕ) (h : Holding) → slice_get (puts k) j ≡ Some h → nat_lt u.offset (end_of h.1.capability) ≡ false
     ends-before j h at =
         let before = put-before k j h at in

@@ -66,7 +66,7 @@ pub record ReadsEmpty (image : Image) (p : Progress) : Type 0 where
   pub binding : (k : ℕ) (i : InterruptEntry) → p.signals ≤ k → slice_get image.interrupts k ≡ Some i
       → Reads image p (line_slot image.header.boot_radix i.line) empty_entry
 
--- slots of CNodes and threads, where all objects stand
+-- slots of CNodes and threads, where all objects are there
 pub record ReadsRoom (image : Image) (p : Progress) : Type 0 where
   pub listed : (k : ℕ) (c : CapabilityEntry) → p.capabilities ≤ k → slice_get image.capabilities k ≡ Some c
       → Reads image p (cnode_slot image c.cnode c.index) empty_entry
@@ -118,7 +118,7 @@ pub record AddsBoot (image : Image) (p : Progress) : Type 0 where
       (inserted (slots_of_loaded image p) (notification_copy_slot image p.signals) (signalled image i) (Some (original_slot image i.notification)))
       (line_slot image.header.boot_radix i.line) (signalled image i) (Some (notification_copy_slot image p.signals))
 
--- where all objects stand
+-- where all objects are there
 pub record AddsRoom (image : Image) (p : Progress) : Type 0 where
   -- a capability that is minted
   pub listed : (c : CapabilityEntry) → slice_get image.capabilities p.capabilities ≡ Some c → is_untyped_type (source_type image c.source) ≡ false

@@ -1,4 +1,4 @@
--- All that is known of a state between two operations, where all objects stand.
+-- All that is known of a state between two operations, where all objects are there.
 use Rattle.std.proofs.Common.{◌≡◌}
 use Rattle.soundness.proofs.boot_laws.ObjectsThere.{reads-objects}
 use Rattle.soundness.proofs.boot_laws.PhaseStates.{Known}

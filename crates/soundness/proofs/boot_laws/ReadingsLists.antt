@@ -9,7 +9,7 @@ use Rattle.std.proofs.lemmas.Option.{none-some, same_Some}
 use Rattle.model.specs.declared.slot_entries.Entry.{Entry}
 use Rattle.model.specs.Images.Described.{Holding, held_in, numbered}
 
--- ---- the first, and those behind it
+-- ---- the first, and those after it
 
 pub held-here : (h : Holding) (rest : List Holding) (slot : ℕ) → h.0 ≡ slot → held_in (h ∷ rest) slot ≡ Some h.1
 held-here h rest slot same = elim (eqb_tells h.0 slot) [

@@ -53,7 +53,7 @@ cspace_holding image t =
 abbrev pub vspace_holding : Image → Thread → Holding
 vspace_holding image t = holding (vspace_slot (offset_of image t.header.tcb)) (original image t.header.root) (Some (original_slot image t.header.root))
 
--- ---- nine sections, one behind another
+-- ---- nine sections, one after another
 
 abbrev nine : Option Entry → Option Entry → Option Entry → Option Entry → Option Entry → Option Entry → Option Entry → Option Entry → Option Entry → Option Entry
 nine a b c d e f g h i = option_or (option_or (option_or (option_or (option_or (option_or (option_or (option_or a b) c) d) e) f) g) h) i

@@ -19,7 +19,7 @@ use Rattle.soundness.specs.boot_laws.Loading.{Progress, all_loaded, loaded, noth
 use Rattle.soundness.proofs.boot_laws.RunEnd.{CountsAreLengths, loaded-end}
 use Rattle.soundness.proofs.boot_laws.RunSequences.{Leads, boots-by, calls-of, leads-both, leads-call, leads-each, leads-same, leads-to, one-each}
 
--- ---- where each phase stands behind so many entries
+-- ---- how far each phase is after so many entries
 
 abbrev pub at_objects : ℕ → Progress
 at_objects count = record nothing_loaded { objects = count }
@@ -39,7 +39,7 @@ at_frames image count = record (at_tables image image.header.tables) { frames = 
 abbrev pub at_fills : Image → ℕ → Progress
 at_fills image count = record (at_frames image image.header.frames) { fills = count }
 
--- behind all contents and the programs of so many threads
+-- after all contents and the programs of so many threads
 abbrev pub at_programs : Image → ℕ → Progress
 at_programs image count = at_fills image (length image.contents + length (flat_map (program_fills image) (take count image.threads)))
 
@@ -179,7 +179,7 @@ last-calls image by =
     let threads : Leads image s1 (map Calls ys) s2 = lists-each image (thread_calls image) (λ i. loaded image (at_threads image i)) image.threads image.header.threads by.lengths.4 by.threads in
     leads-same image s0 s2 (map Calls xs ++ map Calls ys) (map Calls (last_calls image)) (sym (calls-joined xs ys)) (leads-both image s0 s1 s2 (map Calls xs) (map Calls ys) signals threads)
 
--- a list's beginning of no items, and a number that is behind nothing
+-- a list's beginning of no items, and a number that is after nothing
 take-none : {A : Type 0} (xs : List A) → take 0 xs ≡ []
 take-none [] = refl
 take-none (x ∷ xs) = refl

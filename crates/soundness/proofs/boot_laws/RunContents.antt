@@ -38,7 +38,7 @@ get-behind (x ∷ xs) ys i =
     let step : length (x ∷ xs) + i ≡ suc (length xs + i) = omega arith in
     ap (λ (n : ℕ). slice_get (x ∷ (xs ++ ys)) n) step ∙ get-behind xs ys i
 
--- the items that one of the items gives stand behind those of the ones before
+-- the items that one of the items gives come after those of the ones before
 pub get-flat : {A B : Type 0} (of : A → List B) (xs : List A) (k : ℕ) (x : A) (j : ℕ) (y : B) → slice_get xs k ≡ Some x → slice_get (of x) j ≡ Some y
     → slice_get (flat_map of xs) (length (flat_map of (take k xs)) + j) ≡ Some y
 get-flat of [] zero x j y is item = absurd cc
@@ -57,7 +57,7 @@ pub record FramesAreThere (image : Image) : Type 0 where
   pub contents : (i : ℕ) (c : ImageContent) → slice_get image.contents i ≡ Some c
       → (is_frame_type (type_at image c.header.frame) ≡ true) × (length (bytes_of c.words) ≤ page_size)
   pub programs : (i : ℕ) (x : Numbered) → slice_get image.threads i ≡ Some x.thread → has_place image x.thread ≡ true
-  -- a frame of the image stands at its place once all objects do
+  -- a frame of the image is at its place once all objects are
   pub frames : (p : Progress) → p.objects ≡ image.header.objects → (number : ℕ) → is_frame_type (type_at image number) ≡ true
       → is_frame_object (objects_so_far image p (offset_of image number)) ≡ true
   -- what is mapped is a frame

@@ -1,4 +1,4 @@
--- Frames are filled one by one: each fill is what is described behind one fill more.
+-- Frames are filled one by one: each fill is what is described after one fill more.
 use Rattle.std.proofs.Common.{ℕ, zero, suc, ◌≡◌, ◌∙◌, ◌+◌, ◌-◌, ◌≤◌, ◌&&◌, true, false, nat_le, List, [], ◌∷◌, ◌++◌, take, length, reverse, find, Option, Some, None, option_map, if◌then◌else◌, refl, sym, ap, subst, arith}
 use Rattle.std.specs.Prelude.{option_and_then, slice_get, slice_index}
 use Rattle.std.specs.Option.{option_map_or}
@@ -24,7 +24,7 @@ take-more {A} (y ∷ ys) (suc i) x is = ap (λ (zs : List A). y ∷ zs) (take-mo
 
 -- ---- one fill
 
--- what stands at a place behind one fill more
+-- what is at a place after one fill more
 filled-more : (all : List Fill) (i : ℕ) (f : Fill) (place : ℕ) → slice_get all i ≡ Some f
     → filled_byte (take (suc i) all) place ≡ (if is_within f.offset (length f.bytes) place then slice_index f.bytes (place - f.offset) else filled_byte (take i all) place)
 filled-more all i f place is =
@@ -59,7 +59,7 @@ fills-one image p f is frame short =
 
 -- ---- many fills
 
--- what has to be shown of some fills that stand in the list of all fills from a number on
+-- what has to be shown of some fills that are in the list of all fills from a number on
 pub record FillsFrom (image : Image) (p : Progress) (fs : List Fill) : Type 0 where
   pub listed : (j : ℕ) (f : Fill) → slice_get fs j ≡ Some f → slice_get (fills image) (p.fills + j) ≡ Some f
   pub frames : (j : ℕ) (f : Fill) → slice_get fs j ≡ Some f → is_frame_object (objects_so_far image p f.offset) ≡ true

@@ -1,4 +1,4 @@
--- A sequence of the loader's operations leads from one state to another, whatever comes behind it.
+-- A sequence of the loader's operations leads from one state to another, whatever comes after it.
 use Rattle.std.proofs.Common.{ℕ, suc, ◌≡◌, ◌∙◌, ◌+◌, List, [], ◌∷◌, ◌++◌, map, length, Option, Some, None, Result, Ok, refl, sym, ap, subst, append_assoc, arith}
 use Rattle.std.specs.Prelude.{flat_map, option_and_then, slice_get}
 use Rattle.std.proofs.lemmas.List.{append-nil}
@@ -11,7 +11,7 @@ use Rattle.model.specs.Images.Image.{Image}
 use Rattle.model.specs.Kernel.Setup.{boot_area, put_control, put_untyped}
 use Rattle.model.specs.Kernel.State.{State}
 
--- what is behind the operations goes on from the other state, with the number of the next call
+-- what is after the operations goes on from the other state, with the number of the next call
 pub record Leads (image : Image) (s : State) (ops : List Operation) (t : State) : Type 0 where
   pub behind : ℕ → ℕ
   pub leads : (n : ℕ) (later : List Operation) → run_from image n s (ops ++ later) ≡ run_from image (behind n) t later

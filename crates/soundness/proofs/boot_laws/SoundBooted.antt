@@ -31,7 +31,7 @@ module _ (image : Image) (fits : whole_image.fits image ≡ true) (well : IsWell
   fitting : IsFitting image
   fitting = is-fitting image fits
 
-  -- ---- the operations behind interrupt control
+  -- ---- the operations after interrupt control
 
   calls-fine : (calls : List LoaderCall) → All HasSmallWords calls → All IsFine (map Calls calls)
   calls-fine calls small = All-map IsFine Calls calls small

@@ -1,4 +1,4 @@
--- One thread more, from what is known of the state before and of the one behind.
+-- One thread more, from what is known of the state before and of the one after.
 use Rattle.std.proofs.Common.{◌≡◌, true, Some, map}
 use Rattle.std.specs.Prelude.{slice_get}
 use Rattle.soundness.specs.boot_laws.Loading.{Progress, loaded}

@@ -28,7 +28,7 @@ find-none test (x ∷ xs) none =
       | false ↦ λ rest. find-none test xs rest
     ] none
 
--- what stands nowhere in a list is not taken from it
+-- what is nowhere in a list is not taken from it
 pub without-mapped : {A : Type 0} (f : A → ℕ) (test : A → Bool) (x : ℕ) (xs : List A) → ((j : ℕ) (y : A) → slice_get xs j ≡ Some y → f y ≢ x)
     → without x (map f (filter test xs)) ≡ map f (filter test xs)
 without-mapped f test x [] apart = refl
@@ -41,7 +41,7 @@ without-mapped f test x (y ∷ ys) apart =
       | false ↦ rest
     ]
 
--- ---- objects that no thread stands at
+-- ---- objects that no thread is at
 
 module _ (gone : ℕ → Bool) where
   abbrev same_without : Option Object → Option Object

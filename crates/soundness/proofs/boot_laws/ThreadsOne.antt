@@ -89,7 +89,7 @@ module _ (image : Image) (p : Progress) (t : Thread) (comes : ThreadComes image 
       comes.before.objects.there t.header.tcb (subst (λ (n : ℕ). t.header.tcb < n) (sym comes.objects) fits.tcb) (ap is_untyped_type is_thread)
       ∙ object-new image p t comes.at is_thread kept.once
 
-  -- no thread that is listed before stands at its offset
+  -- no thread that is listed before is at its offset
   earlier-apart : (j : ℕ) (u : Thread) → slice_get (take p.threads image.threads) j ≡ Some u → offset_of image u.header.tcb ≢ x
   earlier-apart j u there same =
       let before = get-take p.threads image.threads j u there in
@@ -101,7 +101,7 @@ module _ (image : Image) (p : Progress) (t : Thread) (comes : ThreadComes image 
   rests priority =
       without-mapped (λ u. offset_of image u.header.tcb) (λ u. u.header.priority == priority) x (take p.threads image.threads) earlier-apart
 
-  -- ---- the state behind
+  -- ---- the state after
 
   object-behind : (offset : ℕ) → put (objects_so_far image p) x (Some (ThreadObject (listed_thread t))) offset ≡ objects_so_far image (one_thread p) offset
   unfolding loaded

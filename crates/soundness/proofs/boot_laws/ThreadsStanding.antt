@@ -1,4 +1,4 @@
--- Calls of the loader on a thread that does not run, in a state with other slots and with the thread as it stands between them.
+-- Calls of the loader on a thread that does not run, in a state with other slots and with the thread as it is between them.
 use Rattle.std.proofs.Common.{ℕ, suc, ◌≡◌, ◌∙◌, ◌==◌, ◌%◌, ◌^◌, ◌<◌, ◌≤◌, Bool, true, false, not, if◌then◌else◌, Option, Some, List, [], ◌∷◌, map, fold, Ok, refl, ap, arith}
 use Rattle.std.specs.Prelude.{slice_get, slice_set}
 use Rattle.std.specs.Option.{option_map_or}
@@ -42,7 +42,7 @@ module _ (s : State) (slots : Slots) (x slot : ℕ) (shape : HasShape s) (inside
   thread-there : (t : ThreadState) → IsThreadSlot (standing s slots x t) slot x
   thread-there t = record { inside = inside; holds = holds }
 
-  -- another thread in place of the one that stands
+  -- another thread in place of the one that is there
   changed : (t : ThreadState) (change : ThreadState → ThreadState) → with_thread (standing s slots x t) x (change (thread_at (standing s slots x t) x)) ≡ standing s slots x (change t)
   changed t change =
       ap (λ u. with_thread (standing s slots x t) x (change u)) (at-standing s slots x t) ∙ standing-again s slots x t (change t)

@@ -1,4 +1,4 @@
--- What Resume of a thread leaves that nobody else knows of: it runs, behind the others of its priority.
+-- What Resume of a thread leaves that nobody else knows of: it runs, after the others of its priority.
 use Rattle.std.proofs.Common.{ℕ, ◌≡◌, ◌∙◌, ◌==◌, Bool, true, false, if◌then◌else◌, Option, Some, None, [], ◌∷◌, ◌++◌, option_map, refl, ap}
 use Rattle.std.specs.Option.{option_map_or}
 use Rattle.std.proofs.lemmas.Bool.{eq-eqb}

@@ -45,7 +45,7 @@ all_loaded image = record {
 
 -- ---- slots
 
--- untypeds are used up to behind their last object so far
+-- untypeds are used up to the end of their last object so far
 abbrev pub untyped_so_far : Image → Progress → ℕ × UntypedEntry → Holding
 untyped_so_far image p u = holding u.0 (Untyped (u.1).offset (u.1).bits (used_by (take p.objects image.objects) u.0)) None
 

@@ -1,4 +1,4 @@
--- Where the objects of an image stand: inside their untypeds, which stand in memory behind the boot area, and apart.
+-- Where the objects of an image lie: inside their untypeds, which lie in memory after the boot area, and apart.
 use Rattle.std.specs.Prelude.{ℕ, ◌≢◌, ◌+◌, ◌^◌, ◌<◌, ◌≤◌, ◌⊎◌}
 use Rattle.model.specs.declared.entries.UntypedEntry.{UntypedEntry}
 use Rattle.model.specs.Acceptance.WellFormed.{untyped_end}

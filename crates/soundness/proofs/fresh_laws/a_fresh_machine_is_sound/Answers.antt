@@ -1,4 +1,4 @@
--- Nothing stands in its slots, and nothing else is there.
+-- Nothing is in its slots, and nothing else is there.
 use Rattle.soundness.proofs.FreshMachines.{fresh-sound}
 use Rattle.soundness.proofs.fresh_laws.a_fresh_machine_is_sound.Goals as goal
 

@@ -1,4 +1,4 @@
--- A mask less, and a signal where one stands pending.
+-- A mask less, and a signal where one is pending.
 use Rattle.soundness.proofs.Events.{acknowledge-whole}
 use Rattle.soundness.proofs.message_laws.an_acknowledgement_keeps_soundness.Goals as goal
 

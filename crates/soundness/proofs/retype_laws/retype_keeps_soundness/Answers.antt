@@ -1,4 +1,4 @@
--- New objects stand in the free part of their memory, each apart from all others.
+-- New objects lie in the free part of their memory, each apart from all others.
 use Rattle.soundness.proofs.RetypeCalls.{retype-whole}
 use Rattle.soundness.proofs.retype_laws.retype_keeps_soundness.Goals as goal
 

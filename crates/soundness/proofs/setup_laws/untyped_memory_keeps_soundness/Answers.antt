@@ -1,4 +1,4 @@
--- It lies behind all memory that a capability names.
+-- It lies after all memory that a capability names.
 use Rattle.soundness.proofs.Setups.{put_untyped-whole}
 use Rattle.soundness.proofs.setup_laws.untyped_memory_keeps_soundness.Goals as goal
 

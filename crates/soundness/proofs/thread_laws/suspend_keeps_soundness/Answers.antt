@@ -1,4 +1,4 @@
--- The thread leaves what it waits for, and stands nowhere.
+-- The thread leaves what it waits for, and is in no list.
 use Rattle.soundness.proofs.ThreadCalls.{suspend-whole}
 use Rattle.soundness.proofs.thread_laws.suspend_keeps_soundness.Goals as goal
 
