@@ -1,4 +1,4 @@
--- A label of a thread tells that the thread ran, and a thread that runs is within its budget before its instruction.
+-- A label of a thread says that the thread ran, and a thread that runs is within its budget before its instruction.
 use Rattle.std.proofs.Common.{ℕ, ◌≡◌, ◌∙◌, ◌+◌, ◌<◌, ◌≤◌, ℤ, pos, ◌+ℤ◌, ◌≤ℤ◌, true, false, Option, Some, None, List, sym, ap, arith}
 use Rattle.std.specs.Prelude.{Contains, int_lt}
 use Rattle.std.specs.Option.{option_map_or}

@@ -1,4 +1,4 @@
--- The labels of a thread that stands throughout are within its budget.
+-- The labels of a thread whose invariant holds throughout are within its budget.
 use Rattle.std.proofs.Common.{ℕ, ◌≡◌, ◌∙◌, ◌+◌, ◌-◌, ◌≤◌, ◌++◌, true, false, if◌then◌else◌, Some, List, [], ◌∷◌, refl, sym, ap, subst, append_assoc, arith}
 use Rattle.headline.specs.Throughout.{AllStandThroughout}
 use Rattle.headline.proofs.RunningLabels.{label-runs}
@@ -14,7 +14,7 @@ use Rattle.model.specs.Kernel.Steps.{state_after, step, trace}
 use Rattle.model.specs.Kernel.Waits.{KeepsBudget, count_open, is_of, is_wait, labels_of, open_count}
 use Rattle.headline.proofs.Laws.{other-label, own-label, state-next, trace-next}
 
--- what is left behind a label of the thread's
+-- what is left after a label of the thread's
 left-behind : (budget count : ℕ) (label : Label) → budget - count_open count label ≡ left_behind budget (budget - count) label
 left-behind budget count label =
     elim (is_wait label) as

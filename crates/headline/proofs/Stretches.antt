@@ -5,7 +5,7 @@ use Rattle.std.proofs.lemmas.Bool.{and_parts, not-true}
 use Rattle.model.specs.declared.labels.Label.{Label}
 use Rattle.model.specs.Kernel.Waits.{IsStretch, KeepsBudget, NoneWaits, is_wait, labels_of}
 
--- what is left behind a label
+-- what is left after a label
 abbrev pub left_behind : ℕ → ℕ → Label → ℕ
 left_behind budget left label = if is_wait label then budget else left - 1
 
@@ -15,7 +15,7 @@ AreWithin budget left (label ∷ labels) = (1 ≤ left) × AreWithin budget (lef
 
 -- ---- stretches
 
--- labels behind others
+-- labels after others
 record Rest (budget : ℕ) (labels : List Label) : Type 0 where
   left : ℕ
   most : left ≤ budget

@@ -41,7 +41,7 @@ EventsKeepAllStanding =
     (bytes : List ℕ) (image : Image) (s : State) (labels : List Label) (event : Event) → IsAccepted bytes image → AllStand image s labels
     → GoesWell image s labels event
 
--- where all threads stand throughout
+-- where the threads' invariant holds throughout
 abbrev pub StandingThreadsKeepTheirBudgets : Type 0
 StandingThreadsKeepTheirBudgets =
     (bytes : List ℕ) (image : Image) (events : List Event) → IsAccepted bytes image → AllStandThroughout image events

@@ -1,5 +1,5 @@
 //! The points of a program that make system calls: laws on where such a call leads, on what a call that is done writes, on what is known of
-//! the one that is made, and on what the rules allow. Each law stands as the contract of a function that does nothing.
+//! the one that is made, and on what the rules allow. Each law is the contract of a function that does nothing.
 
 mod call_laws;
 mod known_laws;

@@ -5,8 +5,8 @@ ghost use Rattle.headline.specs.SafeRuns.{EventsKeepAllStanding};
 use crate::invocations::steps_go_well;
 use crate::moves::{interrupts_keep_all_standing, ticks_keep_all_standing};
 
-/// In a state in which all threads of an accepted image stand as their certificates say, each event goes well: a step is no fault and
-/// no error, and behind the event all threads stand so again.
+/// In a state in which all threads of an accepted image are as their certificates say, each event goes well: a step is
+/// no fault and no error, and after the event all threads are so again.
 pub fn events_keep_all_standing()
     ensures { EventsKeepAllStanding }
 {

@@ -1,5 +1,5 @@
-//! Invocations of a thread of an accepted image: what the rules allow has no error, and leaves all threads standing. Each law stands
-//! as the contract of a function that does nothing.
+//! Invocations of a thread of an accepted image: what the rules allow has no error, and keeps the threads' invariant.
+//! Each law is the contract of a function that does nothing.
 
 mod copy_laws;
 mod frame_laws;

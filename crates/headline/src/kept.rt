@@ -1,5 +1,5 @@
-//! What leaves the threads of an accepted image where they stand: definitions of what stays true of all of them, and laws on changes
-//! elsewhere. Each law stands as the contract of a function that does nothing.
+//! What leaves the threads of an accepted image where they are: definitions of what stays true of all of them, and laws
+//! on changes elsewhere. Each law is the contract of a function that does nothing.
 
 mod given_laws;
 mod standing_laws;

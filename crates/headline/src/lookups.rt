@@ -1,5 +1,5 @@
-//! The slots that a thread of an accepted image names: laws that lookups find what its certificate notes. Each law stands as the
-//! contract of a function that does nothing.
+//! The slots that a thread of an accepted image names: laws that lookups find what its certificate notes. Each law is
+//! the contract of a function that does nothing.
 
 mod lookup_laws;
 

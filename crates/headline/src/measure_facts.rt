@@ -1,4 +1,5 @@
-//! What the rules on measures say of the registers of a machine. Each law stands as the contract of a function that does nothing.
+//! What the rules on measures say of the registers of a machine. Each law is the contract of a function that does
+//! nothing.
 
 mod falling_laws;
 

@@ -1,6 +1,6 @@
 //! How the threads of an accepted image move on while others and they themselves step: laws on a thread that is left alone, that
-//! begins to wait, and whose system call passes, and on all of them together. Each law stands as the contract of a function that
-//! does nothing.
+//! begins to wait, and whose system call passes, and on all of them together. Each law is the contract of a function
+//! that does nothing.
 
 mod below;
 mod event_laws;

@@ -1,4 +1,5 @@
-//! Where the threads of an accepted image start. There is no code here: each law stands as the contract of a function that does nothing.
+//! Where the threads of an accepted image start. There is no code here: each law is the contract of a function that
+//! does nothing.
 
 mod start_laws;
 

@@ -1,4 +1,4 @@
-//! Threads of accepted images stay at their certificates: laws on a step that reaches no system call. Each law stands as the
+//! Threads of accepted images stay at their certificates: laws on a step that reaches no system call. Each law is the
 //! contract of a function that does nothing.
 
 mod access_laws;

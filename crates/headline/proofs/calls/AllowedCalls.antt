@@ -1,4 +1,4 @@
--- The rule on system calls is kept at each point with a state, so what is known behind the call is there.
+-- The rule on system calls is kept at each point with a state, so what is known after the call is there.
 use Rattle.std.proofs.Common.{ℕ, ◌≡◌, ◌<◌, Bool, false, if◌then◌else◌, List, Option, Some, None, Result, Ok, Err, refl, ap, subst, arith}
 use Rattle.std.specs.Prelude.{Contains}
 use Rattle.headline.proofs.facts.Laws.{state-kept}

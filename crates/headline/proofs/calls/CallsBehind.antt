@@ -1,4 +1,4 @@
--- The one edge of a system call leads to the next point, and what it has to keep there is what is known behind the call.
+-- The one edge of a system call leads to the next point, and what it has to keep there is what is known after the call.
 use Rattle.std.proofs.Common.{ℕ, ◌≡◌, ◌∙◌, ◌+◌, ◌*◌, ◌<◌, ◌<ℤ◌, ◌≤ℤ◌, pos, true, false, List, [], ◌∷◌, Option, Some, Ok, refl, sym, ap, subst, arith}
 use Rattle.std.specs.Prelude.{Contains}
 use Rattle.headline.proofs.facts.Laws.{thread-entry, within-wider}

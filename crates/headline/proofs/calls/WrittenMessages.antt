@@ -1,4 +1,4 @@
--- What a message writes: words of registers one after another, behind the badge and the info word.
+-- What a message writes: words of registers one after another, after the badge and the info word.
 use Rattle.std.proofs.Common.{refl, true, nat_le, nat_lt, ◌&&◌, ℕ, ◌≡◌, ◌^◌, ◌<◌, List, [], ◌∷◌, length, get_or, inl, inr, Bool, if◌then◌else◌, sym, ap, subst, arith}
 use Rattle.std.proofs.lemmas.Bool.Decides.{eqb_tells}
 use Rattle.std.specs.List.{All, list_all}

@@ -1,4 +1,4 @@
--- An interrupt line is acknowledged: one that stands pending may signal, and the thread has its answer yet to get.
+-- An interrupt line is acknowledged: one that is pending may signal, and the thread has its answer yet to get.
 use Rattle.std.proofs.Common.{ℕ, ◌≡◌, Bool, true, false, if◌then◌else◌, Option, Some, None, List, [], ◌∷◌, refl}
 use Rattle.std.specs.Prelude.{Contains}
 use Rattle.std.specs.Option.{option_map_or}
@@ -18,7 +18,7 @@ use Rattle.headline.specs.moves.Laws.{Laws}
 use Rattle.headline.specs.moves.Moving.{CallsAt}
 use Rattle.headline.proofs.moves.Laws.{HasSignalled, bound-there, calls-on, signal-leaves-so, unchanged-stand}
 
--- masks and pending bits tell a signal nothing
+-- masks and pending bits do not change a signal
 signals-same : (s : State) (masked pending : ℕ → Bool) (n badge y : ℕ) (o : NotificationState) (waiters : List ℕ)
     → (signals (record s { masked = masked; pending = pending }) n badge o waiters).objects y ≡ (signals s n badge o waiters).objects y
 signals-same s masked pending n badge y o [] = refl

@@ -1,4 +1,4 @@
--- A thread that stands at its call behind what that did is answered, and all threads stand.
+-- A thread that is at its call after what that did is answered, and the threads' invariant holds.
 use Rattle.std.proofs.Common.{ℕ, ◌≡◌, ◌∙◌, ◌+◌, ◌++◌, is_some, false, if◌then◌else◌, Option, Some, List, [], ◌∷◌, sym, ap, subst}
 use Rattle.std.specs.Prelude.{Contains}
 use Rattle.headline.specs.facts.Standing.{AllStand}

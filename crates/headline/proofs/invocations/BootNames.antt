@@ -1,4 +1,4 @@
--- The boot CNode names each CNode of a thread, and each frame of code, which stands at a multiple of a page.
+-- The boot CNode names each CNode of a thread, and each frame of code, which lies at a multiple of a page.
 use Rattle.std.proofs.Common.{ℕ, ◌≡◌, ◌∙◌, ◌==◌, ◌%◌, ◌<◌, ◌&&◌, Bool, true, false, nat_eq, Option, Some, None, find, take, refl, sym, ap, subst}
 use Rattle.std.specs.Prelude.{option_and_then, slice_get}
 use Rattle.std.specs.Option.{option_map_or}

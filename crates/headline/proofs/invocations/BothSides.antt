@@ -1,4 +1,4 @@
--- Two maps of slots that derive alike inside a set of slots, and in which nothing outside derives from what is inside: what stands above is
+-- Two maps of slots that derive alike inside a set of slots, and in which nothing outside derives from what is inside: what is above is
 -- found alike.
 use Rattle.std.proofs.Common.{ℕ, zero, suc, ◌≡◌, ◌∙◌, ◌==◌, ◌&&◌, ◌||◌, Bool, true, false, not, Option, Some, None, refl, sym, ap}
 use Rattle.std.specs.Option.{option_map_or}

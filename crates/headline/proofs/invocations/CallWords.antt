@@ -4,7 +4,7 @@ use Rattle.model.specs.declared.instructions.Register.{Register}
 use Rattle.model.specs.Kernel.CallForms.{word}
 
 module _ (f : Register → ℕ) where
-  -- a word that stands among the first of both is the same word
+  -- a word that is among the first of both is the same word
   pub first-words : (xs : List Register) (n m i : ℕ) → i < n → i < m → word (map f (take n xs)) i ≡ word (map f (take m xs)) i
   first-words xs zero m i in_n in_m = absurd (omega (arith, in_n))
   first-words xs (suc n) zero i in_n in_m = absurd (omega (arith, in_m))

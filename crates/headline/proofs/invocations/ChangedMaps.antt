@@ -1,4 +1,4 @@
--- Mappings behind a call that changes slots of one thread: under its root table those of the image and of its noted slots, under others what was mapped before.
+-- Mappings after a call that changes slots of one thread: under its root table those of the image and of its noted slots, under others what was mapped before.
 use Rattle.std.proofs.Common.{ℕ, ◌≡◌, ◌∙◌, ◌⊎◌, inl, inr, Some, List, refl, sym, ap, subst, arith}
 use Rattle.std.specs.Prelude.{Contains}
 use Rattle.model.specs.declared.capabilities.Cap.TheVariants.{Frame}
@@ -67,7 +67,7 @@ module _ (image : Image) (t : Numbered) (stand : StandsApart image t.thread) (sl
       let of = is-noted image t.thread slots maps.slot there in
       (slot_of_key image maps.slot.key, of.own, record { held = maps.held; is = sym of.capability ∙ maps.capability })
 
--- ---- behind the call
+-- ---- after the call
 
 module _ (image : Image) (t : Numbered) (s after : State) (slots left : List NotedSlot) (m : Mirrors image t s slots)
     (c : ChangesOwn image t s after left) where

@@ -1,4 +1,4 @@
--- The thread itself stands behind its call with the slots that are known there.
+-- The thread's own invariant holds after its call with the slots that are known there.
 use Rattle.std.proofs.Common.{ℕ, ◌≡◌, ◌∙◌, ◌+◌, ◌%◌, ◌^◌, inl, inr, false, Option, Some, None, option_and_then, List, pos, ◌+ℤ◌, ◌≤ℤ◌, sym, ap, subst}
 use Rattle.std.specs.Prelude.{Contains}
 use Rattle.std.proofs.lemmas.Option.{none-some}

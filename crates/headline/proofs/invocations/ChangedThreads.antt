@@ -54,7 +54,7 @@ module _ (laws : LawsOfCalls) (bytes : List ℕ) (image : Image) (t : Numbered) 
     own-waits : WaitsAsAsked image t behind
     own-waits = runs-free image t behind passing.next passing.is passing.runs
 
-    -- a queue is as it is behind the invocation
+    -- a queue is as it is after the invocation
     queue-there : (y : ℕ) (object : Object) → NoThread object → objects y ≡ Some object → after.objects y ≡ Some object
     queue-there y object none there = elim (decided y tcb) [
       | inl here ↦

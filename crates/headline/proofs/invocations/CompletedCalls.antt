@@ -1,4 +1,4 @@
--- All threads behind a call that is completed: the thread that makes it goes on with its answer, if it gets one.
+-- All threads after a call that is completed: the thread that makes it goes on with its answer, if it gets one.
 use Rattle.std.proofs.Common.{ℕ, ◌≡◌, ◌∙◌, false, Some, List, [], ◌∷◌, ◌++◌, ◌+◌, refl, sym, ap, subst}
 use Rattle.std.specs.Prelude.{Contains}
 use Rattle.headline.specs.measure_facts.Terms.{WritesOnly}

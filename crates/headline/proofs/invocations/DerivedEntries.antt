@@ -1,4 +1,4 @@
--- What some slots hold derives from something still, behind each change of slots that a call makes.
+-- What some slots hold derives from something still, after each change of slots that a call makes.
 use Rattle.std.proofs.Common.{ℕ, ◌≡◌, ◌-◌, ◌==◌, true, false, not, if◌then◌else◌, Option, Some, None, option_map, refl}
 use Rattle.std.specs.Option.{option_map_or}
 use Rattle.std.proofs.lemmas.Bool.{false≢true}

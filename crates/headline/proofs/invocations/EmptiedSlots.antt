@@ -1,4 +1,4 @@
--- What slots hold, and derive from, behind a removal.
+-- What slots hold, and derive from, after a removal.
 use Rattle.std.proofs.Common.{ℕ, ◌≡◌, ◌∙◌, Bool, true, false, if◌then◌else◌, Option, Some, None, option_map, refl, sym, ap}
 use Rattle.std.specs.Option.{option_map_or}
 use Rattle.model.specs.Capabilities.CapabilityKinds.{frame_mapping, is_untyped}

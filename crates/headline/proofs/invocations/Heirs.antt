@@ -1,4 +1,4 @@
--- What stays behind a removal derives from something still, since some ancestor outside of the removed slots is left.
+-- What stays after a removal derives from something still, since some ancestor outside of the removed slots is left.
 use Rattle.std.proofs.Common.{ℕ, zero, suc, ◌≡◌, ◌∙◌, ◌==◌, ◌&&◌, ◌||◌, ◌+◌, ◌^◌, ◌<◌, ◌⊎◌, inl, inr, Bool, true, false, not, get_or, if◌then◌else◌, Option, Some, None, option_map, Result, Ok, Err, List, [], ◌∷◌, filter, refl, sym, ap, subst, arith}
 use Rattle.std.specs.Prelude.{fold}
 use Rattle.std.specs.List.{list_any, range_with_len}

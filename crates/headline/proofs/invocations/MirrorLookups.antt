@@ -19,7 +19,7 @@ use Rattle.headline.specs.lookups.Found.{slots_noted}
 use Rattle.headline.proofs.lookups.Laws.{GoesSame, HasKey, capability-noted, capability_noted, found-own, goes-noted, key-found, own-same, passes-not}
 use Rattle.typestate.specs.Spaces.{NothingLeadsOutside, StandsApart, is_inside}
 
--- ---- an argument, and the lookup behind it
+-- ---- an argument, and the lookup after it
 
 abbrev argued : SlotName → Result (ℕ × ℕ) LookupFailure → Result ℕ KError
 argued name found = do

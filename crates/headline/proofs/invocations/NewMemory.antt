@@ -1,4 +1,4 @@
--- New objects stand where nothing stood: what was there is still there, and its bytes are the same.
+-- New objects lie where nothing was: what was there is still there, and its bytes are the same.
 use Rattle.std.proofs.Common.{ℕ, ◌≡◌, ◌∙◌, ◌==◌, ◌+◌, ◌*◌, ◌^◌, ◌<◌, ◌≤◌, ◌⊎◌, ◌&&◌, inl, inr, Bool, true, false, if◌then◌else◌, Option, Some, refl, sym, ap, arith, pow_pos}
 use Rattle.std.specs.Prelude.{option_map}
 use Rattle.std.specs.Option.{option_map_or}
@@ -19,7 +19,7 @@ within-parts first count place is = (grind (arith, nat_tests), grind (arith, nat
 
 module _ (s : State) (offset bits watermark : ℕ) (unused : IsUnused s offset bits watermark) (new : NewObjects) (mark : ℕ)
     (laid : IsLaid offset bits watermark (object_bits new.kind) new.count new.first mark) where
-  -- one of the new objects stands behind the watermark, and inside the memory
+  -- one of the new objects lies after the watermark, and inside the memory
   pub record IsBehind (place : ℕ) : Type 0 where
     pub from : offset + watermark ≤ place
     pub to : place + size_of new ≤ offset + 2 ^ bits
@@ -32,7 +32,7 @@ module _ (s : State) (offset bits watermark : ℕ) (unused : IsUnused s offset b
       let next = next-within i new.count (size_of new) less in
       record { from = omega (arith, behind); to = omega (arith, ends, fits, next) }
 
-  -- no object stands there
+  -- no object is there
   pub not-there : (place : ℕ) (kind : NewObject) → kind_at s place ≡ Some kind → IsBehind place → ⊥
   not-there place kind is behind =
       let from = behind.from in

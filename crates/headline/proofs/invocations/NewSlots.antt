@@ -1,4 +1,4 @@
--- The slots behind a Retype that opens none: those of the window hold the first capabilities below the pool, the pool has another
+-- The slots after a Retype that opens none: those of the window hold the first capabilities below the pool, the pool has another
 -- watermark, and all others are as they were.
 use Rattle.std.proofs.Common.{get_or, ℕ, ◌≡◌, ◌∙◌, ◌==◌, ◌-◌, ◌<◌, ◌≤◌, inl, inr, true, false, if◌then◌else◌, Some, map, refl, sym, ap, arith}
 use Rattle.std.specs.List.{range_with_len}
@@ -13,7 +13,7 @@ use Rattle.model.specs.Kernel.Retype.{NewObjects, first_capability, object, plac
 use Rattle.model.specs.Kernel.State.{slot_of}
 use Rattle.soundness.proofs.Laws.{entry}
 
--- where a slot stands: in the window, as the pool, or elsewhere
+-- where a slot is: in the window, as the pool, or elsewhere
 pub data Stands (window count pool x : ℕ) : Type 0 where
   as_new : is_within window count x ≡ true → Stands window count pool x
   as_pool : is_within window count x ≡ false → x ≡ pool → Stands window count pool x

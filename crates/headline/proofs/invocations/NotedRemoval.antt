@@ -110,7 +110,7 @@ module _ (image : Image) (t : Numbered) (s : State) (slots : List NotedSlot) (m 
         ])
         ∙ sym (ap key_in (parent-left noted noted_all slot))
 
-    -- the slots behind both
+    -- the slots after both
     pub noted-left : (after : State) → remove (noted_kernel image t.thread slots) noted_set ≡ Ok after
         → noted_after image t.thread (slots_emptied s (with_bindings s set)) ≡ noted_after image t.thread after.slots
     noted-left after is =

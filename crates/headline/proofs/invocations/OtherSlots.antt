@@ -25,7 +25,7 @@ use Rattle.headline.proofs.invocations.MirrorParents.{near-own}
 use Rattle.headline.proofs.invocations.OwnNotes.{own-keyed}
 use Rattle.headline.proofs.invocations.TwoThreads.{HasOwner, one-owner, owned-or-apart}
 
--- ---- where a thread stands
+-- ---- where a thread is
 
 pub record StandsSomewhere (image : Image) (t : Numbered) (s : State) : Type 0 where
   pub own : ThreadState

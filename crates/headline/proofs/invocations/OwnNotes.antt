@@ -64,7 +64,7 @@ module _ (image : Image) (t : Thread) (after : Slots) where
   unfolding noted_after
   are-own = all-own (keys_of image cnodes) (each-own image t)
 
-  -- each of them notes what stands there
+  -- each of them notes what is there
   abbrev Holds : NotedSlot → Type 0
   Holds n = n.capability ≡ capability_at after (slot_of_key image n.key)
 

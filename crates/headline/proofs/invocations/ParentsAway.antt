@@ -1,4 +1,4 @@
--- Slots outside a set, in which nothing outside derives from what is inside: what stands above them is outside too.
+-- Slots outside a set, in which nothing outside derives from what is inside: what is above them is outside too.
 use Rattle.std.proofs.Common.{ℕ, zero, suc, ◌≡◌, ◌∙◌, ◌==◌, ◌&&◌, ◌||◌, Bool, true, false, Option, Some, None, refl, sym, ap, subst}
 use Rattle.std.specs.Option.{option_map_or}
 use Rattle.std.proofs.lemmas.Bool.{false≢true, ne_eqb}

@@ -1,4 +1,4 @@
--- Each invocation that the rules allow has no error, and all threads stand behind it and its answer.
+-- Each invocation that the rules allow has no error, and the threads' invariant holds after it and its answer.
 use Rattle.std.proofs.Common.{ℕ, ◌≡◌, ◌∙◌, ◌+◌, ◌++◌, true, false, if◌then◌else◌, Result, Ok, List, [], ◌∷◌, refl, sym, ap, subst}
 use Rattle.std.specs.Prelude.{Contains}
 use Rattle.headline.specs.facts.Standing.{AllStand}
@@ -42,7 +42,7 @@ use Rattle.headline.proofs.invocations.AnsweredCalls.{completed-stands}
 use Rattle.headline.proofs.invocations.RuledCalls.{left_by}
 use Rattle.typestate.specs.Calls.{call_on}
 
--- the call has no error, and all threads stand behind it
+-- the call has no error, and the threads' invariant holds after it
 pub record StandsBehind (image : Image) (t : Numbered) (s : State) (labels : List Label) (pc slot : ℕ) (kind : SendCall) (c : Invocation) : Type 0 where
   pub after : State
   pub performs : perform s (call_on image t.thread slot (capability_at s.slots slot)) c ≡ Ok after

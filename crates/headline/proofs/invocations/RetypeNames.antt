@@ -1,4 +1,4 @@
--- New capabilities are unmapped, and none names a frame of code: such a frame is there, and new objects stand where nothing stood.
+-- New capabilities are unmapped, and none names a frame of code: such a frame is there, and new objects lie where nothing was.
 use Rattle.std.proofs.Common.{ℕ, ◌≡◌, ◌∙◌, ◌+◌, ◌-◌, Option, Some, List, sym, ap, subst}
 use Rattle.std.specs.Prelude.{Contains}
 use Rattle.std.proofs.lemmas.Option.{none-some}

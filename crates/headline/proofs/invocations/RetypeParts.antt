@@ -15,7 +15,7 @@ use Rattle.model.specs.Kernel.Arguments.{check, may_have_child, wanted}
 use Rattle.model.specs.Kernel.Retype.{NewObject, NewObjects, any_full, is_large_enough, is_small_enough, node, object_bits, retype, type_of, with_new}
 use Rattle.model.specs.Kernel.State.{State, slot_of, with_slots}
 
--- what a call asks for, and where it stands
+-- what a call asks for, and where it is
 pub record Asked (slots : Slots) (root : Cap) (slot : ℕ) (memory : UntypedMemory) (asked : RetypeCall) : Type 0 where
   pub kind : NewObject
   pub kind_is : type_of asked.kind asked.size ≡ Some kind

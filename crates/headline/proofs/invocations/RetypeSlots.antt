@@ -1,4 +1,4 @@
--- What each slot holds behind a Retype on a pool of the thread: the same as on what is noted, and all others are as they were.
+-- What each slot holds after a Retype on a pool of the thread: the same as on what is noted, and all others are as they were.
 use Rattle.std.proofs.Common.{ℕ, ◌≡◌, ◌∙◌, ◌==◌, ◌+◌, ◌-◌, ◌^◌, ◌≤◌, true, false, Option, Some, None, option_and_then, List, sym, ap, subst}
 use Rattle.std.specs.Option.{option_map_or}
 use Rattle.model.specs.declared.capabilities.Cap.{Cap}
@@ -54,14 +54,14 @@ module _ (image : Image) (t : Numbered) (s : State) (m : Making image t s) where
   abbrev pub used : Cap
   used = Untyped m.memory.offset m.memory.bits m.place.1
 
-  -- the slots behind it
+  -- the slots after it
   abbrev pub behind : Slots → Slots
   behind slots = slots_behind new window m.pool slots used m.made.no_slots
 
   abbrev pub first : ℕ → Cap
   first x = first_capability m.kind (place_of_new new (x - window))
 
-  -- where a slot stands
+  -- where a slot is
   abbrev pub Place : ℕ → Type 0
   Place x = Stands window m.asked.count m.pool x
 

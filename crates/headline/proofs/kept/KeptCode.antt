@@ -94,7 +94,7 @@ module _ (image : Image) (t : Numbered) (s after : State) (slots : List NotedSlo
     (bytes : (frame place : ℕ) → IsCode image frame → frame ≤ place → place < frame + page_size → after.bytes place ≡ s.bytes place)
     (maps : MapsAreNoted image t s slots) (vspace : vspace_of s (tcb_of image t) ≡ Some (root_table_of image t))
     (vspace_after : vspace_of after (tcb_of image t) ≡ Some (root_table_of image t)) where
-  -- the frame that stands at a page of the program is the image's
+  -- the frame that is mapped at a page of the program is the image's
   is-code : (address frame : ℕ) (p : IsProgramPage image t address) → frame ≡ offset_of image (IsProgramPage.entry p).frame → IsCode image frame
   is-code address frame p is = record { entry = IsProgramPage.entry p; listed = IsProgramPage.listed p; place = is; executes = IsProgramPage.executes_so p }
 

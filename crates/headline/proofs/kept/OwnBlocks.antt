@@ -49,7 +49,7 @@ not-earlier image t u at once same less =
 
 -- ---- objects
 
--- objects that stand at one offset are one object
+-- objects that lie at one offset are one object
 pub one-object : (image : Image) (i j : ℕ) → StandApart image → i < image.header.objects → j < image.header.objects → offset_of image i ≡ offset_of image j → i ≡ j
 one-object image i j apart less few same = elim (cases_eq i j) [
   | inl here ↦ here

@@ -1,4 +1,4 @@
--- A thread that a change leaves alone stands on.
+-- The invariant of a thread that a change leaves alone still holds.
 use Rattle.std.proofs.Common.{ℕ, ◌≡◌, ◌∙◌, ◌^◌, ◌<◌, List, Option, Some, None, sym, ap, subst}
 use Rattle.std.specs.Prelude.{Contains}
 use Rattle.std.specs.Option.{option_map_or}

@@ -98,7 +98,7 @@ module _ (image : Image) (fits : whole_image.fits image ≡ true) (well : IsWell
           | false ↦ other-depth
         ] refl
 
-  -- ---- what stands in an own slot is listed
+  -- ---- what is in an own slot is listed
 
   module _ (t : Thread) (listed : IsListed image t) (slot parent : ℕ) (own : IsOwnSlot image t slot) (is : parent_at start slot ≡ Some parent) where
     abbrev cnodes : List ℕ

@@ -1,4 +1,4 @@
--- What the rules on an accepted image say of a thread: its root table, the pages in which its program stands, and that its control
+-- What the rules on an accepted image say of a thread: its root table, the pages in which its program lies, and that its control
 -- block is its own.
 use Rattle.std.proofs.Common.{◌≡◌, ◌+◌, ◌*◌, ◌%◌, ◌^◌, ◌≤◌, true, false, Some, ap}
 use Rattle.std.specs.Prelude.{Contains}

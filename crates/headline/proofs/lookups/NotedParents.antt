@@ -19,7 +19,7 @@ use Rattle.headline.specs.lookups.Found.{HasNotedParent, noted_parent}
 use Rattle.headline.proofs.lookups.OwnSlots.{slot-noted}
 use Rattle.headline.proofs.lookups.ThreadKeys.{HasKey, key-found}
 
--- ---- what has a key stands there
+-- ---- what has a key is there
 
 find-passes : (test : ℕ → Bool) (xs : List ℕ) (x : ℕ) → find test xs ≡ Some x → test x ≡ true
 find-passes test [] x is = absurd (none-some x is)

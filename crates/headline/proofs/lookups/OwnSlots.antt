@@ -22,7 +22,7 @@ abbrev pub capability_noted : Option NotedSlot → Cap
 capability_noted found = option_map_or (λ s. s.capability) found Empty
 
 module _ (image : Image) (t : Numbered) (slots : List NotedSlot) (slot : ℕ) (of : HasKey image (reached image t.thread) slot) where
-  -- what stands in an own slot of the kernel in which the rules look up
+  -- what is in an own slot of the kernel in which the rules look up
   pub entry-noted : slots_noted image t slots slot ≡ Some (noted_entry image t.thread slots of.key)
   unfolding noted_kernel
   entry-noted = ap (λ (k : Option SlotKey). option_map_or (λ (key : SlotKey). Some (noted_entry image t.thread slots key)) k ((described image).slots slot)) of.at

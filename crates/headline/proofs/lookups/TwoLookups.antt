@@ -45,7 +45,7 @@ module _ (a b : Slots) (own : ℕ → ℕ → Bool) (IsOwn : ℕ → Type 0)
   abbrev in_b : ℕ → Cap → ℕ → Found
   in_b n held left = lookup_within n b held address left
 
-  -- behind a CNode
+  -- after a CNode
   goes-on : (n offset : ℕ) (place : ℕ × ℕ) → HoldsSame a b own IsOwn (offset / 16 + place.0)
       → GoesSame IsOwn (in_a n (capability_at a (offset / 16 + place.0)) place.1) (in_b n (capability_at a (offset / 16 + place.0)) place.1)
       → GoesSame IsOwn (go_on a offset (in_a n) (Ok place)) (go_on b offset (in_b n) (Ok place))

@@ -1,4 +1,4 @@
--- A measure that falls over an instruction is less behind it.
+-- A measure that falls over an instruction is less after it.
 use Rattle.std.proofs.Common.{ℕ, ◌≡◌, ◌∙◌, ◌+◌, ◌-◌, ◌<◌, Bool, true, false, if◌then◌else◌, inl, inr, List, ℤ, pos, negsuc, ◌+ℤ◌, ◌*ℤ◌, refl, ap, subst, arith}
 use Rattle.std.specs.Prelude.{◌<ℤ◌, ◌≤ℤ◌, int_lt, nat_le}
 use Rattle.std.proofs.lemmas.Int.{ints}
@@ -19,7 +19,7 @@ use Rattle.headline.proofs.measure_facts.GreatestValues.{value-above}
 use Rattle.headline.proofs.measure_facts.MeasureValues.{measure-valued}
 use Rattle.headline.proofs.measure_facts.WrittenForms.{behind-valued}
 
--- registers before an edge, and behind it as fresh ones
+-- registers before an edge, and after it as fresh ones
 abbrev pub values_on : RegisterFile → RegisterFile → ℕ → ℕ
 values_on r s k = if nat_le 32 k then read s (register_numbered (k - 32)) else read r (register_numbered k)
 

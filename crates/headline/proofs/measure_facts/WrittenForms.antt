@@ -1,4 +1,4 @@
--- A register behind an instruction has the value of the form that the rules give it.
+-- A register after an instruction has the value of the form that the rules give it.
 use Rattle.std.proofs.Common.{ℕ, suc, ◌≡◌, ◌≢◌, ◌∙◌, ◌==◌, ◌+◌, ◌-◌, ◌%◌, ◌^◌, ◌<◌, ◌≤◌, Bool, true, false, if◌then◌else◌, List, length, get_or, Option, Some, None, Result, Ok, Err, ℤ, pos, negsuc, ◌+ℤ◌, ◌*ℤ◌, refl, sym, ap, arith}
 use Rattle.std.specs.Prelude.{int_le, int_lt, slice_set}
 use Rattle.std.specs.Option.{option_map_or}
@@ -29,7 +29,7 @@ use Rattle.ranges.specs.Inside.{LiesIn}
 use Rattle.ranges.specs.Standing.{AreWords}
 use Rattle.headline.proofs.measure_facts.FormValues.{value, value-constant, value-difference, value-sum, value-variable}
 
--- ---- what is read behind a write
+-- ---- what is read after a write
 
 abbrev word : RegisterFile → ℕ → ℕ
 word r k = read r (register_numbered k)

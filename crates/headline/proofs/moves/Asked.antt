@@ -1,4 +1,4 @@
--- A thread stands at one call, so that what it waits for has to be said once.
+-- A thread is at one call, so that what it waits for has to be said once.
 use Rattle.std.proofs.Common.{ℕ, ◌≡◌, ◌∙◌, ◌+◌, ◌*◌, Option, Some, Result, Ok, sym, ap, subst, arith}
 use Rattle.headline.specs.facts.Waiting.{WaitsAsAsked, WaitsSo}
 use Rattle.model.specs.declared.refusals.Refusal.{Refusal}

@@ -1,4 +1,4 @@
--- A thread that stands at a system call, and the step of that call where one queue changes and some threads move.
+-- A thread that is at a system call, and the step of that call where one queue changes and some threads move.
 use Rattle.std.proofs.Common.{ℕ, ◌≡◌, ◌≢◌, ◌∙◌, ◌+◌, ◌++◌, inl, inr, Bool, true, false, if◌then◌else◌, Option, Some, List, [], ◌∷◌, refl, sym, ap, arith}
 use Rattle.std.specs.Prelude.{Contains}
 use Rattle.std.proofs.lemmas.Bool.{eq-eqb}
@@ -86,7 +86,7 @@ module _ (s after : State) (queue : ℕ) (old new : Object) (moves : ℕ → Boo
     | inr other ↦ record { old = t; was = sym (change.others thread other rests) ∙ there; status = refl }
   ]
 
-  -- what is no thread behind the step and no queue that changed was there before
+  -- what is no thread after the step and no queue that changed was there before
   still-there : (y : ℕ) (object : Object) → NoThread object → y ≢ queue → after.objects y ≡ Some object → s.objects y ≡ Some object
   still-there y object none other there = elim (moves y) as (λ b. moves y ≡ b → s.objects y ≡ Some object) [
     | true ↦ λ move. let thread = change.moved y move in absurd (none thread.0 (one-object (after.objects y) object (ThreadObject thread.0) there thread.1))
@@ -167,7 +167,7 @@ module _ (laws : Laws) (bytes : List ℕ) (image : Image) (s : State) (labels la
   pub own-control : (offset : ℕ) → offset ≡ tcb_of image t → IsControlBlock image offset
   own-control offset is = record { thread = t; listed = listed; is = is }
 
-  -- it goes on behind a call that waits, or one that does not
+  -- it goes on after a call that waits, or one that does not
   pub own-passes : (after : State) → IsSound after → SameGround image s after → left.slots ≡ state.slots → PassesWith after (tcb_of image t) own state left
       → IsCounted image t labels later left.is_wait → ThreadInvariant image t after later × WaitsAsAsked image t after
   own-passes after sound store slots passes counts =

@@ -1,4 +1,4 @@
--- An interrupt is a signal, or stands pending.
+-- An interrupt is a signal, or is pending.
 use Rattle.std.proofs.Common.{ℕ, ◌≡◌, ◌∙◌, ◌++◌, ◌^◌, ◌<◌, true, false, nat_lt, if◌then◌else◌, Option, Some, None, List, [], ◌∷◌, refl, sym, ap, subst}
 use Rattle.std.specs.Prelude.{Contains}
 use Rattle.std.specs.Option.{option_map_or}
@@ -66,7 +66,7 @@ bound-by (RootTable offset) bound valid is = absurd (let clash : ◌≡◌ {A = 
 bound-by InterruptControl bound valid is = absurd (let clash : ◌≡◌ {A = Option Signal} None (Some bound) = is in cc)
 bound-by (InterruptHandler irq_line) bound valid is = absurd (let clash : ◌≡◌ {A = Option Signal} None (Some bound) = is in cc)
 
--- the notification that a line is bound to stands there
+-- the notification that a line is bound to is there
 pub record BoundThere (s : State) (bound : Signal) : Type 0 where
   pub old : NotificationState
   pub was : s.objects bound.notification ≡ Some (NotificationObject old)

@@ -1,4 +1,4 @@
--- A thread that is left alone stands on, and waits for what it asked.
+-- The invariant of a thread that is left alone still holds, and it waits for what it asked.
 use Rattle.std.proofs.Common.{ℕ, ◌≡◌, ◌∙◌, Option, Some, List, pos, ◌+ℤ◌, ◌≤ℤ◌, refl, sym, ap, subst}
 use Rattle.std.specs.Option.{option_map_or}
 use Rattle.headline.specs.facts.Waiting.{NamesQueue, WaitsAsAsked, WaitsSo}
@@ -19,7 +19,7 @@ use Rattle.model.specs.Machine.ProgramMemory.{RegisterFile}
 use Rattle.headline.specs.kept.Laws.{StandsOn}
 use Rattle.headline.specs.moves.Moving.{GoesOnAs, IsLeftAlone, WaitsOn}
 
--- one thread stands at an offset
+-- one thread is at an offset
 pub one-thread : (object : Option Object) (a b : ThreadState) → object ≡ Some (ThreadObject a) → object ≡ Some (ThreadObject b) → a ≡ b
 one-thread object a b first second =
     ap (λ (o : Option Object). option_map_or (λ (u : ThreadState). u) (as_thread o) new_thread) (sym first ∙ second)

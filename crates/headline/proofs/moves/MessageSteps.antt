@@ -39,7 +39,7 @@ use Rattle.headline.proofs.moves.Ticks.{one-event}
 use Rattle.headline.proofs.moves.Woken.{no-runner, runs-status}
 use Rattle.headline.proofs.moves.MessageCalls.{calls-fine}
 
--- whatever system call the rules allow where the thread stands, what it leaves is fine
+-- whatever system call the rules allow where the thread is, what it leaves is fine
 abbrev pub CallsAreFine : Image → Numbered → State → List Label → Type 0
 CallsAreFine image t s labels =
     (own : ThreadState) (point : ℕ) (state : PointState) (left : AfterCall) (call : SystemCall) → CallsAt image t s labels own point state left

@@ -1,4 +1,4 @@
--- The slot that a thread names at a system call, and what stands there.
+-- The slot that a thread names at a system call, and what is there.
 use Rattle.std.proofs.Common.{ℕ, ◌≡◌, ◌∙◌, ◌^◌, ◌<◌, inl, inr, true, false, not, if◌then◌else◌, Option, Some, None, Result, Ok, Err, List, refl, ap, subst}
 use Rattle.std.specs.Prelude.{Contains}
 use Rattle.headline.specs.facts.Standing.{AllStand}
@@ -104,7 +104,7 @@ module _ (laws : Laws) (bytes : List ℕ) (image : Image) (s : State) (labels : 
         rule = subst (λ n. rules names.slot (capability_at s.slots n) ≡ Ok left) same (ap (λ (c : Cap). rules names.slot c) (held ∙ ap (capability_at noted_here) same) ∙ names.rule);
       }
 
--- ---- what stands where a capability leads
+-- ---- what is where a capability leads
 
 pub record EndpointThere (image : Image) (t : Numbered) (s : State) (offset badge : ℕ) : Type 0 where
   pub old : EndpointState

@@ -222,9 +222,9 @@ module _ (laws : Laws) (bytes : List ℕ) (image : Image) (s : State) (labels la
             (λ y. ap (λ (o : NotificationState). (deliver_word (with_notification s n (record o { word = 0 })) tcb o.word).objects y) read-there)
       ]
 
--- ---- a signal, behind which the thread has its answer yet to get
+-- ---- a signal, after which the thread has its answer yet to get
 
--- all threads stand, and this one stands at its call
+-- the threads' invariant holds, and this one is at its call
 pub record HasSignalled (image : Image) (t : Numbered) (after : State) (labels : List Label) (own : ThreadState) (point : ℕ) (state : PointState) (left : AfterCall) : Type 0 where
   pub all : AllStand image after labels
   pub at : CallsAt image t after labels own point state left
@@ -257,7 +257,7 @@ module _ (laws : Laws) (bytes : List ℕ) (image : Image) (s : State) (labels : 
   signals-store [] o = record { memory_bits = refl; boot_radix = refl; slots = λ slot. refl; bytes = λ frame place code low high. refl }
   signals-store (w ∷ others) o = record { memory_bits = refl; boot_radix = refl; slots = λ slot. refl; bytes = λ frame place code low high. refl }
 
-  -- where slots, bytes and objects are those behind the signal
+  -- where slots, bytes and objects are those after the signal
   pub signal-leaves-so : (after : State) → IsSound after → SameGround image s after → ((y : ℕ) → after.objects y ≡ (signal s n badge).objects y)
       → HasSignalled image t after labels own point state left
   signal-leaves-so after sound store objects =

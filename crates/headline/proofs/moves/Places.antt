@@ -1,4 +1,4 @@
--- What stands where a thread passes, wakes or blocks.
+-- What is true where a thread passes, wakes or blocks.
 use Rattle.std.proofs.Common.{ℕ, ◌≡◌, ◌≢◌, ◌∙◌, Option, Some, refl, ap}
 use Rattle.std.specs.Option.{option_map_or}
 use Rattle.headline.proofs.facts.Laws.{at-place}
@@ -71,7 +71,7 @@ delivered-here s x badge message t is =
 pub delivered-there : (s : State) (x badge : ℕ) (message : Message) (y : ℕ) → y ≢ x → (deliver s x badge message).objects y ≡ s.objects y
 delivered-there s x badge message y other = passed-there s x (delivered (thread_at s x).registers badge message) y other
 
--- ---- a thread goes on behind its call
+-- ---- a thread goes on after its call
 
 pub went-here : (s : State) (x : ℕ) (t : ThreadState) → s.objects x ≡ Some (ThreadObject t) → (passes s x).objects x ≡ Some (ThreadObject (record t { registers = advanced t.registers }))
 went-here s x t is =

@@ -1,4 +1,4 @@
--- Who stands in a queue is blocked there.
+-- Who is in a queue is blocked there.
 use Rattle.std.proofs.Common.{ℕ, zero, suc, ◌≡◌, ◌∙◌, ◌==◌, ◌+◌, ◌++◌, ◌<◌, ◌≤◌, ◌≢◌, ◌⊎◌, inl, inr, Bool, true, false, if◌then◌else◌, Option, Some, None, List, [], ◌∷◌, length, get_or, refl, sym, ap, arith}
 use Rattle.std.specs.Prelude.{Contains}
 use Rattle.std.specs.Option.{option_map_or}
@@ -62,7 +62,7 @@ among-times (y ∷ xs) x (suc k) inside is =
     let more = more-times xs x y in
     omega (arith, rest, more)
 
--- what stands behind the first stands in the list
+-- what follows the first is in the list
 pub contains-more : {A : Type 0} (x y : A) (xs : List A) → Contains xs y → Contains (x ∷ xs) y
 contains-more x y xs among = (suc among.0, omega (arith, among.1), among.2)
 
@@ -82,7 +82,7 @@ contains-last {A} xs x y among = within xs among.0 among.1 among.2
 pub contains-before : {A : Type 0} (xs : List A) (x y : A) → Contains (xs ++ y ∷ []) x → x ≢ y → Contains xs x
 contains-before xs x y among other = elim (contains-last xs x y among) [ inl before ↦ before | inr last ↦ absurd (other (sym last)) ]
 
--- what stands in the second of two lists stands in both together
+-- what is in the second of two lists is in both together
 pub times-behind : (xs ys : List ℕ) (x : ℕ) → times_in ys x ≤ times_in (xs ++ ys) x
 times-behind [] ys x = omega arith
 times-behind (y ∷ xs) ys x =

@@ -1,4 +1,4 @@
--- A reply wakes the caller behind its call with the message of the thread that replies, which gives the right to reply away.
+-- A reply wakes the caller after its call with the message of the thread that replies, which gives the right to reply away.
 use Rattle.std.proofs.Common.{ℕ, ◌≡◌, ◌≢◌, ◌∙◌, ◌==◌, ◌||◌, inl, inr, Bool, true, false, Option, Some, None, List, refl, sym, ap, subst}
 use Rattle.std.specs.Prelude.{Contains, IsTrue}
 use Rattle.std.specs.Option.{option_map_or}
@@ -88,7 +88,7 @@ either : (a b : Bool) → (a || b) ≡ false → (a ≡ false) × (b ≡ false)
 either true b is = absurd (let clash : true ≡ false = is in cc)
 either false b is = (refl, is)
 
--- what the reply leaves: all threads stand, and the one that replies stands at its call, with no caller
+-- what the reply leaves: the threads' invariant, and that the one that replies is at its call, with no caller
 pub record HasReplied (image : Image) (t : Numbered) (after : State) (labels : List Label) (own : ThreadState) (point : ℕ) (state : PointState) (left : AfterCall) : Type 0 where
   pub all : AllStand image after labels
   pub at : CallsAt image t after labels (record own { caller = None }) point state left
@@ -102,7 +102,7 @@ module _ (laws : Laws) (bytes : List ℕ) (image : Image) (s : State) (labels : 
   abbrev next : ThreadState
   next = record own { caller = None }
 
-  -- the thread itself stands where it stood, in any state that has it without a caller
+  -- the thread itself is where it was, in any state that has it without a caller
   module _ (after : State) (sound : IsSound after) (store : SameGround image s after)
       (there : after.objects (tcb_of image t) ≡ Some (ThreadObject (record own { caller = None }))) where
     calls-still : CallsAt image t after labels next point state left

@@ -120,7 +120,7 @@ NoFault label = is_fault label ≡ false
 abbrev NoError : Label → Type 0
 NoError label = is_error label ≡ false
 
--- what is true of labels before and behind some events
+-- what is true of labels before and after some events
 record GoneWell (image : Image) (s : State) (labels : List Label) (events : List Event) : Type 0 where
   stand : AllStand image (state_after s events) (labels ++ trace s events)
   faults : All NoFault (trace s events)

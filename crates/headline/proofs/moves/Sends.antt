@@ -54,7 +54,7 @@ sender-times xs y receivers among =
         let more = more-times (map (λ (x : Sender). x.thread) xs) y.thread x.thread in
         omega (arith, rest, more)
 
--- the first receiver stands in the queue
+-- the first receiver is in the queue
 receiver-times : (senders : List ℕ) (r : ℕ) (others : List ℕ) → 1 ≤ times_in (senders ++ r ∷ others) r
 receiver-times senders r others =
     let first = first-times others r r refl in
@@ -125,7 +125,7 @@ module _ (laws : Laws) (bytes : List ℕ) (image : Image) (s : State) (labels la
       queues = queued-on;
     }
 
-    -- the thread runs, so it stands in no queue yet
+    -- the thread runs, so it is in no queue yet
     not-queued : (y : Sender) → Contains ep.senders y → y.thread ≡ tcb → ⊥
     not-queued y among mine =
         let there = queued-there s y.thread e all.sound.threads

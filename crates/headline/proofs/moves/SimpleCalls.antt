@@ -29,7 +29,7 @@ use Rattle.headline.proofs.moves.Calling.{IsCounted, own-control, own-passes, ow
 use Rattle.headline.proofs.moves.Places.{passed, passed-there, went-here, went-there, with-here, with-there}
 use Rattle.headline.proofs.moves.Standing.{all-stand, touches-none}
 
--- ---- what stands where the thread yields
+-- ---- what is true where the thread yields
 
 yields-here : (s : State) (x : ℕ) (t : ThreadState) → s.objects x ≡ Some (ThreadObject t)
     → (yielded s x).objects x ≡ Some (ThreadObject (record t { slice = full_slice }))
@@ -40,7 +40,7 @@ yields-here s x t is =
 yields-there : (s : State) (x y : ℕ) → y ≢ x → (yielded s x).objects y ≡ s.objects y
 yields-there s x y other = with-there s x (record (thread_at s x) { slice = full_slice }) y other
 
--- ---- the thread stands at its call still
+-- ---- the thread is still at its call
 
 module _ (laws : Laws) (bytes : List ℕ) (image : Image) (s : State) (labels : List Label) (accepted : IsAccepted bytes image) (all : AllStand image s labels)
     (t : Numbered) (listed : Contains (numbered_threads image) t) (own : ThreadState) (point : ℕ) (state : PointState) (left : AfterCall)
@@ -67,7 +67,7 @@ module _ (laws : Laws) (bytes : List ℕ) (image : Image) (s : State) (labels la
   abbrev tcb : ℕ
   tcb = tcb_of image t
 
-  -- nobody else moves: it is enough to know where this thread stands
+  -- nobody else moves: it is enough to know where this thread is
   module _ (after : State) (sound : IsSound after) (store : SameGround image s after) where
     pub it-moves : OthersRest s after (λ y. y == tcb_of image t) → ThreadInvariant image t after later × WaitsAsAsked image t after → AllStand image after later
     it-moves rest stands =
@@ -119,7 +119,7 @@ module _ (laws : Laws) (bytes : List ℕ) (image : Image) (s : State) (labels la
       (record one { slice = full_slice }) (yields-here (passes s tcb) tcb one (went-here s tcb own at.there)) refl refl
       (λ y other. yields-there (passes s tcb) tcb y other ∙ went-there s tcb y other)
 
-  -- it passes with other registers, which fit behind its call
+  -- it passes with other registers, which fit after its call
   pub with-registers : (r : RegisterFile → RegisterFile) → left.slots ≡ state.slots
       → PassesWith (passes_with s (tcb_of image t) (r (registers_of s (tcb_of image t)))) (tcb_of image t) own state left
       → IsSound (passes_with s (tcb_of image t) (r (registers_of s (tcb_of image t)))) → AllStand image (passes_with s (tcb_of image t) (r (registers_of s (tcb_of image t)))) later

@@ -1,4 +1,4 @@
--- All threads stand behind a step that keeps slots and bytes.
+-- The threads' invariant holds after a step that keeps slots and bytes.
 use Rattle.std.proofs.Common.{ℕ, ◌≡◌, ◌∙◌, ◌⊎◌, inl, inr, Bool, true, false, Option, Some, List, refl, sym, ap}
 use Rattle.std.specs.Prelude.{Contains}
 use Rattle.std.specs.Option.{option_map_or}

@@ -25,7 +25,7 @@ use Rattle.headline.proofs.moves.Woken.{no-runner}
 
 -- ---- the thread that waits
 
--- which it is, where it stands, and what it waits for
+-- which it is, where it is, and what it waits for
 pub record StandsWaiting (image : Image) (s : State) (labels : List Label) (offset : ℕ) (own : ThreadState) : Type 0 where
   pub thread : Numbered
   pub listed : Contains (numbered_threads image) thread

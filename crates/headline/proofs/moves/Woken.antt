@@ -1,4 +1,4 @@
--- A thread that waits is woken behind its call, with registers that fit there.
+-- A thread that waits is woken after its call, with registers that fit there.
 use Rattle.std.proofs.Common.{true, false, ℕ, ◌≡◌, ◌∙◌, Some, List, refl, sym, ap, subst}
 use Rattle.std.specs.Prelude.{Contains}
 use Rattle.headline.specs.measure_facts.Terms.{WritesOnly}
@@ -25,7 +25,7 @@ use Rattle.headline.proofs.moves.LeftAlone.{one-thread}
 use Rattle.headline.proofs.moves.Passing.{ends-wait}
 use Rattle.headline.proofs.moves.Standing.{touches-none}
 
--- what is written while a thread waits fits behind its call
+-- what is written while a thread waits fits after its call
 pub record FitsBehind (state : PointState) (left : AfterCall) (registers written : RegisterFile) : Type 0 where
   pub slots : left.slots ≡ state.slots
   pub pc : written.pc ≡ registers.pc

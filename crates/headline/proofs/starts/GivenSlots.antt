@@ -115,7 +115,7 @@ module _ (image : Image) (t : Thread) (fits : whole_image.fits image ≡ true) (
   pub listed-own : (k : ℕ) (c : CapabilityEntry) → slice_get image.capabilities k ≡ Some c → is_member c.cnode cnodes ≡ true → is_own image cnodes (key_for c) ≡ true
   listed-own k c at among = ap (λ b. b && has_slot image c.cnode c.index) among ∙ CapabilityKept.slot (AreFormed.capability formed k c at)
 
-  -- ---- what stands in an own slot
+  -- ---- what is in an own slot
 
   module _ (key : SlotKey) (own : is_own image cnodes key ≡ true) where
     parts : (is_member key.cnode cnodes ≡ true) × (has_slot image key.cnode key.index ≡ true)
@@ -159,7 +159,7 @@ module _ (image : Image) (t : Thread) (fits : whole_image.fits image ≡ true) (
           (of-thread k u (vspace_slot (offset_of image u.header.tcb)) at (vspace-slot image u.header.tcb (ThreadKept.tcb (AreFormed.thread formed k u at))));
     }
 
-    -- the entry of a capability that stands there has the key
+    -- the entry of a capability that is there has the key
     same-key : (k : ℕ) (c : CapabilityEntry) → slice_get image.capabilities k ≡ Some c → cnode_slot image c.cnode c.index ≡ slot_of_key image key → (c.cnode ≡ key.cnode) × (c.index ≡ key.index)
     same-key k c at there =
         let one : c.cnode ≡ key.cnode =
@@ -168,7 +168,7 @@ module _ (image : Image) (t : Thread) (fits : whole_image.fits image ≡ true) (
         let offsets : offset_of image c.cnode ≡ offset_of image key.cnode = ap (offset_of image) one in
         (one, omega (arith, there, offsets))
 
-    -- nothing stands where nothing is listed
+    -- nothing is where nothing is listed
     pub none-there : slot_at (slots_in image cnodes image.capabilities) key ≡ None → is_empty (capability_at (described image).slots (slot_of_key image key)) ≡ true
     none-there none = of-slot ((described image).slots (slot_of_key image key)) refl
       where
@@ -183,7 +183,7 @@ module _ (image : Image) (t : Thread) (fits : whole_image.fits image ≡ true) (
               (subst (λ (n : ℕ). is_member n cnodes ≡ true) (sym same.0) parts.0) (ap (λ (n : ℕ). pair_key n of.entry.index) same.0 ∙ ap (λ (n : ℕ). pair_key key.cnode n) same.1) none)
         ]
 
-    -- what is listed stands there
+    -- what is listed is there
     pub some-there : (s : NotedSlot) → slot_at (slots_in image cnodes image.capabilities) key ≡ Some s → noted_of image cnodes (described image).slots key ≡ Some s
     some-there s found =
         let of = slot-listed image cnodes image.capabilities key s found in

@@ -1,4 +1,4 @@
--- What stands at a place that one fill alone reaches.
+-- What is at a place that one fill alone reaches.
 use Rattle.std.proofs.Common.{ℕ, zero, suc, ◌≡◌, ◌∙◌, ◌-◌, ◌||◌, Bool, true, false, find, if◌then◌else◌, List, [], ◌∷◌, ◌++◌, Option, Some, None, refl, sym, ap, subst}
 use Rattle.std.specs.Prelude.{filter_map, flat_map, slice_get, slice_index, reverse}
 use Rattle.std.specs.Option.{option_map_or, option_or}

@@ -26,7 +26,7 @@ none-at test [] k x none at = absurd (none-some x at)
 none-at test (y ∷ ys) zero x none at = ap test (sym (same_Some y x at)) ∙ (or_parts (test y) (list_any test ys) none).0
 none-at test (y ∷ ys) (suc k) x none at = none-at test ys k x (or_parts (test y) (list_any test ys) none).1 at
 
--- what a list contains stands at a place
+-- what a list contains has a place in it
 pub contained : {A : Type 0} (xs : List A) (x : A) → Contains xs x → (k : ℕ) × (slice_get xs k ≡ Some x)
 contained xs x there = (there.0, slice_get-get_or xs there.0 x there.1 ∙ ap (λ y. Some y) there.2)
 

@@ -1,4 +1,4 @@
--- Where the addresses of a thread's program stand: in the frame that the image maps there, for fetching.
+-- Where the addresses of a thread's program lie: in the frame that the image maps there, for fetching.
 use Rattle.std.proofs.Common.{ℕ, zero, suc, ◌≡◌, ◌∙◌, ◌==◌, ◌+◌, ◌-◌, ◌*◌, ◌/◌, ◌%◌, ◌^◌, ◌<◌, ◌≤◌, ◌&&◌, inl, inr, Bool, true, false, not, bit_and, if◌then◌else◌, List, [], ◌∷◌, Option, Some, None, option_and_then, option_map, refl, sym, ap, subst, arith}
 use Rattle.std.specs.Prelude.{filter_map, slice_get}
 use Rattle.std.specs.Option.{option_map_or}
@@ -249,7 +249,7 @@ module _ (image : Image) (fits : whole_image.fits image ≡ true) (well : IsWell
           listed = at ∙ ap (λ (n : ℕ). Some n) address;
         }
 
-    -- where a byte of the program stands
+    -- where a byte of the program lies
     pub place-of-code : (b : ℕ) (less : b < 4 * t.thread.header.words)
         → (content_of (described image) tcb).place Fetch (base + b) ≡ Some (offset_of image (page-of-code b less).entry.frame + (base + b) % page_size)
     place-of-code b less =

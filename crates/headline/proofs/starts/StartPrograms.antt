@@ -1,4 +1,4 @@
--- Each word of a thread's program stands at its address, and can be fetched there.
+-- Each word of a thread's program lies at its address, and can be fetched there.
 use Rattle.std.proofs.Common.{ℕ, zero, suc, ◌≡◌, ◌∙◌, ◌+◌, ◌-◌, ◌*◌, ◌/◌, ◌%◌, ◌^◌, ◌<◌, ◌≤◌, true, false, List, [], ◌∷◌, map, Option, Ok, refl, sym, ap, arith}
 use Rattle.std.specs.Prelude.{nat_le, nat_lt, slice_index}
 use Rattle.std.specs.Option.{option_map_or}
@@ -51,9 +51,9 @@ word-piece (w ∷ ws) (suc i) k less =
     get_or-append_right (word_bytes w) (bytes_of ws) 4 (4 * suc i + k) 0 refl (omega arith)
     ∙ ap (λ (n : ℕ). slice_index (bytes_of ws) n) there ∙ word-piece ws i k less
 
--- ---- four bytes one behind another
+-- ---- four bytes one after another
 
--- where a byte of memory stands, and what it is
+-- where a byte of memory lies, and what it is
 record Holds (content : Content) (address byte : ℕ) : Type 0 where
   place : ℕ
   at : place_at content Fetch address ≡ Ok place

@@ -1,5 +1,5 @@
 -- An instruction that is neither a system call nor a computed jump takes one of its edges: the registers lie in the ranges before it,
--- it goes on if the edge leads to a multiple of 4, and then the registers lie in the ranges behind it.
+-- it goes on if the edge leads to a multiple of 4, and then the registers lie in the ranges after it.
 use Rattle.std.proofs.Common.{ℕ, ◌≡◌, ◌∙◌, ◌==◌, ◌+◌, ◌%◌, ◌^◌, ◌++◌, Bool, true, false, if◌then◌else◌, List, ◌∷◌, length, Ok, Option, Some, None, refl, sym, ap, subst, arith}
 use Rattle.std.specs.Prelude.{ℤ, Contains, option_to_list, slice_set}
 use Rattle.std.proofs.lemmas.Bool.{eq-eqb}
@@ -21,7 +21,7 @@ use Rattle.ranges.specs.Standing.{AreWords}
 use Rattle.ranges.proofs.Laws.{branch_kept, instruction-keeps, jump-keeps}
 use Rattle.headline.specs.steps.Taken.{IsPlain, MayTake, Reaches, edges_among}
 
--- ---- where the pc stands
+-- ---- where the pc is
 
 behind-written : (r : RegisterFile) (x : Register) (value : ℕ) → ((write r x value).pc + 4) % 2 ^ 32 ≡ behind r.pc
 behind-written r x value = elim (x.0 == 0) as (λ b. ((if b then r else record r { words = slice_set r.words x.0 value }).pc + 4) % 2 ^ 32 ≡ behind r.pc) [

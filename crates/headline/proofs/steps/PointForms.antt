@@ -181,7 +181,7 @@ module _ (image : Image) (t : Thread) (at : Point) (state : PointState) (fitting
   unfolding after_call
   answered = bind-form (known at state a7) _ (λ number. numbered (call_of number))
 
--- ---- behind a point
+-- ---- after a point
 
 abbrev NotedHasForm : Noted → Type 0
 NotedHasForm (Known state) = HasForm state

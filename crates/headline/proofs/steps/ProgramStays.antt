@@ -1,4 +1,4 @@
--- A program stays in its pages: what is fetched from them is the same behind an instruction of its thread.
+-- A program stays in its pages: what is fetched from them is the same after an instruction of its thread.
 use Rattle.std.proofs.Common.{ℕ, zero, suc, ◌≡◌, ◌≢◌, ◌∙◌, ◌==◌, ◌+◌, ◌*◌, ◌/◌, ◌%◌, ◌^◌, ◌<◌, ◌≤◌, ◌&&◌, inl, inr, true, List, [], ◌∷◌, map, Option, Some, None, Result, Ok, Err, refl, sym, ap, subst, arith}
 use Rattle.std.specs.Prelude.{Contains, slice_get, slice_index}
 use Rattle.std.specs.Int.{byte_len, from_le_bytes}

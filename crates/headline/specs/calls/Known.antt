@@ -22,13 +22,13 @@ pub record IsAllowed (image : Image) (t : Numbered) (point : ℕ) (state : Point
   pub at : call_at image t point state ≡ Some (Ok left)
   pub is : after_call image t.thread (point_of t point) state ≡ Ok left
 
--- The register with the number of the call names one, and what is known behind the call is by its rule.
+-- The register with the number of the call names one, and what is known after the call is by its rule.
 pub record CallsSo (image : Image) (t : Thread) (at : Point) (state : PointState) (left : AfterCall) (registers : RegisterFile) : Type 0 where
   pub call : SystemCall
   pub number : call_of (read registers a7) ≡ Some call
   pub rule : by_call image t at state call ≡ Ok left
 
--- The register with the address of a capability leads to a slot, and what is known behind the call is by the rule on what that holds.
+-- The register with the address of a capability leads to a slot, and what is known after the call is by the rule on what that holds.
 pub record NamesSo (image : Image) (t : Thread) (state : PointState) (rules : ℕ → Cap → Result AfterCall Refusal) (left : AfterCall) (registers : RegisterFile) : Type 0 where
   pub slot : ℕ
   pub found : called_slot (noted_kernel image t state.slots).slots (noted_root image t) (read registers a0) ≡ Ok slot

@@ -91,7 +91,7 @@ pub record IsMessage (message : Message) : Type 0 where
   pub few : length message.words ≤ 8
   pub info : info_word message.label (length message.words) < 2 ^ 32
 
--- what is written lies in the ranges behind, and only these registers are
+-- what is written lies in the ranges after it, and only these registers are
 abbrev pub Fits : RegisterFile → RegisterFile → List Range → List Register → Type 0
 Fits registers written behind which = LieWithin written behind × WritesOnly registers written which
 

@@ -1,4 +1,4 @@
--- What stays true while the threads of an accepted image run: each stands as its certificate says and waits as it asked, nobody else
+-- What stays true while the threads of an accepted image run: each is as its certificate says and waits as it asked, nobody else
 -- runs, and all slots outside of their CNodes are as described.
 use Rattle.std.specs.Prelude.{ℕ, ◌≡◌, ◌⊎◌, Contains, Some, List}
 use Rattle.model.specs.declared.labels.Label.{Label}
@@ -11,7 +11,7 @@ use Rattle.model.specs.Kernel.State.{State, Inactive, ThreadObject, ThreadState}
 use Rattle.headline.specs.facts.Hanging.{HangsAsListed}
 use Rattle.headline.specs.facts.Waiting.{WaitsAsAsked}
 
--- a slot that stands in no thread's CNodes
+-- a slot that is in no thread's CNodes
 abbrev pub IsApart : Image → ℕ → Type 0
 IsApart image slot = (t : Numbered) → Contains (numbered_threads image) t → IsOwnSlot image t.thread slot → ⊥
 

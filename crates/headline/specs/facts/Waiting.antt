@@ -1,4 +1,4 @@
--- What a thread waits for is what its system call asks: a message that reaches it finds what its certificate notes behind the call.
+-- What a thread waits for is what its system call asks: a message that reaches it finds what its certificate notes after the call.
 use Rattle.std.specs.Prelude.{ℕ, ◌≡◌, ◌⊎◌, ◌<◌, true, ⊤, Contains, Some, Ok, [], ◌∷◌}
 use Rattle.model.specs.declared.capabilities.Cap.{Cap}
 use Rattle.model.specs.Acceptance.Authority.{Holds}
@@ -14,7 +14,7 @@ use Rattle.model.specs.Kernel.Messages.{a0}
 use Rattle.model.specs.Kernel.Retype.{NewEndpoint, NewNotification}
 use Rattle.model.specs.Kernel.State.{State, Status, Inactive, Runnable, Blocked, AwaitsReply, AwaitsHandler, Sender, BySend, ByCall, EndpointObject, EndpointState, NotificationObject, NotificationState, ThreadObject, ThreadState}
 
--- ---- what is known behind a call that waits
+-- ---- what is known after a call that waits
 
 -- a message of any sender
 abbrev pub behind_receive : PointState → AfterCall
@@ -58,7 +58,7 @@ WaitsSo image t s state left (Blocked queue) = QueuesSo image t s state left que
 WaitsSo image t s state left AwaitsReply = left ≡ behind_reply state
 WaitsSo image t s state left AwaitsHandler = ⊥
 
--- whatever call the thread stands at, it waits for what that asks
+-- whatever call the thread is at, it waits for what that asks
 abbrev pub WaitsAsAsked : Image → Numbered → State → Type 0
 WaitsAsAsked image t s =
     (own : ThreadState) (point : ℕ) (state : PointState) (left : AfterCall) → s.objects (tcb_of image t) ≡ Some (ThreadObject own)

@@ -1,4 +1,4 @@
--- What is known of registers behind an invocation, and that what a thread's slots hold derives from something.
+-- What is known of registers after an invocation, and that what a thread's slots hold derives from something.
 use Rattle.std.specs.Prelude.{ℕ, ◌≡◌, false, if◌then◌else◌, Some, [], ◌∷◌}
 use Rattle.model.specs.Acceptance.Authority.{IsOwnSlot}
 use Rattle.model.specs.Acceptance.CallRules.{AfterCall, answers, with_answer}
@@ -16,7 +16,7 @@ pub record IsAnswered (kind : SendCall) (state : PointState) (left : AfterCall) 
   pub ranges : left.ranges ≡ (if answers kind then with_answer state.ranges else state.ranges)
   pub written : left.written ≡ (if answers kind then a0 ∷ a1 ∷ [] else [])
 
--- no full slot of the thread's stands at the top of a line of parents
+-- no full slot of the thread's is at the top of a line of parents
 abbrev pub DerivesFromSome : Image → Numbered → State → Type 0
 DerivesFromSome image t s =
     (slot : ℕ) → IsOwnSlot image t.thread slot → IsFull s.slots slot → (parent : ℕ) × (parent_at s.slots slot ≡ Some parent)

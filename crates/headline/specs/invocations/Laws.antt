@@ -1,4 +1,4 @@
--- The laws of this crate: single invocations, all threads behind one, and whatever happens to an accepted image.
+-- The laws of this crate: single invocations, all threads after one, and whatever happens to an accepted image.
 use Rattle.std.specs.Prelude.{ℕ, ◌+◌, ◌++◌, List, [], ◌∷◌, Contains, ◌≡◌, Some}
 use Rattle.model.specs.declared.events.Event.TheVariants.{Step}
 use Rattle.model.specs.declared.events.Event.{Event}
@@ -91,7 +91,7 @@ UnmapsGoWell =
     (image : Image) (t : Numbered) (s : State) (slots : List NotedSlot) (slot : ℕ) (held : Rights) → Mirrors image t s slots
     → (m : MayInvoke image t s slots slot (OnFrame held UnmapFrame)) → InvokesWell image t s slot (OnFrame held UnmapFrame) m.noted
 
--- ---- behind a call
+-- ---- after a call
 
 -- what the thread's slots hold derives from something still
 abbrev pub DeriveBehind : Type 0
@@ -131,7 +131,7 @@ AnyStepGoesWell =
 abbrev pub EventsHaveGoneWell : Type 0
 EventsHaveGoneWell = (bytes : List ℕ) (image : Image) (events : List Event) → IsAccepted bytes image → HasGoneWell image events
 
--- ---- the laws that invocations stand on
+-- ---- the laws that invocations are built on
 
 pub record Laws : Type 0 where
   pub below : LawsBelow

@@ -1,4 +1,4 @@
--- The laws of this crate, and those of the crates below that its proofs stand on.
+-- The laws of this crate, and those of the crates below that its proofs are built on.
 use Rattle.std.specs.Prelude.{ℕ, ◌≡◌, ◌+◌, List, Ok, Some, false, true, Bool, Contains, ◌++◌, [], ◌∷◌}
 use Rattle.model.specs.declared.events.Event.TheVariants.{Irq, Tick, Step}
 use Rattle.model.specs.declared.instructions.Instr.TheVariants.{Ecall}
@@ -69,7 +69,7 @@ SameGroundTouchesNone =
     (bytes : List ℕ) (image : Image) (t : Numbered) (s after : State) → IsAccepted bytes image → Contains (numbered_threads image) t
     → IsSound s → IsSound after → SameGround image s after → IsLeftAlone image t s after
 
--- those that a step moves stand, and the others rest
+-- the invariant of those that a step moves holds, and the others rest
 abbrev pub AllStandWhereOthersRest : Type 0
 AllStandWhereOthersRest =
     (bytes : List ℕ) (image : Image) (s after : State) (labels later : List Label) (moves : ℕ → Bool) → IsAccepted bytes image
@@ -104,7 +104,7 @@ PlainStepsGoWell =
     (bytes : List ℕ) (image : Image) (t : Numbered) (s : State) (labels : List Label) → IsAccepted bytes image → AllStand image s labels
     → Contains (numbered_threads image) t → current s ≡ Some (tcb_of image t) → ReachesNoCall s (tcb_of image t) → GoesWell image s labels Step
 
--- ---- the laws below that these stand on
+-- ---- the laws below that these are built on
 
 pub record Laws : Type 0 where
   pub stand_on : StandsOn

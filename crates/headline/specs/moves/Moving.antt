@@ -45,7 +45,7 @@ pub record WaitsOn (s after : State) (thread : ℕ) : Type 0 where
 
 -- ---- a thread that makes a system call
 
--- the thread runs, and stands at a system call that the rules allow; `left` is what is known behind it
+-- the thread runs, and is at a system call that the rules allow; `left` is what is known after it
 pub record CallsAt (image : Image) (t : Numbered) (s : State) (labels : List Label) (own : ThreadState) (point : ℕ)
     (state : PointState) (left : AfterCall) : Type 0 where
   pub there : s.objects (tcb_of image t) ≡ Some (ThreadObject own)

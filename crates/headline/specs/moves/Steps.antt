@@ -20,7 +20,7 @@ use Rattle.model.specs.Kernel.Waits.{is_error, is_fault}
 use Rattle.model.specs.Machine.Decoding.{decoded}
 use Rattle.model.specs.Machine.ProgramMemory.{loaded, read}
 
--- no fault, no error, and all threads stand behind it
+-- no fault, no error, and the threads' invariant holds after it
 pub record GoesWell (image : Image) (s : State) (labels : List Label) (event : Event) : Type 0 where
   pub faults : is_fault (step s event).1 ≡ false
   pub errors : is_error (step s event).1 ≡ false
@@ -38,7 +38,7 @@ InvokesNothing s thread =
     (kind : SendCall) (slot : ℕ) → call_of (read (registers_of s thread) a7) ≡ Some (Sends kind) → named_slot s thread ≡ Ok slot
     → IsInvoked (capability_at s.slots slot) → ⊥
 
--- behind events all threads stand, and no label is a fault or an error
+-- after events the threads' invariant holds, and no label is a fault or an error
 pub record HasGoneWell (image : Image) (events : List Event) : Type 0 where
   pub stand : AllStand image (state_after (described image) events) (trace (described image) events)
   pub faults : All (λ label. is_fault label ≡ false) (trace (described image) events)

@@ -1,4 +1,4 @@
--- Noted slots that are told apart by what the rules compare.
+-- Noted slots that differ by what the rules compare.
 use Rattle.std.specs.Prelude.{◌≡◌, ◌^◌, ◌<◌, Bool, true, nat_lt, List, [], ◌∷◌, length}
 use Rattle.std.specs.Option.{option_map_or}
 use Rattle.std.specs.List.{list_all}

@@ -14,6 +14,6 @@ pub record FrameIsKept (image : Image) (item : ℕ) (f : FrameEntry) : Type 0 wh
 
 pub record FramesAreKept (image : Image) : Type 0 where
   pub each : (item : ℕ) (f : FrameEntry) → slice_get image.frames item ≡ Some f → FrameIsKept image item f
-  -- no two frames stand at one place
+  -- no two frames lie at one place
   pub apart : (i j : ℕ) → i < image.header.objects → j < image.header.objects → is_frame_type (type_at image i) ≡ true → is_frame_type (type_at image j) ≡ true
       → offset_of image i ≡ offset_of image j → i ≡ j

@@ -43,7 +43,7 @@ PointsKeepTheirRules =
     (image : Image) (t : Numbered) (point : ℕ) (state : PointState) → AreKept (program_rules image) → Contains (numbered_threads image) t
     → t.thread.header.base % 4 ≡ 0 → point < t.thread.header.words → noted image t point ≡ Known state → IsPoint image t point state
 
--- keys are told apart by their numbers, and capabilities by their words
+-- keys differ by their numbers, and capabilities by their words
 abbrev pub EqualSlotsAreTheSame : Type 0
 EqualSlotsAreTheSame = (slots others : List NotedSlot) → AreFormed slots → AreFormed others → are_same_slots slots others ≡ true → slots ≡ others
 

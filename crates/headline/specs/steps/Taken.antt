@@ -27,7 +27,7 @@ abbrev pub edges_among : Edges → List Edge
 edges_among edges = option_to_list edges.taken ++ option_to_list edges.fall_through
 
 -- The registers lie in the ranges before an edge. The instruction goes on if the edge leads to a multiple of 4, and then it leads
--- there, with the registers in the ranges behind it.
+-- there, with the registers in the ranges after it.
 pub record MayTake (r : RegisterFile) (content : Content) (ranges : List Range) (instr : Instr) : Type 0 where
   pub edge : Edge
   pub among : Contains (edges_among (after r.pc instr ranges)) edge

@@ -2,8 +2,8 @@
 
 ghost use Rattle.headline.specs.calls.Laws.{AnswerFits, MessageFits, NothingFits, ResultFits, SignalFits};
 
-/// What a message, the answer to a call, a signal, the result of an invocation and a message that is not there write lies in the ranges behind them, and no
-/// other register changes.
+/// What a message, the answer to a call, a signal, the result of an invocation and a message that is not there write
+/// lies in the ranges after them, and no other register changes.
 pub fn messages_fit_behind()
     ensures message { MessageFits }
     ensures answer { AnswerFits }

@@ -1,4 +1,4 @@
-//! The laws on single invocations that these stand on.
+//! The laws on single invocations that these are built on.
 
 ghost use Rattle.headline.specs.invocations.Laws.{Laws};
 

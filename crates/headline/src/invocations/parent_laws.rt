@@ -1,4 +1,4 @@
-//! What a thread's slots derive from, behind an invocation.
+//! What a thread's slots derive from, after an invocation.
 
 ghost use Rattle.headline.specs.invocations.Laws.{DeriveBehind};
 

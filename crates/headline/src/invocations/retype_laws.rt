@@ -2,7 +2,8 @@
 
 ghost use Rattle.headline.specs.invocations.Laws.{RetypesGoWell};
 
-/// Where Retype has no error on what is noted, it has none: new objects stand behind the pool's watermark, where nothing stands.
+/// Where Retype has no error on what is noted, it has none: new objects lie after the pool's watermark, in free
+/// memory.
 pub fn retypes_go_well()
     ensures { RetypesGoWell }
 {}

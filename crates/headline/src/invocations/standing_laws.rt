@@ -1,4 +1,4 @@
-//! All threads, behind a call that changes slots of the thread that makes it.
+//! All threads, after a call that changes slots of the thread that makes it.
 
 ghost use Rattle.headline.specs.invocations.Laws.{OwnSlotsDeriveFromSome, StandBehindChanges};
 
@@ -7,8 +7,8 @@ use crate::kept::{
     points_note_all_ranges, threads_have_their_own_blocks, untouched_threads_stand_on,
 };
 
-/// All threads stand behind a call that changes slots of the thread that makes it, where its slots are then those that are known behind
-/// the call, and nobody waits at what it made or ended.
+/// The threads' invariant holds after a call that changes slots of the thread that makes it, where its slots are then
+/// those that are known after the call, and nobody waits at what it made or ended.
 pub fn changed_slots_keep_all_standing()
     ensures { StandBehindChanges }
 {
@@ -19,8 +19,8 @@ pub fn changed_slots_keep_all_standing()
     untouched_threads_stand_on();
 }
 
-/// What is known before a call says that each full slot of the thread's derives from something; behind the call that has to be shown
-/// of what the call left.
+/// What is known before a call says that each full slot of the thread's derives from something; after the call that has
+/// to be shown of what the call left.
 pub fn own_slots_derive_from_something()
     ensures { OwnSlotsDeriveFromSome }
 {}

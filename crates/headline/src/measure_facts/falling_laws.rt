@@ -16,7 +16,7 @@ ghost use Rattle.model.specs.Machine.Instructions.{IsInstr};
 ghost use Rattle.model.specs.Machine.ProgramMemory.{Content, RegisterFile};
 ghost use Rattle.ranges.specs.Standing.{AreWords};
 
-/// A measure that falls over an instruction, by the ranges before and behind it, is less behind it.
+/// A measure that falls over an instruction, by the ranges before and after it, is less after it.
 pub fn falls_is_less()
     ensures { (r : RegisterFile) (content : Content) (instr : Instr) (from to : Measure) (before behind : List Range)
         → AreWords r content → IsInstr instr → NamesRegisters from → NamesRegisters to
@@ -38,7 +38,7 @@ pub fn falls_over_calls_is_less()
         → falls from to (call_form written) before behind ≡ true → measured to s <ℤ measured from r }
 {}
 
-/// A measure that stays below a budget over a system call is no more than the budget behind it.
+/// A measure that stays below a budget over a system call is no more than the budget after it.
 pub fn what_stays_below_is_within()
     ensures { (r s : RegisterFile) (written : List Register) (budget : ℕ) (to : Measure) (before behind : List Range)
         → WritesOnly r s written → NamesRegisters to → LieWithin r before → LieWithin s behind

@@ -1,4 +1,4 @@
-//! The laws of the crates below that all of these stand on.
+//! The laws of the crates below that all of these are built on.
 
 ghost use Rattle.headline.specs.moves.Laws.{Laws};
 

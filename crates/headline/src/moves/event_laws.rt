@@ -4,14 +4,14 @@ ghost use Rattle.headline.specs.moves.Laws.{InterruptsGoWell, TicksGoWell};
 
 use crate::moves::below::laws_below;
 
-/// All threads stand behind a tick.
+/// The threads' invariant holds after a tick.
 pub fn ticks_keep_all_standing()
     ensures { TicksGoWell }
 {
     laws_below();
 }
 
-/// All threads stand behind an interrupt.
+/// The threads' invariant holds after an interrupt.
 pub fn interrupts_keep_all_standing()
     ensures { InterruptsGoWell }
 {

@@ -2,7 +2,7 @@
 
 ghost use Rattle.headline.specs.steps.Laws.{EqualSlotsAreTheSame, NotedPointsHaveTheirForm, SlotsInPlaceHaveTheirForm};
 
-/// Keys are told apart by their numbers, and capabilities by their words.
+/// Keys differ by their numbers, and capabilities by their words.
 pub fn slots_that_compare_as_the_same_are_the_same()
     ensures { EqualSlotsAreTheSame }
 {}

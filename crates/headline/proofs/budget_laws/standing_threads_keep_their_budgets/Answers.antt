@@ -1,4 +1,4 @@
--- Each label of a thread is told of one that runs, which is within its budget.
+-- Each label of a thread is one of a thread that runs, which is within its budget.
 use Rattle.headline.proofs.RunningLabels.{runs-within}
 use Rattle.headline.proofs.SpentLabels.{keeps-budget}
 use Rattle.headline.proofs.budget_laws.standing_threads_keep_their_budgets.Goals as goal

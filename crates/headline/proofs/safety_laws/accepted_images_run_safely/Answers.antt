@@ -1,4 +1,4 @@
--- All events go well, and where all threads stand each keeps its budget.
+-- All events go well, and where the threads' invariant holds each keeps its budget.
 use Rattle.headline.proofs.Numbers.{numbered-listed}
 use Rattle.headline.proofs.safety_laws.accepted_images_run_safely.Goals as goal
 

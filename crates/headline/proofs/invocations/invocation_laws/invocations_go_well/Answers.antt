@@ -1,4 +1,4 @@
--- The call of the rules is the kernel's, and its law tells what it leaves.
+-- The call of the rules is the kernel's, and its law says what it leaves.
 use Rattle.headline.proofs.invocations.InvocationSteps.{invocation-goes-well}
 use Rattle.headline.proofs.invocations.invocation_laws.invocations_go_well.Goals as goal
 

@@ -1,4 +1,4 @@
--- Each law as it is told.
+-- Each law as it is stated.
 use Rattle.headline.proofs.invocations.laws.laws_on_invocations.Goals as goal
 
 pub returns : goal.returns

@@ -1,4 +1,4 @@
--- Each thread stands at its entry and runs.
+-- Each thread is at its entry and runs.
 use Rattle.std.proofs.Common.{refl, subst}
 use Rattle.model.specs.Images.Described.{described}
 use Rattle.model.specs.Kernel.State.{Status}

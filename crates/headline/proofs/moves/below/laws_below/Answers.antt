@@ -1,4 +1,4 @@
--- Each law as it is told.
+-- Each law as it is stated.
 use Rattle.headline.proofs.moves.below.laws_below.Goals as goal
 use Rattle.headline.proofs.facts.Laws.{is-listed}
 

@@ -1,4 +1,4 @@
--- An interrupt is a signal, or stands pending.
+-- An interrupt is a signal, or is pending.
 use Rattle.headline.proofs.moves.Interrupts.{all-over-interrupt}
 use Rattle.headline.proofs.moves.event_laws.interrupts_keep_all_standing.Goals as goal
 

@@ -1,4 +1,4 @@
--- Nothing else stands at its offset, and no earlier thread has its object.
+-- Nothing else is at its offset, and no earlier thread has its object.
 use Rattle.headline.proofs.starts.StartObjects.{object-started}
 use Rattle.headline.proofs.starts.start_laws.threads_are_as_listed.Goals as goal
 

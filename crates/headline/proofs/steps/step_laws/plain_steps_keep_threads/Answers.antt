@@ -1,4 +1,4 @@
--- The thread stands at a point whose rules are kept, and takes one of its edges.
+-- The thread is at a point whose rules are kept, and takes one of its edges.
 use Rattle.std.proofs.Common.{ℕ, ◌≡◌, ◌++◌, List, [], ◌∷◌, Some, sym, subst}
 use Rattle.std.specs.Prelude.{Contains, false}
 use Rattle.soundness.proofs.Laws.{described-sound, events-whole, instructions-keep}
