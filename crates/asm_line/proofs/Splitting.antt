@@ -71,7 +71,7 @@ words-none text h = sym (skipped text) ∙ ap words_of (drop_of_length-le text (
 
 -- ---- a word
 
--- what the text splits into: what stands before the first blank, and parts of which the full ones are the words behind it
+-- what the text splits into: what is before the first blank, and parts of which the full ones are the words after it
 record Parts (text : Text) : Type 0 where
   pub rest : List Text
   pub split : slice_split is_blank text ≡ take (position_or_len is_blank text) text ∷ rest
@@ -110,7 +110,7 @@ word-first b text h =
     let some : is_full (take (word_size (b ∷ text)) (b ∷ text)) ≡ true = rw one (lt-ltb 0 _ (omega arith)) in
     full (b ∷ text) found some
 
--- the first word of a text and the words behind it
+-- the first word of a text and the words after it
 pub words-some : (text : Text) (i : ℕ) → position is_other text ≡ Some i
     → words_of text ≡ take (word_size (drop i text)) (drop i text) ∷ words_of (drop (word_size (drop i text)) (drop i text))
 words-some text i h =

@@ -215,7 +215,7 @@ parent_first [] = Err 1
 parent_first (w ∷ ws) =
     if bytes_eq w (codes "boot") then Ok (parent.Boot, ws) else (name_of w >>= λ cnode. Ok (parent.Slot cnode 0, ws))
 
--- a parent in the boot CNode is said with 0 behind it; an empty slot has no other
+-- a parent in the boot CNode is written with 0 after it; an empty slot has no other
 abbrev pub parent_with : Bool → Parent → ℤ → Result Parent ℕ
 parent_with is_empty (parent.Boot) index = within 0 0 index >>= λ _. Ok parent.Boot
 parent_with is_empty (parent.Slot cnode _index) index = checked (not is_empty) >>= λ _. within 0 (2 ^ 14 - 1) index >>= λ number. Ok (parent.Slot cnode number)
@@ -263,7 +263,7 @@ term_first [] = Err 1
 term_first (name ∷ []) = Err 1
 term_first (name ∷ factor ∷ words) = term_of name factor >>= λ term. Ok (term, words)
 
--- the grammar of terms: registers, each with a number behind it
+-- the grammar of terms: registers, each with a number after it
 abbrev pub all_pairs : List Text → Result (Unit {0}) ℕ
 all_pairs [] = Ok tt
 all_pairs (name ∷ []) = Err 1

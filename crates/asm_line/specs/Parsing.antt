@@ -37,7 +37,7 @@ line_for Slot words = slot_of words
 line_for Word words = plain_word_of words >>= λ made. Ok (line.Code None made)
 line_for End words = ends words >>= λ last. Ok line.End
 
--- what stands before the colon with which a label ends
+-- what is before the colon with which a label ends
 abbrev pub label_of : Text → Option Text
 label_of word = if slice_index_or word (length word - 1) 0 == 58 then Some (take (length word - 1) word) else None
 
@@ -45,7 +45,7 @@ label_of word = if slice_index_or word (length word - 1) 0 == 58 then Some (take
 abbrev pub before_comment : Text → Text
 before_comment text = option_map_or (λ end. take end text) (position (λ byte. byte == 35) text) text
 
--- the label with which a line begins, whatever stands behind it
+-- the label with which a line begins, whatever is after it
 unfoldable pub label_declared : List Text → Option Text
 label_declared [] = None
 label_declared (word ∷ words) = option_and_then (λ name. result_ok (name_of name)) (label_of word)

@@ -18,7 +18,7 @@ abbrev pub ◌>>=◌ : {A B : Type 0} → Result A ℕ → (A → Result B ℕ) 
 abbrev pub is_blank : ℕ → Bool
 is_blank byte = (byte == 32) || (byte == 9) || (byte == 44)
 
--- what stands between blanks, where anything does
+-- what is between blanks, where anything does
 unfoldable pub words_of : Text → List Text
 words_of text = filter (λ word. nat_lt 0 (length word)) (slice_split is_blank text)
 
@@ -55,7 +55,7 @@ object_first (word ∷ words) = if bytes_eq word (codes "boot") then Err 1 else 
 abbrev pub digit_in : ℕ → ℕ → Result ℕ ℕ
 digit_in radix byte = if nat_lt (digit_value byte) radix then Ok (digit_value byte) else Err 1
 
--- the number that digits spell behind those that spell `n`; one of 2^63 or more counts as 2^63 - 1, which no line may have
+-- the number that digits spell after those that spell `n`; one of 2^63 or more counts as 2^63 - 1, which no line may have
 abbrev pub value_on : ℕ → ℕ → Text → Result ℕ ℕ
 value_on radix n [] = Ok n
 value_on radix n (byte ∷ bytes) = digit_in radix byte >>= λ digit. value_on radix (min (n * radix + digit) (2 ^ 63 - 1)) bytes

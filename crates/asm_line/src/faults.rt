@@ -1,4 +1,4 @@
-//! What can be wrong with a line by itself, as the numbers by which a fault of a source text is told.
+//! What can be wrong with a line by itself, as the numbers by which a fault of a source text is reported.
 
 /// The line is none of the text form.
 pub const SYNTAX: u8 = 1;

@@ -30,7 +30,7 @@ fn immediate_in(number: i64) -> Result<i32, u8>
     }
 }
 
-/// A register, and the words behind it.
+/// A register, and the words after it.
 fn register(words: Words<'_>) -> Result<(Register, Words<'_>), u8>
     ensures value { result ≡ register_operand words.entry }
     ensures small { IfOk result (λ x. x.0.0 < 32) }
@@ -39,7 +39,7 @@ fn register(words: Words<'_>) -> Result<(Register, Words<'_>), u8>
     Ok((Register(number), words))
 }
 
-/// What stands before the parenthesis with which a word ends.
+/// What is before the parenthesis with which a word ends.
 fn unclosed(word: &[u8]) -> Option<&[u8]>
     ensures { option_map (λ text. text.now) result ≡ unclosed word.now }
 {
@@ -49,14 +49,14 @@ fn unclosed(word: &[u8]) -> Option<&[u8]>
     }
 }
 
-/// Where the first parenthesis stands.
+/// Where the first parenthesis is.
 fn opening(text: &[u8]) -> Option<usize>
     ensures { result ≡ position (λ byte. byte == 40) text.now }
 {
     text.iter().position(|byte| *byte == b'(')
 }
 
-/// What stands behind the first byte.
+/// What follows the first byte.
 fn behind_first(text: &[u8]) -> &[u8]
     ensures { result.now ≡ drop 1 text.now }
 {
@@ -66,7 +66,7 @@ fn behind_first(text: &[u8]) -> &[u8]
     }
 }
 
-/// What stands before the first parenthesis and behind it.
+/// What is before the first parenthesis and after it.
 fn opened(text: &[u8]) -> Option<(&[u8], &[u8])>
     ensures { option_map (λ parts. (parts.0.now, parts.1.now)) result ≡ opened text.now }
 {
@@ -103,7 +103,7 @@ fn address_in(word: &[u8]) -> Result<(i64, Register), u8>
     }
 }
 
-/// An offset and a register, and the words behind them.
+/// An offset and a register, and the words after them.
 #[tactic(auto, unfolding(crate::specs::Instructions::address_first))]
 fn address(words: Words<'_>) -> Result<(i64, Register, Words<'_>), u8>
     ensures value { result ≡ address_first words.entry }

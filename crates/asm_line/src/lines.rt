@@ -13,8 +13,8 @@ use crate::thread_lines::term_and_rest;
 use crate::words::Words;
 use model::{BranchOp, RangeEntry, Register, RegisterEntry, TermEntry, UntypedEntry};
 
-/// What one line of an image's text says. Names are lent by the text, and what they stand for is
-/// not known here. Numbers are in the ranges that a line by itself can tell.
+/// What one line of an image's text says. Names are lent by the text, and what they name is
+/// not known here. Numbers are in the ranges that can be checked on a line by itself.
 #[derive(Drop)]
 pub enum Line<'a> {
     /// Nothing: it is empty, or a comment.
@@ -100,7 +100,7 @@ pub enum Line<'a> {
 }
 
 impl<'a> Words<'a> {
-    /// The first of the words of a `data` line that are left, and those behind it.
+    /// The first of the words of a `data` line that are left, and those after it.
     pub fn next_word(self) -> Option<(u32, Words<'a>)>
         ensures exact { result ≡ result_ok (word_first self.entry) }
         ensures listed { (word : ℕ) (rest : List Text) → word < 2 ^ 32 → self.entry ≡ decimal word ∷ rest → result ≡ Some (word, rest) }
@@ -108,7 +108,7 @@ impl<'a> Words<'a> {
         word_and_rest(self).ok()
     }
 
-    /// The first of the terms of a `measure` line that are left, and the words behind it.
+    /// The first of the terms of a `measure` line that are left, and the words after it.
     pub fn next_term(self) -> Option<(TermEntry, Words<'a>)>
         ensures exact { result ≡ result_ok (term_first self.entry) }
         ensures listed { (term : TermEntry) (rest : List Text) → IsTerm term → self.entry ≡ term_words term ++ rest → result ≡ Some (term, rest) }

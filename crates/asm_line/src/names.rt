@@ -44,7 +44,7 @@ fn continues_names(byte: u8) -> bool
     begins_names(byte) || byte.is_ascii_digit()
 }
 
-/// Whether all bytes may stand in a name behind its first.
+/// Whether all bytes may be in a name after its first.
 fn all_continue_names(bytes: &[u8]) -> bool
     ensures { result ≡ list_all is_name_byte bytes.now }
 {

@@ -1,11 +1,11 @@
-//! Numbers: decimal, with a minus sign before them, or hexadecimal behind `0x`.
+//! Numbers: decimal, with a minus sign before them, or hexadecimal after `0x`.
 
 ghost use Rattle.std.specs.Prelude.{◌≡◌, ◌≤◌, ◌-◌, ◌^◌, IfOk};
 ghost use Rattle.asm_line.specs.Words.{digit_in, magnitude, number_of, unsigned_of, within};
 
 use crate::faults::{RANGE, SYNTAX};
 
-/// The greatest number that is told from the greater ones, which no line may have.
+/// The greatest number that is distinguished from the greater ones, which no line may have.
 const GREATEST: u64 = i64::MAX as u64;
 
 /// The value of a digit in a radix of 10 or 16.

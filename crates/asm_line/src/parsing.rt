@@ -17,7 +17,7 @@ use crate::numbers::word;
 use crate::words::Words;
 use crate::{sections, thread_lines};
 
-/// What stands before the colon with which a label ends, if a word is one.
+/// What is before the colon with which a label ends, if a word is one.
 fn label_in(word: &[u8]) -> Option<&[u8]>
     ensures { option_map (λ name. name.now) result ≡ label_of word.now }
 {
@@ -27,7 +27,7 @@ fn label_in(word: &[u8]) -> Option<&[u8]>
     }
 }
 
-/// `word N`, behind its first word.
+/// `word N`, after its first word.
 #[tactic(auto, unfolding(crate::specs::Parsing::plain_word_of))]
 fn plain_word(words: Words<'_>) -> Result<Code<'_>, u8>
     ensures { result ≡ plain_word_of words.entry }
@@ -77,7 +77,7 @@ fn code<'a>(word: &[u8], words: Words<'a>) -> Result<Code<'a>, u8>
     }
 }
 
-/// What a line says that begins with a label, with what stands behind it.
+/// What a line says that begins with a label, with what follows it.
 fn labelled<'a>(name: &'a [u8], words: Words<'a>) -> Result<Line<'a>, u8>
     ensures { result ≡ labelled_line name.now words.entry }
 {
@@ -151,7 +151,7 @@ fn without_comment(text: &[u8]) -> &[u8]
     }
 }
 
-/// What a text says, with a comment behind its words or none.
+/// What a text says, with a comment after its words or none.
 #[tactic(auto, unfolding(crate::specs::Meaning::line_read))]
 fn read(text: &[u8]) -> Result<Line<'_>, u8>
     ensures { result ≡ line_read text.now }
@@ -187,7 +187,7 @@ fn fault_in(kind: u8) -> u8
 /// # Errors
 ///
 /// `SYNTAX` if the line is none of the text form, and else `RANGE` if a number of it is out of the
-/// range that the line by itself can tell.
+/// range that can be checked on the line by itself.
 #[tactic(auto, unfolding(crate::specs::Meaning::line_said))]
 pub fn parse_line(text: &str) -> Result<Line<'_>, u8>
     ensures said { result ≡ line_said text.now }
@@ -197,8 +197,8 @@ pub fn parse_line(text: &str) -> Result<Line<'_>, u8>
     told(read(text.as_bytes()))
 }
 
-/// The label with which a line of an image's text begins, a name and a colon, whatever stands behind it: a line that is at fault
-/// declares its label too.
+/// The label with which a line of an image's text begins, a name and a colon, whatever is after it: a line that is at
+/// fault declares its label too.
 #[tactic(auto, unfolding(crate::specs::Parsing::label_declared))]
 pub fn declared_label(text: &str) -> Option<Name<'_>>
     ensures { result ≡ label_declared (words_of (before_comment text.now)) }

@@ -40,7 +40,7 @@ pub(crate) fn untyped(words: Words<'_>) -> Result<Line<'_>, u8>
     })
 }
 
-/// The first word, which is to be a kind of objects, and those behind it.
+/// The first word, which is to be a kind of objects, and those after it.
 fn kind_and_rest(words: Words<'_>) -> Result<(u32, Words<'_>), u8>
     ensures { result ≡ kind_first words.entry }
 {
@@ -50,7 +50,7 @@ fn kind_and_rest(words: Words<'_>) -> Result<(u32, Words<'_>), u8>
     }
 }
 
-/// The first word, which is to be a number, and those behind it; 0 if no word is left.
+/// The first word, which is to be a number, and those after it; 0 if no word is left.
 #[tactic(auto, unfolding(crate::specs::Words::words_of))]
 fn size_and_rest(words: Words<'_>) -> Result<(i64, Words<'_>), u8>
     ensures { result ≡ size_first words.entry }
@@ -189,7 +189,7 @@ fn check_words(words: Words<'_>) -> Result<(), u8>
     Ok(())
 }
 
-/// The first word, which is to be a number of 32 bits, and those behind it.
+/// The first word, which is to be a number of 32 bits, and those after it.
 pub(crate) fn word_and_rest(words: Words<'_>) -> Result<(u32, Words<'_>), u8>
     ensures { result ≡ word_first words.entry }
 {

@@ -140,7 +140,7 @@ pub(crate) fn range(words: Words<'_>) -> Result<Line<'_>, u8>
     }))
 }
 
-/// The first word, which is to be `boot` or the name of a CNode, and those behind it.
+/// The first word, which is to be `boot` or the name of a CNode, and those after it.
 fn parent_and_rest(words: Words<'_>) -> Result<(Parent<'_>, Words<'_>), u8>
     ensures { result ≡ parent_first words.entry }
 {
@@ -313,7 +313,7 @@ fn term_in(name: &[u8], factor: &[u8]) -> Result<TermEntry, u8>
     })
 }
 
-/// The first term of a measure and the words behind it.
+/// The first term of a measure and the words after it.
 pub(crate) fn term_and_rest(words: Words<'_>) -> Result<(TermEntry, Words<'_>), u8>
     ensures { result ≡ term_first words.entry }
 {
@@ -326,7 +326,7 @@ pub(crate) fn term_and_rest(words: Words<'_>) -> Result<(TermEntry, Words<'_>), 
     Ok((term_in(name, factor)?, words))
 }
 
-/// The words are to be registers, each with a number behind it.
+/// The words are to be registers, each with a number after it.
 fn check_pairs(words: Words<'_>) -> Result<(), u8>
     ensures { result ≡ all_pairs words.entry }
 {

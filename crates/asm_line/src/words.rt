@@ -1,4 +1,4 @@
-//! The words of a line: what stands between spaces, tabs and commas.
+//! The words of a line: what is between spaces, tabs and commas.
 
 ghost use Rattle.std.specs.Prelude.{◌≡◌, ◌<◌, IfOk, [], ◌∷◌, not, position, MatchOption};
 ghost use Rattle.asm_line.specs.Words.{ends, is_blank, last_number, last_numbers, name_first, number_first, object_first, place_first, register_first, words_of};
@@ -34,7 +34,7 @@ impl<'a> Words<'a> {
         Words { text }
     }
 
-    /// The first word, and those behind it.
+    /// The first word, and those after it.
     pub(crate) fn first(self) -> Option<(&'a [u8], Words<'a>)>
         ensures { MatchOption result (self.entry ≡ []) (λ p. self.entry ≡ p.0.now ∷ p.1) }
     {
@@ -42,7 +42,7 @@ impl<'a> Words<'a> {
         Some((word, Words { text: rest }))
     }
 
-    /// The first word, which is to be a name, and those behind it.
+    /// The first word, which is to be a name, and those after it.
     #[tactic(auto, unfolding(crate::specs::Words::name_first))]
     pub(crate) fn name(self) -> Result<(Name<'a>, Words<'a>), u8>
         ensures { result ≡ name_first self.entry }
@@ -53,7 +53,7 @@ impl<'a> Words<'a> {
         }
     }
 
-    /// The first word, which is to name an untyped, an object or an interrupt, and those behind it.
+    /// The first word, which is to name an untyped, an object or an interrupt, and those after it.
     #[tactic(auto, unfolding(crate::specs::Words::object_first))]
     pub(crate) fn object(self) -> Result<(Name<'a>, Words<'a>), u8>
         ensures { result ≡ object_first self.entry }
@@ -69,7 +69,7 @@ impl<'a> Words<'a> {
         }
     }
 
-    /// The first word, which is to be a register, and those behind it.
+    /// The first word, which is to be a register, and those after it.
     #[tactic(auto, unfolding(crate::specs::Words::register_first))]
     pub(crate) fn register(self) -> Result<(u8, Words<'a>), u8>
         ensures register { result ≡ register_first self.entry }
@@ -81,7 +81,7 @@ impl<'a> Words<'a> {
         }
     }
 
-    /// The first word, which is to be a number, and those behind it.
+    /// The first word, which is to be a number, and those after it.
     #[tactic(auto, unfolding(crate::specs::Words::number_first))]
     pub(crate) fn number(self) -> Result<(i64, Words<'a>), u8>
         ensures { result ≡ number_first self.entry }
@@ -111,7 +111,7 @@ impl<'a> Words<'a> {
         Ok((first, words.last_number()?))
     }
 
-    /// The first words, which are to be a name, a number and a name, and those behind them.
+    /// The first words, which are to be a name, a number and a name, and those after them.
     #[tactic(auto, unfolding(crate::specs::Words::place_first))]
     pub(crate) fn place(self) -> Result<(Name<'a>, i64, Name<'a>, Words<'a>), u8>
         ensures { result ≡ place_first self.entry }
@@ -147,21 +147,21 @@ fn parts_words(byte: u8) -> bool
     byte == b' ' || byte == b'\t' || byte == b','
 }
 
-/// Where the first byte that parts no words stands, if there is one.
+/// Where the first byte that parts no words is, if there is one.
 fn word_start(text: &[u8]) -> Option<usize>
     ensures { result ≡ position (λ byte. not (is_blank byte)) text.now }
 {
     text.iter().position(|byte| !parts_words(*byte))
 }
 
-/// Where the first byte that parts words stands, if there is one.
+/// Where the first byte that parts words is, if there is one.
 fn word_end(text: &[u8]) -> Option<usize>
     ensures { result ≡ position is_blank text.now }
 {
     text.iter().position(|byte| parts_words(*byte))
 }
 
-/// The first word of a text, and what stands behind it.
+/// The first word of a text, and what follows it.
 fn first_word(text: &[u8]) -> Option<(&[u8], &[u8])>
     ensures { MatchOption result (words_of text.now ≡ []) (λ p. words_of text.now ≡ p.0.now ∷ words_of p.1.now) }
 {

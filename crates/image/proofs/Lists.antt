@@ -22,7 +22,7 @@ refused : (fits : Bool) (next : ℕ) → None ≡ next_if fits next → fits ≡
 refused true next h = absurd cc
 refused false next h = refl
 
--- what is left to test is the entry at hand and the ones behind it
+-- what is left to test is the entry at hand and the ones after it
 fit-split : {A : Type 0} (format : ℕ → Format A) (next : A → ℕ) (least : ℕ) (xs : List A) (i : ℕ) (x : A) → i < length xs → x ≡ get_or xs i x
     → many_fit format next least (length xs - i) (drop i xs) ≡ ((format least).fits x && many_fit format next (next x) (length xs - (i + 1)) (drop (i + 1) xs))
 unfolding many_fit
@@ -67,7 +67,7 @@ spelled-each format next spelling same least (x ∷ xs) =
     ap (λ (s : List ℕ). s ++ many_spelling format next (next x) xs) (same least x)
     ∙ ap (λ (s : List ℕ). spelling x ++ s) (spelled-each format next spelling same (next x) xs)
 
--- what stands behind the first entries, and behind one more
+-- what follows the first entries, and after one more
 pub spelled-more : {A : Type 0} (spelling : A → List ℕ) (old bytes new : List ℕ) (xs : List A) (i : ℕ) (x : A) → i < length xs → x ≡ get_or xs i x
     → bytes ≡ old ++ flat_map spelling (take i xs) → new ≡ bytes ++ spelling x → new ≡ old ++ flat_map spelling (take (i + 1) xs)
 spelled-more {A} spelling old bytes new xs i x less here before last =
@@ -75,7 +75,7 @@ spelled-more {A} spelling old bytes new xs i x less here before last =
     let front : take (i + 1) xs ≡ take i xs ++ x ∷ [] = ap (λ (k : ℕ). take k xs) one ∙ take-suc xs i x less ∙ ap (λ (y : A). take i xs ++ y ∷ []) (sym here) in
     last ∙ ap (λ (l : List ℕ). l ++ spelling x) before ∙ flat_map_more spelling old (take i xs) x ∙ ap (λ (l : List A). old ++ flat_map spelling l) (sym front)
 
--- with no entry left all of them stand there
+-- with no entry left all of them are there
 pub spelled-all : {A : Type 0} (spelling : A → List ℕ) (old bytes : List ℕ) (xs : List A) (i : ℕ) → length xs ≤ i
     → bytes ≡ old ++ flat_map spelling (take i xs) → bytes ≡ old ++ flat_map spelling xs
 spelled-all {A} spelling old bytes xs i none before = before ∙ ap (λ (l : List A). old ++ flat_map spelling l) (take_all i xs none)

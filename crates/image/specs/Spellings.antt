@@ -1,5 +1,5 @@
 -- The bytes of an image as lists of entries, one after the other: what the code appends. No limit and no order
--- stands in them, so the limits of each format are 0 here.
+-- applies to them, so the limits of each format are 0 here.
 use Rattle.std.specs.Prelude.{ℕ, List, ◌++◌}
 use Rattle.std.specs.Int.{w32, to_le_bytes}
 use Rattle.std.specs.List.{flat_map}

@@ -1,4 +1,5 @@
-//! Images: making them of parts and writing them. Their bytes are read by `image_reading`, whose public calls stand here too.
+//! Images: making them of parts and writing them. Their bytes are read by `image_reading`, whose public calls are here
+//! too.
 #![tactic(auto)]
 
 mod checking;

@@ -26,10 +26,10 @@ pub trait Listed {
     /// The format of an entry whose key is not below a number.
     ghost format: { Limits → ℕ → Format Self };
 
-    /// The least key of the entry behind this one.
+    /// The least key of the entry after this one.
     ghost next: { Self → ℕ };
 
-    /// The least key of the entry behind this one, if the key of this one is not below `least` and all
+    /// The least key of the entry after this one, if the key of this one is not below `least` and all
     /// its fields are in their ranges.
     fn next_key(&self, limits: Limits, least: u64) -> Option<u64>
         ensures { result ≡ (if (format limits least).fits self.now then Some (next self.now) else None) };

@@ -11,17 +11,17 @@ use model::{
 };
 use std::alloc::AllocError;
 
-/// Something that stands in the bytes of an image.
+/// Something that has a spelling in the bytes of an image.
 pub trait Spelled {
     /// Its bytes.
     ghost spelling: { Self → List ℕ };
 
-    /// Puts its bytes behind those that are there.
+    /// Puts its bytes after those that are there.
     fn append(&self, bytes: &mut Vec<u8>) -> Result<(), AllocError>
         ensures { IfOk result (λ _. bytes.new.items ≡ bytes.old.items ++ spelling self.now) };
 }
 
-/// Puts the bytes of all of these behind those that are there, in their order.
+/// Puts the bytes of all of these after those that are there, in their order.
 pub(crate) fn append_all<E: Spelled>(bytes: &mut Vec<u8>, entries: &[E]) -> Result<(), AllocError>
     ensures { IfOk result (λ _. bytes.new.items ≡ bytes.old.items ++ flat_map E.spelling entries.now) }
 {

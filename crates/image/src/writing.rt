@@ -24,7 +24,7 @@ pub fn write(alloc: Global, image: &Image) -> Result<Vec<u8>, AllocError>
     Ok(bytes)
 }
 
-/// Puts the bytes of the parts of an image behind those that are there.
+/// Puts the bytes of the parts of an image after those that are there.
 fn append_parts(bytes: &mut Vec<u8>, parts: &Parts) -> Result<(), AllocError>
     ensures { IfOk result (λ _. bytes.new.items ≡ bytes.old.items ++ image_bytes parts.now) }
 {
@@ -58,7 +58,7 @@ fn image_counts(parts: &Parts) -> [usize; 8]
     ]
 }
 
-/// Puts the bytes of an image's header behind those that are there.
+/// Puts the bytes of an image's header after those that are there.
 fn append_header(bytes: &mut Vec<u8>, parts: &Parts) -> Result<(), AllocError>
     ensures { IfOk result (λ _. bytes.new.items ≡ bytes.old.items ++ header_format.spelling parts.now.header) }
 {
@@ -66,7 +66,7 @@ fn append_header(bytes: &mut Vec<u8>, parts: &Parts) -> Result<(), AllocError>
     append_all(bytes, &image_counts(parts))
 }
 
-/// Puts the bytes of an image's objects, capabilities and interrupts behind those that are there.
+/// Puts the bytes of an image's objects, capabilities and interrupts after those that are there.
 fn append_objects(bytes: &mut Vec<u8>, parts: &Parts) -> Result<(), AllocError>
     ensures { IfOk result (λ _. bytes.new.items ≡ bytes.old.items ++ object_bytes parts.now) }
 {
@@ -76,7 +76,7 @@ fn append_objects(bytes: &mut Vec<u8>, parts: &Parts) -> Result<(), AllocError>
     append_all(bytes, &parts.interrupts)
 }
 
-/// Puts the bytes of what an image maps, and of what its frames begin with, behind those that are there.
+/// Puts the bytes of what an image maps, and of what its frames begin with, after those that are there.
 fn append_mappings(bytes: &mut Vec<u8>, parts: &Parts) -> Result<(), AllocError>
     ensures { IfOk result (λ _. bytes.new.items ≡ bytes.old.items ++ mapping_bytes parts.now) }
 {
@@ -102,7 +102,7 @@ fn record_counts(part: &RecordParts) -> [usize; 3]
     [part.ranges.len(), part.slots.len(), part.terms.len()]
 }
 
-/// Puts the bytes of a record's fixed part behind those that are there.
+/// Puts the bytes of a record's fixed part after those that are there.
 fn append_record_header(bytes: &mut Vec<u8>, part: &RecordParts) -> Result<(), AllocError>
     ensures { IfOk result (λ _. bytes.new.items ≡ bytes.old.items ++ (record_header_format (slots_format 0) 0 0).spelling part.now.header) }
 {
@@ -135,7 +135,7 @@ fn thread_numbers(thread: &ThreadParts) -> [u32; 5]
     ]
 }
 
-/// A thread's addresses, behind its budget.
+/// A thread's addresses, after its budget.
 fn thread_addresses(thread: &ThreadParts) -> [u32; 3]
     ensures { let h = thread.now.header in result ≡ h.fault ∷ h.entry ∷ h.base ∷ [] }
 {
@@ -153,7 +153,7 @@ fn thread_counts(thread: &ThreadParts) -> [usize; 3]
     ]
 }
 
-/// Puts the bytes of a thread's fixed part behind those that are there.
+/// Puts the bytes of a thread's fixed part after those that are there.
 fn append_thread_header(bytes: &mut Vec<u8>, thread: &ThreadParts) -> Result<(), AllocError>
     ensures { IfOk result (λ _. bytes.new.items ≡ bytes.old.items ++ (thread_header_format 0).spelling thread.now.header) }
 {

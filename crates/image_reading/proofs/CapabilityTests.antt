@@ -79,7 +79,7 @@ table-maybe : (o : Option TableMapping) → IsTableMapping o → option_map_or i
 table-maybe None h = refl
 table-maybe (Some m) h = is-table-mapping m h
 
--- three and four tests, one behind another
+-- three and four tests, one after another
 three : (a b c : Bool) → (a && b && c) ≡ true → (a ≡ true) × (b ≡ true) × (c ≡ true)
 three a b c h = let outer = and_parts (a && b) c h in let inner = and_parts a b outer.0 in (inner.0, inner.1, outer.1)
 

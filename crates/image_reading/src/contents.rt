@@ -34,7 +34,7 @@ impl<'a> Model for ContentRef<'a> {
     ghost invariant = { λ c. (0 < c.header.words) × (is_ok (end_of ((words_format c.header.words).reads c.bytes.now c.words_at)) ≡ true) };
 }
 
-/// The content at `at` of an image with so many objects, and the offset behind it. Its frame's number
+/// The content at `at` of an image with so many objects, and the offset after it. Its frame's number
 /// is not below `least`.
 #[tactic(auto, unfolding(model::specs::Images::Image::content_format, model::specs::Images::Image::words_format))]
 pub(crate) fn content_at<'a>(
@@ -88,7 +88,7 @@ impl<'a> ContentRef<'a> {
     }
 }
 
-/// The offset behind `count` contents from `start` of an image with so many objects.
+/// The offset after `count` contents from `start` of an image with so many objects.
 pub(crate) fn contents_end(
     bytes: &[u8],
     start: usize,

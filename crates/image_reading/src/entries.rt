@@ -34,10 +34,10 @@ pub trait Entry: Sized + Drop {
     /// The format of an entry whose key is not below a number.
     ghost format: { Counts → ℕ → Format Self };
 
-    /// The least key of the entry behind it.
+    /// The least key of the entry after it.
     ghost next: { Self → ℕ };
 
-    /// The entry at `at` and the offset behind it. Its key is not below `least`.
+    /// The entry at `at` and the offset after it. Its key is not below `least`.
     fn read(bytes: &[u8], at: usize, counts: Counts, least: u64) -> Result<(Self, usize), Refusal>
         ensures reads { result ≡ (format counts least).reads bytes.now at }
         ensures bounded { IfOk result (λ x. next x.0 < 2 ^ 64) };
@@ -47,7 +47,7 @@ pub trait Entry: Sized + Drop {
         ensures { result ≡ next self.now };
 }
 
-/// The offset behind `count` entries from `start`, the first of which has a key not below `first`.
+/// The offset after `count` entries from `start`, the first of which has a key not below `first`.
 pub(crate) fn entries_end<E: Entry>(
     bytes: &[u8],
     start: usize,

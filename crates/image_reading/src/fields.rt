@@ -9,7 +9,7 @@ ghost use Rattle.model.specs.Images.Image.{anything, below, between, is_constant
 use byteorder::{ByteOrder, LittleEndian};
 use model::Refusal;
 
-/// Where item `number` of a list from `start` stands, in a file of so many bytes. Each item has `size`.
+/// Where item `number` of a list from `start` is, in a file of so many bytes. Each item has `size`.
 pub(crate) fn item_offset(length: usize, start: usize, size: usize, number: u32) -> usize
     requires { start + size * number ≤ length }
     ensures { result ≡ start + size * number }
@@ -17,7 +17,7 @@ pub(crate) fn item_offset(length: usize, start: usize, size: usize, number: u32)
     start + size * number as usize
 }
 
-/// The 4 bytes at `at` as a number, and the offset behind them.
+/// The 4 bytes at `at` as a number, and the offset after them.
 pub(crate) fn any_word(bytes: &[u8], at: usize) -> Result<(u32, usize), Refusal>
     ensures { result ≡ (field anything).reads bytes.now at }
 {
@@ -27,7 +27,7 @@ pub(crate) fn any_word(bytes: &[u8], at: usize) -> Result<(u32, usize), Refusal>
     Ok((LittleEndian::read_u32(&bytes[at..]), at + 4))
 }
 
-/// The 4 bytes at `at`, which every image begins with, and the offset behind them.
+/// The 4 bytes at `at`, which every image begins with, and the offset after them.
 pub(crate) fn magic(bytes: &[u8], at: usize) -> Result<(u32, usize), Refusal>
     ensures { result ≡ (number_or (λ _. Magic) w32 (λ n. n == magic)).reads bytes.now at }
 {
@@ -39,7 +39,7 @@ pub(crate) fn magic(bytes: &[u8], at: usize) -> Result<(u32, usize), Refusal>
     }
 }
 
-/// The 4 bytes at `at` as the version of the format, and the offset behind them.
+/// The 4 bytes at `at` as the version of the format, and the offset after them.
 pub(crate) fn version(bytes: &[u8], at: usize) -> Result<(u32, usize), Refusal>
     ensures { result ≡ (number_or (λ _. Version) w32 (λ n. n == 1)).reads bytes.now at }
 {
@@ -51,7 +51,7 @@ pub(crate) fn version(bytes: &[u8], at: usize) -> Result<(u32, usize), Refusal>
     }
 }
 
-/// The 4 bytes at `at` as a number below `limit`, and the offset behind them.
+/// The 4 bytes at `at` as a number below `limit`, and the offset after them.
 pub(crate) fn word_below(bytes: &[u8], at: usize, limit: u32) -> Result<(u32, usize), Refusal>
     ensures reads { result ≡ (field (below limit)).reads bytes.now at }
     ensures small { IfOk result (λ x. x.0 < limit) }
@@ -64,7 +64,7 @@ pub(crate) fn word_below(bytes: &[u8], at: usize, limit: u32) -> Result<(u32, us
     }
 }
 
-/// The 4 bytes at `at` as a number from `low` to `high`, and the offset behind them.
+/// The 4 bytes at `at` as a number from `low` to `high`, and the offset after them.
 pub(crate) fn word_between(
     bytes: &[u8],
     at: usize,
@@ -81,7 +81,7 @@ pub(crate) fn word_between(
     }
 }
 
-/// The 4 bytes at `at` as a number from `least` on and below `limit`, and the offset behind them.
+/// The 4 bytes at `at` as a number from `least` on and below `limit`, and the offset after them.
 pub(crate) fn rising_word(
     bytes: &[u8],
     at: usize,
@@ -106,7 +106,7 @@ pub(crate) fn pair_key(first: u32, second: u32) -> u64
     u64::from(first) * 0x1_0000_0000 + u64::from(second)
 }
 
-/// The 4 bytes at `at` as the second part of a key that is not below `least`, and the offset behind
+/// The 4 bytes at `at` as the second part of a key that is not below `least`, and the offset after
 /// them.
 pub(crate) fn second_part(
     bytes: &[u8],
@@ -124,7 +124,7 @@ pub(crate) fn second_part(
     }
 }
 
-/// The 8 bytes at `at` as a number from `low` to `high`, and the offset behind them.
+/// The 8 bytes at `at` as a number from `low` to `high`, and the offset after them.
 pub(crate) fn double_between(
     bytes: &[u8],
     at: usize,
@@ -144,7 +144,7 @@ pub(crate) fn double_between(
     }
 }
 
-/// The 8 bytes at `at` as the constant of a measure, and the offset behind them.
+/// The 8 bytes at `at` as the constant of a measure, and the offset after them.
 pub(crate) fn constant(bytes: &[u8], at: usize) -> Result<(i64, usize), Refusal>
     ensures { result ≡ (signed w64 is_constant).reads bytes.now at }
 {
@@ -159,7 +159,7 @@ pub(crate) fn constant(bytes: &[u8], at: usize) -> Result<(i64, usize), Refusal>
     }
 }
 
-/// The 4 bytes at `at` as the coefficient of a term, and the offset behind them.
+/// The 4 bytes at `at` as the coefficient of a term, and the offset after them.
 pub(crate) fn coefficient(bytes: &[u8], at: usize) -> Result<(i32, usize), Refusal>
     ensures { result ≡ (signed w32 not_zero).reads bytes.now at }
 {

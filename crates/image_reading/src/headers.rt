@@ -39,7 +39,7 @@ impl Model for Counts {
     ghost view = { λ c. (c.untypeds, (c.objects, (c.capabilities, (c.interrupts, (c.tables, (c.frames, (c.contents, c.threads))))))) };
 }
 
-/// The counts at `at`, and the offset behind them.
+/// The counts at `at`, and the offset after them.
 fn section_counts(bytes: &[u8], at: usize) -> Result<(Counts, usize), Refusal>
     ensures { result ≡ counts_format.reads bytes.now at }
 {
@@ -64,7 +64,7 @@ fn section_counts(bytes: &[u8], at: usize) -> Result<(Counts, usize), Refusal>
     Ok((counts, at))
 }
 
-/// The fixed part of the image at `at`, and the offset behind it.
+/// The fixed part of the image at `at`, and the offset after it.
 #[tactic(auto, unfolding(model::specs::Images::Image::header_format))]
 pub(crate) fn image_header(bytes: &[u8], at: usize) -> Result<(ImageHeader, usize), Refusal>
     ensures { result ≡ header_format.reads bytes.now at }
@@ -90,7 +90,7 @@ pub(crate) fn image_header(bytes: &[u8], at: usize) -> Result<(ImageHeader, usiz
     Ok((header, at))
 }
 
-/// How many words a program has, at `at`, and the offset behind it.
+/// How many words a program has, at `at`, and the offset after it.
 fn word_count(bytes: &[u8], at: usize) -> Result<(u32, usize), Refusal>
     ensures reads { result ≡ (field (between 1 65536)).reads bytes.now at }
     ensures some { IfOk result (λ x. 0 < x.0) }
@@ -103,7 +103,7 @@ fn word_count(bytes: &[u8], at: usize) -> Result<(u32, usize), Refusal>
     }
 }
 
-/// Where a thread begins, and how long the lists behind its header are.
+/// Where a thread begins, and how long the lists after its header are.
 #[derive(Drop)]
 struct Program {
     fault: u32,
@@ -122,7 +122,7 @@ impl Model for Program {
     ghost view = { λ p. (p.fault, (p.entry, (p.base, (p.registers, (p.words, p.records))))) };
 }
 
-/// The last fields of the header of a thread, at `at`, and the offset behind them.
+/// The last fields of the header of a thread, at `at`, and the offset after them.
 fn program_at(bytes: &[u8], at: usize) -> Result<(Program, usize), Refusal>
     ensures reads { result ≡ program_format.reads bytes.now at }
     ensures some { IfOk result (λ x. 0 < program_length x.0) }
@@ -144,7 +144,7 @@ fn program_at(bytes: &[u8], at: usize) -> Result<(Program, usize), Refusal>
     Ok((program, at))
 }
 
-/// The fixed part of the thread at `at`, and the offset behind it.
+/// The fixed part of the thread at `at`, and the offset after it.
 #[tactic(auto, unfolding(model::specs::Images::Image::thread_header_format))]
 pub(crate) fn thread_header(
     bytes: &[u8],
@@ -178,7 +178,7 @@ pub(crate) fn thread_header(
     Ok((header, at))
 }
 
-/// The fixed part of the record at `at` of a program of `words` words, and the offset behind it. Its
+/// The fixed part of the record at `at` of a program of `words` words, and the offset after it. Its
 /// point is not below `least`.
 #[tactic(auto, unfolding(model::specs::Images::Image::record_header_format))]
 pub(crate) fn record_header(

@@ -1,4 +1,4 @@
-//! An image's entries by number and by key: where a CNode's capabilities stand, and what is mapped at an address.
+//! An image's entries by number and by key: where a CNode's capabilities are, and what is mapped at an address.
 
 mod entries;
 mod frames;

@@ -322,7 +322,7 @@ impl<'a> ImageRef<'a> {
     }
 }
 
-/// The image that the bytes begin with, and the offset behind it.
+/// The image that the bytes begin with, and the offset after it.
 #[tactic(auto, unfolding(model::specs::Images::Image::image_with, model::specs::Images::Image::sections_format, crate::specs::Sections::untypeds_format, crate::specs::Sections::objects_format, crate::specs::Sections::capabilities_format, crate::specs::Sections::interrupts_format, crate::specs::Sections::tables_format, crate::specs::Sections::frames_format, crate::specs::Sections::contents_format, crate::specs::Sections::threads_format))]
 fn image_at(bytes: &[u8]) -> Result<(ImageRef<'_>, usize), Refusal>
     ensures { result ≡ whole_image.reads bytes.now 0 }

@@ -43,7 +43,7 @@ impl<'a> Model for RecordRef<'a> {
         × (is_ok (end_of ((terms_format r.header.terms).reads r.bytes.now r.terms_at)) ≡ true) };
 }
 
-/// The record at `at` of a program of `counts.words` words, and the offset behind it. Its point is not
+/// The record at `at` of a program of `counts.words` words, and the offset after it. Its point is not
 /// below `least`.
 #[tactic(auto, unfolding(model::specs::Images::Image::record_format, model::specs::Images::Image::ranges_format, model::specs::Images::Image::terms_format))]
 pub(crate) fn record_at<'a>(
@@ -152,7 +152,7 @@ impl<'a> RecordRef<'a> {
     }
 }
 
-/// The offset behind `count` records from `start` of a program of `counts.words` words.
+/// The offset after `count` records from `start` of a program of `counts.words` words.
 pub(crate) fn records_end(
     bytes: &[u8],
     start: usize,

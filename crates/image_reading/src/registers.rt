@@ -40,7 +40,7 @@ fn are_ends(low: u32, high: u32) -> bool
     low <= high && (0 < low || high < u32::MAX)
 }
 
-/// The 4 bytes at `at` as the high end of a range that is not the full one, and the offset behind them.
+/// The 4 bytes at `at` as the high end of a range that is not the full one, and the offset after them.
 fn range_end(bytes: &[u8], at: usize, low: u32) -> Result<(u32, usize), Refusal>
     ensures { result ≡ (field (λ high. nat_le low high && (nat_lt 0 low || nat_lt high (2 ^ 32 - 1)))).reads bytes.now at }
 {

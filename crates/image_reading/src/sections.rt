@@ -47,7 +47,7 @@ fn size_fits(kind: u32, size: u32) -> bool
     }
 }
 
-/// The size of an object of this type at `at`, and the offset behind it.
+/// The size of an object of this type at `at`, and the offset after it.
 fn object_size(bytes: &[u8], at: usize, kind: u32) -> Result<(u32, usize), Refusal>
     ensures { result ≡ (field (size_fits kind)).reads bytes.now at }
 {
@@ -123,7 +123,7 @@ impl Entry for CapabilityEntry {
     }
 }
 
-/// The number of an object or of an interrupt behind the objects at `at`, and the offset behind it.
+/// The number of an object or of an interrupt after the objects at `at`, and the offset after it.
 fn source(bytes: &[u8], at: usize, counts: Counts) -> Result<(u32, usize), Refusal>
     ensures { result ≡ (field (below (counts.objects + counts.interrupts))).reads bytes.now at }
 {
@@ -227,7 +227,7 @@ impl Entry for FrameEntry {
     }
 }
 
-/// The second word of what a slot holds at `at`, and the offset behind it.
+/// The second word of what a slot holds at `at`, and the offset after it.
 fn second_word(bytes: &[u8], at: usize, head: u32) -> Result<(u32, usize), Refusal>
     ensures { result ≡ (field (λ word. is_some (unpacked head word))).reads bytes.now at }
 {
@@ -239,7 +239,7 @@ fn second_word(bytes: &[u8], at: usize, head: u32) -> Result<(u32, usize), Refus
     }
 }
 
-/// The CNode of a slot's parent at `at`, or what stands for the boot CNode, and the offset behind it.
+/// The CNode of a slot's parent at `at`, or the value for the boot CNode, and the offset after it.
 fn parent_cnode(bytes: &[u8], at: usize, objects: u32) -> Result<(u32, usize), Refusal>
     ensures { result ≡ (field (λ parent. nat_lt parent objects || (parent == no_parent))).reads bytes.now at }
 {
@@ -251,7 +251,7 @@ fn parent_cnode(bytes: &[u8], at: usize, objects: u32) -> Result<(u32, usize), R
     }
 }
 
-/// The index of a slot's parent at `at`, and the offset behind it.
+/// The index of a slot's parent at `at`, and the offset after it.
 fn parent_index(
     bytes: &[u8],
     at: usize,
@@ -268,7 +268,7 @@ fn parent_index(
     }
 }
 
-/// The index of a slot of a CNode at `at`, and the offset behind it.
+/// The index of a slot of a CNode at `at`, and the offset after it.
 fn slot_index(bytes: &[u8], at: usize, cnode: u32, least: u64) -> Result<(u32, usize), Refusal>
     ensures { result ≡ (field (λ index. nat_le least (pair_key cnode index) && nat_lt index (2 ^ 14))).reads bytes.now at }
 {

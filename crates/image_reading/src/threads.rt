@@ -44,7 +44,7 @@ impl<'a> Model for ThreadRef<'a> {
         × (0 < t.header.words) };
 }
 
-/// The thread at `at`, and the offset behind it.
+/// The thread at `at`, and the offset after it.
 #[tactic(auto, unfolding(model::specs::Images::Image::thread_format, model::specs::Images::Image::registers_format))]
 pub(crate) fn thread_at<'a>(
     bytes: &'a [u8],
@@ -130,7 +130,7 @@ impl<'a> ThreadRef<'a> {
     }
 }
 
-/// The offset behind `count` threads from `start`.
+/// The offset after `count` threads from `start`.
 pub(crate) fn threads_end(
     bytes: &[u8],
     start: usize,

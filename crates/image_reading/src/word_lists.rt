@@ -1,4 +1,4 @@
-//! Words that stand one behind another: contents and programs.
+//! Words that are one after another: contents and programs.
 
 ghost use Rattle.std.specs.Prelude.{◌≡◌, ◌<◌, true, is_ok, slice_index};
 ghost use Rattle.model.specs.Images.Fills.{bytes_of};
@@ -8,7 +8,7 @@ ghost use Rattle.model.specs.Images.Image.{words_format};
 use crate::fields::{any_word, item_offset};
 use model::Refusal;
 
-/// The offset behind `count` words from `start`.
+/// The offset after `count` words from `start`.
 pub(crate) fn words_end(bytes: &[u8], start: usize, count: u32) -> Result<usize, Refusal>
     ensures { result ≡ end_of ((words_format count).reads bytes.now start) }
 {

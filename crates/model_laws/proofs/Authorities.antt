@@ -78,7 +78,7 @@ both self first second one two =
     ap (λ (b : Bool). if not b then first ∷ without self (second ∷ []) else without self (second ∷ [])) (ne_eqb first self one)
     ∙ ap (λ (rest : List ℕ). first ∷ rest) (alone self second two)
 
--- what is behind an empty list was added
+-- what follows an empty list was added
 pub added-alone : (s after : State) (self priority : ℕ) (new : List ℕ) → s.ready priority ≡ [] → without self (after.ready priority) ≡ new
     → (change : ReadyChange s after self priority) → change.added ≡ new
 added-alone s after self priority new empty list change =

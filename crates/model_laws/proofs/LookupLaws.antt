@@ -72,7 +72,7 @@ passed : (b : Bool) (failure : LookupFailure) (r : Resolved) (place : ℕ × ℕ
 passed true failure r place h = absurd (let clash : ◌≡◌ {A = Resolved} (Err failure) (Ok place) = h in cc)
 passed false failure r place h = (refl, h)
 
--- behind a CNode fewer bits are left
+-- after a CNode fewer bits are left
 fewer : (radix guard address left : ℕ) (place : ℕ × ℕ) → 1 ≤ radix → resolve radix guard address left ≡ Ok place → place.1 < left
 fewer radix guard address left place takes resolved =
     let size : ℕ = guard % 2 ^ 5 in

@@ -1,4 +1,4 @@
--- The first of new objects stands at a multiple of their size.
+-- The first of new objects lies at a multiple of their size.
 use Rattle.std.proofs.Common.{ℕ, ◌≡◌, ◌+◌, ◌-◌, ◌*◌, ◌/◌, ◌%◌, ◌^◌, ◌<◌, ◌≤◌, true, false, Option, Some, None, if◌then◌else◌, nat_le, pow_pos, sym, ap, arith}
 use Rattle.model.specs.Capabilities.Placement.{align, place_of_object, placement}
 use Rattle.untyped.proofs.Laws.{sum_is_multiple}

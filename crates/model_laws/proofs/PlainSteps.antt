@@ -16,7 +16,7 @@ pub append-none : (l : List ℕ) → l ≡ l ++ []
 append-none [] = refl
 append-none (x ∷ l) = ap (λ (rest : List ℕ). x ∷ rest) (append-none l)
 
--- what the thread's own right to reply becomes, between the threads that stand there
+-- what the thread's own right to reply becomes, between the threads that are there
 pub right-between : (image : Image) (t : Thread) (s after : State) (own last : ThreadState) → s.objects (self_of image t) ≡ Some (ThreadObject own)
     → after.objects (self_of image t) ≡ Some (ThreadObject last) → RightChange image t s own.caller last.caller
     → (old new : ThreadState) → s.objects (self_of image t) ≡ Some (ThreadObject old) → after.objects (self_of image t) ≡ Some (ThreadObject new)

@@ -1,4 +1,4 @@
--- What ADDI and JAL write lies in the range behind them, and the other registers stay in theirs.
+-- What ADDI and JAL write lies in the range after them, and the other registers stay in theirs.
 use Rattle.std.proofs.Common.{ℕ, suc, ◌≡◌, ◌==◌, ◌&&◌, ◌+◌, ◌-◌, ◌%◌, ◌^◌, ◌<◌, ◌≤◌, ℤ, pos, negsuc, Bool, true, false, if◌then◌else◌, nat_lt, nat_le, List, length, refl, ap, arith}
 use Rattle.std.proofs.lemmas.Bool.{eqb-true, and_parts, ltb-true, leb-true}
 use Rattle.model.specs.declared.instructions.Cause.TheVariants.{Misaligned}

@@ -1,4 +1,4 @@
--- What a change of the ready list keeps: no thread stands there twice.
+-- What a change of the ready list keeps: no thread is there twice.
 use Rattle.std.proofs.Common.{ℕ, ◌≡◌, ◌∙◌, ◌==◌, ◌+◌, ◌<◌, ◌≤◌, ◌++◌, inl, inr, Bool, true, false, not, if◌then◌else◌, List, [], ◌∷◌, filter, refl, sym, subst, ap, arith}
 use Rattle.std.proofs.lemmas.Bool.{eq-eqb}
 use Rattle.std.proofs.lemmas.Bool.Decides.{eqb_tells}
@@ -7,7 +7,7 @@ use Rattle.model.proofs.Orders.{times-filter}
 use Rattle.model.specs.Kernel.State.{put}
 use Rattle.model_laws.specs.Ready.{HoldsNoneTwice}
 
--- the thread is gone, and others stand as often as before
+-- the thread is gone, and others are there as often as before
 times-gone : (thread : ℕ) (threads : List ℕ) → times_in (without thread threads) thread ≡ 0
 times-gone thread threads =
     times-filter (λ other. not (other == thread)) threads thread
@@ -76,7 +76,7 @@ times-end (t ∷ threads) last other =
 abbrev pub moved : (ℕ → List ℕ) → ℕ → ℕ → ℕ → List ℕ
 moved ready thread tail = put (λ priority. without thread (ready priority)) tail (without thread (ready tail) ++ thread ∷ [])
 
--- how often another thread stands in it, and the thread itself
+-- how often another thread is in it, and the thread itself
 pub times-moved_here : (ready : ℕ → List ℕ) (thread tail : ℕ) → times_in (moved ready thread tail tail) thread ≡ 1
 times-moved_here ready thread tail =
     let place : moved ready thread tail tail ≡ without thread (ready tail) ++ thread ∷ [] = ap (λ b. if b then without thread (ready tail) ++ thread ∷ [] else without thread (ready tail)) (eq-eqb tail tail refl) in
@@ -104,7 +104,7 @@ times-moved_other ready thread tail priority other differs apart =
           ∙ times-kept thread (ready priority) other apart
     ]
 
--- where the thread stands, it stands at the tail
+-- where the thread is, it is at the tail
 moved-here : (ready : ℕ → List ℕ) (thread tail priority : ℕ) → 0 < times_in (moved ready thread tail priority) thread → priority ≡ tail
 moved-here ready thread tail priority stands =
     elim (eqb_tells priority tail) [

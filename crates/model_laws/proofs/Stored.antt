@@ -40,7 +40,7 @@ known r f a x is goes = sym (ap (λ q. q >>= f) is) ∙ goes
 
 -- ---- the step
 
--- what is asked of the slots behind it
+-- what is asked of the slots after it
 pub record MayStore (image : Image) (t : Thread) (s after : State) (slots : Slots) : Type 0 where
   pub own : (slot : ℕ) → s.slots slot ≢ slots slot → IsOwnSlot image t slot
   pub frames : (slot : ℕ) (mapping : FrameMapping) → frame_mapping (capability_at s.slots slot) ≢ frame_mapping (capability_at slots slot)

@@ -161,7 +161,7 @@ module _ (s : State) (sound : ThreadsAreSound s) (thread : ℕ) (is : current s 
   at : (thread_at s thread).priority ≡ Runs.priority runs
   at = ap (λ (t : ThreadState). t.priority) own-is ∙ Runs.at runs
 
-  -- the thread stands once in the list of its priority, and in no other
+  -- the thread is once in the list of its priority, and in no other
   counted : (priority : ℕ) → times_in (s.ready priority) thread ≡ (if is_runnable (Runs.own runs).status && (Runs.own runs).priority == priority then 1 else 0)
   counted priority =
       sound.ready thread priority

@@ -66,7 +66,7 @@ waiting = kernel 12 4 0x50
 abbrev pub woken : State
 woken = state_or waiting (revoke waiting 1)
 
--- line 3 is bound to the notification at 0x540, and its handlers stand in these slots
+-- line 3 is bound to the notification at 0x540, and its handlers are in these slots
 abbrev pub handled_by : List Holding → State
 handled_by handlers = kernel 12 4 0x50
     (holding 1 InterruptControl None ∷ holding 3 (Notification 0x540 (rights 11) 0) None ∷ holding 19 (Notification 0x540 (rights 11) 1) (Some 3)
@@ -112,7 +112,7 @@ make_here kind size index count = make (workshop 0x10 []) 0x10 kind size index c
 abbrev pub make_in : SlotName → Result State KError
 make_in node = retype (workshop 0x10 []) (CNode 0 5 27) 1 (record { offset = 0x10000; bits = 16; watermark = 0x10 }) (objects_call 3 0 node 8 1)
 
--- 2^8 bytes of untyped memory, in which two endpoints stand
+-- 2^8 bytes of untyped memory, in which two endpoints lie
 abbrev pub used : State
 used = kernel 12 5 0x60
     (holding 1 (Untyped 0x700 8 0x30) None ∷ holding 2 (Endpoint 0x710 (rights 11) 0) (Some 1) ∷ holding 3 (Endpoint 0x720 (rights 11) 0) (Some 1) ∷ [])
@@ -135,7 +135,7 @@ three_threads = record (kernel 12 4 0x50 []
       ready = put (λ _. []) 100 (0x600 ∷ 0x800 ∷ []);
     }
 
--- the one at 101 runs in between, behind two ticks
+-- the one at 101 runs in between, after two ticks
 abbrev pub preempted : State
 preempted = wake (tick (tick three_threads)) 0xA00
 

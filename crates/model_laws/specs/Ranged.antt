@@ -30,7 +30,7 @@ by_immediate op r immediate = result_of (Immediate op (register_numbered 7) (reg
 abbrev pub by_shift : ShiftOp → Range → ℕ → Range
 by_shift op r amount = result_of (Shift op (register_numbered 7) (register_numbered 5) amount) r r
 
--- x5 and x6 behind a branch that is taken or not, where that can be
+-- x5 and x6 after a branch that is taken or not, where that can be
 abbrev pub both_of : List Range → Range × Range
 both_of ranges = (range_of ranges (register_numbered 5), range_of ranges (register_numbered 6))
 

@@ -49,7 +49,7 @@ bare slots = record {
 abbrev pub endpoint_below : Option ℕ → Option Entry
 endpoint_below parent = Some (record { capability = Endpoint 0x80 (rights 11) 0; parent = parent })
 
--- slot 1 has the child 2, which has the child 3; slot 4 stands beside slot 1
+-- slot 1 has the child 2, which has the child 3; slot 4 is beside slot 1
 abbrev pub tree : State
 tree = bare (λ slot.
     if slot == 1 then endpoint_below None
@@ -97,7 +97,7 @@ runs_at priority = record new_thread {
   status = Runnable;
 }
 
--- the driver runs at priority 100, and another thread behind it; nobody waits for the bell
+-- the driver runs at priority 100, and another thread after it; nobody waits for the bell
 abbrev pub two_threads : State
 two_threads = record (bare (λ _. None)) {
   objects = λ offset.

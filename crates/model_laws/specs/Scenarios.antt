@@ -33,7 +33,7 @@ pub record WritesOwnBytes (image : Image) (t : Thread) (s : State) (bytes : ℕ 
   pub written : (place : ℕ) → s.bytes place ≢ bytes place
       → IsSome (s.bytes place) × IsSome (bytes place) × ((address : ℕ) × ((content_of s (self_of image t)).place Store address ≡ Some place))
 
--- the thread runs, and stands at the system call of this number, by a capability in a slot of its own
+-- the thread runs, and is at the system call of this number, by a capability in a slot of its own
 pub record CallsOn (image : Image) (t : Thread) (s : State) (number : ℕ) (capability : Cap) : Type 0 where
   pub own : ThreadState
   pub is : s.objects (self_of image t) ≡ Some (ThreadObject own)
@@ -44,7 +44,7 @@ pub record CallsOn (image : Image) (t : Thread) (s : State) (number : ℕ) (capa
   pub among : IsOwnSlot image t slot
   pub holds : capability_at s.slots slot ≡ capability
 
--- the thread runs, stands at Reply, and has the right to reply to another, which waits for that
+-- the thread runs, is at Reply, and has the right to reply to another, which waits for that
 pub record RepliesTo (image : Image) (t : Thread) (s : State) (caller : ℕ) : Type 0 where
   pub own : ThreadState
   pub is : s.objects (self_of image t) ≡ Some (ThreadObject own)
@@ -56,7 +56,7 @@ pub record RepliesTo (image : Image) (t : Thread) (s : State) (caller : ℕ) : T
   pub waits : waiter.status ≡ AwaitsReply
 
 -- One endpoint made at `first` by Retype of the untyped memory in `slot`, which is used up to a new watermark; its first capability
--- stands in `window`.
+-- is in `window`.
 abbrev pub with_endpoint_made : State → ℕ → ℕ → ℕ → ℕ → ℕ → ℕ → State
 with_endpoint_made s slot offset bits used first window =
     let new : NewObjects = record { kind = NewEndpoint; first = first; count = 1 } in
@@ -69,7 +69,7 @@ invoked s thread slot =
     let call : Call = record { root = cspace_of s thread; caller = Some thread; slot = slot; capability = capability_at s.slots slot } in
     invoke s call message.label (extra_capabilities_of (read (registers_of s thread) a1)) message.words
 
--- that is what the thread's call does, in untyped memory where nothing stands, for an empty slot of its own
+-- that is what the thread's call does, in untyped memory where nothing is, for an empty slot of its own
 pub record MakesEndpoint (image : Image) (t : Thread) (s : State) (slot offset bits used first window : ℕ) : Type 0 where
   pub begins : offset ≤ first
   pub ends : first + 2 ^ 4 ≤ offset + 2 ^ bits

@@ -26,7 +26,7 @@ frame_left = record fresh {
   objects = λ offset. if offset == 0x8000 then Some FrameObject else None;
 }
 
--- a frame stands at 0x1000, all zero
+-- a frame is at 0x1000, all zero
 abbrev pub framed : State
 framed = record fresh {
   objects = λ offset. if offset == 0x1000 then Some FrameObject else None;

@@ -33,7 +33,7 @@ pub data IsWaitingCall (s : State) (thread : ℕ) : SystemCall → Type 0 where
   calls_endpoint : NamesEndpoint s thread → IsWaitingCall s thread (Sends Calling)
   sends_to_endpoint : NamesEndpoint s thread → IsWaitingCall s thread (Sends Sending)
 
--- the current thread stands at an ECALL of such a call
+-- the current thread is at an ECALL of such a call
 pub record StandsAtWait (s : State) : Type 0 where
   pub thread : ℕ
   pub word : ℕ

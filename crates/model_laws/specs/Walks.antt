@@ -1,4 +1,4 @@
--- Memories that the rows on walks start from: a root table, a page table and a page, one behind another.
+-- Memories that the rows on walks start from: a root table, a page table and a page, one after another.
 use Rattle.std.specs.Prelude.{ℕ, ◌-◌, List, replicate}
 use Rattle.model.specs.Shared.Bytes.{word_bytes, written}
 use Rattle.model.specs.Machine.Sv32.{leaf_word, table_word}

@@ -80,7 +80,7 @@ behind_call known slots = after_call worker_image worker_thread (at_point 0 0) (
 
 -- ---- the worker's loop
 
--- The program, a word a line: jump behind the Revoke; Revoke the pool; Retype one frame into slot 4; Map it at 0x3000;
+-- The program, a word a line: jump after the Revoke; Revoke the pool; Retype one frame into slot 4; Map it at 0x3000;
 -- store; Send to the endpoint; jump back to the Revoke.
 abbrev pub loop_words : List ℕ
 loop_words =

@@ -45,7 +45,7 @@ pub fn a_capability_stays_what_it_is()
         → capability_at s.slots slot ≡ Empty → capability_at after.slots slot ≡ Endpoint 0x8000 (rights 1) 8 → WithinAuthority image t s after → ⊥ }
 {}
 
-/// Only a thread that was woken enters the ready list: not one that is none, that stands still, or twice,
+/// Only a thread that was woken enters the ready list: not what is no thread, nor one that is stopped, nor one twice,
 /// and at the tail alone.
 pub fn only_woken_threads_enter_the_ready_list()
     ensures nobody { (image : Image) (t : Thread) (s after : State) (priority other : ℕ) → other ≢ self_of image t
@@ -113,7 +113,7 @@ pub fn objects_stay_what_they_are()
 {}
 
 /// A thread gets the right to reply to the first sender of an endpoint that it may read, where that one called with
-/// grant-reply: to nobody where no sender waits, to none behind the first, and not to one that only sent, or called
+/// grant-reply: to nobody where no sender waits, to none after the first, and not to one that only sent, or called
 /// without grant-reply, or by a capability that does not read.
 pub fn a_right_to_reply_comes_with_a_call()
     ensures nobody { (image : Image) (t : Thread) (s after : State) (endpoint third : ℕ) (r : Rights) (badge : ℕ) (old new : ThreadState)
@@ -150,7 +150,7 @@ pub fn an_interrupt_of_no_line_changes_nothing()
     ensures list { (number priority : ℕ) (s after : State) → 63 < number → s.ready priority ≢ after.ready priority → WithinInterrupt number s after → ⊥ }
 {}
 
-/// A tick leaves the current thread in the list where it stands, and puts it into no other.
+/// A tick leaves the current thread in the list where it is, and puts it into no other.
 pub fn a_tick_loses_nobody()
     ensures itself { (s after : State) (thread priority : ℕ) → current s ≡ Some thread → s.ready priority ≡ thread ∷ []
         → after.ready priority ≡ [] → WithinTick s after → ⊥ }

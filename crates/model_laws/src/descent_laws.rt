@@ -31,7 +31,7 @@ pub fn a_removal_changes_mappings_alone()
         → apart_from_mapping (kept s set slot (capability_at s.slots slot)) ≡ apart_from_mapping (capability_at s.slots slot) }
 {}
 
-/// The test of descent tells what descends.
+/// The test of descent says what descends.
 pub fn the_test_of_descent_decides()
     ensures { (slots : Slots) (root slot : ℕ) → IsDerivation slots → (is_descendant slots root slot ≡ true) ↔ Descendant slots root slot }
 {}

@@ -19,7 +19,7 @@ pub fn what_is_read_is_spelled()
     ensures spelled { (bytes : List ℕ) (image : Image) → AreBytes bytes → reading whole_image bytes ≡ Ok image → IsSpelling whole_image bytes image }
 {}
 
-/// Bytes have one first breach or none, and what is told first is a breach.
+/// Bytes have one first breach or none, and what is reported first is a breach.
 pub fn the_first_breach_is_unique()
     ensures one { (bytes : List ℕ) (one other : Refusal) → first_breach bytes ≡ Some one → first_breach bytes ≡ Some other → one ≡ other }
     ensures breach { (bytes : List ℕ) (refusal : Refusal) → first_breach bytes ≡ Some refusal → Breach bytes refusal }

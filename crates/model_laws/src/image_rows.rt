@@ -36,7 +36,7 @@ pub fn solo_stands_behind_the_boot_area()
 {}
 
 /// An entry past the program is refused before any state is looked for there: the last number that a word can
-/// have, as the first one behind the program.
+/// have, as the first one after the program.
 #[tactic(auto, unfolding(crate::proofs::Opened::opened))]
 pub fn solo_is_entered_at_a_point()
     ensures behind { first_breach (slice_set solo 268 7) ≡ Some (BadThread 0) }

@@ -1,5 +1,5 @@
 //! What the definitions say, shown on the definitions alone: laws that a reader expects, and worked
-//! rows. Each stands as the contract of a function that does nothing. Nothing else uses this crate.
+//! rows. Each is the contract of a function that does nothing. Nothing else uses this crate.
 #![tactic(auto)]
 
 mod authority_laws;

@@ -9,7 +9,7 @@ ghost use Rattle.model.specs.Capabilities.Rights.{rights};
 ghost use Rattle.model.specs.declared.capabilities.Cap.TheVariants.{CNode, Frame, Notification, PageTable, RootTable, Untyped};
 ghost use Rattle.model_laws.specs.Solo.{solo_image};
 
-/// The objects stand one behind another in their untyped memory.
+/// The objects lie one after another in their untyped memory.
 #[tactic(auto, unfolding(crate::proofs::Opened::opened))]
 pub fn solo_objects_stand_at()
     ensures places { map (offset_of solo_image) (0 ∷ 1 ∷ 2 ∷ 3 ∷ 4 ∷ 5 ∷ 6 ∷ [])
@@ -18,7 +18,7 @@ pub fn solo_objects_stand_at()
     ensures slots { boot_slots solo_image ≡ 13 }
 {}
 
-/// What stands in some of the slots: the untyped memory, a mapped page table, the copy by which code is mapped, the binding
+/// What is in some of the slots: the untyped memory, a mapped page table, the copy by which code is mapped, the binding
 /// of line 3, a listed capability and the thread's own two.
 #[tactic(auto, unfolding(crate::proofs::Opened::opened))]
 pub fn solo_slots_hold()
@@ -36,7 +36,7 @@ pub fn solo_slots_hold()
     ensures closed { (described solo_image).slots 0xC02 ≡ None }
 {}
 
-/// The first word of the program stands in the code page, and the thread is ready at its priority.
+/// The first word of the program lies in the code page, and the thread is ready at its priority.
 #[tactic(auto, unfolding(crate::proofs::Opened::opened))]
 pub fn solo_starts_with()
     ensures word { map (described solo_image).bytes (0x8000 ∷ 0x8001 ∷ 0x8002 ∷ 0x8003 ∷ [])

@@ -52,7 +52,7 @@ pub fn an_interrupt_waits_for_its_acknowledgement()
     ensures last { (acknowledge (acknowledge (raise (raise bound 3) 3) 3) 3).masked 3 ≡ false }
 {}
 
-/// Two threads at priority 100: the first runs on for four ticks, and the fifth puts it behind the
+/// Two threads at priority 100: the first runs on for four ticks, and the fifth puts it after the
 /// other.
 #[tactic(auto, unfolding(model::specs::Kernel::Scheduling::first_below))]
 pub fn five_ticks_rotate()

@@ -44,7 +44,7 @@ pub fn a_reply_is_delivered()
 {}
 
 /// A second reply does nothing to the client, and neither does one to a client that was resumed in
-/// between: that one stands at its call.
+/// between: that one is at its call.
 #[tactic(auto, unfolding(crate::proofs::Opened::opened))]
 pub fn a_right_to_reply_is_used_once()
     ensures second { thread_at (replied answered 0x1001 55) client ≡ thread_at answered client }

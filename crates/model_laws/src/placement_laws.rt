@@ -3,7 +3,7 @@
 ghost use Rattle.std.specs.Prelude.{◌≡◌, ◌+◌, ◌*◌, ◌^◌, ◌%◌, ◌<◌, ◌≤◌, ℕ, Some};
 ghost use Rattle.model.specs.Capabilities.Placement.{placement};
 
-/// New objects stand behind the watermark, each at a multiple of its size.
+/// New objects lie after the watermark, each at a multiple of its size.
 pub fn placement_is_aligned()
     ensures { (bits watermark object_bits count first end : ℕ)
         → placement bits watermark object_bits count ≡ Some (first, end)
@@ -16,7 +16,7 @@ pub fn placement_is_disjoint()
         → first + i * 2 ^ object_bits + 2 ^ object_bits ≤ first + j * 2 ^ object_bits }
 {}
 
-/// They end within the untyped, and the new watermark stands behind the last.
+/// They end within the untyped, and the new watermark is after the last.
 pub fn placement_is_inside()
     ensures { (bits watermark object_bits count first end : ℕ)
         → placement bits watermark object_bits count ≡ Some (first, end)

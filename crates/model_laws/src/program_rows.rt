@@ -6,7 +6,7 @@ ghost use Rattle.model.specs.declared.refusals.Refusal.TheVariants.{BadTarget, C
 ghost use Rattle.model_laws.specs.Programs.{constant_at, empty_slot, nop, notification_slot, noted_as, program, range_entry, waiting};
 ghost use Rattle.model_laws.specs.Solo.{at_point};
 
-/// Waiting costs four instructions a round; a record behind the wait may not have more than the budget.
+/// Waiting costs four instructions a round; a record after the wait may not have more than the budget.
 #[tactic(auto, unfolding(crate::proofs::Opened::opened))]
 pub fn waits_keep_the_budget()
     ensures enough { first_in (phases (program 4 (waiting []) (constant_at 0 3 ∷ []))) ≡ None }
@@ -26,7 +26,7 @@ pub fn edges_have_targets()
     ensures entry { first_in (phases (program 4 (nop ∷ []) [])) ≡ Some (RangeNotKept (at_point 0 0)) }
 {}
 
-/// `addi x5 x5 1` where the measure has x5, and no record behind it.
+/// `addi x5 x5 1` where the measure has x5, and no record after it.
 #[tactic(auto, unfolding(crate::proofs::Opened::opened))]
 pub fn measures_are_noted_anew()
     ensures { first_in (phases (program 30 (0x00128293 ∷ nop ∷ [])

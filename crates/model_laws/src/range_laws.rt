@@ -14,7 +14,7 @@ ghost use Rattle.model.specs.Acceptance.RangeRules.{ranges_after};
 ghost use Rattle.model.specs.Acceptance.Ranges.{full, moved};
 ghost use Rattle.model.specs.Acceptance.ThreadInvariants.{LieWithin};
 
-/// Where registers lie in their ranges, they lie in the ranges behind ADDI once it ran.
+/// Where registers lie in their ranges, they lie in the ranges after ADDI once it ran.
 pub fn addi_keeps_ranges()
     ensures { (r : RegisterFile) (content : Content) (ranges : List Range) (rd rs1 : Register) (immediate : ℤ)
         → length r.words ≡ 32 → length ranges ≡ 31 → ((x : Register) → read r x < 2 ^ 32)

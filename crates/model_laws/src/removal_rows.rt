@@ -67,7 +67,7 @@ pub fn only_root_tables_end_mappings()
         ≡ Frame 0x11000 (rights 3) (Some (record { root = 0x9000; page = 0x401; rights = rights 3 })) }
 {}
 
-/// Two endpoints stand in 2^8 bytes of untyped memory. Once they are revoked all of it is free: 16
+/// Two endpoints lie in 2^8 bytes of untyped memory. Once they are revoked all of it is free: 16
 /// endpoints fit, and 17 do not.
 #[tactic(auto, unfolding(crate::proofs::Opened::opened))]
 pub fn revoked_memory_is_free()

@@ -40,7 +40,7 @@ pub fn results_of_loads_lie_in_their_ranges()
     ensures { (op : LoadOp) (n : ℕ) → FitsSize (load_size op) n → LiesIn (load_result op n) (load_range op) }
 {}
 
-/// An instruction that goes on keeps the registers in the ranges behind it, where memory holds bytes.
+/// An instruction that goes on keeps the registers in the ranges after it, where memory holds bytes.
 pub fn an_instruction_keeps_registers_in_their_ranges()
     ensures { (r : RegisterFile) (content : Content) (ranges : List Range) (instr : Instr)
         → length r.words ≡ 32 → length ranges ≡ 31 → ((x : Register) → read r x < 2 ^ 32)

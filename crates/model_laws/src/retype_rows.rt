@@ -43,15 +43,15 @@ pub fn retype_knows_the_greatest_depth()
     ensures last { is_ok (make_below 254) ≡ true }
 {}
 
-/// No room is told last: 15 frames fit behind 16 bytes that are used, and 16 do not.
+/// No room is reported last: 15 frames fit after 16 bytes that are used, and 16 do not.
 #[tactic(auto, unfolding(crate::proofs::Opened::opened))]
 pub fn retype_wants_room()
     ensures fits { capability_at (state_or (workshop 0x10 []) (make_here 6 0 8 15)).slots 1 ≡ Untyped 0x10000 16 0x10000 }
     ensures room { make_here 6 0 8 16 ≡ Err NotEnoughMemory }
 {}
 
-/// Two frames: their capabilities stand in the window as children of the untyped memory, the frames are
-/// there with bytes of 0, and nothing stands beside them.
+/// Two frames: their capabilities are in the window as children of the untyped memory, the frames are
+/// there with bytes of 0, and nothing is beside them.
 #[tactic(auto, unfolding(crate::proofs::Opened::opened))]
 pub fn retype_fills_the_window()
     ensures first { capability_at (state_or (workshop 0x10 []) (make_here 6 0 8 2)).slots 8 ≡ Frame 0x11000 (rights 3) None }

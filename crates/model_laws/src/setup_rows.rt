@@ -16,8 +16,8 @@ pub fn a_fresh_machine_is_empty()
     ensures objects { fresh.objects 0 ≡ None }
 {}
 
-/// Untyped memory is aligned, inside memory, behind the boot area (0x500 bytes) and behind all that
-/// stands, of 2^4 to 2^24 bytes, and goes into an empty boot slot.
+/// Untyped memory is aligned, inside memory, after the boot area (0x500 bytes) and after all that
+/// is there, of 2^4 to 2^24 bytes, and goes into an empty boot slot.
 #[tactic(auto, unfolding(crate::proofs::Opened::opened))]
 pub fn untyped_memory_has_its_place()
     ensures stands { capability_at with_memory.slots 0 ≡ Untyped 0x8000 15 0 }
@@ -34,7 +34,7 @@ pub fn untyped_memory_has_its_place()
     ensures no_slot { is_none (put_untyped fresh 16 0x8000 15) ≡ true }
 {}
 
-/// Where a frame is left of untyped memory that was deleted, new untyped memory goes behind the frame.
+/// Where a frame is left of untyped memory that was deleted, new untyped memory goes after the frame.
 #[tactic(auto, unfolding(crate::proofs::Opened::opened))]
 pub fn untyped_memory_goes_behind_a_frame()
     ensures over { is_none (put_untyped frame_left 0 0x8000 12) ≡ true }

@@ -13,7 +13,7 @@ pub fn noted_slots_rise()
     ensures high { reading_with 481 0x40 ≡ Err (Limit 480) }
 {}
 
-/// The words, told at the second of them.
+/// The words, reported at the second of them.
 #[tactic(auto, unfolding(crate::proofs::Opened::opened))]
 pub fn noted_words_stand_for_a_capability()
     ensures kind { reading_with 484 0xDB ≡ Err (Limit 488) }

@@ -43,7 +43,7 @@ pub fn fifteen_frames_fit()
     ensures all { placement 16 0 12 16 ≡ Some (0, 0x10000) }
 {}
 
-/// Slot 1 has the child 2, which has the child 3; slot 4 stands beside slot 1.
+/// Slot 1 has the child 2, which has the child 3; slot 4 is beside slot 1.
 #[tactic(auto, unfolding(model::specs::Capabilities::Slots::depth_within, model::specs::Capabilities::Slots::descends_within))]
 pub fn descendants_of_the_tree()
     ensures child { is_descendant tree.slots 1 2 ≡ true }

@@ -5,7 +5,7 @@ ghost use Rattle.model.specs.Capabilities.CapabilityFields.{unpacked};
 ghost use Rattle.model.specs.Capabilities.Rights.{rights};
 ghost use Rattle.model.specs.declared.capabilities.Cap.TheVariants.{CNode, Empty, Frame, InterruptControl, InterruptHandler, PageTable};
 
-/// Words that stand for a capability.
+/// Words that represent a capability.
 #[tactic(auto, unfolding(crate::proofs::Opened::opened))]
 pub fn words_stand_for()
     ensures empty { unpacked 0 0 ≡ Some Empty }
@@ -18,7 +18,7 @@ pub fn words_stand_for()
     ensures handler { unpacked 10 63 ≡ Some (InterruptHandler 63) }
 {}
 
-/// Words that stand for none: a kind or a bit that is not named, a value outside its range.
+/// Words that represent none: a kind or a bit that is not named, a value outside its range.
 #[tactic(auto, unfolding(crate::proofs::Opened::opened))]
 pub fn words_stand_for_nothing()
     ensures kind { unpacked 11 0 ≡ None }

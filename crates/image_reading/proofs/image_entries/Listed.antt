@@ -1,4 +1,4 @@
--- Where the capabilities of one CNode stand.
+-- Where the capabilities of one CNode are.
 use Rattle.std.proofs.Common.{◌≡◌, inl, inr, ℕ, ◌+◌, ◌*◌, ◌^◌, ◌<◌, ◌≤◌, ◌==◌, false, Some, length, arith}
 use Rattle.std.specs.Prelude.{slice_get}
 use Rattle.std.proofs.lemmas.Bool.{cases_eq, ne_eqb}
@@ -42,7 +42,7 @@ module _ (image : Image) (fits : IsFitting image) where
         | inr apart ↦ absurd (omega (arith, small, lower, higher, apart))
       ]
 
-  -- those of the last number stand at the end
+  -- those of the last number are at the end
   pub listed-last : (cnode first end : ℕ) → cnode ≡ 4294967295 → end ≡ length image.capabilities → (image.header.objects ≤ 4096)
       → IsPlaceOf (pair_key cnode 0) (capability_keys image) first → AreListedIn cnode image.capabilities first end
   listed-last cnode first end is size few low = record {

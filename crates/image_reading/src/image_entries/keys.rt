@@ -114,16 +114,16 @@ fn cnode_place(image: &ImageRef<'_>, cnode: u32) -> u32
     place_of(&Capabilities { image }, pair_key(cnode, 0))
 }
 
-/// Where the capabilities of a CNode stand.
+/// Where the capabilities of a CNode are.
 #[derive(Clone, Copy, Drop)]
 pub struct CapabilityRange {
     /// The first of them.
     pub first: u32,
-    /// The one behind the last.
+    /// The one after the last.
     pub end: u32,
 }
 
-/// Where the capabilities of a CNode stand: they rise by CNode, so it halves those that are left.
+/// Where the capabilities of a CNode are: they rise by CNode, so it halves those that are left.
 pub fn listed_in(image: &ImageRef<'_>, cnode: u32) -> CapabilityRange
     ensures { AreListedIn cnode image.now.capabilities result.first result.end }
 {

@@ -1,4 +1,4 @@
--- The place is not before the keys that are left, and not behind them.
+-- The place is not before the keys that are left, and not after them.
 use Rattle.std.proofs.Common.{◌-◌}
 use Rattle.image_reading.proofs.image_entries.Places.{AreHalved}
 use Rattle.image_reading.proofs.image_entries.keys.place_of.Given as goal
