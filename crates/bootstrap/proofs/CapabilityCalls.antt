@@ -1,4 +1,4 @@
--- The call that puts a listed capability into its slot, in the words that stand for it.
+-- The call that puts a listed capability into its slot, in the words that represent it.
 use Rattle.std.proofs.Common.{◌≡◌, ◌∙◌, ℕ, ◌++◌, Bool, true, false, Some, List, [], ◌∷◌, if◌then◌else◌, sym, ap}
 use Rattle.std.specs.Prelude.{slice_get}
 use Rattle.std.proofs.lemmas.Option.{get_or_from_slice_get}

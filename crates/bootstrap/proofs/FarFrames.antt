@@ -1,4 +1,4 @@
--- No frame is mapped behind the last address.
+-- No frame is mapped beyond the last address.
 use Rattle.std.proofs.Common.{◌≡◌, ◌≢◌, ℕ, ◌^◌, ◌<◌, ◌≤◌, ◌==◌, ◌&&◌, false, true, Some, None, List, refl, arith}
 use Rattle.std.specs.Prelude.{find, slice_get}
 use Rattle.std.proofs.lemmas.Bool.{ne_eqb}

@@ -1,4 +1,4 @@
--- Where objects stand, one behind another in their untypeds.
+-- Where objects lie, one after another in their untypeds.
 use Rattle.std.proofs.Common.{◌≡◌, ◌∙◌, ℕ, ◌+◌, ◌==◌, Some, List, [], ◌∷◌, ◌++◌, take, get_or, refl, ap, add-one, take-suc}
 use Rattle.std.specs.Prelude.{fold, if◌then◌else◌, slice_get}
 use Rattle.std.proofs.lemmas.List.Sums.{fold-append}

@@ -8,7 +8,7 @@ use Rattle.model.specs.Kernel.AddressSpaces.{page_size}
 use Rattle.model.specs.Kernel.Setup.{fill}
 use Rattle.model.specs.Kernel.State.{State}
 
--- where so many objects stand
+-- where so many objects lie
 pub record ArePlaces (image : Image) (count : ℕ) (places : List ℕ) : Type 0 where
   pub size : length places ≡ count
   pub place : (number : ℕ) → number < count → slice_index places number ≡ offset_of image number

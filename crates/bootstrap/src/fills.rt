@@ -148,7 +148,7 @@ impl Loader {
         }
     }
 
-    /// Puts bytes into the frame at a place. What is not there is told by a number.
+    /// Puts bytes into the frame at a place. What is not there is reported by a number.
     fn fill(&mut self, number: u32, place: u64, bytes: &[u8]) -> Result<(), BootFault>
         ensures outcome { GivesState (placed number self.old.calls (fill (state_in self.old.machine) place bytes.now)) result (progress_of self.new) }
         ensures counted { self.new.calls ≡ self.old.calls }
@@ -163,7 +163,7 @@ impl Loader {
         }
     }
 
-    /// Whether a place lies behind the end of memory, where no frame is.
+    /// Whether a place lies beyond the end of memory, where no frame is.
     fn is_outside(&self, place: u64) -> bool
         ensures outside { result ≡ true → (state_in self.now.machine).objects place ≡ None }
         ensures inside { result ≡ false → place < 2 ^ 32 }
@@ -172,7 +172,7 @@ impl Loader {
     }
 }
 
-/// The frame that the image maps at an address under a root table. None is mapped behind the last address.
+/// The frame that the image maps at an address under a root table. None is mapped beyond the last address.
 fn frame_behind(image: &ImageRef<'_>, root: u32, address: u64) -> Option<FrameEntry>
     requires { IsLimited image.now }
     ensures value { result ≡ frame_at image.now root address }
@@ -184,7 +184,7 @@ fn frame_behind(image: &ImageRef<'_>, root: u32, address: u64) -> Option<FrameEn
     }
 }
 
-/// The part of a program that stands in a page.
+/// The part of a program that lies in a page.
 fn page_of(program: &[u8], page: u32) -> &[u8]
     requires { page ≤ 64 }
     ensures { result.now ≡ take page_size (drop (page * page_size) program.now) }

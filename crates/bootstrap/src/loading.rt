@@ -45,7 +45,7 @@ pub(crate) struct Loader {
 }
 
 impl Loader {
-    /// Makes a call. A refusal is told by its number.
+    /// Makes a call. A refusal is reported by its number.
     pub(crate) fn call(&mut self, cap: u32, label: u32, words: &[u32]) -> Result<(), BootFault>
         requires { self.old.calls ≤ 2 ^ 30 }
         ensures outcome { GivesState (called (progress_of self.old) (loader_call cap label words.now ∷ [])) result (progress_of self.new) }
@@ -60,7 +60,7 @@ impl Loader {
         }
     }
 
-    /// Makes the objects, each in its untyped, behind the ones before it.
+    /// Makes the objects, each in its untyped, after the ones before it.
     pub(crate) fn make_objects(&mut self, image: &ImageRef<'_>) -> Result<(), BootFault>
         requires limits { IsLimited image.now }
         requires room { self.old.calls ≤ 2 ^ 29 }

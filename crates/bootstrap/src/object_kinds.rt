@@ -1,4 +1,4 @@
-//! The objects that an image lists: what they are, and where they stand.
+//! The objects that an image lists: what they are, and where they lie.
 
 ghost use Rattle.std.specs.Prelude.{◌≡◌, ◌<◌, ◌≤◌, ◌+◌, ◌^◌};
 ghost use Rattle.bootstrap.specs.Limits.{IsLimited, ObjectFits};

@@ -1,4 +1,4 @@
-//! Where an image's objects stand in memory.
+//! Where an image's objects lie in memory.
 
 ghost use Rattle.std.specs.Prelude.{ℕ, ◌≡◌, ◌+◌, ◌*◌, ◌^◌, ◌<◌, ◌≤◌, IfOk};
 ghost use Rattle.bootstrap.specs.Filling.{ArePlaces};
@@ -12,8 +12,8 @@ use std::alloc::{AllocError, Global};
 /// How many untypeds an image has at most.
 const UNTYPEDS: usize = 64;
 
-/// The offsets of all objects from the start of physical memory, each behind the ones before it in its untyped. They may lie
-/// behind the end of memory, since nothing says yet that the objects fit.
+/// The offsets of all objects from the start of physical memory, each after the ones before it in its untyped. They may
+/// lie beyond the end of memory, since nothing says yet that the objects fit.
 pub(crate) fn places_of(alloc: Global, image: &ImageRef<'_>) -> Result<Vec<u64>, AllocError>
     requires { IsLimited image.now }
     ensures { IfOk result (λ places. ArePlaces image.now image.now.header.objects places.items) }

@@ -125,7 +125,7 @@ impl Loader {
         self.map_frames(image)
     }
 
-    /// The calls behind that.
+    /// The calls after that.
     fn make_last_calls(&mut self, image: &ImageRef<'_>) -> Result<(), BootFault>
         requires limits { IsLimited image.now }
         requires room { self.old.calls ≤ 2 ^ 16 }

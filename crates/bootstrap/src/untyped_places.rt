@@ -1,4 +1,4 @@
-//! Where untyped memory may stand, and whether boot slots suffice: what is looked at before the first call.
+//! Where untyped memory may lie, and whether boot slots suffice: what is looked at before the first call.
 
 ghost use Rattle.std.specs.Prelude.{◌≡◌, ◌+◌, ◌^◌, ◌<◌, ◌≤◌, Some, None, if◌then◌else◌};
 ghost use Rattle.bootstrap.specs.Limits.{IsLimited, IsSmall};
@@ -11,7 +11,8 @@ use crate::object_kinds::power;
 use image_reading::ImageRef;
 use model::{ImageHeader, UntypedEntry};
 
-/// The first untyped that is not where untyped memory may stand, or the number of untypeds where boot slots do not suffice.
+/// The first untyped that is not where untyped memory may lie, or the number of untypeds where boot slots do not
+/// suffice.
 pub(crate) fn misplaced(image: &ImageRef<'_>) -> Option<u32>
     requires { IsLimited image.now }
     ensures { result ≡ misplaced image.now }
@@ -45,7 +46,7 @@ fn has_few_boot_slots(image: &ImageRef<'_>) -> bool
     power(image.header().boot_radix) < u64::from(boot_slots(image))
 }
 
-/// Whether an untyped is misaligned, passes the end of memory, or overlaps what stands before it.
+/// Whether an untyped is misaligned, passes the end of memory, or overlaps what lies before it.
 #[tactic(auto, unfolding(model::specs::Acceptance::WellFormed::overlaps))]
 fn overlaps(image: &ImageRef<'_>, number: u32, entry: UntypedEntry) -> bool
     requires limits { IsLimited image.now }

@@ -77,7 +77,7 @@ fn of_kind(kind: u32, detail: u8, rights: u8, offset: u32, word: u32) -> Cap
     }
 }
 
-/// The fields that stand in two words.
+/// The fields that are in two words.
 pub(crate) fn read_fields(head: u32, word: u32) -> Cap
     ensures { result ≡ fields_of head word }
 {

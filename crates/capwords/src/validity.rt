@@ -5,7 +5,7 @@ ghost use Rattle.model.specs.Capabilities.CapabilityWords.{AreEndpointRights, Ar
 
 use model::{Cap, FrameMapping, Rights, TableMapping};
 
-/// Whether an object of 2^`bits` bytes may stand at an offset.
+/// Whether an object of 2^`bits` bytes may lie at an offset.
 fn is_place(offset: u32, bits: u8) -> bool
     requires { bits ≤ 24 }
     ensures { IsTrue result ↔ IsPlace offset bits }

@@ -86,7 +86,7 @@ pub fn pack(capability: Cap) -> [u32; 2]
     }
 }
 
-/// The capability that two words stand for, if they are the words of one. Words with any bit set
+/// The capability that two words represent, if they are the words of one. Words with any bit set
 /// that no field names are not.
 pub fn unpack(words: [u32; 2]) -> Option<Cap>
     ensures some { IfSome result (λ capability. IsCapability capability

@@ -18,11 +18,11 @@ pub enum WordsFault {
 pub struct Form<'a> {
     /// The word that asks for it.
     pub name: &'a str,
-    /// What stands behind that word: names of files, and words with two hyphens, which may be left out.
+    /// What follows that word: names of files, and words with two hyphens, which may be left out.
     pub words: &'a [&'a str],
 }
 
-/// What the words behind a program's name say, if it has these commands.
+/// What the words after a program's name say, if it has these commands.
 pub fn matches<'a, S: AsStr>(
     alloc: Global,
     name: &'a str,
@@ -65,7 +65,7 @@ fn command<'a>(alloc: Global, form: &Form<'a>) -> Result<Command<'a>, AllocError
     Ok(command)
 }
 
-/// The name of a file, which has to be there, or behind two hyphens a word that may be there once.
+/// The name of a file, which has to be there, or after two hyphens a word that may be there once.
 fn argument<'a>(alloc: Global, name: &'a str) -> Arg<'a> {
     match name.strip_prefix("--") {
         Some(flag) => Arg::new(alloc, flag).long(flag).action(ArgAction::SetTrue),

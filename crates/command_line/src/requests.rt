@@ -43,7 +43,7 @@ pub enum Request<'a> {
     },
 }
 
-/// The request that the words behind the program's name make.
+/// The request that the words after the program's name make.
 pub fn parse<'a, S: AsStr>(alloc: Global, words: &'a [S]) -> Result<Request<'a>, WordsFault> {
     let matches = matches(alloc, "microsys", &COMMANDS, words)?;
     requested(&matches).ok_or(WordsFault::Usage)

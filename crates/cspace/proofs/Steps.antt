@@ -30,7 +30,7 @@ lookup-fails zero slots offset radix guard_word address left whole failure less 
 lookup-fails (suc n) slots offset radix guard_word address left whole failure less is resolved =
     sym is ∙ ap (go_on slots offset (λ held rest. lookup_within n slots held address rest)) resolved
 
--- behind a CNode, what the lookup gives
+-- after a CNode, what the lookup gives
 lookup-behind : (n : ℕ) (slots : Slots) (offset radix guard_word address left : ℕ) (whole : Result (ℕ × ℕ) LookupFailure) (index rest : ℕ) → lookup_within (suc n) slots (CNode offset radix guard_word) address left ≡ whole → resolve radix guard_word address left ≡ Ok (index, rest) → go_on slots offset (λ held more. lookup_within n slots held address more) (Ok (index, rest)) ≡ whole
 unfolding lookup_within
 lookup-behind n slots offset radix guard_word address left whole index rest is resolved =

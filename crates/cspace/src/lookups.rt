@@ -21,7 +21,7 @@ fn ends_at(rest: u32, held: Cap) -> bool
     rest == 0 || !matches!(held, Cap::CNode { .. })
 }
 
-/// The `count` bits of an address that stand above the lowest `rest` ones.
+/// The `count` bits of an address above the lowest `rest` ones.
 fn bits_of(address: u32, rest: u32, count: u32) -> u32
     requires few { rest + count ≤ 32 }
     ensures { result ≡ address / 2 ^ rest % 2 ^ count }
@@ -29,7 +29,7 @@ fn bits_of(address: u32, rest: u32, count: u32) -> u32
     ((u64::from(address) >> rest) % (1u64 << count)) as u32
 }
 
-/// The index of the slot that a CNode resolves, with the bits that are left behind it.
+/// The index of the slot that a CNode resolves, with the bits that are left after it.
 fn resolve(node: Node, address: u32, left: u32) -> Result<(u32, u32), LookupFailure>
     requires radix { node.radix ≤ 14 }
     requires least { 1 ≤ node.radix }
@@ -51,7 +51,7 @@ fn resolve(node: Node, address: u32, left: u32) -> Result<(u32, u32), LookupFail
 }
 
 /// The slot that the low `depth` bits of an address name in the capability space of a root, and how
-/// many bits are left behind it. The address is read from its high end; the lookup ends where no bits
+/// many bits are left after it. The address is read from its high end; the lookup ends where no bits
 /// are left, or in front of a slot that holds no CNode.
 pub fn lookup<S: SlotMap>(
     slots: &S,

@@ -20,7 +20,7 @@ pub fn descends<S: SlotStore>(store: &S, root: Slot, slot: Slot) -> bool
     store.descends(root, slot)
 }
 
-/// The descendant of a root behind `previous`, or the first one: each of them once, in the store's own
+/// The descendant of a root after `previous`, or the first one: each of them once, in the store's own
 /// order.
 pub fn next_descendant<S: SlotStore>(store: &S, root: Slot, previous: Option<Slot>) -> Option<Slot>
     requires full { ForSome previous (IsFull (S.slots store.now)) }

@@ -1,4 +1,4 @@
-//! The cells of a chart: what stands beside one another in time.
+//! The cells of a chart: what is shown side by side in time.
 
 use crate::faults::DrawingFault;
 use crate::trace_lines::{Happening, Mark, told_by};
@@ -11,9 +11,9 @@ pub(crate) enum Shape {
     Idle { count: u32 },
     Tick,
     Interrupt(u8),
-    /// So many instructions of one thread of which nothing is told.
+    /// So many instructions of one thread that have no mark.
     Run { lane: usize, count: u32 },
-    /// An instruction of which something is told.
+    /// An instruction with a mark.
     Event { lane: usize, pc: u32, mark: Mark },
 }
 

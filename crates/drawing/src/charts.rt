@@ -14,7 +14,7 @@ const COLOURS: [&str; 6] = [
     "#3b78b5", "#c9752d", "#4e9a47", "#8a5aa8", "#b84f6d", "#5f7f86",
 ];
 
-/// How far apart the numbers of lines stand at least.
+/// How far apart the numbers of lines are at least.
 const BETWEEN_NUMBERS: u32 = 90;
 
 /// The least width of a stretch in which something is written.
@@ -43,7 +43,7 @@ struct Canvas<'c> {
     lanes: Vec<Lane>,
     /// The band at hand.
     band: u32,
-    /// From where on the next number of a line may stand.
+    /// From where on the next number of a line may be.
     number_from: u32,
     svg: String,
 }
@@ -53,7 +53,7 @@ fn colour(lane: usize) -> &'static str {
     COLOURS[lane % COLOURS.len()]
 }
 
-/// How a thread rests behind an instruction.
+/// How a thread rests after an instruction.
 fn rest_behind(mark: Mark, pc: u32) -> Rest {
     match mark {
         Mark::Wait => Rest::Waits { pc },
@@ -62,7 +62,7 @@ fn rest_behind(mark: Mark, pc: u32) -> Rest {
     }
 }
 
-/// A character that may stand in the chart for a byte.
+/// A character that may be in the chart for a byte.
 fn is_shown(byte: u8) -> bool {
     byte > b' ' && byte < 127 && byte != b'<' && byte != b'>' && byte != b'&'
 }
@@ -167,7 +167,7 @@ impl Canvas<'_> {
         self.push_band()
     }
 
-    /// The number of a cell's first line, if the one before it does not stand too near.
+    /// The number of a cell's first line, if the one before it is not too near.
     fn push_number(&mut self, cell: &Cell, x: u32) -> Result<(), AllocError> {
         if x < self.number_from {
             return Ok(());
@@ -194,7 +194,7 @@ impl Canvas<'_> {
         )
     }
 
-    /// An instruction of which something is told.
+    /// An instruction with a mark.
     fn push_event(
         &mut self,
         lane: usize,
@@ -369,7 +369,7 @@ const STYLE: &str =
 const LEGEND: &str =
     "<rect x=\"0\" y=\"0\" width=\"22\" height=\"14\" fill=\"#3b78b5\"/><text x=\"28\" y=\"11\">runs</text><path class=\"r\" d=\"M70 7H96\"/><text x=\"102\" y=\"11\">ready</text><path class=\"w\" d=\"M150 7H176\"/><text x=\"182\" y=\"11\">waits</text><rect x=\"230\" y=\"0\" width=\"14\" height=\"14\" fill=\"#3b78b5\"/><circle cx=\"237\" cy=\"7\" r=\"3\" fill=\"#fff\"/><text x=\"250\" y=\"11\">call done</text><rect x=\"320\" y=\"0\" width=\"18\" height=\"14\" fill=\"#222\"/><text class=\"b\" x=\"329\" y=\"11\">A</text><text x=\"344\" y=\"11\">byte put</text><rect x=\"410\" y=\"0\" width=\"18\" height=\"14\" fill=\"#d02f2f\"/><text class=\"b\" x=\"419\" y=\"11\">e3</text><text x=\"434\" y=\"11\">call refused</text><rect x=\"520\" y=\"0\" width=\"18\" height=\"14\" fill=\"#7d0f0f\"/><text class=\"b\" x=\"529\" y=\"11\">f4</text><text x=\"544\" y=\"11\">fault</text><text class=\"n\" x=\"600\" y=\"11\">numbers: lines of the trace; long runs are drawn shorter; white: nobody runs</text></g>\n</svg>\n";
 
-/// The canvas of a chart, on which nothing stands so far.
+/// The canvas of a chart, on which nothing is drawn so far.
 fn empty_canvas(alloc: Global, cells: &Cells) -> Result<Canvas<'_>, AllocError> {
     let mut lanes = Vec::new(alloc);
     for _ in 0..cells.threads.len() {
@@ -387,7 +387,7 @@ fn empty_canvas(alloc: Global, cells: &Cells) -> Result<Canvas<'_>, AllocError> 
     })
 }
 
-/// What stands before the first band of a chart whose last band ends there.
+/// What is before the first band of a chart whose last band ends there.
 fn push_head(svg: &mut String, foot: u32) -> Result<(), AllocError> {
     let (width, height) = (RIGHT + 8, foot.saturating_add(FOOT));
     write!(
@@ -415,11 +415,13 @@ fn chart_of(alloc: Global, cells: &Cells) -> Result<String, AllocError> {
 }
 
 /// Puts a trace as a picture (SVG): a lane for each thread, in the order in which they first run, with what it did and where it waits,
-/// and ticks and interrupts above. Long runs of one thread are drawn shorter, and what does not fit beside it stands in the next band.
+/// and ticks and interrupts above. Long runs of one thread are drawn shorter, and what does not fit beside it is put in
+/// the next band.
 ///
 /// # Errors
 ///
-/// The first line that is none of a trace, an output that takes no more, or want of memory. Only the second has put anything.
+/// The first line that is none of a trace, an output that takes no more, or memory refused. Only the second has put
+/// anything.
 pub fn chart<S: Sink>(alloc: Global, trace: &[u8], output: &mut S) -> Result<(), DrawingFault> {
     let cells = cells_of(alloc, trace)?;
     let chart = chart_of(alloc, &cells)?;

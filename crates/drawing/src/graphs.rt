@@ -6,7 +6,7 @@ use sinks::{Sink, put_all};
 use source_texts::{Budgets, SourceText, read, with_budgets};
 use std::alloc::{AllocError, Global};
 
-/// What stands at the head of each graph.
+/// What is at the head of each graph.
 const HEAD: &str =
     "digraph system {\n  graph [rankdir=LR, bgcolor=white, pad=0.3, nodesep=0.35, ranksep=0.7, fontname=\"Helvetica\"];\n  node [fontname=\"Helvetica\", fontsize=12, margin=\"0.14,0.08\"];\n  edge [fontname=\"Helvetica\", fontsize=10, fontcolor=\"#333333\", color=\"#555555\", arrowsize=0.7];\n";
 
@@ -79,7 +79,7 @@ fn drawn(alloc: Global, budgets: &Budgets) -> Result<String, DrawingFault> {
 ///
 /// # Errors
 ///
-/// The first line that is at fault, an output that takes no more, or want of memory. Only the second has put anything.
+/// The first line that is at fault, an output that takes no more, or memory refused. Only the second has put anything.
 pub fn draw<S: Sink>(alloc: Global, text: &str, output: &mut S) -> Result<(), DrawingFault> {
     let budgets = with_budgets(alloc, text)?;
     let graph = drawn(alloc, &budgets)?;

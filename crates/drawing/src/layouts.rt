@@ -1,4 +1,4 @@
-//! Where the cells of a chart stand: in bands below one another, each read from left to right.
+//! Where the cells of a chart are: in bands below one another, each read from left to right.
 
 use crate::cells::{Cell, Shape};
 use crate::trace_lines::Mark;
@@ -8,7 +8,7 @@ pub(crate) const LEFT: u32 = 92;
 
 pub(crate) const RIGHT: u32 = 1152;
 
-/// The height of a lane, and of what stands above the lanes of a band.
+/// The height of a lane, and of what is above the lanes of a band.
 pub(crate) const LANE: u32 = 26;
 
 pub(crate) const HEAD: u32 = 40;
@@ -16,7 +16,7 @@ pub(crate) const HEAD: u32 = 40;
 /// What lies between two bands.
 const GAP: u32 = 12;
 
-/// What stands above the first band, and below the last one.
+/// What is above the first band, and below the last one.
 pub(crate) const TOP: u32 = 8;
 
 pub(crate) const FOOT: u32 = 34;
@@ -55,7 +55,7 @@ impl Place {
         Place { band: 0, x: LEFT }
     }
 
-    /// Where a cell stands that comes next: at this place, or in the next band.
+    /// Where a cell is that comes next: at this place, or in the next band.
     pub(crate) fn of(self, cell: &Cell) -> Self {
         if self.x.saturating_add(width_of(cell.shape)) <= RIGHT {
             self
@@ -67,7 +67,7 @@ impl Place {
         }
     }
 
-    /// The place behind a cell that stands here.
+    /// The place after a cell that is here.
     pub(crate) fn behind(self, cell: &Cell) -> Self {
         Place {
             band: self.band,

@@ -1,4 +1,4 @@
-//! Pictures of systems: what a text describes as a graph, and what a trace tells as a chart.
+//! Pictures of systems: what a text describes as a graph, and what a trace records as a chart.
 #![tactic(auto)]
 
 mod cells;

@@ -30,7 +30,7 @@ fn push_edge(
     write!(to, "[label=\"{label}\", {look}];\n")
 }
 
-/// Puts the badge of a capability, behind what it lets its thread do.
+/// Puts the badge of a capability, after what it lets its thread do.
 fn push_badge(to: &mut String, badge: u32) -> Result<(), AllocError> {
     if badge == 0 {
         Ok(())
@@ -201,7 +201,7 @@ impl Scene<'_, '_, '_> {
         )
     }
 
-    /// The edge to the endpoint that a thread's faults are told to.
+    /// The edge to the endpoint that a thread's faults are reported to.
     fn push_handler(&mut self, name: &str, thread: &SourceThread<'_>) -> Result<(), AllocError> {
         if thread.fault == 0 {
             return Ok(());

@@ -21,7 +21,7 @@ fn push_size(to: &mut String, bits: u32) -> Result<(), AllocError> {
     write!(to, "{number} {unit}")
 }
 
-/// What stands before what is said in small letters below a name.
+/// What is before what is said in small letters below a name.
 const SMALL: &str = "<BR/><FONT POINT-SIZE=\"9\" COLOR=\"#555555\">";
 
 /// How untyped memory is drawn.

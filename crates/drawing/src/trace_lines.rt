@@ -11,7 +11,7 @@ pub(crate) enum Mark {
     Faulted(u8),
 }
 
-/// What one line of a trace tells.
+/// What one line of a trace says.
 #[derive(Clone, Copy, Debug, PartialEq, Eq)]
 pub(crate) enum Happening {
     Idle,
@@ -73,7 +73,7 @@ fn put_by(high: u8, low: u8) -> Option<Mark> {
     ))
 }
 
-/// What came of an instruction, as a line's end tells.
+/// What came of an instruction, as a line's end says.
 fn mark_of(text: &[u8]) -> Option<Mark> {
     match text {
         b"plain" => Some(Mark::Plain),
@@ -98,7 +98,7 @@ fn ran(line: &[u8]) -> Option<Happening> {
     })
 }
 
-/// What a line of a trace tells, without its line feed.
+/// What a line of a trace says, without its line feed.
 pub(crate) fn told_by(line: &[u8]) -> Option<Happening> {
     match line {
         b"idle" => Some(Happening::Idle),

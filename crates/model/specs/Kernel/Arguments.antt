@@ -56,7 +56,7 @@ destination_slot slots root name = do
 abbrev pub may_have_child : Slots → ℕ → Result (Unit {0}) KError
 may_have_child slots slot = check (nat_lt (depth_of slots slot) 255) IllegalOperation
 
--- ---- what is around a call on a capability
+-- ---- the context of a call on a capability
 
 pub record Call : Type 0 where
   -- the root of the capability space in which the call names slots

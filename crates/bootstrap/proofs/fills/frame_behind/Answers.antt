@@ -1,4 +1,4 @@
--- No frame stands behind the last address.
+-- No frame is beyond the last address.
 use Rattle.std.proofs.Common.{sym, arith}
 use Rattle.bootstrap.proofs.FarFrames.{frame-far}
 use Rattle.bootstrap.proofs.fills.frame_behind.Goals as goal

@@ -1,4 +1,4 @@
--- By the operations of the sections, one behind another.
+-- By the operations of the sections, one after another.
 use Rattle.std.proofs.Common.{◌≡◌, ◌∙◌, List, ◌∷◌, ◌++◌, map, Ok, refl}
 use Rattle.std.proofs.lemmas.Result.{err_from_is_err_and}
 use Rattle.model.specs.Images.BootCalls.{Operation, PutsUntyped, PutsControl, Calls, content_operation, first_calls, last_calls, operations, program_operation}

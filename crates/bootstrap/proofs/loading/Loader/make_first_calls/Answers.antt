@@ -1,4 +1,4 @@
--- By the calls of the sections, one behind another.
+-- By the calls of the sections, one after another.
 use Rattle.std.proofs.Common.{◌≡◌, List, ◌++◌, map, Ok}
 use Rattle.std.specs.Prelude.{flat_map}
 use Rattle.std.specs.List.{range_with_len}

@@ -1,4 +1,4 @@
--- By the calls of the sections, one behind another.
+-- By the calls of the sections, one after another.
 use Rattle.std.specs.Prelude.{flat_map}
 use Rattle.std.proofs.lemmas.Result.{err_from_is_err_and}
 use Rattle.model.specs.Images.BootCalls.{signal_calls, thread_calls}
