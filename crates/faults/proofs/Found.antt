@@ -11,7 +11,7 @@ use Rattle.model.specs.declared.lookup_failures.LookupFailure.{LookupFailure}
 own-slot : (thread place : ℕ) → place ≡ thread / 16 → place ≡ cspace_slot thread
 own-slot thread place is = omega (arith, is)
 
--- in the capability space whose root stands in the thread's slot
+-- in the capability space whose root is in the thread's slot
 pub found-in : (s : State) (slots : Slots) (thread address place : ℕ) (root : Cap) (found : Result ℕ LookupFailure) → s.slots ≡ slots → place ≡ thread / 16
     → root ≡ capability_at slots place → found ≡ called_slot slots root address
     → handler_in s found ≡ handler_in s (called_slot s.slots (capability_at s.slots (cspace_slot thread)) address)

@@ -1,4 +1,4 @@
--- A thread stands inside memory.
+-- A thread lies inside memory.
 use Rattle.std.proofs.Common.{ℕ, ◌≡◌, ◌^◌, ◌<◌, Bool, true, false, Option, Some, ap, subst}
 use Rattle.std.specs.Option.{option_map_or}
 use Rattle.model.specs.Capabilities.CapabilityWords.{IsCapability}

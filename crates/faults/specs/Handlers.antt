@@ -1,4 +1,4 @@
--- What the handler of a thread's faults stands for.
+-- What the handler of a thread's faults is.
 -- seL4 Reference Manual, "Faults".
 use Rattle.faults.specs.declared.handlers.Handler.{Handler}
 use Rattle.model.specs.Kernel.Faults as states

@@ -1,4 +1,4 @@
-//! Faults of threads, which their handlers are told, over any store of slots.
+//! Faults of threads, which are reported to their handlers, over any store of slots.
 //! seL4 Reference Manual, "Faults".
 #![tactic(auto)]
 

@@ -17,7 +17,7 @@ use ipc::send;
 use objects::{Fault, Objects, Sending, Sent, Status};
 use slots::SlotStore;
 
-/// A thread that runs tells its handler, as a call: it waits for the handler's reply.
+/// A thread that runs reports a fault to its handler, as a call: it waits for the handler's reply.
 fn tell<S: SlotStore>(store: &mut S, objects: &mut Objects, thread: u32, fault: Fault, to: Handler)
     requires sound { IsSound (state_of objects.old (S.slots store.old) (S.memory store.old)) }
     requires endpoint { kind_at (state_of objects.old (S.slots store.old) (S.memory store.old)) to.endpoint ≡ Some NewEndpoint }
@@ -38,7 +38,7 @@ fn tell<S: SlotStore>(store: &mut S, objects: &mut Objects, thread: u32, fault: 
     send(store, objects, to.endpoint, thread, sending);
 }
 
-/// A thread that runs cannot go on: its handler is told, and without a handler it stops.
+/// A thread that runs cannot go on: the fault is reported to its handler, and without a handler it stops.
 pub fn raise_fault<S: SlotStore>(store: &mut S, objects: &mut Objects, thread: u32, fault: Fault)
     requires sound { IsSound (state_of objects.old (S.slots store.old) (S.memory store.old)) }
     requires runs { (thread_at (state_of objects.old (S.slots store.old) (S.memory store.old)) thread).status ≡ Runnable }

@@ -1,4 +1,4 @@
-//! Threads that get messages, and go on behind their calls.
+//! Threads that get messages, and go on after their calls.
 
 ghost use Rattle.std.specs.Prelude.{ℕ, ◌≡◌, Some};
 ghost use Rattle.model.specs.Kernel.Kinds.{kind_at};
@@ -14,7 +14,7 @@ use objects::{Objects, Sent, WaitingSender};
 use rv32_exec::Regs;
 use slots::SlotStore;
 
-/// A thread goes on behind its call.
+/// A thread goes on after its call.
 pub fn pass<S: SlotStore>(store: &mut S, objects: &mut Objects, thread: u32)
     requires there { kind_at (state_of objects.old (S.slots store.old) (S.memory store.old)) thread ≡ Some NewThread }
     requires stands { Standing objects.old (S.slots store.old) (S.memory store.old) }
@@ -29,7 +29,7 @@ pub fn pass<S: SlotStore>(store: &mut S, objects: &mut Objects, thread: u32)
     objects.set_registers(store, thread, advanced(registers));
 }
 
-/// A thread goes on behind its call with these registers.
+/// A thread goes on after its call with these registers.
 pub fn pass_with<S: SlotStore>(store: &mut S, objects: &mut Objects, thread: u32, registers: Regs)
     requires there { kind_at (state_of objects.old (S.slots store.old) (S.memory store.old)) thread ≡ Some NewThread }
     requires stands { Standing objects.old (S.slots store.old) (S.memory store.old) }

@@ -98,7 +98,7 @@ pub(crate) fn received<S: SlotStore>(
     }
 }
 
-/// A thread goes on behind its call, and runs again.
+/// A thread goes on after its call, and runs again.
 fn pass_and_wake<S: SlotStore>(store: &mut S, objects: &mut Objects, thread: u32)
     requires there { kind_at (state_of objects.old (S.slots store.old) (S.memory store.old)) thread ≡ Some NewThread }
     requires stands { Standing objects.old (S.slots store.old) (S.memory store.old) }

@@ -17,7 +17,7 @@ use crate::receipts::received_waiting;
 use objects::{Objects, Status, WaitingSender};
 use slots::SlotStore;
 
-/// A thread waits behind the other receivers of an endpoint where nobody sends.
+/// A thread waits after the other receivers of an endpoint where nobody sends.
 fn wait_to_receive<S: SlotStore>(store: &mut S, objects: &mut Objects, endpoint: u32, thread: u32)
     requires endpoint { kind_at (state_of objects.old (S.slots store.old) (S.memory store.old)) endpoint ≡ Some NewEndpoint }
     requires there { kind_at (state_of objects.old (S.slots store.old) (S.memory store.old)) thread ≡ Some NewThread }

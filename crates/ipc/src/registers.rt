@@ -197,7 +197,7 @@ pub fn with_word(registers: Regs, word: u32) -> Regs
     now
 }
 
-/// The registers of a thread that goes on behind its call.
+/// The registers of a thread that goes on after its call.
 pub fn advanced(registers: Regs) -> Regs
     ensures { result ≡ advanced registers }
 {

@@ -17,7 +17,7 @@ use crate::receipts::received;
 use objects::{Objects, Sending, Status, WaitingSender};
 use slots::SlotStore;
 
-/// A thread waits behind the other senders of an endpoint where nobody receives.
+/// A thread waits after the other senders of an endpoint where nobody receives.
 fn wait_to_send<S: SlotStore>(
     store: &mut S,
     objects: &mut Objects,

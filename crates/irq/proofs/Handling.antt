@@ -34,7 +34,7 @@ checks-first true true (Err e) room next = refl
 checks-first true true (Ok place) false next = refl
 checks-first true true (Ok place) true next = refl
 
--- ---- interrupt control stands in a full slot
+-- ---- interrupt control is in a full slot
 
 control-full : (slots : Slots) (slot : ℕ) → capability_at slots slot ≡ InterruptControl → IsFull slots slot
 control-full slots slot is = ap (λ (c : Cap). not (is_empty c)) is

@@ -44,7 +44,7 @@ fn handler_place<S: SlotStore>(
     Ok(place)
 }
 
-/// Makes the one handler of a line: a child of interrupt control, which stands in `slot`.
+/// Makes the one handler of a line: a child of interrupt control, which is in `slot`.
 ///
 /// The first check that fails gives the error: the line is above 63 (`RangeError`); it has a handler
 /// (`RevokeFirst`); the destination's name is wrong (`RangeError`, `FailedLookup`), or it is full

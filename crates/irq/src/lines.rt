@@ -42,7 +42,7 @@ fn binding<S: SlotStore>(store: &S, objects: &Objects, line: u8) -> Option<Signa
 }
 
 /// An interrupt comes on a line. It is delivered where the line is bound and not masked, and masks the line
-/// then; else it stands pending. Lines above 63 do nothing.
+/// then; else it is pending. Lines above 63 do nothing.
 ///
 /// seL4 Reference Manual, "Interrupt Delivery".
 pub fn raise<S: SlotStore>(kernel: &mut Kernel<S>, line: u8)
@@ -79,7 +79,7 @@ pub fn raise<S: SlotStore>(kernel: &mut Kernel<S>, line: u8)
     }
 }
 
-/// Takes a line's mask away: the line is 0 to 63. An interrupt that stands pending is delivered if the line
+/// Takes a line's mask away: the line is 0 to 63. An interrupt that is pending is delivered if the line
 /// is bound, and masks it again.
 ///
 /// seL4 Reference Manual, seL4_IRQHandler_Ack.

@@ -43,9 +43,9 @@ impl Setup {
         Ok(Setup { machine })
     }
 
-    /// Puts untyped memory into an empty boot slot: 2^`bits` bytes from `offset` on, behind all that stands,
-    /// also behind objects that are left of untyped memory whose own capability is gone. Nothing changes where
-    /// it may not stand there.
+    /// Puts untyped memory into an empty boot slot: 2^`bits` bytes from `offset` on, after all that is there,
+    /// also after objects that are left of untyped memory whose own capability is gone. Nothing changes where
+    /// it may not lie there.
     pub fn untyped(&mut self, index: u32, offset: u32, bits: u8) -> bool
         ensures { GivesIf (put_untyped (state_in self.old) index offset bits) result self.old self.new }
     {
@@ -87,7 +87,7 @@ impl Setup {
     }
 
     /// What slot `index` of a holder holds, and the slot that it was derived from, as (holder, index). Holders are the boot
-    /// CNode at 0, the interrupt table behind it, CNodes and threads; all are named by their offsets.
+    /// CNode at 0, the interrupt table after it, CNodes and threads; all are named by their offsets.
     pub fn slot(&self, holder: u32, index: u32) -> Option<(Cap, Option<(u32, u32)>)>
         ensures held { option_map seen_entry result ≡ slot_in (state_in self.now) holder index }
         ensures parent { IfSome result (λ seen. IfSome seen.1 (IsPlace (state_in self.now))) }

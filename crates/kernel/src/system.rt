@@ -49,7 +49,7 @@ impl System {
     }
 
     /// What slot `index` of a holder holds, and the slot that it was derived from, as (holder, index). Holders are the boot
-    /// CNode at 0, the interrupt table behind it, CNodes and threads; all are named by their offsets.
+    /// CNode at 0, the interrupt table after it, CNodes and threads; all are named by their offsets.
     pub fn slot(&self, holder: u32, index: u32) -> Option<(Cap, Option<(u32, u32)>)>
         ensures held { option_map seen_entry result ≡ slot_in (state_in self.now) holder index }
         ensures parent { IfSome result (λ seen. IfSome seen.1 (IsPlace (state_in self.now))) }

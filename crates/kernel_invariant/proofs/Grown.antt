@@ -23,7 +23,7 @@ use Rattle.vspace.specs.Kept.{IsNamedTable, NamesTable}
 use Rattle.vspace.specs.Tables.{TablesAgree}
 use Rattle.vspace.proofs.Laws.{agree-put}
 
--- what stands where after the object, whatever the bytes are
+-- what is where after the object, whatever the bytes are
 module _ (t : State) (kind : NewObject) (place slot parent to : ℕ) (old : List ℕ) (growing : Growing t old place to)
     (fits : place + 2 ^ object_bits kind ≤ to) (multiple : place % 16 ≡ 0) (empty : t.slots slot ≡ Some empty_entry) where
   abbrev wider : Slots
@@ -91,7 +91,7 @@ module _ (t : State) (kind : NewObject) (place slot parent to : ℕ) (old : List
     | inr its ↦ absurd (let clash : true ≡ false = sym its.0 ∙ frameless in cc)
   ]
 
-  -- no byte of a frame stands in an open slot
+  -- no byte of a frame lies in an open slot
   slots-agree : (p : ℕ) → IsOpen after.slots (p / 16) → after.bytes p ≡ None
   slots-agree p is_open = elim (byte-after t kind place slot parent p) [
     | inl same ↦ same ∙ elim (open-after p is_open) [
@@ -150,7 +150,7 @@ module _ (t : State) (kind : NewObject) (place slot parent to : ℕ) (old : List
         ]
   ]
 
-  -- ---- behind the object
+  -- ---- after the object
 
   free-after : IsFree after (place + 2 ^ object_bits kind) to
   free-after = record {

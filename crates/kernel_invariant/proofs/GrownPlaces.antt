@@ -125,7 +125,7 @@ module _ (t : State) (kind : NewObject) (place slot parent : ℕ) where
         | inr apart ↦ inl (subst (λ b. option_map kind_of (if b then option_map_or Some (object kind) (t.objects offset) else t.objects offset) ≡ Some k) (at ∙ apart.0) is)
       ]
 
-  -- a byte is as it was, or it stands in the new object, which is a frame
+  -- a byte is as it was, or it lies in the new object, which is a frame
   pub byte-after : (p : ℕ) → (after.bytes p ≡ t.bytes p) ⊎ ((is_frame kind ≡ true) × (place ≤ p) × (p < place + 2 ^ object_bits kind))
   byte-after p =
       let test : Bool = is_frame kind && is_within place (1 * 2 ^ object_bits kind) p in
@@ -164,7 +164,7 @@ module _ (t : State) (kind : NewObject) (place slot parent : ℕ) where
   pub slots-after : after.slots ≡ inserted wider slot (first_capability kind place) (Some parent)
   slots-after = λ i s. slot-after s i
 
-  -- a slot is as it was, or it stands in the object's memory
+  -- a slot is as it was, or it lies in the object's memory
   pub slot-wider : place % 16 ≡ 0 → (y : ℕ) → (wider y ≡ t.slots y) ⊎ ((place ≤ 16 * y) × (16 * y + 16 ≤ place + 2 ^ object_bits kind) × (0 < slot_count (object kind)))
   slot-wider multiple y =
       let count : ℕ = slot_count (object kind) in

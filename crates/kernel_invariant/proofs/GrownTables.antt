@@ -129,7 +129,7 @@ module _ (t : State) (kind : NewObject) (place to : ℕ) (old : List ℕ) (growi
             let wide : 2 ^ object_bits kind ≡ page_size = ap (λ (n : ℕ). 2 ^ n) page.bits in
             ap (λ (s : Slots). s (p / 16)) (no-slots kind place t.slots page.slots) ∙ growing.free.slots p low (omega (arith, high, wide, fits))
 
-        -- where the page is, no record of an object stands
+        -- where the page is, no record of an object lies
         no-record : has_page kind ≡ true → (p : ℕ) → place ≤ p → p < place + page_size
             → (offset : ℕ) (k : NewObject) → kind_at b offset ≡ Some k → has_record k ≡ true → (p < offset) ⊎ (offset + 2 ^ object_bits k ≤ p)
         no-record paged p low high offset k there kept =

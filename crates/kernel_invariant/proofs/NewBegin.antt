@@ -49,7 +49,7 @@ table-stands s slot table (InterruptHandler line) sound held named = absurd name
 pub named-table_stands : (s : State) (table : ℕ) → IsSound s → IsNamedTable s.slots table → TableStands s table
 named-table_stands s table sound named = table-stands s named.0 table (capability_at s.slots named.0) sound refl named.1
 
--- no table stands where memory is free
+-- no table lies where memory is free
 pub tables-elsewhere : (s : State) (from to table : ℕ) → IsSound s → IsFree s from to → IsNamedTable s.slots table → (table + page_size ≤ from) ⊎ (to ≤ table)
 tables-elsewhere s from to table sound free named =
     let stands = named-table_stands s table sound named in

@@ -100,7 +100,7 @@ module _ (o : Tables) (slots room : Slots) (old made : List ℕ) (kind : NewObje
         | false ↦ λ is. refl
       ] refl
 
-  -- a byte of a frame stands outside the object
+  -- a byte of a frame lies outside the object
   frame-elsewhere : (other byte : ℕ) → s.bytes other ≡ Some byte → (other < place) ⊎ (place + 2 ^ object_bits kind ≤ other)
   frame-elsewhere other byte is = elim (cases_lt other place) [
     | inl before ↦ inl before

@@ -33,7 +33,7 @@ pub stands-law : (o : Tables) (slots now : Slots) (old new : List ℕ) → Stand
     → ((slot : ℕ) → slots slot ≡ None → now slot ≡ None) → Standing o now new
 stands-law o slots now old new stands same closes = stands-still o slots old new now stands same closes
 
--- the bytes that stand in no open slot are the same
+-- the bytes that lie in no open slot are the same
 beside : (slots : Slots) (old new : List ℕ) → SameOutside slots old new → SameBesideTables slots old new
 beside slots old new same = record { size = same.size; bytes = λ place closed apart. same.bytes place closed }
 

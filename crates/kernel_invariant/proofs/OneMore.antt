@@ -25,7 +25,7 @@ outside-within first count x out = elim (is_within first count x) as (λ b. is_w
   | false ↦ λ _. refl
 ] refl
 
--- two ranges, one behind the other
+-- two ranges, one after the other
 within-joined : (first a b whole x : ℕ) → whole ≡ a + b → is_within first whole x ≡ (is_within first a x || is_within (first + a) b x)
 within-joined first a b whole x is = elim (cases_lt x first) [
   | inl before ↦

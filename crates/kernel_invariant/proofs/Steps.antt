@@ -31,7 +31,7 @@ use Rattle.vspace.specs.Tables.{TablesAgree}
 
 -- ---- mappings
 
--- where a byte of a frame stands, neither a slot is open nor a table stands
+-- where a byte of a frame lies, neither a slot is open nor does a table lie there
 module _ (s : State) (memory : List ℕ) (agrees : Agrees s memory) (place byte : ℕ) (is : s.bytes place ≡ Some byte) where
   pub no-slot : s.slots (place / 16) ≡ None
   no-slot = elim (s.slots (place / 16)) as (λ e. s.slots (place / 16) ≡ e → s.slots (place / 16) ≡ None) [
@@ -51,7 +51,7 @@ module _ (s : State) (memory : List ℕ) (agrees : Agrees s memory) (place byte 
         ]
   ]
 
--- nor does a table stand where the record of an object does
+-- nor does a table lie where the record of an object does
 record-table : (s : State) (memory : List ℕ) → Agrees s memory → (place : ℕ) → IsInRecord s.objects place → (table : ℕ) → IsNamedTable s.slots table → IsBeside place table
 record-table s memory agrees place held table named = elim (cases_lt place table) [
   | inl before ↦ inl before

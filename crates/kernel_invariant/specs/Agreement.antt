@@ -13,9 +13,9 @@ pub record Agrees (s : State) (memory : List ℕ) : Type 0 where
   -- the page tables say what capabilities map
   pub tables : TablesAgree s.slots memory
   pub size : 2 ^ s.memory_bits ≡ length memory
-  -- no byte of a frame stands in an open slot, or in a table
+  -- no byte of a frame lies in an open slot, or in a table
   pub slots : (place : ℕ) → IsOpen s.slots (place / 16) → s.bytes place ≡ None
   pub frames : (table place : ℕ) → IsNamedTable s.slots table → table ≤ place → place < table + page_size → s.bytes place ≡ None
-  -- nor does a record of an object stand in a table
+  -- nor does a record of an object lie in a table
   pub records : (table place offset : ℕ) (kind : NewObject) → IsNamedTable s.slots table → table ≤ place → place < table + page_size
       → kind_at s offset ≡ Some kind → has_record kind ≡ true → (place < offset) ⊎ (offset + 2 ^ object_bits kind ≤ place)

@@ -1,4 +1,4 @@
--- Objects that come one after another, in memory where nothing stands.
+-- Objects that come one after another, in memory where nothing is.
 -- seL4 Reference Manual, "Kernel Memory Allocation".
 use Rattle.std.specs.Prelude.{ℕ, ◌+◌, ◌^◌, ◌≤◌, ◌⊎◌, List}
 use Rattle.kernel_invariant.specs.Agreement.{Agrees}
@@ -8,11 +8,11 @@ use Rattle.model.specs.Kernel.State.{State}
 use Rattle.soundness.specs.Unused.{IsFree}
 use Rattle.vspace.specs.Kept.{IsNamedTable}
 
--- the state with one more object, whose capability stands in a slot and is derived from another
+-- the state with one more object, whose capability is in a slot and is derived from another
 abbrev pub one_placed : State → NewObject → ℕ → ℕ → ℕ → State
 one_placed s kind place slot parent = with_new s (record { kind = kind; first = place; count = 1 }) slot parent
 
--- between two places there is room for more objects: nothing stands there, and no capability names a table there
+-- between two places there is room for more objects: nothing is there, and no capability names a table there
 pub record Growing (s : State) (memory : List ℕ) (from to : ℕ) : Type 0 where
   pub agrees : Agrees s memory
   pub free : IsFree s from to

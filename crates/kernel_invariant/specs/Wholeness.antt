@@ -1,4 +1,4 @@
--- What every call of the kernel relies on and leaves true: the state is sound, what stands for it agrees, and tables, slots and memory stand.
+-- What every call of the kernel relies on and leaves true: the state is sound, what is kept of it agrees, and the invariants of tables, slots and memory hold.
 use Rattle.std.specs.Prelude.{ℕ, List}
 use Rattle.kernel_invariant.specs.Agreement.{Agrees}
 use Rattle.model.specs.Capabilities.Slots.{Slots}

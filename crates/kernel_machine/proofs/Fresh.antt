@@ -1,4 +1,4 @@
--- The empty machine: its slots are open and empty, and nothing else stands there.
+-- The empty machine: its slots are open and empty, and nothing else is there.
 use Rattle.std.proofs.Common.{ℕ, ◌≡◌, ◌∙◌, zero-add, ◌+◌, ◌*◌, ◌%◌, ◌^◌, ◌≤◌, ◌&&◌, Bool, true, false, if◌then◌else◌, nat_le, nat_lt, Option, Some, None, List, length, refl, sym, ap, subst, arith}
 use Rattle.std.specs.Option.{option_map_or}
 use Rattle.std.proofs.Math.Pow.{pow_mono}

@@ -75,7 +75,7 @@ parent-held o slots memory number parent held sound is above =
     (sound.slots.there parent).0
     (full-open slots parent (sound.slots.derivation.parent_full number parent (ap (λ e. option_map_or (λ (h : Entry). h.parent) e None) is ∙ above)))
 
--- what stands so many slots behind the first of a holder, which has so many
+-- what is so many slots after the first of a holder, which has so many
 pub slot-inside : (o : Tables) (slots : Slots) (memory : List ℕ) (holder index count : ℕ) → count ≡ slots_of_holder (state_of o slots memory) holder → index < count
     → slots (holder / 16 + index) ≡ slot_in (state_of o slots memory) holder index
 unfolding state_of

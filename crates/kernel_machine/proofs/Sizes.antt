@@ -1,4 +1,4 @@
--- No object stands behind the end of memory.
+-- No object lies beyond the end of memory.
 use Rattle.std.proofs.Common.{ℕ, ◌≡◌, ◌≤◌, Some, None, List, length, refl, ap, arith, pow_pos}
 use Rattle.std.specs.Prelude.{option_map}
 use Rattle.kernel_invariant.specs.Agreement.{Agrees}

@@ -1,4 +1,4 @@
--- Untyped memory is put where the test of the code says that it may stand.
+-- Untyped memory is put where the test of the code says that it may lie.
 use Rattle.std.proofs.Common.{ℕ, ◌≡◌, ◌∙◌, ◌+◌, ◌/◌, ◌%◌, ◌^◌, ◌≤◌, ◌==◌, ◌&&◌, Bool, true, false, not, nat_le, if◌then◌else◌, None, List, length, sym, ap, subst, arith}
 use Rattle.std.proofs.Math.Pow.{pow_mono}
 use Rattle.std.proofs.lemmas.Bool.{and_parts, eqb-true, leb-true}

@@ -1,4 +1,4 @@
--- The parts of the kernel, and the state that they stand for.
+-- The parts of the kernel, and the state that they represent.
 -- seL4 Reference Manual, "System Bootstrapping".
 use Rattle.std.specs.Prelude.{ℕ, ◌≡◌, ◌+◌, ◌*◌, ◌%◌, ◌^◌, ◌==◌, ◌<◌, ◌&&◌, nat_le, nat_lt, Bool, true, false, if◌then◌else◌, Option, Some, None, option_map, slice_index}
 use Rattle.cnode_ops.specs.Refusals.{some_slot}
@@ -15,7 +15,7 @@ use Rattle.model.specs.declared.slot_entries.Entry.{Entry}
 abbrev pub Parts : Type 0
 Parts = kernels.Parts Store
 
--- the state that they stand for
+-- the state that they represent
 abbrev pub state_in : Parts → State
 state_in parts = kernels.state_in slots_of bytes_of parts
 
@@ -32,7 +32,7 @@ register_in t index =
     if index == 0 then Some t.registers.pc
     else if nat_le index 31 then Some (slice_index t.registers.words index) else None
 
--- how many slots a holder has: the boot CNode at 0, the interrupt table behind it, and each CNode and thread where it starts
+-- how many slots a holder has: the boot CNode at 0, the interrupt table after it, and each CNode and thread where it starts
 abbrev pub slots_of_holder : State → ℕ → ℕ
 slots_of_holder s holder =
     if holder == 0 then 2 ^ s.boot_radix
@@ -56,12 +56,12 @@ entry_of held = record { capability = held.0; parent = held.1 }
 abbrev pub seen_entry : (Cap × Option (ℕ × ℕ)) → Entry
 seen_entry seen = record { capability = seen.0; parent = option_map number_of seen.1 }
 
--- ---- where untyped memory may stand
+-- ---- where untyped memory may lie
 
 -- 2^4 to 2^24 bytes, aligned, of so many
 abbrev pub is_piece : ℕ → ℕ → ℕ → Bool
 is_piece size offset bits = nat_le 4 bits && nat_le bits 24 && (offset % 2 ^ bits == 0) && nat_le (offset + 2 ^ bits) size
 
--- one of so many slots names memory that ends behind an offset
+-- one of so many slots names memory that ends after an offset
 abbrev pub reaches_behind : Slots → ℕ → ℕ → Bool
 reaches_behind slots count offset = some_slot 0 count (λ slot. nat_lt offset (end_of (capability_at slots slot)))

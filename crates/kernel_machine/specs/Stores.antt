@@ -1,4 +1,4 @@
--- The store that the kernel stands on. Its form is named here, and its type in `src/stores.rt`.
+-- The store that the kernel is built on. Its form is named here, and its type in `src/stores.rt`.
 use Rattle.std.specs.Prelude.{ℕ, List}
 use Rattle.model.specs.Capabilities.Slots.{Slots}
 use Rattle.packed_slots.specs.Packing.{Packed, packed_slots}

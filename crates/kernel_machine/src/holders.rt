@@ -9,7 +9,7 @@ use cnode_ops::Kernel;
 use model::{Cap, Slot};
 use slots::SlotStore;
 
-/// How many interrupt lines there are, each with a slot behind those of the boot CNode.
+/// How many interrupt lines there are, each with a slot after those of the boot CNode.
 pub(crate) const LINES: u32 = 64;
 
 /// How many slots the boot CNode has.
@@ -35,7 +35,7 @@ fn count_slots<S: SlotStore>(kernel: &Kernel<S>, holder: u32) -> u32
     }
 }
 
-/// What the slot holds that stands so many behind another, and the slot that it was derived from.
+/// What the slot so many after another holds, and the slot that it was derived from.
 fn entry_behind<S: SlotStore>(store: &S, first: u32, index: u32) -> Option<(Cap, Option<Slot>)>
     ensures { option_map entry_of result ≡ S.slots store.now (first + index) }
 {

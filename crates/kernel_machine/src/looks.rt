@@ -40,7 +40,7 @@ pub(crate) fn byte_at<S: SlotStore>(kernel: &Kernel<S>, offset: u32) -> Option<u
     kernel.objects.objects.byte(&kernel.store, offset)
 }
 
-/// How many bytes of memory there are. No object stands behind them.
+/// How many bytes of memory there are. No object lies beyond them.
 pub(crate) fn memory_size<S: SlotStore>(kernel: &Kernel<S>) -> u32
     ensures value { result ≡ 2 ^ (state_in S.slots S.memory kernel.now).memory_bits }
     ensures inside { (place : ℕ) → result ≤ place → (state_in S.slots S.memory kernel.now).objects place ≡ None }

@@ -21,7 +21,7 @@ use std::alloc::{AllocError, Global};
 use std::marker::Model;
 use user_memory::fill;
 
-/// All that the kernel keeps, which is always whole: the state that it stands for is sound, and page tables and
+/// All that the kernel keeps, which is always whole: the state that it represents is sound, and page tables and
 /// capabilities, slots and the bytes of frames agree. It is looked at by threads, slots and bytes.
 #[derive(Drop)]
 pub struct Machine {
@@ -59,7 +59,7 @@ impl Machine {
     }
 
     /// What slot `index` of a holder holds, and the slot that it was derived from, as (holder, index). Holders are the boot
-    /// CNode at 0, the interrupt table behind it, CNodes and threads; all are named by their offsets.
+    /// CNode at 0, the interrupt table after it, CNodes and threads; all are named by their offsets.
     pub fn slot(&self, holder: u32, index: u32) -> Option<(Cap, Option<(u32, u32)>)>
         ensures held { option_map seen_entry result ≡ slot_in (state_in self.now) holder index }
         ensures parent { IfSome result (λ seen. IfSome seen.1 (IsPlace (state_in self.now))) }
@@ -67,9 +67,9 @@ impl Machine {
         look_at(&self.kernel, holder, index)
     }
 
-    /// Puts untyped memory into an empty boot slot: 2^`bits` bytes from `offset` on, behind all that stands,
-    /// also behind objects that are left of untyped memory whose own capability is gone. Nothing changes where
-    /// it may not stand there.
+    /// Puts untyped memory into an empty boot slot: 2^`bits` bytes from `offset` on, after all that is there,
+    /// also after objects that are left of untyped memory whose own capability is gone. Nothing changes where
+    /// it may not lie there.
     pub fn untyped(&mut self, index: u32, offset: u32, bits: u8) -> bool
         ensures { GivesIf (put_untyped (state_in self.old) index offset bits) result self.old self.new }
     {
@@ -113,7 +113,7 @@ impl Machine {
         byte_at(&self.kernel, offset)
     }
 
-    /// How many bytes of memory there are. No object stands behind them.
+    /// How many bytes of memory there are. No object lies beyond them.
     pub fn memory_size(&self) -> u32
         ensures value { result ≡ 2 ^ (state_in self.now).memory_bits }
         ensures inside { (place : ℕ) → result ≤ place → (state_in self.now).objects place ≡ None }

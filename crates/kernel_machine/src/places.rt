@@ -1,4 +1,4 @@
-//! Where untyped memory may stand.
+//! Where untyped memory may lie.
 
 ghost use Rattle.std.specs.Prelude.{ℕ, ◌≡◌, ◌/◌, ◌^◌, ◌≤◌, ◌&&◌, length, nat_le, nat_lt, not};
 ghost use Rattle.kernel_machine.specs.Setups.{is_piece, reaches_behind};
@@ -38,7 +38,7 @@ fn end_of(capability: Cap) -> u32
     }
 }
 
-/// Whether some memory that a capability names ends behind an offset.
+/// Whether some memory that a capability names ends after an offset.
 fn reaches_behind<S: SlotStore>(store: &S, offset: u32) -> bool
     ensures { result ≡ reaches_behind (S.slots store.now) (length (S.memory store.now) / 16) offset }
 {
@@ -55,7 +55,7 @@ fn reaches_behind<S: SlotStore>(store: &S, offset: u32) -> bool
     }
 }
 
-/// Whether untyped memory may stand at an offset, from `first` on and behind all that stands.
+/// Whether untyped memory may lie at an offset, from `first` on and after all that is there.
 pub(crate) fn may_be_untyped<S: SlotStore>(store: &S, first: u32, offset: u32, bits: u8) -> bool
     ensures { result ≡ (is_piece (length (S.memory store.now)) offset bits && nat_le first offset
         && not (reaches_behind (S.slots store.now) (length (S.memory store.now) / 16) offset)) }

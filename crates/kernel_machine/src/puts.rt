@@ -36,7 +36,7 @@ fn put<S: SlotStore>(kernel: &mut Kernel<S>, index: u32, capability: Cap) -> boo
     free
 }
 
-/// Puts untyped memory into an empty boot slot, behind all that stands. Nothing changes where it may not stand there.
+/// Puts untyped memory into an empty boot slot, after all that is there. Nothing changes where it may not lie there.
 pub(crate) fn put_untyped<S: SlotStore>(
     kernel: &mut Kernel<S>,
     index: u32,

@@ -1,4 +1,4 @@
-//! The store that the kernel stands on: its type is named here alone, and its form in `specs/Stores.antt`.
+//! The store that the kernel is built on: its type is named here alone, and its form in `specs/Stores.antt`.
 
 ghost use Rattle.std.specs.Prelude.{ℕ, ◌≡◌, ◌^◌, ◌≤◌, IfOk, None, replicate};
 ghost use Rattle.kernel_machine.specs.Stores.{bytes_of, slots_of};
@@ -6,7 +6,8 @@ ghost use Rattle.kernel_machine.specs.Stores.{bytes_of, slots_of};
 use packed_slots::{CachedSlots, IndexedSlots};
 use std::alloc::{AllocError, Global};
 
-/// The slots in memory itself, in preorder. Beside it stand what is known of its capabilities, and the leaves of walks.
+/// The slots in memory itself, in preorder. Beside it is kept what is known of its capabilities, and the leaves of
+/// walks.
 pub type Store = CachedSlots<IndexedSlots>;
 
 /// Memory of 2^`bits` bytes, all zero, and no open slot.

@@ -22,6 +22,6 @@ next_label s after label all done event is_after is_label is =
     ap (λ (events : List Event). trace s events) is ∙ one_step s event rest
     ∙ ap (λ (l : Label). l ∷ trace (step s event).0 rest) (sym is_label) ∙ ap (λ (t : State). label ∷ trace t rest) (sym is_after)
 
--- there is none behind the last event
+-- there is none after the last event
 pub no_label : (s : State) (all : List Event) (done : ℕ) → length all ≤ done → trace s (drop done all) ≡ []
 no_label s all done end = ap (λ (events : List Event). trace s events) (drop_of_length-le all end) ∙ no_step s

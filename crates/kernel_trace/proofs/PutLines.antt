@@ -41,7 +41,7 @@ begins_more old mid new whole printed piece rest is grown begun =
 
 -- ---- the lines so far
 
--- So many labels are behind. Their lines are put or held, in this order, and those of the rest are left.
+-- So many labels are done. Their lines are put or held, in this order, and those of the rest are left.
 pub record ArePut (labels : List Label) (old : Option (List ℕ)) (rest : List Label) (held : List ℕ) (new : Option (List ℕ)) : Type 0 where
   pub printed : List ℕ
   pub whole : lines_of labels ≡ printed ++ (held ++ lines_of rest)
@@ -81,7 +81,7 @@ pub stopped : (labels : List Label) (old : Option (List ℕ)) (left : List Label
     → ArePut labels old left held mid → GrowsByBeginning mid new held → GrowsByBeginning old new (lines_of labels)
 stopped labels old left held mid new put grows = begins_more old mid new (lines_of labels) put.printed held (lines_of left) put.whole put.grown grows
 
--- what is held behind the last label is put
+-- what is held after the last label is put
 pub all_put : (labels : List Label) (old : Option (List ℕ)) (left : List Label) (held : List ℕ) (mid new : Option (List ℕ))
     → ArePut labels old left held mid → left ≡ [] → Grows mid new held → Grows old new (lines_of labels)
 all_put labels old left held mid new put none grows =
@@ -102,7 +102,7 @@ next_event (e ∷ all) (suc done) other below =
 
 -- ---- failures
 
--- a count that takes one more grew, or stands at its end
+-- a count that takes one more grew, or is at its end
 pub failed : (old new : ℕ) → new ≡ one_more old → Failed old new
 failed old new is = elim (cases_lt (old + 1) (2 ^ 64)) [
   | inl more ↦

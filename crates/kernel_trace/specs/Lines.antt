@@ -16,6 +16,6 @@ lines_of labels = flat_map ended labels
 abbrev pub PutsFront : Option (List ℕ) → Option (List ℕ) → List ℕ → List ℕ → Type 0
 PutsFront old new held rest = (front : List ℕ) × Grows old new front × (held ≡ front ++ rest)
 
--- the count of failures grew, or stands at its end
+-- the count of failures grew, or is at its end
 abbrev pub Failed : ℕ → ℕ → Type 0
 Failed old new = (old < new) ⊎ (new ≡ 2 ^ 64 - 1)

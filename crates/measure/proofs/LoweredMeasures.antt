@@ -49,7 +49,7 @@ first-unwritten t rest (x ∷ more) none =
       ap (λ (b : Bool). b || are_written rest more) own.1 ∙ others.1,
     )
 
--- what each register behind is, where those that are not written stay
+-- what each register is after it, where those that are not written stay
 abbrev Leaves : List Register → (ℕ → Form) → Type 0
 Leaves written value_of = (register : ℕ) → is_written written register ≡ false → value_of register ≡ variable_form register
 
@@ -115,7 +115,7 @@ unwritten-falls m written value_of before behind leaves none =
     (same-forms written value_of (constant_form (m.constant -ℤ pos 1)) m.terms leaves none)
     ∙ ap (λ (z : ℤ). int_lt z (pos 0)) (greatest-none before behind (change m) (change-coefficient m) ∙ change-constant m)
 
--- ---- behind an instruction, and behind a call
+-- ---- after an instruction, and after a call
 
 of-destination : (written : Option Register) (value : ℕ → Form) → Leaves (option_to_list written) (λ register. if is_register written register then value register else variable_form register)
 of-destination None value register none = refl

@@ -1,4 +1,4 @@
--- The measure of the rules that a measure of the code stands for.
+-- The measure of the rules that a measure of the code represents.
 use Rattle.std.specs.Prelude.{take}
 use Rattle.model.specs.Acceptance.Measures.{Measure}
 use Rattle.measure.specs.declared.measures.Measure.{Measure as Kept}

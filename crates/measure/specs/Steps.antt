@@ -1,4 +1,4 @@
--- What registers become behind an instruction, by what the code keeps of it.
+-- What registers become after an instruction, by what the code keeps of it.
 use Rattle.std.specs.Prelude.{ℕ, ◌==◌, if◌then◌else◌}
 use Rattle.std.specs.Option.{option_map_or}
 use Rattle.model.specs.Acceptance.Measures.{Form, variable_form}

@@ -1,4 +1,4 @@
--- The linear form that a value of the code stands for.
+-- The linear form that a value of the code represents.
 use Rattle.std.specs.Prelude.{pos}
 use Rattle.model.specs.Acceptance.Measures.{Form, before_form, constant_form, difference_form, fresh, sum_form, variable_form}
 use Rattle.measure.specs.declared.values.Value.{Value}

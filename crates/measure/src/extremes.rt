@@ -26,7 +26,7 @@ pub fn least(measure: &Measure, bounds: &Bounds) -> i128
     )
 }
 
-/// Whether the measure behind an edge is always less than the one before it.
+/// Whether the measure after an edge is always less than the one before it.
 #[tactic(auto, unfolding(model::specs::Acceptance::Measures::falls))]
 pub fn falls<S: Step>(
     from: &Measure,
@@ -44,7 +44,7 @@ pub fn falls<S: Step>(
     greatest(&change, before, behind) < 0
 }
 
-/// Whether the measure behind an edge is never above a budget.
+/// Whether the measure after an edge is never above a budget.
 #[tactic(auto, unfolding(model::specs::Acceptance::Measures::stays_below))]
 pub fn stays_below<S: Step>(
     budget: u64,
@@ -167,7 +167,7 @@ fn wide_product(coefficient: i64, word: u32) -> i128
     i128::from(coefficient) * i128::from(word)
 }
 
-/// The range of a variable on an edge, by the ranges before and behind it.
+/// The range of a variable on an edge, by the ranges before and after it.
 fn range_at(before: &Bounds, behind: &Bounds, variable: u32) -> Range
     requires { variable < 64 }
     ensures { result ≡ range_at before.now behind.now variable }

@@ -30,7 +30,7 @@ pub(crate) trait Linear {
         ensures { (variable : ℕ) → variable < 64 → is_named result variable ≡ false → (form self.now).coefficient variable ≡ pos 0 };
 }
 
-/// A measure behind a step, over the registers before it.
+/// A measure after a step, over the registers before it.
 #[derive(Drop)]
 pub(crate) struct Behind<'a, S: Step> {
     pub(crate) measure: &'a Measure,
@@ -59,7 +59,7 @@ impl<'a, S: Step> Linear for Behind<'a, S> {
     }
 }
 
-/// How much a measure behind a step is above one before it.
+/// How much a measure after a step is above one before it.
 #[derive(Drop)]
 pub(crate) struct Change<'a, S: Step> {
     pub(crate) before: &'a Measure,
@@ -90,7 +90,7 @@ impl<'a, S: Step> Linear for Change<'a, S> {
     }
 }
 
-/// Whether a measure counts no variable, behind any step.
+/// Whether a measure counts no variable, after any step.
 fn counts_none<S: Step>(measure: &Measure, step: &S) -> bool
     ensures { (variable : ℕ) → result ≡ true → (substituted (measure_of measure.now) (S.value_of step.now)).coefficient variable ≡ pos 0 }
 {
@@ -98,7 +98,7 @@ fn counts_none<S: Step>(measure: &Measure, step: &S) -> bool
     measure.is_constant()
 }
 
-/// The variables that a measure counts behind a step.
+/// The variables that a measure counts after a step.
 fn add_terms<S: Step>(measure: &Measure, step: &S, named: &mut Variables)
     ensures { (variable : ℕ) → variable < 64 → is_named named.new variable ≡ false
         → (is_named named.old variable ≡ false) × ((substituted (measure_of measure.now) (S.value_of step.now)).coefficient variable ≡ pos 0) }
@@ -109,7 +109,7 @@ fn add_terms<S: Step>(measure: &Measure, step: &S, named: &mut Variables)
     }
 }
 
-/// The constant of a measure behind a step.
+/// The constant of a measure after a step.
 pub(crate) fn constant_of<S: Step>(measure: &Measure, step: &S) -> i128
     ensures value { result ≡ (substituted (measure_of measure.now) (S.value_of step.now)).constant }
     ensures small { IsSmall (2 ^ 98 + 2 ^ 64) result }
@@ -122,7 +122,7 @@ pub(crate) fn constant_of<S: Step>(measure: &Measure, step: &S) -> i128
     sum
 }
 
-/// The coefficient of a variable in a measure behind a step.
+/// The coefficient of a variable in a measure after a step.
 fn coefficient_of<S: Step>(measure: &Measure, step: &S, variable: u32) -> i64
     ensures value { result ≡ (substituted (measure_of measure.now) (S.value_of step.now)).coefficient variable }
     ensures small { IsSmall (2 ^ 42) result }

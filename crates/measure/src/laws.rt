@@ -9,13 +9,13 @@ ghost use Rattle.model.specs.declared.instructions.Instr.{Instr};
 ghost use Rattle.model.specs.declared.instructions.Register.{Register};
 ghost use Rattle.model.specs.declared.ranges.Range.{Range};
 
-/// A measure of which an instruction writes no register falls behind it, where it is lowered by 1.
+/// A measure of which an instruction writes no register falls after it, where it is lowered by 1.
 pub fn unwritten_measures_fall()
     ensures { (m : Measure) (instr : Instr) (before behind : List Range) → option_map_or (λ rd. has_term m rd.0) (destination instr) false ≡ false
         → falls m (lowered m (pos 1)) (behind_form instr before behind) before behind ≡ true }
 {}
 
-/// A measure of which a system call writes no register falls behind it, where it is lowered by 1.
+/// A measure of which a system call writes no register falls after it, where it is lowered by 1.
 pub fn measures_fall_behind_calls()
     ensures { (m : Measure) (written : List Register) (before behind : List Range) → list_any (λ x. has_term m x.0) written ≡ false
         → falls m (lowered m (pos 1)) (call_form written) before behind ≡ true }

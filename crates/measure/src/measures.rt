@@ -15,7 +15,7 @@ pub struct Measure {
     ghost few: { count ≤ 4 },
 }
 
-/// What stands behind the last term.
+/// What follows the last term.
 const NO_TERM: TermEntry = TermEntry {
     register: 0,
     coefficient: 0,

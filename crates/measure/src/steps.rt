@@ -49,7 +49,7 @@ pub struct AfterInstruction {
 impl AfterInstruction {
     ghost use Rattle.measure.specs.Steps.{value_behind};
 
-    /// Behind this instruction, with the ranges before and behind it.
+    /// After this instruction, with the ranges before and after it.
     pub fn new(instr: Instr, before: &Bounds, behind: &Bounds) -> Self
         requires { IsInstr instr }
         ensures { (register : ℕ) → value_behind result register ≡ behind_form instr before.now behind.now register }

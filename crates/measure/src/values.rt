@@ -1,11 +1,11 @@
-//! What a register is behind an edge, by the registers before it.
+//! What a register is after an edge, by the registers before it.
 
 ghost use Rattle.std.specs.Prelude.{◌≡◌, ◌≤ℤ◌, ◌+ℤ◌, ◌-ℤ◌, ◌^◌, if◌then◌else◌, negsuc, pos};
 ghost use Rattle.measure.specs.Values.{form_of};
 
 use model::Register;
 
-/// What a register is behind an edge.
+/// What a register is after an edge.
 #[derive(Clone, Copy)]
 pub enum Value {
     /// What this register was before it.

@@ -16,7 +16,7 @@ use model::{FaultKind, KError, LookupFailure, Outcome, Register, SendCall};
 use objects::{Fault, Status};
 use slots::SlotStore;
 
-/// A thread goes on behind its call.
+/// A thread goes on after its call.
 pub(crate) fn pass<S: SlotStore>(kernel: &mut Kernel<S>, thread: u32)
     requires there { kind_at (state_in S.slots S.memory kernel.old) thread ≡ Some NewThread }
     ensures state { state_in S.slots S.memory kernel.new

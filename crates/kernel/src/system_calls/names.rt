@@ -15,7 +15,7 @@ use cspace::called_slot;
 use model::{Cap, LookupFailure, Register, Slot};
 use slots::SlotStore;
 
-/// The root of a thread's capability space, which stands in its slot 0.
+/// The root of a thread's capability space, which is in its slot 0.
 #[tactic(auto, unfolding(objects::specs::Tables::state_of))]
 pub(crate) fn cspace_of<S: SlotStore>(kernel: &Kernel<S>, thread: u32) -> Cap
     requires { kind_at (state_in S.slots S.memory kernel.now) thread ≡ Some NewThread }

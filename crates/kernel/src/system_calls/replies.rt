@@ -20,7 +20,7 @@ pub(crate) fn reply<S: SlotStore>(kernel: &mut Kernel<S>, thread: u32)
     ipc::reply(&mut kernel.store, &mut kernel.objects.objects, thread);
 }
 
-/// A thread goes on behind its call, at the tail of its priority.
+/// A thread goes on after its call, at the tail of its priority.
 pub(crate) fn give_way<S: SlotStore>(kernel: &mut Kernel<S>, thread: u32)
     requires runs { IsRunning (state_in S.slots S.memory kernel.old) thread }
     ensures state { state_in S.slots S.memory kernel.new

@@ -54,7 +54,7 @@ may-call o slots memory call whole is_call =
       nodes = sound-nodes s whole.sound;
     }
 
--- what is no CNode stands in the slot of the call
+-- what is no CNode is in the slot of the call
 pub held-at : (o : Tables) (slots : Slots) (memory : List ℕ) (call : Call) (c : Cap) → IsCall (state_of o slots memory) call → call.capability ≡ c → cnode_of c ≡ None
     → capability_at slots call.slot ≡ c
 unfolding state_of

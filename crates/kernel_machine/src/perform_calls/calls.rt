@@ -1,8 +1,8 @@
-//! What stands around a call on a capability.
+//! The context of a call on a capability.
 
 use model::{Cap, Slot};
 
-/// What stands around a call on a capability: the root of the capability space in which it names slots,
+/// The context of a call on a capability: the root of the capability space in which it names slots,
 /// the thread that calls (nobody, where the system is set up), and the slot with the capability that it
 /// is made on.
 #[derive(Clone, Copy)]

@@ -1,4 +1,4 @@
--- Who runs stands inside memory, and its handler is an endpoint that is there.
+-- Who runs lies inside memory, and its handler is an endpoint that is there.
 use Rattle.std.proofs.Common.{◌∙◌, sym, ap, option_map}
 use Rattle.faults.proofs.EndpointsThere.{handler-there}
 use Rattle.faults.proofs.ThreadsInside.{thread-inside}

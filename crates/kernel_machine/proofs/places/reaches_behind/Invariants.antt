@@ -1,4 +1,4 @@
--- No slot so far names memory that ends behind the offset: who does stands behind the last one.
+-- No slot so far names memory that ends after the offset: one that does comes after the last one.
 use Rattle.std.proofs.Common.{ℕ, ◌≡◌, Some, length, nat_lt}
 use Rattle.cnode_ops.proofs.Laws.{AreBehind}
 use Rattle.kernel_machine.proofs.places.reaches_behind.Given as goal

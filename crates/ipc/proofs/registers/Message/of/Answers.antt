@@ -1,4 +1,4 @@
--- All eight registers are read, and the length tells which of them count.
+-- All eight registers are read, and the length says which of them count.
 use Rattle.std.proofs.Common.{ℕ, ◌∙◌, ◌%◌, ◌/◌, min, [], ◌∷◌, take, ap, sym}
 use Rattle.ipc.proofs.Words.{words-read}
 use Rattle.ipc.proofs.registers.Message.of.Goals as goal

@@ -1,4 +1,4 @@
--- A thread stands in memory, and its capability space is what its first slot holds.
+-- A thread lies in memory, and its capability space is what its first slot holds.
 use Rattle.cnode_ops.specs.object_lifetimes.Kernels.{state_in}
 use Rattle.model.specs.Capabilities.Slots.{capability_at}
 use Rattle.model.specs.Kernel.Soundness.{IsSound}

@@ -1,4 +1,4 @@
--- The boot area is opened in memory where nothing stands.
+-- The boot area is opened in memory where nothing is.
 use Rattle.std.proofs.Common.{◌≡◌, ◌^◌, ◌∙◌, ℕ, List, length, sym, ap, arith}
 use Rattle.std.proofs.lemmas.List.{length-replicate}
 use Rattle.kernel_machine.proofs.Fresh.{boot-count, boot-fits, boot-whole, fresh-state}

@@ -1,4 +1,4 @@
--- Interrupt control stands in the slot of the call.
+-- Interrupt control is in the slot of the call.
 use Rattle.std.proofs.Common.{refl}
 use Rattle.kernel_machine.proofs.perform_calls.Roots.{held-at}
 use Rattle.kernel_machine.proofs.perform_calls.interrupt_calls.on_control.Goals as goal
