@@ -15,7 +15,7 @@ use ipc::deliver_word;
 use objects::{Objects, Status};
 use slots::SlotStore;
 
-/// A thread waits behind the others at a notification.
+/// A thread waits after the others at a notification.
 fn wait_for_signal<S: SlotStore>(
     store: &mut S,
     objects: &mut Objects,

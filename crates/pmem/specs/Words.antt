@@ -1,4 +1,4 @@
--- Words of memory, one behind the other.
+-- Words of memory, one after the other.
 use Rattle.std.specs.Prelude.{ℕ, zero, suc, ◌+◌, List, [], ◌∷◌}
 use Rattle.std.specs.List.{flat_map}
 use Rattle.model.specs.Shared.Bytes.{word_at, word_bytes}

@@ -57,7 +57,7 @@ impl Mem {
         self.bytes[place]
     }
 
-    /// The little-endian number in the four bytes from `offset` on. They may stand at any offset.
+    /// The little-endian number in the four bytes from `offset` on. They may lie at any offset.
     pub fn read32(&self, offset: u32) -> u32
         requires { offset + 4 ≤ length self.now }
         ensures { result ≡ word_at self.now offset }
@@ -65,7 +65,7 @@ impl Mem {
         LittleEndian::read_u32(&self.bytes[offset as usize..])
     }
 
-    /// Reads as many little-endian numbers of four bytes as there is room for, one behind the other, from `offset` on.
+    /// Reads as many little-endian numbers of four bytes as there is room for, one after the other, from `offset` on.
     pub fn read_words(&self, offset: u32, words: &mut [u32])
         requires { offset + 4 * length words.old ≤ length self.now }
         ensures { words.new ≡ words_at self.now offset (length words.old) }
@@ -95,7 +95,7 @@ impl Mem {
         self.bytes[start..start + 4].copy_from_slice(&piece);
     }
 
-    /// Writes numbers into four bytes each, one behind the other, from `offset` on, the lowest byte of each first.
+    /// Writes numbers into four bytes each, one after the other, from `offset` on, the lowest byte of each first.
     pub fn write_words(&mut self, offset: u32, words: &[u32])
         requires { offset + 4 * length words.now ≤ length self.old }
         ensures bytes { self.new ≡ written self.old offset (words_bytes words.now) }

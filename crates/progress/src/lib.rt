@@ -1,4 +1,4 @@
-//! How far a long request is, told from time to time.
+//! How far a long request is, reported from time to time.
 #![tactic(auto)]
 
 mod stages;

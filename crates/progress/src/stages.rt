@@ -5,7 +5,7 @@ use std::alloc::{AllocError, Global};
 /// What a request has come to.
 #[derive(Clone, Copy, Debug, PartialEq, Eq)]
 pub enum Stage {
-    /// The image of a text stands.
+    /// The image of a text is built.
     Built,
     /// Certificates of all threads are found.
     Found,
@@ -21,7 +21,7 @@ pub enum Stage {
 }
 
 impl Stage {
-    /// The line that tells it, so many seconds after the request.
+    /// The line that reports it, so many seconds after the request.
     pub(crate) fn line(self, alloc: Global, seconds: u64) -> Result<String, AllocError> {
         match self {
             Stage::Built => format!(in alloc; ".. {seconds} s: image built\n"),

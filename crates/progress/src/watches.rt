@@ -1,11 +1,11 @@
-//! Who is told how far a request is.
+//! Reports of how far a request is.
 
 use crate::stages::Stage;
 use sinks::{Sink, put_all};
 use std::alloc::Global;
 use std::time::{Clock, Instant};
 
-/// Whoever is told how far a request is.
+/// Whoever gets reports of how far a request is.
 pub trait Progress {
     /// Takes notice of what a request has come to.
     fn reach(&mut self, stage: Stage);
@@ -32,7 +32,7 @@ pub struct Told<'c, 'e, C: Clock, E: Sink> {
     alloc: Global,
     clock: &'c C,
     errors: &'e mut E,
-    /// When the request began. Without a clock nothing is told.
+    /// When the request began. Without a clock nothing is reported.
     began: Option<Instant>,
     /// How many seconds had passed at the last line.
     told: u64,

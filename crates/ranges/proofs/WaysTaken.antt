@@ -22,7 +22,7 @@ use Rattle.ranges.specs.Standing.{AreWords, StandsOn, TakesWay, is_computed_jump
 use Rattle.ranges.proofs.BranchedRegisters.{branch_kept}
 use Rattle.ranges.proofs.Written.{instruction-keeps, jump-keeps}
 
--- ---- where the pc stands
+-- ---- where the pc is
 
 behind-written : (r : RegisterFile) (x : Register) (value : ℕ) → ((write r x value).pc + 4) % 2 ^ 32 ≡ behind r.pc
 behind-written r x value = elim (x.0 == 0) as (λ b. ((if b then r else record r { words = slice_set r.words x.0 value }).pc + 4) % 2 ^ 32 ≡ behind r.pc) [

@@ -1,4 +1,4 @@
--- An instruction that goes on keeps the registers in the ranges behind it, so what it writes lies in its range.
+-- An instruction that goes on keeps the registers in the ranges after it, so what it writes lies in its range.
 use Rattle.std.proofs.Common.{ℕ, zero, suc, ◌≡◌, ◌∙◌, ◌==◌, ◌&&◌, ◌-◌, ◌%◌, ◌^◌, ◌<◌, Bool, true, false, if◌then◌else◌, List, [], ◌∷◌, length, get_or, map, Result, Ok, Err, Some, ap, subst, arith}
 use Rattle.std.specs.Int.{byte_len, from_le_bytes}
 use Rattle.std.proofs.lemmas.Bool.{and_parts}

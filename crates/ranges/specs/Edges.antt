@@ -1,4 +1,4 @@
--- The ways on from an instruction, as the code has them: where each leads, and the ranges behind it.
+-- The ways on from an instruction, as the code has them: where each leads, and the ranges after it.
 use Rattle.std.specs.Prelude.{option_map}
 use Rattle.model.specs.Acceptance.Edges.{Edge, Edges}
 use Rattle.ranges.specs.declared.edges.Edge.{Edge as Way}

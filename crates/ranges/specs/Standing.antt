@@ -1,4 +1,4 @@
--- Where a machine stands behind an instruction.
+-- Where a machine is after an instruction.
 use Rattle.std.specs.Prelude.{ℕ, ◌≡◌, ◌⊎◌, ◌<◌, ◌^◌, Bool, true, false, Option, Some, None, length}
 use Rattle.model.specs.declared.instructions.Instr.{Instr}
 use Rattle.model.specs.declared.instructions.Instr.TheVariants.{Jalr}

@@ -115,7 +115,7 @@ fn branch_edge(target: u32, bounds: Option<Bounds>) -> Option<Edge>
     Some(Edge { target, bounds })
 }
 
-/// The ranges behind the instruction at `pc`, which is no branch: the register that it writes gets the range of its
+/// The ranges after the instruction at `pc`, which is not a branch: the register that it writes gets the range of its
 /// result.
 #[tactic(auto, unfolding(model::specs::Acceptance::RangeRules::ranges_after))]
 fn ranges_after(pc: u32, instr: Instr, bounds: &Bounds) -> Bounds

@@ -129,11 +129,11 @@ module _ (s : State) (sound : IsSound s) where
     ]
   ]
 
-  -- no object stands in the boot area
+  -- no object lies in the boot area
   pub behind-boot : (o y : ℕ) → Holder o y → boot_area_slots s.boot_radix ≤ y
   behind-boot o y h = let place = sound.memory.inside h.1 _ (piece-named _ h.0 o h.2) in omega (arith, place.0, h.3)
 
-  -- and none behind the end of memory
+  -- and none beyond the end of memory
   -- and all its slots are in memory
   pub in-memory-whole : (o y : ℕ) → Holder o y → y < 2 ^ s.memory_bits / 16
   in-memory-whole o y h = let place = sound.memory.inside h.1 _ (piece-named _ h.0 o h.2) in let low : 16 * y + 16 ≤ 2 ^ s.memory_bits = omega (arith, place.1, h.3, h.4) in omega (arith, low)

@@ -38,7 +38,7 @@ boot-near radix bits slot room least less =
     let large : 2 ^ 16 ≤ 2 ^ bits = pow_mono least in
     omega (arith, split, wide, large, less)
 
--- a slot of an object, and where it stands
+-- a slot of an object, and where it lies
 slot-near : (s : State) → IsSound s → (y : ℕ) → HasSlot s y → y < 2 ^ s.memory_bits / 16
 slot-near s sound y (of_boot_area early) = boot-near s.boot_radix s.memory_bits y sound.shape.room sound.shape.least_bits early
 slot-near s sound y (of_object o inner) = in-memory-whole s sound o y (holder s sound o y inner)

@@ -34,7 +34,7 @@ settled s = fold wake (without_strays s) (filter (is_stranded s) (thread_places 
 abbrev pub slots_from : State → ℕ → ℕ
 slots_from s n = slot_count (s.objects (16 * n))
 
--- what settling relies on: objects with slots stand in memory and apart, and open slots without an object are empty
+-- what settling relies on: objects with slots lie in memory and apart, and open slots without an object are empty
 pub record MaySettle (s : State) : Type 0 where
   pub inside : (n : ℕ) → slots_from s n ≢ 0 → n + slots_from s n ≤ 2 ^ s.memory_bits / 16
   pub boot : (n : ℕ) → slots_from s n ≢ 0 → boot_area_slots s.boot_radix ≤ n

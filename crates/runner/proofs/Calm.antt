@@ -23,7 +23,7 @@ use Rattle.model.specs.Images.Image.{Sections, anything, below, between, capabil
 abbrev refused : {A : Type 0} → Refusal → Result A Refusal
 refused refusal = Err refusal
 
--- a result that is no want of memory
+-- a result that is not out of memory
 abbrev IsNoWant : {A : Type 0} → Result A Refusal → Type 0
 IsNoWant {A} r = ◌≡◌ {A = Result A Refusal} r (Err OutOfMemory) → ⊥
 
@@ -45,7 +45,7 @@ cond_calm : {A : Type 0} (b : Bool) (r s : Result A Refusal) → IsNoWant r → 
 cond_calm true r s one other = one
 cond_calm false r s one other = other
 
--- the refusals that reading tells
+-- the refusals that reading gives
 truncated_calm : {A : Type 0} (at : ℕ) → IsNoWant (refused {A = A} (Truncated at))
 truncated_calm at h = absurd (let clash : Truncated at ≡ OutOfMemory = cc h in cc)
 

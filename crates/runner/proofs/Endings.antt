@@ -1,4 +1,4 @@
--- What is known of a run by its end: behind its lines it has no other fault than that of its sink, and before them not this one.
+-- What is known of a run by its end: after its lines it has no other fault than that of its sink, and before them not this one.
 use Rattle.std.proofs.Common.{◌≡◌, ◌≢◌, ◌∙◌, Result, Ok, Err, refl, subst, sym}
 use Rattle.std.specs.Prelude.{IfErr, OnErr, OnOk}
 use Rattle.model.specs.declared.boot_faults.BootFault.{BootFault}
@@ -31,7 +31,7 @@ fault-is {T} r fault told other is same also =
     let one : fault ≡ other = cc both in
     sym same ∙ one
 
--- what a refusal is not told as
+-- what a refusal is not reported as
 pub record RefusalTells (refusal : Refusal) : Type 0 where
   pub no-output : fault_of refusal ≢ Output
   pub no-boot : (fault : BootFault) → fault_of refusal ≢ Boot fault
@@ -55,7 +55,7 @@ pub refusal-tells : (refusal : Refusal) → RefusalTells refusal
 refusal-tells refusals.OutOfMemory = want-tells
 refusal-tells refusal = other-tells refusal (λ is. cc is) refl
 
--- what a fault of booting is not told as
+-- what a fault of booting is not reported as
 pub record BootTells (fault : BootFault) : Type 0 where
   pub no-output : boot_fault_of fault ≢ Output
   pub no-refusal : (refusal : Refusal) → boot_fault_of fault ≢ Refused refusal

@@ -1,4 +1,4 @@
--- A run tells the refusal of an image that cannot be read as it is.
+-- A run reports the refusal of an image that cannot be read as it is.
 use Rattle.std.proofs.Common.{◌≡◌, ◌∙◌, List, ℕ, Result, Ok, Err, refl, ap}
 use Rattle.std.specs.Prelude.{IfErr}
 use Rattle.model.specs.Images.Format.{reading}

@@ -12,7 +12,7 @@ use Rattle.sinks.specs.Sinks.{Grows, GrowsByBeginning}
 use Rattle.runner.specs.declared.running.RunFault.{RunFault}
 use Rattle.runner.specs.declared.running.RunFault.TheVariants.{Boot, Refused, OutOfMemory}
 
--- a refusal for want of memory is told as such
+-- a refusal as out of memory is reported as such
 abbrev pub fault_of : Refusal → RunFault
 fault_of refusals.OutOfMemory = OutOfMemory
 fault_of other = Refused other

@@ -121,7 +121,7 @@ impl From<RunFault> for Failure<'_> {
     }
 }
 
-/// Carries out what the words behind the program's name ask for, and answers the exit status.
+/// Carries out what the words after the program's name ask for, and answers the exit status.
 pub fn command<R: Files + AllocGlobal, S: AsStr, W: Sink, E: Sink>(
     rt: &R,
     words: &[S],

@@ -1,5 +1,5 @@
 //! Runs of system images: an image is verified and booted, and each event puts a line in a sink. The
-//! commands of the program stand on it.
+//! commands of the program are built on it.
 #![tactic(auto)]
 
 mod building;

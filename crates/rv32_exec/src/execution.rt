@@ -99,7 +99,7 @@ fn address(regs: &Regs, rs1: Register, offset: i32) -> u32
     regs.read(rs1).wrapping_add(offset.cast_unsigned())
 }
 
-/// Goes on behind the instruction.
+/// Goes on after the instruction.
 fn advance(regs: &mut Regs) -> Exec
     ensures outcome { result ≡ Exec.Next }
     ensures registers { regs.new ≡ advanced regs.old }
@@ -109,7 +109,7 @@ fn advance(regs: &mut Regs) -> Exec
     Exec::Next
 }
 
-/// Writes a register and goes on behind the instruction.
+/// Writes a register and goes on after the instruction.
 fn write_register(regs: &mut Regs, rd: Register, value: u32) -> Exec
     requires { IsRegister rd }
     ensures outcome { result ≡ Exec.Next }

@@ -53,7 +53,7 @@ fn upper(op: UpperOp, word: u32) -> Instr
     }
 }
 
-/// JAL (2.5). The offset's bits stand in the order 20, 10 to 1, 11, 19 to 12.
+/// JAL (2.5). The offset's bits are in the order 20, 10 to 1, 11, 19 to 12.
 fn jal(word: u32) -> Instr
     requires { bits word 0 7 ≡ 0x6F }
     ensures value { result ≡ decoded_jal word }
@@ -99,7 +99,7 @@ fn branch(word: u32) -> Option<Instr>
     })
 }
 
-/// The offset of a branch, whose bits stand in the order 12, 10 to 5, and 4 to 1, 11.
+/// The offset of a branch, whose bits are in the order 12, 10 to 5, and 4 to 1, 11.
 fn branch_offset(word: u32) -> i32
     ensures value { result ≡ b_offset word }
     ensures range { IsBranchOffset result }

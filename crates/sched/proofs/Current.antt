@@ -22,7 +22,7 @@ unfolding first_below
 first-of zero ready thread is = absurd (let clash : None ≡ Some thread = is in cc)
 first-of (suc n) ready thread is = first-step n ready thread (head_of (ready n)) (first_below n ready) refl (first-of n ready thread) is
 
--- so it stands there
+-- so it is there
 
 head-counts : (threads : List ℕ) (thread : ℕ) → head_of threads ≡ Some thread → 1 ≤ times_in threads thread
 head-counts [] thread is = absurd (let clash : None ≡ Some thread = is in cc)
@@ -31,7 +31,7 @@ head-counts (t ∷ rest) thread is =
     let more : times_in (t ∷ rest) thread ≡ times_in rest thread + 1 = ap (λ b. if b then times_in rest thread + 1 else times_in rest thread) (eq-eqb t thread same) in
     omega (arith, more)
 
--- and who stands there is a thread
+-- and who is there is a thread
 
 abbrev times-ready : Option Object → ℕ → ℕ
 times-ready o priority = if option_map_or (λ t. is_runnable t.status && t.priority == priority) (as_thread o) false then 1 else 0

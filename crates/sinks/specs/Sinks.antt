@@ -23,7 +23,7 @@ took_nothing (byte ∷ bytes) (Ok count) = count == 0
 abbrev pub one_more : ℕ → ℕ
 one_more failures = min (failures + 1) (2 ^ 64 - 1)
 
--- the count behind a piece
+-- the count after a piece
 abbrev pub failures_after : List ℕ → Result ℕ SinkFault → ℕ → ℕ
 failures_after piece result failures = if took_nothing piece result then one_more failures else failures
 

@@ -11,12 +11,12 @@ pub struct Budgets {
     pub lines: Vec<u64>,
 }
 
-/// Whether a line begins a thread whose budget is to be found: the word `auto` stands in place of the number.
+/// Whether a line begins a thread whose budget is to be found: the word `auto` is in place of the number.
 pub fn has_automatic_budget(line: &str) -> bool {
     word_at(line, 0) == Some("thread") && word_at(line, 6) == Some("auto")
 }
 
-/// Puts the line of such a thread behind a text, with the budget 1.
+/// Puts the line of such a thread after a text, with the budget 1.
 fn put_thread(text: &mut String, line: &str) -> Result<(), AllocError> {
     for place in 0..10 {
         let word = word_at(line, place).unwrap_or("");
@@ -26,7 +26,7 @@ fn put_thread(text: &mut String, line: &str) -> Result<(), AllocError> {
     Ok(())
 }
 
-/// The text with the budget 1 for each one that is to be found. Its lines stand where they stood.
+/// The text with the budget 1 for each one that is to be found. Its lines are where they were.
 pub fn with_budgets(alloc: Global, text: &str) -> Result<Budgets, AllocError> {
     let mut budgets = Budgets {
         text: String::new(alloc),

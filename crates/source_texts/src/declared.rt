@@ -1,4 +1,4 @@
-//! What a text declares, with the lines that it stands on. Numbers count what stands in the text from 0.
+//! What a text declares, with the lines that it is on. Numbers count what is in the text from 0.
 
 use crate::source_threads::SourceThread;
 
@@ -127,7 +127,7 @@ impl<'a> SourceText<'a> {
         }
     }
 
-    /// What stands in a slot of a CNode.
+    /// What is in a slot of a CNode.
     pub fn capability(&self, cnode: usize, index: u32) -> Option<CapabilityLine> {
         for capability in &self.capabilities {
             if capability.cnode == cnode && capability.index == index {

@@ -1,4 +1,4 @@
-//! What the text of an image declares, by its names and the lines that it stands on.
+//! What the text of an image declares, by its names and the lines that it is on.
 #![tactic(auto)]
 
 mod automatic;

@@ -1,11 +1,11 @@
-//! The words of a line, and what names stand for.
+//! The words of a line, and what names mean.
 
 use crate::faults::TextFault;
 use asm_line::Name;
 use indexmap::IndexMap;
 use std::alloc::Global;
 
-/// What a name stands for, by its number among those of its sort.
+/// What a name means, by its number among those of its sort.
 #[derive(Clone, Copy, Debug, PartialEq, Eq)]
 pub(crate) enum Named {
     Untyped(usize),
@@ -25,7 +25,7 @@ fn parts_words(character: char) -> bool {
     character == ' ' || character == '\t' || character == ','
 }
 
-/// A word of a line by its place, counted from 0. What stands behind `#` is no word.
+/// A word of a line by its place, counted from 0. What follows `#` is not a word.
 pub fn word_at(line: &str, place: usize) -> Option<&str> {
     let said = match line.split_once('#') {
         Some((said, _)) => said,
@@ -68,7 +68,7 @@ impl<'a> Names<'a> {
         Ok(text)
     }
 
-    /// What a name stands for.
+    /// What a name means.
     pub(crate) fn named(&self, name: &Name<'a>) -> Result<Named, TextFault> {
         match self.names.get(name.text()) {
             Some(named) => Ok(*named),

@@ -9,7 +9,7 @@ use crate::sizes::{GREAT_PAGE_BITS, MEMORY_BASE, PAGE_BITS, TABLE_ENTRIES};
 use model::{Access, PageFault};
 use pmem::Mem;
 
-/// The place of a physical address in memory, if it does not stand before memory.
+/// The place of a physical address in memory, if it does not lie before memory.
 pub fn place_of(physical: u64) -> Option<u64>
     ensures { result ≡ place_of physical }
 {

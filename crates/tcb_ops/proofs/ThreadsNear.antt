@@ -1,4 +1,4 @@
--- A thread whose capability some slot holds is there, and its slots stand in memory.
+-- A thread whose capability some slot holds is there, and its slots lie in memory.
 use Rattle.std.proofs.Common.{ℕ, ◌≡◌, ◌+◌, ◌/◌, ◌^◌, ◌<◌, ◌≤◌, List, Some, ap, arith, subst, sym}
 use Rattle.std.proofs.Math.Pow.{pow_mono}
 use Rattle.kernel_invariant.specs.Wholeness.{IsWhole}

@@ -38,7 +38,7 @@ pub fn set_priority<S: SlotStore>(
     Ok(())
 }
 
-/// The registers with one of them set. Register 0 stands for the pc.
+/// The registers with one of them set. Register 0 means the pc.
 fn with_register(registers: Regs, index: u32, value: u32) -> Regs
     requires { index ≤ 31 }
     ensures { result ≡ (if index == 0 then record registers { pc = value } else write registers (register index) value) }

@@ -1,4 +1,4 @@
--- As many low bits are 1 as the number has behind its leading zeros.
+-- As many low bits are 1 as the number has after its leading zeros.
 use Rattle.std.proofs.Common.{ℕ, ap, sym}
 use Rattle.model.specs.Acceptance.RangeRules.{ones_above, ones_within}
 use Rattle.ranges.proofs.Ones.{ones-cover, ones-shifted}

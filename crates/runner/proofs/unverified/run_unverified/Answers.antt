@@ -1,4 +1,4 @@
--- What cannot be read is told as it is, what does not boot is no refusal, and behind the lines there is no other fault than the sink's.
+-- What cannot be read is reported as it is, what does not boot is no refusal, and after the lines there is no other fault than the sink's.
 use Rattle.std.proofs.Common.{◌≡◌, ◌∙◌, sym}
 use Rattle.std.proofs.lemmas.Result.{err_from_is_err_and}
 use Rattle.kernel_machine.specs.Setups.{state_in}
