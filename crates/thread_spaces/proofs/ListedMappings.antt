@@ -183,7 +183,7 @@ module _ (image : Image) (t : Thread) (fits : whole_image.fits image ≡ true) (
   enough : boot_slots image ≤ 2 ^ image.header.boot_radix
   enough = boot-slots-suffice image (is-fitting image fits) (are-formed image well)
 
-  -- a boot slot stands outside of the thread's CNodes, and is one of memory's
+  -- a boot slot lies outside of the thread's CNodes, and is one of memory's
   boot-outside : (slot : ℕ) → slot < 2 ^ image.header.boot_radix → is_none (key_of image (reached image t) slot) ≡ true
   boot-outside slot less = ap is_none (boot-not-own image t (is-fitting image fits) (are-formed image well) listed slot (omega (arith, less)))
 

@@ -1,4 +1,4 @@
--- Where the CNodes of a thread stand: apart from one another, in memory, and behind the boot area.
+-- Where the CNodes of a thread lie: apart from one another, in memory, and after the boot area.
 use Rattle.std.proofs.Common.{ℕ, ◌≡◌, ◌∙◌, ◌+◌, ◌-◌, ◌*◌, ◌/◌, ◌^◌, ◌<◌, ◌≤◌, ◌==◌, ◌||◌, Bool, true, false, if◌then◌else◌, Option, Some, None, option_map, List, [], ◌∷◌, refl, sym, ap, arith}
 use Rattle.std.specs.List.{find}
 use Rattle.std.specs.Prelude.{option_and_then}
@@ -39,7 +39,7 @@ object-slot : (image : Image) (cnode slot : ℕ) → IsCNode image cnode → sta
 object-slot image cnode slot is there =
     ap (λ (count : ℕ). is_within (slot_of (offset_of image cnode) 0) count slot) (sym (count-of (type_at image cnode) is.radix is.is)) ∙ there
 
--- ---- the CNode that a slot stands in
+-- ---- the CNode that a slot lies in
 
 pub record IsFound (test : ℕ → Bool) (numbers : List ℕ) (number : ℕ) : Type 0 where
   pub member : is_member number numbers ≡ true

@@ -17,7 +17,7 @@ use Rattle.model.specs.Images.Image.{Image, whole_image}
 use Rattle.model.specs.Images.Places.{bits_of, object_at, offset_of, untyped_at, used_before, used_by}
 use Rattle.thread_spaces.specs.Given.{AreOffsets}
 
--- ---- where an object stands
+-- ---- where an object lies
 
 pub place-is : (image : Image) (number : ℕ) → offset_of image number ≡ (untyped_at image (object_at image number).untyped).offset + align (used_before image number) (2 ^ bits_of (object_at image number))
 unfolding offset_of

@@ -1,4 +1,4 @@
--- The root table of a thread of a well-formed image stands at a page.
+-- The root table of a thread of a well-formed image lies at a page.
 use Rattle.std.proofs.Common.{ℕ, ◌≡◌, true, false, subst}
 use Rattle.std.proofs.lemmas.Bool.{eqb-true}
 use Rattle.soundness.proofs.Laws.{described-sound}

@@ -1,4 +1,4 @@
--- Rounds over the listed capabilities: each finds CNodes behind those that are found, and what finds none is the last.
+-- Rounds over the listed capabilities: each finds CNodes after those that are found, and what finds none is the last.
 use Rattle.std.proofs.Common.{ℕ, zero, suc, ◌≡◌, ◌∙◌, ◌+◌, ◌-◌, ◌<◌, ◌≤◌, ◌⊎◌, inl, inr, ◌&&◌, ◌||◌, drop, Bool, true, false, not, if◌then◌else◌, Some, None, List, [], ◌∷◌, ◌++◌, length, refl, sym, ap, subst, arith}
 use Rattle.std.specs.Prelude.{fold, is_some, nat_eq, slice_get}
 use Rattle.std.proofs.lemmas.Option.{none-some, same_Some}

@@ -1,4 +1,4 @@
--- The CNodes of a thread of a well-formed image stand apart from one another and from all other slots.
+-- The CNodes of a thread of a well-formed image lie apart from one another and from all other slots.
 use Rattle.std.proofs.Common.{◌≡◌, true, arith}
 use Rattle.format_laws.proofs.Laws.{is-fitting}
 use Rattle.soundness.proofs.Laws.{are-formed}

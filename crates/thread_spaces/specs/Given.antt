@@ -5,7 +5,7 @@ use Rattle.model.specs.Images.Image.{Image, Thread}
 use Rattle.model.specs.Acceptance.WellFormed.{radix_of}
 use Rattle.model.specs.Images.Places.{offset_of, type_at}
 
--- where the first so many objects stand
+-- where the first so many objects lie
 pub record AreOffsets (image : Image) (count : ℕ) (offsets : List ℕ) : Type 0 where
   pub size : length offsets ≡ count
   pub place : (number : ℕ) → number < count → slice_index offsets number ≡ offset_of image number

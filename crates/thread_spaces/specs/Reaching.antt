@@ -15,7 +15,7 @@ is_among numbers n = list_any (λ m. is_eq (nat_cmp n m)) numbers
 abbrev pub awaits : Round → ℕ → Bool
 awaits r n = is_among (if nat_lt n r.place then r.passed.keys else r.ahead.keys) n
 
--- What is awaited are capabilities of the image, and those ahead stand at the place or behind it.
+-- What is awaited are capabilities of the image, and those ahead are at the place or after it.
 pub record IsWithin (image : Image) (r : Round) : Type 0 where
   pub ahead : (n : ℕ) → is_among r.ahead.keys n ≡ true → (r.place ≤ n) × (n < length image.capabilities)
   pub passed : (n : ℕ) → is_among r.passed.keys n ≡ true → n < length image.capabilities

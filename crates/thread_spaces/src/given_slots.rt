@@ -14,7 +14,7 @@ use std::alloc::{AllocError, Global};
 use typestate::NotedSlot;
 use wellformed::NumberSet;
 
-/// Appends the slot that an entry fills, if it stands in one of these CNodes.
+/// Appends the slot that an entry fills, if it lies in one of these CNodes.
 fn note_listed(
     slots: &mut Vec<NotedSlot>,
     image: &ImageRef<'_>,

@@ -1,4 +1,4 @@
-//! The CNodes that a well-formed image gives a thread: where they stand, and what its capabilities put into them.
+//! The CNodes that a well-formed image gives a thread: where they lie, and what its capabilities put into them.
 #![tactic(auto)]
 
 mod capabilities;

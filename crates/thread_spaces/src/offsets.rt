@@ -1,4 +1,4 @@
-//! Where the objects of a well-formed image stand in memory.
+//! Where the objects of a well-formed image lie in memory.
 
 ghost use Rattle.std.specs.Prelude.{◌≡◌, ◌<◌, ◌≤◌, ◌^◌, IfErr, IfOk};
 ghost use Rattle.model.specs.Acceptance.Accepted.{IsWellFormed};
@@ -18,7 +18,7 @@ const UNTYPEDS: usize = 64;
 struct Place {
     /// Where it begins, from the start of physical memory.
     offset: u32,
-    /// How much of its untyped is used behind it.
+    /// How much of its untyped is used up to its end.
     used: u32,
 }
 
@@ -32,7 +32,7 @@ fn align(place: u64, size: u64) -> u64
     (place + (size - 1)) / size * size
 }
 
-/// The place of an object, behind so many bytes of its untyped that are used.
+/// The place of an object, after so many bytes of its untyped that are used.
 fn placed(image: &ImageRef<'_>, number: u32, used: u32) -> Place
     requires formed { IsWellFormed image.now }
     requires number { number < image.now.header.objects }
@@ -51,7 +51,7 @@ fn placed(image: &ImageRef<'_>, number: u32, used: u32) -> Place
     }
 }
 
-/// The offsets of all objects from the start of physical memory, each behind the ones before it in its untyped.
+/// The offsets of all objects from the start of physical memory, each after the ones before it in its untyped.
 pub fn offsets_of(alloc: Global, image: &ImageRef<'_>) -> Result<Vec<u32>, AllocError>
     requires { IsWellFormed image.now }
     ensures { IfOk result (λ offsets. AreOffsets image.now image.now.header.objects offsets.items) }

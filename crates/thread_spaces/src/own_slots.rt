@@ -11,7 +11,7 @@ use image_reading::{ImageRef, ThreadRef};
 use typestate::NotedSlots;
 
 /// Where no slot is one that the thread may not have, each is full and one of its CNodes', and so is what it was derived
-/// from, if that does not stand in the boot CNode.
+/// from, if that is not in the boot CNode.
 pub fn slots_are_own(image: &ImageRef<'_>, thread: &ThreadRef<'_>, slots: &NotedSlots<'_>)
     requires formed { IsWellFormed image.now }
     requires listed { IsListed image.now thread.now }

@@ -78,8 +78,8 @@ impl Round {
         Ok(())
     }
 
-    /// Follows a capability: one CNode more, whose capabilities are awaited, if it stands in one that is found and leads to one
-    /// that is not. Memory may be refused.
+    /// Follows a capability: one CNode more, whose capabilities are awaited, if it is in one that is found and leads to
+    /// one that is not. Memory may be refused.
     fn follow(
         &mut self,
         image: &ImageRef<'_>,

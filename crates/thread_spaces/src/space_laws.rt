@@ -14,12 +14,12 @@ pub fn mappings_are_listed()
     ensures { (image : Image) (t : Thread) → whole_image.fits image ≡ true → IsWellFormed image → IsListed image t → MappingsAreListed image t }
 {}
 
-/// A thread's CNodes stand apart from one another and from all other slots, and what stands in the boot CNode is known.
+/// A thread's CNodes lie apart from one another and from all other slots, and what is in the boot CNode is known.
 pub fn threads_stand_apart()
     ensures { (image : Image) (t : Thread) → whole_image.fits image ≡ true → IsWellFormed image → IsListed image t → StandsApart image t }
 {}
 
-/// A thread's root table stands at a page, as its capability asks.
+/// A thread's root table lies at a page, as its capability asks.
 pub fn root_tables_are_placed()
     ensures { (image : Image) (t : Thread) → whole_image.fits image ≡ true → IsWellFormed image → IsListed image t → IsPlace (offset_of image t.header.root) 12 }
 {}

@@ -1,4 +1,4 @@
-//! Where the CNodes of a thread stand.
+//! Where the CNodes of a thread lie.
 
 ghost use Rattle.std.specs.Prelude.{◌≡◌, IfOk};
 ghost use Rattle.model.specs.Acceptance.Accepted.{IsWellFormed};
@@ -12,7 +12,7 @@ use std::alloc::{AllocError, Global};
 use typestate::{Window, Windows};
 use wellformed::{NumberSet, object_at, radix_of};
 
-/// Where a CNode stands.
+/// Where a CNode lies.
 fn window_of(image: &ImageRef<'_>, offsets: &[u32], cnode: u32) -> Window
     requires offsets { AreOffsets image.now image.now.header.objects offsets.now }
     requires cnode { IsCNode image.now cnode }
@@ -28,7 +28,7 @@ fn window_of(image: &ImageRef<'_>, offsets: &[u32], cnode: u32) -> Window
     }
 }
 
-/// Where the CNodes stand that a thread of a well-formed image reaches, in the order in which they are found.
+/// Where the CNodes lie that a thread of a well-formed image reaches, in the order in which they are found.
 pub fn windows_of(
     alloc: Global,
     image: &ImageRef<'_>,

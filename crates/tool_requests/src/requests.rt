@@ -48,7 +48,7 @@ pub enum ToolRequest<'a> {
     },
 }
 
-/// The request that the words behind the program's name make.
+/// The request that the words after the program's name make.
 pub fn parse_words<'a, S: AsStr>(
     alloc: Global,
     words: &'a [S],

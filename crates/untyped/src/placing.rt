@@ -1,4 +1,4 @@
-//! Places behind a watermark.
+//! Places after a watermark.
 
 ghost use Rattle.std.specs.Prelude.{◌≡◌, ◌+◌, ◌*◌, ◌^◌, ◌%◌, ◌<◌, ◌≤◌, ℕ, Some, IfOk};
 ghost use Rattle.std.specs.Result.{result_ok};
@@ -26,9 +26,9 @@ fn size_of_bits(bits: u8) -> u64
     1u64 << bits
 }
 
-/// Where `count` objects of 2^`object_bits` bytes stand behind the watermark of an untyped of
-/// 2^`bits` bytes: the place of the first one within the untyped, and the new watermark, behind the
-/// last. The objects are aligned to their size and stand one behind another.
+/// Where `count` objects of 2^`object_bits` bytes lie after the watermark of an untyped of
+/// 2^`bits` bytes: the place of the first one within the untyped, and the new watermark, after the
+/// last. The objects are aligned to their size and lie one after another.
 pub fn place(
     bits: u8,
     watermark: u32,

@@ -37,7 +37,7 @@ module _ (s : State) (thread : ℕ) (i : Instr) where
   abbrev pub effect-on : Effect
   effect-on = effect (registers_of s thread) (content_of s thread) i
 
-  -- the state behind an instruction that goes on
+  -- the state after an instruction that goes on
   abbrev pub goes-to : State
   goes-to = with_content (with_registers s thread effect-on.registers) effect-on.content
 

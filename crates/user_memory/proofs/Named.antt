@@ -26,7 +26,7 @@ pub place-found : (o : Option ℕ) (access : Access) (address place : ℕ) → n
 place-found None access address place is = absurd (let clash : Err (record { address = address; access = access }) ≡ Ok place = is in cc)
 place-found (Some found) access address place is = let same : Ok found ≡ Ok place = is in let e : found ≡ place = cc in ap Some e
 
--- the first that is found stands in the list
+-- the first that is found is in the list
 first-found : {A : Type 0} (f : ℕ → Option A) (l : List ℕ) (a : A) → head_of (filter_map f l) ≡ Some a → (n : ℕ) × (f n ≡ Some a)
 first-found f [] a is = absurd (let clash : None ≡ Some a = is in cc)
 first-found f (n ∷ l) a is = elim (f n) as (λ o. f n ≡ o → (n : ℕ) × (f n ≡ Some a)) [

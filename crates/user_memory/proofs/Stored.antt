@@ -1,4 +1,4 @@
--- Where only bytes of frames change, the state changes in these alone, and what stands for it agrees and stands as before.
+-- Where only bytes of frames change, the state changes in these alone, and what is kept of it agrees, and its invariant holds, as before.
 use Rattle.std.proofs.Common.{ℕ, ◌≡◌, ◌∙◌, false, true, Option, Some, None, IsSome, option_map, List, refl, sym, ap, subst}
 use Rattle.std.specs.Prelude.{slice_index}
 use Rattle.std.specs.Option.{option_map_or}
@@ -33,7 +33,7 @@ own-bytes o slots memory place =
       | Some byte ↦ λ is. ap Some (sym (byte-there o slots memory place byte is))
     ] refl
 
--- what shows beside frames tells which bytes are the same
+-- bytes that are the same outside of frames
 same-hidden : (b c : Option ℕ) (new old : ℕ) → option_map_or (λ _. None) b (Some new) ≡ option_map_or (λ _. None) c (Some old) → c ≡ None → new ≡ old
 same-hidden None None new old same none = cc
 same-hidden (Some x) None new old same none = absurd (let clash : None ≡ Some old = same in cc)

@@ -35,7 +35,7 @@ one-byte memory place value other inside = elim (eqb_tells other place) [
   ]
 ]
 
--- what stands in a frame at a place, where one byte is written
+-- what is in a frame at a place, where one byte is written
 put-if : (c : Bool) (b : Option ℕ) (value old : ℕ) → (c ≡ true → IsSome b) → option_map (λ _. old) b ≡ b
     → option_map (λ _. if c then value else old) b ≡ (if c then Some value else b)
 put-if true (Some byte) value old some own = refl

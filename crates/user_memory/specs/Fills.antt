@@ -2,7 +2,7 @@
 use Rattle.std.specs.Prelude.{ℕ, ◌≡◌, ◌-◌, if◌then◌else◌, List, length, slice_index}
 use Rattle.model.specs.Capabilities.Slots.{is_within}
 
--- the first bytes of a piece stand in memory from an offset on, and the others are as they were
+-- the first bytes of a piece lie in memory from an offset on, and the others are as they were
 pub record AreWritten (old new : List ℕ) (offset count : ℕ) (piece : List ℕ) : Type 0 where
   pub size : length new ≡ length old
   pub bytes : (place : ℕ) → slice_index new place ≡ (if is_within offset count place then slice_index piece (place - offset) else slice_index old place)

@@ -11,10 +11,10 @@ use cnode_ops::Kernel;
 use model::Slot;
 use packed_slots::RootStore;
 
-/// How many bytes of memory a slot stands for.
+/// How many bytes of memory a slot has.
 const SLOT_SIZE: u32 = 16;
 
-/// The root table in the second slot of what stands at an offset, if there is one.
+/// The root table in the second slot of what is at an offset, if there is one.
 fn root_behind<S: RootStore>(store: &S, thread: u32) -> Option<u32>
     ensures { result ≡ root_of (capability_at (S.slots store.now) (vspace_slot thread)) }
 {

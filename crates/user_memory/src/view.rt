@@ -16,7 +16,7 @@ use rv32_exec::View;
 /// No memory has more bytes.
 const MOST_MEMORY: u32 = 0x100_0000;
 
-/// Memory under a root table, or none, with the kernel that its bytes stand in.
+/// Memory under a root table, or none, with the kernel that its bytes are in.
 #[derive(Drop)]
 pub(crate) struct UserMemory<'k, S: WalkStore> {
     pub(crate) kernel: &'k mut Kernel<S>,

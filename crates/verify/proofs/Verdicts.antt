@@ -67,6 +67,6 @@ breach-told bytes image refusal read (inr breach) = inr (read-first bytes image 
 pub told : {A : Type 0} (P : Refusal → Type 0) (result : Result A Refusal) (refusal : Refusal) → result ≡ Err refusal → P refusal → IfErr result P
 told {A} P result refusal is holds = subst (λ (r : Result A Refusal). IfErr r P) (sym is) holds
 
--- what is read is not told
+-- what is read is not a refusal
 pub untold : (bytes : List ℕ) (image : Image) (P : Refusal → Type 0) → Ok image ≡ reading whole_image bytes → IfErr (reading whole_image bytes) P
 untold bytes image P read = subst (λ (r : Result Image Refusal). IfErr r P) read tt

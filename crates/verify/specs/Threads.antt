@@ -14,16 +14,16 @@ use Rattle.model.specs.declared.labels.Label.{Label}
 use Rattle.headline.specs.moves.Steps.{GoesWell}
 use Rattle.headline.specs.steps.Points.{ReachesNoCall}
 
--- behind events a thread stands as its certificate says
+-- after events a thread is as its certificate says
 abbrev pub StandsBehind : Image → Numbered → List Event → Type 0
 StandsBehind image t events = ThreadInvariant image t (state_after (described image) events) (trace (described image) events)
 
--- in the state that the image describes each thread stands as its certificate says
+-- in the state that the image describes each thread is as its certificate says
 abbrev pub ThreadsStart : Image → Type 0
 ThreadsStart image = (t : Numbered) → Contains (numbered_threads image) t → ThreadInvariant image t (described image) []
 
--- Where a thread stands as its certificate says, whatever happened before, its next step does not fault if it reaches no system call,
--- and behind it the thread stands as its certificate says.
+-- Where a thread is as its certificate says, whatever happened before, its next step does not fault if it reaches no system call,
+-- and after it the thread is as its certificate says.
 pub record PlainStepIsKept (image : Image) (t : Numbered) (events : List Event) : Type 0 where
   pub faults : is_fault (step (state_after (described image) events) Step).1 ≡ false
   pub stands : StandsBehind image t (events ++ Step ∷ [])
@@ -36,10 +36,10 @@ PlainStepsAreKept image =
 
 -- ---- all threads
 
--- in the state that the image describes all threads stand as their certificates say, and nobody else runs
+-- in the state that the image describes all threads are as their certificates say, and nobody else runs
 abbrev pub AllStandAtFirst : Image → Type 0
 AllStandAtFirst image = AllStand image (described image) []
 
--- In every state in which all threads stand, each event goes well: no fault, no error, and all threads stand again behind it.
+-- In every state in which the threads' invariant holds, each event goes well: no fault, no error, and the invariant holds again after it.
 abbrev pub EventsGoWell : Image → Type 0
 EventsGoWell image = (s : State) (labels : List Label) (event : Event) → AllStand image s labels → GoesWell image s labels event

@@ -62,14 +62,14 @@ pub fn verify(alloc: Global, bytes: &[u8]) -> Result<Accepted<'_>, Refusal>
     ensures refused { IfErr result (λ refusal. (refusal ≡ OutOfMemory) ⊎ (first_breach bytes.now ≡ Some refusal)) }
     // What the rules accept is accepted, if memory is not refused.
     ensures complete { (image : Image) → IsAccepted bytes.now image → IfErr result (λ refusal. refusal ≡ OutOfMemory) }
-    // In the state that the image describes each thread stands as its certificate says.
+    // In the state that the image describes each thread is as its certificate says.
     ensures starts { IfOk result ThreadsStart }
-    // So it does behind a step of its own that reaches no system call, and the step does not fault.
+    // So it is after a step of its own that reaches no system call, and the step does not fault.
     ensures steps { IfOk result PlainStepsAreKept }
-    // In that state all threads stand, and wait for what they asked.
+    // In that state the threads' invariant holds, and they wait for what they asked.
     ensures stands { IfOk result AllStandAtFirst }
-    // Where all threads stand, whatever happens next goes well: a step is no fault and no error, whoever runs and whatever it calls, and
-    // behind a step, a tick and an interrupt all threads stand again.
+    // Where the threads' invariant holds, whatever happens next goes well: a step is no fault and no error, whoever
+    // runs and whatever it calls, and after a step, a tick and an interrupt the invariant holds again.
     ensures events { IfOk result EventsGoWell }
     // What cannot be read is refused for the first reason, and takes no memory.
     ensures unread { IfErr (reading whole_image bytes.now) (λ refusal. result ≡ Err refusal) }

@@ -86,7 +86,7 @@ counted p xs i x at holds =
     ltb-true 0 (count_by p xs)
     (sym (any-counted p xs) ∙ list_any_at p xs i x (slice_get_within xs i x at) (ap p (get_or_from_slice_get xs i x x at) ∙ holds))
 
--- the entries behind a place have other numbers
+-- the entries after a place have other numbers
 apart : {A : Type 0} (p : A → Bool) (n start : ℕ) (xs : List A) → n < start → list_any (λ g. not (g.0 == n) && p g.1) (enumerate_from start xs) ≡ list_any p xs
 apart p n start [] below = refl
 apart p n start (y ∷ ys) below =

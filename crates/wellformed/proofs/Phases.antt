@@ -32,7 +32,7 @@ first-of-all image refusal is =
     (longer (mapping_rules image) (thread_rules image ∷ []) (thread_rules image ∷ program_rules image ∷ []) refusal
     (longer (thread_rules image) [] (program_rules image ∷ []) refusal (nothing (program_rules image ∷ []) refusal)))) is
 
--- so a refusal is the first breach, or want of memory
+-- so a refusal is the first breach, or out of memory
 pub told_first : (image : Image) (result : Result (Unit {0}) Refusal) → IfErr result (λ refusal. (refusal ≡ OutOfMemory) ⊎ (first_in (form_rules image) ≡ Some refusal))
     → IfErr result (λ refusal. (refusal ≡ OutOfMemory) ⊎ (first_in (phases image) ≡ Some refusal))
 told_first image (Ok x) told = tt

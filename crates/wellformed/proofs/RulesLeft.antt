@@ -15,7 +15,7 @@ use Rattle.model.specs.Acceptance.WellFormed.{capability_rules, mapping_rules, o
 use Rattle.model.specs.Images.Image.{Image}
 use Rattle.wellformed.specs.Answering.{Answers, form_rules}
 
--- ---- one list of rules behind another
+-- ---- one list of rules after another
 
 pub first_of_both : (a b : List Rule) → first_broken (a ++ b) ≡ option_or (first_broken a) (first_broken b)
 first_of_both [] b = refl
@@ -37,7 +37,7 @@ pub refused_before : (a b : List Rule) (refusal : Refusal) → Answers (first_br
 refused_before a b refusal (inl memory) = inl memory
 refused_before a b refusal (inr broken) = inr (first_broken_in a b refusal broken)
 
--- what is passed on is told
+-- what is passed on is reported
 pub passed_on : (breach : Option Refusal) (result : Result (Unit {0}) Refusal) (refusal : Refusal) → result ≡ Err refusal → Answers breach (Err refusal) → Answers breach result
 passed_on breach result refusal is answers = subst (λ (r : Result (Unit {0}) Refusal). Answers breach r) (sym is) answers
 
@@ -183,7 +183,7 @@ last_phase rules result answers = subst (λ (o : Option Refusal). Answers o resu
     or-none None = refl
     or-none (Some r) = refl
 
--- a phase without a breach, and none behind it
+-- a phase without a breach, and none after it
 pub phase_parts : (rules : List Rule) (later : List (List Rule)) → first_in (rules ∷ later) ≡ None → (first_broken rules ≡ None) × (first_in later ≡ None)
 unfolding first_in
 phase_parts rules later none = parts (first_broken rules) none

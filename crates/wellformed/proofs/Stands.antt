@@ -1,4 +1,4 @@
--- Where untypeds and objects stand.
+-- Where untypeds and objects lie.
 use Rattle.std.proofs.Common.{◌≡◌, ◌∙◌, ℕ, suc, ◌==◌, ◌+◌, ◌%◌, ◌^◌, ◌<◌, ◌≤◌, ◌||◌, ◌≢◌, inl, inr, Bool, true, false, not, Some, None, Option, List, [], ◌∷◌, ◌++◌, take, length, replicate, set, get_or, refl, sym, ap, subst, arith, add-one, take-suc}
 use Rattle.std.specs.Prelude.{fold, if◌then◌else◌, is_none, nat_le, nat_lt, slice_get}
 use Rattle.std.proofs.lemmas.Bool.{leb-true}

@@ -9,7 +9,7 @@ use Rattle.model.specs.Acceptance.ThreadRules.{is_cnode_source, is_member, reach
 use Rattle.model.specs.Acceptance.WellFormed.{capability_rules, mapping_rules, object_rules}
 use Rattle.model.specs.Images.Image.{Image, Thread}
 
--- There is no breach, or it is told; or memory was refused.
+-- There is no breach, or it is reported; or memory was refused.
 abbrev pub Answers : Option Refusal → Result (Unit {0}) Refusal → Type 0
 Answers breach (Ok x) = breach ≡ None
 Answers breach (Err refusal) = (refusal ≡ OutOfMemory) ⊎ (breach ≡ Some refusal)

@@ -57,7 +57,7 @@ fn signals_nothing(image: &ImageRef<'_>, entry: InterruptEntry) -> bool
     !is_notification(object_at(image, entry.notification))
 }
 
-/// The interrupts, in their order, numbered on behind the capabilities.
+/// The interrupts, in their order, numbered on after the capabilities.
 fn check_interrupts(image: &ImageRef<'_>) -> Result<(), Refusal>
     ensures { Answers (first_broken (map (λ i. refuse_if (signals_nothing image.now i.1) (BadCap (image.now.header.capabilities + i.0))) (numbered image.now.interrupts))) result }
 {

@@ -168,7 +168,7 @@ fn has_writable_code(
                 || names.filled.contains(entry.frame)))
 }
 
-/// The mappings of frames, in their order, numbered on behind the tables, by what else names frames.
+/// The mappings of frames, in their order, numbered on after the tables, by what else names frames.
 fn check_each_frame(
     image: &ImageRef<'_>,
     sources: &NumberSet,
@@ -230,7 +230,7 @@ fn fills_nothing(image: &ImageRef<'_>, content: &ContentRef<'_>) -> bool
     !is_frame(object_at(image, content.header().frame))
 }
 
-/// The contents, in their order, numbered on behind the tables and frames.
+/// The contents, in their order, numbered on after the tables and frames.
 fn check_contents(image: &ImageRef<'_>) -> Result<(), Refusal>
     ensures { Answers (first_broken (map (content_rule image.now) (numbered image.now.contents))) result }
 {

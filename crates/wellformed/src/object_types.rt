@@ -29,7 +29,7 @@ const PAGE_TABLE: u32 = 7;
 
 const ROOT_TABLE: u32 = 8;
 
-/// What stands for an object that the image does not have: it has no type.
+/// What takes the place of an object that the image does not have: it has no type.
 const NO_OBJECT: ObjectEntry = ObjectEntry {
     untyped: 0,
     kind: 0,

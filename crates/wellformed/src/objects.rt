@@ -1,4 +1,4 @@
-//! Untypeds and objects: where they stand in memory.
+//! Untypeds and objects: where they lie in memory.
 
 ghost use Rattle.std.specs.Prelude.{◌≡◌, ◌==◌, ◌%◌, ◌<◌, ◌≤◌, ◌^◌, ◌||◌, [], ◌∷◌, IfSome, is_none, map, nat_lt, not, replicate};
 ghost use Rattle.std.specs.List.{range_with_len};
@@ -66,7 +66,7 @@ pub(crate) fn check_untypeds(image: &ImageRef<'_>) -> Result<(), Refusal>
     Ok(())
 }
 
-/// Where an object ends that stands behind the bytes of its untyped that are used, if it fits there.
+/// Where an object ends that lies after the bytes of its untyped that are used, if it fits there.
 fn end_behind(image: &ImageRef<'_>, object: ObjectEntry, used: u32) -> Option<u32>
     requires fits { ObjectFits image.now object }
     requires used { used ≤ 2 ^ (untyped_at image.now object.untyped).bits }
@@ -81,14 +81,14 @@ fn end_behind(image: &ImageRef<'_>, object: ObjectEntry, used: u32) -> Option<u3
     }
 }
 
-/// How much of each untyped is used before any object stands.
+/// How much of each untyped is used before any object is placed.
 fn nothing_used() -> [u32; UNTYPEDS]
     ensures { result ≡ replicate 64 0 }
 {
     [0; UNTYPEDS]
 }
 
-/// The objects, each behind the ones before it in its untyped.
+/// The objects, each after the ones before it in its untyped.
 pub(crate) fn check_room(image: &ImageRef<'_>) -> Result<(), Refusal>
     ensures { Answers (first_broken (map (λ number. refuse_if (has_no_room image.now number) (NoRoom number)) (range_with_len 0 image.now.header.objects))) result }
 {

@@ -34,7 +34,7 @@ pub fn well_formed(alloc: Global, image: &ImageRef<'_>) -> Result<(), Refusal>
     ensures refused { IfErr result (λ refusal. (refusal ≡ OutOfMemory) ⊎ (first_in (form_rules image.now) ≡ Some refusal)) }
     // That is the first breach of all rules on the image, those on programs with them.
     ensures first { IfErr result (λ refusal. (refusal ≡ OutOfMemory) ⊎ (first_in (phases image.now) ≡ Some refusal)) }
-    // What is well formed is refused for want of memory alone.
+    // What is well formed is refused as out of memory alone.
     ensures complete { IsWellFormed image.now → IfErr result (λ refusal. refusal ≡ OutOfMemory) }
 {
     check_phases(alloc, image)

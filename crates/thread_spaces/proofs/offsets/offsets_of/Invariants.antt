@@ -1,4 +1,4 @@
--- So many objects are placed, and so much of each untyped is used behind them.
+-- So many objects are placed, and so much of each untyped is used by them.
 use Rattle.std.proofs.Common.{◌≡◌, ℕ, ◌<◌, length, take}
 use Rattle.std.specs.Prelude.{slice_index}
 use Rattle.model.specs.Images.Places.{used_by}

@@ -1,4 +1,4 @@
--- What the rounds that are left find, behind what is found, and the round that is next.
+-- What the rounds that are left find, after what is found, and the round that is next.
 use Rattle.std.proofs.Common.{◌≡◌, ◌-◌, length}
 use Rattle.model.specs.Acceptance.ThreadRules.{reached, reached_within}
 use Rattle.thread_spaces.specs.Reaching.{Begins}

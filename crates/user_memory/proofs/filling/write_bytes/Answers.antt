@@ -1,4 +1,4 @@
--- One byte more stands where it was written.
+-- One byte more is where it was written.
 use Rattle.std.proofs.Common.{◌∙◌, refl, arith}
 use Rattle.std.specs.Prelude.{slice_index}
 use Rattle.user_memory.proofs.BytesMore.{byte-more}

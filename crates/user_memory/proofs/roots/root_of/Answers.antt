@@ -1,4 +1,4 @@
--- The slots of the kernel are those of the state that it stands for.
+-- The slots of the kernel are those of the state that it represents.
 use Rattle.user_memory.proofs.Running.{root-kernel}
 use Rattle.user_memory.proofs.roots.root_of.Goals as goal
 
