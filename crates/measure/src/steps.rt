@@ -40,7 +40,7 @@ struct Written {
     value: Value,
 }
 
-/// Behind an instruction.
+/// After an instruction.
 #[derive(Clone, Copy)]
 pub struct AfterInstruction {
     written: Option<Written>,
@@ -79,7 +79,7 @@ impl Step for AfterInstruction {
     }
 }
 
-/// Behind a system call that writes these registers.
+/// After a system call that writes these registers.
 #[derive(Clone, Copy)]
 pub struct AfterCall<'a> {
     pub written: &'a [Register],

@@ -21,7 +21,7 @@ pub fn loop_is_read()
     ensures { reading whole_image (whole_image.spelling loop_image) ≡ Ok loop_image }
 {}
 
-/// Behind the Revoke nothing is mapped at 0x3000: `lui x13 3` and a store by x13 before the Retype.
+/// After the Revoke nothing is mapped at 0x3000: `lui x13 3` and a store by x13 before the Retype.
 #[tactic(auto, unfolding(crate::proofs::Opened::opened))]
 pub fn loop_may_not_store_early()
     ensures { first_in (phases (loop_with 13 0x000036B7 14 0x0006A023)) ≡ Some (NotMapped (at_point 0 14)) }

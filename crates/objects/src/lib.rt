@@ -1,5 +1,5 @@
 //! The objects of the kernel but for slots and the bytes of frames: threads, endpoints, notifications,
-//! and what else is where; with the queues, the ready list and the interrupt lines.
+//! and which other object is where; with the queues, the ready list and the interrupt lines.
 //! seL4 Reference Manual, "Kernel Services and Objects".
 #![tactic(auto)]
 

@@ -37,7 +37,7 @@ pub fn run_unverified<S: Sink>(
     ensures memory { result ≡ Err RunFault.OutOfMemory → sink.new ≡ sink.old }
     // Where the sink fails, its count of failures says so, and a beginning of those lines is put.
     ensures output { result ≡ Err RunFault.Output → PutsTraceBeginning bytes.now events.now (S.contents sink.old) (S.contents sink.new) × Failed (S.failures sink.old) (S.failures sink.new) }
-    // Want of memory is no refusal,
+    // Out of memory is no refusal,
     ensures enough { result ≢ Err (RunFault.Refused Refusal.OutOfMemory) }
     // and no fault of booting.
     ensures room { result ≢ Err (RunFault.Boot BootFault.OutOfMemory) }

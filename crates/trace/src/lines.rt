@@ -59,8 +59,8 @@ pub fn line(label: Label) -> ArrayVec<u8, 32>
     text
 }
 
-/// The line of an instruction at `pc` of which nothing else is reported, with its line feed: that of `Label::Ran` with the
-/// outcome `Plain`, for the thread whose TCB is at the physical address `thread`.
+/// The line of an instruction at `pc` of which nothing else is reported, with its line feed: that of `Label::Ran` with
+/// the outcome `Plain`, for the thread whose TCB is at the physical address `thread`.
 pub fn plain_line(thread: u32, pc: u32) -> [u8; 24]
     ensures { result ≡ line_of (Label.Ran thread pc Outcome.Plain) ++ 0x0A ∷ [] }
 {

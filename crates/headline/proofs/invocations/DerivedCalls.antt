@@ -1,4 +1,4 @@
--- Behind an invocation that the rules allow each full slot of the thread's derives from something still.
+-- After an invocation that the rules allow each full slot of the thread's derives from something still.
 use Rattle.std.proofs.Common.{ℕ, ◌≡◌, ◌==◌, ◌%◌, ◌/◌, ◌+◌, ◌^◌, ◌&&◌, ◌||◌, nat_lt, nat_le, true, false, not, if◌then◌else◌, Some, Result, Ok, List, sym, subst}
 use Rattle.std.proofs.lemmas.Bool.{false≢true}
 use Rattle.model.specs.declared.capabilities.Cap.{Cap}

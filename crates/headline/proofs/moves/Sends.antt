@@ -1,4 +1,4 @@
--- A send to an endpoint leaves all threads standing: the first receiver gets the message, or the thread waits.
+-- A send to an endpoint keeps the threads' invariant: the first receiver gets the message, or the thread waits.
 use Rattle.std.proofs.Common.{ℕ, zero, suc, ◌≡◌, ◌≢◌, ◌∙◌, ◌==◌, ◌++◌, ◌^◌, ◌<◌, ◌≤◌, inl, inr, Bool, true, false, if◌then◌else◌, Option, Some, List, [], ◌∷◌, length, map, get_or, refl, sym, ap, subst, arith}
 use Rattle.std.specs.Prelude.{Contains}
 use Rattle.std.proofs.lemmas.Bool.{eqb-true, eqb-false}

@@ -1,4 +1,4 @@
--- A signal leaves all threads standing: it wakes the first that waits, or joins the word.
+-- A signal keeps the threads' invariant: it wakes the first that waits, or joins the word.
 use Rattle.std.proofs.Common.{ℕ, ◌≡◌, ◌≢◌, ◌∙◌, ◌==◌, ◌^◌, ◌<◌, ◌≤◌, inl, inr, Bool, true, false, Option, Some, List, [], ◌∷◌, refl, sym, ap, subst, arith}
 use Rattle.std.specs.Prelude.{Contains, bit_or}
 use Rattle.std.specs.Option.{option_map_or}

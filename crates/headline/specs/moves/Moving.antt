@@ -57,7 +57,7 @@ pub record CallsAt (image : Image) (t : Numbered) (s : State) (labels : List Lab
 
 -- ---- a thread whose system call passes
 
--- Behind its call the thread runs, with registers in the ranges that are known there: only those that the call may write are other ones.
+-- After its call the thread runs, with registers in the ranges that are known there: only those that the call may write are other ones.
 pub record PassesWith (after : State) (thread : ℕ) (own : ThreadState) (state : PointState) (left : AfterCall) : Type 0 where
   pub next : ThreadState
   pub is : after.objects thread ≡ Some (ThreadObject next)

@@ -2,7 +2,7 @@
 
 ghost use Rattle.headline.specs.invocations.Laws.{DeriveBehind};
 
-/// Behind an invocation each full slot of the thread's derives from something still.
+/// After an invocation each full slot of the thread's derives from something still.
 pub fn invocations_leave_a_parent_to_each_slot()
     ensures { DeriveBehind }
 {}

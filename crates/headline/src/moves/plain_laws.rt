@@ -6,7 +6,7 @@ use crate::kept::stores_touch_no_thread;
 use crate::moves::below::laws_below;
 use crate::steps::{instructions_write_where_stores_may, plain_steps_keep_threads};
 
-/// An instruction that is no system call has no fault and no error, and leaves all threads standing.
+/// An instruction that is no system call has no fault and no error, and keeps the threads' invariant.
 pub fn plain_steps_go_well()
     ensures { PlainStepsGoWell }
 {
