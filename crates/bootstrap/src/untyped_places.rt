@@ -11,8 +11,7 @@ use crate::object_kinds::power;
 use image_reading::ImageRef;
 use model::{ImageHeader, UntypedEntry};
 
-/// The first untyped that is not where untyped memory may lie, or the number of untypeds where boot slots do not
-/// suffice.
+/// The first untyped that is not where untyped memory may lie, or the number of untypeds where boot slots are too few.
 pub(crate) fn misplaced(image: &ImageRef<'_>) -> Option<u32>
     requires { IsLimited image.now }
     ensures { result ≡ misplaced image.now }

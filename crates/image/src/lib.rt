@@ -1,5 +1,4 @@
-//! Images: making them of parts and writing them. Their bytes are read by `image_reading`, whose public calls are here
-//! too.
+//! Images: making them of parts and writing them. Their bytes are read by `image_reading`, whose calls are here too.
 #![tactic(auto)]
 
 mod checking;

@@ -1,4 +1,4 @@
-//! Words that are one after another: contents and programs.
+//! Words one after another: contents and programs.
 
 ghost use Rattle.std.specs.Prelude.{◌≡◌, ◌<◌, true, is_ok, slice_index};
 ghost use Rattle.model.specs.Images.Fills.{bytes_of};

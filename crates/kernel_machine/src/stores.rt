@@ -6,8 +6,7 @@ ghost use Rattle.kernel_machine.specs.Stores.{bytes_of, slots_of};
 use packed_slots::{CachedSlots, IndexedSlots};
 use std::alloc::{AllocError, Global};
 
-/// The slots in memory itself, in preorder. Beside it is kept what is known of its capabilities, and the leaves of
-/// walks.
+/// The slots in memory itself, in preorder; with what is known of their capabilities, and the leaves of walks.
 pub type Store = CachedSlots<IndexedSlots>;
 
 /// Memory of 2^`bits` bytes, all zero, and no open slot.

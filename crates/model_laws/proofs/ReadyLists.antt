@@ -1,4 +1,4 @@
--- What a change of the ready list keeps: no thread is there twice.
+-- What a change of the ready list keeps: no thread occurs there twice.
 use Rattle.std.proofs.Common.{ℕ, ◌≡◌, ◌∙◌, ◌==◌, ◌+◌, ◌<◌, ◌≤◌, ◌++◌, inl, inr, Bool, true, false, not, if◌then◌else◌, List, [], ◌∷◌, filter, refl, sym, subst, ap, arith}
 use Rattle.std.proofs.lemmas.Bool.{eq-eqb}
 use Rattle.std.proofs.lemmas.Bool.Decides.{eqb_tells}

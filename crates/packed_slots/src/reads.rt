@@ -160,8 +160,7 @@ fn if_deeper(memory: &Mem, root_depth: u32, found: Option<Slot>) -> Option<Slot>
     }
 }
 
-/// The descendant of a root after another, or the first one: the slot that is linked after it, if it is deeper than the
-/// root.
+/// The descendant of a root after another, or the first one: the slot linked after it, if that is deeper than the root.
 pub(crate) fn next_below(
     memory: &Mem,
     open_slots: &OpenSlots,

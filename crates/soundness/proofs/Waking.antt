@@ -23,7 +23,7 @@ abbrev pub is_in : List ℕ → ℕ → Bool
 is_in [] n = false
 is_in (x ∷ l) n = n == x || is_in l n
 
--- no number is twice
+-- no number occurs twice
 abbrev pub AreApart : List ℕ → Type 0
 AreApart [] = Unit {0}
 AreApart (x ∷ l) = (is_in l x ≡ false) × AreApart l

@@ -7,8 +7,7 @@ pub fn untyped_memory_keeps_soundness()
     ensures { UntypedMemoryKeepsSoundness }
 {}
 
-/// Untyped memory is put after every object, also after those that are left of untyped memory whose own capability is
-/// gone.
+/// Untyped memory is put after every object, also after those left of untyped memory whose own capability is gone.
 pub fn untyped_memory_is_put_behind_objects()
     ensures { UntypedMemoryIsPutBehindObjects }
 {}

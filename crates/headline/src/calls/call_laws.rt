@@ -2,8 +2,7 @@
 
 ghost use Rattle.headline.specs.calls.Laws.{LeadsOn};
 
-/// A system call at a point with a state, which the rules allow, leads to the next point, and what is known after it is
-/// noted there.
+/// A system call that the rules allow at a point with a state leads to the next point, where what is known is noted.
 pub fn calls_lead_behind()
     ensures { LeadsOn }
 {}

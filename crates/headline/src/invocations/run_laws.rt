@@ -19,8 +19,7 @@ pub fn steps_go_well()
     plain_steps_go_well();
 }
 
-/// Whatever happens to an accepted image goes well: each thread is as its certificate says, and there is no fault and
-/// no error.
+/// Whatever happens to an accepted image goes well: each thread is as its certificate says, with no fault and no error.
 pub fn events_go_well()
     ensures { EventsHaveGoneWell }
 {

@@ -4,8 +4,7 @@ ghost use Rattle.headline.specs.moves.Laws.{CallsThatPassLeadOn, ThreadsBeginToW
 
 use crate::moves::below::laws_below;
 
-/// A thread that keeps registers, status and places in queues is still as its certificate says, and waits for what it
-/// asked.
+/// A thread that keeps registers, status and queue places stays as its certificate says, and waits for what it asked.
 pub fn threads_that_are_left_alone_stand_on()
     ensures { ThreadsLeftAloneStandOn }
 {

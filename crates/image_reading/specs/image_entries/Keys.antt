@@ -22,7 +22,7 @@ table_keys image = map (λ t. pair_key t.root t.address) image.tables
 abbrev pub frame_keys : Image → List ℕ
 frame_keys image = map (λ f. pair_key f.root f.address) image.frames
 
--- The capabilities of a CNode are from one place on, before another.
+-- The capabilities of a CNode lie from one place on, before another.
 pub record AreListedIn (cnode : ℕ) (capabilities : List CapabilityEntry) (first end : ℕ) : Type 0 where
   pub within : end ≤ length capabilities
   pub before : (k : ℕ) (c : CapabilityEntry) → k < first → slice_get capabilities k ≡ Some c → (c.cnode == cnode) ≡ false

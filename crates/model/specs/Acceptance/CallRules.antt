@@ -41,7 +41,7 @@ use Rattle.model.specs.Kernel.Steps.{SendCall, Calling, Sending, Trying, Receivi
 pub record AfterCall : Type 0 where
   pub ranges : List Range
   pub slots : List NotedSlot
-  -- whether the call is one from which instructions are counted again
+  -- whether the count of instructions starts again at the call
   pub is_wait : Bool
   -- the registers that the call writes
   pub written : List Register

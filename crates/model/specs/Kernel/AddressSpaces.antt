@@ -63,7 +63,7 @@ pub record Maps (slots : Slots) (root page frame : ℕ) (allowed : Rights) : Typ
 
 -- ---- the address space as a program sees it
 
--- what is at a page: a frame, and what may be done with it there
+-- what is mapped at a page: a frame, and what may be done with it there
 pub record MappedFrame : Type 0 where
   pub frame : ℕ
   pub allowed : Rights
@@ -74,7 +74,7 @@ page_of root page (Frame offset r (Some mapping)) =
     if is_page root page mapping then Some (record { frame = offset; allowed = mapping.rights }) else None
 page_of root page _ = None
 
--- what is at a page under a root table; a page is mapped once
+-- what is mapped at a page under a root table; a page is mapped once
 abbrev pub mapped : State → ℕ → ℕ → Option MappedFrame
 mapped s root page = head_of (filter_map (λ slot. page_of root page (capability_at s.slots slot)) (slots_of s))
 
