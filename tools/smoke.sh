@@ -104,6 +104,7 @@ same_words() {
 
 part_with python3 "tools, read" scripts_say_nothing
 part_with python3 "tools/checks/below.py" copies_are_whole
+part_with python3 "tools/checks/texts.py --premises" tools/checks/texts.py --premises
 part_with python3 "tools/checks/proved_table.py" tools/checks/proved_table.py --check
 part_with python3 "tools/traces/reckon.py" python3 tools/traces/reckon.py compare samples/{bell,solo,worker,client_server} \
     samples/gallery/controller

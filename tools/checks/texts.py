@@ -2,21 +2,55 @@
 """What the gate asks of the texts of all crates before it proves anything: layout, names, links and edits. At the top of the repository.
 
 Also that no crate imports another's proofs but through its one public module of them, `Laws` (those of `model` are on the definitions,
-and for all), and that none but `objects` sees which form its tables have.
+and for all), that none but `objects` sees which form its tables have, and that no crate has more `requires` than premises.txt beside
+this file allows: what a premise says belongs into a type.
+
+  tools/checks/texts.py               checks all of this
+  tools/checks/texts.py --premises    checks the number of `requires` alone, and needs no toolchain
+  tools/checks/texts.py --write       writes the numbers of `requires` as they are into premises.txt
 """
 import os
 import re
 import sys
+from pathlib import Path
 
-sys.path.insert(0, os.path.dirname(os.path.realpath(__file__)))
+HERE = os.path.dirname(os.path.realpath(__file__))
+sys.path.insert(0, HERE)
 sys.dont_write_bytecode = True
-from libraries import RT  # noqa: E402
 
 IMPORT = re.compile(r"^(?:ghost )?(?:pub )?use Rattle\.(\w+)\.proofs\.(?!Laws\b)", re.M)
 FORM = re.compile(r"\bTables::told_by\b|use Rattle\.objects\.specs\.(?:Rights\.|Tables\.(?!\{(?:Tables|state_of)(?:, (?:Tables|state_of))*\}))")
 
 
-def proofs_seen(crates):
+REQUIRES = re.compile(r"^\s*requires\b", re.M)
+PREMISES = Path(HERE, "premises.txt")
+
+
+def premises():
+    """The number of `requires` in the code of each crate that has some."""
+    counts = {}
+    for folder in sorted(Path("crates").iterdir()):
+        count = sum(len(REQUIRES.findall(file.read_text(encoding="utf-8"))) for file in folder.glob("src/**/*.rt"))
+        if count:
+            counts[folder.name] = count
+    return counts
+
+
+def premises_grown():
+    """The crates with more `requires` than they may have; each is printed."""
+    allowed = dict(line.split() for line in PREMISES.read_text(encoding="utf-8").splitlines())
+    grown = [(name, count) for name, count in premises().items() if count > int(allowed.get(name, 0))]
+    for name, count in grown:
+        print(f"crates/{name}: {count} `requires`, and no more than {allowed.get(name, 0)} are allowed")
+    return [name for name, _ in grown]
+
+
+def write_premises():
+    """Writes the numbers of `requires` as they are."""
+    PREMISES.write_text("".join(f"{name} {count}\n" for name, count in premises().items()), encoding="utf-8")
+
+
+def proofs_seen(crates, RT):
     """The crates that import others' proofs past their modules of laws; each file is printed."""
     names, found = {it.name for it in crates} - {"model"}, []
     for crate in crates:
@@ -29,7 +63,7 @@ def proofs_seen(crates):
     return found
 
 
-def forms_seen(crates):
+def forms_seen(crates, RT):
     """The crates that see what `told_by` hides, or a definition of the tables beside `Tables` and `state_of`; each file is printed."""
     found = []
     for crate in crates:
@@ -42,7 +76,7 @@ def forms_seen(crates):
     return found
 
 
-def refusals(crate, crates):
+def refusals(crate, crates, RT):
     """How many of the gate's demands the crate's texts do not meet; each is printed."""
     found = 0
     try:
@@ -62,13 +96,19 @@ def refusals(crate, crates):
     return found + len(others)
 
 
-def main():
-    RT.rtlib.Crate = RT.Crate
-    crates = RT.rtlib.crates_below(os.getcwd())
-    refused = [it.name for it in crates if refusals(it, crates)] + proofs_seen(crates) + forms_seen(crates)
+def main(words):
+    if words == ["--write"]:
+        return write_premises()
+    refused = premises_grown()
+    if words != ["--premises"]:
+        from libraries import RT  # finds the toolchain
+
+        RT.rtlib.Crate = RT.Crate
+        crates = RT.rtlib.crates_below(os.getcwd())
+        refused += [it.name for it in crates if refusals(it, crates, RT)] + proofs_seen(crates, RT) + forms_seen(crates, RT)
     print("refused: " + " ".join(refused) if refused else "all texts are as the gate asks")
     return 1 if refused else 0
 
 
 if __name__ == "__main__":
-    sys.exit(main())
+    sys.exit(main(sys.argv[1:]))
