@@ -130,13 +130,6 @@ impl<'a> RecordRef<'a> {
         self.header.slots
     }
 
-    /// How many terms the measure has.
-    pub fn term_count(&self) -> u32
-        ensures { result ≡ self.now.header.terms }
-    {
-        self.header.terms
-    }
-
     /// The point that the record speaks of.
     pub fn point(&self) -> u32
         ensures { result ≡ self.now.header.point }

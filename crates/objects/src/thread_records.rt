@@ -8,10 +8,10 @@ mod record_laws;
 mod records;
 mod writes;
 
-pub use reads::{caller, fault_address, pc, priority, registers, sending, slice, status, thread};
+pub use reads::{caller, fault_address, pc, priority, registers, sending, slice, status};
 pub use record_laws::{a_record_stays, zero_is_a_new_thread};
 pub use records::{Fault, Sending, Sent, Status, Thread};
 pub use writes::{
-    begin_thread, put_thread, set_caller, set_fault_address, set_priority, set_registers,
-    set_sending, set_slice, set_status,
+    begin_thread, set_caller, set_fault_address, set_priority, set_registers, set_sending,
+    set_slice, set_status,
 };

@@ -1,7 +1,7 @@
 //! Those that wait at objects: an object keeps the first and the last of them in two words of its own bytes, and each
 //! thread its queue, the next and the previous thread at 244, 248 and 252.
 
-ghost use Rattle.std.specs.Prelude.{ℕ, ◌≡◌, ◌<◌, ◌↔◌, [], ◌∷◌, ◌++◌, List, drop, false, true, is_some, length};
+ghost use Rattle.std.specs.Prelude.{ℕ, ◌≡◌, ◌<◌, [], ◌∷◌, ◌++◌, List, drop, true, is_some, length};
 ghost use Rattle.model.specs.Kernel.Scheduling.{head_of};
 ghost use Rattle.model.specs.Kernel.State.{put};
 ghost use Rattle.model.specs.Shared.Lists.{times_in, without};
@@ -12,15 +12,6 @@ use crate::layout::Layout;
 use crate::linking::{link_last, queue_of_thread, unlink};
 use crate::words::{LinkWords, put_ends, read_ends};
 use slots::SlotStore;
-
-/// Whether a thread is in a queue.
-pub fn is_queued<S: SlotStore, L: Layout>(layout: &L, store: &S, thread: u32) -> bool
-    requires laid { AreLaidOut (L.places layout.now) (S.slots store.now) (length (S.memory store.now)) }
-    requires stands { QueuesStand (L.places layout.now) (S.memory store.now) }
-    ensures { (result ≡ false) ↔ ((queue : ℕ) → times_in (queue_of (L.places layout.now) (S.memory store.now) queue) thread ≡ 0) }
-{
-    queue_of_thread(layout, store, LinkWords::Waiting, thread).is_some()
-}
 
 /// The first thread of a queue.
 pub fn first<S: SlotStore, L: Layout>(layout: &L, store: &S, queue: u32) -> Option<u32>

@@ -9,7 +9,7 @@ use crate::thread_records::codes::{SENDING_WORDS, caller_from, sending_from, sta
 use crate::thread_records::places::{
     CALLER, FAULT_ADDRESS, PC, PRIORITY, REGISTERS, SENDING, SLICE, STATUS,
 };
-use crate::thread_records::records::{Sending, Status, Thread};
+use crate::thread_records::records::{Sending, Status};
 use pmem::Mem;
 use rv32_exec::Regs;
 use slots::SlotStore;
@@ -42,23 +42,6 @@ fn fill_words(memory: &Mem, thread: u32, place: u32, words: &mut [u32])
 {
     prove!(thread <= memory.len());
     memory.read_words(thread + place, words);
-}
-
-/// The whole record of the thread at an offset.
-#[tactic(auto, unfolding(crate::specs::thread_records::Records::thread_at))]
-pub fn thread<S: SlotStore>(store: &S, thread: u32) -> Thread
-    requires within { thread + 512 ≤ length (S.memory store.now) }
-    ensures { result ≡ thread_at (S.memory store.now) thread }
-{
-    Thread {
-        registers: registers(store, thread),
-        priority: priority(store, thread),
-        slice: slice(store, thread),
-        fault_address: fault_address(store, thread),
-        status: status(store, thread),
-        caller: caller(store, thread),
-        sending: sending(store, thread),
-    }
 }
 
 /// The registers of the thread at an offset.

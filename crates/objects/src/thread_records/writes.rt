@@ -8,7 +8,7 @@ use crate::thread_records::codes::{caller_words, sending_words, status_words};
 use crate::thread_records::places::{
     CALLER, FAULT_ADDRESS, FIRST, LENGTH, PC, PRIORITY, REGISTERS, SENDING, SLICE, STATUS,
 };
-use crate::thread_records::records::{Sending, Status, Thread};
+use crate::thread_records::records::{Sending, Status};
 use rv32_exec::Regs;
 use slots::SlotStore;
 
@@ -133,21 +133,4 @@ pub fn set_sending<S: SlotStore>(store: &mut S, thread: u32, sending: Option<Sen
     ensures order { S.order store.new ≡ S.order store.old }
 {
     put_words(store, thread, SENDING, &sending_words(sending));
-}
-
-/// Changes the whole record of a thread.
-pub fn put_thread<S: SlotStore>(store: &mut S, thread: u32, value: Thread)
-    requires there { IsRecordAt (S.slots store.old) (length (S.memory store.old)) thread }
-    ensures record { thread_at (S.memory store.new) thread ≡ value }
-    ensures bytes { SameBesideRecord thread (S.memory store.old) (S.memory store.new) }
-    ensures slots { S.slots store.new ≡ S.slots store.old }
-    ensures order { S.order store.new ≡ S.order store.old }
-{
-    set_registers(store, thread, value.registers);
-    set_priority(store, thread, value.priority);
-    set_slice(store, thread, value.slice);
-    set_fault_address(store, thread, value.fault_address);
-    set_status(store, thread, value.status);
-    set_caller(store, thread, value.caller);
-    set_sending(store, thread, value.sending);
 }
