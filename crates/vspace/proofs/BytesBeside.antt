@@ -9,9 +9,9 @@ use Rattle.model.specs.declared.capabilities.TableMapping.{TableMapping}
 use Rattle.model.specs.declared.slot_entries.Entry.{Entry}
 use Rattle.model.proofs.SlotChanges.{capability_of}
 use Rattle.vspace.specs.Endings.{unmapped_entry}
+use Rattle.vspace.specs.Regions.{IsPartlyCleared}
 use Rattle.vspace.specs.Kept.{IsNamedTable, NamesTable, SameBesideTables}
 use Rattle.vspace.proofs.EndedTables.{EndedSoFar}
-use Rattle.vspace.proofs.Sweeps.{Swept}
 use Rattle.vspace.proofs.Names.{names-unmapped}
 
 -- some slots stay closed, and no other table is named
@@ -46,15 +46,15 @@ fewer-region old now m cleared = record {
   named = λ table names. (names.0, names-less m (old names.0) table (subst (λ (held : Option Entry). NamesTable (capability_of held) table) (cleared names.0) names.1));
 }
 
-pub fewer-swept : (order : List ℕ) (old now : Slots) (m : TableMapping) (at : Option ℕ) → Swept order old now m at → Fewer old now
-fewer-swept order old now m at swept = record {
-  closed = λ y none. elim (swept.each y) [
+pub fewer-partly : (old now : Slots) (m : TableMapping) → IsPartlyCleared old now m → Fewer old now
+fewer-partly old now m partly = record {
+  closed = λ y none. elim (partly y) [
     | inl less ↦ less ∙ ap (option_map (without_table m)) none
     | inr same ↦ same ∙ none
   ];
   named = λ table names. (
     names.0,
-    elim (swept.each names.0) [
+    elim (partly names.0) [
       | inl less ↦ names-less m (old names.0) table (subst (λ (held : Option Entry). NamesTable (capability_of held) table) less names.1)
       | inr same ↦ subst (λ (held : Option Entry). NamesTable (capability_of held) table) same names.1
     ],

@@ -170,7 +170,7 @@ stands-mapped goes m (RootTable _) inside is = absurd (cc)
 stands-mapped goes m InterruptControl inside is = absurd (cc)
 stands-mapped goes m (InterruptHandler _) inside is = absurd (cc)
 
-stands-here : (m : TableMapping) (f : ℕ) (r : Rights) (k : FrameMapping) → k.root ≡ m.root → k.page / 2 ^ 10 ≡ m.region → lies_in_region m (Frame f r (Some k)) ≡ true
+pub stands-here : (m : TableMapping) (f : ℕ) (r : Rights) (k : FrameMapping) → k.root ≡ m.root → k.page / 2 ^ 10 ≡ m.region → lies_in_region m (Frame f r (Some k)) ≡ true
 stands-here m f r k root region = rw (eq-eqb k.root m.root root, eq-eqb (k.page / 2 ^ 10) m.region region) refl
 
 -- what becomes of an entry
@@ -179,7 +179,7 @@ without-inside m None inside = refl
 without-inside m (Some held) inside =
     ap (λ (b : Bool). Some (record { capability = if b then unmapped held.capability else held.capability; parent = held.parent })) inside
 
-without-outside : (m : TableMapping) (held : Option Entry) → lies_in_region m (capability_of held) ≡ false → option_map (without_table m) held ≡ held
+pub without-outside : (m : TableMapping) (held : Option Entry) → lies_in_region m (capability_of held) ≡ false → option_map (without_table m) held ≡ held
 without-outside m None outside = refl
 without-outside m (Some held) outside =
     ap (λ (b : Bool). Some (record { capability = if b then unmapped held.capability else held.capability; parent = held.parent })) outside

@@ -11,7 +11,9 @@ mod Joins
 mod TableSteps
 mod TableOutcomes
 mod TableRemovals
+mod NamedSlots
 mod Sweeps
+mod RegionEntries
 mod TableUnmaps
 mod EndedTables
 mod EndedInOrder

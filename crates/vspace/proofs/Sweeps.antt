@@ -1,98 +1,109 @@
--- What becomes of the slots when the frames of a region are unmapped one after another, in the store's order.
-use Rattle.std.proofs.Common.{ℕ, ◌≡◌, ◌≢◌, ◌∙◌, ◌≤◌, ◌⊎◌, inl, inr, Bool, true, false, not, if◌then◌else◌, Option, Some, None, List, option_map, refl, sym, ap, subst, arith}
-use Rattle.std.proofs.lemmas.Bool.{eq-eqb, ne_eqb}
+-- What becomes of the slots while the frames of a region are unmapped one after another.
+use Rattle.std.proofs.Common.{ℕ, ◌≡◌, ◌∙◌, ◌==◌, inl, inr, Bool, true, false, if◌then◌else◌, Option, Some, None, option_map, refl, sym, ap}
+use Rattle.std.specs.Option.{option_map_or}
+use Rattle.std.proofs.lemmas.Bool.{eq-eqb}
 use Rattle.std.proofs.lemmas.Bool.Decides.{eqb_tells}
-use Rattle.model.specs.Capabilities.CapabilityKinds.{unmapped}
-use Rattle.model.specs.Capabilities.Orders.{IsOrderOf, next_in}
-use Rattle.model.specs.Capabilities.Slots.{IsFull, Slots, is_empty}
+use Rattle.model.specs.Capabilities.CapabilityKinds.{object_of, unmapped}
+use Rattle.model.specs.Capabilities.Slots.{Slots, capability_at}
 use Rattle.model.specs.Kernel.MappingCalls.{lies_in_region, without_region, without_table}
-use Rattle.model.specs.Shared.Lists.{times_in}
 use Rattle.model.specs.declared.capabilities.Cap.{Cap}
 use Rattle.model.specs.declared.capabilities.Cap.TheVariants.{Empty, Untyped, Endpoint, Notification, CNode, Frame, PageTable, Tcb, RootTable, InterruptControl, InterruptHandler}
 use Rattle.model.specs.declared.capabilities.TableMapping.{TableMapping}
 use Rattle.model.specs.declared.slot_entries.Entry.{Entry}
-use Rattle.model.proofs.Orders.{behind}
 use Rattle.model.proofs.SlotChanges.{capability_of}
-use Rattle.vspace.specs.Regions.{cleared_at}
-use Rattle.vspace.proofs.FullSlots.{absent-empty, next-full, next-left, next-passed, none-left, others-left, unmapped-full}
+use Rattle.slots.specs.Listed.{is_naming}
+use Rattle.vspace.specs.Regions.{IsPartlyCleared, cleared_at}
+use Rattle.vspace.proofs.EndedTables.{without-outside}
+use Rattle.vspace.proofs.TableUnmaps.{cleared-stands, cleared-table}
 
--- slots that stand behind one are as they were, and the others without the region, if the order is one of the full slots
-pub record Swept (order : List ℕ) (old now : Slots) (m : TableMapping) (at : Option ℕ) : Type 0 where
-  pub full : (slot : ℕ) → at ≡ Some slot → IsFull now slot
-  pub each : (y : ℕ) → (now y ≡ without_region old m y) ⊎ (now y ≡ old y)
-  pub left : (y : ℕ) → 1 ≤ times_in (behind order at) y → now y ≡ old y
-  pub done : IsOrderOf order now → (y : ℕ) → times_in (behind order at) y ≡ 0 → now y ≡ without_region old m y
+-- ---- one entry
 
--- ---- full slots
+-- without its mapping a capability names the same object
+pub object-unmapped : (c : Cap) → object_of (unmapped c) ≡ object_of c
+object-unmapped Empty = refl
+object-unmapped (Untyped _ _ _) = refl
+object-unmapped (Endpoint _ _ _) = refl
+object-unmapped (Notification _ _ _) = refl
+object-unmapped (CNode _ _ _) = refl
+object-unmapped (Frame _ _ _) = refl
+object-unmapped (PageTable _ _) = refl
+object-unmapped (Tcb _) = refl
+object-unmapped (RootTable _) = refl
+object-unmapped InterruptControl = refl
+object-unmapped (InterruptHandler _) = refl
 
--- an empty slot is in no region
-empty-outside : (m : TableMapping) (c : Cap) → not (is_empty c) ≡ false → lies_in_region m c ≡ false
-empty-outside m Empty empty = refl
-empty-outside m (Untyped f b w) empty = absurd (let clash : true ≡ false = empty in cc)
-empty-outside m (Endpoint f r b) empty = absurd (let clash : true ≡ false = empty in cc)
-empty-outside m (Notification f r b) empty = absurd (let clash : true ≡ false = empty in cc)
-empty-outside m (CNode f radix g) empty = absurd (let clash : true ≡ false = empty in cc)
-empty-outside m (Frame f r o) empty = absurd (let clash : true ≡ false = empty in cc)
-empty-outside m (PageTable f o) empty = absurd (let clash : true ≡ false = empty in cc)
-empty-outside m (Tcb f) empty = absurd (let clash : true ≡ false = empty in cc)
-empty-outside m (RootTable f) empty = absurd (let clash : true ≡ false = empty in cc)
-empty-outside m InterruptControl empty = absurd (let clash : true ≡ false = empty in cc)
-empty-outside m (InterruptHandler line) empty = absurd (let clash : true ≡ false = empty in cc)
-
-empty-without : (m : TableMapping) (held : Option Entry) → not (is_empty (capability_of held)) ≡ false → held ≡ option_map (without_table m) held
-empty-without m None empty = refl
-empty-without m (Some held) empty =
-    sym (ap (λ b. Some (record held { capability = if b then unmapped held.capability else held.capability })) (empty-outside m held.capability empty))
-
--- what loses its mapping is full still
-without-full : (m : TableMapping) (held : Option Entry) → not (is_empty (capability_of (option_map (without_table m) held))) ≡ not (is_empty (capability_of held))
-without-full m None = refl
-without-full m (Some held) = elim (lies_in_region m held.capability) as (λ b. not (is_empty (if b then unmapped held.capability else held.capability)) ≡ not (is_empty held.capability)) [
-  | true ↦ unmapped-full held.capability
+pub object-without : (m : TableMapping) (held : Option Entry) → object_of (capability_of (option_map (without_table m) held)) ≡ object_of (capability_of held)
+object-without m None = refl
+object-without m (Some held) = elim (lies_in_region m held.capability) as (λ b. object_of (if b then unmapped held.capability else held.capability) ≡ object_of held.capability) [
+  | true ↦ object-unmapped held.capability
   | false ↦ refl
 ]
 
--- ---- one slot after another
+without-twice : (m : TableMapping) (held : Option Entry) → option_map (without_table m) (option_map (without_table m) held) ≡ option_map (without_table m) held
+without-twice m held = without-outside m (option_map (without_table m) held) (cleared-stands m held)
 
-pub swept-first : (order : List ℕ) (old : Slots) (m : TableMapping) → Swept order old old m None
-swept-first order old m = record {
-  full = λ slot is. absurd (let clash : None ≡ Some slot = is in cc);
-  each = λ y. inr refl;
-  left = λ y _. refl;
-  done = λ lists y none. empty-without m (old y) (absent-empty order old lists y none);
-}
+-- ---- one slot
 
-module _ (order : List ℕ) (old now : Slots) (m : TableMapping) (at : Option ℕ) (lists : IsOrderOf order now) (swept : Swept order old now m at) where
-  module _ (slot : ℕ) (is : Some slot ≡ next_in order at) where
-    -- the slot that was looked at
-    next-here : (next : Slots) → ((y : ℕ) → next y ≡ cleared_at now slot m y) → next slot ≡ without_region old m slot
-    next-here next step =
-        step slot ∙ ap (λ (b : Bool). if b then without_region now m slot else now slot) (eq-eqb slot slot refl) ∙ ap (option_map (without_table m)) (swept.left slot (next-left order now lists at slot is))
+module _ (old now : Slots) (slot : ℕ) (m : TableMapping) (cleared : (y : ℕ) → now y ≡ cleared_at old slot m y) where
+  pub partly-cleared : IsPartlyCleared old now m
+  partly-cleared y = elim (eqb_tells y slot) [
+    | inl here ↦ inl (cleared y ∙ ap (λ (b : Bool). if b then without_region old m y else old y) here.0)
+    | inr other ↦ inr (cleared y ∙ ap (λ (b : Bool). if b then without_region old m y else old y) other.0)
+  ]
 
-    next-other : (next : Slots) → ((y : ℕ) → next y ≡ cleared_at now slot m y) → (y : ℕ) → slot ≢ y → next y ≡ now y
-    next-other next step y other = step y ∙ ap (λ (b : Bool). if b then without_region now m y else now y) (ne_eqb y slot (λ same. other (sym same)))
+  pub slot-cleared : lies_in_region m (capability_at now slot) ≡ false
+  slot-cleared =
+      ap (λ (held : Option Entry). lies_in_region m (capability_of held)) (cleared slot ∙ ap (λ (b : Bool). if b then without_region old m slot else old slot) (eq-eqb slot slot refl))
+      ∙ cleared-stands m (old slot)
 
-    pub swept-next : (next : Slots) → ((y : ℕ) → next y ≡ cleared_at now slot m y) → Swept order old next m (Some slot)
-    swept-next next step = record {
-      full = λ other same. subst (λ (n : ℕ). IsFull next n) (let here : slot ≡ other = cc in here)
-          (ap (λ (held : Option Entry). not (is_empty (capability_of held))) (next-here next step ∙ sym (ap (option_map (without_table m)) (swept.left slot (next-left order now lists at slot is)))) ∙ without-full m (now slot) ∙ next-full order now lists at slot is);
-      each = λ y. elim (eqb_tells slot y) [
-        | inl here ↦ inl (subst (λ (n : ℕ). next n ≡ without_region old m n) here.1 (next-here next step))
-        | inr other ↦ elim (swept.each y) [
-          | inl less ↦ inl (next-other next step y other.1 ∙ less)
-          | inr same ↦ inr (next-other next step y other.1 ∙ same)
-        ]
-      ];
-      left = λ y stands. elim (eqb_tells slot y) [
-        | inl here ↦ absurd (omega (arith, stands, ap (times_in (behind order (Some slot))) (sym here.1), next-passed order now lists at slot is))
-        | inr other ↦ next-other next step y other.1 ∙ swept.left y (omega (arith, stands, others-left order now lists at slot is y other.1))
-      ];
-      done = λ _ y none. elim (eqb_tells slot y) [
-        | inl here ↦ subst (λ (n : ℕ). next n ≡ without_region old m n) here.1 (next-here next step)
-        | inr other ↦ next-other next step y other.1 ∙ swept.done lists y (sym (others-left order now lists at slot is y other.1) ∙ none)
-      ];
-    }
+-- ---- several slots
 
-  -- where none is left all is done
-  pub swept-all : None ≡ next_in order at → (y : ℕ) → now y ≡ without_region old m y
-  swept-all is y = swept.done lists y (none-left order at is y)
+pub partly-then : (old now next : Slots) (m : TableMapping) → IsPartlyCleared old now m → IsPartlyCleared now next m → IsPartlyCleared old next m
+partly-then old now next m before after y = elim (after y) [
+  | inr same ↦ elim (before y) [
+    | inl less ↦ inl (same ∙ less)
+    | inr kept ↦ inr (same ∙ kept)
+  ]
+  | inl gone ↦ elim (before y) [
+    | inl less ↦ inl (gone ∙ ap (option_map (without_table m)) less ∙ without-twice m (old y))
+    | inr kept ↦ inl (gone ∙ ap (option_map (without_table m)) kept)
+  ]
+]
+
+module _ (old now : Slots) (m : TableMapping) (partly : IsPartlyCleared old now m) where
+  -- what is in no region comes into none
+  pub partly-outside : (y : ℕ) → lies_in_region m (capability_at old y) ≡ false → lies_in_region m (capability_at now y) ≡ false
+  partly-outside y outside = elim (partly y) [
+    | inl less ↦ ap (λ (held : Option Entry). lies_in_region m (capability_of held)) less ∙ cleared-stands m (old y)
+    | inr same ↦ ap (λ (held : Option Entry). lies_in_region m (capability_of held)) same ∙ outside
+  ]
+
+  -- each slot names the object that it named
+  pub partly-names : (object y : ℕ) → is_naming now object y ≡ is_naming old object y
+  partly-names object y = ap (λ (o : Option ℕ). option_map_or (λ (named : ℕ). named == object) o false) (elim (partly y) [
+    | inl less ↦ ap (λ (held : Option Entry). object_of (capability_of held)) less ∙ object-without m (old y)
+    | inr same ↦ ap (λ (held : Option Entry). object_of (capability_of held)) same
+  ])
+
+  -- page tables stay where they are mapped
+  pub partly-table : (x t : ℕ) (o : Option TableMapping) → capability_at old x ≡ PageTable t o → capability_at now x ≡ PageTable t o
+  partly-table x t o held = elim (partly x) [
+    | inl less ↦ ap capability_of less ∙ cleared-table m (old x) t o held
+    | inr same ↦ ap capability_of same ∙ held
+  ]
+
+  -- a frame in the region was there before
+  pub partly-before : (y : ℕ) (c : Cap) → capability_at now y ≡ c → lies_in_region m c ≡ true → capability_at old y ≡ c
+  partly-before y c held inside = elim (partly y) [
+    | inl less ↦
+        let outside : lies_in_region m c ≡ false = sym (ap (lies_in_region m) held) ∙ ap (λ (e : Option Entry). lies_in_region m (capability_of e)) less ∙ cleared-stands m (old y) in
+        absurd (let clash : true ≡ false = sym inside ∙ outside in cc)
+    | inr same ↦ sym (ap capability_of same) ∙ held
+  ]
+
+  -- where no frame is left in the region all are gone
+  pub partly-all : ((y : ℕ) → lies_in_region m (capability_at now y) ≡ false) → (y : ℕ) → now y ≡ without_region old m y
+  partly-all none y = elim (partly y) [
+    | inl less ↦ less
+    | inr same ↦ same ∙ sym (without-outside m (old y) (sym (ap (λ (e : Option Entry). lies_in_region m (capability_of e)) same) ∙ none y))
+  ]

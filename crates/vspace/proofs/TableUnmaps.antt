@@ -32,7 +32,7 @@ unmapped-stands m (RootTable _) = refl
 unmapped-stands m InterruptControl = refl
 unmapped-stands m (InterruptHandler _) = refl
 
-cleared-stands : (m : TableMapping) (held : Option Entry) → lies_in_region m (capability_of (option_map (without_table m) held)) ≡ false
+pub cleared-stands : (m : TableMapping) (held : Option Entry) → lies_in_region m (capability_of (option_map (without_table m) held)) ≡ false
 cleared-stands m None = refl
 cleared-stands m (Some held) =
     elim (lies_in_region m held.capability) as (λ b. lies_in_region m held.capability ≡ b → lies_in_region m (if b then unmapped held.capability else held.capability) ≡ false) [
@@ -41,7 +41,7 @@ cleared-stands m (Some held) =
     ] refl
 
 -- a page table's capability stays
-cleared-table : (m : TableMapping) (held : Option Entry) (t : ℕ) (o : Option TableMapping) → capability_of held ≡ PageTable t o → capability_of (option_map (without_table m) held) ≡ PageTable t o
+pub cleared-table : (m : TableMapping) (held : Option Entry) (t : ℕ) (o : Option TableMapping) → capability_of held ≡ PageTable t o → capability_of (option_map (without_table m) held) ≡ PageTable t o
 cleared-table m None t o is = is
 cleared-table m (Some held) t o is =
     ap (λ (c : Cap). if lies_in_region m c then unmapped c else c) is

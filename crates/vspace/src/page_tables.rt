@@ -147,7 +147,7 @@ pub fn unmap_table<S: SlotStore>(store: &mut S, table: PageTableCap)
     let Some(mapping) = table.mapping else {
         return;
     };
-    clear_region(store, mapping);
+    clear_region(store, offset, mapping);
     store.write32(mapping.root + 4 * mapping.region, 0);
     let unmapped = Cap::PageTable {
         offset,

@@ -1,15 +1,19 @@
 //! Unmapping the frames of a region.
 
-ghost use Rattle.std.specs.Prelude.{ℕ, ◌≡◌};
+ghost use Rattle.std.specs.Prelude.{ℕ, ◌≡◌, ◌+◌, ◌*◌, ◌^◌, ◌<◌, Some, IfSome, true, false};
+ghost use Rattle.model.specs.Capabilities.CapabilityWords.{IsPlace};
+ghost use Rattle.model.specs.Capabilities.Slots.{capability_at};
 ghost use Rattle.model.specs.Kernel.MappingCalls.{lies_in_region, without_region};
+ghost use Rattle.slots.specs.Listed.{is_naming};
 ghost use Rattle.vspace.specs.Kept.{SameBesideTables};
-ghost use Rattle.vspace.specs.Regions.{cleared_at};
-ghost use Rattle.vspace.specs.Tables.{TablesAgree};
+ghost use Rattle.vspace.specs.Regions.{IsPartlyCleared, cleared_at};
+ghost use Rattle.vspace.specs.Tables.{Holds, MapsFrame, TablesAgree};
 
 use crate::frames::{FrameCap, unmap_frame};
 use crate::sizes::REGION_PAGES;
 use model::{Cap, Slot, TableMapping};
 use slots::SlotStore;
+use sv32::{Pte, place_of};
 
 /// Whether a capability maps a frame in the region of a page table.
 fn stands_in(held: Cap, region: TableMapping) -> bool
@@ -53,20 +57,71 @@ fn clear_frame<S: SlotStore>(store: &mut S, slot: Slot, region: TableMapping)
     unmap_frame(store, frame);
 }
 
-/// Unmaps all frames of a region. Each full slot is looked at.
-pub(crate) fn clear_region<S: SlotStore>(store: &mut S, region: TableMapping)
+/// Unmaps the frame at an offset where it is mapped in the region. Each capability that names it is looked at.
+fn clear_named<S: SlotStore>(store: &mut S, frame: u32, region: TableMapping)
+    requires page { IsPlace frame 12 }
     requires agree { TablesAgree (S.slots store.old) (S.memory store.old) }
-    ensures slots { (y : ℕ) → S.slots store.new y ≡ without_region (S.slots store.old) region y }
+    ensures slots { IsPartlyCleared (S.slots store.old) (S.slots store.new) region }
+    ensures named { (y : ℕ) → is_naming (S.slots store.new) frame y ≡ true
+        → lies_in_region region (capability_at (S.slots store.new) y) ≡ false }
     ensures bytes { SameBesideTables (S.slots store.old) (S.memory store.old) (S.memory store.new) }
     ensures order { S.order store.new ≡ S.order store.old }
     ensures agree { TablesAgree (S.slots store.new) (S.memory store.new) }
 {
     let mut at = None;
     'slots: loop {
-        let Some(slot) = store.next_full(at) else {
+        let Some(slot) = store.next_naming(frame, at) else {
             return;
         };
         clear_frame(store, slot, region);
         at = Some(slot);
+    }
+}
+
+/// The frame at an entry of the region's page table.
+fn frame_in<S: SlotStore>(store: &S, table: u32, region: TableMapping, number: u32) -> Option<u32>
+    requires agree { TablesAgree (S.slots store.now) (S.memory store.now) }
+    requires mapped { Holds (S.slots store.now) (Cap.PageTable table (Some region)) }
+    requires small { number < 2 ^ 10 }
+    ensures page { IfSome result (λ frame. IsPlace frame 12) }
+    ensures named { (maps : MapsFrame (S.slots store.now) region.root (2 ^ 10 * region.region + number))
+        → result ≡ Some maps.frame }
+{
+    let entry = store.mem().read32(table + 4 * number);
+    if entry == 0 {
+        return None;
+    }
+    let frame = place_of(Pte(entry).page_address())?;
+    Some(frame as u32)
+}
+
+/// Unmaps the frame at an entry of the region's page table, and wherever else it is mapped in the region.
+fn clear_entry<S: SlotStore>(store: &mut S, table: u32, region: TableMapping, number: u32)
+    requires agree { TablesAgree (S.slots store.old) (S.memory store.old) }
+    requires mapped { Holds (S.slots store.old) (Cap.PageTable table (Some region)) }
+    requires small { number < 2 ^ 10 }
+    ensures slots { IsPartlyCleared (S.slots store.old) (S.slots store.new) region }
+    ensures entry { MapsFrame (S.slots store.new) region.root (2 ^ 10 * region.region + number) → ⊥ }
+    ensures bytes { SameBesideTables (S.slots store.old) (S.memory store.old) (S.memory store.new) }
+    ensures order { S.order store.new ≡ S.order store.old }
+    ensures agree { TablesAgree (S.slots store.new) (S.memory store.new) }
+{
+    let Some(frame) = frame_in(store, table, region, number) else {
+        return;
+    };
+    clear_named(store, frame, region);
+}
+
+/// Unmaps all frames of a region, whose page table is at an offset: those that its entries name.
+pub(crate) fn clear_region<S: SlotStore>(store: &mut S, table: u32, region: TableMapping)
+    requires agree { TablesAgree (S.slots store.old) (S.memory store.old) }
+    requires mapped { Holds (S.slots store.old) (Cap.PageTable table (Some region)) }
+    ensures slots { (y : ℕ) → S.slots store.new y ≡ without_region (S.slots store.old) region y }
+    ensures bytes { SameBesideTables (S.slots store.old) (S.memory store.old) (S.memory store.new) }
+    ensures order { S.order store.new ≡ S.order store.old }
+    ensures agree { TablesAgree (S.slots store.new) (S.memory store.new) }
+{
+    'entries: for number in 0..REGION_PAGES {
+        clear_entry(store, table, region, number);
     }
 }

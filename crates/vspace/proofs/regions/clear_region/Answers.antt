@@ -1,42 +1,43 @@
--- Each turn keeps the bytes beside slots and page tables.
-use Rattle.std.proofs.Common.{◌∙◌, ◌<◌, List, ℕ, Some, length, refl, sym, subst}
-use Rattle.model.proofs.Orders.{behind}
-use Rattle.model.specs.Capabilities.Slots.{Slots}
-use Rattle.vspace.proofs.BytesBeside.{beside-same, beside-then, fewer-swept}
-use Rattle.vspace.proofs.FullSlots.{fewer-left}
-use Rattle.vspace.proofs.Sweeps.{Swept, swept-all, swept-first, swept-next}
+-- Each turn clears one entry more; a frame that is mapped in the region has its entry in the page table.
+use Rattle.std.proofs.Common.{◌∙◌, inr, refl, arith}
+use Rattle.vspace.proofs.BytesBeside.{beside-same, beside-then, fewer-partly}
+use Rattle.vspace.proofs.RegionEntries.{entries-next, none-inside}
+use Rattle.vspace.proofs.Sweeps.{partly-all, partly-table, partly-then}
 use Rattle.vspace.proofs.regions.clear_region.Goals as goal
 
-pub slots-init : goal.slots-init
-slots-init g c = record {
-  swept = swept-first (g.S.SlotStore.order c.args.store.now) (g.S.SlotMap.slots c.args.store.now) c.args.region;
+pub entries-init : goal.entries-init
+entries-init g c = record {
+  partly = λ y. inr refl;
+  passed = λ i less maps. omega (arith, less);
   bytes = beside-same (g.S.SlotMap.slots c.args.store.now) (g.S.SlotStore.memory c.args.store.now);
   order = refl;
   agree = c.requires.agree;
 }
 
-pub slots-smaller : goal.slots-smaller
-slots-smaller g c =
-    let old : Slots = g.S.SlotMap.slots c.args.store.now in
-    let now : Slots = g.S.SlotMap.slots c.slots.store in
-    subst (λ (order : List ℕ). length (behind order (Some c.in-Some.slot)) < length (behind (g.S.SlotStore.order c.slots.store) c.slots.at)) (sym c.clear_frame.ensures.order)
-    (fewer-left (g.S.SlotStore.order c.slots.store) now c.next_full.ensures.lists c.slots.at c.in-Some.slot (sym c.in-Some.is ∙ c.next_full.ensures.next))
+pub clear_entry-requires : goal.clear_entry-requires
+clear_entry-requires g c = record {
+  agree = c.entries.invariant.agree;
+  mapped = (
+    c.requires.mapped.0,
+    partly-table (g.S.SlotMap.slots c.args.store.now) (g.S.SlotMap.slots c.entries.store) c.args.region c.entries.invariant.partly c.requires.mapped.0 c.args.table _ c.requires.mapped.1,
+  );
+  small = c.entries-test.true;
+}
 
-pub slots-preserved : goal.slots-preserved
-slots-preserved g c =
-    let old : Slots = g.S.SlotMap.slots c.args.store.now in
-    let now : Slots = g.S.SlotMap.slots c.slots.store in
-    let after : Slots = g.S.SlotMap.slots c.clear_frame.new.store in
-    let order : List ℕ = g.S.SlotStore.order c.slots.store in
+pub entries-preserved : goal.entries-preserved
+entries-preserved g c =
+    let old = g.S.SlotMap.slots c.args.store.now in
+    let now = g.S.SlotMap.slots c.entries.store in
+    let next = g.S.SlotMap.slots c.clear_entry.new.store in
     record {
-      swept = subst (λ (l : List ℕ). Swept l old after c.args.region (Some c.in-Some.slot)) (sym c.clear_frame.ensures.order)
-          (swept-next order old now c.args.region c.slots.at c.next_full.ensures.lists c.slots.invariant.swept c.in-Some.slot (sym c.in-Some.is ∙ c.next_full.ensures.next) after c.clear_frame.ensures.slots);
-      bytes = beside-then old now (g.S.SlotStore.memory c.args.store.now) (g.S.SlotStore.memory c.slots.store) (g.S.SlotStore.memory c.clear_frame.new.store) (fewer-swept order old now c.args.region c.slots.at c.slots.invariant.swept) c.slots.invariant.bytes c.clear_frame.ensures.bytes;
-      order = c.clear_frame.ensures.order ∙ c.slots.invariant.order;
-      agree = c.clear_frame.ensures.agree;
+      partly = partly-then old now next c.args.region c.entries.invariant.partly c.clear_entry.ensures.slots;
+      passed = entries-next now next c.args.region c.clear_entry.ensures.slots c.entries.number c.entries-test.true c.entries.invariant.passed c.clear_entry.ensures.entry;
+      bytes = beside-then old now (g.S.SlotStore.memory c.args.store.now) (g.S.SlotStore.memory c.entries.store) (g.S.SlotStore.memory c.clear_entry.new.store) (fewer-partly old now c.args.region c.entries.invariant.partly) c.entries.invariant.bytes c.clear_entry.ensures.bytes;
+      order = c.clear_entry.ensures.order ∙ c.entries.invariant.order;
+      agree = c.clear_entry.ensures.agree;
     }
 
-pub returns-in_default-clause-slots : goal.returns-in_default-clause-slots
-returns-in_default-clause-slots g c =
-    swept-all (g.S.SlotStore.order c.slots.store) (g.S.SlotMap.slots c.args.store.now) (g.S.SlotMap.slots c.slots.store) c.args.region c.slots.at c.next_full.ensures.lists
-    c.slots.invariant.swept (sym c.in_default.is ∙ c.next_full.ensures.next)
+pub returns-clause-slots : goal.returns-clause-slots
+returns-clause-slots g c =
+    partly-all (g.S.SlotMap.slots c.args.store.now) (g.S.SlotMap.slots c.entries.store) c.args.region c.entries.invariant.partly
+    (none-inside (g.S.SlotMap.slots c.entries.store) c.args.region (λ i less. c.entries.invariant.passed i (omega (arith, less, c.entries-test.false))))
