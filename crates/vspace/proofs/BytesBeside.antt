@@ -11,7 +11,7 @@ use Rattle.model.proofs.SlotChanges.{capability_of}
 use Rattle.vspace.specs.Endings.{unmapped_entry}
 use Rattle.vspace.specs.Regions.{IsPartlyCleared}
 use Rattle.vspace.specs.Kept.{IsNamedTable, NamesTable, SameBesideTables}
-use Rattle.vspace.proofs.EndedTables.{EndedSoFar}
+use Rattle.vspace.proofs.EndingSteps.{IsLess}
 use Rattle.vspace.proofs.Names.{names-unmapped}
 
 -- some slots stay closed, and no other table is named
@@ -65,15 +65,15 @@ names-ended : (held : Option Entry) (table : ℕ) → NamesTable (capability_of 
 names-ended None table named = named
 names-ended (Some held) table named = names-unmapped held.capability table named
 
-pub fewer-ended : (order : List ℕ) (old now : Slots) (offset : ℕ) (at : Option ℕ) → EndedSoFar order old now offset at → Fewer old now
-fewer-ended order old now offset at so_far = record {
-  closed = λ y none. elim (so_far.each y) [
+pub fewer-less : (old now : Slots) → IsLess old now → Fewer old now
+fewer-less old now less = record {
+  closed = λ y none. elim (less y) [
     | inl lost ↦ lost ∙ ap (option_map unmapped_entry) none
     | inr kept ↦ kept ∙ none
   ];
   named = λ table names. (
     names.0,
-    elim (so_far.each names.0) [
+    elim (less names.0) [
       | inl lost ↦ names-ended (old names.0) table (subst (λ (held : Option Entry). NamesTable (capability_of held) table) lost names.1)
       | inr kept ↦ subst (λ (held : Option Entry). NamesTable (capability_of held) table) kept names.1
     ],

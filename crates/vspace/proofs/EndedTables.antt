@@ -1,12 +1,11 @@
 -- Unmapping the page tables that go with an ended table, one after another, leaves what the definition says.
-use Rattle.std.proofs.Common.{◌≡◌, ◌≢◌, ◌∙◌, ℕ, ◌==◌, ◌/◌, ◌^◌, ◌⊎◌, inl, inr, Bool, true, false, not, Option, Some, None, List, refl, sym, ap, subst}
+use Rattle.std.proofs.Common.{◌≡◌, ◌≢◌, ◌∙◌, ℕ, ◌/◌, ◌^◌, ◌⊎◌, inl, inr, Bool, true, false, not, Option, Some, None, List, refl, sym, ap, subst}
 use Rattle.std.specs.Prelude.{if◌then◌else◌}
 use Rattle.std.specs.Option.{option_map}
 use Rattle.std.proofs.lemmas.Bool.{eq-eqb}
 use Rattle.std.proofs.lemmas.Bool.Decides.{eqb_tells}
 use Rattle.model.specs.Capabilities.CapabilityKinds.{frame_mapping, table_mapping, unmapped}
 use Rattle.model.specs.Kernel.MappingCalls.{lies_in_region, without_region, without_table}
-use Rattle.model.specs.Capabilities.Orders.{IsOrderOf}
 use Rattle.model.specs.Capabilities.Slots.{IsFull, Slots, capability_at, is_empty, parent_at, recapped}
 use Rattle.model.specs.declared.capabilities.Cap.{Cap}
 use Rattle.model.specs.declared.capabilities.Cap.TheVariants.{Empty, Untyped, Endpoint, Notification, CNode, Frame, PageTable, Tcb, RootTable, InterruptControl, InterruptHandler}
@@ -14,8 +13,6 @@ use Rattle.model.specs.declared.capabilities.FrameMapping.{FrameMapping}
 use Rattle.model.specs.declared.capabilities.TableMapping.{TableMapping}
 use Rattle.model.specs.declared.rights.Rights.{Rights}
 use Rattle.model.specs.declared.slot_entries.Entry.{Entry}
-use Rattle.model.specs.Shared.Lists.{times_in}
-use Rattle.model.proofs.Orders.{behind}
 use Rattle.model.proofs.SlotChanges.{capability_of, entry-other, entry-same, parent_of}
 use Rattle.vspace.specs.Endings.{Ended, GoesWith, IsMappedIn, Loses, NoneUnder, ended_at, is_ending, unmapped_entry}
 use Rattle.removal_laws.specs.Steps.{slots_unmapped}
@@ -42,20 +39,10 @@ pub record OneMore (done more : ℕ → Bool) (n : ℕ) : Type 0 where
   pub kept : (y : ℕ) → done y ≡ true → more y ≡ true
   pub others : (y : ℕ) → y ≢ n → more y ≡ true → done y ≡ true
 
--- in the store's order: those that do not stand behind a slot
-abbrev pub passed : List ℕ → Option ℕ → ℕ → Bool
-passed order at y = times_in (behind order at) y == 0
-
--- how far the loop has come, if the order is one of the full slots
-pub record EndedSoFar (order : List ℕ) (old now : Slots) (offset : ℕ) (at : Option ℕ) : Type 0 where
-  pub full : (slot : ℕ) → at ≡ Some slot → IsFull now slot
-  pub each : (y : ℕ) → (now y ≡ option_map unmapped_entry (old y)) ⊎ (now y ≡ old y)
-  pub ended : IsOrderOf order now → EndedBefore old now offset (passed order at)
-
 -- ---- capabilities
 
 -- a page table's capability that goes
-abbrev Going : ℕ → Cap → Type 0
+abbrev pub Going : ℕ → Cap → Type 0
 Going offset c = (t : ℕ) × (m : TableMapping) × (c ≡ PageTable t (Some m)) × ((m.root ≡ offset) ⊎ (t ≡ offset))
 
 not-going : (offset t : ℕ) (m : TableMapping) → m.root ≢ offset → t ≢ offset → Going offset (PageTable t (Some m)) → ⊥
@@ -67,7 +54,7 @@ not-going offset t m a b going =
       | inr here ↦ b (table ∙ here)
     ]
 
-ending-cases : (offset : ℕ) (c : Cap) → ((is_ending offset c ≡ true) × Going offset c) ⊎ ((is_ending offset c ≡ false) × (Going offset c → ⊥))
+pub ending-cases : (offset : ℕ) (c : Cap) → ((is_ending offset c ≡ true) × Going offset c) ⊎ ((is_ending offset c ≡ false) × (Going offset c → ⊥))
 ending-cases offset (PageTable t (Some m)) = elim (eqb_tells m.root offset) [
   | inl a ↦ inl (rw a.0 refl, (t, m, refl, inl a.1))
   | inr a ↦ elim (eqb_tells t offset) [
@@ -114,7 +101,7 @@ no-table (RootTable _) = refl
 no-table InterruptControl = refl
 no-table (InterruptHandler _) = refl
 
-entry-unmapped : (held : Option Entry) → capability_of (option_map unmapped_entry held) ≡ unmapped (capability_of held)
+pub entry-unmapped : (held : Option Entry) → capability_of (option_map unmapped_entry held) ≡ unmapped (capability_of held)
 entry-unmapped None = refl
 entry-unmapped (Some held) = refl
 
@@ -131,7 +118,7 @@ not_table now old t m is held =
     cc
 
 -- a page table's capability without its mapping
-table-entry : (held : Option Entry) (t : ℕ) (o : Option TableMapping) → capability_of held ≡ PageTable t o → option_map unmapped_entry held ≡ Some (record { capability = PageTable t None; parent = parent_of held })
+pub table-entry : (held : Option Entry) (t : ℕ) (o : Option TableMapping) → capability_of held ≡ PageTable t o → option_map unmapped_entry held ≡ Some (record { capability = PageTable t None; parent = parent_of held })
 table-entry None t o is = absurd (cc)
 table-entry (Some held) t o is = ap (λ (c : Cap). Some (record { capability = unmapped c; parent = held.parent })) is
 
@@ -174,7 +161,7 @@ pub stands-here : (m : TableMapping) (f : ℕ) (r : Rights) (k : FrameMapping) �
 stands-here m f r k root region = rw (eq-eqb k.root m.root root, eq-eqb (k.page / 2 ^ 10) m.region region) refl
 
 -- what becomes of an entry
-without-inside : (m : TableMapping) (held : Option Entry) → lies_in_region m (capability_of held) ≡ true → option_map (without_table m) held ≡ option_map unmapped_entry held
+pub without-inside : (m : TableMapping) (held : Option Entry) → lies_in_region m (capability_of held) ≡ true → option_map (without_table m) held ≡ option_map unmapped_entry held
 without-inside m None inside = refl
 without-inside m (Some held) inside =
     ap (λ (b : Bool). Some (record { capability = if b then unmapped held.capability else held.capability; parent = held.parent })) inside

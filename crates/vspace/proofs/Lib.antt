@@ -16,8 +16,7 @@ mod Sweeps
 mod RegionEntries
 mod TableUnmaps
 mod EndedTables
-mod EndedInOrder
-mod FullSlots
+mod EndingSteps
 mod EndedRoots
 mod BytesBeside
 mod AgreementCarried

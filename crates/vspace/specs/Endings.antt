@@ -4,6 +4,7 @@ use Rattle.model.specs.Capabilities.CapabilityKinds.{unmapped}
 use Rattle.model.specs.Capabilities.Slots.{Slots, capability_at}
 use Rattle.model.specs.declared.capabilities.Cap.{Cap}
 use Rattle.model.specs.declared.capabilities.Cap.TheVariants.{Frame, PageTable}
+use Rattle.model.specs.declared.capabilities.TableMapping.{TableMapping}
 use Rattle.model.specs.declared.slot_entries.Entry.{Entry}
 use Rattle.removal_laws.specs.Steps.{slots_unmapped}
 use Rattle.vspace.specs.Tables.{MapsFrame, MapsTable}
@@ -47,3 +48,13 @@ is_ending offset _ = false
 abbrev pub ended_at : Slots → ℕ → ℕ → Slots
 ended_at slots slot offset =
     if is_ending offset (capability_at slots slot) then slots_unmapped slots slot (capability_at slots slot) else slots
+
+-- the slots once some of the page tables that go with the table at an offset have been unmapped, one after another
+pub data Ending (offset : ℕ) (old : Slots) : Slots → Type 0 where
+  begins : (now : Slots) → now ≡ old → Ending offset old now
+  goes_on : (now next : Slots) (slot : ℕ) → Ending offset old now → next ≡ ended_at now slot offset → Ending offset old next
+
+-- no capability to a page table has a mapping that goes with the table at an offset
+abbrev pub HasEnded : Slots → ℕ → ℕ → Type 0
+HasEnded slots table offset =
+    (slot : ℕ) (m : TableMapping) → capability_at slots slot ≡ PageTable table (Some m) → is_ending offset (PageTable table (Some m)) ≡ false

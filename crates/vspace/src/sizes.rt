@@ -11,3 +11,9 @@ pub(crate) const REGION_SIZE: u32 = 0x40_0000;
 
 /// Addresses from here on are never mapped: the upper half.
 pub(crate) const ADDRESS_LIMIT: u32 = 0x8000_0000;
+
+/// Regions of the lower half.
+pub(crate) const LOWER_REGIONS: u32 = 0x200;
+
+/// Memory has at most so many bytes.
+pub(crate) const MEMORY_LIMIT: u64 = 0x100_0000;
