@@ -1,5 +1,5 @@
 -- The parent of a slot that is emptied, once its object has ended.
-use Rattle.std.proofs.Common.{ℕ, ◌≡◌, ◌≢◌, ◌∙◌, Option, Some, None, option_map, refl, sym, ap, subst}
+use Rattle.std.proofs.Common.{ℕ, ◌≡◌, ◌∙◌, Option, Some, None, option_map, refl, sym, ap, subst}
 use Rattle.std.specs.Option.{option_map_or}
 use Rattle.model.proofs.SlotChanges.{parent_of}
 use Rattle.model.specs.Capabilities.CapabilityKinds.{root_of}

@@ -20,7 +20,9 @@ mod Waiters
 mod NoneBelow
 mod EmptiedSets
 mod ClosedSlots
-mod CountedSlots
+mod EndingSlots
+mod MarkedSlots
+mod NamedBeside
 mod RemovedLists
 mod RemovedSets
 mod RemovingCalls

@@ -10,14 +10,14 @@ use Rattle.model.specs.Capabilities.Slots.{Slots, capability_at, empty_entry, pa
 use Rattle.model.specs.declared.capabilities.Cap.{Cap}
 use Rattle.slots.specs.Kin.{IsShared, object_at}
 
-named-so : (o : Option ℕ) (offset : ℕ) → option_map_or (λ named. named == offset) o false ≡ true → o ≡ Some offset
+pub named-so : (o : Option ℕ) (offset : ℕ) → option_map_or (λ named. named == offset) o false ≡ true → o ≡ Some offset
 named-so None offset is = absurd (let clash : false ≡ true = is in cc)
 named-so (Some x) offset is = elim (eqb_tells x offset) [
   | inl here ↦ ap Some here.1
   | inr off ↦ absurd (let clash : false ≡ true = sym off.0 ∙ is in cc)
 ]
 
-so-named : (o : Option ℕ) (offset : ℕ) → o ≡ Some offset → option_map_or (λ named. named == offset) o false ≡ true
+pub so-named : (o : Option ℕ) (offset : ℕ) → o ≡ Some offset → option_map_or (λ named. named == offset) o false ≡ true
 so-named o offset is = ap (λ o. option_map_or (λ named. named == offset) o false) is ∙ eq-eqb offset offset refl
 
 left-other : (slots : Slots) (gone s : ℕ) → s ≢ gone → capability_at (spliced slots gone) s ≡ capability_at slots s

@@ -1,4 +1,5 @@
 pub mod Listed
+pub mod Marked
 pub mod Nodes
 pub mod Outcomes
 pub mod Placed
@@ -8,5 +9,4 @@ pub mod RetypeChecks
 pub mod Sets
 pub mod StillNamed
 pub mod Unsettled
-pub mod Counted
 pub mod object_lifetimes

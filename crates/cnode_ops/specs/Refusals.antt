@@ -1,9 +1,10 @@
 -- What a removal asks of the slots before it takes any away.
 -- seL4 Reference Manual, "Deletion, Revocation, and Recycling"; the refusal is our own.
-use Rattle.std.specs.Prelude.{ℕ, ◌/◌, ◌^◌, ◌<◌, ◌&&◌, Bool, List, false, length, not}
+use Rattle.std.specs.Prelude.{ℕ, ◌/◌, ◌^◌, ◌<◌, ◌&&◌, Bool, List, false, length, not, if◌then◌else◌}
 use Rattle.std.specs.Option.{option_map_or}
 use Rattle.std.specs.List.{list_any, range_with_len}
 use Rattle.cnode_ops.specs.Sets.{set_of}
+use Rattle.cnode_ops.specs.declared.refusals.OwnSlots.{OwnSlots}
 use Rattle.cnode_ops.specs.declared.sets.Removed.{Removed}
 use Rattle.model.specs.declared.capabilities.Cap.{Cap}
 use Rattle.model.specs.declared.capabilities.Cap.TheVariants.{Empty, Untyped, Endpoint, Notification, CNode, Frame, PageTable, Tcb, RootTable, InterruptControl, InterruptHandler}
@@ -48,6 +49,20 @@ abbrev pub is_left_filled : Slots → ℕ → Removed → Cap → Bool
 is_left_filled slots count set capability =
     option_map_or (λ offset. some_slot (offset / 16) (slots_named capability) (stays slots set) && not (is_named_beside slots count set offset)) (object_of capability) false
 
+-- the slots of the object that a capability names: none, where a slot that stays names it too
+abbrev pub own_slots : Slots → ℕ → Removed → Cap → OwnSlots
+own_slots slots count set capability = option_map_or (λ offset. record {
+  first = offset / 16;
+  count = if is_named_beside slots count set offset then 0 else slots_named capability;
+}) (object_of capability) (record { first = 0; count = 0 })
+
+-- whether one of an object's slots passes a test
+abbrev pub some_own : OwnSlots → (ℕ → Bool) → Bool
+some_own own test = some_slot own.first own.count test
+
 -- a slot goes, and what its capability names is left so
 abbrev pub refuses : Slots → ℕ → Removed → ℕ → Bool
 refuses slots count set slot = goes slots set slot && is_left_filled slots count set (capability_at slots slot)
+
+abbrev pub is_some_left_filled : Slots → ℕ → Removed → Bool
+is_some_left_filled slots count set = some_slot 0 count (refuses slots count set)

@@ -8,6 +8,7 @@ mod deletions;
 mod emptying;
 mod endings;
 mod lines;
+mod marks;
 mod moves;
 mod mutations;
 mod named;

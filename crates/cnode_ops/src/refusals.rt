@@ -1,86 +1,63 @@
 //! What a removal asks of the slots before it takes any away: it is refused where an object would end
-//! that still holds capabilities.
+//! that still holds capabilities. It looks at the slots that go, at their neighbours, and at the slots of objects that end.
 
-ghost use Rattle.std.specs.Prelude.{ℕ, ◌≡◌, ◌+◌, ◌/◌, ◌^◌, ◌≤◌, ◌&&◌, not, length};
-ghost use Rattle.cnode_ops.specs.Counted.{times_where};
-ghost use Rattle.cnode_ops.specs.Refusals.{AreNear, goes, is_left_filled, is_named_beside, slots_named, stays};
-ghost use Rattle.model.specs.Capabilities.CapabilityKinds.{names_object};
+ghost use Rattle.std.specs.Prelude.{ℕ, ◌≡◌, ◌+◌, ◌^◌, ◌<◌, ◌≤◌, ◌/◌, ◌&&◌, Some, None, true, false, length};
+ghost use Rattle.cnode_ops.specs.Marked.{is_marked, is_unmarked};
+ghost use Rattle.cnode_ops.specs.Refusals.{AreNear, goes, is_named_beside, is_some_left_filled, own_slots, slots_named, some_own, some_slot};
+ghost use Rattle.cnode_ops.specs.Sets.{listed_in, set_of};
+ghost use Rattle.model.specs.Capabilities.CapabilityKinds.{object_of};
 ghost use Rattle.model.specs.Capabilities.CapabilityWords.{IsCapability};
-ghost use Rattle.model.specs.Capabilities.Slots.{capability_at, is_full, is_within};
+ghost use Rattle.model.specs.Capabilities.Orders.{next_in};
+ghost use Rattle.model.specs.Capabilities.Slots.{capability_at, is_full};
 ghost use Rattle.model.specs.Kernel.Removal.{wants_revoke_first, with_bindings};
 ghost use Rattle.model.specs.Kernel.Soundness.{IsSound};
 ghost use Rattle.model.specs.Kernel.State.{State};
-ghost use Rattle.cnode_ops.specs.Sets.{set_of};
 
-use crate::sets::{Removed, is_removed, next_removed};
+use crate::marks::Marks;
+use crate::sets::{Removed, next_removed};
 use crate::windows::any_full;
 use model::{Cap, Slot};
 use slots::{SlotStore, is_taken, object_of};
 
-/// Whether a slot is full, and none of those that go.
-pub(crate) fn stays<S: SlotStore>(store: &S, set: &Removed, slot: Slot) -> bool
-    ensures { result ≡ stays (S.slots store.now) set.now slot }
-{
-    is_taken(store, slot) && !is_removed(store, *set, slot)
+/// The slots of an object: so many from `first` on.
+#[derive(Clone, Copy)]
+struct OwnSlots {
+    first: u32,
+    count: u32,
 }
 
-/// Whether a slot is full, stays, and names the object at an offset.
-fn names_beside<S: SlotStore>(store: &S, set: &Removed, offset: u32, slot: Slot) -> bool
-    ensures { result ≡ (names_object offset (capability_at (S.slots store.now) slot) && stays (S.slots store.now) set.now slot) }
+/// Whether these are the same slots.
+fn are_same(own: OwnSlots, other: OwnSlots) -> bool
+    ensures { result ≡ true → own ≡ other }
 {
-    object_of(store.capability(slot)) == Some(offset) && stays(store, set, slot)
+    own.first == other.first && own.count == other.count
 }
 
-/// Whether some slot that stays names the object at an offset.
-fn is_named_beside<S: SlotStore>(store: &S, set: &Removed, offset: u32) -> bool
+/// The last slot that goes, from one on.
+fn last_removed<S: SlotStore>(store: &S, set: &Removed, first: Slot) -> Slot
+    requires { goes (S.slots store.now) set.now first ≡ true }
+    ensures goes { goes (S.slots store.now) set.now result ≡ true }
+    ensures last { next_in (listed_in (S.order store.now) (S.slots store.now) set.now) (Some result) ≡ None }
+{
+    let mut last = first;
+    'slots: while let Some(slot) = next_removed(store, set, Some(last)) {
+        last = slot;
+    }
+    last
+}
+
+/// Whether a slot that stays names the object which a slot names that goes. `last` is the last one that goes.
+fn is_named_beside<S: SlotStore>(store: &S, set: &Removed, last: Slot, slot: Slot) -> bool
     requires near { AreNear (S.slots store.now) (S.memory store.now) }
-    ensures { result ≡ is_named_beside (S.slots store.now) (length (S.memory store.now) / 16) set.now offset }
+    requires goes { goes (S.slots store.now) set.now slot ≡ true }
+    requires last_goes { goes (S.slots store.now) set.now last ≡ true }
+    requires last { next_in (listed_in (S.order store.now) (S.slots store.now) set.now) (Some last) ≡ None }
+    ensures { (offset : ℕ) → object_of (capability_at (S.slots store.now) slot) ≡ Some offset
+        → result ≡ is_named_beside (S.slots store.now) (length (S.memory store.now) / 16) set.now offset }
 {
-    let mut at = None;
-    'slots: loop {
-        let Some(slot) = store.next_full(at) else {
-            return false;
-        };
-        if names_beside(store, set, offset, slot) {
-            return true;
-        }
-        at = Some(slot);
-    }
-}
-
-/// How many of so many slots from `first` on are full.
-fn count_full<S: SlotStore>(store: &S, first: u32, count: u32) -> u32
-    requires { first + count ≤ 2 ^ 20 }
-    ensures { result ≡ times_where first count (is_full (S.slots store.now)) }
-{
-    let mut full = 0;
-    'slots: for index in 0..count {
-        full += u32::from(is_taken(store, Slot::new(first + index)));
-    }
-    full
-}
-
-/// Whether a slot is one of so many from `first` on.
-fn is_between(slot: Slot, first: u32, count: u32) -> bool
-    requires { first + count ≤ 2 ^ 20 }
-    ensures { result ≡ is_within first count slot }
-{
-    first <= slot.number() && slot.number() < first + count
-}
-
-/// How many of so many slots from `first` on go.
-fn count_going<S: SlotStore>(store: &S, set: &Removed, first: u32, count: u32) -> u32
-    requires { first + count ≤ 2 ^ 20 }
-    ensures { result ≡ times_where first count (goes (S.slots store.now) set.now) }
-{
-    let mut going = 0;
-    let mut at = None;
-    'slots: loop {
-        let Some(slot) = next_removed(store, set, at) else {
-            return going;
-        };
-        going += u32::from(is_between(slot, first, count));
-        at = Some(slot);
+    match *set {
+        Removed::One(only) => store.is_shared(only),
+        Removed::Below(root) => store.is_shared_beside(root, last, slot),
     }
 }
 
@@ -96,24 +73,144 @@ fn slots_named(capability: Cap) -> u32
     }
 }
 
-/// Whether the object that a capability names has a full slot that stays, and no slot that stays names
-/// it.
-fn is_left_filled<S: SlotStore>(store: &S, set: &Removed, capability: Cap) -> bool
-    requires valid { IsCapability capability }
+/// The slots of the object which a slot names that goes: none, where a slot that stays names it too.
+fn own_slots<S: SlotStore>(store: &S, set: &Removed, last: Slot, slot: Slot) -> OwnSlots
     requires near { AreNear (S.slots store.now) (S.memory store.now) }
-    ensures { result ≡ is_left_filled (S.slots store.now) (length (S.memory store.now) / 16) set.now capability }
+    requires goes { goes (S.slots store.now) set.now slot ≡ true }
+    requires last_goes { goes (S.slots store.now) set.now last ≡ true }
+    requires last { next_in (listed_in (S.order store.now) (S.slots store.now) set.now) (Some last) ≡ None }
+    ensures value { result ≡ own_slots (S.slots store.now) (length (S.memory store.now) / 16) set.now (capability_at (S.slots store.now) slot) }
+    ensures inside { result.first + result.count ≤ 2 ^ 20 }
+    ensures near { result.first < 2 ^ 20 }
 {
+    let capability = store.capability(slot);
     let Some(offset) = object_of(capability) else {
-        return false;
+        return OwnSlots { first: 0, count: 0 };
     };
-    let (first, count) = (offset / 16, slots_named(capability));
-    if !any_full(store, Slot::new(first), count) {
+    let first = offset / 16;
+    if is_named_beside(store, set, last, slot) {
+        return OwnSlots { first, count: 0 };
+    }
+    let count = slots_named(capability);
+    OwnSlots { first, count }
+}
+
+/// Whether one of some slots is full, if none of those is that were asked for before: these may be the same.
+fn any_full_own<S: SlotStore>(store: &S, own: OwnSlots, passed: OwnSlots) -> bool
+    requires inside { own.first + own.count ≤ 2 ^ 20 }
+    requires near { own.first < 2 ^ 20 }
+    requires none { some_own passed (is_full (S.slots store.now)) ≡ false }
+    ensures { result ≡ some_own own (is_full (S.slots store.now)) }
+{
+    if are_same(own, passed) {
         return false;
     }
-    if is_named_beside(store, set, offset) {
+    any_full(store, Slot::new(own.first), own.count)
+}
+
+/// Whether an object that ends has a full slot. `last` is the last slot that goes.
+fn any_ends_full<S: SlotStore>(store: &S, set: &Removed, last: Slot) -> bool
+    requires near { AreNear (S.slots store.now) (S.memory store.now) }
+    requires last_goes { goes (S.slots store.now) set.now last ≡ true }
+    requires last { next_in (listed_in (S.order store.now) (S.slots store.now) set.now) (Some last) ≡ None }
+    ensures { result ≡ false → (slot : ℕ) → goes (S.slots store.now) set.now slot ≡ true
+        → some_own (own_slots (S.slots store.now) (length (S.memory store.now) / 16) set.now (capability_at (S.slots store.now) slot)) (is_full (S.slots store.now)) ≡ false }
+{
+    let mut passed = OwnSlots { first: 0, count: 0 };
+    let mut at = None;
+    'slots: loop {
+        let Some(slot) = next_removed(store, set, at) else {
+            return false;
+        };
+        let own = own_slots(store, set, last, slot);
+        if any_full_own(store, own, passed) {
+            return true;
+        }
+        passed = own;
+        at = Some(slot);
+    }
+}
+
+/// Marks all slots that go.
+fn mark_all<S: SlotStore>(store: &S, set: &Removed, marks: &mut Marks)
+    requires { (slot : ℕ) → is_marked marks.old slot ≡ false }
+    ensures { (slot : ℕ) → is_marked marks.new slot ≡ goes (S.slots store.now) set.now slot }
+{
+    let mut at = None;
+    'slots: loop {
+        let Some(slot) = next_removed(store, set, at) else {
+            return;
+        };
+        marks.mark(slot);
+        at = Some(slot);
+    }
+}
+
+/// Whether a slot is full and not marked.
+fn is_unmarked<S: SlotStore>(store: &S, marks: &Marks, slot: Slot) -> bool
+    ensures { result ≡ is_unmarked (S.slots store.now) marks.now slot }
+{
+    is_taken(store, slot) && !marks.contains(slot)
+}
+
+/// Whether one of some slots is full and not marked.
+fn any_unmarked<S: SlotStore>(store: &S, marks: &Marks, own: OwnSlots) -> bool
+    requires { own.first + own.count ≤ 2 ^ 20 }
+    ensures { result ≡ some_own own (is_unmarked (S.slots store.now) marks.now) }
+{
+    'slots: for index in 0..own.count {
+        if is_unmarked(store, marks, Slot::new(own.first + index)) {
+            return true;
+        }
+    }
+    false
+}
+
+/// The same, if it is not so of those slots that were asked for before: these may be the same.
+fn any_unmarked_own<S: SlotStore>(store: &S, marks: &Marks, own: OwnSlots, passed: OwnSlots) -> bool
+    requires inside { own.first + own.count ≤ 2 ^ 20 }
+    requires none { some_own passed (is_unmarked (S.slots store.now) marks.now) ≡ false }
+    ensures { result ≡ some_own own (is_unmarked (S.slots store.now) marks.now) }
+{
+    if are_same(own, passed) {
         return false;
     }
-    count_going(store, set, first, count) < count_full(store, first, count)
+    any_unmarked(store, marks, own)
+}
+
+/// Whether an object that ends has a full slot which is not marked. `last` is the last slot that goes.
+fn any_ends_unmarked<S: SlotStore>(store: &S, set: &Removed, last: Slot, marks: &Marks) -> bool
+    requires near { AreNear (S.slots store.now) (S.memory store.now) }
+    requires last_goes { goes (S.slots store.now) set.now last ≡ true }
+    requires last { next_in (listed_in (S.order store.now) (S.slots store.now) set.now) (Some last) ≡ None }
+    ensures { result ≡ some_slot 0 (length (S.memory store.now) / 16) (λ slot. goes (S.slots store.now) set.now slot
+        && some_own (own_slots (S.slots store.now) (length (S.memory store.now) / 16) set.now (capability_at (S.slots store.now) slot)) (is_unmarked (S.slots store.now) marks.now)) }
+{
+    let mut passed = OwnSlots { first: 0, count: 0 };
+    let mut at = None;
+    'slots: loop {
+        let Some(slot) = next_removed(store, set, at) else {
+            return false;
+        };
+        let own = own_slots(store, set, last, slot);
+        if any_unmarked_own(store, marks, own, passed) {
+            return true;
+        }
+        passed = own;
+        at = Some(slot);
+    }
+}
+
+/// Whether an object that ends has a full slot which stays. `last` is the last slot that goes.
+fn any_ends_filled<S: SlotStore>(store: &S, set: &Removed, last: Slot) -> bool
+    requires near { AreNear (S.slots store.now) (S.memory store.now) }
+    requires last_goes { goes (S.slots store.now) set.now last ≡ true }
+    requires last { next_in (listed_in (S.order store.now) (S.slots store.now) set.now) (Some last) ≡ None }
+    ensures { result ≡ is_some_left_filled (S.slots store.now) (length (S.memory store.now) / 16) set.now }
+{
+    let mut marks = Marks::none();
+    mark_all(store, set, &mut marks);
+    any_ends_unmarked(store, set, last, &marks)
 }
 
 /// Whether these slots may not go yet: with them would go the last capability to a CNode or a thread that
@@ -123,14 +220,13 @@ pub(crate) fn wants_revoke_first<S: SlotStore>(store: &S, set: Removed) -> bool
     ensures { (s : State) → s.slots ≡ S.slots store.now → IsSound s → 2 ^ s.memory_bits ≡ length (S.memory store.now)
         → result ≡ wants_revoke_first s (with_bindings s (set_of s.slots set)) }
 {
-    let mut at = None;
-    'slots: loop {
-        let Some(slot) = next_removed(store, &set, at) else {
-            return false;
-        };
-        if is_left_filled(store, &set, store.capability(slot)) {
-            return true;
-        }
-        at = Some(slot);
+    let Some(first) = next_removed(store, &set, None) else {
+        return false;
+    };
+    let last = last_removed(store, &set, first);
+    // Most removals end no object that has a full slot: then nothing is marked.
+    if !any_ends_full(store, &set, last) {
+        return false;
     }
+    any_ends_filled(store, &set, last)
 }

@@ -6,7 +6,7 @@ ghost use Rattle.cnode_ops.specs.Listed.{Lists};
 ghost use Rattle.cnode_ops.specs.Refusals.{goes};
 ghost use Rattle.cnode_ops.specs.Sets.{listed_in, set_of};
 ghost use Rattle.model.specs.Capabilities.Orders.{next_in};
-ghost use Rattle.model.specs.Capabilities.Slots.{IsFull, IsOpen, is_full};
+ghost use Rattle.model.specs.Capabilities.Slots.{IsFull, is_full};
 
 use model::Slot;
 use slots::{SlotStore, is_taken};
@@ -16,17 +16,6 @@ use slots::{SlotStore, is_taken};
 pub enum Removed {
     One(Slot),
     Below(Slot),
-}
-
-/// Whether a slot is one of these.
-pub(crate) fn is_removed<S: SlotStore>(store: &S, set: Removed, slot: Slot) -> bool
-    requires { IsOpen (S.slots store.now) slot }
-    ensures { result ≡ set_of (S.slots store.now) set slot }
-{
-    match set {
-        Removed::One(only) => slot.number() == only.number(),
-        Removed::Below(root) => store.descends(root, slot),
-    }
 }
 
 /// A slot, if it is full.

@@ -1,5 +1,5 @@
 -- The steps together.
-use Rattle.std.proofs.Common.{◌≡◌, ◌∙◌, Some, refl, sym, subst}
+use Rattle.std.proofs.Common.{◌≡◌, Some, refl, subst}
 use Rattle.model.specs.Capabilities.Slots.{IsDerivation, Slots, parent_at}
 use Rattle.model.specs.Kernel.State.{State}
 use Rattle.removal_laws.proofs.Laws.{emptied-in-steps, parent-full, there-taken}

@@ -1,57 +1,21 @@
--- The slot where it was found, or none behind the last one.
-use Rattle.std.proofs.Common.{ℕ, ◌≡◌, ◌∙◌, ◌+◌, ◌/◌, ◌<◌, ◌&&◌, Bool, true, Some, length, sym, arith}
-use Rattle.cnode_ops.specs.Refusals.{stays}
-use Rattle.cnode_ops.specs.declared.sets.Removed.{Removed}
-use Rattle.cnode_ops.proofs.FullSlots.{before-first, behind-first, behind-next, fewer-behind, found-member, last-found, none-passes}
-use Rattle.cnode_ops.proofs.SomeSlot.{some-at, some-none}
+-- By the neighbours of the slot, or by those of all that go.
+use Rattle.std.proofs.Common.{ℕ, ◌/◌, length}
+use Rattle.cnode_ops.proofs.NamedBeside.{below-beside, one-beside, only-full}
 use Rattle.cnode_ops.proofs.refusals.is_named_beside.Goals as goal
-use Rattle.model.proofs.Ancestors.{full-open}
-use Rattle.model.specs.Capabilities.CapabilityKinds.{names_object}
-use Rattle.model.specs.Capabilities.Orders.{next_in}
-use Rattle.model.specs.Capabilities.Slots.{IsFull, Slots, capability_at, is_full}
-use Rattle.removal_laws.proofs.Laws.{both}
+use Rattle.model.specs.Capabilities.Slots.{Slots}
 
-abbrev passes : Slots → Removed → ℕ → ℕ → Bool
-passes slots set offset slot = names_object offset (capability_at slots slot) && stays slots set slot
+pub is_shared-requires : goal.is_shared-requires
+is_shared-requires g c =
+    only-full (g.S.SlotMap.slots c.args.store.now) (length (g.S.SlotStore.memory c.args.store.now) / 16) c.requires.near c.args.set.now c.in-One.only c.args.slot c.in-One.is c.requires.goes
 
-full : (slots : Slots) (set : Removed) (offset slot : ℕ) → passes slots set offset slot ≡ true → is_full slots slot ≡ true
-full slots set offset slot is = (both (is_full slots slot) _ (both (names_object offset (capability_at slots slot)) (stays slots set slot) is).1).0
-
-pub slots-init : goal.slots-init
-slots-init g c =
+pub returns-in-One : goal.returns-in-One
+returns-in-One g c = λ offset names.
     let slots : Slots = g.S.SlotMap.slots c.args.store.now in
-    record {
-      full = λ slot is. before-first (IsFull slots) slot is;
-      rest = behind-first (g.S.SlotStore.order c.args.store.now) (is_full slots) (passes slots c.args.set.now c.args.offset);
-    }
-
-pub returns-in_default : goal.returns-in_default
-returns-in_default g c =
-    let slots : Slots = g.S.SlotMap.slots c.args.store.now in
-    let test : ℕ → Bool = passes slots c.args.set.now c.args.offset in
-    sym (some-none 0 (length (g.S.SlotStore.memory c.args.store.now) / 16) test (λ i less.
-    none-passes (g.S.SlotStore.order c.args.store.now) (is_full slots) c.next_full.ensures.lists test c.slots.at c.slots.invariant.rest
-    (sym c.in_default.is ∙ c.next_full.ensures.next) (full slots c.args.set.now c.args.offset) (0 + i)))
-
-pub slots-smaller : goal.slots-smaller
-slots-smaller g c =
-    let slots : Slots = g.S.SlotMap.slots c.args.store.now in
-    fewer-behind (g.S.SlotStore.order c.args.store.now) (is_full slots) c.next_full.ensures.lists c.slots.at c.in-Some.slot (sym c.in-Some.is ∙ c.next_full.ensures.next)
-
-pub slots-preserved : goal.slots-preserved
-slots-preserved g c =
-    let slots : Slots = g.S.SlotMap.slots c.args.store.now in
-    let order = g.S.SlotStore.order c.args.store.now in
-    let next : Some c.in-Some.slot ≡ next_in order c.slots.at = sym c.in-Some.is ∙ c.next_full.ensures.next in
-    record {
-      full = λ slot is. last-found (IsFull slots) c.in-Some.slot slot (found-member order (is_full slots) c.next_full.ensures.lists c.slots.at c.in-Some.slot next) is;
-      rest = behind-next order (is_full slots) c.next_full.ensures.lists (passes slots c.args.set.now c.args.offset) c.slots.at c.in-Some.slot c.slots.invariant.rest next (sym c.names_beside.ensures ∙ c.if-names_beside.false);
-    }
-
-pub returns-then-names_beside : goal.returns-then-names_beside
-returns-then-names_beside g c =
-    let slots : Slots = g.S.SlotMap.slots c.args.store.now in
-    let test : ℕ → Bool = passes slots c.args.set.now c.args.offset in
     let size : ℕ = length (g.S.SlotStore.memory c.args.store.now) / 16 in
-    let near : (slot : ℕ) → is_full slots slot ≡ true → slot < 0 + size = λ slot full. omega (arith, c.requires.near slot (full-open slots slot full)) in
-    sym (some-at 0 size c.in-Some.slot test (omega arith) (near c.in-Some.slot (found-member (g.S.SlotStore.order c.args.store.now) (is_full slots) c.next_full.ensures.lists c.slots.at c.in-Some.slot (sym c.in-Some.is ∙ c.next_full.ensures.next))) (sym c.names_beside.ensures ∙ c.if-names_beside.true))
+    one-beside slots size c.requires.near c.args.set.now c.in-One.only c.args.slot offset _ c.in-One.is c.requires.goes names c.is_shared.ensures.shared c.is_shared.ensures.alone
+
+pub returns-in-Below : goal.returns-in-Below
+returns-in-Below g c = λ offset names.
+    let slots : Slots = g.S.SlotMap.slots c.args.store.now in
+    let size : ℕ = length (g.S.SlotStore.memory c.args.store.now) / 16 in
+    below-beside slots size c.requires.near c.args.set.now c.in-Below.root c.args.slot offset _ c.in-Below.is names c.is_shared_beside.ensures.shared c.is_shared_beside.ensures.alone

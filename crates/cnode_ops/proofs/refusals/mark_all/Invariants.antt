@@ -1,9 +1,9 @@
--- Those that were counted and those that stand behind are all.
-use Rattle.std.proofs.Common.{ℕ, ◌≡◌, true, Some, length}
+-- What is marked goes, and what is not marked yet comes after the slot that was marked last.
+use Rattle.std.proofs.Common.{ℕ, ◌≡◌, Some, length, true}
 use Rattle.cnode_ops.specs.Refusals.{goes}
 use Rattle.cnode_ops.specs.Sets.{listed_in}
-use Rattle.cnode_ops.proofs.CountedSlots.{IsCounted}
-use Rattle.cnode_ops.proofs.refusals.count_going.Given as goal
+use Rattle.cnode_ops.proofs.MarkedSlots.{AreMarked}
+use Rattle.cnode_ops.proofs.refusals.mark_all.Given as goal
 use Rattle.model.proofs.Orders.{behind}
 
 abbrev pub invariant-slots : goal.invariant-slots
@@ -11,7 +11,7 @@ invariant-slots g l =
     let slots = g.S.SlotMap.slots l.store in
     record {
       known : (slot : ℕ) → l.at ≡ Some slot → goes slots l.set slot ≡ true;
-      counted : IsCounted (listed_in (g.S.SlotStore.order l.store) slots l.set) (goes slots l.set) l.first l.count l.at l.going;
+      marked : AreMarked (listed_in (g.S.SlotStore.order l.store) slots l.set) (goes slots l.set) l.marks l.at;
     }
 
 abbrev pub decreases-slots : goal.decreases-slots

@@ -1,19 +1,22 @@
--- What goes and refuses stands behind the slot that was looked at last.
-use Rattle.std.proofs.Common.{ℕ, ◌≡◌, ◌/◌, Some, length, true}
-use Rattle.cnode_ops.specs.Refusals.{goes, is_left_filled}
+-- What goes, and whose object has such a slot, comes after the slot that was looked at last.
+use Rattle.std.proofs.Common.{ℕ, ◌≡◌, ◌/◌, Some, false, length, true}
+use Rattle.cnode_ops.specs.Marked.{is_unmarked}
+use Rattle.cnode_ops.specs.Refusals.{goes, own_slots, some_own}
 use Rattle.cnode_ops.specs.Sets.{listed_in}
 use Rattle.cnode_ops.proofs.FullSlots.{AreBehind}
-use Rattle.cnode_ops.proofs.refusals.wants_revoke_first.Given as goal
+use Rattle.cnode_ops.proofs.refusals.any_ends_unmarked.Given as goal
 use Rattle.model.proofs.Orders.{behind}
 use Rattle.model.specs.Capabilities.Slots.{capability_at}
 
 abbrev pub invariant-slots : goal.invariant-slots
 invariant-slots g l =
     let slots = g.S.SlotMap.slots l.store in
+    let size = length (g.S.SlotStore.memory l.store) / 16 in
     record {
       known : (slot : ℕ) → l.at ≡ Some slot → goes slots l.set slot ≡ true;
       rest : AreBehind (listed_in (g.S.SlotStore.order l.store) slots l.set) (goes slots l.set)
-          (λ slot. is_left_filled slots (length (g.S.SlotStore.memory l.store) / 16) l.set (capability_at slots slot)) l.at;
+          (λ slot. some_own (own_slots slots size l.set (capability_at slots slot)) (is_unmarked slots l.marks)) l.at;
+      passed : some_own l.passed (is_unmarked slots l.marks) ≡ false;
     }
 
 abbrev pub decreases-slots : goal.decreases-slots

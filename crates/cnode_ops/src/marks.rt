@@ -1,0 +1,84 @@
+//! A mark for each slot, so that a set of slots tells of each at once whether it is one of them.
+
+ghost use Rattle.std.specs.Prelude.{ℕ, ◌≡◌, ◌≢◌, ◌==◌, ◌^◌, ◌<◌, false, true, replicate};
+ghost use Rattle.std.specs.Int.{bit_at};
+ghost use Rattle.cnode_ops.specs.Marked.{is_marked};
+
+use model::Slot;
+use std::marker::Model;
+
+/// How many slots a word tells of.
+const WORD_SLOTS: u32 = 64;
+
+/// Words for all slots of the largest memory.
+const WORDS: usize = 0x4000;
+
+/// For each slot, whether it is marked: one bit each. A clause sees the words of these bits.
+#[derive(Drop)]
+pub(crate) struct Marks {
+    words: [u64; WORDS],
+}
+
+impl Model for Marks {
+    ghost use Rattle.std.specs.Prelude.{ℕ, ◌≡◌, ◌^◌, List, length};
+
+    ghost Value = { List ℕ };
+
+    ghost view = { λ marks. marks.words };
+
+    ghost invariant = { λ marks. length marks.words ≡ 2 ^ 14 };
+}
+
+impl Marks {
+    /// No slot is marked.
+    pub(crate) fn none() -> Self
+        ensures { (s : ℕ) → is_marked result s ≡ false }
+    {
+        Marks { words: zeros() }
+    }
+
+    /// Whether a slot is marked.
+    pub(crate) fn contains(&self, slot: Slot) -> bool
+        ensures { result ≡ is_marked self.now slot }
+    {
+        let number = slot.number();
+        has_bit(
+            self.words[(number / WORD_SLOTS) as usize],
+            number % WORD_SLOTS,
+        )
+    }
+
+    /// Marks a slot.
+    pub(crate) fn mark(&mut self, slot: Slot)
+        ensures own { is_marked self.new slot ≡ true }
+        ensures others { (s : ℕ) → s ≢ slot → is_marked self.new s ≡ is_marked self.old s }
+    {
+        let number = slot.number();
+        let at = (number / WORD_SLOTS) as usize;
+        self.words[at] = with_bit(self.words[at], number % WORD_SLOTS);
+    }
+}
+
+/// Words without a bit.
+fn zeros() -> [u64; WORDS]
+    ensures { result ≡ replicate (2 ^ 14) 0 }
+{
+    [0; WORDS]
+}
+
+/// Whether a bit of a word is 1.
+fn has_bit(word: u64, bit: u32) -> bool
+    requires { bit < 64 }
+    ensures { result ≡ (bit_at word bit == 1) }
+{
+    word >> bit & 1 == 1
+}
+
+/// A word with one bit set.
+fn with_bit(word: u64, bit: u32) -> u64
+    requires { bit < 64 }
+    ensures own { bit_at result bit ≡ 1 }
+    ensures others { (i : ℕ) → i < 64 → i ≢ bit → bit_at result i ≡ bit_at word i }
+{
+    word | 1 << bit
+}
