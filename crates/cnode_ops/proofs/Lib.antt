@@ -21,6 +21,7 @@ mod NoneBelow
 mod EmptiedSets
 mod ClosedSlots
 mod EndingSlots
+mod LowestSlots
 mod MarkedSlots
 mod NamedBeside
 mod RemovedLists

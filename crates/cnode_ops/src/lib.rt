@@ -7,6 +7,7 @@ mod copies;
 mod deletions;
 mod emptying;
 mod endings;
+mod leaves;
 mod lines;
 mod marks;
 mod moves;

@@ -11,6 +11,7 @@ ghost use Rattle.removal_laws.specs.Steps.{BindingEmptied, IsReady, SameShape, b
 
 use crate::Ends;
 use crate::emptying::empty_slot;
+use crate::leaves::{leaf_removed, parent_removed};
 use crate::lines::{lines_handled, lines_lost};
 use crate::refusals::wants_revoke_first;
 use crate::sets::{Removed, first_removed};
@@ -18,7 +19,7 @@ use crate::settling::{Unsettled, settle};
 use model::{KError, Slot};
 use slots::{SlotStore, is_taken};
 
-/// Empties all slots of a set, one after another: what is left to empty, with others beside the set, is
+/// Empties all slots of a set, one after another and each after all that is derived from it: what is left to empty, with others beside the set, is
 /// these others. What is left to settle is more by the objects that ended.
 fn empty_all<S: SlotStore, E: Ends>(
     store: &mut S,
@@ -39,8 +40,13 @@ fn empty_all<S: SlotStore, E: Ends>(
     ensures agree { E.Agree ends.new (S.slots store.new) (S.memory store.new) }
     ensures ready { IsReady (E.state ends.new (S.slots store.new) (S.memory store.new)) }
 {
+    let Some(first) = first_removed(store, set) else {
+        return left;
+    };
     let mut left = left;
-    'slots: while let Some(slot) = first_removed(store, set) {
+    let mut near = first;
+    'slots: while let Some(slot) = leaf_removed(store, set, near) {
+        near = parent_removed(store, set, slot);
         left = empty_slot(store, ends, left, slot);
     }
     left

@@ -1,11 +1,11 @@
 -- Each slot that is emptied leaves one fewer.
 use Rattle.std.proofs.Common.{ℕ, ◌≡◌, ◌∙◌, ◌<◌, false, true, sym, ap, subst}
 use Rattle.cnode_ops.specs.Sets.{set_of}
-use Rattle.model.specs.Capabilities.Slots.{IsFull, IsOpen, Slots}
+use Rattle.model.specs.Capabilities.Slots.{IsDerivation, IsFull, IsOpen, Slots}
 use Rattle.model.specs.Kernel.Removal.{emptied}
 use Rattle.model.specs.Kernel.State.{State}
 use Rattle.removal_laws.specs.Steps.{alone, joined}
-use Rattle.cnode_ops.proofs.EmptiedSets.{IsLeftOf, fewer-full, full_count, left-done, left-next}
+use Rattle.cnode_ops.proofs.EmptiedSets.{IsLeftOf, fewer-full, full_count, left-done, left-first, left-next, set-still}
 use Rattle.cnode_ops.proofs.Unsettling.{notes-then}
 use Rattle.cnode_ops.proofs.removal.empty_all.Goals as goal
 
@@ -16,14 +16,14 @@ slots-smaller g c =
     let now : State = g.E.Ends.state c.slots.ends slots (g.S.SlotStore.memory c.slots.store) in
     let after : Slots = g.S.SlotMap.slots c.empty_slot-left.new.store in
     let has : now.slots ≡ slots = g.met.E.Ends.of_slots c.slots.ends slots (g.S.SlotStore.memory c.slots.store) in
-    let full : IsFull now.slots c.in-Some.slot = subst (λ (n : Slots). IsFull n c.in-Some.slot) (sym has) c.in-Some.ensures.full in
+    let full : IsFull now.slots c.in-Some-leaf_removed.slot = subst (λ (n : Slots). IsFull n c.in-Some-leaf_removed.slot) (sym has) c.in-Some-leaf_removed.ensures.full in
     let left : IsLeftOf before now c.args.set.now = c.slots.invariant.left in
-    let same : after ≡ (emptied now (alone c.in-Some.slot)).slots = sym (g.met.E.Ends.of_slots _ _ _) ∙ ap (λ (s : State). s.slots) c.empty_slot-left.ensures.state in
-    let fewer : full_count now.memory_bits (emptied now (alone c.in-Some.slot)).slots < full_count now.memory_bits now.slots = fewer-full now c.in-Some.slot left.ready full in
+    let same : after ≡ (emptied now (alone c.in-Some-leaf_removed.slot)).slots = sym (g.met.E.Ends.of_slots _ _ _) ∙ ap (λ (s : State). s.slots) c.empty_slot-left.ensures.state in
+    let fewer : full_count now.memory_bits (emptied now (alone c.in-Some-leaf_removed.slot)).slots < full_count now.memory_bits now.slots = fewer-full now c.in-Some-leaf_removed.slot left.ready full in
     let counted : full_count before.memory_bits after < full_count before.memory_bits slots =
     subst (λ (n : Slots). full_count before.memory_bits n < full_count before.memory_bits slots) (sym same)
-    (subst (λ (n : Slots). full_count before.memory_bits (emptied now (alone c.in-Some.slot)).slots < full_count before.memory_bits n) has
-    (subst (λ (b : ℕ). full_count b (emptied now (alone c.in-Some.slot)).slots < full_count b now.slots) left.shape.bits fewer))
+    (subst (λ (n : Slots). full_count before.memory_bits (emptied now (alone c.in-Some-leaf_removed.slot)).slots < full_count before.memory_bits n) has
+    (subst (λ (b : ℕ). full_count b (emptied now (alone c.in-Some-leaf_removed.slot)).slots < full_count b now.slots) left.shape.bits fewer))
     in
     counted
 
@@ -34,15 +34,41 @@ slots-preserved g c =
     let now : State = g.E.Ends.state c.slots.ends slots (g.S.SlotStore.memory c.slots.store) in
     let after : State = g.E.Ends.state c.empty_slot-left.new.ends (g.S.SlotMap.slots c.empty_slot-left.new.store) (g.S.SlotStore.memory c.empty_slot-left.new.store) in
     let has : now.slots ≡ slots = g.met.E.Ends.of_slots c.slots.ends slots (g.S.SlotStore.memory c.slots.store) in
-    let x = c.in-Some.slot in
+    let x = c.in-Some-leaf_removed.slot in
     record {
       left = left-next before now after c.args.set.now x c.slots.invariant.left
-          (subst (λ (n : Slots). IsFull n x) (sym has) c.in-Some.ensures.full)
-          (subst (λ (n : Slots). set_of n c.args.set.now x ≡ true) (sym has) c.in-Some.ensures.member)
+          (subst (λ (n : Slots). IsFull n x) (sym has) c.in-Some-leaf_removed.ensures.full)
+          (subst (λ (n : Slots). set_of n c.args.set.now x ≡ true) (sym has) c.in-Some-leaf_removed.ensures.member)
           c.empty_slot-left.ensures.state;
       noted = notes-then before now after c.args.left c.slots.left c.empty_slot-left.result c.slots.invariant.noted c.empty_slot-left.ensures.noted;
       agree = c.empty_slot-left.ensures.agree;
+      near = λ full.
+          let same : g.S.SlotMap.slots c.empty_slot-left.new.store ≡ (emptied now (alone x)).slots = sym (g.met.E.Ends.of_slots _ _ _) ∙ ap (λ (s : State). s.slots) c.empty_slot-left.ensures.state in
+          ap (λ (n : Slots). set_of n c.args.set.now c.parent_removed-near.result) same
+          ∙ set-still now c.args.set.now x c.parent_removed-near.result c.slots.invariant.left.ready
+          (subst (λ (n : Slots). IsFull n x) (sym has) c.in-Some-leaf_removed.ensures.full)
+          (subst (λ (n : Slots). set_of n c.args.set.now x ≡ true) (sym has) c.in-Some-leaf_removed.ensures.member)
+          (subst (λ (n : Slots). IsFull n c.parent_removed-near.result) same full)
+          ∙ ap (λ (n : Slots). set_of n c.args.set.now c.parent_removed-near.result) has
+          ∙ c.parent_removed-near.ensures;
     }
+
+pub parent_removed-near-requires-clause-tree : goal.parent_removed-near-requires-clause-tree
+parent_removed-near-requires-clause-tree g c =
+    subst (λ (n : Slots). IsDerivation n) (g.met.E.Ends.of_slots c.slots.ends (g.S.SlotMap.slots c.slots.store) (g.S.SlotStore.memory c.slots.store)) c.slots.invariant.left.ready.derivation
+
+pub returns-in_default-clause-taken : goal.returns-in_default-clause-taken
+returns-in_default-clause-taken g c = λ more opens.
+    let slots : Slots = g.S.SlotMap.slots c.args.store.now in
+    let before : State = g.E.Ends.state c.args.ends.now slots (g.S.SlotStore.memory c.args.store.now) in
+    let had : before.slots ≡ slots = g.met.E.Ends.of_slots c.args.ends.now slots (g.S.SlotStore.memory c.args.store.now) in
+    let none : (slot : ℕ) → IsFull before.slots slot → set_of before.slots c.args.set.now slot ≡ false =
+    subst (λ (n : Slots). (slot : ℕ) → IsFull n slot → set_of n c.args.set.now slot ≡ false) (sym had) (c.first_removed.ensures.none c.in_default.is)
+    in
+    ap (λ (n : Slots). emptied before (joined (set_of n c.args.set.now) more)) (sym had)
+    ∙ left-done before before c.args.set.now
+    (left-first before c.args.set.now c.requires.ready (subst (λ (n : Slots). (slot : ℕ) → set_of n c.args.set.now slot ≡ true → IsOpen n slot) (sym had) c.requires.members))
+    none more (subst (λ (n : Slots). (slot : ℕ) → more slot ≡ true → IsOpen n slot) (sym had) opens)
 
 pub returns-clause-taken : goal.returns-clause-taken
 returns-clause-taken g c = λ more opens.
@@ -53,7 +79,7 @@ returns-clause-taken g c = λ more opens.
     let had : before.slots ≡ first = g.met.E.Ends.of_slots c.args.ends.now first (g.S.SlotStore.memory c.args.store.now) in
     let has : now.slots ≡ slots = g.met.E.Ends.of_slots c.slots.ends slots (g.S.SlotStore.memory c.slots.store) in
     let none : (slot : ℕ) → IsFull now.slots slot → set_of now.slots c.args.set.now slot ≡ false =
-    subst (λ (n : Slots). (slot : ℕ) → IsFull n slot → set_of n c.args.set.now slot ≡ false) (sym has) (c.first_removed.ensures.none c.in_default.is)
+    subst (λ (n : Slots). (slot : ℕ) → IsFull n slot → set_of n c.args.set.now slot ≡ false) (sym has) (c.leaf_removed.ensures.none c.in_default-leaf_removed.is)
     in
     ap (λ (n : Slots). emptied before (joined (set_of n c.args.set.now) more)) (sym had)
     ∙ left-done before now c.args.set.now c.slots.invariant.left none more (subst (λ (n : Slots). (slot : ℕ) → more slot ≡ true → IsOpen n slot) (sym had) opens)

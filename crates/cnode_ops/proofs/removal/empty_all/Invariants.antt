@@ -1,5 +1,8 @@
--- What is left of the set, and fewer full slots each time.
+-- What is left of the set, and fewer full slots each time. Where the next one is found is one of the set, if it is full.
+use Rattle.std.proofs.Common.{◌≡◌, true}
+use Rattle.model.specs.Capabilities.Slots.{IsFull}
 use Rattle.model.specs.Kernel.State.{State}
+use Rattle.cnode_ops.specs.Sets.{set_of}
 use Rattle.cnode_ops.specs.Unsettled.{Notes}
 use Rattle.cnode_ops.proofs.EmptiedSets.{IsLeftOf, full_count}
 use Rattle.cnode_ops.proofs.removal.empty_all.Given as goal
@@ -12,6 +15,7 @@ invariant-slots g l =
       left : IsLeftOf before now l.set;
       noted : Notes before l.fn.left now l.left;
       agree : g.E.Ends.Agree l.ends (g.S.SlotMap.slots l.store) (g.S.SlotStore.memory l.store);
+      near : IsFull (g.S.SlotMap.slots l.store) l.near → set_of (g.S.SlotMap.slots l.store) l.set l.near ≡ true;
     }
 
 abbrev pub decreases-slots : goal.decreases-slots
