@@ -8,5 +8,6 @@ mod EdgeRules
 mod PointLists
 mod LeftNext
 mod ShownParts
+mod MappedSoFar
 mod Outcomes
 mod ThreadsLeft

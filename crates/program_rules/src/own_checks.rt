@@ -9,6 +9,7 @@ ghost use Rattle.model.specs.Acceptance.PointRules.{is_computed_jump, is_illegal
 ghost use Rattle.model.specs.Acceptance.PointStates.{point_of};
 ghost use Rattle.model.specs.Acceptance.Rules.{first_broken};
 ghost use Rattle.model.specs.Machine.Instructions.{IsInstr};
+ghost use Rattle.program_rules.specs.FoundPages.{AreMapped};
 ghost use Rattle.program_rules.specs.PointChecks.{own_rules};
 ghost use Rattle.program_rules.specs.Programs.{thread_of};
 ghost use Rattle.typestate.specs.Calls.{known_with};
@@ -16,7 +17,7 @@ ghost use Rattle.typestate.specs.Differences.{slots_of};
 ghost use Rattle.typestate.specs.Strays.{NoneStray};
 
 use crate::kept::Known;
-use crate::point_rules::Pages;
+use crate::point_rules::{FoundPages, Pages};
 use crate::programs::Program;
 use image_reading::RecordRef;
 use measure::least;
@@ -54,9 +55,18 @@ impl Program<'_, '_> {
 
     /// Whether a load or store at a point may reach what the thread may not.
     #[tactic(auto, unfolding(model::specs::Acceptance::PointRules::is_unmapped))]
-    fn is_unmapped(&self, instr: Option<Instr>, bounds: &Bounds, slots: &NotedSlots<'_>) -> bool
+    fn is_unmapped(
+        &self,
+        instr: Option<Instr>,
+        bounds: &Bounds,
+        slots: &NotedSlots<'_>,
+        found: &mut FoundPages,
+    ) -> bool
         requires instr { IfSome instr IsInstr }
-        ensures { (measure : NotedMeasure) → result ≡ is_unmapped self.now.space.image.now self.now.space.thread.now (known_with bounds.now (slots_of slots.now) measure) instr }
+        requires found { AreMapped self.now.space.image.now self.now.space.thread.now (slots_of slots.now) found.old }
+        ensures is { (measure : NotedMeasure) → result ≡ is_unmapped self.now.space.image.now self.now.space.thread.now (known_with bounds.now (slots_of slots.now) measure) instr }
+        ensures found { AreMapped self.now.space.image.now self.now.space.thread.now (slots_of slots.now) found.new }
+        ensures part { found.new.part ≡ found.old.part }
     {
         let pages = Pages {
             image: self.space.image,
@@ -67,7 +77,7 @@ impl Program<'_, '_> {
             stores: self.stores,
         };
         match instr {
-            Some(instr) => pages.is_unmapped(instr, bounds),
+            Some(instr) => pages.is_unmapped(instr, bounds, found),
             None => false,
         }
     }
@@ -75,7 +85,7 @@ impl Program<'_, '_> {
     /// Whether a point with this state and these slots keeps its rules by itself. An `Err` names the first that it breaks: its word
     /// is an instruction (`IllegalInstruction`), and no jump to an address in a register (`ComputedJump`); no slot is one that the
     /// thread may not have (`CapNotThere`); the measure is at least 1 (`MeasureNotFalling`); and it loads and stores only where it
-    /// may (`NotMapped`).
+    /// may (`NotMapped`). Pages that are found mapped are noted.
     pub(crate) fn own_rules(
         &self,
         point: u32,
@@ -83,12 +93,16 @@ impl Program<'_, '_> {
         noted: Option<&RecordRef<'_>>,
         known: &Known,
         slots: &NotedSlots<'_>,
+        found: &mut FoundPages,
     ) -> Result<(), Refusal>
         requires instr { IfSome instr IsInstr }
         requires noted { option_map (λ r. r.now) noted ≡ record_of self.now.space.thread.now point }
         requires image { slots.now.image.now ≡ self.now.slots.now }
         requires clean { known.now.is_clean ≡ true → NoneStray self.now.space.image.now self.now.space.thread.now (slots_of slots.now) }
-        ensures { result_err result ≡ first_broken (own_rules self.now.space.image.now (thread_of self.now) point (known_with known.now.bounds (slots_of slots.now) (measure_of known.now.measure)) instr) }
+        requires found { AreMapped self.now.space.image.now self.now.space.thread.now (slots_of slots.now) found.old }
+        ensures found { AreMapped self.now.space.image.now self.now.space.thread.now (slots_of slots.now) found.new }
+        ensures part { found.new.part ≡ found.old.part }
+        ensures broken { result_err result ≡ first_broken (own_rules self.now.space.image.now (thread_of self.now) point (known_with known.now.bounds (slots_of slots.now) (measure_of known.now.measure)) instr) }
     {
         let at = self.at(point);
         if is_illegal(instr) {
@@ -103,7 +117,7 @@ impl Program<'_, '_> {
         if least(&known.measure, &known.bounds) < 1 {
             return Err(Refusal::MeasureNotFalling(at));
         }
-        if self.is_unmapped(instr, &known.bounds, slots) {
+        if self.is_unmapped(instr, &known.bounds, slots, found) {
             return Err(Refusal::NotMapped(at));
         }
         Ok(())

@@ -3,6 +3,8 @@
 mod calls;
 mod entries;
 mod following;
+mod found_pages;
+mod found_runs;
 mod laws;
 mod listed_pages;
 mod noted;
@@ -14,6 +16,8 @@ mod ways;
 pub use calls::{follows_call, registers_of};
 pub use entries::entered;
 pub use following::{Left, follows};
+pub use found_pages::FoundPages;
+pub use found_runs::FoundRuns;
 pub use laws::{left_calls_are_kept, left_states_are_kept};
 pub use listed_pages::{PageRun, runs_of};
 pub use noted::Noted;

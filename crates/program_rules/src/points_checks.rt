@@ -7,6 +7,7 @@ ghost use Rattle.model.specs.Acceptance.PointRules.{entry_rules, point_rules, ru
 ghost use Rattle.model.specs.Acceptance.PointStates.{noted};
 ghost use Rattle.model.specs.Acceptance.PointStates as states;
 ghost use Rattle.model.specs.Acceptance.Rules.{first_broken};
+ghost use Rattle.program_rules.specs.FoundPages.{AreFound};
 ghost use Rattle.program_rules.specs.Kept.{IsCleanIn, IsRead, IsSound, state_by};
 ghost use Rattle.program_rules.specs.Programs.{thread_of};
 ghost use Rattle.program_rules.specs.SameParts.{AreSame};
@@ -16,7 +17,7 @@ ghost use Rattle.wellformed.specs.Answering.{Answers};
 
 use crate::kept::{Kept, Known};
 use crate::notes::RecordsLeft;
-use crate::point_rules::{Noted, entered};
+use crate::point_rules::{FoundPages, Noted, entered};
 use crate::points::Points;
 use crate::programs::Program;
 use crate::same_parts::SameParts;
@@ -37,6 +38,7 @@ impl Program<'_, '_> {
         is_next_noted: bool,
         known: &Known,
         same: &mut SameParts,
+        found: &mut FoundPages,
     ) -> Result<(), Refusal>
         requires read { IsRead self.now.space.image.now (thread_of self.now) self.now.slots.now points.old.log points.old.kept.items }
         requires within { point < self.now.space.thread.now.header.words }
@@ -47,14 +49,17 @@ impl Program<'_, '_> {
         requires part { Shows points.old.log known.now.part shown.now }
         requires clean { IsCleanIn self.now.space.image.now self.now.space.thread.now self.now.slots.now points.old.log (kept.Known known.now) }
         requires same { AreSame self.now.slots.now points.old.log same.old }
+        requires found { AreFound self.now.space.image.now self.now.space.thread.now self.now.slots.now points.old.log found.old }
+        requires found_part { found.old.part ≡ known.now.part }
         ensures same { IfOk result (λ _. AreSame self.now.slots.now points.new.log same.new) }
+        ensures found { IfOk result (λ _. AreFound self.now.space.image.now self.now.space.thread.now self.now.slots.now points.new.log found.new) }
         ensures broken { Answers (first_broken (state_rules self.now.space.image.now (thread_of self.now) point (state_by self.now.slots.now points.old.log known.now))) result }
         ensures read { IfOk result (λ _. IsRead self.now.space.image.now (thread_of self.now) self.now.slots.now points.new.log points.new.kept.items) }
         ensures others { IfOk result (λ _. KeepsParts points.old.log points.new.log) }
     {
         let instr = decode(self.space.thread.word(point));
         let slots = shown.slots(self.slots);
-        self.own_rules(point, instr, noted, known, &slots)?;
+        self.own_rules(point, instr, noted, known, &slots, found)?;
         match instr {
             Some(Instr::Ecall) => {
                 self.call_rules(points, shown, point, noted, is_next_noted, known)
@@ -76,6 +81,7 @@ impl Program<'_, '_> {
         noted: Option<&RecordRef<'_>>,
         is_next_noted: bool,
         same: &mut SameParts,
+        found: &mut FoundPages,
     ) -> Result<(), Refusal>
         requires read { IsRead self.now.space.image.now (thread_of self.now) self.now.slots.now points.old.log points.old.kept.items }
         requires within { point < self.now.space.thread.now.header.words }
@@ -83,7 +89,9 @@ impl Program<'_, '_> {
         requires next { is_next_noted ≡ false → record_of self.now.space.thread.now (point + 1) ≡ None }
         requires some { ShowsSome points.old.log shown.old }
         requires same { AreSame self.now.slots.now points.old.log same.old }
+        requires found { AreFound self.now.space.image.now self.now.space.thread.now self.now.slots.now points.old.log found.old }
         ensures same { IfOk result (λ _. AreSame self.now.slots.now points.new.log same.new) }
+        ensures found { IfOk result (λ _. AreFound self.now.space.image.now self.now.space.thread.now self.now.slots.now points.new.log found.new) }
         ensures broken { Answers (first_broken (point_rules self.now.space.image.now (thread_of self.now) point)) result }
         ensures read { IfOk result (λ _. IsRead self.now.space.image.now (thread_of self.now) self.now.slots.now points.new.log points.new.kept.items) }
         ensures shown { IfOk result (λ _. ShowsSome points.new.log shown.new) }
@@ -91,7 +99,17 @@ impl Program<'_, '_> {
         match points.kept[point as usize] {
             Kept::Known(known) => {
                 points.log.show(shown, known.part)?;
-                self.state_rules(points, shown, point, noted, is_next_noted, &known, same)
+                found.go_on(known.part);
+                self.state_rules(
+                    points,
+                    shown,
+                    point,
+                    noted,
+                    is_next_noted,
+                    &known,
+                    same,
+                    found,
+                )
             }
             Kept::Missing | Kept::Unmeasured => Ok(()),
         }
@@ -105,6 +123,7 @@ impl Program<'_, '_> {
         let mut records = RecordsLeft::of(self.space.thread);
         let mut shown = ShownPart::new(self.alloc);
         let mut same = SameParts::new(self.alloc);
+        let mut found = FoundPages::new(self.alloc);
         'rules: for point in 0..self.space.thread.word_count() {
             let noted = records.take(point);
             let is_next_noted = records.is_next(point + 1);
@@ -115,6 +134,7 @@ impl Program<'_, '_> {
                 noted.as_ref(),
                 is_next_noted,
                 &mut same,
+                &mut found,
             )?;
         }
         Ok(())

@@ -9,12 +9,13 @@ ghost use Rattle.model.specs.Acceptance.Measures.{Measure};
 ghost use Rattle.model.specs.Machine.Effects.{load_size, store_size};
 ghost use Rattle.model.specs.Machine.Instructions.{IsInstr};
 ghost use Rattle.model.specs.Machine.ProgramMemory.{width_of};
+ghost use Rattle.program_rules.specs.FoundPages.{AreMapped};
 ghost use Rattle.program_rules.specs.point_rules.Runs.{AreRuns};
 ghost use Rattle.typestate.specs.Calls.{known_with};
 ghost use Rattle.typestate.specs.Differences.{slots_of};
 
-use crate::point_rules::Pages;
 use crate::point_rules::listed_pages::{PAGE, PageRun, is_listed, run_end};
+use crate::point_rules::{FoundPages, FoundRuns, Pages};
 use model::{Access, AccessSize, Instr, LoadOp, Range, StoreOp};
 use ranges::Bounds;
 
@@ -81,13 +82,18 @@ impl Pages<'_, '_> {
     }
 
     /// A page after this one, up to which all are mapped for an access: none, where this one is not. Those that the image maps
-    /// one after another are one step.
-    fn mapped_to(&self, access: Access, page: u32) -> Option<u32>
-        requires { page < 2 ^ 20 }
+    /// one after another are one step, and so are those that were found.
+    fn mapped_to(&self, access: Access, page: u32, found: &FoundRuns) -> Option<u32>
+        requires page { page < 2 ^ 20 }
+        requires found { AreRuns (is_mapped_for self.now.image.now self.now.thread.now (slots_of self.now.slots) access) found.now }
         ensures later { IfSome result (λ next. page < next) }
         ensures mapped { IfSome result (λ next. (p : ℕ) → page ≤ p → p < next → is_mapped_for self.now.image.now self.now.thread.now (slots_of self.now.slots) access p ≡ true) }
         ensures missing { IfNone result (is_mapped_for self.now.image.now self.now.thread.now (slots_of self.now.slots) access page ≡ false) }
     {
+        let known = found.end(page);
+        if page < known {
+            return Some(known);
+        }
         let end = run_end(self.runs(access), page);
         if page < end {
             return Some(end);
@@ -99,32 +105,61 @@ impl Pages<'_, '_> {
         }
     }
 
-    /// Whether every page from that of one byte to that of another is mapped.
-    fn are_mapped(&self, access: Access, first: u32, last: u32) -> bool
-        requires { first ≤ last }
-        ensures { result ≡ are_mapped self.now.image.now self.now.thread.now (slots_of self.now.slots) access first last }
+    /// The first page from one on that is not mapped for an access, if it lies before an end: else a page at the end or after it, up
+    /// to which all are mapped.
+    fn mapped_before(&self, access: Access, first: u32, end: u32, found: &FoundRuns) -> u32
+        requires few { end ≤ 2 ^ 20 }
+        requires found { AreRuns (is_mapped_for self.now.image.now self.now.thread.now (slots_of self.now.slots) access) found.now }
+        ensures from { first ≤ result }
+        ensures mapped { (p : ℕ) → first ≤ p → p < result → is_mapped_for self.now.image.now self.now.thread.now (slots_of self.now.slots) access p ≡ true }
+        ensures missing { result < end → is_mapped_for self.now.image.now self.now.thread.now (slots_of self.now.slots) access result ≡ false }
     {
-        let end = last / PAGE + 1;
-        let mut page = first / PAGE;
-        'pages: for _ in 0..end - page {
+        let mut page = first;
+        'pages: for _ in first..end {
             if end <= page {
-                return true;
+                return page;
             }
-            page = match self.mapped_to(access, page) {
+            page = match self.mapped_to(access, page, found) {
                 Some(next) => next,
-                None => return false,
+                None => return page,
             };
         }
-        true
+        page
+    }
+
+    /// Whether every page from that of one byte to that of another is mapped. Those that are found mapped are noted.
+    fn are_mapped(&self, access: Access, first: u32, last: u32, found: &mut FoundRuns) -> bool
+        requires order { first ≤ last }
+        requires found { AreRuns (is_mapped_for self.now.image.now self.now.thread.now (slots_of self.now.slots) access) found.old }
+        ensures is { result ≡ are_mapped self.now.image.now self.now.thread.now (slots_of self.now.slots) access first last }
+        ensures found { AreRuns (is_mapped_for self.now.image.now self.now.thread.now (slots_of self.now.slots) access) found.new }
+    {
+        let start = first / PAGE;
+        let end = last / PAGE + 1;
+        let page = self.mapped_before(access, start, end, found);
+        found.note(PageRun {
+            first: start,
+            end: page,
+        });
+        end <= page
     }
 
     /// Whether an access of so many bytes meets only mapped pages, from each address that lies between two, as whole numbers.
-    fn is_allowed(&self, access: Access, width: u32, least: i64, greatest: i64) -> bool
+    fn is_allowed(
+        &self,
+        access: Access,
+        width: u32,
+        least: i64,
+        greatest: i64,
+        found: &mut FoundRuns,
+    ) -> bool
         requires some { 1 ≤ width }
         requires few { width ≤ 4 }
         requires order { least ≤ℤ greatest }
         requires high { greatest ≤ℤ pos (2 ^ 40) }
-        ensures { result ≡ is_allowed self.now.image.now self.now.thread.now (slots_of self.now.slots) access width least greatest }
+        requires found { AreRuns (is_mapped_for self.now.image.now self.now.thread.now (slots_of self.now.slots) access) found.old }
+        ensures is { result ≡ is_allowed self.now.image.now self.now.thread.now (slots_of self.now.slots) access width least greatest }
+        ensures found { AreRuns (is_mapped_for self.now.image.now self.now.thread.now (slots_of self.now.slots) access) found.new }
     {
         let last = greatest + i64::from(width - 1);
         if least < 0 {
@@ -133,24 +168,37 @@ impl Pages<'_, '_> {
         if last > 0xffff_ffff {
             return false;
         }
-        self.are_mapped(access, least as u32, last as u32)
+        self.are_mapped(access, least as u32, last as u32, found)
     }
 
     /// Whether an access from an address in this range and this offset behind it meets only mapped pages.
-    fn reaches(&self, access: Access, size: AccessSize, range: Range, offset: i32) -> bool
-        requires { range.low ≤ range.high }
-        ensures { result ≡ is_allowed self.now.image.now self.now.thread.now (slots_of self.now.slots) access (byte_len (width_of size)) (pos range.low +ℤ offset) (pos range.high +ℤ offset) }
+    fn reaches(
+        &self,
+        access: Access,
+        size: AccessSize,
+        range: Range,
+        offset: i32,
+        found: &mut FoundRuns,
+    ) -> bool
+        requires order { range.low ≤ range.high }
+        requires found { AreRuns (is_mapped_for self.now.image.now self.now.thread.now (slots_of self.now.slots) access) found.old }
+        ensures is { result ≡ is_allowed self.now.image.now self.now.thread.now (slots_of self.now.slots) access (byte_len (width_of size)) (pos range.low +ℤ offset) (pos range.high +ℤ offset) }
+        ensures found { AreRuns (is_mapped_for self.now.image.now self.now.thread.now (slots_of self.now.slots) access) found.new }
     {
         let least = moved(range.low, offset);
         let greatest = moved(range.high, offset);
-        self.is_allowed(access, width(size), least, greatest)
+        self.is_allowed(access, width(size), least, greatest, found)
     }
 
-    /// Whether a load or store may reach a byte that the thread may not read, or not write.
+    /// Whether a load or store may reach a byte that the thread may not read, or not write. Pages that were found mapped are not
+    /// asked again, and those that are found now are noted.
     #[tactic(auto, unfolding(model::specs::Acceptance::PointRules::is_unmapped))]
-    pub fn is_unmapped(&self, instr: Instr, bounds: &Bounds) -> bool
-        requires { IsInstr instr }
-        ensures { (measure : Measure) → result ≡ is_unmapped self.now.image.now self.now.thread.now (known_with bounds.now (slots_of self.now.slots) measure) (Some instr) }
+    pub fn is_unmapped(&self, instr: Instr, bounds: &Bounds, found: &mut FoundPages) -> bool
+        requires instr { IsInstr instr }
+        requires found { AreMapped self.now.image.now self.now.thread.now (slots_of self.now.slots) found.old }
+        ensures is { (measure : Measure) → result ≡ is_unmapped self.now.image.now self.now.thread.now (known_with bounds.now (slots_of self.now.slots) measure) (Some instr) }
+        ensures found { AreMapped self.now.image.now self.now.thread.now (slots_of self.now.slots) found.new }
+        ensures part { found.new.part ≡ found.old.part }
     {
         match instr {
             Instr::Load {
@@ -158,13 +206,31 @@ impl Pages<'_, '_> {
                 rs1,
                 offset,
                 ..
-            } => !self.reaches(Access::Load, size_of_load(op), bounds.get(rs1), offset),
+            } => {
+                let range = bounds.get(rs1);
+                !self.reaches(
+                    Access::Load,
+                    size_of_load(op),
+                    range,
+                    offset,
+                    &mut found.loads,
+                )
+            }
             Instr::Store {
                 op,
                 rs1,
                 offset,
                 ..
-            } => !self.reaches(Access::Store, size_of_store(op), bounds.get(rs1), offset),
+            } => {
+                let range = bounds.get(rs1);
+                !self.reaches(
+                    Access::Store,
+                    size_of_store(op),
+                    range,
+                    offset,
+                    &mut found.stores,
+                )
+            }
             _ => false,
         }
     }

@@ -55,6 +55,7 @@ returns-in-Missing c =
         | inr unmeasured ↦ sym (noted-rules image t c.args.point Unmeasured (ap (noted_by c.args.self.now.slots.now c.args.points.now.log) (sym unmeasured) ∙ is.same))
       ];
       same = c.requires.same;
+      found = c.requires.found;
       read = c.requires.read;
       shown = c.requires.some;
     }
@@ -81,3 +82,12 @@ returns-in_ok-show-in-Known-clause-shown c =
     follows-from (λ _. KeepsParts c.args.points.now.log log) (λ _. ShowsSome log c.show.new.shown) c.state_rules.result
     (λ _ keeps. some-grown c.args.points.now.log log c.show.new.shown keeps (some-shown c.args.points.now.log c.in-Known.known.part c.show.new.shown c.in_ok-show-in-Known.ensures))
     c.state_rules.ensures.others
+
+pub state_rules-requires-clause-found : goal.state_rules-requires-clause-found
+state_rules-requires-clause-found c =
+    let count = c.requires.read.count in
+    let within : c.args.point < length c.args.points.now.kept.items = omega (arith, count, c.requires.within) in
+    let is = kept-at c.args.self.now.space.image.now (thread_of c.args.self.now) c.args.self.now.slots.now c.args.points.now.log c.args.points.now.kept.items
+    c.args.point c.index.result.now c.requires.read.noted within c.index.ensures in
+    c.go_on.ensures.found c.args.self.now.space.image.now c.args.self.now.space.thread.now c.args.self.now.slots.now c.args.points.now.log
+    (subst (λ (k : Kept). IsSound c.args.points.now.log c.args.point k) c.in-Known.is is.sound).0 c.requires.found

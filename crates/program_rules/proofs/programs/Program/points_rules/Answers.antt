@@ -11,8 +11,14 @@ use Rattle.program_rules.specs.Programs.{thread_of}
 
 pub rules-init : goal.rules-init
 rules-init c =
-    let own = c.args.self.now.space.thread.now in
-    (c.requires.read, subst (λ (rs : List StateRecord). AreLeft own 0 rs) (sym c.of-records.ensures) (all-left own c.args.self.now.fits), refl, c.new-shown.ensures.shown c.args.points.now.log, c.new-same.ensures c.args.self.now.slots.now c.args.points.now.log)
+    let own = c.args.self.now.space.thread.now in (
+      c.requires.read,
+      subst (λ (rs : List StateRecord). AreLeft own 0 rs) (sym c.of-records.ensures) (all-left own c.args.self.now.fits),
+      refl,
+      c.new-shown.ensures.shown c.args.points.now.log,
+      c.new-same.ensures c.args.self.now.slots.now c.args.points.now.log,
+      c.new-found.ensures c.args.self.now.space.image.now own c.args.self.now.slots.now c.args.points.now.log,
+    )
 
 pub point_rules-requires-clause-noted : goal.point_rules-requires-clause-noted
 point_rules-requires-clause-noted c =
@@ -34,6 +40,7 @@ rules-preserved c =
       one-more-kept (point_rules image t) c.rules.point c.rules.invariant.2 c.in_ok-point_rules.ensures.broken,
       c.in_ok-point_rules.ensures.shown,
       c.in_ok-point_rules.ensures.same,
+      c.in_ok-point_rules.ensures.found,
     )
 
 pub point_rules-requires-clause-next : goal.point_rules-requires-clause-next

@@ -6,6 +6,7 @@ use Rattle.model.specs.Acceptance.PointRules.{point_rules}
 use Rattle.model.specs.Acceptance.Rules.{first_broken}
 use Rattle.program_rules.proofs.NextRecords.{AreLeft}
 use Rattle.program_rules.proofs.programs.Program.points_rules.Given as goal
+use Rattle.program_rules.specs.FoundPages.{AreFound}
 use Rattle.program_rules.specs.Kept.{IsRead}
 use Rattle.program_rules.specs.Programs.{thread_of}
 use Rattle.program_rules.specs.SameParts.{AreSame}
@@ -17,3 +18,4 @@ invariant-rules l =
     let t = thread_of l.fn.self in
     IsRead image t l.fn.self.slots.now l.points.log l.points.kept.items × AreLeft l.fn.self.space.thread.now l.point l.records
     × (first_broken (flat_map (point_rules image t) (range_with_len 0 l.point)) ≡ None) × ShowsSome l.points.log l.shown × AreSame l.fn.self.slots.now l.points.log l.same
+    × AreFound image t.thread l.fn.self.slots.now l.points.log l.found

@@ -18,3 +18,8 @@ returns-then-is_mapped-clause-mapped c = λ p from below.
     let n = c.args.self.now in
     let test : ℕ → Bool = is_mapped_for n.image.now n.thread.now (slots_of n.slots) c.args.access in
     one-page test c.args.page (sym c.is_mapped.ensures ∙ c.if-is_mapped.true) p from below
+
+pub returns-then-page-known-clause-mapped : goal.returns-then-page-known-clause-mapped
+returns-then-page-known-clause-mapped c = λ p from below.
+    let n = c.args.self.now in
+    c.end-known.ensures (is_mapped_for n.image.now n.thread.now (slots_of n.slots) c.args.access) c.requires.found p from below
