@@ -1,7 +1,7 @@
 //! What is left to do once all slots of a removal are empty.
 
-ghost use Rattle.std.specs.Prelude.{◌≡◌, ◌+◌, ◌*◌, ◌^◌, ◌<◌, ◌≤◌, Some, length, true};
-ghost use Rattle.cnode_ops.specs.Unsettled.{Covers, nothing, with_slots_of, with_waiting};
+ghost use Rattle.std.specs.Prelude.{ℕ, ◌≡◌, ◌≢◌, ◌+◌, ◌*◌, ◌^◌, ◌<◌, ◌≤◌, Some, length, min, replicate, slice_index, true};
+ghost use Rattle.cnode_ops.specs.Unsettled.{Covers, IsWithSlots, Lands, nothing, start_with, with_waiting};
 ghost use Rattle.model.specs.Capabilities.Slots.{IsOpen, empty_entry};
 ghost use Rattle.removal_laws.specs.Finishing.{MaySettle, StrayClosed, settled, without_strays};
 
@@ -9,13 +9,64 @@ use crate::Ends;
 use model::Slot;
 use slots::SlotStore;
 
-/// What the objects that ended leave to settle: slots of theirs are open from `first` on and before `end`, and threads
-/// may wait at one.
+/// How many slots a block has.
+const BLOCK: u32 = 0x4000;
+
+/// How many blocks the largest memory has.
+const BLOCKS: usize = 64;
+
+/// How many slots the largest memory has.
+const SLOTS: u32 = 0x10_0000;
+
+/// What the objects that ended leave to settle: slots of theirs are open from `first` on and before `end`, in each block
+/// from its start on, and threads may wait at one.
 #[derive(Clone, Copy)]
 pub struct Unsettled {
     first: u32,
     end: u32,
+    starts: [u32; BLOCKS],
     waited: bool,
+}
+
+/// No block has a start.
+fn no_starts() -> [u32; BLOCKS]
+    ensures { result ≡ replicate 64 (2 ^ 20) }
+{
+    [SLOTS; BLOCKS]
+}
+
+/// A block starts at a slot, if not before.
+fn note_start(starts: &mut [u32; BLOCKS], block: u32, start: u32)
+    requires { block < 64 }
+    ensures own { slice_index starts.new block ≡ min (slice_index starts.old block) start }
+    ensures others { (k : ℕ) → k ≢ block → slice_index starts.new k ≡ slice_index starts.old k }
+{
+    let at = block as usize;
+    starts[at] = starts[at].min(start);
+}
+
+/// Each block that has one of some slots starts at the first of those that it has, if not before.
+fn note_starts(starts: &mut [u32; BLOCKS], first: u32, last: u32)
+    requires some { first ≤ last }
+    requires near { last < 2 ^ 20 }
+    ensures { (k : ℕ) → slice_index starts.new k ≡ start_with (slice_index starts.old k) first last k }
+{
+    'touched: for block in first / BLOCK..last / BLOCK + 1 {
+        note_start(starts, block, first.max(BLOCK * block));
+    }
+}
+
+/// The first slot from one on that is not before the start of its block.
+fn next_noted(starts: &[u32; BLOCKS], at: u32) -> u32
+    ensures { Lands starts.now at result }
+{
+    'later: for block in at / BLOCK..64 {
+        let start = starts[block as usize];
+        if start < BLOCK * block + BLOCK {
+            return start.max(at);
+        }
+    }
+    at
 }
 
 impl Unsettled {
@@ -26,21 +77,26 @@ impl Unsettled {
         Unsettled {
             first: count,
             end: 0,
+            starts: no_starts(),
             waited: false,
         }
     }
 
     /// An object ended as well that has so many slots from `first` on.
     pub(crate) fn with_slots_of(self, first: u32, count: u32) -> Self
-        requires { first + count < 2 ^ 32 }
-        ensures { result ≡ with_slots_of self first count }
+        requires { count ≢ 0 → first + count ≤ 2 ^ 20 }
+        ensures none { count ≡ 0 → result ≡ self }
+        ensures some { count ≢ 0 → IsWithSlots self first count result }
     {
         if count == 0 {
             return self;
         }
+        let mut starts = self.starts;
+        note_starts(&mut starts, first, first + (count - 1));
         Unsettled {
             first: self.first.min(first),
             end: self.end.max(first + count),
+            starts,
             ..self
         }
     }
@@ -73,7 +129,8 @@ fn close_stray<S: SlotStore, E: Ends>(store: &mut S, ends: &E, slot: Slot, stray
     }
 }
 
-/// Closes the open slots that belong to no object any more: no others than those of objects that ended.
+/// Closes the open slots that belong to no object any more: no others than those of objects that ended. Blocks that have none
+/// of theirs are passed by.
 fn close_strays<S: SlotStore, E: Ends>(store: &mut S, ends: &E, left: Unsettled)
     requires agree { E.Agree ends.now (S.slots store.old) (S.memory store.old) }
     requires may { MaySettle (E.state ends.now (S.slots store.old) (S.memory store.old)) }
@@ -86,7 +143,7 @@ fn close_strays<S: SlotStore, E: Ends>(store: &mut S, ends: &E, left: Unsettled)
     'slots: while at < left.end {
         let own = ends.slots_of(store, 16 * at);
         close_stray(store, ends, Slot::new(at), own == 0);
-        at += own.max(1);
+        at = next_noted(&left.starts, at + own.max(1));
     }
 }
 

@@ -1,9 +1,8 @@
 -- The object ends where no slot names it.
-use Rattle.std.proofs.Common.{ℕ, ◌≡◌, ◌∙◌, rules, true, false, Some, refl, sym, ap, subst}
+use Rattle.std.proofs.Common.{ℕ, ◌≡◌, ◌∙◌, true, false, Some, refl, sym, subst}
 use Rattle.model.specs.Capabilities.CapabilityKinds.{names_object, object_of}
 use Rattle.model.specs.Capabilities.Slots.{Slots, capability_at}
 use Rattle.removal_laws.specs.Steps.{ends, stays}
-use Rattle.cnode_ops.specs.Unsettled.{with_waiting}
 use Rattle.cnode_ops.proofs.Unsettling.{noted-fits, notes-ended}
 use Rattle.cnode_ops.proofs.emptying.end_unnamed.Goals as goal
 
@@ -23,9 +22,9 @@ returns-clause-state g c =
     c.end.ensures.state
 
 pub with_slots_of-requires : goal.with_slots_of-requires
-with_slots_of-requires g c = noted-fits _ c.in-Some.offset c.slots_of-own.result c.requires.lie (sym c.slots_of-own.ensures) (search rules)
+with_slots_of-requires g c = noted-fits _ c.in-Some.offset c.slots_of-own.result c.requires.lie (sym c.slots_of-own.ensures)
 
 pub returns-clause-noted : goal.returns-clause-noted
 returns-clause-noted g c =
-    notes-ended _ _ c.args.removed c.in-Some.offset c.slots_of-own.result c.is_waited_at-waited.result c.args.left _ (sym c.object_of.ensures ∙ c.in-Some.is)
-    c.slots_of-own.ensures c.is_waited_at-waited.ensures.0 c.end.ensures.state (c.with_waiting.ensures ∙ ap (λ l. with_waiting l c.is_waited_at-waited.result) c.with_slots_of.ensures)
+    notes-ended _ _ c.args.removed c.in-Some.offset c.slots_of-own.result c.is_waited_at-waited.result c.args.left c.with_slots_of.result _ (sym c.object_of.ensures ∙ c.in-Some.is)
+    c.slots_of-own.ensures c.is_waited_at-waited.ensures.0 c.end.ensures.state c.with_slots_of.ensures.none c.with_slots_of.ensures.some c.with_waiting.ensures

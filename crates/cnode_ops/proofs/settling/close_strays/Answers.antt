@@ -1,12 +1,12 @@
 -- Step by step.
-use Rattle.std.proofs.Common.{ℕ, ◌≡◌, ◌∙◌, ◌==◌, ◌+◌, Some, refl, sym, ap, subst}
+use Rattle.std.proofs.Common.{ℕ, ◌≡◌, ◌∙◌, ◌==◌, ◌+◌, Some, refl, sym, ap, subst, arith}
 use Rattle.cnode_ops.specs.Unsettled.{Covers}
 use Rattle.model.specs.Capabilities.Slots.{IsOpen, Slots, empty_entry}
 use Rattle.model.specs.Kernel.State.{State}
 use Rattle.removal_laws.specs.Finishing.{StrayClosed, slots_from}
 use Rattle.removal_laws.proofs.Laws.{IsPassed, passed-next, passed-objects, stray-empty}
 use Rattle.cnode_ops.proofs.ClosedSlots.{is-zero}
-use Rattle.cnode_ops.proofs.Unsettling.{passed-covered, passed-end, passed-near}
+use Rattle.cnode_ops.proofs.Unsettling.{lands-least, passed-covered, passed-end, passed-lands, passed-near}
 use Rattle.cnode_ops.proofs.settling.close_strays.Goals as goal
 
 pub new-requires : goal.new-requires
@@ -43,9 +43,11 @@ slots-preserved g c =
     let passed : IsPassed before now c.slots.at = c.slots.invariant.passed in
     let own : ℕ = c.slots_of-own.result in
     let own_is : own ≡ slots_from before c.slots.at = c.slots_of-own.ensures ∙ passed-objects before now c.slots.at c.slots.at passed in
+    let covers : Covers before.slots before c.args.left = subst (λ (n : Slots). Covers n before c.args.left) (sym (g.met.E.Ends.of_slots _ _ _)) c.requires.covered in
     let state : StrayClosed now c.slots.at (own == 0) after = subst (λ (n : ℕ). StrayClosed now n (own == 0) after) c.new.ensures c.close_stray.ensures.state in
     record {
-      passed = subst (λ (n : ℕ). IsPassed before after (c.slots.at + n)) (sym c.max-at.ensures) (passed-next before now after c.slots.at own (own == 0) passed own_is refl state);
+      passed = passed-lands before c.args.left covers after (c.slots.at + c.max.result) c.next_noted-at.result
+          (subst (λ (n : ℕ). IsPassed before after (c.slots.at + n)) (sym c.max.ensures) (passed-next before now after c.slots.at own (own == 0) passed own_is refl state)) c.next_noted-at.ensures;
       agree = c.close_stray.ensures.agree;
     }
 
@@ -53,3 +55,8 @@ pub returns-clause-state : goal.returns-clause-state
 returns-clause-state g c =
     let before : State = g.E.Ends.state c.args.ends.now (g.S.SlotMap.slots c.args.store.now) (g.S.SlotStore.memory c.args.store.now) in
     passed-end before c.args.left (subst (λ (n : Slots). Covers n before c.args.left) (sym (g.met.E.Ends.of_slots _ _ _)) c.requires.covered) _ c.slots.at c.slots.invariant.passed c.slots-test.false
+
+pub slots-smaller : goal.slots-smaller
+slots-smaller g c =
+    let least = lands-least c.args.left.starts (c.slots.at + c.max.result) c.next_noted-at.result c.next_noted-at.ensures in
+    omega (arith, least, c.max.ensures, c.slots-test.true)
