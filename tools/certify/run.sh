@@ -1,7 +1,8 @@
 #!/usr/bin/env bash
 # Outside the gate: texts of kinds.py, each of which has to get a certificate, or none where the rules bear none; 200 random
 # programs of loops, of which 95 per cent have to get certificates; and a text of 65,536 instructions, which has to get one
-# within 20 seconds. What is written is built and verified once more by `microsys`. Asks for `make build tool` before.
+# within 20 seconds. What is written is built and verified once more by `microsys`. At the end large.py takes time and memory of
+# large texts of three kinds. Asks for `make build tool` before.
 # With a number as its word other programs are made: each number gives its own.
 set -euo pipefail
 here="$(cd "$(dirname "$0")" && pwd)"
@@ -51,4 +52,4 @@ took=$((($(date +%s%N) - began) / 1000000))
 "$program" build "$room/long.out" "$room/img"
 "$program" verify "$room/img"
 echo "65,536 instructions in $took ms"
-[ "$accepted" -ge 190 ] && [ "$took" -le 20000 ]
+[ "$accepted" -ge 190 ] && [ "$took" -le 20000 ] && "$here/large.py" "$tool" "$program"

@@ -1,21 +1,14 @@
 //! What system calls leave, by the rules of acceptance.
 
-ghost use Rattle.std.specs.Prelude.{◌≡◌, []};
-ghost use Rattle.typestate.specs.Logs.{Holds};
 ghost use Rattle.certifying.specs.Given.{IsGiven};
 
 use crate::shared::{Called, Shared, Stretch};
 use crate::tables::are_same_changes;
 use crate::ways::State;
 use crate::{Effort, Fault};
-use model::{Point, Refusal};
-use ranges::Bounds;
+use model::Point;
 use std::alloc::Global;
-use thread_spaces::slots_are_own;
-use typestate::{
-    Behind, NotedSlot, NotedSlots, Part, SlotLog, Space, ThreadSlots, ToldSlots,
-    no_stray_slot_leads_outside,
-};
+use typestate::{NotedSlot, NotedSlots, Part, SlotLog, Space};
 
 /// A thread of an image without certificates: the CNodes that the image gives it, and what it puts into them.
 #[derive(Clone, Copy)]
@@ -59,38 +52,18 @@ impl Given<'_, '_> {
         &self,
         point: u32,
         state: &State,
-        shared: &mut Shared,
-    ) -> Result<Called, Fault>
-        requires { IsGiven self.now.space self.now.slots.now self.now.lists_stray }
-    {
+        shared: &mut Shared<'_, '_>,
+    ) -> Result<Called, Fault> {
         if let Some(called) = shared.called(point, &state.bounds, state.changes) {
             return Ok(called);
         }
         let mut made = Vec::new(self.alloc);
-        let behind = self.answered_behind(
+        let at = Point {
+            thread: self.number,
             point,
-            &state.bounds,
-            shared.part(state.changes),
-            &mut made,
-        )?;
+        };
+        let behind = shared.asked(at, state, &mut made)?;
         shared.note(self.alloc, point, state, &behind, &made)
-    }
-
-    /// What the system call at a point leaves of the registers, behind these changes. Those that it makes are put into the list, which
-    /// is empty.
-    fn answered_behind(
-        &self,
-        point: u32,
-        bounds: &Bounds,
-        changes: &[NotedSlot],
-        made: &mut Vec<NotedSlot>,
-    ) -> Result<Behind, Fault>
-        requires given { IsGiven self.now.space self.now.slots.now self.now.lists_stray }
-        requires none { made.old.items ≡ [] }
-    {
-        let mut log = SlotLog::new(self.alloc);
-        let part = log.follow(Part { first: 0, end: 0 }, changes)?;
-        self.answered_in(point, bounds, &log, part, made)
     }
 
     /// Those of some changes that make a difference to the image's slots, of several to one slot the last, in the order of their keys.
@@ -106,7 +79,7 @@ impl Given<'_, '_> {
     /// Whether two stretches of changes leave the same slots.
     pub(crate) fn are_same(
         &self,
-        shared: &mut Shared,
+        shared: &mut Shared<'_, '_>,
         one: Stretch,
         other: Stretch,
     ) -> Result<bool, Fault>
@@ -122,60 +95,5 @@ impl Given<'_, '_> {
             shared.note_same(one, other);
         }
         Ok(are_same)
-    }
-
-    /// What the system call at a point leaves of the registers, where a part of a log changes the slots. Those that it changes are
-    /// put into the list, which is empty.
-    fn answered_in(
-        &self,
-        point: u32,
-        bounds: &Bounds,
-        log: &SlotLog,
-        part: Part,
-        made: &mut Vec<NotedSlot>,
-    ) -> Result<Behind, Fault>
-        requires given { IsGiven self.now.space self.now.slots.now self.now.lists_stray }
-        requires held { Holds log.now part }
-        requires none { made.old.items ≡ [] }
-    {
-        let at = Point {
-            thread: self.number,
-            point,
-        };
-        let before = log.shown(part)?;
-        self.answered(at, bounds, &before.slots(self.slots), made)
-    }
-
-    /// What the system call at a point leaves of the registers. The slots that it changes are put into the list, which is empty.
-    fn answered(
-        &self,
-        at: Point,
-        bounds: &Bounds,
-        slots: &NotedSlots<'_>,
-        made: &mut Vec<NotedSlot>,
-    ) -> Result<Behind, Fault>
-        requires given { IsGiven self.now.space self.now.slots.now self.now.lists_stray }
-        requires image { slots.now.image.now ≡ self.now.slots.now }
-        requires none { made.old.items ≡ [] }
-    {
-        let told = ToldSlots {
-            space: self.space,
-            slots: *slots,
-            lists_stray: self.lists_stray,
-            is_clean: false,
-        };
-        if told.has_stray_slots(None) {
-            return Err(Fault::refused(at.point, Refusal::CapNotThere(at)));
-        }
-        no_stray_slot_leads_outside();
-        slots_are_own(self.space.image, self.space.thread, slots);
-        let own = ThreadSlots {
-            space: self.space,
-            slots: *slots,
-        };
-        match own.after_call(at, bounds, made)? {
-            Ok(behind) => Ok(behind),
-            Err(refusal) => Err(Fault::refused(at.point, refusal)),
-        }
     }
 }

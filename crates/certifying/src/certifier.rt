@@ -248,7 +248,11 @@ fn bounds_needed(graph: &Graph, needs: &[Registers], point: u32) -> Option<Bound
 }
 
 /// The ranges at all points.
-fn all_bounds(alloc: Global, count: u32, table: &Table) -> Result<Vec<Option<Bounds>>, Fault> {
+fn all_bounds(
+    alloc: Global,
+    count: u32,
+    table: &Table<'_, '_>,
+) -> Result<Vec<Option<Bounds>>, Fault> {
     let mut all = Vec::new(alloc);
     'points: for point in 0..count {
         all.push(table.bounds(point))?;
@@ -269,7 +273,7 @@ impl Given<'_, '_> {
     }
 
     /// The graph of the program's ways.
-    fn graph(&self, table: &Table, ways: Vec<Way>) -> Result<Graph, Fault> {
+    fn graph(&self, table: &Table<'_, '_>, ways: Vec<Way>) -> Result<Graph, Fault> {
         let bounds = all_bounds(self.alloc, self.count(), table)?;
         let entry = self.space.thread.header().entry;
         Graph::new(self.alloc, self.count(), entry, ways, bounds)
@@ -294,7 +298,7 @@ impl Given<'_, '_> {
     }
 
     /// The changes of slots at a point.
-    fn changes_at(&self, table: &Table, point: u32) -> Result<Vec<NotedSlot>, Fault>
+    fn changes_at(&self, table: &Table<'_, '_>, point: u32) -> Result<Vec<NotedSlot>, Fault>
         requires { IsGiven self.now.space self.now.slots.now self.now.lists_stray }
     {
         match table.state(point) {
@@ -309,7 +313,7 @@ impl Given<'_, '_> {
         graph: &Graph,
         costs: &Costs,
         needs: &[Registers],
-        table: &Table,
+        table: &Table<'_, '_>,
         marks: &[bool],
     ) -> Result<Vec<Record>, Fault>
         requires { IsGiven self.now.space self.now.slots.now self.now.lists_stray }
@@ -334,7 +338,12 @@ impl Given<'_, '_> {
     }
 
     /// The thread's certificate, by what its points have to have at least.
-    fn certified(&self, graph: &Graph, costs: &Costs, table: &Table) -> Result<Certificate, Fault>
+    fn certified(
+        &self,
+        graph: &Graph,
+        costs: &Costs,
+        table: &Table<'_, '_>,
+    ) -> Result<Certificate, Fault>
         requires { IsGiven self.now.space self.now.slots.now self.now.lists_stray }
     {
         let budget = self.budget(graph, costs)?;

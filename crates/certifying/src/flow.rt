@@ -22,8 +22,8 @@ const MOST_NARROWINGS: u32 = 20;
 
 /// What is known of all points, and all ways on from those that are reached, in the order of their points.
 #[derive(Drop)]
-pub(crate) struct Flow {
-    pub(crate) table: Table,
+pub(crate) struct Flow<'a, 's> {
+    pub(crate) table: Table<'a, 's>,
     pub(crate) ways: Vec<Way>,
 }
 
@@ -154,7 +154,7 @@ fn constant_of(instr: Option<Instr>) -> Option<u32> {
     }
 }
 
-impl Given<'_, '_> {
+impl<'a, 's> Given<'a, 's> {
     /// The constant of the instruction at a point, if it has one.
     fn constant_at(&self, point: u32) -> Option<u32> {
         if point < self.space.thread.word_count() {
@@ -165,7 +165,7 @@ impl Given<'_, '_> {
     }
 
     /// Notes the constants of the program as thresholds.
-    fn add_constants(&self, table: &mut Table) -> Result<(), Fault> {
+    fn add_constants(&self, table: &mut Table<'_, '_>) -> Result<(), Fault> {
         let mut values = Vec::new(self.alloc);
         values.push(1u32 << 31)?;
         'points: for point in 0..self.count() {
@@ -177,7 +177,7 @@ impl Given<'_, '_> {
     }
 
     /// The ways on from a point, if it is reached and nothing is wrong there with what is known so far.
-    fn ways_so_far(&self, table: &mut Table, point: u32) -> Result<Option<Ways>, Fault>
+    fn ways_so_far(&self, table: &mut Table<'_, '_>, point: u32) -> Result<Option<Ways>, Fault>
         requires { IsGiven self.now.space self.now.slots.now self.now.lists_stray }
     {
         let Some(state) = table.state(point) else {
@@ -192,7 +192,7 @@ impl Given<'_, '_> {
 
     /// Follows the ways on from a point, and answers which point is looked at next: the first of those that they change, or the
     /// next one.
-    fn follow(&self, table: &mut Table, point: u32) -> Result<u32, Fault>
+    fn follow(&self, table: &mut Table<'_, '_>, point: u32) -> Result<u32, Fault>
         requires { IsGiven self.now.space self.now.slots.now self.now.lists_stray }
     {
         let next = point.saturating_add(1);
@@ -206,7 +206,12 @@ impl Given<'_, '_> {
     }
 
     /// Refuses a way that leaves other slots than are known at its target.
-    fn leaves_same(&self, table: &mut Table, way: &Way, changes: Stretch) -> Result<(), Fault>
+    fn leaves_same(
+        &self,
+        table: &mut Table<'_, '_>,
+        way: &Way,
+        changes: Stretch,
+    ) -> Result<(), Fault>
         requires { IsGiven self.now.space self.now.slots.now self.now.lists_stray }
     {
         let Some(state) = table.state(way.target) else {
@@ -225,7 +230,7 @@ impl Given<'_, '_> {
     /// stands before the given one.
     fn reach_along(
         &self,
-        table: &mut Table,
+        table: &mut Table<'_, '_>,
         way: Option<Way>,
         changes: Stretch,
         next: u32,
@@ -244,7 +249,7 @@ impl Given<'_, '_> {
 
     /// Follows the ways on from all points that change, always from the first of them: so a loop is gone round until nothing changes
     /// in it before what stands behind it is looked at.
-    fn follow_all(&self, table: &mut Table) -> Result<(), Fault>
+    fn follow_all(&self, table: &mut Table<'_, '_>) -> Result<(), Fault>
         requires { IsGiven self.now.space self.now.slots.now self.now.lists_stray }
     {
         let mut point = 0u32;
@@ -262,7 +267,7 @@ impl Given<'_, '_> {
     }
 
     /// Narrows the ranges at a point to those of the ways to it.
-    fn narrow_at(&self, table: &mut Table, point: u32, arrived: Option<Bounds>) -> bool {
+    fn narrow_at(&self, table: &mut Table<'_, '_>, point: u32, arrived: Option<Bounds>) -> bool {
         let header = self.space.thread.header();
         let start = if point == header.entry {
             Some(start_bounds(self.space.thread))
@@ -281,7 +286,7 @@ impl Given<'_, '_> {
 
     /// Goes over all points once, in their order. Where the round before is given, ranges are narrowed, and of ways back those of
     /// that round count.
-    fn narrow(&self, table: &mut Table, before: Option<&Round>) -> Result<Round, Fault>
+    fn narrow(&self, table: &mut Table<'_, '_>, before: Option<&Round>) -> Result<Round, Fault>
         requires { IsGiven self.now.space self.now.slots.now self.now.lists_stray }
     {
         let mut ahead = Arrivals::new(self.alloc, self.count())?;
@@ -315,7 +320,7 @@ impl Given<'_, '_> {
 
     /// Forgets what was known of points to which no way leads any more, since ranges that are narrower rule it out. Answers whether
     /// there were some.
-    fn forget_unreached(&self, table: &mut Table, round: &Round) -> Result<bool, Fault> {
+    fn forget_unreached(&self, table: &mut Table<'_, '_>, round: &Round) -> Result<bool, Fault> {
         if round.has_fault {
             return Ok(false);
         }
@@ -331,7 +336,7 @@ impl Given<'_, '_> {
     }
 
     /// All ways on from points that are reached. The first point where something is wrong is told.
-    fn all_ways(&self, table: &mut Table) -> Result<Vec<Way>, Fault>
+    fn all_ways(&self, table: &mut Table<'_, '_>) -> Result<Vec<Way>, Fault>
         requires { IsGiven self.now.space self.now.slots.now self.now.lists_stray }
     {
         let mut all = Vec::new(self.alloc);
@@ -345,8 +350,10 @@ impl Given<'_, '_> {
     }
 
     /// What is known of all points before any way is followed.
-    fn begun(&self) -> Result<Table, Fault> {
-        let mut table = Table::new(self.alloc, self.count())?;
+    fn begun(&self) -> Result<Table<'a, 's>, Fault>
+        requires { IsGiven self.now.space self.now.slots.now self.now.lists_stray }
+    {
+        let mut table = Table::new(*self, self.count())?;
         self.add_constants(&mut table)?;
         let entry = self.space.thread.header().entry;
         table.begin(entry, start_bounds(self.space.thread))?;
@@ -354,7 +361,7 @@ impl Given<'_, '_> {
     }
 
     /// Narrows all ranges until none changes.
-    fn narrow_all(&self, table: &mut Table) -> Result<(), Fault>
+    fn narrow_all(&self, table: &mut Table<'_, '_>) -> Result<(), Fault>
         requires { IsGiven self.now.space self.now.slots.now self.now.lists_stray }
     {
         let mut round = self.narrow(table, None)?;
@@ -373,7 +380,7 @@ impl Given<'_, '_> {
     }
 
     /// What is known of all points of the program.
-    pub(crate) fn flow(&self) -> Result<Flow, Fault>
+    pub(crate) fn flow(&self) -> Result<Flow<'a, 's>, Fault>
         requires { IsGiven self.now.space self.now.slots.now self.now.lists_stray }
     {
         let mut table = self.begun()?;

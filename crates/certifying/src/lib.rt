@@ -8,6 +8,7 @@ mod faults;
 mod flow;
 mod forms;
 mod graph;
+mod looked;
 mod loops;
 mod marks;
 mod needs;

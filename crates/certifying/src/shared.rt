@@ -1,8 +1,14 @@
 //! The changes to slots at all points of a program, in one log: points share those that were made before them.
 
+ghost use Rattle.std.specs.Prelude.{◌≡◌, []};
+ghost use Rattle.certifying.specs.Given.{IsGiven};
+
 use crate::Fault;
+use crate::calls::Given;
+use crate::looked::Looked;
 use crate::tables::are_same_changes;
 use crate::ways::State;
+use model::Point;
 use ranges::Bounds;
 use std::alloc::Global;
 use typestate::{Behind, NotedSlot};
@@ -17,6 +23,28 @@ pub(crate) struct Stretch {
 impl Stretch {
     /// No changes.
     pub(crate) const NONE: Stretch = Stretch { first: 0, end: 0 };
+
+    /// No changes, where this one begins.
+    pub(crate) fn none_of(self) -> Stretch {
+        Stretch {
+            first: self.first,
+            end: self.first,
+        }
+    }
+
+    /// Whether another one begins with this one.
+    pub(crate) fn begins(self, other: Stretch) -> bool {
+        self.first == other.first && self.end <= other.end
+    }
+
+    /// What follows this one up to the end of another one, in a list of changes.
+    pub(crate) fn rest_of(self, other: Stretch, changes: &[NotedSlot]) -> &[NotedSlot] {
+        let rest = Stretch {
+            first: self.end,
+            end: other.end,
+        };
+        part_of(changes, rest)
+    }
 }
 
 /// What a system call left in the state in which it was looked at last.
@@ -63,8 +91,10 @@ struct Same {
 
 /// The log, and what is known of system calls.
 #[derive(Drop)]
-pub(crate) struct Shared {
+pub(crate) struct Shared<'a, 's> {
     changes: Vec<NotedSlot>,
+    /// The slots of the stretch that was looked at last.
+    looked: Looked<'a, 's>,
     /// Those that were looked at, each as it was last.
     calls: Vec<Called>,
     /// Which of them stands at each point.
@@ -82,15 +112,19 @@ fn part_of(changes: &[NotedSlot], stretch: Stretch) -> &[NotedSlot] {
     }
 }
 
-impl Shared {
+impl<'a, 's> Shared<'a, 's> {
     /// No changes at any of so many points.
-    pub(crate) fn new(alloc: Global, count: u32) -> Result<Self, Fault> {
+    pub(crate) fn new(given: Given<'a, 's>, count: u32) -> Result<Self, Fault>
+        requires { IsGiven given.space given.slots.now given.lists_stray }
+    {
+        let alloc = given.alloc;
         let mut at = Vec::new(alloc);
         'points: for _ in 0..count {
             at.push(None)?;
         }
         Ok(Shared {
             changes: Vec::new(alloc),
+            looked: Looked::before(given, Stretch::NONE)?,
             calls: Vec::new(alloc),
             at,
             same: None,
@@ -100,6 +134,20 @@ impl Shared {
     /// The changes of a stretch.
     pub(crate) fn part(&self, stretch: Stretch) -> &[NotedSlot] {
         part_of(&self.changes, stretch)
+    }
+
+    /// What the system call at a point leaves of the registers in a state. The slots that it changes are put into the list, which is
+    /// empty. What the state shares with the one that was looked at last is not gone through again.
+    pub(crate) fn asked(
+        &mut self,
+        at: Point,
+        state: &State,
+        made: &mut Vec<NotedSlot>,
+    ) -> Result<Behind, Fault>
+        requires { made.old.items ≡ [] }
+    {
+        self.looked.go_on(&self.changes, state.changes)?;
+        self.looked.called(at, &state.bounds, made)
     }
 
     /// The system call at a point as it was looked at last.
@@ -213,6 +261,7 @@ impl Shared {
         made: &[NotedSlot],
     ) -> Result<Called, Fault> {
         let stretches = self.stretches(alloc, point, state.changes, made)?;
+        self.looked.stand(stretches.left);
         self.put(point, Called::of(state, behind, &stretches))?;
         Ok(Called::of(state, behind, &stretches))
     }

@@ -1,11 +1,13 @@
 //! What is known of all points so far.
 
+ghost use Rattle.certifying.specs.Given.{IsGiven};
+
 use crate::Fault;
+use crate::calls::Given;
 use crate::ranged::{joined, widened};
 use crate::shared::{Shared, Stretch};
 use crate::ways::{State, Way};
 use ranges::{Bounds, Range};
-use std::alloc::Global;
 use typestate::{NotedSlot, SlotKey};
 
 /// How often the ranges at a point grow as they are, before they are widened.
@@ -26,10 +28,10 @@ pub(crate) struct Place {
 
 /// What is known of all points so far.
 #[derive(Drop)]
-pub(crate) struct Table {
+pub(crate) struct Table<'a, 's> {
     pub(crate) places: Vec<Place>,
     /// The changes to slots at all points.
-    pub(crate) shared: Shared,
+    pub(crate) shared: Shared<'a, 's>,
     /// Where ranges stop that are widened. They rise.
     thresholds: Vec<u32>,
 }
@@ -63,9 +65,12 @@ pub(crate) fn are_same_changes(first: &[NotedSlot], second: &[NotedSlot]) -> boo
     true
 }
 
-impl Table {
+impl<'a, 's> Table<'a, 's> {
     /// Nothing is known of any of so many points.
-    pub(crate) fn new(alloc: Global, count: u32) -> Result<Self, Fault> {
+    pub(crate) fn new(given: Given<'a, 's>, count: u32) -> Result<Self, Fault>
+        requires { IsGiven given.space given.slots.now given.lists_stray }
+    {
+        let alloc = given.alloc;
         let mut places = Vec::new(alloc);
         'points: for _ in 0..count {
             places.push(Place {
@@ -76,7 +81,7 @@ impl Table {
         }
         Ok(Table {
             places,
-            shared: Shared::new(alloc, count)?,
+            shared: Shared::new(given, count)?,
             thresholds: Vec::new(alloc),
         })
     }

@@ -181,7 +181,7 @@ impl Given<'_, '_> {
         &self,
         point: u32,
         state: &State,
-        shared: &mut Shared,
+        shared: &mut Shared<'_, '_>,
     ) -> Result<Ways, Fault>
         requires { IsGiven self.now.space self.now.slots.now self.now.lists_stray }
     {
@@ -203,7 +203,12 @@ impl Given<'_, '_> {
     }
 
     /// The ways on from a point in a state.
-    pub(crate) fn ways(&self, point: u32, state: &State, shared: &mut Shared) -> Result<Ways, Fault>
+    pub(crate) fn ways(
+        &self,
+        point: u32,
+        state: &State,
+        shared: &mut Shared<'_, '_>,
+    ) -> Result<Ways, Fault>
         requires { IsGiven self.now.space self.now.slots.now self.now.lists_stray }
     {
         let instr = self.instruction(point)?;

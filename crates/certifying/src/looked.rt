@@ -1,0 +1,164 @@
+//! The slots that were looked at last, along a straight run of a program.
+
+ghost use Rattle.std.specs.Prelude.{◌≡◌, [], IfOk, List, true};
+ghost use Rattle.certifying.specs.Given.{IsGiven};
+ghost use Rattle.model.specs.Acceptance.NotedStates.{NotedSlot};
+ghost use Rattle.typestate.specs.Differences.{changed};
+ghost use Rattle.typestate.specs.Logs.{Shows};
+ghost use Rattle.typestate.specs.Orders.{Rise};
+
+use crate::Fault;
+use crate::calls::Given;
+use crate::shared::Stretch;
+use model::{Point, Refusal};
+use ranges::Bounds;
+use std::alloc::AllocError;
+use std::marker::Model;
+use thread_spaces::slots_are_own;
+use typestate::{
+    Behind, NotedSlot, Part, ShownPart, SlotLog, ThreadSlots, ToldSlots,
+    no_stray_slot_leads_outside, points_without_stray_slots_have_none,
+};
+
+/// The changes of a stretch, by their slots. Those that follow are put among them, so that along a straight run each change is gone
+/// through once, and each slot is judged once. A clause sees whether what is shown is known.
+#[derive(Drop)]
+pub(crate) struct Looked<'a, 's> {
+    given: Given<'a, 's>,
+    stretch: Stretch,
+    log: SlotLog,
+    part: Part,
+    shown: ShownPart,
+    /// Whether the part is shown: it is not, where memory was refused in between.
+    is_known: bool,
+    /// Whether it is known that no slot is one that the thread may not have.
+    is_clean: bool,
+}
+
+impl<'a, 's> Model for Looked<'a, 's> {
+    ghost use Rattle.std.specs.Prelude.{Bool};
+    ghost use Rattle.certifying.specs.LookedAt.{IsLookedAt};
+
+    ghost Value = { Bool };
+
+    ghost view = { λ looked. looked.is_known };
+
+    ghost invariant = { λ looked. IsLookedAt looked.given looked.log looked.part looked.shown looked.is_known looked.is_clean };
+}
+
+/// Goes on from a part that is shown to one with changes that follow it. Memory may be refused.
+fn followed(
+    log: &mut SlotLog,
+    part: Part,
+    shown: &mut ShownPart,
+    made: &[NotedSlot],
+) -> Result<Part, AllocError>
+    requires { Shows log.old part shown.old }
+    ensures shows { IfOk result (λ longer. Shows log.new longer shown.new) }
+    ensures same { IfOk result (λ _. (slots : List NotedSlot) → Rise slots → changed slots shown.new.changes ≡ changed (changed slots shown.old.changes) made.now) }
+{
+    let longer = log.follow(part, made)?;
+    log.show(shown, longer)?;
+    Ok(longer)
+}
+
+impl<'a, 's> Looked<'a, 's> {
+    /// No changes, where a stretch begins.
+    pub(crate) fn before(given: Given<'a, 's>, stretch: Stretch) -> Result<Self, Fault>
+        requires { IsGiven given.space given.slots.now given.lists_stray }
+        ensures { IfOk result (λ looked. looked ≡ true) }
+    {
+        let log = SlotLog::new(given.alloc);
+        let part = Part { first: 0, end: 0 };
+        let shown = log.shown(part)?;
+        Ok(Looked {
+            given,
+            stretch: stretch.none_of(),
+            log,
+            part,
+            shown,
+            is_known: true,
+            is_clean: false,
+        })
+    }
+
+    /// Puts changes that follow among those that are shown.
+    fn grow(&mut self, more: &[NotedSlot]) -> Result<(), Fault>
+        requires { self.old ≡ true }
+        ensures { IfOk result (λ _. self.new ≡ true) }
+    {
+        self.is_known = false;
+        self.is_clean = false;
+        self.part = followed(&mut self.log, self.part, &mut self.shown, more)?;
+        self.is_known = true;
+        Ok(())
+    }
+
+    /// Begins anew, unless a stretch begins with what is shown.
+    fn begin(&mut self, stretch: Stretch) -> Result<(), Fault>
+        ensures { IfOk result (λ _. self.new ≡ true) }
+    {
+        if !self.is_known || !self.stretch.begins(stretch) {
+            *self = Looked::before(self.given, stretch)?;
+        }
+        Ok(())
+    }
+
+    /// Goes on to the changes of a stretch, which stands in a list of changes. What it begins with is not gone through again.
+    pub(crate) fn go_on(&mut self, changes: &[NotedSlot], stretch: Stretch) -> Result<(), Fault>
+        ensures { IfOk result (λ _. self.new ≡ true) }
+    {
+        self.begin(stretch)?;
+        let more = self.stretch.rest_of(stretch, changes);
+        self.stretch = stretch;
+        if more.is_empty() {
+            return Ok(());
+        }
+        self.grow(more)
+    }
+
+    /// Notes where the changes stand that are shown.
+    pub(crate) fn stand(&mut self, stretch: Stretch) {
+        self.stretch = stretch;
+    }
+
+    /// What the system call at a point leaves of the registers. The slots that it changes are put into the list, which is empty, and
+    /// among those that are shown.
+    pub(crate) fn called(
+        &mut self,
+        at: Point,
+        bounds: &Bounds,
+        made: &mut Vec<NotedSlot>,
+    ) -> Result<Behind, Fault>
+        requires known { self.old ≡ true }
+        requires none { made.old.items ≡ [] }
+    {
+        points_without_stray_slots_have_none();
+        let slots = self.shown.slots(self.given.slots);
+        let told = ToldSlots {
+            space: self.given.space,
+            slots,
+            lists_stray: self.given.lists_stray,
+            is_clean: self.is_clean,
+        };
+        if told.has_stray_slots(None) {
+            return Err(Fault::refused(at.point, Refusal::CapNotThere(at)));
+        }
+        no_stray_slot_leads_outside();
+        slots_are_own(self.given.space.image, self.given.space.thread, &slots);
+        let own = ThreadSlots {
+            space: self.given.space,
+            slots,
+        };
+        let behind = match own.after_call(at, bounds, made)? {
+            Ok(behind) => behind,
+            Err(refusal) => return Err(Fault::refused(at.point, refusal)),
+        };
+        self.is_known = false;
+        self.is_clean = false;
+        self.part = followed(&mut self.log, self.part, &mut self.shown, made)?;
+        self.is_known = true;
+        self.is_clean = behind.is_tidy;
+        Ok(behind)
+    }
+}
