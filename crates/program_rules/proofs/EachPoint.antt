@@ -1,14 +1,15 @@
 -- What is kept of each point, as the points are gone through.
-use Rattle.std.proofs.Common.{ℕ, zero, suc, ◌≡◌, ◌∙◌, ◌⊎◌, ◌+◌, ◌++◌, inl, inr, Option, Some, None, List, [], ◌∷◌, length, refl, sym, ap, subst, arith}
-use Rattle.std.specs.Prelude.{◌<◌, slice_get, slice_index_or}
+use Rattle.std.proofs.Common.{ℕ, zero, suc, ◌≡◌, ◌∙◌, ◌+◌, Option, List, refl, sym, ap, subst, arith}
+use Rattle.std.specs.Prelude.{slice_index_or}
 use Rattle.measure.specs.Measures.{measure_of}
 use Rattle.model.specs.Acceptance.NotedStates.{NotedSlot, record_of}
 use Rattle.model.specs.Acceptance.PointStates.{Known, follows, noted, noted_or}
 use Rattle.model.specs.Images.Described.{Numbered}
-use Rattle.model.specs.Images.Image.{Image, Thread}
-use Rattle.program_rules.specs.Kept.{AreKept, HasPart, IsCleanIn, IsKeptAt, IsRead, IsSound, before, noted_by}
+use Rattle.model.specs.Images.Image.{Image, StateRecord, Thread}
+use Rattle.program_rules.specs.Kept.{AreKept, HasPart, IsCleanIn, IsKeptAt, IsPlain, IsRead, IsSound, before, noted_by}
 use Rattle.program_rules.specs.declared.kept.Kept.TheVariants as kept
 use Rattle.program_rules.specs.declared.kept.Kept.{Kept}
+use Rattle.program_rules.specs.declared.kept_points.KeptPoints.{KeptPoints}
 use Rattle.typestate.specs.Differences.{changed}
 use Rattle.typestate.specs.Logs.{KeepsParts}
 use Rattle.typestate.specs.Strays.{NoneStray}
@@ -47,54 +48,36 @@ grown-at image t slots old new point k keeps is = record {
   clean = clean-grown image t.thread slots old new point k keeps is.sound is.clean;
 }
 
-pub grown : (image : Image) (t : Numbered) (slots old new : List NotedSlot) (ks : List Kept) → KeepsParts old new
+pub grown : (image : Image) (t : Numbered) (slots old new : List NotedSlot) (ks : KeptPoints) → KeepsParts old new
     → AreKept image t slots old ks → AreKept image t slots new ks
-grown image t slots old new ks keeps are = record { each = λ point k at. grown-at image t slots old new point k keeps (are.each point k at) }
-
--- ---- one point more
-
-pushed : (xs : List Kept) (x : Kept) (point : ℕ) (k : Kept) → slice_get (xs ++ x ∷ []) point ≡ Some k
-    → (slice_get xs point ≡ Some k) ⊎ ((point ≡ length xs) × (k ≡ x))
-pushed [] x zero k h = inr (refl, let same : ◌≡◌ {A = Option Kept} (Some x) (Some k) = h in sym (let is : x ≡ k = cc same in is))
-pushed [] x (suc point) k h = absurd (let clash : ◌≡◌ {A = Option Kept} None (Some k) = h in cc)
-pushed (y ∷ xs) x zero k h = inl h
-pushed (y ∷ xs) x (suc point) k h = elim (pushed xs x point k h) [
-  | inl known ↦ inl known
-  | inr here ↦ inr (ap suc here.0, here.1)
-]
-
-pub none-yet : (image : Image) (t : Numbered) (slots log : List NotedSlot) → AreKept image t slots log []
-none-yet image t slots log = record { each = λ point k h. absurd (let clash : ◌≡◌ {A = Option Kept} None (Some k) = h in cc) }
-
-pub one-more : (image : Image) (t : Numbered) (slots log : List NotedSlot) (ks : List Kept) (k : Kept) → AreKept image t slots log ks
-    → IsKeptAt image t slots log (length ks) k → AreKept image t slots log (ks ++ k ∷ [])
-one-more image t slots log ks k are is = record {
-  each = λ point other h. elim (pushed ks k point other h) [
-    | inl known ↦ are.each point other known
-    | inr here ↦ subst (λ (o : Kept). IsKeptAt image t slots log point o) (sym here.1) (subst (λ (n : ℕ). IsKeptAt image t slots log n k) (sym here.0) is)
-  ];
+grown image t slots old new ks keeps are = record {
+  each = λ k d below. let one = slice_index_or ks.points.items k d in grown-at image t slots old new one.point one.kept keeps (are.each k d below);
+  placed = are.placed;
 }
 
 -- what follows from a point is what is before the next one
 pub next-before : (image : Image) (t : Numbered) (point : ℕ) → follows image t point (noted image t point) ≡ before image t (point + 1)
 next-before image t point = ap (before image t) (let next : suc point ≡ point + 1 = omega arith in next)
 
+-- the next point that follows from one
+pub next-point : (image : Image) (t : Numbered) (slots log : List NotedSlot) (point : ℕ) (k next : Kept) → IsPlain t.thread point → IsKeptAt image t slots log point k
+    → noted_by slots log next ≡ follows image t point (noted_by slots log k) → IsSound log (point + 1) next → IsCleanIn image t.thread slots log next
+    → IsKeptAt image t slots log (point + 1) next
+next-point image t slots log point k next plain is follow sound clean = record {
+  same =
+      follow ∙ ap (follows image t point) is.same ∙ next-before image t point
+      ∙ sym (noted-is image t (point + 1) ∙ ap (λ (r : Option StateRecord). noted_or image t.thread r (before image t (point + 1))) plain.bare);
+  sound = sound;
+  clean = clean;
+}
+
 -- ---- what is kept of one point
-
-get-some : (ks : List Kept) (point : ℕ) (k : Kept) → point < length ks → k ≡ slice_index_or ks point k → slice_get ks point ≡ Some k
-get-some [] point k less is = absurd (omega (arith, less))
-get-some (x ∷ ks) zero k less is = ap Some (sym is)
-get-some (x ∷ ks) (suc point) k less is = get-some ks point k (omega (arith, less)) is
-
-pub kept-at : (image : Image) (t : Numbered) (slots log : List NotedSlot) (ks : List Kept) (point : ℕ) (k : Kept) → AreKept image t slots log ks
-    → point < length ks → k ≡ slice_index_or ks point k → IsKeptAt image t slots log point k
-kept-at image t slots log ks point k are less is = are.each point k (get-some ks point k less is)
 
 pub has-part : (log : List NotedSlot) (point : ℕ) (k : Kept) → IsSound log point k → HasPart log k
 has-part log point (kept.Known k) sound = sound.0
 has-part log point kept.Missing sound = tt
 has-part log point kept.Unmeasured sound = tt
 
-pub grown-read : (image : Image) (t : Numbered) (slots old new : List NotedSlot) (ks : List Kept) → KeepsParts old new
+pub grown-read : (image : Image) (t : Numbered) (slots old new : List NotedSlot) (ks : KeptPoints) → KeepsParts old new
     → IsRead image t slots old ks → IsRead image t slots new ks
 grown-read image t slots old new ks keeps read = record { count = read.count; noted = grown image t slots old new ks keeps read.noted }

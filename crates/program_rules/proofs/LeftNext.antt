@@ -1,7 +1,6 @@
 -- The way to a next point that no record notes, from an instruction and from a system call.
 use Rattle.std.proofs.Common.{ℕ, ◌≡◌, ◌≢◌, ◌∙◌, ◌+◌, ◌^◌, ◌<◌, true, false, Option, Some, None, Result, Ok, Err, List, refl, sym, ap, arith}
 use Rattle.std.specs.Option.{option_map_or}
-use Rattle.std.specs.Prelude.{slice_index_or}
 use Rattle.model.specs.Acceptance.CallRules.{AfterCall}
 use Rattle.model.specs.Acceptance.Edges.{Edge, after, behind, branch_edge, branch_ranges}
 use Rattle.model.specs.Acceptance.NotedStates.{NotedSlot, PointState, record_of}
@@ -15,9 +14,9 @@ use Rattle.model.specs.declared.instructions.Instr.{Instr}
 use Rattle.model.specs.declared.ranges.Range.{Range}
 use Rattle.model.specs.declared.refusals.Point.{Point}
 use Rattle.model.specs.declared.refusals.Refusal.{Refusal}
-use Rattle.program_rules.proofs.EachPoint.{kept-at, next-before, noted-is}
+use Rattle.program_rules.proofs.EachPoint.{next-before, noted-is}
 use Rattle.program_rules.proofs.EdgeRules.{call-told, told_of}
-use Rattle.program_rules.specs.Kept.{IsRead, before, has_state, noted_by}
+use Rattle.program_rules.specs.Kept.{IsKeptAt, before, has_state, noted_by}
 use Rattle.program_rules.specs.PointChecks.{later_rules, way_rules}
 use Rattle.program_rules.specs.declared.kept.Kept.{Kept}
 
@@ -81,14 +80,13 @@ module _ (image : Image) (t : Numbered) (point : ℕ) (s : PointState) (instr : 
       ∙ left-next
 
 -- the next point, as it was found: it has a state, and is the one at that address
-pub next-found : (image : Image) (t : Numbered) (slots log : List NotedSlot) (ks : List Kept) (point next address : ℕ) (k : Kept) → IsRead image t slots log ks
-    → next < t.thread.header.words → k ≡ slice_index_or ks next k → true ≡ has_state (noted_by slots log k) → next ≡ point + 1 → Some next ≡ point_at t.thread (address + 4)
+pub next-found : (image : Image) (t : Numbered) (slots log : List NotedSlot) (point next address : ℕ) (k : Kept) → IsKeptAt image t slots log next k
+    → true ≡ has_state (noted_by slots log k) → next ≡ point + 1 → Some next ≡ point_at t.thread (address + 4)
     → address ≡ address_of t.thread point → (has_state (noted image t (point + 1)) ≡ true) × (Some (point + 1) ≡ point_at t.thread (address_of t.thread point + 4))
-next-found image t slots log ks point next address k read within item has is at place =
-    let here = kept-at image t slots log ks next k read.noted (omega (arith, within, read.count)) item in (
-      ap (λ (n : ℕ). has_state (noted image t n)) (sym is) ∙ ap has_state (sym here.same) ∙ sym has,
-      ap (λ (n : ℕ). Some n) (sym is) ∙ at ∙ ap (λ (n : ℕ). point_at t.thread (n + 4)) place,
-    )
+next-found image t slots log point next address k here has is at place = (
+  ap (λ (n : ℕ). has_state (noted image t n)) (sym is) ∙ ap has_state (sym here.same) ∙ sym has,
+  ap (λ (n : ℕ). Some n) (sym is) ∙ at ∙ ap (λ (n : ℕ). point_at t.thread (n + 4)) place,
+)
 
 -- ---- from an instruction
 

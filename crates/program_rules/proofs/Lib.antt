@@ -4,6 +4,7 @@ mod NextRecords
 mod FirstBroken
 mod Called
 mod EachPoint
+mod Placed
 mod EdgeRules
 mod PointLists
 mod LeftNext

@@ -1,16 +1,20 @@
 -- What is kept of points, and what it says that the certificate notes of them.
-use Rattle.std.specs.Prelude.{ℕ, zero, suc, ◌≡◌, ◌+◌, ◌^◌, ◌≤ℤ◌, negsuc, Bool, true, false, Option, Some, None, Result, Ok, Err, List, length, slice_get}
+use Rattle.std.specs.Prelude.{ℕ, zero, suc, ◌≡◌, ◌+◌, ◌≢◌, ◌^◌, ◌<◌, ◌≤◌, ◌≤ℤ◌, negsuc, Bool, true, false, Option, Some, None, Result, Ok, Err, List, length, slice_get, slice_index_or}
+use Rattle.std.specs.List.{All}
 use Rattle.measure.specs.Measures.{measure_of}
-use Rattle.model.specs.Acceptance.NotedStates.{NotedSlot, PointState}
-use Rattle.model.specs.Acceptance.PointStates.{Noted, Known, Missing, Unmeasured, follows, noted}
+use Rattle.model.specs.Acceptance.NotedStates.{NotedSlot, PointState, record_of}
+use Rattle.model.specs.Acceptance.PointStates.{Noted, Known, Missing, Unmeasured, follows, instruction_at, noted}
 use Rattle.model.specs.Images.Described.{Numbered}
 use Rattle.model.specs.Images.Image.{Image, Thread}
+use Rattle.model.specs.declared.instructions.Instr.TheVariants.{Ecall}
 use Rattle.model.specs.declared.refusals.Refusal.{Refusal}
 use Rattle.program_rules.specs.declared.point_rules.following.Left.TheVariants as left
 use Rattle.program_rules.specs.declared.point_rules.following.Left.{Left}
 use Rattle.program_rules.specs.declared.kept.Kept.TheVariants as kept
 use Rattle.program_rules.specs.declared.kept.Kept.{Kept}
 use Rattle.program_rules.specs.declared.kept.Known.{Known as State}
+use Rattle.program_rules.specs.declared.kept_points.KeptPoint.{KeptPoint}
+use Rattle.program_rules.specs.declared.kept_points.KeptPoints.{KeptPoints}
 use Rattle.typestate.specs.Differences.{changed}
 use Rattle.typestate.specs.Logs.{Holds, Shows, part_of}
 use Rattle.typestate.specs.Strays.{NoneStray}
@@ -76,13 +80,25 @@ pub record IsKeptAt (image : Image) (t : Numbered) (slots log : List NotedSlot) 
   pub sound : IsSound log point k
   pub clean : IsCleanIn image t.thread slots log k
 
--- of each point
-pub record AreKept (image : Image) (t : Numbered) (slots log : List NotedSlot) (kept : List Kept) : Type 0 where
-  pub each : (point : ℕ) (k : Kept) → slice_get kept point ≡ Some k → IsKeptAt image t slots log point k
+-- the next point follows from a point: it has no record, and that has no system call
+pub record IsPlain (t : Thread) (point : ℕ) : Type 0 where
+  pub bare : record_of t (point + 1) ≡ None
+  pub plain : instruction_at t point ≢ Some Ecall
+
+-- a point follows from that of a place
+pub record IsPlaced (t : Thread) (points : List KeptPoint) (point place : ℕ) : Type 0 where
+  pub inside : place < length points
+  pub before : (d : KeptPoint) → (slice_index_or points place d).point ≤ point
+  pub plain : (d : KeptPoint) (other : ℕ) → (slice_index_or points place d).point ≤ other → other < point → IsPlain t other
+
+-- of some points, and where the others begin
+pub record AreKept (image : Image) (t : Numbered) (slots log : List NotedSlot) (kept : KeptPoints) : Type 0 where
+  pub each : All (λ k. IsKeptAt image t slots log k.point k.kept) kept.points.items
+  pub placed : (point place : ℕ) → slice_get kept.places.items point ≡ Some place → IsPlaced t.thread kept.points.items point place
 
 -- all points of the program
-pub record IsRead (image : Image) (t : Numbered) (slots log : List NotedSlot) (kept : List Kept) : Type 0 where
-  pub count : length kept ≡ t.thread.header.words
+pub record IsRead (image : Image) (t : Numbered) (slots log : List NotedSlot) (kept : KeptPoints) : Type 0 where
+  pub count : length kept.places.items ≡ t.thread.header.words
   pub noted : AreKept image t slots log kept
 
 -- what the point before leaves
@@ -91,8 +107,8 @@ before image t zero = Missing
 before image t (suc point) = follows image t point (noted image t point)
 
 -- the points up to this one, and what is left for it
-pub record IsReadTo (image : Image) (t : Numbered) (slots : List NotedSlot) (point : ℕ) (log : List NotedSlot) (kept : List Kept) (derived : Kept) : Type 0 where
-  pub count : length kept ≡ point
+pub record IsReadTo (image : Image) (t : Numbered) (slots : List NotedSlot) (point : ℕ) (log : List NotedSlot) (kept : KeptPoints) (derived : Kept) : Type 0 where
+  pub count : length kept.places.items ≡ point
   pub noted : AreKept image t slots log kept
   pub same : noted_by slots log derived ≡ before image t point
   pub sound : IsSound log point derived

@@ -39,7 +39,7 @@ impl Program<'_, '_> {
         behind: &'n Behind,
         part: Part,
     ) -> Result<(), Refusal>
-        requires read { IsRead self.now.space.image.now (thread_of self.now) self.now.slots.now points.now.log points.now.kept.items }
+        requires read { IsRead self.now.space.image.now (thread_of self.now) self.now.slots.now points.now.log points.now.kept }
         requires within { point < self.now.space.thread.now.header.words }
         requires shown { Shows points.now.log part shown.now }
         ensures { Answers (first_broken (edge_rules self.now.space.thread.now (point_of (thread_of self.now) point) (measure_of known.now.measure)
@@ -81,13 +81,13 @@ impl Program<'_, '_> {
         behind: &Behind,
         made: &[NotedSlot],
     ) -> Result<(), Refusal>
-        requires read { IsRead self.now.space.image.now (thread_of self.now) self.now.slots.now points.old.log points.old.kept.items }
+        requires read { IsRead self.now.space.image.now (thread_of self.now) self.now.slots.now points.old.log points.old.kept }
         requires within { point < self.now.space.thread.now.header.words }
         requires sound { IsSound points.old.log point (kept.Known known.now) }
         ensures broken { Answers (first_broken (edge_rules self.now.space.thread.now (point_of (thread_of self.now) point) (measure_of known.now.measure)
             (call_edge (address_of self.now.space.thread.now point) known.now.bounds (behind_with (changed (changed self.now.slots.now (part_of points.old.log known.now.part)) made.now) behind.now))
             (noted_at self.now.space.image.now (thread_of self.now) (address_of self.now.space.thread.now point + 4)))) result }
-        ensures read { IfOk result (λ _. IsRead self.now.space.image.now (thread_of self.now) self.now.slots.now points.new.log points.new.kept.items) }
+        ensures read { IfOk result (λ _. IsRead self.now.space.image.now (thread_of self.now) self.now.slots.now points.new.log points.new.kept) }
         ensures others { IfOk result (λ _. KeepsParts points.old.log points.new.log) }
     {
         let part = points.log.follow(known.part, made)?;
@@ -107,7 +107,7 @@ impl Program<'_, '_> {
         is_next_noted: bool,
         known: &Known,
     ) -> Result<(), Refusal>
-        requires read { IsRead self.now.space.image.now (thread_of self.now) self.now.slots.now points.old.log points.old.kept.items }
+        requires read { IsRead self.now.space.image.now (thread_of self.now) self.now.slots.now points.old.log points.old.kept }
         requires within { point < self.now.space.thread.now.header.words }
         requires is { instruction_at self.now.space.thread.now point ≡ Some Ecall }
         requires noted { option_map (λ r. r.now) noted ≡ record_of self.now.space.thread.now point }
@@ -117,7 +117,7 @@ impl Program<'_, '_> {
         requires shown { Shows points.old.log known.now.part shown.now }
         requires clean { IsCleanIn self.now.space.image.now self.now.space.thread.now self.now.slots.now points.old.log (kept.Known known.now) }
         ensures broken { Answers (first_broken (later_rules self.now.space.image.now (thread_of self.now) point (state_by self.now.slots.now points.old.log known.now) (Some Ecall))) result }
-        ensures read { IfOk result (λ _. IsRead self.now.space.image.now (thread_of self.now) self.now.slots.now points.new.log points.new.kept.items) }
+        ensures read { IfOk result (λ _. IsRead self.now.space.image.now (thread_of self.now) self.now.slots.now points.new.log points.new.kept) }
         ensures others { IfOk result (λ _. KeepsParts points.old.log points.new.log) }
     {
         if self.leaves_next(points, point, is_next_noted) {

@@ -1,13 +1,14 @@
 //! What follows from the state of a point.
 
-ghost use Rattle.std.specs.Prelude.{ℕ, ◌≡◌, ◌+◌, ◌<◌, ◌≤ℤ◌, ◌^◌, ◌-◌, ◌≤◌, [], IfOk, List, negsuc, option_map, true};
+ghost use Rattle.std.specs.Prelude.{ℕ, ◌≡◌, ◌≢◌, ◌+◌, ◌<◌, ◌≤ℤ◌, ◌^◌, ◌-◌, ◌≤◌, [], IfOk, List, negsuc, option_map, Some, true};
 ghost use Rattle.measure.specs.Measures.{measure_of};
 ghost use Rattle.model.specs.Acceptance.Edges.{after};
 ghost use Rattle.model.specs.Acceptance.Measures.{Measure as NotedMeasure};
 ghost use Rattle.model.specs.Acceptance.NotedStates.{NotedSlot, record_of};
-ghost use Rattle.model.specs.Acceptance.PointStates.{address_of, behind_call, call_at, follows, follows_call, follows_edge};
+ghost use Rattle.model.specs.Acceptance.PointStates.{address_of, behind_call, call_at, follows, follows_call, follows_edge, instruction_at};
 ghost use Rattle.model.specs.Images.Image.{Image, Thread};
 ghost use Rattle.model.specs.Machine.Instructions.{IsInstr};
+ghost use Rattle.model.specs.declared.instructions.Instr.TheVariants.{Ecall};
 ghost use Rattle.program_rules.specs.Kept.{IsCleanBehind, IsCleanIn, IsSound, ShowsKept, kept_as, noted_by, state_by};
 ghost use Rattle.program_rules.specs.Programs.{thread_of};
 ghost use Rattle.program_rules.specs.declared.kept.Kept.TheVariants as kept;
@@ -157,6 +158,25 @@ impl Program<'_, '_> {
             }),
             Kept::Missing => Kept::Missing,
             Kept::Unmeasured => Kept::Unmeasured,
+        }
+    }
+
+    /// What is kept of the point behind one that has no system call, where no record notes it.
+    pub(crate) fn behind_plain(&self, point: u32, kept: &Kept, log: &SlotLog) -> Kept
+        requires within { point < self.now.space.thread.now.header.words }
+        requires plain { instruction_at self.now.space.thread.now point ≢ Some Ecall }
+        requires sound { IsSound log.now point kept.now }
+        requires clean { IsCleanIn self.now.space.image.now self.now.space.thread.now self.now.slots.now log.now kept.now }
+        ensures same { noted_by self.now.slots.now log.now result ≡ follows self.now.space.image.now (thread_of self.now) point (noted_by self.now.slots.now log.now kept.now) }
+        ensures sound { IsSound log.now (point + 1) result }
+        ensures clean { IsCleanIn self.now.space.image.now self.now.space.thread.now self.now.slots.now log.now result }
+    {
+        let Kept::Known(known) = kept else {
+            return Kept::Missing;
+        };
+        match decode(self.space.thread.word(point)) {
+            None | Some(Instr::Ecall) => Kept::Missing,
+            Some(instr) => behind_instruction(self.address(point), instr, known),
         }
     }
 

@@ -6,6 +6,7 @@ mod call_checks;
 mod checking;
 mod following;
 mod kept;
+mod kept_points;
 mod notes;
 mod own_checks;
 mod point_rules;

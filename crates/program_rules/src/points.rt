@@ -10,6 +10,7 @@ ghost use Rattle.typestate.specs.Logs.{KeepsParts, ShowsSome};
 ghost use Rattle.typestate.specs.Orders.{Rise};
 
 use crate::kept::{Kept, Known};
+use crate::kept_points::KeptPoints;
 use crate::notes::RecordsLeft;
 use crate::programs::Program;
 use crate::records::{bounds_of, measure_of};
@@ -20,7 +21,7 @@ use typestate::{ShownPart, SlotLog};
 /// What is noted of each point of a program.
 #[derive(Drop)]
 pub(crate) struct Points {
-    pub(crate) kept: Vec<Kept>,
+    pub(crate) kept: KeptPoints,
     pub(crate) log: SlotLog,
 }
 
@@ -76,26 +77,27 @@ impl Points {
         requires within { point < program.now.space.thread.now.header.words }
         requires noted { option_map (λ r. r.now) noted ≡ record_of program.now.space.thread.now point }
         requires fits { IfSome noted (λ r. (length r.now.terms ≤ 4) × (negsuc (2 ^ 62) ≤ℤ r.now.header.constant)) }
-        requires read { IsReadTo program.now.space.image.now (thread_of program.now) program.now.slots.now point self.old.log self.old.kept.items derived }
+        requires read { IsReadTo program.now.space.image.now (thread_of program.now) program.now.slots.now point self.old.log self.old.kept derived }
         requires shown { ShowsSome self.old.log shown.old }
-        ensures read { IfOk result (IsReadTo program.now.space.image.now (thread_of program.now) program.now.slots.now (point + 1) self.new.log self.new.kept.items) }
+        ensures read { IfOk result (IsReadTo program.now.space.image.now (thread_of program.now) program.now.slots.now (point + 1) self.new.log self.new.kept) }
         ensures shown { IfOk result (λ _. ShowsSome self.new.log shown.new) }
     {
         let found = noted_or(&mut self.log, noted, derived)?;
         found.show(&self.log, shown)?;
         let state = program.looked_at(point, noted, &found, &self.log, shown);
         let left = program.following(point, noted, &state, &mut self.log, shown)?;
-        self.kept.push(state)?;
+        self.kept
+            .push(program.space.thread, point, noted.is_none(), state)?;
         Ok(left)
     }
 
     /// The points of a program: each has the state of its record, or what the point before leaves. Memory may be refused.
     pub(crate) fn of(program: &Program<'_, '_>) -> Result<Self, AllocError>
-        ensures { IfOk result (λ points. IsRead program.now.space.image.now (thread_of program.now) program.now.slots.now points.log points.kept.items) }
+        ensures { IfOk result (λ points. IsRead program.now.space.image.now (thread_of program.now) program.now.slots.now points.log points.kept) }
     {
         let mut records = RecordsLeft::of(program.space.thread);
         let mut points = Points {
-            kept: Vec::new(program.alloc),
+            kept: KeptPoints::new(program.alloc),
             log: SlotLog::new(program.alloc),
         };
         let mut derived = Kept::Missing;

@@ -40,7 +40,7 @@ impl Program<'_, '_> {
         same: &mut SameParts,
         found: &mut FoundPages,
     ) -> Result<(), Refusal>
-        requires read { IsRead self.now.space.image.now (thread_of self.now) self.now.slots.now points.old.log points.old.kept.items }
+        requires read { IsRead self.now.space.image.now (thread_of self.now) self.now.slots.now points.old.log points.old.kept }
         requires within { point < self.now.space.thread.now.header.words }
         requires noted { option_map (λ r. r.now) noted ≡ record_of self.now.space.thread.now point }
         requires next { is_next_noted ≡ false → record_of self.now.space.thread.now (point + 1) ≡ None }
@@ -54,7 +54,7 @@ impl Program<'_, '_> {
         ensures same { IfOk result (λ _. AreSame self.now.slots.now points.new.log same.new) }
         ensures found { IfOk result (λ _. AreFound self.now.space.image.now self.now.space.thread.now self.now.slots.now points.new.log found.new) }
         ensures broken { Answers (first_broken (state_rules self.now.space.image.now (thread_of self.now) point (state_by self.now.slots.now points.old.log known.now))) result }
-        ensures read { IfOk result (λ _. IsRead self.now.space.image.now (thread_of self.now) self.now.slots.now points.new.log points.new.kept.items) }
+        ensures read { IfOk result (λ _. IsRead self.now.space.image.now (thread_of self.now) self.now.slots.now points.new.log points.new.kept) }
         ensures others { IfOk result (λ _. KeepsParts points.old.log points.new.log) }
     {
         let instr = decode(self.space.thread.word(point));
@@ -83,7 +83,7 @@ impl Program<'_, '_> {
         same: &mut SameParts,
         found: &mut FoundPages,
     ) -> Result<(), Refusal>
-        requires read { IsRead self.now.space.image.now (thread_of self.now) self.now.slots.now points.old.log points.old.kept.items }
+        requires read { IsRead self.now.space.image.now (thread_of self.now) self.now.slots.now points.old.log points.old.kept }
         requires within { point < self.now.space.thread.now.header.words }
         requires noted { option_map (λ r. r.now) noted ≡ record_of self.now.space.thread.now point }
         requires next { is_next_noted ≡ false → record_of self.now.space.thread.now (point + 1) ≡ None }
@@ -93,10 +93,10 @@ impl Program<'_, '_> {
         ensures same { IfOk result (λ _. AreSame self.now.slots.now points.new.log same.new) }
         ensures found { IfOk result (λ _. AreFound self.now.space.image.now self.now.space.thread.now self.now.slots.now points.new.log found.new) }
         ensures broken { Answers (first_broken (point_rules self.now.space.image.now (thread_of self.now) point)) result }
-        ensures read { IfOk result (λ _. IsRead self.now.space.image.now (thread_of self.now) self.now.slots.now points.new.log points.new.kept.items) }
+        ensures read { IfOk result (λ _. IsRead self.now.space.image.now (thread_of self.now) self.now.slots.now points.new.log points.new.kept) }
         ensures shown { IfOk result (λ _. ShowsSome points.new.log shown.new) }
     {
-        match points.kept[point as usize] {
+        match points.kept.at(self, &points.log, point) {
             Kept::Known(known) => {
                 points.log.show(shown, known.part)?;
                 found.go_on(known.part);
@@ -117,7 +117,7 @@ impl Program<'_, '_> {
 
     /// The rules on all points, in their order.
     fn points_rules(&self, points: &mut Points) -> Result<(), Refusal>
-        requires read { IsRead self.now.space.image.now (thread_of self.now) self.now.slots.now points.old.log points.old.kept.items }
+        requires read { IsRead self.now.space.image.now (thread_of self.now) self.now.slots.now points.old.log points.old.kept }
         ensures { Answers (first_broken (flat_map (point_rules self.now.space.image.now (thread_of self.now)) (range_with_len 0 self.now.space.thread.now.header.words))) result }
     {
         let mut records = RecordsLeft::of(self.space.thread);
@@ -142,14 +142,14 @@ impl Program<'_, '_> {
 
     /// The rules on the state of the thread's entry.
     fn entry_rules(&self, points: &Points) -> Result<(), Refusal>
-        requires read { IsRead self.now.space.image.now (thread_of self.now) self.now.slots.now points.now.log points.now.kept.items }
+        requires read { IsRead self.now.space.image.now (thread_of self.now) self.now.slots.now points.now.log points.now.kept }
         ensures { Answers (first_broken (entry_rules self.now.space.image.now (thread_of self.now)
             (noted self.now.space.image.now (thread_of self.now) self.now.space.thread.now.header.entry))) result }
     {
         let entry = self.space.thread.header().entry;
         let nothing = ShownPart::new(self.alloc);
         let start = nothing.slots(self.slots);
-        let kept = points.kept[entry as usize];
+        let kept = points.kept.at(self, &points.log, entry);
         let shown = kept.shown(self.alloc, &points.log)?;
         match kept.noted(self.slots, &shown) {
             Noted::Known(state) => entered(self.space.thread, self.at(entry), &start, &state),

@@ -73,12 +73,12 @@ impl Program<'_, '_> {
 
     /// What is kept of the point at an address: nothing, where the program has none there.
     fn kept_at(&self, points: &Points, address: u32) -> Kept
-        requires read { IsRead self.now.space.image.now (thread_of self.now) self.now.slots.now points.now.log points.now.kept.items }
+        requires read { IsRead self.now.space.image.now (thread_of self.now) self.now.slots.now points.now.log points.now.kept }
         ensures noted { noted_by self.now.slots.now points.now.log result ≡ noted_at self.now.space.image.now (thread_of self.now) address }
         ensures held { HasPart points.now.log result }
     {
         match self.point_at(address) {
-            Some(point) => points.kept[point as usize],
+            Some(point) => points.kept.at(self, &points.log, point),
             None => Kept::Missing,
         }
     }
@@ -221,7 +221,7 @@ impl Program<'_, '_> {
         address: u32,
         same: &mut SameParts,
     ) -> Result<(), Refusal>
-        requires read { IsRead self.now.space.image.now (thread_of self.now) self.now.slots.now points.now.log points.now.kept.items }
+        requires read { IsRead self.now.space.image.now (thread_of self.now) self.now.slots.now points.now.log points.now.kept }
         requires image { way.now.slots.image.now ≡ self.now.slots.now }
         requires plain { way.now.keeps_slots ≡ false }
         requires shown { Shows points.now.log part shown.now }
@@ -253,7 +253,7 @@ impl Program<'_, '_> {
         way: &Edge,
         same: &mut SameParts,
     ) -> Result<(), Refusal>
-        requires read { IsRead self.now.space.image.now (thread_of self.now) self.now.slots.now points.now.log points.now.kept.items }
+        requires read { IsRead self.now.space.image.now (thread_of self.now) self.now.slots.now points.now.log points.now.kept }
         requires instr { IsInstr instr }
         requires shown { Shows points.now.log known.now.part shown.now }
         requires same { AreSame self.now.slots.now points.now.log same.old }
@@ -294,7 +294,7 @@ impl Program<'_, '_> {
         way: &Option<Edge>,
         same: &mut SameParts,
     ) -> Result<(), Refusal>
-        requires read { IsRead self.now.space.image.now (thread_of self.now) self.now.slots.now points.now.log points.now.kept.items }
+        requires read { IsRead self.now.space.image.now (thread_of self.now) self.now.slots.now points.now.log points.now.kept }
         requires instr { IsInstr instr }
         requires shown { Shows points.now.log known.now.part shown.now }
         requires same { AreSame self.now.slots.now points.now.log same.old }
@@ -311,7 +311,7 @@ impl Program<'_, '_> {
     /// Whether the next point has the very state that this one leaves: no record notes it, and it has a state. The way to it keeps its
     /// rules then, and a system call before it is not refused.
     pub(crate) fn leaves_next(&self, points: &Points, point: u32, is_next_noted: bool) -> bool
-        requires read { IsRead self.now.space.image.now (thread_of self.now) self.now.slots.now points.now.log points.now.kept.items }
+        requires read { IsRead self.now.space.image.now (thread_of self.now) self.now.slots.now points.now.log points.now.kept }
         requires within { point < self.now.space.thread.now.header.words }
         requires next { is_next_noted ≡ false → record_of self.now.space.thread.now (point + 1) ≡ None }
         ensures plain { (s : State) (instr : Instr) → result ≡ true → states.Known s ≡ noted self.now.space.image.now (thread_of self.now) point
@@ -327,7 +327,9 @@ impl Program<'_, '_> {
             return false;
         }
         match self.point_at(self.address(point) + 4) {
-            Some(next) => next == point + 1 && points.kept[next as usize].has_state(),
+            Some(next) => {
+                next == point + 1 && points.kept.at(self, &points.log, next).has_state()
+            }
             None => false,
         }
     }
@@ -342,7 +344,7 @@ impl Program<'_, '_> {
         known: &Known,
         same: &mut SameParts,
     ) -> Result<(), Refusal>
-        requires read { IsRead self.now.space.image.now (thread_of self.now) self.now.slots.now points.now.log points.now.kept.items }
+        requires read { IsRead self.now.space.image.now (thread_of self.now) self.now.slots.now points.now.log points.now.kept }
         requires within { point < self.now.space.thread.now.header.words }
         requires instr { IsInstr instr }
         requires shown { Shows points.now.log known.now.part shown.now }
@@ -368,7 +370,7 @@ impl Program<'_, '_> {
         is_next_noted: bool,
         same: &mut SameParts,
     ) -> Result<(), Refusal>
-        requires read { IsRead self.now.space.image.now (thread_of self.now) self.now.slots.now points.now.log points.now.kept.items }
+        requires read { IsRead self.now.space.image.now (thread_of self.now) self.now.slots.now points.now.log points.now.kept }
         requires within { point < self.now.space.thread.now.header.words }
         requires next { is_next_noted ≡ false → record_of self.now.space.thread.now (point + 1) ≡ None }
         requires known { states.Known (state_by self.now.slots.now points.now.log known.now) ≡ noted self.now.space.image.now (thread_of self.now) point }

@@ -1,15 +1,13 @@
 -- A point has the state of its record, or what the point before leaves.
-use Rattle.std.proofs.Common.{ℕ, ◌≡◌, ◌∙◌, ◌++◌, Option, List, [], ◌∷◌, length, sym, ap, subst, arith}
-use Rattle.std.proofs.lemmas.List.{length-append}
+use Rattle.std.proofs.Common.{◌≡◌, ◌∙◌, Option, List, refl, sym, ap, subst}
 use Rattle.model.specs.Acceptance.NotedStates.{NotedSlot, image_slots, record_of}
 use Rattle.model.specs.Acceptance.PointStates.{follows, noted, noted_or}
 use Rattle.model.specs.Images.Image.{StateRecord}
-use Rattle.program_rules.proofs.EachPoint.{grown, has-part, next-before, noted-is, one-more}
+use Rattle.program_rules.proofs.EachPoint.{grown, has-part, next-before, noted-is}
 use Rattle.program_rules.proofs.ShownParts.{some-grown}
 use Rattle.program_rules.proofs.points.Points.note.Goals as goal
-use Rattle.program_rules.specs.Kept.{AreKept, IsKeptAt, noted_by}
+use Rattle.program_rules.specs.Kept.{IsKeptAt, noted_by}
 use Rattle.program_rules.specs.Programs.{thread_of}
-use Rattle.program_rules.specs.declared.kept.Kept.{Kept}
 use Rattle.typestate.specs.Orders.{Rise}
 
 pub looked_at-state-requires-clause-sound : goal.looked_at-state-requires-clause-sound
@@ -35,7 +33,7 @@ returns-clause-read c =
     let before = c.requires.read in
     let old = c.args.self.now.log in
     let log = c.noted_or.new.log in
-    let kept = c.args.self.now.kept.items in
+    let kept = c.args.self.now.kept in
     let found = c.in_ok-found.found in
     let state = c.looked_at-state.result in
     let same : noted_by slots log state ≡ noted image t point =
@@ -47,15 +45,10 @@ returns-clause-read c =
     ∙ ap (noted_or image own (record_of own point)) before.same
     ∙ sym (noted-is image t point) in
     let is : IsKeptAt image t slots log point state = record { same = same; sound = c.looked_at-state.ensures.sound; clean = c.looked_at-state.ensures.clean } in
-    let items = c.in_ok-push.ensures.items in
-    let more = one-more image t slots log kept state (grown image t slots old log kept c.in_ok-found.ensures.others before.noted)
-    (subst (λ (n : ℕ). IsKeptAt image t slots log n state) (sym before.count) is) in
-    let long = length-append kept (state ∷ []) in
-    let all = ap length items in
-    let count = before.count in
+    let more = c.in_ok-push.ensures.kept image t slots log refl is (grown image t slots old log kept c.in_ok-found.ensures.others before.noted) in
     record {
-      count = omega (arith, all, long, count);
-      noted = subst (λ (ks : List Kept). AreKept image t slots c.following.new.log ks) (sym items) (grown image t slots log c.following.new.log (kept ++ state ∷ []) c.in_ok-left.ensures.others more);
+      count = c.in_ok-push.ensures.count;
+      noted = grown image t slots log c.following.new.log c.push.new.self c.in_ok-left.ensures.others more;
       same = c.in_ok-left.ensures.same ∙ ap (follows image t point) same ∙ next-before image t point;
       sound = c.in_ok-left.ensures.sound;
       clean = c.in_ok-left.ensures.clean;

@@ -1,14 +1,11 @@
 -- One point after another.
-use Rattle.std.proofs.Common.{◌≡◌, ◌∙◌, ◌+◌, ◌≤◌, ◌^◌, negsuc, Some, None, option_map, IfSome, List, length, refl, sym, ap, subst}
+use Rattle.std.proofs.Common.{◌≡◌, ◌∙◌, ◌+◌, ◌≤◌, ◌^◌, negsuc, Some, None, option_map, IfSome, List, length, refl, sym, subst}
 use Rattle.std.specs.Prelude.{◌≤ℤ◌}
 use Rattle.model.specs.Images.Image.{StateRecord}
-use Rattle.program_rules.proofs.EachPoint.{none-yet}
 use Rattle.program_rules.proofs.NextRecords.{AreLeft, all-left, next-record, taken-fits}
 use Rattle.program_rules.proofs.points.Points.of.Goals as goal
-use Rattle.program_rules.specs.Kept.{AreKept}
 use Rattle.program_rules.specs.Left.{taken}
 use Rattle.program_rules.specs.Programs.{thread_of}
-use Rattle.program_rules.specs.declared.kept.Kept.{Kept}
 
 pub notes-init : goal.notes-init
 notes-init c =
@@ -17,8 +14,8 @@ notes-init c =
     let own = c.args.program.now.space.thread.now in
     let log = c.new-2.result in (
       record {
-        count = ap length c.new.ensures.items;
-        noted = subst (λ (ks : List Kept). AreKept image t c.args.program.now.slots.now log ks) (sym c.new.ensures.items) (none-yet image t c.args.program.now.slots.now log);
+        count = c.new.ensures.count;
+        noted = c.new.ensures.kept image t c.args.program.now.slots.now log;
         same = refl;
         sound = tt;
         clean = tt;

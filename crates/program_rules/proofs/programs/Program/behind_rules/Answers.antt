@@ -18,14 +18,14 @@ use Rattle.wellformed.specs.Answering.{Answers}
 pub way_behind-requires-clause-read : goal.way_behind-requires-clause-read
 way_behind-requires-clause-read c =
     grown-read c.args.self.now.space.image.now (thread_of c.args.self.now) c.args.self.now.slots.now c.args.points.now.log c.follow.new.self
-    c.args.points.now.kept.items c.in_ok-part.ensures.others c.requires.read
+    c.args.points.now.kept c.in_ok-part.ensures.others c.requires.read
 
 pub returns-clause-read : goal.returns-clause-read
 returns-clause-read c =
     let image = c.args.self.now.space.image.now in
     let t = thread_of c.args.self.now in
     let slots = c.args.self.now.slots.now in
-    let kept = c.args.points.now.kept.items in
+    let kept = c.args.points.now.kept in
     always (IsRead image t slots c.follow.new.self kept) c.way_behind.result (grown-read image t slots c.args.points.now.log c.follow.new.self kept c.in_ok-part.ensures.others c.requires.read)
 
 pub returns-clause-others : goal.returns-clause-others

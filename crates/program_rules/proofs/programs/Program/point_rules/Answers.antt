@@ -1,8 +1,7 @@
 -- By what is kept of the point.
-use Rattle.std.proofs.Common.{◌≡◌, ◌∙◌, ◌<◌, inl, inr, Option, length, sym, ap, subst, arith}
+use Rattle.std.proofs.Common.{◌≡◌, ◌∙◌, inl, inr, Option, sym, ap, subst}
 use Rattle.model.specs.Acceptance.PointStates.{Known, Missing, Unmeasured, noted}
 use Rattle.model.specs.declared.refusals.Refusal.{Refusal}
-use Rattle.program_rules.proofs.EachPoint.{kept-at}
 use Rattle.program_rules.proofs.Outcomes.{follows-from}
 use Rattle.program_rules.proofs.PointLists.{noted-rules}
 use Rattle.program_rules.proofs.ShownParts.{some-grown, some-shown}
@@ -15,28 +14,21 @@ use Rattle.wellformed.specs.Answering.{Answers}
 
 pub state_rules-requires-clause-sound : goal.state_rules-requires-clause-sound
 state_rules-requires-clause-sound c =
-    let count = c.requires.read.count in
-    let within : c.args.point < length c.args.points.now.kept.items = omega (arith, count, c.requires.within) in
-    let is = kept-at c.args.self.now.space.image.now (thread_of c.args.self.now) c.args.self.now.slots.now c.args.points.now.log c.args.points.now.kept.items
-    c.args.point c.index.result.now c.requires.read.noted within c.index.ensures in
+    let is = c.at.ensures in
     subst (λ (k : Kept). IsSound c.args.points.now.log c.args.point k) c.in-Known.is is.sound
 
 pub state_rules-requires-clause-clean : goal.state_rules-requires-clause-clean
 state_rules-requires-clause-clean c =
     let image = c.args.self.now.space.image.now in
     let t = thread_of c.args.self.now in
-    let count = c.requires.read.count in
-    let within : c.args.point < length c.args.points.now.kept.items = omega (arith, count, c.requires.within) in
-    let is = kept-at image t c.args.self.now.slots.now c.args.points.now.log c.args.points.now.kept.items c.args.point c.index.result.now c.requires.read.noted within c.index.ensures in
+    let is = c.at.ensures in
     subst (λ (k : Kept). IsCleanIn image t.thread c.args.self.now.slots.now c.args.points.now.log k) c.in-Known.is is.clean
 
 pub returns-in_ok-show-in-Known-clause-broken : goal.returns-in_ok-show-in-Known-clause-broken
 returns-in_ok-show-in-Known-clause-broken c =
     let image = c.args.self.now.space.image.now in
     let t = thread_of c.args.self.now in
-    let count = c.requires.read.count in
-    let within : c.args.point < length c.args.points.now.kept.items = omega (arith, count, c.requires.within) in
-    let is = kept-at image t c.args.self.now.slots.now c.args.points.now.log c.args.points.now.kept.items c.args.point c.index.result.now c.requires.read.noted within c.index.ensures in
+    let is = c.at.ensures in
     let known : Known (state_by c.args.self.now.slots.now c.args.points.now.log c.in-Known.known) ≡ noted image t c.args.point =
     ap (noted_by c.args.self.now.slots.now c.args.points.now.log) (sym c.in-Known.is) ∙ is.same in
     subst (λ (x : Option Refusal). Answers x c.state_rules.result)
@@ -46,9 +38,7 @@ pub returns-in-Missing : goal.returns-in-Missing
 returns-in-Missing c =
     let image = c.args.self.now.space.image.now in
     let t = thread_of c.args.self.now in
-    let count = c.requires.read.count in
-    let within : c.args.point < length c.args.points.now.kept.items = omega (arith, count, c.requires.within) in
-    let is = kept-at image t c.args.self.now.slots.now c.args.points.now.log c.args.points.now.kept.items c.args.point c.index.result.now c.requires.read.noted within c.index.ensures in
+    let is = c.at.ensures in
     record {
       broken = elim c.in-Missing.is [
         | inl missing ↦ sym (noted-rules image t c.args.point Missing (ap (noted_by c.args.self.now.slots.now c.args.points.now.log) (sym missing) ∙ is.same))
@@ -62,18 +52,12 @@ returns-in-Missing c =
 
 pub state_rules-requires-clause-known : goal.state_rules-requires-clause-known
 state_rules-requires-clause-known c =
-    let count = c.requires.read.count in
-    let within : c.args.point < length c.args.points.now.kept.items = omega (arith, count, c.requires.within) in
-    let is = kept-at c.args.self.now.space.image.now (thread_of c.args.self.now) c.args.self.now.slots.now c.args.points.now.log c.args.points.now.kept.items
-    c.args.point c.index.result.now c.requires.read.noted within c.index.ensures in
+    let is = c.at.ensures in
     ap (noted_by c.args.self.now.slots.now c.args.points.now.log) (sym c.in-Known.is) ∙ is.same
 
 pub show-requires-clause-held : goal.show-requires-clause-held
 show-requires-clause-held c =
-    let count = c.requires.read.count in
-    let within : c.args.point < length c.args.points.now.kept.items = omega (arith, count, c.requires.within) in
-    let is = kept-at c.args.self.now.space.image.now (thread_of c.args.self.now) c.args.self.now.slots.now c.args.points.now.log c.args.points.now.kept.items
-    c.args.point c.index.result.now c.requires.read.noted within c.index.ensures in
+    let is = c.at.ensures in
     (subst (λ (k : Kept). IsSound c.args.points.now.log c.args.point k) c.in-Known.is is.sound).0
 
 pub returns-in_ok-show-in-Known-clause-shown : goal.returns-in_ok-show-in-Known-clause-shown
@@ -85,9 +69,6 @@ returns-in_ok-show-in-Known-clause-shown c =
 
 pub state_rules-requires-clause-found : goal.state_rules-requires-clause-found
 state_rules-requires-clause-found c =
-    let count = c.requires.read.count in
-    let within : c.args.point < length c.args.points.now.kept.items = omega (arith, count, c.requires.within) in
-    let is = kept-at c.args.self.now.space.image.now (thread_of c.args.self.now) c.args.self.now.slots.now c.args.points.now.log c.args.points.now.kept.items
-    c.args.point c.index.result.now c.requires.read.noted within c.index.ensures in
+    let is = c.at.ensures in
     c.go_on.ensures.found c.args.self.now.space.image.now c.args.self.now.space.thread.now c.args.self.now.slots.now c.args.points.now.log
     (subst (λ (k : Kept). IsSound c.args.points.now.log c.args.point k) c.in-Known.is is.sound).0 c.requires.found

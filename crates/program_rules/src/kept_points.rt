@@ -1,0 +1,115 @@
+//! What is kept of the points of a program: of some the whole state, and of others where to begin.
+
+ghost use Rattle.std.specs.Prelude.{ℕ, ◌≡◌, ◌≢◌, ◌+◌, ◌-◌, ◌<◌, ◌≤◌, IfOk, IfSome, List, Some, None, false, length, slice_get, true};
+ghost use Rattle.model.specs.Acceptance.NotedStates.{NotedSlot, record_of};
+ghost use Rattle.model.specs.Images.Described.{Numbered};
+ghost use Rattle.model.specs.Images.Image.{Image};
+ghost use Rattle.model.specs.Machine.Decoding.{decoded};
+ghost use Rattle.model.specs.declared.instructions.Instr.TheVariants.{Ecall};
+ghost use Rattle.program_rules.specs.Kept.{AreKept, IsKeptAt, IsPlain};
+ghost use Rattle.program_rules.specs.Programs.{thread_of};
+
+use crate::kept::Kept;
+use crate::programs::Program;
+use image_reading::ThreadRef;
+use model::Instr;
+use rv32_isa::decode;
+use std::alloc::{AllocError, Global};
+use typestate::SlotLog;
+
+/// How many points one after another begin at the same one: a state has some 340 bytes.
+const MOST_STEPS: u32 = 8;
+
+/// What is kept of a point.
+#[derive(Clone, Copy)]
+pub(crate) struct KeptPoint {
+    pub(crate) point: u32,
+    pub(crate) kept: Kept,
+}
+
+/// What is kept of points, one after another. What is noted of a point between two of them follows from the first, instruction by
+/// instruction.
+#[derive(Drop)]
+pub(crate) struct KeptPoints {
+    pub(crate) points: Vec<KeptPoint>,
+    /// Of each point of the program the place of that from which it follows.
+    pub(crate) places: Vec<usize>,
+}
+
+/// Whether a word is a system call.
+fn is_call(word: u32) -> bool
+    ensures { result ≡ false → decoded word ≢ Some Ecall }
+{
+    matches!(decode(word), Some(Instr::Ecall))
+}
+
+impl KeptPoints {
+    /// Nothing is kept.
+    pub(crate) fn new(alloc: Global) -> Self
+        ensures count { length result.places.items ≡ 0 }
+        ensures kept { (image : Image) (t : Numbered) (slots log : List NotedSlot) → AreKept image t slots log result }
+    {
+        KeptPoints {
+            points: Vec::new(alloc),
+            places: Vec::new(alloc),
+        }
+    }
+
+    /// The place of that from which the next point follows: that of the last one, where no record notes the next one, no system call
+    /// leads to it, and it is near.
+    fn place_before(&self, thread: &ThreadRef<'_>, point: u32, is_bare: bool) -> Option<usize>
+        requires within { point < thread.now.header.words }
+        requires count { length self.now.places.items ≡ point }
+        requires bare { is_bare ≡ true → record_of thread.now point ≡ None }
+        ensures { IfSome result (λ place. (1 ≤ point) × (slice_get self.now.places.items (point - 1) ≡ Some place) × IsPlain thread.now (point - 1)) }
+    {
+        if !is_bare {
+            return None;
+        }
+        let place = *self.places.last()?;
+        let first = self.points.get(place)?;
+        if MOST_STEPS <= point.saturating_sub(first.point) || is_call(thread.word(point - 1)) {
+            return None;
+        }
+        Some(place)
+    }
+
+    /// Keeps the next point, or where it begins. Memory may be refused.
+    pub(crate) fn push(
+        &mut self,
+        thread: &ThreadRef<'_>,
+        point: u32,
+        is_bare: bool,
+        kept: Kept,
+    ) -> Result<(), AllocError>
+        requires within { point < thread.now.header.words }
+        requires count { length self.old.places.items ≡ point }
+        requires bare { is_bare ≡ true → record_of thread.now point ≡ None }
+        ensures count { IfOk result (λ _. length self.new.places.items ≡ point + 1) }
+        ensures kept { IfOk result (λ _. (image : Image) (t : Numbered) (slots log : List NotedSlot) → t.thread ≡ thread.now → IsKeptAt image t slots log point kept
+            → AreKept image t slots log self.old → AreKept image t slots log self.new) }
+    {
+        if let Some(place) = self.place_before(thread, point, is_bare) {
+            self.places.push(place)?;
+            return Ok(());
+        }
+        self.places.push(self.points.len())?;
+        self.points.push(KeptPoint { point, kept })?;
+        Ok(())
+    }
+
+    /// What is kept of a point.
+    pub(crate) fn at(&self, program: &Program<'_, '_>, log: &SlotLog, point: u32) -> Kept
+        requires within { point < program.now.space.thread.now.header.words }
+        requires count { length self.now.places.items ≡ program.now.space.thread.now.header.words }
+        requires kept { AreKept program.now.space.image.now (thread_of program.now) program.now.slots.now log.now self.now }
+        ensures { IsKeptAt program.now.space.image.now (thread_of program.now) program.now.slots.now log.now point result }
+    {
+        let first = self.points[self.places[point as usize]];
+        let mut kept = first.kept;
+        'steps: for before in first.point..point {
+            kept = program.behind_plain(before, &kept, log);
+        }
+        kept
+    }
+}
