@@ -6,10 +6,11 @@ use Rattle.model.specs.Acceptance.NotedStates.{NotedSlot}
 use Rattle.typestate.specs.Differences.{changed}
 use Rattle.typestate.specs.Logs.{Shows}
 use Rattle.typestate.specs.Strays.{NoneStray}
+use Rattle.typestate.specs.declared.log_entries.LogEntry.{LogEntry}
 use Rattle.typestate.specs.declared.logs.Part.{Part}
 use Rattle.typestate.specs.declared.logs.ShownPart.{ShownPart}
 
-pub record IsLookedAt (given : Given) (log : List NotedSlot) (part : Part) (shown : ShownPart) (known clean : Bool) : Type 0 where
+pub record IsLookedAt (given : Given) (log : List LogEntry) (part : Part) (shown : ShownPart) (known clean : Bool) : Type 0 where
   pub given_is : IsGiven given.space given.slots.now given.lists_stray
   -- a part of the log is shown, where it is known
   pub shows : known ≡ true → Shows log part shown

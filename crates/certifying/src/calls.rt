@@ -8,7 +8,7 @@ use crate::ways::State;
 use crate::{Effort, Fault};
 use model::Point;
 use std::alloc::Global;
-use typestate::{NotedSlot, NotedSlots, Part, SlotLog, Space};
+use typestate::{LogEntry, NotedSlot, NotedSlots, Part, SlotLog, Space};
 
 /// A thread of an image without certificates: the CNodes that the image gives it, and what it puts into them.
 #[derive(Clone, Copy)]
@@ -27,8 +27,8 @@ pub(crate) struct Given<'a, 's> {
 fn told(alloc: Global, slots: &NotedSlots<'_>) -> Result<Vec<NotedSlot>, Fault> {
     let mut kept = Vec::new(alloc);
     for change in slots.changes.iter() {
-        if makes_difference(slots.image, change) {
-            kept.push(*change)?;
+        if makes_difference(slots.image, &change) {
+            kept.push(change)?;
         }
     }
     Ok(kept)
@@ -67,7 +67,7 @@ impl Given<'_, '_> {
     }
 
     /// Those of some changes that make a difference to the image's slots, of several to one slot the last, in the order of their keys.
-    pub(crate) fn told(&self, changes: &[NotedSlot]) -> Result<Vec<NotedSlot>, Fault>
+    pub(crate) fn told(&self, changes: &[LogEntry]) -> Result<Vec<NotedSlot>, Fault>
         requires { IsGiven self.now.space self.now.slots.now self.now.lists_stray }
     {
         let mut log = SlotLog::new(self.alloc);

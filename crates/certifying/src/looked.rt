@@ -6,6 +6,8 @@ ghost use Rattle.model.specs.Acceptance.NotedStates.{NotedSlot};
 ghost use Rattle.typestate.specs.Differences.{changed};
 ghost use Rattle.typestate.specs.Logs.{Shows};
 ghost use Rattle.typestate.specs.Orders.{Rise};
+ghost use Rattle.typestate.specs.Replays.{replayed};
+ghost use Rattle.typestate.specs.Unlinked.{AreUnlinked};
 
 use crate::Fault;
 use crate::calls::Given;
@@ -16,7 +18,7 @@ use std::alloc::AllocError;
 use std::marker::Model;
 use thread_spaces::slots_are_own;
 use typestate::{
-    Behind, NotedSlot, Part, ShownPart, SlotLog, ThreadSlots, ToldSlots,
+    Behind, LogEntry, Part, ShownPart, SlotLog, ThreadSlots, ToldSlots,
     no_stray_slot_leads_outside, points_without_stray_slots_have_none,
 };
 
@@ -51,11 +53,12 @@ fn followed(
     log: &mut SlotLog,
     part: Part,
     shown: &mut ShownPart,
-    made: &[NotedSlot],
+    made: &[LogEntry],
 ) -> Result<Part, AllocError>
     requires { Shows log.old part shown.old }
     ensures shows { IfOk result (λ longer. Shows log.new longer shown.new) }
-    ensures same { IfOk result (λ _. (slots : List NotedSlot) → Rise slots → changed slots shown.new.changes ≡ changed (changed slots shown.old.changes) made.now) }
+    ensures same { IfOk result (λ _. (slots : List NotedSlot) → Rise slots → AreUnlinked slots
+        → changed slots shown.new.changes ≡ replayed (changed slots shown.old.changes) made.now) }
 {
     let longer = log.follow(part, made)?;
     log.show(shown, longer)?;
@@ -83,7 +86,7 @@ impl<'a, 's> Looked<'a, 's> {
     }
 
     /// Puts changes that follow among those that are shown.
-    fn grow(&mut self, more: &[NotedSlot]) -> Result<(), Fault>
+    fn grow(&mut self, more: &[LogEntry]) -> Result<(), Fault>
         requires { self.old ≡ true }
         ensures { IfOk result (λ _. self.new ≡ true) }
     {
@@ -105,7 +108,7 @@ impl<'a, 's> Looked<'a, 's> {
     }
 
     /// Goes on to the changes of a stretch, which stands in a list of changes. What it begins with is not gone through again.
-    pub(crate) fn go_on(&mut self, changes: &[NotedSlot], stretch: Stretch) -> Result<(), Fault>
+    pub(crate) fn go_on(&mut self, changes: &[LogEntry], stretch: Stretch) -> Result<(), Fault>
         ensures { IfOk result (λ _. self.new ≡ true) }
     {
         self.begin(stretch)?;
@@ -128,7 +131,7 @@ impl<'a, 's> Looked<'a, 's> {
         &mut self,
         at: Point,
         bounds: &Bounds,
-        made: &mut Vec<NotedSlot>,
+        made: &mut Vec<LogEntry>,
     ) -> Result<Behind, Fault>
         requires known { self.old ≡ true }
         requires none { made.old.items ≡ [] }

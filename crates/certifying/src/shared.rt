@@ -6,12 +6,12 @@ ghost use Rattle.certifying.specs.Given.{IsGiven};
 use crate::Fault;
 use crate::calls::Given;
 use crate::looked::Looked;
-use crate::tables::are_same_changes;
+use crate::tables::are_same_entries;
 use crate::ways::State;
 use model::Point;
 use ranges::Bounds;
 use std::alloc::Global;
-use typestate::{Behind, NotedSlot};
+use typestate::{Behind, LogEntry};
 
 /// Changes from one place of the log to another.
 #[derive(Clone, Copy, PartialEq, Eq)]
@@ -92,7 +92,7 @@ struct Same {
 /// The log, and what is known of system calls.
 #[derive(Drop)]
 pub(crate) struct Shared<'a, 's> {
-    changes: Vec<NotedSlot>,
+    changes: Vec<LogEntry>,
     /// The slots of the stretch that was looked at last.
     looked: Looked<'a, 's>,
     /// Those that were looked at, each as it was last.
@@ -104,7 +104,7 @@ pub(crate) struct Shared<'a, 's> {
 }
 
 /// The changes of a stretch.
-fn part_of(changes: &[NotedSlot], stretch: Stretch) -> &[NotedSlot] {
+fn part_of(changes: &[LogEntry], stretch: Stretch) -> &[LogEntry] {
     if stretch.first <= stretch.end && stretch.end <= changes.len() {
         &changes[stretch.first..stretch.end]
     } else {
@@ -132,7 +132,7 @@ impl<'a, 's> Shared<'a, 's> {
     }
 
     /// The changes of a stretch.
-    pub(crate) fn part(&self, stretch: Stretch) -> &[NotedSlot] {
+    pub(crate) fn part(&self, stretch: Stretch) -> &[LogEntry] {
         part_of(&self.changes, stretch)
     }
 
@@ -142,7 +142,7 @@ impl<'a, 's> Shared<'a, 's> {
         &mut self,
         at: Point,
         state: &State,
-        made: &mut Vec<NotedSlot>,
+        made: &mut Vec<LogEntry>,
     ) -> Result<Behind, Fault>
         requires { made.old.items ≡ [] }
     {
@@ -167,7 +167,7 @@ impl<'a, 's> Shared<'a, 's> {
     }
 
     /// Appends changes, and answers where they stand.
-    fn append(&mut self, made: &[NotedSlot]) -> Result<Stretch, Fault> {
+    fn append(&mut self, made: &[LogEntry]) -> Result<Stretch, Fault> {
         let first = self.changes.len();
         self.changes.extend_from_slice(made)?;
         Ok(Stretch {
@@ -181,7 +181,7 @@ impl<'a, 's> Shared<'a, 's> {
         &mut self,
         alloc: Global,
         held: Stretch,
-        made: &[NotedSlot],
+        made: &[LogEntry],
     ) -> Result<Stretch, Fault> {
         if held.end == self.changes.len() {
             let made = self.append(made)?;
@@ -197,9 +197,9 @@ impl<'a, 's> Shared<'a, 's> {
     }
 
     /// What the system call at a point left, if it was looked at last with these changes before it and made the same.
-    fn as_before(&self, point: u32, held: Stretch, made: &[NotedSlot]) -> Option<Called> {
+    fn as_before(&self, point: u32, held: Stretch, made: &[LogEntry]) -> Option<Called> {
         match self.last(point) {
-            Some(called) if called.held == held && are_same_changes(self.part(called.made), made) =>
+            Some(called) if called.held == held && are_same_entries(self.part(called.made), made) =>
                 { Some(called) }
             _ => None,
         }
@@ -211,7 +211,7 @@ impl<'a, 's> Shared<'a, 's> {
         alloc: Global,
         point: u32,
         held: Stretch,
-        made: &[NotedSlot],
+        made: &[LogEntry],
     ) -> Result<Stretches, Fault> {
         if made.is_empty() {
             return Ok(Stretches {
@@ -258,7 +258,7 @@ impl<'a, 's> Shared<'a, 's> {
         point: u32,
         state: &State,
         behind: &Behind,
-        made: &[NotedSlot],
+        made: &[LogEntry],
     ) -> Result<Called, Fault> {
         let stretches = self.stretches(alloc, point, state.changes, made)?;
         self.looked.stand(stretches.left);

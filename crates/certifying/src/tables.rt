@@ -8,7 +8,7 @@ use crate::ranged::{joined, widened};
 use crate::shared::{Shared, Stretch};
 use crate::ways::{State, Way};
 use ranges::{Bounds, Range};
-use typestate::{NotedSlot, SlotKey};
+use typestate::{LogEntry, NotedSlot, SlotKey};
 
 /// How often the ranges at a point grow as they are, before they are widened.
 const PATIENCE: u32 = 6;
@@ -59,6 +59,34 @@ pub(crate) fn are_same_changes(first: &[NotedSlot], second: &[NotedSlot]) -> boo
     }
     'changes: for (one, other) in first.iter().zip(second) {
         if !is_same_change(one, other) {
+            return false;
+        }
+    }
+    true
+}
+
+/// Whether two entries of a log are the same.
+fn is_same_entry(first: &LogEntry, second: &LogEntry) -> bool {
+    match (first, second) {
+        (LogEntry::Sets(first), LogEntry::Sets(second)) => is_same_change(first, second),
+        (
+            LogEntry::Swaps { one, other },
+            LogEntry::Swaps {
+                one: first,
+                other: second,
+            },
+        ) => one.is_same(*first) && other.is_same(*second),
+        _ => false,
+    }
+}
+
+/// Whether entries of a log are the same.
+pub(crate) fn are_same_entries(first: &[LogEntry], second: &[LogEntry]) -> bool {
+    if first.len() != second.len() {
+        return false;
+    }
+    'entries: for (one, other) in first.iter().zip(second) {
+        if !is_same_entry(one, other) {
             return false;
         }
     }

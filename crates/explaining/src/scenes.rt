@@ -54,7 +54,7 @@ pub(crate) fn told(alloc: Global, slots: &NotedSlots<'_>) -> Result<Vec<NotedSlo
     for change in slots.changes.iter() {
         let before = listed(slots.image, change.key);
         if before != change.capability || change.parent.is_some() {
-            kept.push(*change)?;
+            kept.push(change)?;
         }
     }
     Ok(kept)

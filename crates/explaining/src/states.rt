@@ -17,7 +17,7 @@ use rv32_isa::decode;
 use std::alloc::AllocError;
 use thread_spaces::slots_are_own;
 use typestate::{
-    Behind, NotedSlot, NotedSlots, Part, SlotLog, ThreadSlots, ToldSlots,
+    Behind, LogEntry, NotedSlot, NotedSlots, Part, SlotLog, ThreadSlots, ToldSlots,
     no_stray_slot_leads_outside,
 };
 
@@ -205,7 +205,7 @@ impl<'a> Scene<'a, '_, '_, '_, '_> {
         requires { IsGiven self.now.space self.now.slots.now self.now.lists_stray }
     {
         let mut log = SlotLog::new(self.alloc);
-        let part = log.follow(Part { first: 0, end: 0 }, &state.changes)?;
+        let part = log.note_changes(&state.changes)?;
         let mut made = Vec::new(self.alloc);
         match self.answered_in(point, &state.bounds, &log, part, &mut made)? {
             Ok(behind) => {
@@ -224,7 +224,7 @@ impl<'a> Scene<'a, '_, '_, '_, '_> {
         bounds: &Bounds,
         log: &SlotLog,
         part: Part,
-        made: &mut Vec<NotedSlot>,
+        made: &mut Vec<LogEntry>,
     ) -> Result<Result<Behind, Refusal>, AllocError>
         requires given { IsGiven self.now.space self.now.slots.now self.now.lists_stray }
         requires held { Holds log.now part }
@@ -243,7 +243,7 @@ impl<'a> Scene<'a, '_, '_, '_, '_> {
         &self,
         log: &mut SlotLog,
         part: Part,
-        made: &[NotedSlot],
+        made: &[LogEntry],
     ) -> Result<Vec<NotedSlot>, AllocError>
         requires given { IsGiven self.now.space self.now.slots.now self.now.lists_stray }
         requires held { Holds log.old part }
@@ -273,7 +273,7 @@ impl<'a> Scene<'a, '_, '_, '_, '_> {
         requires { IsGiven self.now.space self.now.slots.now self.now.lists_stray }
     {
         let mut log = SlotLog::new(self.alloc);
-        let part = log.follow(Part { first: 0, end: 0 }, &state.changes)?;
+        let part = log.note_changes(&state.changes)?;
         let here = log.shown(part)?;
         Ok(self.have_stray_slot(point, &here.slots(self.slots)))
     }
@@ -284,7 +284,7 @@ impl<'a> Scene<'a, '_, '_, '_, '_> {
         at: Point,
         bounds: &Bounds,
         slots: &NotedSlots<'_>,
-        made: &mut Vec<NotedSlot>,
+        made: &mut Vec<LogEntry>,
     ) -> Result<Result<Behind, Refusal>, AllocError>
         requires given { IsGiven self.now.space self.now.slots.now self.now.lists_stray }
         requires image { slots.now.image.now ≡ self.now.slots.now }

@@ -10,7 +10,7 @@ use cspace::called_slot;
 use model::{Cap, KError, Register, Rights};
 use slots::SlotMap;
 use std::alloc::AllocError;
-use typestate::{OwnSlots, Part, SlotKey, SlotLog};
+use typestate::{OwnSlots, SlotKey, SlotLog};
 
 /// The registers of the words of a message.
 const WORDS: [u8; 8] = [12, 13, 14, 15, 18, 19, 20, 21];
@@ -83,7 +83,7 @@ impl Scene<'_, '_, '_, '_, '_> {
         requires { IsGiven self.now.space self.now.slots.now self.now.lists_stray }
     {
         let mut log = SlotLog::new(self.alloc);
-        let part = log.follow(Part { first: 0, end: 0 }, &state.changes)?;
+        let part = log.note_changes(&state.changes)?;
         let here = log.shown(part)?;
         let own = OwnSlots {
             windows: self.space.windows,

@@ -10,9 +10,10 @@ use Rattle.program_rules.specs.Kept.{AreKept, HasPart, IsCleanIn, IsKeptAt, IsPl
 use Rattle.program_rules.specs.declared.kept.Kept.TheVariants as kept
 use Rattle.program_rules.specs.declared.kept.Kept.{Kept}
 use Rattle.program_rules.specs.declared.kept_points.KeptPoints.{KeptPoints}
-use Rattle.typestate.specs.Differences.{changed}
 use Rattle.typestate.specs.Logs.{KeepsParts}
 use Rattle.typestate.specs.Strays.{NoneStray}
+use Rattle.typestate.specs.Replays.{replayed}
+use Rattle.typestate.specs.declared.log_entries.LogEntry.{LogEntry}
 
 -- what is noted of a point, by its record and by what the point before leaves
 pub noted-is : (image : Image) (t : Numbered) (point : ℕ) → noted image t point ≡ noted_or image t.thread (record_of t.thread point) (before image t point)
@@ -22,25 +23,25 @@ noted-is image t (suc point) = refl
 
 -- ---- a log that grows
 
-pub same-grown : (slots old new : List NotedSlot) (point : ℕ) (k : Kept) → KeepsParts old new → IsSound old point k → noted_by slots new k ≡ noted_by slots old k
+pub same-grown : (slots : List NotedSlot) (old new : List LogEntry) (point : ℕ) (k : Kept) → KeepsParts old new → IsSound old point k → noted_by slots new k ≡ noted_by slots old k
 same-grown slots old new point (kept.Known k) keeps sound =
-    ap (λ (changes : List NotedSlot). Known (record { ranges = k.bounds; slots = changed slots changes; measure = measure_of k.measure })) (keeps k.part sound.0).1
+    ap (λ (changes : List LogEntry). Known (record { ranges = k.bounds; slots = replayed slots changes; measure = measure_of k.measure })) (keeps k.part sound.0).1
 same-grown slots old new point kept.Missing keeps sound = refl
 same-grown slots old new point kept.Unmeasured keeps sound = refl
 
-pub sound-grown : (old new : List NotedSlot) (point : ℕ) (k : Kept) → KeepsParts old new → IsSound old point k → IsSound new point k
+pub sound-grown : (old new : List LogEntry) (point : ℕ) (k : Kept) → KeepsParts old new → IsSound old point k → IsSound new point k
 sound-grown old new point (kept.Known k) keeps sound = ((keeps k.part sound.0).0, sound.1)
 sound-grown old new point kept.Missing keeps sound = tt
 sound-grown old new point kept.Unmeasured keeps sound = tt
 
-pub clean-grown : (image : Image) (t : Thread) (slots old new : List NotedSlot) (point : ℕ) (k : Kept) → KeepsParts old new → IsSound old point k
+pub clean-grown : (image : Image) (t : Thread) (slots : List NotedSlot) (old new : List LogEntry) (point : ℕ) (k : Kept) → KeepsParts old new → IsSound old point k
     → IsCleanIn image t slots old k → IsCleanIn image t slots new k
 clean-grown image t slots old new point (kept.Known k) keeps sound clean =
-    λ is. subst (λ (changes : List NotedSlot). NoneStray image t (changed slots changes)) (sym (keeps k.part sound.0).1) (clean is)
+    λ is. subst (λ (changes : List LogEntry). NoneStray image t (replayed slots changes)) (sym (keeps k.part sound.0).1) (clean is)
 clean-grown image t slots old new point kept.Missing keeps sound clean = tt
 clean-grown image t slots old new point kept.Unmeasured keeps sound clean = tt
 
-pub grown-at : (image : Image) (t : Numbered) (slots old new : List NotedSlot) (point : ℕ) (k : Kept) → KeepsParts old new
+pub grown-at : (image : Image) (t : Numbered) (slots : List NotedSlot) (old new : List LogEntry) (point : ℕ) (k : Kept) → KeepsParts old new
     → IsKeptAt image t slots old point k → IsKeptAt image t slots new point k
 grown-at image t slots old new point k keeps is = record {
   same = same-grown slots old new point k keeps is.sound ∙ is.same;
@@ -48,7 +49,7 @@ grown-at image t slots old new point k keeps is = record {
   clean = clean-grown image t.thread slots old new point k keeps is.sound is.clean;
 }
 
-pub grown : (image : Image) (t : Numbered) (slots old new : List NotedSlot) (ks : KeptPoints) → KeepsParts old new
+pub grown : (image : Image) (t : Numbered) (slots : List NotedSlot) (old new : List LogEntry) (ks : KeptPoints) → KeepsParts old new
     → AreKept image t slots old ks → AreKept image t slots new ks
 grown image t slots old new ks keeps are = record {
   each = λ k d below. let one = slice_index_or ks.points.items k d in grown-at image t slots old new one.point one.kept keeps (are.each k d below);
@@ -60,7 +61,7 @@ pub next-before : (image : Image) (t : Numbered) (point : ℕ) → follows image
 next-before image t point = ap (before image t) (let next : suc point ≡ point + 1 = omega arith in next)
 
 -- the next point that follows from one
-pub next-point : (image : Image) (t : Numbered) (slots log : List NotedSlot) (point : ℕ) (k next : Kept) → IsPlain t.thread point → IsKeptAt image t slots log point k
+pub next-point : (image : Image) (t : Numbered) (slots : List NotedSlot) (log : List LogEntry) (point : ℕ) (k next : Kept) → IsPlain t.thread point → IsKeptAt image t slots log point k
     → noted_by slots log next ≡ follows image t point (noted_by slots log k) → IsSound log (point + 1) next → IsCleanIn image t.thread slots log next
     → IsKeptAt image t slots log (point + 1) next
 next-point image t slots log point k next plain is follow sound clean = record {
@@ -73,11 +74,11 @@ next-point image t slots log point k next plain is follow sound clean = record {
 
 -- ---- what is kept of one point
 
-pub has-part : (log : List NotedSlot) (point : ℕ) (k : Kept) → IsSound log point k → HasPart log k
+pub has-part : (log : List LogEntry) (point : ℕ) (k : Kept) → IsSound log point k → HasPart log k
 has-part log point (kept.Known k) sound = sound.0
 has-part log point kept.Missing sound = tt
 has-part log point kept.Unmeasured sound = tt
 
-pub grown-read : (image : Image) (t : Numbered) (slots old new : List NotedSlot) (ks : KeptPoints) → KeepsParts old new
+pub grown-read : (image : Image) (t : Numbered) (slots : List NotedSlot) (old new : List LogEntry) (ks : KeptPoints) → KeepsParts old new
     → IsRead image t slots old ks → IsRead image t slots new ks
 grown-read image t slots old new ks keeps read = record { count = read.count; noted = grown image t slots old new ks keeps read.noted }

@@ -19,6 +19,7 @@ use Rattle.program_rules.proofs.EdgeRules.{call-told, told_of}
 use Rattle.program_rules.specs.Kept.{IsKeptAt, before, has_state, noted_by}
 use Rattle.program_rules.specs.PointChecks.{later_rules, way_rules}
 use Rattle.program_rules.specs.declared.kept.Kept.{Kept}
+use Rattle.typestate.specs.declared.log_entries.LogEntry.{LogEntry}
 
 -- what follows from an instruction that is no system call
 plain-follows : (image : Image) (t : Numbered) (point : ℕ) (s : PointState) (instr : Instr) → instr ≢ Ecall
@@ -80,7 +81,7 @@ module _ (image : Image) (t : Numbered) (point : ℕ) (s : PointState) (instr : 
       ∙ left-next
 
 -- the next point, as it was found: it has a state, and is the one at that address
-pub next-found : (image : Image) (t : Numbered) (slots log : List NotedSlot) (point next address : ℕ) (k : Kept) → IsKeptAt image t slots log next k
+pub next-found : (image : Image) (t : Numbered) (slots : List NotedSlot) (log : List LogEntry) (point next address : ℕ) (k : Kept) → IsKeptAt image t slots log next k
     → true ≡ has_state (noted_by slots log k) → next ≡ point + 1 → Some next ≡ point_at t.thread (address + 4)
     → address ≡ address_of t.thread point → (has_state (noted image t (point + 1)) ≡ true) × (Some (point + 1) ≡ point_at t.thread (address_of t.thread point + 4))
 next-found image t slots log point next address k here has is at place = (

@@ -4,32 +4,33 @@ use Rattle.std.specs.Prelude.{slice_index_or}
 use Rattle.model.specs.Acceptance.NotedStates.{NotedSlot, are_same_slots}
 use Rattle.program_rules.specs.SameParts.{AreSame}
 use Rattle.program_rules.specs.declared.same_parts.SameParts.{SameParts}
-use Rattle.typestate.specs.Differences.{changed}
 use Rattle.typestate.specs.Logs.{KeepsParts, Shows, ShowsSome, part_of}
 use Rattle.typestate.specs.declared.logs.Part.{Part}
 use Rattle.typestate.specs.declared.logs.ShownPart.{ShownPart}
+use Rattle.typestate.specs.Replays.{replayed}
+use Rattle.typestate.specs.declared.log_entries.LogEntry.{LogEntry}
 
-pub some-shown : (log : List NotedSlot) (part : Part) (shown : ShownPart) → Shows log part shown → ShowsSome log shown
+pub some-shown : (log : List LogEntry) (part : Part) (shown : ShownPart) → Shows log part shown → ShowsSome log shown
 some-shown log part shown shows = subst (λ (p : Part). Shows log p shown) (sym shows.part_is) shows
 
-pub shown-grown : (old new : List NotedSlot) (part : Part) (shown : ShownPart) → KeepsParts old new → Shows old part shown → Shows new part shown
+pub shown-grown : (old new : List LogEntry) (part : Part) (shown : ShownPart) → KeepsParts old new → Shows old part shown → Shows new part shown
 shown-grown old new part shown keeps shows = record {
   part_is = shows.part_is;
   held = (keeps part shows.held).0;
   rising = shows.rising;
-  same = λ slots rises. shows.same slots rises ∙ ap (changed slots) (sym (keeps part shows.held).1);
+  same = λ slots rises unlinked. shows.same slots rises unlinked ∙ ap (replayed slots) (sym (keeps part shows.held).1);
 }
 
-pub some-grown : (old new : List NotedSlot) (shown : ShownPart) → KeepsParts old new → ShowsSome old shown → ShowsSome new shown
+pub some-grown : (old new : List LogEntry) (shown : ShownPart) → KeepsParts old new → ShowsSome old shown → ShowsSome new shown
 some-grown old new shown keeps shows = shown-grown old new shown.part shown keeps shows
 
-pub keeps-both : (old between new : List NotedSlot) → KeepsParts old between → KeepsParts between new → KeepsParts old new
+pub keeps-both : (old between new : List LogEntry) → KeepsParts old between → KeepsParts between new → KeepsParts old new
 keeps-both old between new first second = λ part held.
     let one = first part held in
     let two = second part one.0 in (two.0, two.1 ∙ one.1)
 
 -- parts that leave the same slots, also where the log grows
-pub same-grown : (slots old new : List NotedSlot) (same : SameParts) → KeepsParts old new → AreSame slots old same → AreSame slots new same
+pub same-grown : (slots : List NotedSlot) (old new : List LogEntry) (same : SameParts) → KeepsParts old new → AreSame slots old same → AreSame slots new same
 same-grown slots old new same keeps all = λ k d below.
     let one = all k d below in
     let other = slice_index_or same.others.items k d in
@@ -38,6 +39,6 @@ same-grown slots old new same keeps all = λ k d below.
     record {
       first = first.0;
       second = second.0;
-      same = ap (λ (l : List NotedSlot). are_same_slots (changed slots l) (changed slots (part_of new other))) first.1
-          ∙ ap (λ (l : List NotedSlot). are_same_slots (changed slots (part_of old same.part)) (changed slots l)) second.1 ∙ one.same;
+      same = ap (λ (l : List LogEntry). are_same_slots (replayed slots l) (replayed slots (part_of new other))) first.1
+          ∙ ap (λ (l : List LogEntry). are_same_slots (replayed slots (part_of old same.part)) (replayed slots l)) second.1 ∙ one.same;
     }

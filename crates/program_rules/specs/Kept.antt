@@ -15,19 +15,20 @@ use Rattle.program_rules.specs.declared.kept.Kept.{Kept}
 use Rattle.program_rules.specs.declared.kept.Known.{Known as State}
 use Rattle.program_rules.specs.declared.kept_points.KeptPoint.{KeptPoint}
 use Rattle.program_rules.specs.declared.kept_points.KeptPoints.{KeptPoints}
-use Rattle.typestate.specs.Differences.{changed}
 use Rattle.typestate.specs.Logs.{Holds, Shows, part_of}
 use Rattle.typestate.specs.Strays.{NoneStray}
 use Rattle.typestate.specs.declared.behind.Behind.{Behind}
 use Rattle.typestate.specs.declared.logs.Part.{Part}
 use Rattle.typestate.specs.declared.logs.ShownPart.{ShownPart}
+use Rattle.typestate.specs.Replays.{replayed}
+use Rattle.typestate.specs.declared.log_entries.LogEntry.{LogEntry}
 
 -- the state, by what is kept beside the image's slots and the log of changes
-abbrev pub state_by : List NotedSlot → List NotedSlot → State → PointState
-state_by slots log k = record { ranges = k.bounds; slots = changed slots (part_of log k.part); measure = measure_of k.measure }
+abbrev pub state_by : List NotedSlot → List LogEntry → State → PointState
+state_by slots log k = record { ranges = k.bounds; slots = replayed slots (part_of log k.part); measure = measure_of k.measure }
 
 -- what is noted
-abbrev pub noted_by : List NotedSlot → List NotedSlot → Kept → Noted
+abbrev pub noted_by : List NotedSlot → List LogEntry → Kept → Noted
 noted_by slots log (kept.Known k) = Known (state_by slots log k)
 noted_by slots log kept.Missing = Missing
 noted_by slots log kept.Unmeasured = Unmeasured
@@ -45,37 +46,37 @@ kept_as left.Missing part clean = kept.Missing
 kept_as left.Unmeasured part clean = kept.Unmeasured
 
 -- its changes are in the log
-abbrev pub HasPart : List NotedSlot → Kept → Type 0
+abbrev pub HasPart : List LogEntry → Kept → Type 0
 HasPart log (kept.Known k) = Holds log k.part
 HasPart log kept.Missing = Unit {0}
 HasPart log kept.Unmeasured = Unit {0}
 
 -- they are shown
-abbrev pub ShowsKept : List NotedSlot → ShownPart → Kept → Type 0
+abbrev pub ShowsKept : List LogEntry → ShownPart → Kept → Type 0
 ShowsKept log shown (kept.Known k) = Shows log k.part shown
 ShowsKept log shown kept.Missing = Unit {0}
 ShowsKept log shown kept.Unmeasured = Unit {0}
 
 -- its changes are in the log, and its measure can be lowered by one for each point that is left
-abbrev pub IsSound : List NotedSlot → ℕ → Kept → Type 0
+abbrev pub IsSound : List LogEntry → ℕ → Kept → Type 0
 IsSound log point (kept.Known k) = Holds log k.part × (negsuc (2 ^ 62 + point) ≤ℤ (measure_of k.measure).constant)
 IsSound log point kept.Missing = Unit {0}
 IsSound log point kept.Unmeasured = Unit {0}
 
 -- where it is known that no slot is one that the thread may not have, none is
-abbrev pub IsCleanIn : Image → Thread → List NotedSlot → List NotedSlot → Kept → Type 0
-IsCleanIn image t slots log (kept.Known k) = k.is_clean ≡ true → NoneStray image t (changed slots (part_of log k.part))
+abbrev pub IsCleanIn : Image → Thread → List NotedSlot → List LogEntry → Kept → Type 0
+IsCleanIn image t slots log (kept.Known k) = k.is_clean ≡ true → NoneStray image t (replayed slots (part_of log k.part))
 IsCleanIn image t slots log kept.Missing = Unit {0}
 IsCleanIn image t slots log kept.Unmeasured = Unit {0}
 
 -- the same of what a call leaves that is looked at
-abbrev pub IsCleanBehind : Image → Thread → List NotedSlot → List NotedSlot → Option (Result Behind Refusal) → Type 0
-IsCleanBehind image t slots made (Some (Ok b)) = b.is_tidy ≡ true → NoneStray image t (changed slots made)
+abbrev pub IsCleanBehind : Image → Thread → List NotedSlot → List LogEntry → Option (Result Behind Refusal) → Type 0
+IsCleanBehind image t slots made (Some (Ok b)) = b.is_tidy ≡ true → NoneStray image t (replayed slots made)
 IsCleanBehind image t slots made (Some (Err refusal)) = Unit {0}
 IsCleanBehind image t slots made None = Unit {0}
 
 -- what is kept of one point is what the certificate notes of it
-pub record IsKeptAt (image : Image) (t : Numbered) (slots log : List NotedSlot) (point : ℕ) (k : Kept) : Type 0 where
+pub record IsKeptAt (image : Image) (t : Numbered) (slots : List NotedSlot) (log : List LogEntry) (point : ℕ) (k : Kept) : Type 0 where
   pub same : noted_by slots log k ≡ noted image t point
   pub sound : IsSound log point k
   pub clean : IsCleanIn image t.thread slots log k
@@ -92,12 +93,12 @@ pub record IsPlaced (t : Thread) (points : List KeptPoint) (point place : ℕ) :
   pub plain : (d : KeptPoint) (other : ℕ) → (slice_index_or points place d).point ≤ other → other < point → IsPlain t other
 
 -- of some points, and where the others begin
-pub record AreKept (image : Image) (t : Numbered) (slots log : List NotedSlot) (kept : KeptPoints) : Type 0 where
+pub record AreKept (image : Image) (t : Numbered) (slots : List NotedSlot) (log : List LogEntry) (kept : KeptPoints) : Type 0 where
   pub each : All (λ k. IsKeptAt image t slots log k.point k.kept) kept.points.items
   pub placed : (point place : ℕ) → slice_get kept.places.items point ≡ Some place → IsPlaced t.thread kept.points.items point place
 
 -- all points of the program
-pub record IsRead (image : Image) (t : Numbered) (slots log : List NotedSlot) (kept : KeptPoints) : Type 0 where
+pub record IsRead (image : Image) (t : Numbered) (slots : List NotedSlot) (log : List LogEntry) (kept : KeptPoints) : Type 0 where
   pub count : length kept.places.items ≡ t.thread.header.words
   pub noted : AreKept image t slots log kept
 
@@ -107,7 +108,7 @@ before image t zero = Missing
 before image t (suc point) = follows image t point (noted image t point)
 
 -- the points up to this one, and what is left for it
-pub record IsReadTo (image : Image) (t : Numbered) (slots : List NotedSlot) (point : ℕ) (log : List NotedSlot) (kept : KeptPoints) (derived : Kept) : Type 0 where
+pub record IsReadTo (image : Image) (t : Numbered) (slots : List NotedSlot) (point : ℕ) (log : List LogEntry) (kept : KeptPoints) (derived : Kept) : Type 0 where
   pub count : length kept.places.items ≡ point
   pub noted : AreKept image t slots log kept
   pub same : noted_by slots log derived ≡ before image t point

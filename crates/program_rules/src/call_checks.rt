@@ -13,9 +13,9 @@ ghost use Rattle.program_rules.specs.PointChecks.{later_rules};
 ghost use Rattle.program_rules.specs.Programs.{thread_of};
 ghost use Rattle.program_rules.specs.declared.kept.Kept.TheVariants as kept;
 ghost use Rattle.typestate.specs.Calls.{behind_with};
-ghost use Rattle.typestate.specs.Differences.{changed};
 ghost use Rattle.typestate.specs.Logs.{KeepsParts, Shows, part_of};
 ghost use Rattle.wellformed.specs.Answering.{Answers};
+ghost use Rattle.typestate.specs.Replays.{replayed};
 
 use crate::kept::Known;
 use crate::point_rules::{Way, registers_of};
@@ -25,7 +25,7 @@ use crate::same_parts::SameParts;
 use image_reading::RecordRef;
 use measure::AfterCall;
 use model::Refusal;
-use typestate::{Behind, NotedSlot, Part, ShownPart};
+use typestate::{Behind, LogEntry, Part, ShownPart};
 
 impl Program<'_, '_> {
     /// Whether the way on behind a system call that leaves this, and the slots of a part of the log, which is shown, keeps its rules:
@@ -43,7 +43,7 @@ impl Program<'_, '_> {
         requires within { point < self.now.space.thread.now.header.words }
         requires shown { Shows points.now.log part shown.now }
         ensures { Answers (first_broken (edge_rules self.now.space.thread.now (point_of (thread_of self.now) point) (measure_of known.now.measure)
-            (call_edge (address_of self.now.space.thread.now point) known.now.bounds (behind_with (changed self.now.slots.now (part_of points.now.log part)) behind.now))
+            (call_edge (address_of self.now.space.thread.now point) known.now.bounds (behind_with (replayed self.now.slots.now (part_of points.now.log part)) behind.now))
             (noted_at self.now.space.image.now (thread_of self.now) (address_of self.now.space.thread.now point + 4)))) result }
     {
         let way = Way {
@@ -79,13 +79,13 @@ impl Program<'_, '_> {
         point: u32,
         known: &Known,
         behind: &Behind,
-        made: &[NotedSlot],
+        made: &[LogEntry],
     ) -> Result<(), Refusal>
         requires read { IsRead self.now.space.image.now (thread_of self.now) self.now.slots.now points.old.log points.old.kept }
         requires within { point < self.now.space.thread.now.header.words }
         requires sound { IsSound points.old.log point (kept.Known known.now) }
         ensures broken { Answers (first_broken (edge_rules self.now.space.thread.now (point_of (thread_of self.now) point) (measure_of known.now.measure)
-            (call_edge (address_of self.now.space.thread.now point) known.now.bounds (behind_with (changed (changed self.now.slots.now (part_of points.old.log known.now.part)) made.now) behind.now))
+            (call_edge (address_of self.now.space.thread.now point) known.now.bounds (behind_with (replayed (replayed self.now.slots.now (part_of points.old.log known.now.part)) made.now) behind.now))
             (noted_at self.now.space.image.now (thread_of self.now) (address_of self.now.space.thread.now point + 4)))) result }
         ensures read { IfOk result (λ _. IsRead self.now.space.image.now (thread_of self.now) self.now.slots.now points.new.log points.new.kept) }
         ensures others { IfOk result (λ _. KeepsParts points.old.log points.new.log) }

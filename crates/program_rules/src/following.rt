@@ -13,9 +13,11 @@ ghost use Rattle.program_rules.specs.Kept.{IsCleanBehind, IsCleanIn, IsSound, Sh
 ghost use Rattle.program_rules.specs.Programs.{thread_of};
 ghost use Rattle.program_rules.specs.declared.kept.Kept.TheVariants as kept;
 ghost use Rattle.typestate.specs.Calls.{behind_with, known_with, left_with};
-ghost use Rattle.typestate.specs.Differences.{changed, slots_of};
+ghost use Rattle.typestate.specs.Differences.{slots_of};
 ghost use Rattle.typestate.specs.Logs.{Holds, KeepsParts, Shows, part_of};
 ghost use Rattle.typestate.specs.Strays.{NoneStray};
+ghost use Rattle.typestate.specs.Replays.{replayed};
+ghost use Rattle.typestate.specs.declared.log_entries.LogEntry.{LogEntry};
 
 use crate::kept::{Kept, Known};
 use crate::point_rules::{Left, follows, follows_call};
@@ -27,7 +29,7 @@ use ranges::Bounds;
 use rv32_isa::decode;
 use std::alloc::AllocError;
 use typestate::{
-    Behind, NotedSlot, NotedSlots, Part, ShownPart, SlotLog, points_without_stray_slots_have_none,
+    Behind, LogEntry, NotedSlots, Part, ShownPart, SlotLog, points_without_stray_slots_have_none,
 };
 
 /// What is kept of what a point leaves for the next one, with the part that its slots have, and whether it is known that none of
@@ -51,9 +53,9 @@ fn keep(left: Left, part: Part, is_clean: bool) -> Kept
 fn behind_instruction(pc: u32, instr: Instr, known: &Known) -> Kept
     requires instr { IsInstr instr }
     requires measure { negsuc (2 ^ 63 - 2) ≤ℤ (measure_of known.now.measure).constant }
-    ensures same { (slots log : List NotedSlot) → noted_by slots log result ≡ follows_edge instr (state_by slots log known.now) (after pc instr known.now.bounds).fall_through }
-    ensures sound { (log : List NotedSlot) (point : ℕ) → IsSound log point (kept.Known known.now) → IsSound log (point + 1) result }
-    ensures clean { (image : Image) (t : Thread) (slots log : List NotedSlot) → IsCleanIn image t slots log (kept.Known known.now) → IsCleanIn image t slots log result }
+    ensures same { (slots : List NotedSlot) (log : List LogEntry) → noted_by slots log result ≡ follows_edge instr (state_by slots log known.now) (after pc instr known.now.bounds).fall_through }
+    ensures sound { (log : List LogEntry) (point : ℕ) → IsSound log point (kept.Known known.now) → IsSound log (point + 1) result }
+    ensures clean { (image : Image) (t : Thread) (slots : List NotedSlot) (log : List LogEntry) → IsCleanIn image t slots log (kept.Known known.now) → IsCleanIn image t slots log result }
 {
     keep(
         follows(pc, instr, &known.bounds, &known.measure),
@@ -66,10 +68,10 @@ fn behind_instruction(pc: u32, instr: Instr, known: &Known) -> Kept
 fn behind_call(budget: u64, measure: &Measure, behind: &Behind, part: Part) -> Kept
     requires budget { budget ≤ 2 ^ 62 }
     requires measure { negsuc (2 ^ 63 - 2) ≤ℤ (measure_of measure.now).constant }
-    ensures same { (slots log : List NotedSlot) (t : Thread) → t.header.budget ≡ budget
-        → noted_by slots log result ≡ behind_call t (measure_of measure.now) (behind_with (changed slots (part_of log part)) behind.now) }
-    ensures sound { (log : List NotedSlot) (t : Thread) (point : ℕ) → t.header.budget ≡ budget → Holds log part → negsuc (2 ^ 62 + point) ≤ℤ (measure_of measure.now).constant → IsSound log (point + 1) result }
-    ensures clean { (image : Image) (t : Thread) (slots log : List NotedSlot) → (behind.now.is_tidy ≡ true → NoneStray image t (changed slots (part_of log part))) → IsCleanIn image t slots log result }
+    ensures same { (slots : List NotedSlot) (log : List LogEntry) (t : Thread) → t.header.budget ≡ budget
+        → noted_by slots log result ≡ behind_call t (measure_of measure.now) (behind_with (replayed slots (part_of log part)) behind.now) }
+    ensures sound { (log : List LogEntry) (t : Thread) (point : ℕ) → t.header.budget ≡ budget → Holds log part → negsuc (2 ^ 62 + point) ≤ℤ (measure_of measure.now).constant → IsSound log (point + 1) result }
+    ensures clean { (image : Image) (t : Thread) (slots : List NotedSlot) (log : List LogEntry) → (behind.now.is_tidy ≡ true → NoneStray image t (replayed slots (part_of log part))) → IsCleanIn image t slots log result }
 {
     keep(follows_call(budget, measure, behind), part, behind.is_tidy)
 }
@@ -92,7 +94,7 @@ impl Program<'_, '_> {
         bounds: &Bounds,
         slots: &NotedSlots<'_>,
         is_clean: bool,
-        made: &mut Vec<NotedSlot>,
+        made: &mut Vec<LogEntry>,
     ) -> Result<Option<Result<Behind, Refusal>>, AllocError>
         requires image { slots.now.image.now ≡ self.now.slots.now }
         requires noted { option_map (λ r. r.now) noted ≡ record_of self.now.space.thread.now point }
@@ -121,7 +123,7 @@ impl Program<'_, '_> {
         requires noted { option_map (λ r. r.now) noted ≡ record_of self.now.space.thread.now point }
         requires shown { Shows log.now known.now.part shown.now }
         requires clean { IsCleanIn self.now.space.image.now self.now.space.thread.now self.now.slots.now log.now (kept.Known known.now) }
-        ensures { result ≡ true → NoneStray self.now.space.image.now self.now.space.thread.now (changed self.now.slots.now (part_of log.now known.now.part)) }
+        ensures { result ≡ true → NoneStray self.now.space.image.now self.now.space.thread.now (replayed self.now.slots.now (part_of log.now known.now.part)) }
     {
         points_without_stray_slots_have_none();
         if known.is_clean {

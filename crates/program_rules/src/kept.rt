@@ -9,6 +9,7 @@ ghost use Rattle.typestate.specs.Differences.{changed, slots_of};
 ghost use Rattle.typestate.specs.Logs.{Shows, ShowsSome};
 ghost use Rattle.typestate.specs.Orders.{Rise};
 ghost use Rattle.typestate.specs.Unlinked.{AreUnlinked};
+ghost use Rattle.typestate.specs.declared.log_entries.LogEntry.{LogEntry};
 
 use crate::point_rules::{Noted, PointState};
 use measure::Measure;
@@ -44,7 +45,7 @@ impl Known {
         requires unlinked { AreUnlinked slots.now }
         ensures slots { slots_of result.slots ≡ changed slots.now shown.now.changes }
         ensures same { state_of result ≡ record { ranges = self.now.bounds; slots = changed slots.now shown.now.changes; measure = measure_of self.now.measure } }
-        ensures state { (log : List NotedSlot) → Shows log self.now.part shown.now → state_of result ≡ state_by slots.now log self.now }
+        ensures state { (log : List LogEntry) → Shows log self.now.part shown.now → state_of result ≡ state_by slots.now log self.now }
         ensures image { result.slots.image.now ≡ slots.now }
     {
         PointState {
@@ -58,7 +59,7 @@ impl Known {
 impl Kept {
     /// Whether a state is noted.
     pub(crate) fn has_state(&self) -> bool
-        ensures { (slots log : List NotedSlot) → result ≡ has_state (noted_by slots log self.now) }
+        ensures { (slots : List NotedSlot) (log : List LogEntry) → result ≡ has_state (noted_by slots log self.now) }
     {
         matches!(self, Kept::Known(_))
     }
@@ -92,7 +93,7 @@ impl Kept {
         requires shown { Rise shown.now.changes }
         requires rising { Rise slots.now }
         requires unlinked { AreUnlinked slots.now }
-        ensures noted { (log : List NotedSlot) → ShowsKept log shown.now self.now → noted_of result ≡ noted_by slots.now log self.now }
+        ensures noted { (log : List LogEntry) → ShowsKept log shown.now self.now → noted_of result ≡ noted_by slots.now log self.now }
         ensures image { HasImage slots.now result }
     {
         match self {

@@ -8,6 +8,7 @@ ghost use Rattle.model.specs.Machine.Decoding.{decoded};
 ghost use Rattle.model.specs.declared.instructions.Instr.TheVariants.{Ecall};
 ghost use Rattle.program_rules.specs.Kept.{AreKept, IsKeptAt, IsPlain};
 ghost use Rattle.program_rules.specs.Programs.{thread_of};
+ghost use Rattle.typestate.specs.declared.log_entries.LogEntry.{LogEntry};
 
 use crate::kept::Kept;
 use crate::programs::Program;
@@ -47,7 +48,7 @@ impl KeptPoints {
     /// Nothing is kept.
     pub(crate) fn new(alloc: Global) -> Self
         ensures count { length result.places.items ≡ 0 }
-        ensures kept { (image : Image) (t : Numbered) (slots log : List NotedSlot) → AreKept image t slots log result }
+        ensures kept { (image : Image) (t : Numbered) (slots : List NotedSlot) (log : List LogEntry) → AreKept image t slots log result }
     {
         KeptPoints {
             points: Vec::new(alloc),
@@ -86,7 +87,7 @@ impl KeptPoints {
         requires count { length self.old.places.items ≡ point }
         requires bare { is_bare ≡ true → record_of thread.now point ≡ None }
         ensures count { IfOk result (λ _. length self.new.places.items ≡ point + 1) }
-        ensures kept { IfOk result (λ _. (image : Image) (t : Numbered) (slots log : List NotedSlot) → t.thread ≡ thread.now → IsKeptAt image t slots log point kept
+        ensures kept { IfOk result (λ _. (image : Image) (t : Numbered) (slots : List NotedSlot) (log : List LogEntry) → t.thread ≡ thread.now → IsKeptAt image t slots log point kept
             → AreKept image t slots log self.old → AreKept image t slots log self.new) }
     {
         if let Some(place) = self.place_before(thread, point, is_bare) {

@@ -18,7 +18,7 @@ use ranges::Bounds;
 use std::alloc::AllocError;
 use thread_spaces::slots_are_own;
 use typestate::{
-    Behind, NotedSlot, NotedSlots, ThreadSlots, ToldSlots, no_stray_slot_leads_outside,
+    Behind, LogEntry, NotedSlots, ThreadSlots, ToldSlots, no_stray_slot_leads_outside,
 };
 
 impl Program<'_, '_> {
@@ -52,7 +52,7 @@ impl Program<'_, '_> {
         point: u32,
         bounds: &Bounds,
         slots: &NotedSlots<'_>,
-        made: &mut Vec<NotedSlot>,
+        made: &mut Vec<LogEntry>,
     ) -> Result<Result<Behind, Refusal>, AllocError>
         requires image { slots.now.image.now ≡ self.now.slots.now }
         requires own { (measure : Measure) → has_stray_slots self.now.space.image.now self.now.space.thread.now point (known_with bounds.now (slots_of slots.now) measure) ≡ false }

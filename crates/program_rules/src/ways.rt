@@ -23,6 +23,8 @@ ghost use Rattle.program_rules.specs.SameParts.{AreSame};
 ghost use Rattle.typestate.specs.Logs.{Holds, Shows, part_of};
 ghost use Rattle.typestate.specs.Orders.{Rise};
 ghost use Rattle.wellformed.specs.Answering.{Answers};
+ghost use Rattle.typestate.specs.Replays.{replayed};
+ghost use Rattle.typestate.specs.declared.log_entries.LogEntry.{LogEntry};
 
 use crate::kept::{Kept, Known};
 use crate::point_rules::{Way, kept_at, leads_to, left_calls_are_kept, left_states_are_kept};
@@ -95,7 +97,7 @@ impl Program<'_, '_> {
         requires shown { Shows points.now.log part shown.now }
         requires held { Holds points.now.log other }
         requires same { AreSame self.now.slots.now points.now.log same.old }
-        ensures is { IfOk result (λ is. is ≡ true → are_same_slots (changed self.now.slots.now (part_of points.now.log part)) (changed self.now.slots.now (part_of points.now.log other)) ≡ true) }
+        ensures is { IfOk result (λ is. is ≡ true → are_same_slots (replayed self.now.slots.now (part_of points.now.log part)) (replayed self.now.slots.now (part_of points.now.log other)) ≡ true) }
         ensures same { IfOk result (λ _. AreSame self.now.slots.now points.now.log same.new) }
     {
         if part.is_same(other) {
@@ -127,7 +129,7 @@ impl Program<'_, '_> {
         requires image { way.now.slots.image.now ≡ self.now.slots.now }
         requires shown { Rise shown.now.changes }
         requires slots { slots_of way.now.slots ≡ changed self.now.slots.now shown.now.changes }
-        ensures { (log : List NotedSlot) (t : Thread) (a : ℕ) → are_same_slots (slots_of way.now.slots) (changed self.now.slots.now (part_of log known.now.part)) ≡ true → t.header.budget ≡ self.now.space.thread.now.header.budget
+        ensures { (log : List LogEntry) (t : Thread) (a : ℕ) → are_same_slots (slots_of way.now.slots) (replayed self.now.slots.now (part_of log known.now.part)) ≡ true → t.header.budget ≡ self.now.space.thread.now.header.budget
             → result_err result ≡ first_broken (edge_rules t at (measure_of measure.now) (edge_of a (S.value_of step.now) way.now) (states.Known (state_by self.now.slots.now log known.now))) }
     {
         let state = known.state(self.slots, shown);

@@ -1,9 +1,11 @@
 -- Loops that append what each turn tells or finds, or look whether some of it passes.
-use Rattle.std.proofs.Common.{ℕ, ◌≡◌, ◌∙◌, ◌+◌, ◌<◌, ◌≤◌, ◌||◌, Bool, true, false, Option, Some, None, List, [], ◌∷◌, ◌++◌, length, take, get_or, refl, sym, ap, add-one, append-nil, take-suc, take_all}
+use Rattle.std.proofs.Common.{ℕ, ◌≡◌, ◌∙◌, ◌+◌, ◌<◌, ◌≤◌, ◌||◌, Bool, true, false, Option, Some, None, List, [], ◌∷◌, ◌++◌, length, map, take, get_or, refl, sym, ap, add-one, append-nil, take-suc, take_all}
 use Rattle.std.specs.List.{cons_option, filter_map, flat_map, list_any}
 use Rattle.std.specs.Option.{option_map_or, option_to_list}
 use Rattle.std.proofs.lemmas.List.{flat_map_more}
 use Rattle.model.specs.Acceptance.NotedStates.{NotedSlot}
+use Rattle.typestate.specs.declared.log_entries.LogEntry.{LogEntry}
+use Rattle.typestate.specs.declared.log_entries.LogEntry.TheVariants.{Sets}
 use Rattle.typestate.proofs.Linked.{append-again}
 
 -- what one slot more tells
@@ -54,3 +56,31 @@ first-passes X look test x xs rest whole steps before on =
     first : (o : Option NotedSlot) (l : List NotedSlot) → option_map_or test o false ≡ true → list_any test (cons_option o l) ≡ true
     first None l off = absurd (let clash : false ≡ true = off in cc)
     first (Some s) l on = ap (λ b. b || list_any test l) on
+
+-- ---- entries of a log
+
+map-more : (f : NotedSlot → LogEntry) (xs : List NotedSlot) (s : NotedSlot) → map f (xs ++ s ∷ []) ≡ map f xs ++ f s ∷ []
+map-more f [] s = refl
+map-more f (x ∷ xs) s = ap (λ (l : List LogEntry). f x ∷ l) (map-more f xs s)
+
+entries-again : (xs ys zs : List LogEntry) → (xs ++ ys) ++ zs ≡ xs ++ (ys ++ zs)
+entries-again [] ys zs = refl
+entries-again (x ∷ xs) ys zs = ap (λ (l : List LogEntry). x ∷ l) (entries-again xs ys zs)
+
+-- with the entry for one slot more
+pub one-more-entry : (f : NotedSlot → LogEntry) (slots : List NotedSlot) (i : ℕ) (s : NotedSlot) (old made after : List LogEntry) → i < length slots → s ≡ get_or slots i s
+    → made ≡ old ++ map f (take i slots) → after ≡ made ++ f s ∷ [] → after ≡ old ++ map f (take (i + 1) slots)
+one-more-entry f slots i s old made after less at before is =
+    let longer : take (i + 1) slots ≡ take i slots ++ (s ∷ []) = rw (add-one i) (take-suc slots i s less ∙ ap (λ (x : NotedSlot). take i slots ++ (x ∷ [])) (sym at)) in
+    is ∙ ap (λ (l : List LogEntry). l ++ f s ∷ []) before ∙ entries-again old (map f (take i slots)) (f s ∷ [])
+    ∙ ap (λ (l : List LogEntry). old ++ l) (sym (map-more f (take i slots) s)) ∙ ap (λ (l : List NotedSlot). old ++ map f l) (sym longer)
+
+pub no-entry : (f : NotedSlot → LogEntry) (slots : List NotedSlot) (old : List LogEntry) → old ≡ old ++ map f (take 0 slots)
+no-entry f slots old = sym (append-nil old)
+
+pub all-entries : (f : NotedSlot → LogEntry) (slots : List NotedSlot) (i : ℕ) (old made : List LogEntry) → length slots ≤ i → made ≡ old ++ map f (take i slots) → made ≡ old ++ map f slots
+all-entries f slots i old made none before = before ∙ ap (λ (l : List NotedSlot). old ++ map f l) (take_all i slots none)
+
+pub sets-of : (f : NotedSlot → NotedSlot) (slots : List NotedSlot) → map (λ s. Sets (f s)) slots ≡ map (λ (s : NotedSlot). Sets s) (map f slots)
+sets-of f [] = refl
+sets-of f (s ∷ rest) = ap (λ (l : List LogEntry). Sets (f s) ∷ l) (sets-of f rest)

@@ -14,18 +14,24 @@ use Rattle.typestate.specs.declared.slot_changes.Removed.{Removed}
 use Rattle.typestate.specs.declared.slot_changes.Removed.TheVariants.{One, Below}
 use Rattle.typestate.specs.declared.slot_changes.SlotChange.{SlotChange}
 use Rattle.typestate.specs.declared.slot_changes.SlotChange.TheVariants.{Nothing, Puts, Moves, Removes}
-use Rattle.typestate.specs.ChangeLists.{changes_of, child_change, named_by, removal_change, told_at, told_of}
+use Rattle.typestate.specs.ChangeLists.{changes_of, children_kept, named_by, removal_change, removal_changes, told_at, told_of}
 use Rattle.typestate.specs.Differences.{changed, left_by, slots_of}
 use Rattle.typestate.specs.Families.{children_of, has_parent}
 use Rattle.typestate.specs.Levels.{all_below, below_by, hanging_below, hangs_below, named, touched_by}
 use Rattle.typestate.specs.Removals.{may_lose}
+use Rattle.typestate.specs.Replays.{exchanged, replayed, turned}
+use Rattle.typestate.specs.declared.log_entries.LogEntry.{LogEntry}
+use Rattle.typestate.specs.declared.log_entries.LogEntry.TheVariants.{Sets}
 use Rattle.typestate.specs.SlotChanges.{cap_left, emptied, followed, heir, is_parent, is_removed, loses_children, noted_descends, noted_outside, noted_parent, slot_left, slots_left, what_stays, without_gone}
 use Rattle.typestate.proofs.Compared.{is_changed, same-place, unchanged}
+use Rattle.typestate.proofs.Linked.{filter-found, kept as kept-by}
 use Rattle.typestate.proofs.LevelByLevel.{descends-longer, descends-same, listed-goes}
 use Rattle.typestate.proofs.MoveCalls.{follows-keeps, map-at, map-rises}
 use Rattle.typestate.specs.Unlinked.{AreUnlinked, is_linked}
 use Rattle.typestate.proofs.OwnChanges.{HoldOwn, hold-own, unnamed-parent}
+use Rattle.typestate.proofs.OrderedChanges.{changed-at, found_or}
 use Rattle.typestate.proofs.RemovedNoted.{reset-full, reset-left, stay-at, stay-rise, stays-keeps}
+use Rattle.typestate.proofs.Replayed.{replayed-more, sets-made}
 use Rattle.typestate.proofs.Rising.{RiseFrom, changes-rise, from-first, looks-equal}
 use Rattle.typestate.proofs.SlotLists.{noted-at}
 use Rattle.typestate.proofs.SomeHeld.{any-held, held-any}
@@ -186,6 +192,11 @@ or-neither : (a b : Bool) → (a || b) ≡ false → (a ≡ false) × (b ≡ fal
 or-neither true b clash = absurd (let nope : true ≡ false = clash in cc)
 or-neither false b is = (refl, is)
 
+own-some : (slots : List NotedSlot) (test : NotedSlot → Bool) (cs : List NotedSlot) → HoldOwn slots cs → HoldOwn slots (filter test cs)
+own-some slots test [] own = tt
+own-some slots test (c ∷ rest) own =
+    let more = own-some slots test rest own.1 in elim (test c) as (λ b. HoldOwn slots (if b then c ∷ filter test rest else filter test rest)) [ true ↦ (own.0, more) | false ↦ more ]
+
 module _ (image changes : List NotedSlot) (unlinked : AreUnlinked image) (ordered : RiseFrom 0 changes) (rises : RiseFrom 0 (changed image changes))
     (full : (key : SlotKey) (s : NotedSlot) → slot_at (changed image changes) key ≡ Some s → is_empty s.capability ≡ false) where
   abbrev noted : List NotedSlot
@@ -194,16 +205,19 @@ module _ (image changes : List NotedSlot) (unlinked : AreUnlinked image) (ordere
   here-again : (key : SlotKey) (s : NotedSlot) → slot_at noted key ≡ Some s → slot_at noted s.key ≡ Some s
   here-again key s at = same-place noted s.key key (found-key noted key s at) ∙ at
 
+  -- what the image lists was derived from none of the thread's slots
+  listed-parent : (key : SlotKey) (s : NotedSlot) → slot_at image key ≡ Some s → s.parent ≡ None
+  listed-parent key s here = elim s.parent as (λ p. s.parent ≡ p → p ≡ None) [
+    | None ↦ λ _. refl
+    | Some p ↦ λ is.
+        let linked : is_linked s ≡ true = ap (λ (o : Option SlotKey). is_some o || is_some (frame_mapping s.capability)) is in
+        absurd (let clash : true ≡ false = sym (held-any is_linked image key (ap (λ (o : Option NotedSlot). option_map_or is_linked o false) here ∙ linked)) ∙ unlinked in cc)
+  ] refl
+
   -- what no change names is the image's, and was derived from none of the thread's slots
   no-parent : (key : SlotKey) (s : NotedSlot) → slot_at noted key ≡ Some s → is_changed changes key ≡ false → s.parent ≡ None
   no-parent key s at none =
-      let here : slot_at image key ≡ Some s = sym (unchanged image changes key none) ∙ at in
-      elim s.parent as (λ p. s.parent ≡ p → p ≡ None) [
-        | None ↦ λ _. refl
-        | Some p ↦ λ is.
-            let linked : is_linked s ≡ true = ap (λ (o : Option SlotKey). is_some o || is_some (frame_mapping s.capability)) is in
-            absurd (let clash : true ≡ false = sym (held-any is_linked image key (ap (λ (o : Option NotedSlot). option_map_or is_linked o false) here ∙ linked)) ∙ unlinked in cc)
-      ] refl
+      listed-parent key s (sym (unchanged image changes key none) ∙ at)
 
   module _ (gone : SlotKey → Bool) where
     abbrev left : List NotedSlot
@@ -282,52 +296,81 @@ module _ (image changes : List NotedSlot) (unlinked : AreUnlinked image) (ordere
     children-is : (key : SlotKey) → slot_at children key ≡ option_map follow (slot_at noted key)
     children-is key = map-at follow (follows-keeps from to) noted key
 
-    child-leaves : (key : SlotKey) (s : NotedSlot) → slot_at noted key ≡ Some s → AllLeave (slot_at children) (child_change from to s)
-    child-leaves key s at =
-        let wanted : slot_at children s.key ≡ Some (follow s) = children-is s.key ∙ ap (option_map follow) (here-again key s at) in
-        elim (is_parent from s.parent) as (λ b. is_parent from s.parent ≡ b → AllLeave (slot_at children) (if b then follow s ∷ [] else [])) [
-          | false ↦ λ _. tt
-          | true ↦ λ is.
-              let there : follow s ≡ record s { parent = Some to } = ap (λ b. if b then record s { parent = Some to } else s) is in (
-                ap left_by there ∙ ap (λ b. if b then None else Some (record s { parent = Some to })) (full key s at)
-                    ∙ ap (λ (r : NotedSlot). Some r) (sym there) ∙ sym wanted ∙ same-place children s.key (follow s).key (sym (ap number_of (follows-keeps from to s))),
-                tt,
-              )
-        ] refl
+    abbrev swapped : List NotedSlot
+    swapped = map (exchanged from to) noted
 
-    child-rest : (key : SlotKey) (s : NotedSlot) → slot_at noted key ≡ Some s → is_changed (child_change from to s) key ≡ false → Some s ≡ slot_at children key
-    child-rest key s at none =
-        let same : is_same_key (follow s).key key ≡ true = eq-eqb (number_of (follow s).key) (number_of key) (ap number_of (follows-keeps from to s) ∙ found-key noted key s at) in
-        let wanted : slot_at children key ≡ Some (follow s) = children-is key ∙ ap (option_map follow) at in
-        elim (is_parent from s.parent) as (λ b. is_parent from s.parent ≡ b → is_changed (if b then follow s ∷ [] else []) key ≡ false → Some s ≡ slot_at children key) [
-          | true ↦ λ _ clash. absurd (let nope : true ≡ false = sym (ap (λ b. b || false) same) ∙ clash in cc)
-          | false ↦ λ is _. sym (wanted ∙ ap (λ b. Some (if b then record s { parent = Some to } else s)) is)
-        ] refl none
+    swapped-is : (key : SlotKey) → slot_at swapped key ≡ option_map (exchanged from to) (slot_at noted key)
+    swapped-is key = map-at (exchanged from to) (λ s. refl) noted key
 
-    -- nothing is told of what is no child
-    child-alone : (c : NotedSlot) → has_parent from (left_by c) ≡ false → told_of (child_change from to) c ≡ []
-    child-alone c isnt = elim (left_by c) as (λ o. has_parent from o ≡ false → option_map_or (child_change from to) o [] ≡ []) [
-      | None ↦ λ _. refl
-      | Some s ↦ λ none. ap (λ b. if b then followed from to s ∷ [] else []) none
-    ] isnt
+    -- what was derived from the slot to which one moves
+    abbrev below_to : List NotedSlot
+    below_to = children_of changes to
 
-    children-told : (cs : List NotedSlot) → flat_map (told_of (child_change from to)) (children_of cs from) ≡ flat_map (told_of (child_change from to)) cs
-    children-told [] = refl
-    children-told (c ∷ rest) = elim (has_parent from (left_by c)) as (λ b. has_parent from (left_by c) ≡ b
-        → flat_map (told_of (child_change from to)) (if b then c ∷ children_of rest from else children_of rest from) ≡ told_of (child_change from to) c ++ flat_map (told_of (child_change from to)) rest) [
-          | true ↦ λ _. ap (λ (l : List NotedSlot). told_of (child_change from to) c ++ l) (children-told rest)
-          | false ↦ λ isnt. children-told rest ∙ ap (λ (l : List NotedSlot). l ++ flat_map (told_of (child_change from to)) rest) (sym (child-alone c isnt))
-        ] refl
+    abbrev kept : List NotedSlot
+    kept = map follow below_to
 
-    pub children-made : changed noted (flat_map (told_of (child_change from to)) (children_of changes from)) ≡ children
+    left-follows : (c : NotedSlot) → left_by (follow c) ≡ option_map follow (left_by c)
+    left-follows c = ap (λ (k : Cap). if is_empty k then None else Some (follow c)) capability-same
+        ∙ (elim (is_empty c.capability) as (λ b. (if b then None else Some (follow c)) ≡ option_map follow (if b then None else Some c)) [ true ↦ refl | false ↦ refl ])
+      where
+        capability-same : (follow c).capability ≡ c.capability
+        capability-same = elim (is_parent from c.parent) as (λ b. (if b then record c { parent = Some to } else c).capability ≡ c.capability) [ true ↦ refl | false ↦ refl ]
+
+    kept-leave : (cs : List NotedSlot) → HoldOwn noted cs → AllLeave (slot_at children) (map follow cs)
+    kept-leave [] own = tt
+    kept-leave (c ∷ rest) own = (
+      left-follows c ∙ ap (option_map follow) (sym own.0) ∙ sym (children-is c.key) ∙ same-place children c.key (follow c).key (sym (ap number_of (follows-keeps from to c))),
+      kept-leave rest own.1,
+    )
+
+    -- what was derived from another slot changes its parent as a child follows
+    exchanged-follows : (s : NotedSlot) → is_parent to s.parent ≡ false → exchanged from to s ≡ follow s
+    exchanged-follows s off = by-parent s.parent off
+      where
+        by-parent : (p : Option SlotKey) → is_parent to p ≡ false → (let r : NotedSlot = record { key = s.key; capability = s.capability; parent = option_map (turned from to) p } in r)
+            ≡ (if is_parent from p then (let r : NotedSlot = record { key = s.key; capability = s.capability; parent = Some to } in r) else (let r : NotedSlot = record { key = s.key; capability = s.capability; parent = p } in r))
+        by-parent None off = refl
+        by-parent (Some p) off = elim (is_same_key p from) as (λ b. (let r : NotedSlot = record { key = s.key; capability = s.capability; parent = Some (if b then to else if is_same_key p to then from else p) } in r) ≡ (if b then (let r : NotedSlot = record { key = s.key; capability = s.capability; parent = Some to } in r) else (let r : NotedSlot = record { key = s.key; capability = s.capability; parent = Some p } in r))) [
+          | true ↦ refl
+          | false ↦ ap (λ d. (let r : NotedSlot = record { key = s.key; capability = s.capability; parent = Some (if d then from else p) } in r)) off
+        ]
+
+    left-same : (c s : NotedSlot) → left_by c ≡ Some s → c ≡ s
+    left-same c s is = elim (is_empty c.capability) as (λ b. (if b then None else Some c) ≡ Some s → c ≡ s) [
+      | true ↦ λ clash. absurd (let no : None ≡ Some s = clash in cc)
+      | false ↦ λ same. cc
+    ] is
+
+    -- no other slot was derived from there
+    not-below : (key : SlotKey) (s : NotedSlot) → slot_at noted key ≡ Some s → is_changed kept key ≡ false → is_parent to s.parent ≡ false
+    not-below key s at none = elim (is_parent to s.parent) as (λ b. is_parent to s.parent ≡ b → b ≡ false) [
+      | false ↦ λ _. refl
+      | true ↦ λ is. by-change (slot_at changes key) refl is
+    ] refl
+      where
+        by-change : (o : Option NotedSlot) → slot_at changes key ≡ o → is_parent to s.parent ≡ true → true ≡ false
+        by-change None here is =
+            let listed : slot_at image key ≡ Some s = sym (changed-at changes image 0 key ordered ∙ ap (λ o. found_or o (slot_at image key)) here) ∙ at in
+            sym is ∙ ap (is_parent to) (listed-parent key s listed)
+        by-change (Some c) here is =
+            let left : left_by c ≡ Some s = sym (changed-at changes image 0 key ordered ∙ ap (λ o. found_or o (slot_at image key)) here) ∙ at in
+            let passes : has_parent to (left_by c) ≡ true = ap (has_parent to) left ∙ is in
+            let there : slot_at below_to key ≡ Some c =
+            filter-found (λ c. has_parent to (left_by c)) changes 0 (number_of key) ordered ∙ ap (kept-by (λ c. has_parent to (left_by c))) here ∙ ap (λ b. if b then Some c else None) passes in
+            sym (among kept key (follow c) (map-at follow (follows-keeps from to) below_to key ∙ ap (option_map follow) there)) ∙ none
+
+    kept-rest : (key : SlotKey) → is_changed kept key ≡ false → slot_at swapped key ≡ slot_at children key
+    kept-rest key none = swapped-is key
+        ∙ (elim (slot_at noted key) as (λ o. slot_at noted key ≡ o → option_map (exchanged from to) o ≡ option_map follow o) [
+          | None ↦ λ _. refl
+          | Some s ↦ λ at. ap (λ (r : NotedSlot). Some r) (exchanged-follows s (not-below key s at none))
+        ] refl) ∙ sym (children-is key)
+
+    pub children-made : changed swapped kept ≡ children
     children-made =
-        let tell = child_change from to in
-        let made = told noted tell changes in
-        ap (changed noted) (children-told changes) ∙ ap (changed noted) (told-own noted tell changes (hold-own image changes 0 ordered))
-        ∙ looks-equal (changed noted made) children 0 0 (changes-rise noted made rises) (map-rises follow (follows-keeps from to) noted 0 rises)
-        (told-all noted tell (slot_at children) (same-place children) child-leaves [] changes child-rest
-        (λ key s at unchanged isnt. child-rest key s at (ap (λ (p : Option SlotKey). is_changed (if is_parent from p then follow s ∷ [] else []) key) (no-parent key s at unchanged)))
-        (λ key none. sym (children-is key ∙ ap (option_map follow) none)))
+        looks-equal (changed swapped kept) children 0 0 (changes-rise swapped kept (map-rises (exchanged from to) (λ s. refl) noted 0 rises)) (map-rises follow (follows-keeps from to) noted 0 rises)
+        (λ key. changed-to (slot_at children) (same-place children) kept swapped
+        (kept-leave below_to (own-some noted (λ c. has_parent to (left_by c)) changes (hold-own image changes 0 ordered))) key (kept-rest key))
 
 -- ---- slots that no removal names
 
@@ -401,11 +444,6 @@ never-loses slots rises (Below root) key stays isnt =
     let above : noted_parent slots c.child.key ≡ Some p.parent = ap (option_and_then (λ (x : NotedSlot). x.parent)) (found-at slots c.at c.child c.held) ∙ p.there in
     let same : number_of p.parent ≡ number_of key = eqb-true (number_of p.parent) (number_of key) p.same in
     let clash : true ≡ false = sym c.removed ∙ above-stays 255 slots root c.child.key p.parent key above same stays isnt in cc)
-
-own-some : (slots : List NotedSlot) (test : NotedSlot → Bool) (cs : List NotedSlot) → HoldOwn slots cs → HoldOwn slots (filter test cs)
-own-some slots test [] own = tt
-own-some slots test (c ∷ rest) own =
-    let more = own-some slots test rest own.1 in elim (test c) as (λ b. HoldOwn slots (if b then c ∷ filter test rest else filter test rest)) [ true ↦ (own.0, more) | false ↦ more ]
 
 -- a slot that no removal touches
 module _ (n : NotedSlots) (rises : RiseFrom 0 (slots_of n)) (key : SlotKey) (s : NotedSlot) (at : slot_at (slots_of n) key ≡ Some s) where
@@ -491,13 +529,17 @@ module _ (n : NotedSlots) (rises : RiseFrom 0 (slots_of n)) (key : SlotKey) (s :
           ] free above)
 
 pub changes-make : (n : NotedSlots) (change : SlotChange) → RiseFrom 0 (slots_of n) → ((key : SlotKey) (s : NotedSlot) → slot_at (slots_of n) key ≡ Some s → is_empty s.capability ≡ false)
-    → changed (slots_of n) (changes_of n change) ≡ slots_left (slots_of n) change
+    → replayed (slots_of n) (changes_of n change) ≡ slots_left (slots_of n) change
 changes-make n Nothing rises full = refl
 changes-make n (Puts s) rises full = refl
 changes-make n (Moves from s) rises full =
-    changed-more (slots_of n) (flat_map (told_of (child_change from s.key)) (children_of n.changes.now from)) (s ∷ emptied from ∷ [])
-    ∙ ap (λ l. changed l (s ∷ emptied from ∷ [])) (children-made n.image.now n.changes.now n.unlinked (from-first n.changes.now n.ordered) rises full from s.key)
+    let kept = children_kept n from s.key in
+    let swapped = map (exchanged from s.key) (slots_of n) in
+    let last : List LogEntry = Sets s ∷ Sets (emptied from) ∷ [] in
+    replayed-more (map (λ (c : NotedSlot). Sets c) kept) last swapped
+    ∙ ap (λ (l : List NotedSlot). replayed l last) (sets-made kept swapped ∙ children-made n.image.now n.changes.now n.unlinked (from-first n.changes.now n.ordered) rises full from s.key)
 changes-make n (Removes which) rises full =
-    removal-made n.image.now n.changes.now n.unlinked (from-first n.changes.now n.ordered) rises full (is_removed (slots_of n) which) (named_by (slots_of n) which) (touched_by n which)
+    sets-made (removal_changes n which) (slots_of n)
+    ∙ removal-made n.image.now n.changes.now n.unlinked (from-first n.changes.now n.ordered) rises full (is_removed (slots_of n) which) (named_by (slots_of n) which) (touched_by n which)
     (own-some (slots_of n) (λ c. hangs_below (named which) (all_below n which) (left_by c)) n.changes.now (hold-own n.image.now n.changes.now 0 (from-first n.changes.now n.ordered)))
     (λ key s at none isnt. unnamed-stay n rises key s at which none isnt)

@@ -1,15 +1,13 @@
 -- A CNode that is looked at first tells what a look at all of them would.
-use Rattle.std.proofs.Common.{ℕ, zero, suc, ◌≡◌, ◌∙◌, ◌==◌, ◌+◌, ◌/◌, ◌^◌, ◌<◌, ◌≤◌, ◌||◌, Bool, true, false, if◌then◌else◌, Option, Some, None, List, [], ◌∷◌, pow_pos, refl, sym, ap, subst, arith}
+use Rattle.std.proofs.Common.{ℕ, zero, suc, ◌≡◌, ◌∙◌, ◌==◌, ◌+◌, ◌/◌, ◌^◌, ◌<◌, ◌≤◌, ◌||◌, Bool, true, false, if◌then◌else◌, Some, None, List, [], ◌∷◌, pow_pos, refl, sym, ap, subst, arith}
 use Rattle.std.specs.Prelude.{is_some, slice_get}
 use Rattle.std.specs.Coded.{le_prop}
 use Rattle.std.specs.List.{find, list_any}
 use Rattle.std.proofs.lemmas.Bool.{and_parts, eq-eqb, eqb-true}
 use Rattle.std.proofs.lemmas.Bool.Decides.{nat_tests}
 use Rattle.model.specs.Acceptance.ThreadRules.{is_member, reached}
-use Rattle.model.specs.Acceptance.WellFormed.{radix_of}
 use Rattle.model.specs.Capabilities.Slots.{is_within}
 use Rattle.model.specs.Images.Image.{Image, Thread}
-use Rattle.model.specs.Images.Places.{type_at}
 use Rattle.typestate.specs.GivenSpaces.{AreApart, AreWindows, IsThere, IsWindow, StandsApart, stands_within}
 use Rattle.typestate.specs.Strays.{is_at}
 use Rattle.typestate.specs.declared.window.Window.{Window}

@@ -10,6 +10,8 @@ mod Unpacked
 mod Rising
 mod Searched
 mod NumberedChanges
+mod Replayed
+mod SwappedNames
 mod Compared
 mod SomeHeld
 mod TidyChanges

@@ -8,7 +8,7 @@ use Rattle.std.specs.declared.cmp.Ordering.TheVariants.{Less}
 use Rattle.std.proofs.lemmas.Bool.{eq-eqb, eqb-true, ne_eqb}
 use Rattle.std.proofs.lemmas.Bool.Decides.{eqb_tells, nat_tests}
 use Rattle.model.specs.Acceptance.NotedStates.{NotedSlot, SlotKey, number_of}
-use Rattle.typestate.specs.Families.{AreLinked, child_at, children_of, found, has_parent, link_cmp}
+use Rattle.typestate.specs.Families.{child_at, children_of, found, has_link, has_parent, link_cmp}
 use Rattle.typestate.specs.Left.{left_by}
 use Rattle.typestate.specs.Orders.{Rise}
 use Rattle.typestate.proofs.Rising.{RiseFrom, from-first, looks-equal}
@@ -100,10 +100,7 @@ from-here m (q ∷ rest) n some = elim (eqb_tells q.0 m) [
     apart : (a b c d : ℕ) → (c ≡ a → ⊥) → is_eq (ordering_then (nat_cmp a c) (nat_cmp b d)) ≡ false
     apart a b c d other = grind (arith, nat_tests)
 
-module _ (changes : List NotedSlot) (parent : SlotKey) where
-  abbrev m : ℕ
-  m = number_of parent
-
+module _ (changes : List NotedSlot) (parent : SlotKey) (m : ℕ) where
   abbrev test : NotedSlot → Bool
   test c = has_parent parent (left_by c)
 
@@ -188,8 +185,8 @@ module _ (changes : List NotedSlot) (parent : SlotKey) where
   all-from-zero [] = tt
   all-from-zero (q ∷ rest) = (λ _. omega arith, all-from-zero rest)
 
-  -- the children by their links are the changes that leave children
-  pub linked-children : (links : List (ℕ × ℕ)) → Rise changes → AreLinked changes links → IsStrictlySortedBy link_cmp links → filter_map child (filter (named m) links) ≡ children_of changes parent
+  -- the children by their links, of which each has one from a number, are the changes that leave children
+  pub linked-children : (links : List (ℕ × ℕ)) → Rise changes → ((slot : ℕ) → option_map_or test (found changes slot) false ≡ true → has_link links m slot ≡ true) → IsStrictlySortedBy link_cmp links → filter_map child (filter (named m) links) ≡ children_of changes parent
   linked-children links rises linked sorted =
       let first = from-first changes rises in
       looks-equal (filter_map child (filter (named m) links)) (children_of changes parent) 0 0 (children-rise links 0 sorted (all-from-zero links)) (filter-rises test changes 0 first)
@@ -206,12 +203,7 @@ module _ (changes : List NotedSlot) (parent : SlotKey) where
 
       same-at : (n : ℕ) → found (filter_map child (filter (named m) links)) n ≡ kept test (found changes n)
       same-at n = some-found (filter (named m) links) n ∙ all-or (list_any (has_number n) (filter (named m) links)) (kept test (found changes n))
-          (λ some. from-here m links n (linked m n (passes-child (found changes n) some)))
-
--- without links there are no children
-pub unlinked-children : (changes : List NotedSlot) (parent : SlotKey) → Rise changes → AreLinked changes [] → children_of changes parent ≡ []
-unfolding IsStrictlySortedBy
-unlinked-children changes parent rises linked = sym (linked-children changes parent [] rises linked tt)
+          (λ some. from-here m links n (linked n (passes-child (found changes n) some)))
 
 pub append-none : (cs : List NotedSlot) → cs ++ [] ≡ cs
 append-none [] = refl

@@ -1,12 +1,12 @@
 -- Links are kept where a change is put among others.
-use Rattle.std.proofs.Common.{ℕ, ◌≡◌, ◌∙◌, ◌==◌, Bool, true, false, if◌then◌else◌, Some, None, option_and_then, List, refl, sym, ap, subst, arith}
+use Rattle.std.proofs.Common.{ℕ, ◌≡◌, ◌∙◌, ◌==◌, Bool, true, false, if◌then◌else◌, Option, Some, None, List, refl, sym, ap, subst, arith}
 use Rattle.std.specs.Option.{option_map_or}
 use Rattle.std.specs.Ordering.{is_eq, nat_cmp, ordering_then}
 use Rattle.std.proofs.lemmas.Bool.{eq-eqb, eqb-true}
 use Rattle.std.proofs.lemmas.Bool.Decides.{nat_tests}
-use Rattle.model.specs.Acceptance.NotedStates.{NotedSlot, SlotKey, is_same_key, is_same_parent, number_of, slot_at}
-use Rattle.typestate.specs.Families.{AreNamed, KeepsLinks, found, has_link, is_child_of, parent_left}
-use Rattle.typestate.specs.Left.{left_by}
+use Rattle.model.specs.Acceptance.NotedStates.{NotedSlot, SlotKey, is_same_key, number_of, slot_at}
+use Rattle.typestate.specs.Families.{AreNamed, KeepsLinks, found, has_link}
+use Rattle.typestate.specs.PackedChanges.{has_name}
 
 module _ (test : ℕ → NotedSlot → Bool) (old new : List NotedSlot) (change : NotedSlot) (put : (key : SlotKey) → slot_at new key ≡ (if is_same_key change.key key then Some change else slot_at old key)) where
   put-at : (n : ℕ) → found new n ≡ (if number_of change.key == n then Some change else found old n)
@@ -49,11 +49,9 @@ other-child x y a b n same off = grind (arith, nat_tests)
 pub other-parent : (x y a b n : ℕ) → x ≡ n → (n == a) ≡ false → is_eq (ordering_then (nat_cmp x a) (nat_cmp y b)) ≡ false
 other-parent x y a b n same off = grind (arith, nat_tests)
 
-pub parents-apart : (was : SlotKey) (change : NotedSlot) (parent : ℕ) → is_same_parent (Some was) (parent_left change) ≡ false → is_child_of parent (left_by change) ≡ true → (number_of was == parent) ≡ false
-parents-apart was change parent other is = elim (left_by change) as (λ o. is_same_parent (Some was) (option_and_then (λ (s : NotedSlot). s.parent) o) ≡ false → is_child_of parent o ≡ true → (number_of was == parent) ≡ false) [
-  | None ↦ λ _ clash. absurd (let no : false ≡ true = clash in cc)
-  | Some s ↦ elim s.parent as (λ p. is_same_parent (Some was) p ≡ false → option_map_or (λ k. number_of k == parent) p false ≡ true → (number_of was == parent) ≡ false) [
-    | None ↦ λ _ clash. absurd (let no : false ≡ true = clash in cc)
-    | Some k ↦ λ apart here. ap (λ (n : ℕ). number_of was == n) (sym (eqb-true (number_of k) parent here)) ∙ apart
-  ]
-] other is
+pub names-apart : (was : ℕ) (parent : Option ℕ) (name : ℕ) → has_name was parent ≡ false → has_name name parent ≡ true → (was == name) ≡ false
+names-apart was None name other is = absurd (let no : false ≡ true = is in cc)
+names-apart was (Some p) name other is = apart-from p was name other is
+  where
+    apart-from : (p a b : ℕ) → (p == a) ≡ false → (p == b) ≡ true → (a == b) ≡ false
+    apart-from p a b off is = grind (arith, nat_tests)

@@ -1,67 +1,161 @@
--- A map from numbers to changes, as the list of its changes.
-use Rattle.std.proofs.Common.{ℕ, ◌≡◌, ◌∙◌, ◌==◌, Bool, true, false, cond, if◌then◌else◌, Option, Some, List, [], ◌∷◌, map, refl, sym, ap, arith}
-use Rattle.std.specs.BTreeMap.{insert_entry}
-use Rattle.std.specs.Map.{keys_of, lookup, values_of}
-use Rattle.std.specs.Ordering.{is_eq, match_ordering, nat_cmp}
-use Rattle.std.specs.declared.cmp.Ordering.TheVariants.{Equal, Greater, Less}
-use Rattle.std.proofs.lemmas.Bool.Decides.{nat_tests}
-use Rattle.std.proofs.lemmas.Cmp.{ranked}
-use Rattle.model.specs.Acceptance.NotedStates.{NotedSlot, number_of}
-use Rattle.typestate.specs.Families.{found}
+-- A map from numbers to packed changes, as the list of its changes.
+use Rattle.std.proofs.Common.{ℕ, ◌≡◌, ◌∙◌, ◌==◌, ◌*◌, ◌+◌, ◌/◌, ◌%◌, ◌<◌, ◌^◌, inl, inr, ◌&&◌, Bool, true, false, cond, if◌then◌else◌, nat_lt, Option, Some, None, option_map, List, [], ◌∷◌, map, refl, sym, ap, subst, arith}
+use Rattle.std.specs.List.{list_all}
+use Rattle.std.specs.Map.{keys_of}
+use Rattle.std.specs.Option.{option_map_or}
+use Rattle.std.specs.Ordering.{is_eq, nat_cmp}
+use Rattle.std.proofs.lemmas.Bool.{eq-eqb, eqb-true}
+use Rattle.std.proofs.lemmas.Bool.Decides.{eqb_tells, nat_tests}
+use Rattle.model.specs.Acceptance.NotedStates.{NotedSlot, SlotKey, number_of}
+use Rattle.model.specs.Capabilities.Slots.{is_empty}
+use Rattle.model.specs.declared.capabilities.Cap.{Cap}
+use Rattle.typestate.specs.Families.{found, has_link, has_parent}
+use Rattle.typestate.specs.Left.{left_by}
+use Rattle.typestate.specs.Names.{AreInverse, renamed, turned_number}
+use Rattle.typestate.specs.Orders.{is_narrow}
+use Rattle.typestate.specs.PackedChanges.{AreLinked, cap_of, has_name, is_named, numbered_key, packed_at, unpacked_change, unpacked_entry}
+use Rattle.typestate.specs.Replays.{exchanged, turned}
+use Rattle.typestate.specs.declared.packed_changes.PackedChange.{PackedChange}
 
--- each change stands at its number
-abbrev pub AreNumbered : List (ℕ × NotedSlot) → Type 0
-AreNumbered es = keys_of es ≡ map (λ (s : NotedSlot). number_of s.key) (values_of es)
+-- ---- keys and numbers
 
-first-same : (a b : ℕ) (as_ bs : List ℕ) → a ∷ as_ ≡ b ∷ bs → a ≡ b
-first-same a b as_ bs same = cc
+pub number-back : (n : ℕ) → number_of (numbered_key n) ≡ n
+number-back n = omega arith
 
-rest-same : (a b : ℕ) (as_ bs : List ℕ) → a ∷ as_ ≡ b ∷ bs → as_ ≡ bs
-rest-same a b as_ bs same = cc
+below : (a b : ℕ) → nat_lt a b ≡ true → a < b
+below a b less = grind (arith, nat_tests)
 
-both-same : (a b : ℕ) (as_ bs : List ℕ) → a ≡ b → as_ ≡ bs → a ∷ as_ ≡ b ∷ bs
-both-same a b as_ bs one more = cc
+below-test : (a b : ℕ) → a < b → nat_lt a b ≡ true
+below-test a b less = grind (arith, nat_tests)
 
-test-same : (n k m : ℕ) → k ≡ m → is_eq (nat_cmp n k) ≡ (m == n)
-test-same n k m same = grind (arith, nat_tests)
+pub key-back : (key : SlotKey) → nat_lt key.index (2 ^ 32) ≡ true → numbered_key (number_of key) ≡ key
+key-back key low =
+    let small : key.index < 4294967296 = below key.index 4294967296 low in
+    let first : (key.cnode * 4294967296 + key.index) / 4294967296 ≡ key.cnode = omega (arith, small) in
+    let second : (key.cnode * 4294967296 + key.index) % 4294967296 ≡ key.index = omega (arith, small) in
+    ap (λ (n : ℕ). let k : SlotKey = record { cnode = n; index = (key.cnode * 4294967296 + key.index) % 4294967296 } in k) first
+    ∙ ap (λ (n : ℕ). let k : SlotKey = record { cnode = key.cnode; index = n } in k) second
 
-chosen : (b : Bool) (x y : Option NotedSlot) → cond b x y ≡ (if b then x else y)
-chosen true x y = refl
-chosen false x y = refl
+eq-test : (a b : ℕ) → is_eq (nat_cmp a b) ≡ (b == a)
+eq-test a b = grind (arith, nat_tests)
 
-pub looked : (es : List (ℕ × NotedSlot)) (n : ℕ) → AreNumbered es → lookup (λ k. is_eq (nat_cmp n k)) es ≡ found (values_of es) n
-looked [] n same = refl
-looked (e ∷ es) n same =
-    let numbers = map (λ (s : NotedSlot). number_of s.key) (values_of es) in
-    let here = first-same e.0 (number_of e.1.key) (keys_of es) numbers same in
-    let more = rest-same e.0 (number_of e.1.key) (keys_of es) numbers same in
-    ap (λ b. cond b (Some e.1) (lookup (λ k. is_eq (nat_cmp n k)) es)) (test-same n e.0 (number_of e.1.key) here)
-    ∙ chosen (number_of e.1.key == n) (Some e.1) (lookup (λ k. is_eq (nat_cmp n k)) es)
-    ∙ ap (λ o. if number_of e.1.key == n then Some e.1 else o) (looked es n more)
+module _ (slots : List (ℕ × ℕ)) where
+  -- ---- look-ups
 
-pub put-numbered : (es : List (ℕ × NotedSlot)) (n : ℕ) (c : NotedSlot) → n ≡ number_of c.key → AreNumbered es → AreNumbered (insert_entry nat_cmp es n c)
-put-numbered [] n c is same = both-same n (number_of c.key) [] [] is refl
-put-numbered (e ∷ es) n c is same =
-    let numbers = map (λ (s : NotedSlot). number_of s.key) (values_of es) in
-    let here = first-same e.0 (number_of e.1.key) (keys_of es) numbers same in
-    let more = rest-same e.0 (number_of e.1.key) (keys_of es) numbers same in
-    elim (nat_cmp n e.0) as (λ o. nat_cmp n e.0 ≡ o → AreNumbered (match_ordering o ((n, c) ∷ e ∷ es) ((e.0, c) ∷ es) (e ∷ insert_entry nat_cmp es n c))) [
-      | Less ↦ λ _. both-same n (number_of c.key) (keys_of (e ∷ es)) (number_of e.1.key ∷ numbers) is same
-      | Equal ↦ λ equal. both-same e.0 (number_of c.key) (keys_of es) numbers (sym (ranked n e.0 _ (sym equal)) ∙ is) more
-      | Greater ↦ λ _.
-          let new = insert_entry nat_cmp es n c in
-          both-same e.0 (number_of e.1.key) (keys_of new) (map (λ (s : NotedSlot). number_of s.key) (values_of new)) here (put-numbered es n c is more)
-    ] refl
+  pub unpacked-found : (es : List (ℕ × PackedChange)) (n : ℕ) → found (map (unpacked_entry slots) es) n ≡ option_map (unpacked_change slots n) (packed_at es n)
+  unpacked-found [] n = refl
+  unpacked-found (e ∷ es) n = elim (eqb_tells e.0 n) [
+    | inl same ↦
+        ap (λ k. if k == n then Some (unpacked_entry slots e) else found (map (unpacked_entry slots) es) n) (number-back e.0)
+        ∙ ap (λ b. if b then Some (unpacked_entry slots e) else found (map (unpacked_entry slots) es) n) same.0
+        ∙ ap (λ k. Some (unpacked_change slots k e.1)) same.1
+        ∙ sym (ap (λ b. option_map (unpacked_change slots n) (cond b (Some e.1) (packed_at es n))) (eq-test n e.0 ∙ same.0))
+    | inr other ↦
+        ap (λ k. if k == n then Some (unpacked_entry slots e) else found (map (unpacked_entry slots) es) n) (number-back e.0)
+        ∙ ap (λ b. if b then Some (unpacked_entry slots e) else found (map (unpacked_entry slots) es) n) other.0
+        ∙ unpacked-found es n
+        ∙ sym (ap (λ b. option_map (unpacked_change slots n) (cond b (Some e.1) (packed_at es n))) (eq-test n e.0 ∙ other.0))
+  ]
 
--- the change to the slot of each number, after one was put
-pub put-found : (es new : List (ℕ × NotedSlot)) (n m : ℕ) (c : NotedSlot) → n ≡ number_of c.key → AreNumbered es → AreNumbered new
-    → lookup (λ k. is_eq (nat_cmp m k)) new ≡ cond (is_eq (nat_cmp n m)) (Some c) (lookup (λ k. is_eq (nat_cmp m k)) es)
-    → found (values_of new) m ≡ (if number_of c.key == m then Some c else found (values_of es) m)
-put-found es new n m c is old after same =
-    sym (looked new m after) ∙ same
-    ∙ ap (λ b. cond b (Some c) (lookup (λ k. is_eq (nat_cmp m k)) es)) (turned n m (number_of c.key) is)
-    ∙ chosen (number_of c.key == m) (Some c) (lookup (λ k. is_eq (nat_cmp m k)) es)
-    ∙ ap (λ o. if number_of c.key == m then Some c else o) (looked es m old)
+  -- the change to the slot of each number, after one was put
+  pub put-found : (es new : List (ℕ × PackedChange)) (n m : ℕ) (packed : PackedChange) (c : NotedSlot) → n ≡ number_of c.key → unpacked_change slots (number_of c.key) packed ≡ c
+      → packed_at new m ≡ cond (is_eq (nat_cmp n m)) (Some packed) (packed_at es m)
+      → found (map (unpacked_entry slots) new) m ≡ (if number_of c.key == m then Some c else found (map (unpacked_entry slots) es) m)
+  put-found es new n m packed c is back same =
+      unpacked-found new m ∙ ap (option_map (unpacked_change slots m)) same
+      ∙ ap (λ k. option_map (unpacked_change slots m) (cond (is_eq (nat_cmp k m)) (Some packed) (packed_at es m))) is
+      ∙ (elim (eqb_tells m (number_of c.key)) [
+        | inl here ↦
+            ap (λ b. option_map (unpacked_change slots m) (cond b (Some packed) (packed_at es m))) (eq-test (number_of c.key) m ∙ here.0)
+            ∙ ap (λ k. Some (unpacked_change slots k packed)) here.1 ∙ ap (λ (s : NotedSlot). Some s) back
+            ∙ sym (ap (λ b. if b then Some c else found (map (unpacked_entry slots) es) m) (eq-eqb (number_of c.key) m (sym here.1)))
+        | inr other ↦
+            ap (λ b. option_map (unpacked_change slots m) (cond b (Some packed) (packed_at es m))) (eq-test (number_of c.key) m ∙ other.0)
+            ∙ sym (unpacked-found es m)
+            ∙ sym (ap (λ b. if b then Some c else found (map (unpacked_entry slots) es) m) (turned (number_of c.key) m other.0))
+      ])
+    where
+      turned : (a b : ℕ) → (b == a) ≡ false → (a == b) ≡ false
+      turned a b off = grind (arith, nat_tests)
+
+  -- what is kept of a change is the change again
+  pub unpacked-is : (packed : PackedChange) (change : NotedSlot) → numbered_key (number_of change.key) ≡ change.key → cap_of packed.head packed.word ≡ change.capability
+      → option_map (λ name. numbered_key (renamed slots name)) packed.parent ≡ change.parent → unpacked_change slots (number_of change.key) packed ≡ change
+  unpacked-is packed change key capability parent =
+      ap (λ (k : SlotKey). let s : NotedSlot = record { key = k; capability = cap_of packed.head packed.word; parent = option_map (λ name. numbered_key (renamed slots name)) packed.parent } in s) key
+      ∙ ap (λ (k : Cap). let s : NotedSlot = record { key = change.key; capability = k; parent = option_map (λ name. numbered_key (renamed slots name)) packed.parent } in s) capability
+      ∙ ap (λ (p : Option SlotKey). let s : NotedSlot = record { key = change.key; capability = change.capability; parent = p } in s) parent
+
+  pub numbers-are : (es : List (ℕ × PackedChange)) → map (λ (s : NotedSlot). number_of s.key) (map (unpacked_entry slots) es) ≡ keys_of es
+  numbers-are [] = refl
+  numbers-are (e ∷ es) =
+      ap (λ (n : ℕ). n ∷ map (λ (s : NotedSlot). number_of s.key) (map (unpacked_entry slots) es)) (number-back e.0) ∙ ap (λ (l : List ℕ). e.0 ∷ l) (numbers-are es)
+
+  pub all-narrow : (es : List (ℕ × PackedChange)) → list_all is_narrow (map (unpacked_entry slots) es) ≡ true
+  all-narrow [] = refl
+  all-narrow (e ∷ es) = ap (λ b. b && list_all is_narrow (map (unpacked_entry slots) es)) (one e.1.parent) ∙ all-narrow es
+    where
+      one : (p : Option ℕ) → option_map_or (λ (key : SlotKey). nat_lt key.index (2 ^ 32)) (option_map (λ name. numbered_key (renamed slots name)) p) true ≡ true
+      one None = refl
+      one (Some name) = below-test (renamed slots name % 4294967296) 4294967296 (omega arith)
+
+-- ---- two slots change places
+
+module _ (old new : List (ℕ × ℕ)) (one other : SlotKey) (first : nat_lt one.index (2 ^ 32) ≡ true) (second : nat_lt other.index (2 ^ 32) ≡ true)
+    (turn : (n : ℕ) → renamed new n ≡ turned_number (number_of one) (number_of other) (renamed old n)) where
+  turned-key : (m : ℕ) → numbered_key (turned_number (number_of one) (number_of other) m) ≡ turned one other (numbered_key m)
+  turned-key m =
+      by-tests (m == number_of one) (m == number_of other)
+      ∙ sym (ap (λ k. if k == number_of one then other else if k == number_of other then one else numbered_key m) (number-back m))
+    where
+      by-tests : (a b : Bool) → numbered_key (if a then number_of other else if b then number_of one else m) ≡ (if a then other else if b then one else numbered_key m)
+      by-tests true b = key-back other second
+      by-tests false true = key-back one first
+      by-tests false false = refl
+
+  turned-parent : (p : Option ℕ) → option_map (λ name. numbered_key (renamed new name)) p ≡ option_map (turned one other) (option_map (λ name. numbered_key (renamed old name)) p)
+  turned-parent None = refl
+  turned-parent (Some name) = ap (λ (k : SlotKey). Some k) (ap numbered_key (turn name) ∙ turned-key (renamed old name))
+
+  pub exchanged-entries : (es : List (ℕ × PackedChange)) → map (unpacked_entry new) es ≡ map (exchanged one other) (map (unpacked_entry old) es)
+  exchanged-entries [] = refl
+  exchanged-entries (e ∷ es) =
+      ap (λ (p : Option SlotKey). let s : NotedSlot = record { key = numbered_key e.0; capability = cap_of e.1.head e.1.word; parent = p } in s ∷ map (unpacked_entry new) es) (turned-parent e.1.parent)
+      ∙ ap (λ (l : List NotedSlot). exchanged one other (unpacked_entry old e) ∷ l) (exchanged-entries es)
+
+-- ---- links
+
+-- each child of a slot has its link from the slot's name
+pub child-linked : (slots names : List (ℕ × ℕ)) (es : List (ℕ × PackedChange)) (links : List (ℕ × ℕ)) (parent : SlotKey) → AreInverse slots names → AreLinked es links
+    → (slot : ℕ) → option_map_or (λ c. has_parent parent (left_by c)) (found (map (unpacked_entry slots) es) slot) false ≡ true → has_link links (renamed names (number_of parent)) slot ≡ true
+child-linked slots names es links parent inverse linked slot is =
+    linked (renamed names (number_of parent)) slot (of-packed (packed_at es slot) (sym (ap (λ o. option_map_or (λ c. has_parent parent (left_by c)) o false) (unpacked-found slots es slot)) ∙ is))
   where
-    turned : (a b d : ℕ) → a ≡ d → is_eq (nat_cmp a b) ≡ (d == b)
-    turned a b d same = grind (arith, nat_tests)
+    of-parent : (p : Option ℕ) → option_map_or (λ (k : SlotKey). number_of k == number_of parent) (option_map (λ m. numbered_key (renamed slots m)) p) false ≡ true → has_name (renamed names (number_of parent)) p ≡ true
+    of-parent None is = is
+    of-parent (Some m) is =
+        let here : renamed slots m ≡ number_of parent = sym (number-back (renamed slots m)) ∙ eqb-true (number_of (numbered_key (renamed slots m))) (number_of parent) is in
+        eq-eqb m (renamed names (number_of parent)) (sym (inverse m).1 ∙ ap (renamed names) here)
+
+    of-packed : (o : Option PackedChange) → option_map_or (λ c. has_parent parent (left_by c)) (option_map (unpacked_change slots slot) o) false ≡ true → is_named (renamed names (number_of parent)) o ≡ true
+    of-packed None is = is
+    of-packed (Some p) is =
+        let c : NotedSlot = unpacked_change slots slot p in
+        of-parent p.parent (elim (is_empty c.capability) as (λ b. has_parent parent (if b then None else Some c) ≡ true → option_map_or (λ (k : SlotKey). number_of k == number_of parent) c.parent false ≡ true) [
+          | true ↦ λ clash. absurd (let no : false ≡ true = clash in cc)
+          | false ↦ λ here. here
+        ] is)
+
+-- links are kept where a change is put, and its own is there
+pub put-linked : (es new : List (ℕ × PackedChange)) (n : ℕ) (packed : PackedChange) (before after : List (ℕ × ℕ))
+    → ((m : ℕ) → packed_at new m ≡ cond (is_eq (nat_cmp n m)) (Some packed) (packed_at es m)) → AreLinked es before
+    → ((name child : ℕ) → (child == n) ≡ false → has_link before name child ≡ true → has_link after name child ≡ true)
+    → ((name : ℕ) → has_name name packed.parent ≡ true → has_link after name n ≡ true) → AreLinked new after
+put-linked es new n packed before after put linked others own name slot is = elim (eqb_tells slot n) [
+  | inl same ↦
+      let here : is_named name (Some packed) ≡ true = sym (ap (λ b. is_named name (cond b (Some packed) (packed_at es slot))) (eq-test n slot ∙ same.0)) ∙ sym (ap (is_named name) (put slot)) ∙ is in
+      subst (λ k. has_link after name k ≡ true) (sym same.1) (own name here)
+  | inr other ↦
+      let there : is_named name (packed_at es slot) ≡ true = sym (ap (λ b. is_named name (cond b (Some packed) (packed_at es slot))) (eq-test n slot ∙ other.0)) ∙ sym (ap (is_named name) (put slot)) ∙ is in
+      others name slot other.0 (linked name slot there)
+]

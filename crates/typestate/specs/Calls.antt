@@ -19,7 +19,8 @@ use Rattle.model.specs.Acceptance.CallRules.{AfterCall, by_capability, changes_n
 use Rattle.model.specs.Acceptance.Measures.{Measure}
 use Rattle.model.specs.Acceptance.NotedStates.{NotedSlot, PointState}
 use Rattle.model.specs.Kernel.Messages.{a0, a1}
-use Rattle.typestate.specs.Differences.{changed}
+use Rattle.typestate.specs.Replays.{replayed}
+use Rattle.typestate.specs.declared.log_entries.LogEntry.{LogEntry}
 use Rattle.typestate.specs.declared.behind.Behind.{Behind}
 use Rattle.typestate.specs.declared.behind.Written.{Written}
 use Rattle.typestate.specs.declared.behind.Written.TheVariants.{Nothing, Badge, Answer, Message}
@@ -79,6 +80,6 @@ goes_on image t at state (Ok (Invokes slot capability answers)) = invocation ima
 goes_on image t at state (Err refusal) = Err refusal
 
 -- what is known behind a call that made these changes of the slots
-abbrev pub left_with : List NotedSlot → List NotedSlot → Result Behind Refusal → Result AfterCall Refusal
-left_with slots made (Ok b) = Ok (behind_with (changed slots made) b)
+abbrev pub left_with : List NotedSlot → List LogEntry → Result Behind Refusal → Result AfterCall Refusal
+left_with slots made (Ok b) = Ok (behind_with (replayed slots made) b)
 left_with slots made (Err refusal) = Err refusal

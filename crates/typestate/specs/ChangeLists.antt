@@ -1,8 +1,10 @@
 -- What a call makes of the slots, as changes one after another.
-use Rattle.std.specs.Prelude.{◌||◌, ◌&&◌, Bool, false, not, List, [], ◌∷◌, ◌++◌, flat_map, option_to_list, if◌then◌else◌}
+use Rattle.std.specs.Prelude.{◌||◌, ◌&&◌, Bool, false, not, List, [], ◌∷◌, ◌++◌, flat_map, map, option_to_list, if◌then◌else◌}
 use Rattle.std.specs.Option.{option_map_or}
 use Rattle.model.specs.Acceptance.NotedStates.{NotedSlot, SlotKey, slot_at}
 use Rattle.model.specs.Capabilities.CapabilityKinds.{is_untyped}
+use Rattle.typestate.specs.declared.log_entries.LogEntry.{LogEntry}
+use Rattle.typestate.specs.declared.log_entries.LogEntry.TheVariants.{Sets, Swaps}
 use Rattle.typestate.specs.declared.points.NotedSlots.{NotedSlots}
 use Rattle.typestate.specs.declared.slot_changes.Removed.{Removed}
 use Rattle.typestate.specs.declared.slot_changes.Removed.TheVariants.{One, Below}
@@ -31,20 +33,24 @@ removal_change gone slots s =
     if gone s.key then emptied s.key ∷ []
     else if option_map_or gone s.parent false || is_untyped s.capability then slot_left gone slots s ∷ [] else []
 
--- a child of what moves follows it
-abbrev pub child_change : SlotKey → SlotKey → NotedSlot → List NotedSlot
-child_change from to s = if is_parent from s.parent then followed from to s ∷ [] else []
-
 -- The slots that a removal names: the one that goes and what it was derived from, or the one from which all that goes descends. Of
 -- those that the image lists no others change, since they were derived from none of the thread's.
 abbrev pub named_by : List NotedSlot → Removed → List SlotKey
 named_by slots (One gone) = gone ∷ option_to_list (noted_parent slots gone)
 named_by slots (Below root) = root ∷ []
 
-abbrev pub changes_of : NotedSlots → SlotChange → List NotedSlot
-changes_of n Nothing = []
-changes_of n (Puts s) = s ∷ []
-changes_of n (Moves from s) = flat_map (told_of (child_change from s.key)) (children_of n.changes.now from) ++ s ∷ emptied from ∷ []
-changes_of n (Removes which) =
+abbrev pub removal_changes : NotedSlots → Removed → List NotedSlot
+removal_changes n which =
     let tell = removal_change (is_removed (slots_of n) which) (slots_of n) in
     flat_map (told_at tell (slots_of n)) (named_by (slots_of n) which) ++ flat_map (told_of tell) (touched_by n which)
+
+-- What was derived from the slot to which one moves stays with it. Nothing was, where that slot was empty and all else hangs below
+-- full slots.
+abbrev pub children_kept : NotedSlots → SlotKey → SlotKey → List NotedSlot
+children_kept n from to = map (followed from to) (children_of n.changes.now to)
+
+abbrev pub changes_of : NotedSlots → SlotChange → List LogEntry
+changes_of n Nothing = []
+changes_of n (Puts s) = Sets s ∷ []
+changes_of n (Moves from s) = Swaps from s.key ∷ (map (λ c. Sets c) (children_kept n from s.key) ++ Sets s ∷ Sets (emptied from) ∷ [])
+changes_of n (Removes which) = map (λ c. Sets c) (removal_changes n which)

@@ -38,17 +38,5 @@ abbrev pub AreNamed : (ℕ → NotedSlot → Bool) → List NotedSlot → List (
 AreNamed test changes links =
     (from slot : ℕ) → option_map_or (test from) (found changes slot) false ≡ true → has_link links from slot ≡ true
 
--- each child has its link
-abbrev pub AreLinked : List NotedSlot → List (ℕ × ℕ) → Type 0
-AreLinked changes links = AreNamed (λ parent c. is_child_of parent (left_by c)) changes links
-
--- what a change leaves has its link
-abbrev pub HasLink : List (ℕ × ℕ) → NotedSlot → Type 0
-HasLink links change = (parent : ℕ) → is_child_of parent (left_by change) ≡ true → has_link links parent (number_of change.key) ≡ true
-
 abbrev pub KeepsLinks : List (ℕ × ℕ) → List (ℕ × ℕ) → Type 0
 KeepsLinks old new = (parent child : ℕ) → has_link old parent child ≡ true → has_link new parent child ≡ true
-
--- what the slot was derived from that a change leaves
-abbrev pub parent_left : NotedSlot → Option SlotKey
-parent_left c = option_and_then (λ s. s.parent) (left_by c)

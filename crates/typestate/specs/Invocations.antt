@@ -22,7 +22,8 @@ use Rattle.model.specs.Kernel.MappingCalls.{is_mapped, root_named}
 use Rattle.typestate.specs.declared.system_calls.SystemCall.{SystemCall}
 use Rattle.typestate.specs.declared.system_calls.SystemCall.TheVariants.{Plain, Invokes}
 use Rattle.typestate.specs.Calls.{call_on}
-use Rattle.typestate.specs.Differences.{changed}
+use Rattle.typestate.specs.Replays.{replayed}
+use Rattle.typestate.specs.declared.log_entries.LogEntry.{LogEntry}
 use Rattle.typestate.specs.SlotChanges.{slots_after}
 use Rattle.vspace.specs.Answers.{page_named}
 
@@ -53,8 +54,8 @@ abbrev pub held_after : Image → Thread → Point → List NotedSlot → NotedS
 held_after image t at slots held call = slots_after image t at slots (call_on image t (slot_of_key image held.key) held.capability) call
 
 -- the slots with these changes, if the call is not refused
-abbrev pub made_or_refused : List NotedSlot → List NotedSlot → Result Bool Refusal → Result (List NotedSlot) Refusal
-made_or_refused slots made (Ok _) = Ok (changed slots made)
+abbrev pub made_or_refused : List NotedSlot → List LogEntry → Result Bool Refusal → Result (List NotedSlot) Refusal
+made_or_refused slots made (Ok _) = Ok (replayed slots made)
 made_or_refused slots made (Err refusal) = Err refusal
 
 -- ---- frames

@@ -1,6 +1,9 @@
 pub mod Left
 pub mod Orders
 pub mod Families
+pub mod Names
+pub mod PackedChanges
+pub mod Replays
 pub mod Pages
 pub mod Unlinked
 pub mod Differences

@@ -1,5 +1,5 @@
 -- The slots of a thread's CNodes by the kernel's numbers, from the places of the CNodes.
-use Rattle.std.specs.Prelude.{ℕ, ◌≡◌, ◌-◌, ◌^◌, ◌&&◌, Bool, true, false, not, Option, None, option_map, List, find}
+use Rattle.std.specs.Prelude.{ℕ, ◌≡◌, ◌-◌, ◌&&◌, Bool, true, false, not, Option, None, option_map, List, find}
 use Rattle.std.specs.Option.{option_map_or}
 use Rattle.std.specs.List.{list_all, list_any}
 use Rattle.model.specs.declared.capabilities.Cap.TheVariants.{Empty}

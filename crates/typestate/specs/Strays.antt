@@ -8,7 +8,8 @@ use Rattle.model.specs.Capabilities.CapabilityFields.{is_capability}
 use Rattle.model.specs.Capabilities.Slots.{is_empty}
 use Rattle.model.specs.Images.Image.{Image, Thread}
 use Rattle.model.specs.declared.refusals.Refusal.{Refusal}
-use Rattle.typestate.specs.Differences.{changed}
+use Rattle.typestate.specs.Replays.{replayed}
+use Rattle.typestate.specs.declared.log_entries.LogEntry.{LogEntry}
 use Rattle.typestate.specs.SlotChanges.{is_parent}
 use Rattle.typestate.specs.declared.behind.Behind.{Behind}
 use Rattle.typestate.specs.declared.slot_changes.SlotChange.{SlotChange}
@@ -71,14 +72,14 @@ is_tidy space slots (Moves from s) = is_tidy_move space slots from s
 is_tidy space slots (Removes which) = true
 
 -- changes that leave no such slot, if there was none
-abbrev pub LeaveNoneStray : Image → Thread → List NotedSlot → List NotedSlot → Type 0
-LeaveNoneStray image t slots made = NoneStray image t slots → NoneStray image t (changed slots made)
+abbrev pub LeaveNoneStray : Image → Thread → List NotedSlot → List LogEntry → Type 0
+LeaveNoneStray image t slots made = NoneStray image t slots → NoneStray image t (replayed slots made)
 
 -- what a call that is not refused says of its changes
-abbrev pub IsTidyCall : Image → Thread → List NotedSlot → List NotedSlot → Result Bool Refusal → Type 0
+abbrev pub IsTidyCall : Image → Thread → List NotedSlot → List LogEntry → Result Bool Refusal → Type 0
 IsTidyCall image t slots made (Ok tidy) = tidy ≡ true → LeaveNoneStray image t slots made
 IsTidyCall image t slots made (Err refusal) = Unit {0}
 
-abbrev pub IsTidyBehind : Image → Thread → List NotedSlot → List NotedSlot → Result Behind Refusal → Type 0
+abbrev pub IsTidyBehind : Image → Thread → List NotedSlot → List LogEntry → Result Behind Refusal → Type 0
 IsTidyBehind image t slots made (Ok b) = b.is_tidy ≡ true → LeaveNoneStray image t slots made
 IsTidyBehind image t slots made (Err refusal) = Unit {0}

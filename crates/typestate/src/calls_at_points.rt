@@ -12,7 +12,7 @@ ghost use Rattle.typestate.specs.Strays.{IsTidyBehind};
 ghost use Rattle.typestate.specs.Spaces.{own_slots};
 
 use crate::held_slots::HeldSlot;
-use crate::{Behind, NotedSlot, SystemCall, ThreadSlots, message_call};
+use crate::{Behind, LogEntry, SystemCall, ThreadSlots, message_call};
 use model::{Cap, Invocation, Point, Refusal};
 use ranges::Bounds;
 use std::alloc::AllocError;
@@ -26,7 +26,7 @@ impl HeldSlot<'_, '_, '_, '_> {
         bounds: &Bounds,
         call: Invocation,
         answers: bool,
-        made: &mut Vec<NotedSlot>,
+        made: &mut Vec<LogEntry>,
     ) -> Result<Result<Behind, Refusal>, AllocError>
         requires fits { IsCallOn self.now.held.now.capability call }
         requires none { made.old.items ≡ [] }
@@ -51,7 +51,7 @@ impl ThreadSlots<'_, '_, '_> {
         slot: u32,
         capability: Cap,
         answers: bool,
-        made: &mut Vec<NotedSlot>,
+        made: &mut Vec<LogEntry>,
     ) -> Result<Result<Behind, Refusal>, AllocError>
         requires held { HoldsFull (own_slots self.now.space.windows.now (slots_of self.now.slots)) slot capability }
         requires none { made.old.items ≡ [] }
@@ -77,7 +77,7 @@ impl ThreadSlots<'_, '_, '_> {
         &self,
         at: Point,
         bounds: &Bounds,
-        made: &mut Vec<NotedSlot>,
+        made: &mut Vec<LogEntry>,
     ) -> Result<Result<Behind, Refusal>, AllocError>
         requires none { made.old.items ≡ [] }
         ensures tidy { IfOk result (IsTidyBehind self.now.space.image.now self.now.space.thread.now (slots_of self.now.slots) made.new.items) }

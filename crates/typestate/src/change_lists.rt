@@ -1,15 +1,15 @@
 //! What a call makes of the slots, as changes to be appended.
 //! seL4 Reference Manual, "Deletion, Revocation, and Recycling".
 
-ghost use Rattle.std.specs.Prelude.{◌≡◌, ◌++◌, IfOk, flat_map};
-ghost use Rattle.typestate.specs.ChangeLists.{changes_of, child_change, told_of};
-ghost use Rattle.typestate.specs.Families.{children_of};
-ghost use Rattle.typestate.specs.SlotChanges.{emptied, is_parent};
+ghost use Rattle.std.specs.Prelude.{◌≡◌, ◌++◌, IfOk, map};
+ghost use Rattle.typestate.specs.ChangeLists.{changes_of, children_kept};
+ghost use Rattle.typestate.specs.SlotChanges.{emptied, followed, is_parent};
+ghost use Rattle.typestate.specs.declared.log_entries.LogEntry.TheVariants.{Sets};
 ghost use Rattle.typestate.specs.declared.slot_changes.SlotChange.TheVariants.{Moves, Removes};
 
-use crate::noted::left;
+use crate::log_entries::note_sets;
 use crate::removal::Removal;
-use crate::{NotedSlot, NotedSlots, Removed, SlotChange, SlotKey};
+use crate::{LogEntry, NotedSlot, NotedSlots, Removed, SlotChange, SlotKey};
 use model::Cap;
 use std::alloc::AllocError;
 
@@ -34,71 +34,50 @@ pub(crate) fn emptied(key: SlotKey) -> NotedSlot
     }
 }
 
+/// A slot that was derived from another one, where that moves.
+fn followed(from: SlotKey, to: SlotKey, slot: NotedSlot) -> NotedSlot
+    ensures { result ≡ followed from to slot }
+{
+    if is_parent(from, slot.parent) {
+        NotedSlot {
+            key: slot.key,
+            capability: slot.capability,
+            parent: Some(to),
+        }
+    } else {
+        slot
+    }
+}
+
+/// Appends that slots hold what they hold, but for those that were derived from one that moves. Memory may be refused.
+fn note_followed(
+    from: SlotKey,
+    to: SlotKey,
+    slots: &[NotedSlot],
+    made: &mut Vec<LogEntry>,
+) -> Result<(), AllocError>
+    ensures { IfOk result (λ _. made.new.items ≡ made.old.items ++ map (λ s. Sets (followed from to s)) slots.now) }
+{
+    for slot in slots {
+        made.push(LogEntry::Sets(followed(from, to, *slot)))?;
+    }
+    Ok(())
+}
+
 impl NotedSlots<'_> {
-    /// Appends that a full slot follows what it was derived from, if that moves.
-    fn note_followed(
+    /// Appends that what was derived from the slot to which one moves stays with it. Memory may be refused.
+    fn note_kept(
         &self,
         from: SlotKey,
         to: SlotKey,
-        slot: NotedSlot,
-        made: &mut Vec<NotedSlot>,
+        made: &mut Vec<LogEntry>,
     ) -> Result<(), AllocError>
-        ensures { IfOk result (λ _. made.new.items ≡ made.old.items ++ child_change from to slot) }
-    {
-        if is_parent(from, slot.parent) {
-            made.push(NotedSlot {
-                key: slot.key,
-                capability: slot.capability,
-                parent: Some(to),
-            })?;
-        }
-        Ok(())
-    }
-
-    /// Appends that what a change leaves follows what it was derived from, if that moves.
-    fn note_child(
-        &self,
-        from: SlotKey,
-        to: SlotKey,
-        change: NotedSlot,
-        made: &mut Vec<NotedSlot>,
-    ) -> Result<(), AllocError>
-        ensures { IfOk result (λ _. made.new.items ≡ made.old.items ++ told_of (child_change from to) change) }
-    {
-        match left(change) {
-            Some(slot) => self.note_followed(from, to, slot, made),
-            None => Ok(()),
-        }
-    }
-
-    /// Appends that what these changes leave follows what it was derived from, if that moves.
-    fn note_children(
-        &self,
-        from: SlotKey,
-        to: SlotKey,
-        changes: &[NotedSlot],
-        made: &mut Vec<NotedSlot>,
-    ) -> Result<(), AllocError>
-        ensures { IfOk result (λ _. made.new.items ≡ made.old.items ++ flat_map (told_of (child_change from to)) changes.now) }
-    {
-        for change in changes {
-            self.note_child(from, to, *change, made)?;
-        }
-        Ok(())
-    }
-
-    /// Appends that what was derived from a slot follows it, if that moves. Memory may be refused.
-    fn note_followers(
-        &self,
-        from: SlotKey,
-        to: SlotKey,
-        made: &mut Vec<NotedSlot>,
-    ) -> Result<(), AllocError>
-        ensures { IfOk result (λ _. made.new.items ≡ made.old.items ++ flat_map (told_of (child_change from to)) (children_of self.now.changes.now from)) }
+        ensures { IfOk result (λ _. made.new.items ≡ made.old.items ++ map (λ s. Sets s) (children_kept self.now from to)) }
     {
         let mut children = Vec::new(*made.allocator());
-        self.note_children_of(from, &mut children)?;
-        self.note_children(from, to, &children, made)
+        self.note_children_of(to, &mut children)?;
+        note_followed(from, to, &children, made)?;
+        Ok(())
     }
 
     /// Appends what a call makes of the slots that moves one: what was derived from it follows. Memory may be refused.
@@ -106,18 +85,22 @@ impl NotedSlots<'_> {
         &self,
         from: SlotKey,
         to: NotedSlot,
-        made: &mut Vec<NotedSlot>,
+        made: &mut Vec<LogEntry>,
     ) -> Result<(), AllocError>
         ensures { IfOk result (λ _. made.new.items ≡ made.old.items ++ changes_of self.now (Moves from to)) }
     {
-        self.note_followers(from, to.key, made)?;
-        made.push(to)?;
-        made.push(emptied(from))?;
+        made.push(LogEntry::Swaps {
+            one: from,
+            other: to.key,
+        })?;
+        self.note_kept(from, to.key, made)?;
+        made.push(LogEntry::Sets(to))?;
+        made.push(LogEntry::Sets(emptied(from)))?;
         Ok(())
     }
 
     /// Appends what a call makes of the slots that takes some away. Memory may be refused.
-    fn note_removal(&self, which: Removed, made: &mut Vec<NotedSlot>) -> Result<(), AllocError>
+    fn note_removal(&self, which: Removed, made: &mut Vec<LogEntry>) -> Result<(), AllocError>
         ensures { IfOk result (λ _. made.new.items ≡ made.old.items ++ changes_of self.now (Removes which)) }
     {
         let affected = self.affected(*made.allocator(), &which)?;
@@ -127,7 +110,9 @@ impl NotedSlots<'_> {
             below: &affected.below,
             touched: &affected.touched,
         };
-        removal.note_all(made)
+        let mut removed = Vec::new(*made.allocator());
+        removal.note_all(&mut removed)?;
+        note_sets(&removed, made)
     }
 
     /// Appends what a call makes of the slots. What the image lists was derived from none of the thread's slots: of its slots only
@@ -135,14 +120,14 @@ impl NotedSlots<'_> {
     pub fn note_change(
         &self,
         change: &SlotChange,
-        made: &mut Vec<NotedSlot>,
+        made: &mut Vec<LogEntry>,
     ) -> Result<(), AllocError>
         ensures { IfOk result (λ _. made.new.items ≡ made.old.items ++ changes_of self.now change.now) }
     {
         match change {
             SlotChange::Nothing => Ok(()),
             SlotChange::Puts(slot) => {
-                made.push(*slot)?;
+                made.push(LogEntry::Sets(*slot))?;
                 Ok(())
             }
             SlotChange::Moves { from, to } => self.note_move(*from, *to, made),

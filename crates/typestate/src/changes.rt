@@ -1,46 +1,71 @@
-//! Changes to slots, each found by the number of its slot.
+//! Changes to slots, each found by the number of its slot, and by what that was derived from.
 
-ghost use Rattle.std.specs.Prelude.{◌≡◌, [], IfErr, IfOk, Some, if◌then◌else◌, length, nat_lt, true, ◌<◌, ◌^◌};
+ghost use Rattle.std.specs.Prelude.{◌≡◌, [], IfErr, IfOk, Some, filter_map, if◌then◌else◌, length, map, ◌<◌, ◌^◌};
+ghost use Rattle.std.specs.Iterator.{YieldsFirst, item_count};
 ghost use Rattle.model.specs.Acceptance.NotedStates.{NotedSlot, SlotKey, is_same_key, slot_at};
-ghost use Rattle.typestate.specs.Families.{found};
-ghost use Rattle.typestate.specs.Orders.{AreNarrow, Rise, is_narrow};
+ghost use Rattle.typestate.specs.Families.{child_at, children_of, found};
+ghost use Rattle.typestate.specs.Orders.{AreNarrow, Rise};
+ghost use Rattle.typestate.specs.Replays.{exchanged};
 
+use crate::families::Families;
+use crate::names::Names;
+use crate::packed_changes::{PackedChange, low};
 use crate::{NotedSlot, SlotKey};
 use std::alloc::{AllocError, Global};
-use std::collections::btree_map::{BTreeMap, Values};
+use std::collections::btree_map::{BTreeMap, Iter};
+use std::collections::btree_set::Range;
 use std::marker::Model;
 
 /// Changes to slots, one to each. A clause sees their list, whose keys rise.
 #[derive(Drop)]
 pub struct Changes {
-    by_number: BTreeMap<u64, NotedSlot>,
+    packed: BTreeMap<u64, PackedChange>,
+    names: Names,
+    families: Families,
 }
 
 impl Model for Changes {
-    ghost use Rattle.std.specs.Prelude.{◌≡◌, List, map};
-    ghost use Rattle.std.specs.BTreeMap.{keys, values};
-    ghost use Rattle.model.specs.Acceptance.NotedStates.{NotedSlot, number_of};
+    ghost use Rattle.std.specs.Prelude.{List, map};
+    ghost use Rattle.model.specs.Acceptance.NotedStates.{NotedSlot};
+    ghost use Rattle.typestate.specs.Names.{AreInverse};
+    ghost use Rattle.typestate.specs.PackedChanges.{AreLinked, unpacked_entry};
 
     ghost Value = { List NotedSlot };
 
-    ghost view = { λ changes. values changes.by_number };
+    ghost view = { λ changes. map (unpacked_entry changes.names.slots.entries) changes.packed.entries };
 
-    ghost invariant = { λ changes. keys changes.by_number ≡ map (λ s. number_of s.key) (values changes.by_number) };
+    ghost invariant = { λ changes. AreInverse changes.names.slots.entries changes.names.names.entries × AreLinked changes.packed.entries changes.families.links.keys };
 }
 
-/// An index has 32 bits.
-fn low(index: u32)
-    ensures { nat_lt index (2 ^ 32) ≡ true }
-{
-    let _ = index;
+/// Changes in the order of their keys. A clause sees their list.
+#[derive(Drop)]
+pub struct ChangesLeft<'c> {
+    left: Iter<'c, u64, PackedChange>,
+    names: &'c Names,
 }
 
-/// What a slot was derived from has an index of 32 bits, as its type says.
-fn narrow(slot: &NotedSlot)
-    ensures { is_narrow slot.now ≡ true }
-{
-    if let Some(key) = slot.parent {
-        low(key.index);
+impl<'c> Model for ChangesLeft<'c> {
+    ghost use Rattle.std.specs.Prelude.{List, map};
+    ghost use Rattle.model.specs.Acceptance.NotedStates.{NotedSlot};
+    ghost use Rattle.typestate.specs.PackedChanges.{unpacked_entry};
+
+    ghost Value = { List NotedSlot };
+
+    ghost view = { λ changes. map (unpacked_entry changes.names.now.slots.entries) changes.left };
+}
+
+impl<'c> Iterator for ChangesLeft<'c> {
+    type Item = NotedSlot;
+
+    ghost next_gives = { YieldsFirst (λ s. s) };
+
+    ghost remaining = { item_count (λ s. s) };
+
+    fn next(&mut self) -> Option<NotedSlot> {
+        match self.left.next() {
+            Some((number, packed)) => Some(packed.at(*number, self.names)),
+            None => None,
+        }
     }
 }
 
@@ -50,7 +75,9 @@ impl Changes {
         ensures { result ≡ [] }
     {
         Changes {
-            by_number: BTreeMap::new(alloc),
+            packed: BTreeMap::new(alloc),
+            names: Names::new(alloc),
+            families: Families::new(alloc),
         }
     }
 
@@ -59,21 +86,27 @@ impl Changes {
         ensures value { result ≡ length self.now }
         ensures small { result < 2 ^ 63 }
     {
-        self.by_number.len()
+        self.packed.len()
     }
 
     /// The changes in the order of their keys.
-    pub fn iter(&self) -> Values<'_, u64, NotedSlot>
+    pub fn iter(&self) -> ChangesLeft<'_>
         ensures { result ≡ self.now }
     {
-        self.by_number.values()
+        ChangesLeft {
+            left: self.packed.iter(),
+            names: &self.names,
+        }
     }
 
     /// The change to the slot of a number.
     pub(crate) fn numbered(&self, number: u64) -> Option<NotedSlot>
         ensures { result ≡ found self.now number }
     {
-        self.by_number.get(&number).copied()
+        match self.packed.get(&number) {
+            Some(packed) => Some(packed.at(number, &self.names)),
+            None => None,
+        }
     }
 
     /// The change to the slot of a key.
@@ -83,16 +116,44 @@ impl Changes {
         self.numbered(key.number())
     }
 
+    /// Links to the changes whose slots were derived from the slot of this key, in the order of their keys.
+    pub(crate) fn links(&self, parent: SlotKey) -> Range<'_, (u128, u64)>
+        requires { Rise self.now }
+        ensures { filter_map (λ q. child_at self.now parent q.1) result ≡ children_of self.now parent }
+    {
+        self.families.named(self.names.name(parent.number()))
+    }
+
     /// Puts a change among the others, and answers the one to the same slot in whose place it stands. Memory may be refused.
     pub(crate) fn put(&mut self, change: NotedSlot) -> Result<Option<NotedSlot>, AllocError>
         ensures before { IfOk result (λ before. before ≡ slot_at self.old change.key) }
         ensures rising { IfOk result (λ _. Rise self.new) }
         ensures same { IfOk result (λ _. (key : SlotKey) → slot_at self.new key ≡ (if is_same_key change.key key then Some change else slot_at self.old key)) }
-        ensures narrow { IfOk result (λ _. AreNarrow self.old → AreNarrow self.new) }
+        ensures narrow { IfOk result (λ _. AreNarrow self.new) }
         ensures kept { IfErr result (λ _. self.new ≡ self.old) }
     {
-        narrow(&change);
-        let before = self.by_number.insert(change.key.number(), change)?;
-        Ok(before)
+        let number = change.key.number();
+        let packed = PackedChange::of(change, &self.names);
+        self.families.add(packed.parent, number)?;
+        match self.packed.insert(number, packed)? {
+            Some(before) => {
+                self.families.replace(before.parent, packed.parent, number);
+                Ok(Some(before.at(number, &self.names)))
+            }
+            None => Ok(None),
+        }
+    }
+
+    /// What was derived from the one slot is derived from the other one, and the other way round. Where memory is refused all stays as it
+    /// was.
+    pub(crate) fn swap(&mut self, one: SlotKey, other: SlotKey) -> Result<(), AllocError>
+        ensures swapped { IfOk result (λ _. self.new ≡ map (exchanged one other) self.old) }
+        ensures narrow { IfOk result (λ _. AreNarrow self.new) }
+        ensures kept { IfErr result (λ _. self.new ≡ self.old) }
+    {
+        low(one.index);
+        low(other.index);
+        self.names.swap(one.number(), other.number())?;
+        Ok(())
     }
 }

@@ -13,7 +13,7 @@ ghost use Rattle.typestate.specs.Spaces.{own_slots};
 use crate::held_slots::HeldSlot;
 use crate::pools::Pool;
 use crate::roots::OwnRoot;
-use crate::{NotedSlot, SlotChange, ThreadSlots, tidy_changes_leave_no_stray_slot};
+use crate::{LogEntry, NotedSlot, SlotChange, ThreadSlots, tidy_changes_leave_no_stray_slot};
 use model::{Invocation, Point, Refusal};
 use std::alloc::AllocError;
 
@@ -23,7 +23,7 @@ impl ThreadSlots<'_, '_, '_> {
     fn note_left(
         &self,
         left: Result<SlotChange, Refusal>,
-        made: &mut Vec<NotedSlot>,
+        made: &mut Vec<LogEntry>,
     ) -> Result<Result<bool, Refusal>, AllocError>
         requires none { made.old.items ≡ [] }
         ensures made { IfOk result (λ done. left_or_refused (slots_of self.now.slots) left ≡ made_or_refused (slots_of self.now.slots) made.new.items done) }
@@ -64,7 +64,7 @@ impl HeldSlot<'_, '_, '_, '_> {
         &self,
         at: Point,
         call: Invocation,
-        made: &mut Vec<NotedSlot>,
+        made: &mut Vec<LogEntry>,
     ) -> Result<Result<bool, Refusal>, AllocError>
         requires fits { IsCallOn self.now.held.now.capability call }
         requires none { made.old.items ≡ [] }

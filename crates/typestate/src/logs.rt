@@ -1,31 +1,34 @@
 //! A log of changes to slots. The slots at each point of a program are the image's with a part of it made.
 
-ghost use Rattle.std.specs.Prelude.{◌≡◌, [], ◌++◌, IfOk, Some, List, length, map, true, if◌then◌else◌};
-ghost use Rattle.model.specs.Acceptance.NotedStates.{NotedSlot, SlotKey, entry_slot, is_same_key, slot_at};
+ghost use Rattle.std.specs.Prelude.{◌≡◌, [], ◌++◌, IfOk, List, length, map, true};
+ghost use Rattle.model.specs.Acceptance.NotedStates.{NotedSlot, entry_slot};
 ghost use Rattle.typestate.specs.Differences.{changed, slots_of};
 ghost use Rattle.typestate.specs.Logs.{Holds, IsNext, KeepsParts, Shows, ShowsSome, part_of};
 ghost use Rattle.typestate.specs.Orders.{Rise};
+ghost use Rattle.typestate.specs.Replays.{replayed};
 ghost use Rattle.typestate.specs.Unlinked.{AreUnlinked};
+ghost use Rattle.typestate.specs.declared.log_entries.LogEntry.{LogEntry};
 
+use crate::log_entries::note_sets;
 use crate::records::note_record;
 use crate::shown::ShownChanges;
-use crate::{NotedSlot, NotedSlots};
+use crate::{LogEntry, NotedSlot, NotedSlots};
 use image_reading::RecordRef;
 use std::alloc::{AllocError, Global};
 use std::marker::Model;
 
-/// Changes from one place of a log to another.
+/// Entries from one place of a log to another.
 #[derive(Clone, Copy)]
 pub struct Part {
     pub first: usize,
     pub end: usize,
 }
 
-/// Changes to slots in the order in which they were made, part after part. A clause sees their list.
+/// What was made of slots, in the order in which it was made, part after part. A clause sees the list of entries.
 #[derive(Drop)]
 pub struct SlotLog {
     alloc: Global,
-    changes: Vec<NotedSlot>,
+    entries: Vec<LogEntry>,
 }
 
 /// What a part of a log changes, by the slots: their keys rise, and of the changes to one slot only the last is there.
@@ -47,7 +50,7 @@ impl Part {
 impl ShownPart {
     /// Of a log without parts: no changes.
     pub fn new(alloc: Global) -> Self
-        ensures shown { (log : List NotedSlot) → ShowsSome log result }
+        ensures shown { (log : List LogEntry) → ShowsSome log result }
         ensures none { result.changes ≡ [] }
     {
         ShownPart {
@@ -77,88 +80,99 @@ impl ShownPart {
 
 impl Model for SlotLog {
     ghost use Rattle.std.specs.Prelude.{List};
-    ghost use Rattle.model.specs.Acceptance.NotedStates.{NotedSlot};
+    ghost use Rattle.typestate.specs.declared.log_entries.LogEntry.{LogEntry};
 
-    ghost Value = { List NotedSlot };
+    ghost Value = { List LogEntry };
 
-    ghost view = { λ log. log.changes.items };
+    ghost view = { λ log. log.entries.items };
 }
 
 impl SlotLog {
-    /// A log without changes.
+    /// A log without entries.
     pub fn new(alloc: Global) -> Self
         ensures { result ≡ [] }
     {
         SlotLog {
             alloc,
-            changes: Vec::new(alloc),
+            entries: Vec::new(alloc),
         }
     }
 
-    /// Appends changes as a part of their own. Memory may be refused.
-    fn append(&mut self, changes: &[NotedSlot]) -> Result<Part, AllocError>
+    /// Appends entries as a part of their own. Memory may be refused.
+    fn append(&mut self, made: &[LogEntry]) -> Result<Part, AllocError>
         ensures held { IfOk result (Holds self.new) }
-        ensures part { IfOk result (λ part. part_of self.new part ≡ changes.now) }
+        ensures part { IfOk result (λ part. part_of self.new part ≡ made.now) }
         ensures others { IfOk result (λ _. KeepsParts self.old self.new) }
     {
-        let first = self.changes.len();
-        self.changes.extend_from_slice(changes)?;
-        let end = self.changes.len();
+        let first = self.entries.len();
+        self.entries.extend_from_slice(made)?;
+        let end = self.entries.len();
         Ok(Part { first, end })
     }
 
-    /// Appends changes to the last part, which holds them then. Memory may be refused.
-    fn grow(&mut self, part: Part, made: &[NotedSlot]) -> Result<Part, AllocError>
+    /// Appends entries to the last part, which holds them then. Memory may be refused.
+    fn grow(&mut self, part: Part, made: &[LogEntry]) -> Result<Part, AllocError>
         requires held { Holds self.old part }
         requires last { part.end ≡ length self.old }
         ensures held { IfOk result (Holds self.new) }
         ensures part { IfOk result (λ longer. part_of self.new longer ≡ part_of self.old part ++ made.now) }
         ensures others { IfOk result (λ _. KeepsParts self.old self.new) }
     {
-        self.changes.extend_from_slice(made)?;
-        let end = self.changes.len();
+        self.entries.extend_from_slice(made)?;
+        let end = self.entries.len();
         Ok(Part {
             first: part.first,
             end,
         })
     }
 
-    /// Appends the changes of a part with others behind them, as a part of their own. Memory may be refused.
-    fn repeat(&mut self, part: Part, made: &[NotedSlot]) -> Result<Part, AllocError>
+    /// Appends the entries of a part with others behind them, as a part of their own. Memory may be refused.
+    fn repeat(&mut self, part: Part, made: &[LogEntry]) -> Result<Part, AllocError>
         requires { Holds self.old part }
         ensures held { IfOk result (Holds self.new) }
         ensures part { IfOk result (λ longer. part_of self.new longer ≡ part_of self.old part ++ made.now) }
         ensures others { IfOk result (λ _. KeepsParts self.old self.new) }
     {
         let mut both = Vec::new(self.alloc);
-        both.extend_from_slice(&self.changes[part.first..part.end])?;
+        both.extend_from_slice(&self.entries[part.first..part.end])?;
         both.extend_from_slice(made)?;
         self.append(&both)
+    }
+
+    /// Notes changes as a part of their own. Memory may be refused.
+    pub fn note_changes(&mut self, changes: &[NotedSlot]) -> Result<Part, AllocError>
+        ensures held { IfOk result (Holds self.new) }
+        ensures same { IfOk result (λ part. (slots : List NotedSlot) → Rise slots → replayed slots (part_of self.new part) ≡ changed slots changes.now) }
+        ensures others { IfOk result (λ _. KeepsParts self.old self.new) }
+    {
+        let mut made = Vec::new(self.alloc);
+        note_sets(changes, &mut made)?;
+        self.append(&made)
     }
 
     /// Notes the slots of a record: its part leaves what they leave. Memory may be refused.
     pub fn note(&mut self, noted: &RecordRef<'_>) -> Result<Part, AllocError>
         ensures held { IfOk result (Holds self.new) }
-        ensures same { IfOk result (λ part. (slots : List NotedSlot) → Rise slots → changed slots (part_of self.new part) ≡ changed slots (map entry_slot noted.now.slots)) }
+        ensures same { IfOk result (λ part. (slots : List NotedSlot) → Rise slots → replayed slots (part_of self.new part) ≡ changed slots (map entry_slot noted.now.slots)) }
         ensures others { IfOk result (λ _. KeepsParts self.old self.new) }
     {
-        let mut made = Vec::new(self.alloc);
-        note_record(&mut made, noted)?;
-        self.append(&made)
+        let mut changes = Vec::new(self.alloc);
+        note_record(&mut changes, noted)?;
+        self.note_changes(&changes)
     }
 
-    /// Notes changes that follow those of a part: the new part leaves what both leave. Where nothing follows it is that part
+    /// Notes entries that follow those of a part: the new part leaves what both leave. Where nothing follows it is that part
     /// itself, and the last part grows in place. Memory may be refused.
-    pub fn follow(&mut self, part: Part, made: &[NotedSlot]) -> Result<Part, AllocError>
+    pub fn follow(&mut self, part: Part, made: &[LogEntry]) -> Result<Part, AllocError>
         requires { Holds self.old part }
         ensures held { IfOk result (Holds self.new) }
-        ensures same { IfOk result (λ both. (slots : List NotedSlot) → Rise slots → changed slots (part_of self.new both) ≡ changed (changed slots (part_of self.old part)) made.now) }
+        ensures same { IfOk result (λ both. (slots : List NotedSlot) → Rise slots → replayed slots (part_of self.new both) ≡ replayed (replayed slots (part_of self.old part)) made.now) }
         ensures others { IfOk result (λ _. KeepsParts self.old self.new) }
     {
         if made.is_empty() {
             return Ok(part);
         }
-        if part.end == self.changes.len() {
+        if part.end == self.entries.len() {
             self.grow(part, made)
         } else {
             self.repeat(part, made)
@@ -174,7 +188,7 @@ impl SlotLog {
     {
         shown
             .changes
-            .put_all(&self.changes[shown.part.end..part.end])?;
+            .make_all(&self.entries[shown.part.end..part.end])?;
         shown.part = part;
         Ok(())
     }

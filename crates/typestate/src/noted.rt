@@ -6,9 +6,10 @@ ghost use Rattle.model.specs.Capabilities.CapabilityWords.{IsCapability};
 ghost use Rattle.model.specs.declared.capabilities.Cap.TheVariants.{Empty};
 ghost use Rattle.std.specs.Option.{option_map_or, option_to_list};
 ghost use Rattle.typestate.specs.Differences.{left_by, slots_of};
-ghost use Rattle.typestate.specs.Families.{found};
+ghost use Rattle.typestate.specs.Families.{child_at, children_of, found, has_parent};
 ghost use Rattle.typestate.specs.Orders.{Rise};
 
+use crate::change_lists::is_parent;
 use crate::{NotedSlot, NotedSlots, SlotKey};
 use model::Cap;
 use std::alloc::AllocError;
@@ -36,7 +37,44 @@ pub(crate) fn note_found(
     Ok(())
 }
 
+/// Whether what a slot holds was derived from the slot of this key.
+fn has_parent(key: SlotKey, held: Option<NotedSlot>) -> bool
+    ensures { result ≡ has_parent key held }
+{
+    match held {
+        Some(slot) => is_parent(key, slot.parent),
+        None => false,
+    }
+}
+
 impl NotedSlots<'_> {
+    /// The change of a slot's number, if its slot was derived from the slot of this key.
+    pub(crate) fn child(&self, parent: SlotKey, number: u64) -> Option<NotedSlot>
+        ensures { result ≡ child_at self.now.changes.now parent number }
+    {
+        let change = self.changes.numbered(number)?;
+        if has_parent(parent, left(change)) {
+            Some(change)
+        } else {
+            None
+        }
+    }
+
+    /// Appends the changes whose slots were derived from the slot of this key, in the order of their keys. Memory may be refused.
+    pub(crate) fn note_children_of(
+        &self,
+        parent: SlotKey,
+        found: &mut Vec<NotedSlot>,
+    ) -> Result<(), AllocError>
+        ensures { IfOk result (λ _. found.new.items ≡ found.old.items ++ children_of self.now.changes.now parent) }
+    {
+        for link in self.changes.links(parent) {
+            let change = self.child(parent, link.1);
+            note_found(change, found)?;
+        }
+        Ok(())
+    }
+
     /// The slot of this key, if it is full.
     pub fn at(&self, key: SlotKey) -> Option<NotedSlot>
         ensures { result ≡ slot_at (slots_of self.now) key }

@@ -2,12 +2,11 @@
 
 ghost use Rattle.std.specs.Prelude.{[]};
 ghost use Rattle.std.specs.Option.{option_map_or};
-ghost use Rattle.typestate.specs.Families.{AreLinked};
 ghost use Rattle.typestate.specs.Orders.{AreNarrow, Rise};
 ghost use Rattle.typestate.specs.Pages.{ArePaged};
 ghost use Rattle.typestate.specs.Unlinked.{AreUnlinked};
 
-use crate::{Changes, Families, MappedPages, NotedSlot};
+use crate::{Changes, MappedPages, NotedSlot};
 
 /// The full slots of a thread's CNodes at a point: those that the image lists, with changes made. The keys of both rise. What the
 /// image lists has no parents and no mappings: only changes bring them.
@@ -16,14 +15,11 @@ use crate::{Changes, Families, MappedPages, NotedSlot};
 pub struct NotedSlots<'s> {
     pub image: &'s [NotedSlot],
     pub changes: &'s Changes,
-    /// The changes by what their slots were derived from: none where no change brings a parent.
-    pub families: Option<&'s Families>,
     /// The changes by the pages that their slots map: none where no change brings a mapping.
     pub pages: Option<&'s MappedPages>,
     ghost rising: { Rise image.now },
     ghost ordered: { Rise changes.now },
     ghost narrow: { AreNarrow changes.now },
     ghost unlinked: { AreUnlinked image.now },
-    ghost linked: { AreLinked changes.now (option_map_or (λ f. f.now.links.keys) families []) },
     ghost paged: { ArePaged changes.now (option_map_or (λ p. p.now.slots.keys) pages []) },
 }

@@ -1,7 +1,7 @@
 //! Retype at a point: a program may make endpoints, notifications and frames in its pools.
 //! seL4 Reference Manual, "Kernel Memory Allocation", seL4_Untyped_Retype; type numbers and sizes are our own.
 
-ghost use Rattle.std.specs.Prelude.{ℕ, ◌≡◌, ◌+◌, ◌*◌, ◌^◌, ◌≤◌, ◌<◌, ◌++◌, ◌∷◌, [], true, is_some, Some, IfOk};
+ghost use Rattle.std.specs.Prelude.{ℕ, ◌≡◌, ◌+◌, ◌*◌, ◌^◌, ◌≤◌, ◌<◌, ◌++◌, ◌∷◌, [], true, is_some, map, Some, IfOk};
 ghost use Rattle.std.specs.List.{find};
 ghost use Rattle.model.specs.Acceptance.NotedKernel.{noted_root, noted_slots};
 ghost use Rattle.model.specs.Acceptance.NotedStates.{is_own, slot_at};
@@ -19,12 +19,16 @@ ghost use Rattle.typestate.specs.Invocations.{IsCallOn, held_after, made_or_refu
 ghost use Rattle.typestate.specs.Pools.{IsOwnWindow, Makes, NamesNode, PlaceAnswer, bits_asked, fits_node, new_of, room_in, sized, slot_made, slots_made, some_full};
 ghost use Rattle.typestate.specs.Spaces.{is_inside};
 ghost use Rattle.typestate.specs.Strays.{IsTidyCall, is_at};
+ghost use Rattle.typestate.specs.declared.log_entries.LogEntry.TheVariants.{Sets};
 
+use crate::log_entries::note_sets;
 use crate::new_objects::NewObjects;
 use crate::pools::Pool;
 use crate::roots::OwnRoot;
 use crate::slot_runs::SlotRun;
-use crate::{NotedSlot, NotedSlots, SlotKey, ThreadSlots, Window, tidy_puts_leave_no_stray_slot};
+use crate::{
+    LogEntry, NotedSlot, NotedSlots, SlotKey, ThreadSlots, Window, tidy_puts_leave_no_stray_slot,
+};
 use model::{Cap, KError, Point, Refusal, RetypeCall, Rights, SlotName, UntypedMemory};
 use std::alloc::AllocError;
 use untyped::place;
@@ -280,15 +284,15 @@ impl Pool<'_, '_, '_, '_> {
 
     /// Retype: the slots that it changes are put into the list, which is empty, and the answer is whether they are known to
     /// leave no stray slot where there was none. Memory may be refused.
-    pub(crate) fn retype(
+    fn note_objects(
         &self,
         at: Point,
         call: RetypeCall,
         made: &mut Vec<NotedSlot>,
     ) -> Result<Result<bool, Refusal>, AllocError>
         requires none { made.old.items ≡ [] }
-        ensures tidy { IfOk result (IsTidyCall self.now.own.space.image.now self.now.own.space.thread.now (slots_of self.now.own.slots) made.new.items) }
-        ensures made { IfOk result (λ done. held_after self.now.own.space.image.now self.now.own.space.thread.now at (slots_of self.now.own.slots) self.now.held.now (OnUntyped self.now.memory call) ≡ made_or_refused (slots_of self.now.own.slots) made.new.items done) }
+        ensures tidy { IfOk result (IsTidyCall self.now.own.space.image.now self.now.own.space.thread.now (slots_of self.now.own.slots) (map (λ s. Sets s) made.new.items)) }
+        ensures made { IfOk result (λ done. held_after self.now.own.space.image.now self.now.own.space.thread.now at (slots_of self.now.own.slots) self.now.held.now (OnUntyped self.now.memory call) ≡ made_or_refused (slots_of self.now.own.slots) (map (λ s. Sets s) made.new.items) done) }
     {
         tidy_puts_leave_no_stray_slot();
         let new = match self.new_place(call) {
@@ -319,5 +323,23 @@ impl Pool<'_, '_, '_, '_> {
         };
         objects.note(made)?;
         Ok(Ok(self.own.space.are_tidy_puts(&self.own.slots, made)))
+    }
+
+    /// Retype: what it makes of the slots is put into the list, which is empty, and the answer is whether it is known to leave no stray
+    /// slot where there was none. Memory may be refused.
+    pub(crate) fn retype(
+        &self,
+        at: Point,
+        call: RetypeCall,
+        made: &mut Vec<LogEntry>,
+    ) -> Result<Result<bool, Refusal>, AllocError>
+        requires none { made.old.items ≡ [] }
+        ensures tidy { IfOk result (IsTidyCall self.now.own.space.image.now self.now.own.space.thread.now (slots_of self.now.own.slots) made.new.items) }
+        ensures made { IfOk result (λ done. held_after self.now.own.space.image.now self.now.own.space.thread.now at (slots_of self.now.own.slots) self.now.held.now (OnUntyped self.now.memory call) ≡ made_or_refused (slots_of self.now.own.slots) made.new.items done) }
+    {
+        let mut objects = Vec::new(*made.allocator());
+        let is_tidy = self.note_objects(at, call, &mut objects)?;
+        note_sets(&objects, made)?;
+        Ok(is_tidy)
     }
 }

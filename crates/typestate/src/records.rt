@@ -14,7 +14,7 @@ use model::{Cap, SlotEntry};
 use std::alloc::AllocError;
 
 /// The capability that two words stand for.
-fn capability_of(word0: u32, word1: u32) -> Cap
+pub(crate) fn capability_of(word0: u32, word1: u32) -> Cap
     ensures value { result ≡ option_map_or (λ capability. capability) (unpacked word0 word1) Empty }
     ensures valid { IsCapability result }
 {

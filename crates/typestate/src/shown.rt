@@ -1,28 +1,27 @@
-//! Changes by their slots, by what these were derived from, and by the pages that they map.
+//! Changes by their slots, and by the pages that they map.
 
-ghost use Rattle.std.specs.Prelude.{◌≡◌, [], IfOk, Some, List, if◌then◌else◌};
+ghost use Rattle.std.specs.Prelude.{◌≡◌, [], IfOk, Some, List, if◌then◌else◌, map};
 ghost use Rattle.model.specs.Acceptance.NotedStates.{NotedSlot, SlotKey, is_same_key, slot_at};
 ghost use Rattle.typestate.specs.Differences.{changed, slots_of};
 ghost use Rattle.typestate.specs.Orders.{Rise};
+ghost use Rattle.typestate.specs.Replays.{exchanged, replayed, with_entry};
 ghost use Rattle.typestate.specs.Unlinked.{AreUnlinked};
 
-use crate::{Changes, Families, MappedPages, NotedSlot, NotedSlots};
+use crate::{Changes, LogEntry, MappedPages, NotedSlot, NotedSlots, SlotKey};
 use std::alloc::{AllocError, Global};
 use std::marker::Model;
 
-/// Changes whose keys rise, each found by its slot, by what that was derived from, and by the page that it maps. A clause sees
-/// their list.
+/// Changes whose keys rise, each found by its slot, by what that was derived from, and by the page that it maps. A clause sees their
+/// list.
 #[derive(Drop)]
 pub struct ShownChanges {
     changes: Changes,
-    families: Families,
     pages: MappedPages,
 }
 
 impl Model for ShownChanges {
     ghost use Rattle.std.specs.Prelude.{List};
     ghost use Rattle.model.specs.Acceptance.NotedStates.{NotedSlot};
-    ghost use Rattle.typestate.specs.Families.{AreLinked};
     ghost use Rattle.typestate.specs.Orders.{AreNarrow};
     ghost use Rattle.typestate.specs.Pages.{ArePaged};
 
@@ -30,7 +29,7 @@ impl Model for ShownChanges {
 
     ghost view = { λ shown. shown.changes };
 
-    ghost invariant = { λ shown. AreLinked shown.changes shown.families.links.keys × ArePaged shown.changes shown.pages.slots.keys × AreNarrow shown.changes };
+    ghost invariant = { λ shown. ArePaged shown.changes shown.pages.slots.keys × AreNarrow shown.changes };
 }
 
 impl ShownChanges {
@@ -40,7 +39,6 @@ impl ShownChanges {
     {
         ShownChanges {
             changes: Changes::new(alloc),
-            families: Families::new(alloc),
             pages: MappedPages::new(alloc),
         }
     }
@@ -51,23 +49,47 @@ impl ShownChanges {
         ensures rising { IfOk result (λ _. Rise self.new) }
         ensures same { IfOk result (λ _. (key : SlotKey) → slot_at self.new key ≡ (if is_same_key change.key key then Some change else slot_at self.old key)) }
     {
-        self.families.add(change)?;
         self.pages.add(change)?;
         if let Some(before) = self.changes.put(change)? {
-            self.families.replace(before, change);
             self.pages.replace(before, change);
         }
         Ok(())
     }
 
-    /// Puts changes one after another among the others. Memory may be refused.
-    pub(crate) fn put_all(&mut self, made: &[NotedSlot]) -> Result<(), AllocError>
+    /// What was derived from the one slot is derived from the other one, and the other way round. Memory may be refused.
+    fn swap(&mut self, one: SlotKey, other: SlotKey) -> Result<(), AllocError>
+        ensures { IfOk result (λ _. self.new ≡ map (exchanged one other) self.old) }
+    {
+        self.changes.swap(one, other)?;
+        Ok(())
+    }
+
+    /// Makes an entry of a log behind these changes. Memory may be refused.
+    fn make(&mut self, entry: LogEntry) -> Result<(), AllocError>
         requires { Rise self.old }
         ensures rising { IfOk result (λ _. Rise self.new) }
-        ensures same { IfOk result (λ _. (slots : List NotedSlot) → Rise slots → changed slots self.new ≡ changed (changed slots self.old) made.now) }
+        ensures same { IfOk result (λ _. (slots : List NotedSlot) → Rise slots → AreUnlinked slots → changed slots self.new ≡ with_entry (changed slots self.old) entry) }
     {
-        for change in made {
-            self.put(*change)?;
+        match entry {
+            LogEntry::Sets(change) => {
+                self.put(change)?;
+                Ok(())
+            }
+            LogEntry::Swaps { one, other } => {
+                self.swap(one, other)?;
+                Ok(())
+            }
+        }
+    }
+
+    /// Makes entries of a log one after another behind these changes. Memory may be refused.
+    pub(crate) fn make_all(&mut self, made: &[LogEntry]) -> Result<(), AllocError>
+        requires { Rise self.old }
+        ensures rising { IfOk result (λ _. Rise self.new) }
+        ensures same { IfOk result (λ _. (slots : List NotedSlot) → Rise slots → AreUnlinked slots → changed slots self.new ≡ replayed (changed slots self.old) made.now) }
+    {
+        for entry in made {
+            self.make(*entry)?;
         }
         Ok(())
     }
@@ -83,7 +105,6 @@ impl ShownChanges {
         NotedSlots {
             image,
             changes: &self.changes,
-            families: Some(&self.families),
             pages: Some(&self.pages),
         }
     }

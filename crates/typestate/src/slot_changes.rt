@@ -15,9 +15,10 @@ ghost use Rattle.model.specs.declared.refusals.Point.{Point};
 ghost use Rattle.typestate.specs.Calls.{call_on};
 ghost use Rattle.typestate.specs.CNodeCalls.{cnode_after};
 ghost use Rattle.typestate.specs.ChangeLists.{changes_of};
-ghost use Rattle.typestate.specs.Differences.{changed, slots_of};
+ghost use Rattle.typestate.specs.Differences.{slots_of};
 ghost use Rattle.typestate.specs.Levels.{named};
 ghost use Rattle.typestate.specs.Orders.{Rise};
+ghost use Rattle.typestate.specs.Replays.{replayed};
 ghost use Rattle.typestate.specs.declared.points.NotedSlots.{NotedSlots};
 ghost use Rattle.typestate.specs.declared.slot_changes.SlotChange.{SlotChange};
 ghost use Rattle.typestate.specs.SlotChanges.{leaves, slots_after, slots_left};
@@ -70,7 +71,7 @@ pub fn slots_decide_cnode_calls()
 
 /// What a call makes of the slots of a thread is made by the changes that it appends.
 pub fn changes_make_slots()
-    ensures { (image : Image) (t : Thread) (slots : NotedSlots) (change : SlotChange) → AreOwn image t (slots_of slots) → changed (slots_of slots) (changes_of slots change) ≡ slots_left (slots_of slots) change }
+    ensures { (image : Image) (t : Thread) (slots : NotedSlots) (change : SlotChange) → AreOwn image t (slots_of slots) → replayed (slots_of slots) (changes_of slots change) ≡ slots_left (slots_of slots) change }
 {}
 
 /// Slots of a thread as the kernel's, and back.

@@ -6,13 +6,12 @@ ghost use Rattle.std.specs.List.{list_any};
 ghost use Rattle.std.specs.Option.{option_map_or};
 ghost use Rattle.model.specs.Capabilities.CapabilityKinds.{is_untyped};
 ghost use Rattle.model.specs.Capabilities.CapabilityWords.{IsCapability};
-ghost use Rattle.typestate.specs.ChangeLists.{changes_of, kept_child, named_by, removal_change, told_at, told_of};
+ghost use Rattle.typestate.specs.ChangeLists.{kept_child, named_by, removal_change, removal_changes, told_at, told_of};
 ghost use Rattle.typestate.specs.Differences.{left_by, slots_of};
 ghost use Rattle.typestate.specs.Families.{child_at, children_of};
 ghost use Rattle.typestate.specs.Removals.{gone_by, may_lose};
 ghost use Rattle.typestate.specs.SlotChanges.{cap_left, is_parent, loses_children, noted_outside, slot_left};
 ghost use Rattle.typestate.specs.declared.slot_changes.Removed.TheVariants.{One};
-ghost use Rattle.typestate.specs.declared.slot_changes.SlotChange.TheVariants.{Removes};
 
 use crate::change_lists::{emptied, is_parent};
 use crate::noted::{left, listed};
@@ -107,10 +106,7 @@ impl Removal<'_, '_> {
     fn one_child_stays(&self, key: SlotKey) -> bool
         ensures { result ≡ list_any (λ c. option_map_or (kept_child (slots_of self.now.slots) self.now.which key) (left_by c) false) (children_of self.now.slots.changes.now key) }
     {
-        let Some(families) = self.slots.families else {
-            return false;
-        };
-        for link in families.children_of(key) {
+        for link in self.slots.changes.links(key) {
             if self.child_stays(key, link.1) {
                 return true;
             }
@@ -280,7 +276,7 @@ impl Removal<'_, '_> {
 
     /// Appends what a call makes of the slots that takes these away.
     pub(crate) fn note_all(&self, made: &mut Vec<NotedSlot>) -> Result<(), AllocError>
-        ensures { IfOk result (λ _. made.new.items ≡ made.old.items ++ changes_of self.now.slots (Removes self.now.which)) }
+        ensures { IfOk result (λ _. made.new.items ≡ made.old.items ++ removal_changes self.now.slots self.now.which) }
     {
         self.note_named(made)?;
         self.note_removals(made)

@@ -5,6 +5,7 @@ ghost use Rattle.model.specs.Acceptance.NotedStates.{NotedSlot};
 ghost use Rattle.model.specs.Images.Image.{Image, Thread};
 ghost use Rattle.program_rules.specs.FoundPages.{AreFound};
 ghost use Rattle.typestate.specs.Logs.{Holds};
+ghost use Rattle.typestate.specs.declared.log_entries.LogEntry.{LogEntry};
 
 use crate::point_rules::FoundRuns;
 use std::alloc::Global;
@@ -22,7 +23,7 @@ pub struct FoundPages {
 impl FoundPages {
     /// None so far.
     pub fn new(alloc: Global) -> Self
-        ensures { (image : Image) (t : Thread) (slots log : List NotedSlot) → AreFound image t slots log result }
+        ensures { (image : Image) (t : Thread) (slots : List NotedSlot) (log : List LogEntry) → AreFound image t slots log result }
     {
         FoundPages {
             part: Part { first: 0, end: 0 },
@@ -34,7 +35,7 @@ impl FoundPages {
     /// Goes on to a point whose slots are those of a part. What was found with others is forgotten.
     pub fn go_on(&mut self, part: Part)
         ensures part { self.new.part ≡ part }
-        ensures found { (image : Image) (t : Thread) (slots log : List NotedSlot) → Holds log part → AreFound image t slots log self.old → AreFound image t slots log self.new }
+        ensures found { (image : Image) (t : Thread) (slots : List NotedSlot) (log : List LogEntry) → Holds log part → AreFound image t slots log self.old → AreFound image t slots log self.new }
     {
         if !self.part.is_same(part) {
             self.part = part;

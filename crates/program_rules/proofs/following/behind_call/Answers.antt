@@ -5,13 +5,13 @@ use Rattle.program_rules.proofs.Followed.{IsAtLeast, call-least, kept-clean, kep
 use Rattle.program_rules.proofs.following.behind_call.Goals as goal
 use Rattle.program_rules.specs.Kept.{IsCleanIn, IsSound, noted_by}
 use Rattle.typestate.specs.Calls.{behind_with}
-use Rattle.typestate.specs.Differences.{changed}
 use Rattle.typestate.specs.Logs.{part_of}
+use Rattle.typestate.specs.Replays.{replayed}
 
 pub returns-clause-same : goal.returns-clause-same
 returns-clause-same c = λ slots log t budget.
     ap (noted_by slots log) c.keep.ensures ∙ kept-same slots log c.follows_call.result c.args.part c.args.behind.now.is_tidy
-    ∙ c.follows_call.ensures t (changed slots (part_of log c.args.part)) budget
+    ∙ c.follows_call.ensures t (replayed slots (part_of log c.args.part)) budget
 
 pub returns-clause-sound : goal.returns-clause-sound
 returns-clause-sound c = λ log t point budget held low.

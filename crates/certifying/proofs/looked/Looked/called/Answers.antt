@@ -7,6 +7,8 @@ use Rattle.model.specs.Images.Image.{StateRecord, Thread}
 use Rattle.model.specs.declared.refusals.Refusal.{Refusal}
 use Rattle.typestate.specs.Calls.{known_with}
 use Rattle.typestate.specs.Differences.{changed, slots_of}
+use Rattle.typestate.specs.Replays.{replayed}
+use Rattle.typestate.specs.declared.log_entries.LogEntry.{LogEntry}
 use Rattle.typestate.specs.Strays.{IsTidyBehind, NoneStray}
 use Rattle.typestate.specs.declared.behind.Behind.{Behind}
 use Rattle.certifying.proofs.looked.Looked.called.Goals as goal
@@ -39,10 +41,10 @@ invariant_of-self-2 c =
     let made = c.after_call.new.made.items in
     let tidy : IsTidyBehind image own here made (Ok c.in-Ok.behind) =
     subst (λ (r : Result Behind Refusal). IsTidyBehind image own here made r) c.in-Ok.is c.in_ok-behind.ensures.tidy in
-    let same : changed given.slots.now c.followed.new.shown.changes ≡ changed here made =
-    c.in_ok-self-inside.ensures.same given.slots.now c.self.invariant.given_is.rising
-    ∙ ap (λ (l : List NotedSlot). changed (changed given.slots.now c.self.inside.shown.changes) l) c.deref.ensures.value
-    ∙ ap (λ (l : List NotedSlot). changed l made) (sym c.slots-slots.ensures.slots) in
+    let same : changed given.slots.now c.followed.new.shown.changes ≡ replayed here made =
+    c.in_ok-self-inside.ensures.same given.slots.now c.self.invariant.given_is.rising c.self.invariant.given_is.unlinked
+    ∙ ap (λ (l : List LogEntry). replayed (changed given.slots.now c.self.inside.shown.changes) l) c.deref.ensures.value
+    ∙ ap (λ (l : List NotedSlot). replayed l made) (sym c.slots-slots.ensures.slots) in
     record {
       given_is = c.self.invariant.given_is;
       shows = λ _. c.in_ok-self-inside.ensures.shows;

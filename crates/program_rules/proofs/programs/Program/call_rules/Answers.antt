@@ -13,15 +13,17 @@ use Rattle.program_rules.specs.Kept.{state_by}
 use Rattle.program_rules.specs.Programs.{thread_of}
 use Rattle.typestate.specs.Calls.{left_with}
 use Rattle.typestate.specs.Calls.{behind_with}
-use Rattle.typestate.specs.Differences.{changed, slots_of}
+use Rattle.typestate.specs.Differences.{slots_of}
 use Rattle.typestate.specs.Logs.{part_of}
 use Rattle.typestate.specs.Strays.{NoneStray}
 use Rattle.wellformed.specs.Answering.{Answers}
+use Rattle.typestate.specs.Replays.{replayed}
+use Rattle.typestate.specs.declared.log_entries.LogEntry.{LogEntry}
 
 pub called-requires-clause-clean : goal.called-requires-clause-clean
 called-requires-clause-clean c = λ is.
     subst (λ (all : List NotedSlot). NoneStray c.args.self.now.space.image.now c.args.self.now.space.thread.now all)
-    (sym (c.slots-slots.ensures.slots ∙ c.requires.shown.same c.args.self.now.slots.now c.args.self.now.rising)) (c.requires.clean is)
+    (sym (c.slots-slots.ensures.slots ∙ c.requires.shown.same c.args.self.now.slots.now c.args.self.now.rising c.args.self.now.unlinked)) (c.requires.clean is)
 
 pub returns-then-leaves_next-clause-broken : goal.returns-then-leaves_next-clause-broken
 returns-then-leaves_next-clause-broken c =
@@ -32,10 +34,10 @@ returns-in-None-clause-broken c =
     let image = c.args.self.now.space.image.now in
     let t = thread_of c.args.self.now in
     let m = measure_of c.args.known.now.measure in
-    let all = changed c.args.self.now.slots.now (part_of c.args.points.now.log c.args.known.now.part) in
+    let all = replayed c.args.self.now.slots.now (part_of c.args.points.now.log c.args.known.now.part) in
     call-told image t c.args.point (state_by c.args.self.now.slots.now c.args.points.now.log c.args.known.now) None
     c.requires.is
-    (call-any image t c.args.point c.args.known.now.bounds m (slots_of c.slots-slots.result) all c.called.new.made.items c.in_ok-called.field-0 (c.slots-slots.ensures.slots ∙ c.requires.shown.same c.args.self.now.slots.now c.args.self.now.rising) (c.in_ok-called.ensures.left m)
+    (call-any image t c.args.point c.args.known.now.bounds m (slots_of c.slots-slots.result) all c.called.new.made.items c.in_ok-called.field-0 (c.slots-slots.ensures.slots ∙ c.requires.shown.same c.args.self.now.slots.now c.args.self.now.rising c.args.self.now.unlinked) (c.in_ok-called.ensures.left m)
     ∙ ap (option_map (left_with all c.called.new.made.items)) c.in-None.is)
 
 pub returns-clause-broken : goal.returns-clause-broken
@@ -44,16 +46,16 @@ returns-clause-broken c =
     let t = thread_of c.args.self.now in
     let m = measure_of c.args.known.now.measure in
     let bounds = c.args.known.now.bounds in
-    let all = changed c.args.self.now.slots.now (part_of c.args.points.now.log c.args.known.now.part) in
+    let all = replayed c.args.self.now.slots.now (part_of c.args.points.now.log c.args.known.now.part) in
     let b = c.in-Some-Ok.behind in
     let made = c.called.new.made.items in
-    let by : List NotedSlot → Option Refusal = λ changes.
-    first_broken (edge_rules t.thread (point_of t c.args.point) m (call_edge (address_of t.thread c.args.point) bounds (behind_with (changed all changes) b))
+    let by : List LogEntry → Option Refusal = λ changes.
+    first_broken (edge_rules t.thread (point_of t c.args.point) m (call_edge (address_of t.thread c.args.point) bounds (behind_with (replayed all changes) b))
     (noted_at image t (address_of t.thread c.args.point + 4))) in
     subst (λ (x : Option Refusal). Answers x c.behind_rules.result)
     (ap by c.deref.ensures.value
-    ∙ sym (call-told image t c.args.point (state_by c.args.self.now.slots.now c.args.points.now.log c.args.known.now) (Some (Ok (behind_with (changed all made) b)))
+    ∙ sym (call-told image t c.args.point (state_by c.args.self.now.slots.now c.args.points.now.log c.args.known.now) (Some (Ok (behind_with (replayed all made) b)))
     c.requires.is
-    (call-any image t c.args.point bounds m (slots_of c.slots-slots.result) all made c.in_ok-called.field-0 (c.slots-slots.ensures.slots ∙ c.requires.shown.same c.args.self.now.slots.now c.args.self.now.rising) (c.in_ok-called.ensures.left m)
+    (call-any image t c.args.point bounds m (slots_of c.slots-slots.result) all made c.in_ok-called.field-0 (c.slots-slots.ensures.slots ∙ c.requires.shown.same c.args.self.now.slots.now c.args.self.now.rising c.args.self.now.unlinked) (c.in_ok-called.ensures.left m)
     ∙ ap (option_map (left_with all made)) (c.in-Some-Ok.is ∙ ap Some c.in-Some-Ok.field-0-is))))
     c.behind_rules.ensures.broken

@@ -26,7 +26,7 @@ use Rattle.wellformed.specs.Answering.{Answers}
 pub own_rules-requires-clause-clean : goal.own_rules-requires-clause-clean
 own_rules-requires-clause-clean c = λ is.
     subst (λ (all : List NotedSlot). NoneStray c.args.self.now.space.image.now c.args.self.now.space.thread.now all)
-    (sym (c.slots-slots.ensures.slots ∙ c.requires.part.same c.args.self.now.slots.now c.args.self.now.rising)) (c.requires.clean is)
+    (sym (c.slots-slots.ensures.slots ∙ c.requires.part.same c.args.self.now.slots.now c.args.self.now.rising c.args.self.now.unlinked)) (c.requires.clean is)
 
 pub returns-in_err-own_rules-clause-broken : goal.returns-in_err-own_rules-clause-broken
 returns-in_err-own_rules-clause-broken c =
@@ -38,7 +38,7 @@ returns-in_err-own_rules-clause-broken c =
     let own : Some refusal ≡ first_broken (own_rules image t c.args.point s instr) =
     c.in_err-own_rules.ensures.broken
     ∙ ap (λ (all : List NotedSlot). first_broken (own_rules image t c.args.point (known_with c.args.known.now.bounds all (measure_of c.args.known.now.measure)) instr))
-    (c.slots-slots.ensures.slots ∙ c.requires.part.same c.args.self.now.slots.now c.args.self.now.rising) in
+    (c.slots-slots.ensures.slots ∙ c.requires.part.same c.args.self.now.slots.now c.args.self.now.rising c.args.self.now.unlinked) in
     passed-on _ c.from_residual.result refusal c.from_residual.ensures.1
     (inr (state-first image t c.args.point s instr (ap decoded (sym c.word.ensures) ∙ sym c.decode-instr.ensures.value)
     ∙ ap (λ (o : Option Refusal). option_or o (first_broken (later_rules image t c.args.point s instr))) (sym own)))
@@ -51,7 +51,7 @@ returns-in-Some-Ecall-clause-broken c =
     later-answers c.args.self.now.space.image.now (thread_of c.args.self.now) c.args.point (known_with bounds (slots_of c.slots-slots.result) m)
     (state_by c.args.self.now.slots.now c.args.points.now.log c.args.known.now) c.decode-instr.result (Some Ecall) c.call_rules.result
     (ap decoded (sym c.word.ensures) ∙ sym c.decode-instr.ensures.value) call
-    (ap (λ (all : List NotedSlot). known_with bounds all m) (c.slots-slots.ensures.slots ∙ c.requires.part.same c.args.self.now.slots.now c.args.self.now.rising))
+    (ap (λ (all : List NotedSlot). known_with bounds all m) (c.slots-slots.ensures.slots ∙ c.requires.part.same c.args.self.now.slots.now c.args.self.now.rising c.args.self.now.unlinked))
     c.in_ok-own_rules.ensures.broken c.call_rules.ensures.broken
 
 pub returns-in-None-clause-broken : goal.returns-in-None-clause-broken
@@ -69,7 +69,7 @@ returns-in-Some-clause-broken c =
     let plain : c.in-Some.instr ≢ Ecall = search rules in
     later-answers image t c.args.point (known_with bounds (slots_of c.slots-slots.result) m) s c.decode-instr.result (Some c.in-Some.instr) c.ways_rules.result
     (ap decoded (sym c.word.ensures) ∙ sym c.decode-instr.ensures.value) c.in-Some.is
-    (ap (λ (all : List NotedSlot). known_with bounds all m) (c.slots-slots.ensures.slots ∙ c.requires.part.same c.args.self.now.slots.now c.args.self.now.rising))
+    (ap (λ (all : List NotedSlot). known_with bounds all m) (c.slots-slots.ensures.slots ∙ c.requires.part.same c.args.self.now.slots.now c.args.self.now.rising c.args.self.now.unlinked))
     c.in_ok-own_rules.ensures.broken
     (subst (λ (broken : Option Refusal). Answers broken c.ways_rules.result) (sym (plain-later image t c.args.point s c.in-Some.instr plain)) c.ways_rules.ensures.answers)
 
@@ -85,7 +85,7 @@ own_rules-requires-clause-found c =
     let image = c.args.self.now.space.image.now in
     let own = c.args.self.now.space.thread.now in
     let slots = c.args.self.now.slots.now in
-    subst (λ (all : List NotedSlot). AreMapped image own all c.args.found.now) (sym (c.slots-slots.ensures.slots ∙ c.requires.part.same slots c.args.self.now.rising))
+    subst (λ (all : List NotedSlot). AreMapped image own all c.args.found.now) (sym (c.slots-slots.ensures.slots ∙ c.requires.part.same slots c.args.self.now.rising c.args.self.now.unlinked))
     (at-part image own slots c.args.points.now.log c.args.known.now.part c.args.found.now c.requires.found_part c.requires.found)
 
 pub returns-in-Some-clause-found : goal.returns-in-Some-clause-found
@@ -97,7 +97,7 @@ returns-in-Some-clause-found c =
     let found = c.own_rules.new.found in
     always (AreFound image own slots log found) c.ways_rules.result
     (still-found image own slots log c.args.known.now.part found c.requires.part.held (c.in_ok-own_rules.ensures.part ∙ c.requires.found_part)
-    (subst (λ (all : List NotedSlot). AreMapped image own all found) (c.slots-slots.ensures.slots ∙ c.requires.part.same slots c.args.self.now.rising) c.in_ok-own_rules.ensures.found))
+    (subst (λ (all : List NotedSlot). AreMapped image own all found) (c.slots-slots.ensures.slots ∙ c.requires.part.same slots c.args.self.now.rising c.args.self.now.unlinked) c.in_ok-own_rules.ensures.found))
 
 pub returns-in-None-clause-found : goal.returns-in-None-clause-found
 returns-in-None-clause-found c =
@@ -107,7 +107,7 @@ returns-in-None-clause-found c =
     let log = c.args.points.now.log in
     let found = c.own_rules.new.found in
     still-found image own slots log c.args.known.now.part found c.requires.part.held (c.in_ok-own_rules.ensures.part ∙ c.requires.found_part)
-    (subst (λ (all : List NotedSlot). AreMapped image own all found) (c.slots-slots.ensures.slots ∙ c.requires.part.same slots c.args.self.now.rising) c.in_ok-own_rules.ensures.found)
+    (subst (λ (all : List NotedSlot). AreMapped image own all found) (c.slots-slots.ensures.slots ∙ c.requires.part.same slots c.args.self.now.rising c.args.self.now.unlinked) c.in_ok-own_rules.ensures.found)
 
 pub returns-in-Some-Ecall-clause-found : goal.returns-in-Some-Ecall-clause-found
 returns-in-Some-Ecall-clause-found c =
@@ -120,5 +120,5 @@ returns-in-Some-Ecall-clause-found c =
     follows-from (λ _. KeepsParts old new) (λ _. AreFound image own slots new found) c.call_rules.result
     (λ _ keeps. found-grown image own slots old new found keeps
     (still-found image own slots old c.args.known.now.part found c.requires.part.held (c.in_ok-own_rules.ensures.part ∙ c.requires.found_part)
-    (subst (λ (all : List NotedSlot). AreMapped image own all found) (c.slots-slots.ensures.slots ∙ c.requires.part.same slots c.args.self.now.rising) c.in_ok-own_rules.ensures.found)))
+    (subst (λ (all : List NotedSlot). AreMapped image own all found) (c.slots-slots.ensures.slots ∙ c.requires.part.same slots c.args.self.now.rising c.args.self.now.unlinked) c.in_ok-own_rules.ensures.found)))
     c.call_rules.ensures.others

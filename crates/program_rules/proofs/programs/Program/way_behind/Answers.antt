@@ -24,7 +24,7 @@ returns c =
     let broken : Point → List NotedSlot → List Register → ℕ → Option Refusal = λ at all written n.
     first_broken (edge_rules t.thread at (measure_of c.args.known.now.measure) (edge all written) (noted_at image t n)) in
     let at : c.at-at.result ≡ point_of t c.args.point = c.at-at.ensures in
-    let same = c.slots.ensures.slots ∙ c.requires.shown.same c.args.self.now.slots.now c.args.self.now.rising in
+    let same = c.slots.ensures.slots ∙ c.requires.shown.same c.args.self.now.slots.now c.args.self.now.rising c.args.self.now.unlinked in
     subst (λ (x : Option Refusal). Answers x c.way_to.result)
     (λ i. broken (at i) (same i) (c.registers_of.ensures i) (ap (λ (n : ℕ). n + 4) c.address-next.ensures i))
     (c.way_to.ensures.answers t.thread next refl)

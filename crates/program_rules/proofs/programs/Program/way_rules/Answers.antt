@@ -34,5 +34,5 @@ returns-clause-answers c = λ edge is before.
     slots (value_behind c.new-step.result) (behind_form instr edge.before edge.ranges) (noted_at image t c.args.way.now.target) (noted_at image t edge.target)
     at first ranges (λ k. c.new-step.ensures k ∙ (λ i. behind_form instr (first i) (ranges i) k)) (ap (noted_at image t) target)
     ∙ ap (λ (all : List NotedSlot). first_broken (edge_rules t.thread (point_of t c.args.point) m (program_edge instr all edge) (noted_at image t edge.target)))
-    (c.slots.ensures.slots ∙ c.requires.shown.same c.args.self.now.slots.now c.args.self.now.rising))
+    (c.slots.ensures.slots ∙ c.requires.shown.same c.args.self.now.slots.now c.args.self.now.rising c.args.self.now.unlinked))
     (c.way_to.ensures.answers t.thread edge.target refl)

@@ -10,6 +10,7 @@ use Rattle.program_rules.proofs.point_rules.LeftStates.{own-slots}
 use Rattle.program_rules.proofs.programs.Program.way_within.Goals as goal
 use Rattle.typestate.specs.Differences.{changed, slots_of}
 use Rattle.typestate.specs.Logs.{part_of}
+use Rattle.typestate.specs.Replays.{replayed}
 
 pub returns : goal.returns
 returns g c = λ log t a same budget.
@@ -20,5 +21,5 @@ returns g c = λ log t a same budget.
     let own = slots_of c.args.way.now.slots in
     c.kept_at.ensures t a (budget ∙ sym (ap (λ h. h.budget) c.header.ensures))
     ∙ ap (λ (s : PointState). first_broken (kept_at t c.args.at m edge s)) c.state-state.ensures.same
-    ∙ kept-beside t c.args.at m edge known.bounds (changed slots c.args.shown.now.changes) (changed slots (part_of log known.part)) (measure_of known.measure)
+    ∙ kept-beside t c.args.at m edge known.bounds (changed slots c.args.shown.now.changes) (replayed slots (part_of log known.part)) (measure_of known.measure)
     (ap (λ (l : List NotedSlot). are_same_slots own l) (sym c.requires.slots) ∙ own-slots own ∙ sym same)

@@ -3,7 +3,8 @@ use Rattle.std.proofs.Common.{◌∙◌, Result, Ok, sym, ap}
 use Rattle.model.specs.declared.refusals.Refusal.{Refusal}
 use Rattle.model.specs.Acceptance.CallRules.{AfterCall}
 use Rattle.typestate.specs.Calls.{known_with}
-use Rattle.typestate.specs.Differences.{changed, slots_of}
+use Rattle.typestate.specs.Differences.{slots_of}
+use Rattle.typestate.specs.Replays.{replayed}
 use Rattle.typestate.specs.Invocations.{made_or_refused}
 use Rattle.typestate.specs.SlotChanges.{leaves}
 use Rattle.typestate.proofs.held_slots.HeldSlot.behind.Goals as goal
@@ -14,7 +15,7 @@ returns-in-Ok-clause-left c = λ measure.
     let slots = slots_of c.args.self.now.own.slots in
     let made = c.invoked.new.made.items in
     ap (leaves (known_with c.args.bounds.now slots measure) c.args.answers) (c.in_ok-is_tidy.ensures.made ∙ ap (made_or_refused slots made) c.in-Ok.is)
-    ∙ ap done (sym (c.called.ensures.same slots (changed slots made) measure))
+    ∙ ap done (sym (c.called.ensures.same slots (replayed slots made) measure))
 
 pub returns-in-Err-clause-left : goal.returns-in-Err-clause-left
 returns-in-Err-clause-left c = λ measure.

@@ -8,6 +8,7 @@ use Rattle.model.specs.Acceptance.ThreadRules.{reached}
 use Rattle.model.specs.Capabilities.CapabilityWords.{IsCapability}
 use Rattle.typestate.specs.CNodeCalls.{cnode_after}
 use Rattle.typestate.specs.Differences.{slots_of}
+use Rattle.typestate.specs.declared.log_entries.LogEntry.{LogEntry}
 use Rattle.typestate.specs.Invocations.{IsCallOn, held_after, made_or_refused}
 use Rattle.typestate.specs.SlotChanges.{left_or_refused}
 use Rattle.typestate.specs.Spaces.{is_inside}
@@ -53,7 +54,7 @@ returns-in-OnCNode-clause-made c =
     let image = c.args.self.now.own.space.image.now in
     let t = c.args.self.now.own.space.thread.now in
     let slots = slots_of c.args.self.now.own.slots in
-    let made : List NotedSlot = c.note_left.new.made.items in
+    let made : List LogEntry = c.note_left.new.made.items in
     let leaves : Result (List NotedSlot) Refusal → Result Bool Refusal → Type 0 = λ left done. left ≡ made_or_refused slots made done in
     done-as c.note_left.result (leaves (left_or_refused slots c.cnode_call-left.result)) (leaves (held_after image t c.args.at slots c.args.self.now.held.now c.args.call)) (λ done noted.
     ap (held_after image t c.args.at slots c.args.self.now.held.now) c.in-OnCNode.is ∙ cnode-anywhere image t c.args.at slots c.args.self.now.held.now c.in-OnCNode.call
@@ -65,7 +66,7 @@ returns-in-OnHandler-clause-made c =
     let image = c.args.self.now.own.space.image.now in
     let t = c.args.self.now.own.space.thread.now in
     let slots = slots_of c.args.self.now.own.slots in
-    let made : List NotedSlot = c.note_left-in-OnHandler.new.made.items in
+    let made : List LogEntry = c.note_left-in-OnHandler.new.made.items in
     let leaves : Result (List NotedSlot) Refusal → Result Bool Refusal → Type 0 = λ left done. left ≡ made_or_refused slots made done in
     done-as c.note_left-in-OnHandler.result (leaves (left_or_refused slots c.handler_call-left.result)) (leaves (held_after image t c.args.at slots c.args.self.now.held.now c.args.call)) (λ done noted.
     ap (held_after image t c.args.at slots c.args.self.now.held.now) c.in-OnHandler.is ∙ c.handler_call-left.ensures c.args.self.now.held.now ∙ noted) c.note_left-in-OnHandler.ensures.made

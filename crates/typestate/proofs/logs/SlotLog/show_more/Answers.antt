@@ -1,7 +1,8 @@
--- The changes behind what was shown are put among those.
+-- The entries behind what was shown are made behind those.
 use Rattle.std.proofs.Common.{◌≡◌, ◌∙◌, ◌-◌, List, drop, take, refl, ap}
-use Rattle.model.specs.Acceptance.NotedStates.{NotedSlot}
 use Rattle.typestate.specs.Differences.{changed}
+use Rattle.typestate.specs.Replays.{replayed}
+use Rattle.typestate.specs.declared.log_entries.LogEntry.{LogEntry}
 use Rattle.typestate.proofs.LogParts.{next-changes}
 use Rattle.typestate.proofs.logs.SlotLog.show_more.Goals as goal
 
@@ -12,8 +13,8 @@ returns c =
     record {
       part_is = refl;
       held = c.requires.held;
-      rising = c.in_ok-put_all.ensures.rising;
-      same = next-changes c.args.self.now old.changes c.put_all.new.self old.part c.args.part c.requires.old.held c.requires.held c.requires.next
-          c.requires.old.same (λ slots rises. c.in_ok-put_all.ensures.same slots rises
-          ∙ ap (λ (log : List NotedSlot). changed (changed slots old.changes) (take (c.args.part.end - old.part.end) (drop old.part.end log))) same);
+      rising = c.in_ok-make_all.ensures.rising;
+      same = next-changes c.args.self.now old.changes c.make_all.new.self old.part c.args.part c.requires.old.held c.requires.held c.requires.next
+          c.requires.old.same (λ slots rises unlinked. c.in_ok-make_all.ensures.same slots rises unlinked
+          ∙ ap (λ (log : List LogEntry). replayed (changed slots old.changes) (take (c.args.part.end - old.part.end) (drop old.part.end log))) same);
     }

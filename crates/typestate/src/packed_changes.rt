@@ -1,0 +1,89 @@
+//! Changes to slots in few bytes.
+
+ghost use Rattle.std.specs.Prelude.{◌≡◌, ◌^◌, nat_lt, option_map, true};
+ghost use Rattle.model.specs.Acceptance.NotedStates.{number_of};
+ghost use Rattle.typestate.specs.Names.{AreInverse, renamed};
+ghost use Rattle.typestate.specs.PackedChanges.{numbered_key, unpacked_change};
+
+use crate::names::Names;
+use crate::records::capability_of;
+use crate::{NotedSlot, SlotKey};
+use capwords::pack;
+
+/// What a change leaves in its slot: the words of the capability, and the name of what that was derived from.
+#[derive(Clone, Copy)]
+pub struct PackedChange {
+    head: u32,
+    word: u32,
+    pub(crate) parent: Option<u64>,
+}
+
+/// The key of a number.
+pub(crate) fn numbered_key(number: u64) -> SlotKey
+    ensures { result ≡ numbered_key number }
+{
+    SlotKey {
+        cnode: (number / 0x1_0000_0000) as u32,
+        index: (number % 0x1_0000_0000) as u32,
+    }
+}
+
+/// An index has 32 bits.
+pub(crate) fn low(index: u32)
+    ensures { nat_lt index (2 ^ 32) ≡ true }
+{
+    let _ = index;
+}
+
+impl Names {
+    /// The name of what a slot was derived from.
+    fn parent_name(&self, parent: Option<SlotKey>) -> Option<u64>
+        ensures name { result ≡ option_map (λ p. renamed self.now.names.entries (number_of p)) parent }
+        ensures back { AreInverse self.now.slots.entries self.now.names.entries → option_map (λ name. numbered_key (renamed self.now.slots.entries name)) result ≡ parent }
+    {
+        match parent {
+            Some(key) => {
+                low(key.index);
+                Some(self.name(key.number()))
+            }
+            None => None,
+        }
+    }
+
+    /// What a slot was derived from, by its name.
+    fn named_parent(&self, name: Option<u64>) -> Option<SlotKey>
+        ensures { result ≡ option_map (λ name. numbered_key (renamed self.now.slots.entries name)) name }
+    {
+        match name {
+            Some(name) => Some(numbered_key(self.slot(name))),
+            None => None,
+        }
+    }
+}
+
+impl PackedChange {
+    /// What a change leaves, where names stand for slots.
+    pub(crate) fn of(change: NotedSlot, names: &Names) -> Self
+        requires { AreInverse names.now.slots.entries names.now.names.entries }
+        ensures { unpacked_change names.now.slots.entries (number_of change.key) result ≡ change }
+    {
+        low(change.key.index);
+        let [head, word] = pack(change.capability);
+        PackedChange {
+            head,
+            word,
+            parent: names.parent_name(change.parent),
+        }
+    }
+
+    /// The change to the slot of a number, where slots stand for names.
+    pub(crate) fn at(&self, number: u64, names: &Names) -> NotedSlot
+        ensures { result ≡ unpacked_change names.now.slots.entries number self.now }
+    {
+        NotedSlot {
+            key: numbered_key(number),
+            capability: capability_of(self.head, self.word),
+            parent: names.named_parent(self.parent),
+        }
+    }
+}
