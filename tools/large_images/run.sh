@@ -1,7 +1,8 @@
 #!/usr/bin/env bash
 # Times reading and booting at a sixteenth, a quarter and all of the format's limits (make.py says which), verifying images of
-# some 100 KiB, 1.5 MiB and 23 MiB, and a run of a million steps of a thread that counts, all to files. Asks for `make build` before. The reader is proved and built in a copy
-# of the crates that it needs, so that the gate knows nothing of it.
+# some 100 KiB, 1.5 MiB and 23 MiB, verifying images whose few bytes make, move or map many things, with the memory that it takes
+# (GNU time), and a run of a million steps of a thread that counts, all to files. Asks for `make build` before. The reader is proved
+# and built in a copy of the crates that it needs, so that the gate knows nothing of it.
 set -euo pipefail
 here="$(cd "$(dirname "$0")" && pwd)"
 root="$(cd "$here/../.." && pwd)"
@@ -54,6 +55,13 @@ for share in 232 16 1; do
     python3 "$here/make.py" verify "$share" "$copy/verify$share.img"
     size="$(stat -c %s "$copy/verify$share.img")"
     timed "verifying $size bytes ten times:" ten_times "$copy/verify$share.img"
+done
+for kind in rising falling moves movers noted_slots wide spread; do
+    for share in 16 4 1; do
+        python3 "$here/make.py" "$kind" "$share" "$copy/many.img"
+        echo "verifying $kind, $(stat -c %s "$copy/many.img") bytes:"
+        env time -f "user %U, sys %S, %M KB" "$program" verify "$copy/many.img" 2>&1
+    done
 done
 timed "a million steps:" "$program" run --unverified "$copy/count.img" "$copy/million.events"
 wc -lc "$copy/printed"
