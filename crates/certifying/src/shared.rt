@@ -38,7 +38,7 @@ impl Stretch {
     }
 
     /// What follows this one up to the end of another one, in a list of changes.
-    pub(crate) fn rest_of(self, other: Stretch, changes: &[NotedSlot]) -> &[NotedSlot] {
+    pub(crate) fn rest_of(self, other: Stretch, changes: &[LogEntry]) -> &[LogEntry] {
         let rest = Stretch {
             first: self.end,
             end: other.end,
