@@ -1,7 +1,6 @@
 //! A program of each instruction with ends of its operands, and of each register.
 
 use crate::assembling::images::bytes_of;
-use crate::assembling::instruction_table;
 use crate::texts::{SOLO, lines_before};
 use std::test::Fail;
 
@@ -226,11 +225,11 @@ const ROWS: &str = "
     0xFE029EE3 word 0xFE029EE3
 ";
 
-/// Asserts that a text of these lines, each after its word, is an image that ends with these words.
-fn assert_words(rt: HostRuntime, rows: &str, count: usize) -> Result<(), Fail> {
+#[test]
+fn instructions_have_the_words_of_another_assembler(rt: HostRuntime) -> Result<(), Fail> {
     let mut text = lines_before(rt.alloc(), SOLO, 17)?;
     let mut words = Vec::new(rt.alloc());
-    for row in rows.trim().lines() {
+    for row in ROWS.trim().lines() {
         let (word, line) = row.trim_start().split_once(' ').ok_or(row)?;
         let digits = word.strip_prefix("0x").ok_or(row)?;
         words.extend_from_slice(&u32::from_str_radix(digits, 16)?.to_le_bytes())?;
@@ -238,17 +237,7 @@ fn assert_words(rt: HostRuntime, rows: &str, count: usize) -> Result<(), Fail> {
         text.push('\n')?;
     }
     text.push_str("end\n")?;
-    assert_eq!(rt; words.len(), 4 * count);
+    assert_eq!(rt; words.len(), 4 * 217);
     assert!(rt; bytes_of(rt.alloc(), text.as_str())?.ends_with(words.as_slice()));
     Ok(())
-}
-
-#[test]
-fn instructions_have_the_words_of_another_assembler(rt: HostRuntime) -> Result<(), Fail> {
-    assert_words(rt, ROWS, 217)
-}
-
-#[test]
-fn many_operands_have_the_words_of_another_assembler(rt: HostRuntime) -> Result<(), Fail> {
-    assert_words(rt, instruction_table::ROWS, 37 * 32 + 3)
 }
