@@ -98,6 +98,10 @@ same_rows() {
         grep '|' crates/kernel_tests/src/machine/table.rt | diff - "$room/rows"
 }
 
+same_words() {
+    tools/instruction_table.py >"$room/words.rt" && diff crates/program_tests/src/assembling/instruction_table.rt "$room/words.rt"
+}
+
 part_with python3 "tools, read" scripts_say_nothing
 part_with python3 "tools/checks/below.py" copies_are_whole
 part_with python3 "tools/checks/texts.py --premises" tools/checks/texts.py --premises
@@ -110,6 +114,7 @@ part_with python3 "tools/large_images/make.py" makes_large_image
 part_with python3 "tools/certify/loops.py" makes_loops
 part_with cc "tools/memory/refuse_nth.c" compiles_c
 part_with "python3 riscv64-unknown-elf-as qemu-riscv32" "tools/rv32i_table.py" same_rows
+part_with "python3 clang llvm-objcopy" "tools/instruction_table.py" same_words
 part_with python3 "tools/from_c/run.sh --cheap" tools/from_c/run.sh --cheap
 part_with crates/microsys/out/microsys "tools/failing/run.sh" tools/failing/run.sh
 for script in bench damage kernel_run large_images memory certify; do

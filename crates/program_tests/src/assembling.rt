@@ -1,6 +1,7 @@
 //! The text form: lines, instructions, and whole texts.
 
 mod images;
+mod instruction_table;
 mod instructions;
 mod lines;
 mod texts;

@@ -1,7 +1,9 @@
 //! A program of each instruction with ends of its operands, and of each register.
 
 use crate::assembling::images::bytes_of;
-use crate::texts::{SOLO, lines_before};
+use crate::assembling::instruction_table;
+use crate::texts::{SOLO, lines_before, put_line};
+use std::alloc::Global;
 use std::test::Fail;
 
 /// The words that another assembler (clang 14, `-march=rv32i -mno-relax`) makes of the same program, and its lines.
@@ -225,19 +227,28 @@ const ROWS: &str = "
     0xFE029EE3 word 0xFE029EE3
 ";
 
-#[test]
-fn instructions_have_the_words_of_another_assembler(rt: HostRuntime) -> Result<(), Fail> {
-    let mut text = lines_before(rt.alloc(), SOLO, 17)?;
-    let mut words = Vec::new(rt.alloc());
-    for row in ROWS.trim().lines() {
+/// Whether a text of these lines, each after its word, is an image that ends with these words, and there are as many.
+fn has_words(alloc: Global, rows: &str, count: usize) -> Result<bool, Fail> {
+    let mut text = lines_before(alloc, SOLO, 17)?;
+    let mut words = Vec::new(alloc);
+    for row in rows.trim().lines() {
         let (word, line) = row.trim_start().split_once(' ').ok_or(row)?;
         let digits = word.strip_prefix("0x").ok_or(row)?;
         words.extend_from_slice(&u32::from_str_radix(digits, 16)?.to_le_bytes())?;
-        text.push_str(line)?;
-        text.push('\n')?;
+        put_line(&mut text, line)?;
     }
-    text.push_str("end\n")?;
-    assert_eq!(rt; words.len(), 4 * 217);
-    assert!(rt; bytes_of(rt.alloc(), text.as_str())?.ends_with(words.as_slice()));
+    put_line(&mut text, "end")?;
+    Ok(words.len() / 4 == count && bytes_of(alloc, text.as_str())?.ends_with(words.as_slice()))
+}
+
+#[test]
+fn instructions_have_the_words_of_another_assembler(rt: HostRuntime) -> Result<(), Fail> {
+    assert!(rt; has_words(rt.alloc(), ROWS, 217)?);
+    Ok(())
+}
+
+#[test]
+fn many_operands_have_the_words_of_another_assembler(rt: HostRuntime) -> Result<(), Fail> {
+    assert!(rt; has_words(rt.alloc(), instruction_table::ROWS, 37 * 32 + 3)?);
     Ok(())
 }
