@@ -59,10 +59,6 @@ pub capabilities-again : (image : Image) → IsFitting image → map (entry_of (
 capabilities-again image fits = map-back (capability_of image) (entry_of (declared_of image)) image.capabilities
     (λ k c at. ap (λ n. record c { source = n }) (source-told image fits c.source (fits.capability k c at).source).1)
 
-pub sources-told : (image : Image) → IsFitting image → All (λ (c : Capability). HasNumber (declared_of image) c.source) (map (capability_of image) image.capabilities)
-sources-told image fits = All-map (λ (c : Capability). HasNumber (declared_of image) c.source) (capability_of image) image.capabilities
-    (λ k d less. (source-told image fits (slice_index_or image.capabilities k d).source (fits.capability k _ (slice_get-get_or image.capabilities k d less)).source).0)
-
 -- ---- the whole
 
 same-header : (image : Image) → IsFitting image → SectionsFit image
@@ -94,8 +90,3 @@ is-listed image is draft same m here cs told =
     told ∙ ap (λ (d : Draft). map (entry_of d.declared) d.declared.capabilities) same ∙ capabilities-again image limits in
     (λ i. assembled (memory i) (same i).declared (entries i) (same i).threads)
     ∙ ap (λ h. record image { header = h }) (same-header image limits (sections-fit image is))
-
-pub sources-here : (image : Image) → whole_image.fits image ≡ true → (draft : Draft) → draft ≡ draft_of image
-    → All (λ (c : Capability). HasNumber draft.declared c.source) draft.declared.capabilities
-sources-here image is draft same =
-    subst (λ (d : Draft). All (λ (c : Capability). HasNumber d.declared c.source) d.declared.capabilities) (sym same) (sources-told image (is-fitting image is))

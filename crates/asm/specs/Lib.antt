@@ -1,6 +1,7 @@
 pub mod Drafts
 pub mod Keys
 pub mod Labels
+pub mod Meaning
 pub mod Names
 pub mod Outcomes
 pub mod Reading

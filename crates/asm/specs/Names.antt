@@ -1,10 +1,12 @@
 -- The names that are declared so far.
-use Rattle.std.specs.Prelude.{◌≡◌, ℕ, ◌<◌, ◌^◌, ◌||◌, Bool, List, [], ◌∷◌, ◌++◌, Option, Some, MatchOption, is_some, unwrap_or, position}
+use Rattle.std.specs.Prelude.{◌≡◌, ℕ, ◌<◌, ◌^◌, ◌||◌, Bool, not, List, [], ◌∷◌, ◌++◌, Option, Some, None, MatchOption, is_some, unwrap_or, position, Result, Ok, Err}
 use Rattle.std.specs.List.{list_any}
 use Rattle.std.specs.Option.{option_map_or}
 use Rattle.std.specs.Map.{lookup}
 use Rattle.std.specs.Str.{bytes_eq}
 use Rattle.model.specs.Images.Listing.{Text}
+use Rattle.asm_line.specs.Words.{◌>>=◌}
+use Rattle.asm.specs.Keys.{must}
 use Rattle.asm.specs.declared.names.Source.{Source}
 use Rattle.asm.specs.declared.names.Source.TheVariants.{Object, Handler}
 
@@ -40,6 +42,22 @@ source_of names name = option_map_or (λ line. Handler line) (line_of_name names
 
 abbrev pub HasSource : KnownNames → Text → Type 0
 HasSource names name = MatchOption (line_of_name names name) (IsNamed names.objects name) (λ _. Unit {0})
+
+-- ---- what a name stands for, for every name
+
+-- nothing has this name
+abbrev pub free : KnownNames → Text → Result (Unit {0}) ℕ
+free names name = must (not (is_taken names name)) 3
+
+-- the number that a name stands for, or it is unknown
+abbrev pub number_at : Option ℕ → Result ℕ ℕ
+number_at place = elim place [ Some number ↦ Ok number | None ↦ Err 2 ]
+
+unfoldable pub number_known : List Text → Text → Result ℕ ℕ
+number_known names name = number_at (position (bytes_eq name) names)
+
+unfoldable pub source_known : KnownNames → Text → Result Source ℕ
+source_known names name = elim (line_of_name names name) [ Some line ↦ Ok (Handler line) | None ↦ number_known names.objects name >>= λ number. Ok (Object number) ]
 
 -- ---- one name more
 

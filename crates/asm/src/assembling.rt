@@ -1,78 +1,83 @@
 //! Whole texts.
 
-ghost use Rattle.std.specs.Prelude.{◌≡◌, ◌≤◌, ◌<◌, true, List, IfOk, IfErr, MatchResult};
-ghost use Rattle.std.specs.List.{All, AllZip};
+ghost use Rattle.std.specs.Prelude.{◌≡◌, ◌⊎◌, ◌≤◌, ◌<◌, true, max, option_map, IfOk, IfErr, IsSome, MatchResult, Ok, Err};
+ghost use Rattle.std.specs.List.{All};
 ghost use Rattle.std.specs.Str.Lines.{lines};
 ghost use Rattle.model.specs.Images.Image as described;
 ghost use Rattle.model.specs.Images.Image.{whole_image};
 ghost use Rattle.model.specs.Images.Listing.{listing};
-ghost use Rattle.asm_line.specs.Listed.{Lists};
-ghost use Rattle.asm_line.specs.declared.lines.Line.{Line};
-ghost use Rattle.asm.specs.declared.faults.Fault.{Fault};
-ghost use Rattle.asm.specs.Drafts.{draft_of, nothing_read};
-ghost use Rattle.asm.specs.Outcomes.{Gives};
-ghost use Rattle.asm.specs.Reading.{AreInPlace, IsInPlace, with_line, with_lines};
+ghost use Rattle.asm.specs.Drafts.{nothing_read};
+ghost use Rattle.asm.specs.Meaning.{all_read, and_then, finished, on_line, text_means, text_read, waiting_read};
+ghost use Rattle.asm.specs.Outcomes.{Means, MeansText};
 
 use crate::assembly::Assembly;
 use crate::faults::{Fault, SourceFault};
 use crate::labels::{Labels, labels_of};
-use asm_line::{Line, parse_line};
+use asm_line::parse_line;
 use image::Image;
 use std::alloc::Global;
 
 /// Adds a line of the text.
+#[tactic(auto, unfolding(crate::specs::Meaning::text_read))]
 fn add_text<'a>(
     assembly: &mut Assembly<'a>,
     text: &'a str,
     number: u64,
+    is_last: bool,
     labels: &[Labels<'a>],
 ) -> Result<(), Fault>
-    ensures { (said : Line) → Lists said text.now → IsInPlace labels.now number assembly.old said → Gives result (λ _. assembly.new ≡ with_line labels.now assembly.old said) }
+    ensures { Means result (λ _. assembly.new) (text_read labels.now number is_last assembly.old text.now) }
 {
     let line = parse_line(text)?;
-    assembly.add(line, number, labels)
+    assembly.add_line(line, number, is_last, labels)
 }
 
-/// Whether a line begins a thread.
-fn begins_thread(text: &str) -> bool {
-    matches!(parse_line(text), Ok(Line::Thread(_)))
-}
-
-/// The fault of a line as it is told. A text that ends where a thread begins is at fault for that, whatever names stand there.
-fn told(fault: Fault, text: &str, is_last: bool) -> Fault
-    ensures { fault ≡ Fault.Memory → result ≡ Fault.Memory }
+/// Adds the line with this number, if there is one.
+fn add_waiting<'a>(
+    assembly: &mut Assembly<'a>,
+    waiting: Option<&'a str>,
+    number: u64,
+    is_last: bool,
+    labels: &[Labels<'a>],
+) -> Result<(), SourceFault>
+    ensures fault { IfErr result (λ fault. (fault.line ≡ number) × (1 ≤ fault.kind) × (fault.kind ≤ 5)) }
+    ensures meant { MatchResult result (λ _. waiting_read labels.now number is_last assembly.old (option_map (λ text. text.now) waiting.entry) ≡ Ok assembly.new) (λ fault. IsSome waiting.entry × ((fault.kind ≡ 5) ⊎ (waiting_read labels.now number is_last assembly.old (option_map (λ text. text.now) waiting.entry) ≡ Err fault.kind))) }
 {
-    match fault {
-        Fault::UnknownName | Fault::Range if is_last && begins_thread(text) => Fault::Syntax,
-        _ => fault,
+    match waiting {
+        Some(text) => match add_text(assembly, text, number, is_last, labels) {
+            Ok(()) => Ok(()),
+            Err(fault) => Err(fault.at(number)),
+        },
+        None => Ok(()),
     }
 }
 
-/// Adds all lines of a text, and gives the number of the last one.
+/// Adds all lines of a text, and gives the number of the last one. Each waits for the next one, which shows whether it is
+/// the last.
 fn add_lines<'a>(
     assembly: &mut Assembly<'a>,
     text: &'a str,
     labels: &[Labels<'a>],
 ) -> Result<u64, SourceFault>
     ensures fault { IfErr result (λ fault. (1 ≤ fault.line) × (1 ≤ fault.kind) × (fault.kind ≤ 5)) }
-    ensures listed { (said : List Line) → AllZip Lists said (lines text.now) → AreInPlace labels.now 0 assembly.old said → MatchResult result (λ _. assembly.new ≡ with_lines labels.now assembly.old said) (λ fault. fault.kind ≡ 5) }
+    ensures meant { MatchResult result (λ number. all_read labels.now 0 assembly.old (lines text.now) ≡ Ok (number, assembly.new)) (λ fault. (fault.kind ≡ 5) ⊎ (all_read labels.now 0 assembly.old (lines text.now) ≡ Err (fault.line, fault.kind))) }
 {
-    let last = text.lines().count() as u64;
+    let mut waiting = None;
     let mut number = 0u64;
     'lines: for line in text.lines() {
+        add_waiting(assembly, waiting, number, false, labels)?;
+        waiting = Some(line);
         number = number.saturating_add(1);
-        if let Err(fault) = add_text(assembly, line, number, labels) {
-            return Err(told(fault, line, number == last).at(number));
-        }
     }
+    add_waiting(assembly, waiting, number, true, labels)?;
     Ok(number)
 }
 
-/// The image behind the last line, which has this number.
+/// The image after the last line, which has this number.
 fn finished(assembly: Assembly<'_>, number: u64) -> Result<Image, SourceFault>
     ensures image { IfOk result (λ image. whole_image.fits image ≡ true) }
     ensures fault { IfErr result (λ fault. (1 ≤ fault.line) × (1 ≤ fault.kind) × (fault.kind ≤ 5)) }
-    ensures listed { (listed : described.Image) → whole_image.fits listed ≡ true → assembly.entry ≡ draft_of listed → MatchResult result (λ image. image ≡ listed) (λ fault. fault.kind ≡ 5) }
+    ensures meant { MeansText result (on_line (max number 1) (finished assembly.entry)) }
 {
     match assembly.finish() {
         Ok(image) => Ok(image),
@@ -84,7 +89,7 @@ fn finished(assembly: Assembly<'_>, number: u64) -> Result<Image, SourceFault>
 fn image_with<'a>(alloc: Global, text: &'a str, labels: &[Labels<'a>]) -> Result<Image, SourceFault>
     ensures image { IfOk result (λ image. whole_image.fits image ≡ true) }
     ensures fault { IfErr result (λ fault. (1 ≤ fault.line) × (1 ≤ fault.kind) × (fault.kind ≤ 5)) }
-    ensures listed { (listed : described.Image) → whole_image.fits listed ≡ true → (said : List Line) → AllZip Lists said (lines text.now) → AreInPlace labels.now 0 nothing_read said → with_lines labels.now nothing_read said ≡ draft_of listed → MatchResult result (λ image. image ≡ listed) (λ fault. fault.kind ≡ 5) }
+    ensures meant { MeansText result (and_then (all_read labels.now 0 nothing_read (lines text.now)) (λ read. on_line (max read.0 1) (finished read.1))) }
 {
     let mut assembly = Assembly::new(alloc);
     match add_lines(&mut assembly, text, labels) {
@@ -99,16 +104,18 @@ fn image_with<'a>(alloc: Global, text: &'a str, labels: &[Labels<'a>]) -> Result
 
 /// The image that a text describes, line by line. A line ends with a line feed, or a carriage return
 /// and a line feed; the last may end with the text. The listing of an image whose threads begin in
-/// their programs gives that image, or is refused for want of memory.
+/// their programs gives that image, unless it fails because it is out of memory.
 ///
 /// # Errors
 ///
 /// The first line that is at fault, and how (`SourceFault`). What no line is at fault for, as an image
-/// without threads, is told at the last line.
+/// without threads, is reported at the last line.
+#[tactic(auto, unfolding(crate::specs::Meaning::text_means))]
 pub fn assemble(alloc: Global, text: &str) -> Result<Image, SourceFault>
     ensures image { IfOk result (λ image. whole_image.fits image ≡ true) }
     ensures fault { IfErr result (λ fault. (1 ≤ fault.line) × (1 ≤ fault.kind) × (fault.kind ≤ 5)) }
     ensures listed { (listed : described.Image) → whole_image.fits listed ≡ true → All (λ (t : described.Thread). t.header.entry < t.header.words) listed.threads → text.now ≡ listing listed → MatchResult result (λ image. image ≡ listed) (λ fault. fault.kind ≡ 5) }
+    ensures meant { MatchResult result (λ image. text_means text.now ≡ Ok image) (λ fault. (fault.kind ≡ 5) ⊎ (text_means text.now ≡ Err (fault.line, fault.kind))) }
 {
     let labels = labels_of(alloc, text)?;
     image_with(alloc, text, &labels)

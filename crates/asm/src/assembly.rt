@@ -3,15 +3,15 @@
 //! A function that ends early hands what it owns to `drop`: in place of that call, each field would be dropped on its own,
 //! which is long to prove.
 
-ghost use Rattle.std.specs.Prelude.{◌≡◌, ◌≢◌, ◌<◌, true, [], ◌∷◌, ◌++◌, length, map, IfOk, Ok, Some};
-ghost use Rattle.model.specs.Images.Image as described;
+ghost use Rattle.std.specs.Prelude.{◌≡◌, ◌⊎◌, true, length, map, IfOk, MatchResult, Ok, Err, Some, None};
 ghost use Rattle.model.specs.Images.Image.{whole_image};
 ghost use Rattle.asm_line.specs.declared.lines.Line.TheVariants as said;
-ghost use Rattle.asm.specs.Drafts.{assembled, draft_of, nothing_read};
-ghost use Rattle.asm.specs.Outcomes.{Gives};
-ghost use Rattle.asm.specs.Reading.{IsDeclaration, IsFirst, IsInPlace, IsPlacement, IsThreadLine, MayBeginThread, labels_at, thread_behind, with_declaration, with_first, with_line, with_placement, with_thread_line};
+ghost use Rattle.asm.specs.declared.faults.Fault.{Fault};
+ghost use Rattle.asm.specs.Drafts.{assembled, nothing_read};
+ghost use Rattle.asm.specs.Meaning.{add_line, ended, finished, first_line, fitting, in_thread, inside, is_blank, is_end, leaves_open, memory_known, outside, placed_with, read_line, thread_begins, thread_opened, with_declared};
+ghost use Rattle.asm.specs.Outcomes.{Means, kind_of};
+ghost use Rattle.asm.specs.Reading.{labels_at};
 ghost use Rattle.asm.specs.Sections.{entry_of};
-ghost use Rattle.asm.specs.Threads.{MayEnd, thread_begun};
 
 use crate::declarations::Declarations;
 use crate::faults::Fault;
@@ -70,20 +70,47 @@ impl<'a> Assembly<'a> {
         }
     }
 
+    /// Whether a thread is open after a line.
+    fn leaves_open(&self, line: &Line<'a>) -> bool
+        ensures { result ≡ leaves_open self.now line.now }
+    {
+        match &self.open {
+            Some(_) => !is_end(line),
+            None => matches!(line, Line::Thread(_)),
+        }
+    }
+
+    /// Adds what a line says. The last line of a text may leave no thread open, whatever else is wrong with it.
+    ///
+    /// # Errors
+    ///
+    /// What the line is at fault for. What is known of the image is then of no use.
+    #[tactic(auto, unfolding(crate::specs::Meaning::add_line))]
+    pub(crate) fn add_line(
+        &mut self,
+        line: Line<'a>,
+        number: u64,
+        is_last: bool,
+        labels: &[Labels<'a>],
+    ) -> Result<(), Fault>
+        ensures { Means result (λ _. self.new) (add_line labels.now number is_last self.old line.entry) }
+    {
+        if is_last && self.leaves_open(&line) {
+            return Err(Fault::Syntax);
+        }
+        self.add(line, number, labels)
+    }
+
     /// Adds what a line says. `number` counts the lines from 1, and `labels` are those of each thread.
     ///
     /// # Errors
     ///
     /// What the line is at fault for. What is known of the image is then of no use.
-    pub(crate) fn add(
-        &mut self,
-        line: Line<'a>,
-        number: u64,
-        labels: &[Labels<'a>],
-    ) -> Result<(), Fault>
-        ensures { IsInPlace labels.now number self.old line.entry → Gives result (λ _. self.new ≡ with_line labels.now self.old line.entry) }
+    #[tactic(auto, unfolding(crate::specs::Meaning::read_line))]
+    fn add(&mut self, line: Line<'a>, number: u64, labels: &[Labels<'a>]) -> Result<(), Fault>
+        ensures { Means result (λ _. self.new) (read_line labels.now number self.old line.entry) }
     {
-        if let Line::Blank = &line {
+        if is_blank(&line) {
             return Ok(());
         }
         if self.memory.is_none() {
@@ -96,8 +123,9 @@ impl<'a> Assembly<'a> {
     }
 
     /// Adds the first line.
+    #[tactic(auto, unfolding(crate::specs::Meaning::first_line))]
     fn begin(&mut self, line: Line<'a>) -> Result<(), Fault>
-        ensures { IsFirst line.entry → Gives result (λ _. self.new ≡ with_first self.old line.entry) }
+        ensures { Means result (λ _. self.new) (first_line self.old line.entry) }
     {
         match line {
             Line::Memory {
@@ -112,8 +140,9 @@ impl<'a> Assembly<'a> {
     }
 
     /// Goes on with a new thread, of which there is to be room for one more.
+    #[tactic(auto, unfolding(crate::specs::Meaning::thread_opened))]
     fn open_thread(&mut self, thread: OpenThread) -> Result<(), Fault>
-        ensures { length self.old.threads < 64 → Gives result (λ _. self.new ≡ record self.old { open_thread = Some thread }) }
+        ensures { Means result (λ _. self.new) (thread_opened self.old thread) }
     {
         if MOST_THREADS <= self.threads.len() {
             drop(thread);
@@ -123,20 +152,32 @@ impl<'a> Assembly<'a> {
         Ok(())
     }
 
-    /// Adds the first line of a thread.
-    fn begin_thread(&mut self, line: &ThreadLine<'a>, labels: &[Labels<'a>]) -> Result<(), Fault>
-        ensures { MayBeginThread labels.now self.old line.now → Gives result (λ _. self.new ≡ record self.old { open_thread = Some (thread_begun self.old.declared.names (labels_at labels.now (length self.old.threads)) line.now) }) }
+    /// A thread at its first line.
+    fn begun(&self, line: &ThreadLine<'a>, labels: &[Labels<'a>]) -> Result<OpenThread, Fault>
+        ensures { Means result (λ begun. begun) (thread_begins (labels_at labels.now (length self.now.threads)) self.now.declared.names line.now) }
     {
-        let Some(labels) = labels.get(self.threads.len()) else {
-            return Err(Fault::UnknownName);
-        };
-        let thread = OpenThread::begin(self.alloc, line, &self.declared.names, labels)?;
+        match labels.get(self.threads.len()) {
+            Some(labels) => OpenThread::begin(self.alloc, line, &self.declared.names, labels),
+            None => {
+                let none = Labels::new(self.alloc);
+                OpenThread::begin(self.alloc, line, &self.declared.names, &none)
+            }
+        }
+    }
+
+    /// Adds the first line of a thread.
+    #[tactic(auto, unfolding(crate::specs::Meaning::outside))]
+    fn begin_thread(&mut self, line: &ThreadLine<'a>, labels: &[Labels<'a>]) -> Result<(), Fault>
+        ensures { Means result (λ _. self.new) (outside (labels_at labels.now (length self.old.threads)) self.old (said.Thread line.now)) }
+    {
+        let thread = self.begun(line, labels)?;
         self.open_thread(thread)
     }
 
     /// Adds a line that stands in no thread.
+    #[tactic(auto, unfolding(crate::specs::Meaning::outside, crate::specs::Meaning::declared_with))]
     fn declare(&mut self, line: Line<'a>, labels: &[Labels<'a>]) -> Result<(), Fault>
-        ensures { IsDeclaration labels.now self.old line.entry → Gives result (λ _. self.new ≡ with_declaration labels.now self.old line.entry) }
+        ensures { Means result (λ _. self.new) (outside (labels_at labels.now (length self.old.threads)) self.old line.entry) }
     {
         match line {
             Line::Untyped { name, entry } => self.declared.add_untyped(&name, entry),
@@ -160,8 +201,9 @@ impl<'a> Assembly<'a> {
     }
 
     /// Adds a line that says what a slot, a page or a frame holds.
+    #[tactic(auto, unfolding(crate::specs::Meaning::placed_with))]
     fn place(&mut self, line: Line<'a>) -> Result<(), Fault>
-        ensures { IsPlacement self.old line.entry → Gives result (λ _. self.new ≡ with_placement self.old line.entry) }
+        ensures { Means result (λ _. self.new) (with_declared self.old (placed_with self.old.declared line.entry)) }
     {
         match line {
             Line::Capability {
@@ -190,8 +232,10 @@ impl<'a> Assembly<'a> {
     }
 
     /// Puts a thread behind the others at its line `end`.
+    #[tactic(auto, unfolding(crate::specs::Meaning::ended))]
     fn end_thread(&mut self, thread: OpenThread) -> Result<(), Fault>
-        ensures { MayEnd thread → Gives result (λ _. self.new ≡ record self.old { threads = self.old.threads ++ thread.thread ∷ [] }) }
+        ensures meant { Means result (λ _. record self.new { open_thread = None }) (ended self.old thread) }
+        ensures kept { self.new.open_thread ≡ self.old.open_thread }
     {
         self.threads.push(thread.end()?)?;
         Ok(())
@@ -205,11 +249,14 @@ impl<'a> Assembly<'a> {
         number: u64,
         labels: &[Labels<'a>],
     ) -> Result<(), Fault>
-        ensures { length self.now.threads < length labels.now → line.entry ≢ said.End → IsThreadLine (labels_at labels.now (length self.now.threads)) number self.now.declared.names thread.old line.entry → Gives result (λ _. thread.new ≡ thread_behind self.now.declared.names thread.old line.entry) }
+        ensures { Means result (λ _. thread.new) (inside (labels_at labels.now (length self.now.threads)) number self.now.declared.names thread.old line.entry) }
     {
         match labels.get(self.threads.len()) {
             Some(labels) => thread.add(self.alloc, line, number, &self.declared.names, labels),
-            None => Err(Fault::UnknownName),
+            None => {
+                let none = Labels::new(self.alloc);
+                thread.add(self.alloc, line, number, &self.declared.names, &none)
+            }
         }
     }
 
@@ -221,9 +268,9 @@ impl<'a> Assembly<'a> {
         number: u64,
         labels: &[Labels<'a>],
     ) -> Result<(), Fault>
-        ensures { length self.old.threads < length labels.now → IsThreadLine (labels_at labels.now (length self.old.threads)) number self.old.declared.names thread line.entry → Gives result (λ _. self.new ≡ with_thread_line self.old thread line.entry) }
+        ensures { self.old.open_thread ≡ None → Means result (λ _. self.new) (in_thread (labels_at labels.now (length self.old.threads)) number self.old thread line.entry) }
     {
-        if let Line::End = &line {
+        if is_end(&line) {
             return self.end_thread(thread);
         }
         match self.add_before_end(&mut thread, line, number, labels) {
@@ -239,9 +286,9 @@ impl<'a> Assembly<'a> {
     }
 
     /// What the first line says, and the capabilities, if the last thread is at its end.
+    #[tactic(auto, unfolding(crate::specs::Meaning::memory_known))]
     fn first_and_capabilities(&self) -> Result<(Memory, Vec<CapabilityEntry>), Fault>
-        ensures { (listed : described.Image) → whole_image.fits listed ≡ true → self.now ≡ draft_of listed
-            → Gives result (λ found. (self.now.memory ≡ Some found.0) × (found.1.items ≡ map (entry_of self.now.declared) self.now.declared.capabilities)) }
+        ensures { MatchResult result (λ found. (memory_known self.now ≡ Ok found.0) × (found.1.items ≡ map (entry_of self.now.declared) self.now.declared.capabilities)) (λ fault. (fault ≡ Fault.Memory) ⊎ (memory_known self.now ≡ Err (kind_of fault))) }
     {
         match (self.memory, &self.open) {
             (Some(memory), None) => Ok((memory, self.declared.capability_entries(self.alloc)?)),
@@ -274,8 +321,7 @@ impl<'a> Assembly<'a> {
     /// The image with these capabilities.
     fn image(self, memory: Memory, capabilities: Vec<CapabilityEntry>) -> Result<Image, Fault>
         ensures fits { IfOk result (λ image. whole_image.fits image ≡ true) }
-        ensures listed { whole_image.fits (assembled memory self.entry.declared capabilities.items self.entry.threads) ≡ true
-            → result ≡ Ok (assembled memory self.entry.declared capabilities.items self.entry.threads) }
+        ensures meant { Means result (λ image. image) (fitting (assembled memory self.entry.declared capabilities.items self.entry.threads)) }
     {
         match Image::checked(self.parts(memory, capabilities)) {
             Ok(image) => Ok(image),
@@ -292,9 +338,10 @@ impl<'a> Assembly<'a> {
     ///
     /// `Fault::Syntax` where the first line or the end of a thread is missing, `Fault::Range` where the entries make no
     /// image, `Fault::UnknownName` where a capability has no source, and `Fault::Memory`.
+    #[tactic(auto, unfolding(crate::specs::Meaning::finished))]
     pub(crate) fn finish(self) -> Result<Image, Fault>
         ensures fits { IfOk result (λ image. whole_image.fits image ≡ true) }
-        ensures listed { (listed : described.Image) → whole_image.fits listed ≡ true → self.entry ≡ draft_of listed → Gives result (λ image. image ≡ listed) }
+        ensures meant { Means result (λ image. image) (finished self.entry) }
     {
         match self.first_and_capabilities() {
             Ok((memory, capabilities)) => self.image(memory, capabilities),
@@ -304,6 +351,20 @@ impl<'a> Assembly<'a> {
             }
         }
     }
+}
+
+/// Whether a line says nothing.
+fn is_blank(line: &Line<'_>) -> bool
+    ensures { result ≡ is_blank line.now }
+{
+    matches!(line, Line::Blank)
+}
+
+/// Whether a line is the last one of its thread.
+fn is_end(line: &Line<'_>) -> bool
+    ensures { result ≡ is_end line.now }
+{
+    matches!(line, Line::End)
 }
 
 /// Puts a value in a place, and drops the one that stood there.

@@ -1,12 +1,13 @@
 //! The sections before the threads, as far as they are declared.
 
-ghost use Rattle.std.specs.Prelude.{◌≡◌, ◌+◌, ◌^◌, ◌<◌, ◌≤◌, [], ◌∷◌, ◌++◌, length, map, position, Ok, OnOk, IsOkUnless};
-ghost use Rattle.std.specs.List.{All};
-ghost use Rattle.asm_line.specs.Lines.{all_words};
+ghost use Rattle.std.specs.Prelude.{◌≡◌, ◌+◌, [], ◌∷◌, ◌++◌, map, position, OnOk, MatchResult};
+ghost use Rattle.std.specs.List.{position_or_len};
+ghost use Rattle.asm_line.specs.declared.lines.Line.TheVariants as said;
 ghost use Rattle.asm.specs.declared.faults.Fault.{Fault};
-ghost use Rattle.asm.specs.declared.declarations.Capability.{Capability};
-ghost use Rattle.asm.specs.Outcomes.{Gives};
-ghost use Rattle.asm.specs.Sections.{HasNumber, MayAddCapability, MayAddContent, MayAddFrame, MayAddInterrupt, MayAddObject, MayAddTable, MayAddUntyped, capability_said, content_said, entry_of, frame_entry, interrupt_entry, is_in_order, nothing_declared, number_of_source, object_entry, on_line, table_entry, value_of, with_capability, with_content, with_frame, with_interrupt, with_object, with_table, with_untyped};
+ghost use Rattle.asm.specs.Keys.{has_room};
+ghost use Rattle.asm.specs.Meaning.{declared_with, placed_with, words_said};
+ghost use Rattle.asm.specs.Outcomes.{Gives, Means};
+ghost use Rattle.asm.specs.Sections.{entry_of, is_in_order, nothing_declared, number_of_source, on_line};
 
 use crate::faults::Fault;
 use crate::keys::insert;
@@ -78,7 +79,7 @@ impl<'a> Model for Declarations<'a> {
 /// Puts an entry behind the others, of which there are to be less than `most`.
 fn append<E: Drop>(entries: &mut Vec<E>, most: usize, entry: E) -> Result<(), Fault>
     ensures appended { OnOk result (entries.new.items ≡ entries.old.items ++ entry ∷ []) }
-    ensures enough { length entries.old.items < most → IsOkUnless result Fault.Memory }
+    ensures meant { Means result (λ _. tt) (has_room most entries.old.items) }
 {
     if most <= entries.len() {
         return Err(Fault::Range);
@@ -89,7 +90,7 @@ fn append<E: Drop>(entries: &mut Vec<E>, most: usize, entry: E) -> Result<(), Fa
 
 /// The words of a `data` line.
 fn words_of(alloc: Global, words: Words<'_>) -> Result<Vec<u32>, Fault>
-    ensures { all_words words.entry ≡ Ok tt → length words.entry ≤ 1024 → Gives result (λ read. read.items ≡ map value_of words.entry) }
+    ensures { Means result (λ read. read.items) (words_said words.entry) }
 {
     let mut read = Vec::new(alloc);
     let mut rest = words;
@@ -117,13 +118,24 @@ fn place_on_line(line: u32, interrupts: &[InterruptEntry]) -> Option<usize>
     interrupts.iter().position(|entry| entry.line == line)
 }
 
-/// The number of what stands at a place behind so many objects.
+/// The place of the interrupt on a line: after all others if it is not there.
+fn place_or_end(line: u32, interrupts: &[InterruptEntry]) -> usize
+    ensures { result ≡ position_or_len (on_line line) interrupts.now }
+{
+    match place_on_line(line, interrupts) {
+        Some(place) => place,
+        None => interrupts.len(),
+    }
+}
+
+/// The number of the entry at a place after so many objects. More than there are numbers are refused as memory for them
+/// is: no section has as many entries.
 fn behind(objects: usize, place: usize) -> Result<u32, Fault>
-    ensures { objects + place < 2 ^ 32 → result ≡ Ok (objects + place) }
+    ensures { MatchResult result (λ number. number ≡ objects + place) (λ fault. fault ≡ Fault.Memory) }
 {
     match objects.checked_add(place) {
         Some(number) if number <= u32::MAX as usize => Ok(number as u32),
-        _ => Err(Fault::Range),
+        _ => Err(Fault::Memory),
     }
 }
 
@@ -143,8 +155,9 @@ impl<'a> Declarations<'a> {
         }
     }
 
+    #[tactic(auto, unfolding(crate::specs::Meaning::declared_with))]
     pub(crate) fn add_untyped(&mut self, name: &Name<'a>, entry: UntypedEntry) -> Result<(), Fault>
-        ensures { MayAddUntyped self.old name.now → Gives result (λ _. self.new ≡ with_untyped self.old name.now entry) }
+        ensures { Means result (λ _. self.new) (declared_with self.old (said.Untyped name.now entry)) }
     {
         self.names.check_free(name)?;
         append(&mut self.untypeds, MOST_UNTYPEDS, entry)?;
@@ -152,6 +165,7 @@ impl<'a> Declarations<'a> {
     }
 
     /// Objects stand in the order of their untypeds.
+    #[tactic(auto, unfolding(crate::specs::Meaning::declared_with))]
     pub(crate) fn add_object(
         &mut self,
         name: &Name<'a>,
@@ -159,7 +173,7 @@ impl<'a> Declarations<'a> {
         kind: u32,
         size: u32,
     ) -> Result<(), Fault>
-        ensures { MayAddObject self.old name.now untyped.now → Gives result (λ _. self.new ≡ with_object self.old name.now (object_entry self.old untyped.now kind size)) }
+        ensures { Means result (λ _. self.new) (declared_with self.old (said.Object name.now untyped.now kind size)) }
     {
         self.names.check_free(name)?;
         let untyped = self.names.untyped(untyped)?;
@@ -175,6 +189,7 @@ impl<'a> Declarations<'a> {
         self.names.add_object(name)
     }
 
+    #[tactic(auto, unfolding(crate::specs::Meaning::declared_with))]
     pub(crate) fn add_interrupt(
         &mut self,
         name: &Name<'a>,
@@ -182,7 +197,7 @@ impl<'a> Declarations<'a> {
         notification: &Name<'a>,
         badge: u32,
     ) -> Result<(), Fault>
-        ensures { MayAddInterrupt self.old name.now line notification.now → Gives result (λ _. self.new ≡ with_interrupt self.old name.now (interrupt_entry self.old line notification.now badge)) }
+        ensures { Means result (λ _. self.new) (declared_with self.old (said.Interrupt name.now line notification.now badge)) }
     {
         self.names.check_free(name)?;
         let entry = InterruptEntry {
@@ -194,6 +209,7 @@ impl<'a> Declarations<'a> {
         self.names.add_interrupt(name, line)
     }
 
+    #[tactic(auto, unfolding(crate::specs::Meaning::placed_with))]
     pub(crate) fn add_capability(
         &mut self,
         cnode: &Name<'a>,
@@ -202,34 +218,40 @@ impl<'a> Declarations<'a> {
         rights: u32,
         payload: u32,
     ) -> Result<(), Fault>
-        ensures { MayAddCapability self.old cnode.now index source.now → Gives result (λ _. self.new ≡ with_capability self.old (capability_said self.old cnode.now index source.now rights payload)) }
+        ensures { Means result (λ _. self.new) (placed_with self.old (said.Capability cnode.now index source.now rights payload)) }
     {
+        let cnode = self.names.object(cnode)?;
+        let source = self.names.source(source)?;
         let entry = Capability {
-            cnode: self.names.object(cnode)?,
+            cnode,
             index,
-            source: self.names.source(source)?,
+            source,
             rights,
             payload,
         };
         insert(&mut self.capabilities, MOST_CAPABILITIES, entry)
     }
 
+    #[tactic(auto, unfolding(crate::specs::Meaning::placed_with))]
     pub(crate) fn add_table(
         &mut self,
         root: &Name<'a>,
         address: u32,
         table: &Name<'a>,
     ) -> Result<(), Fault>
-        ensures { MayAddTable self.old root.now address table.now → Gives result (λ _. self.new ≡ with_table self.old (table_entry self.old root.now address table.now)) }
+        ensures { Means result (λ _. self.new) (placed_with self.old (said.Table root.now address table.now)) }
     {
+        let root = self.names.object(root)?;
+        let table = self.names.object(table)?;
         let entry = TableEntry {
-            root: self.names.object(root)?,
+            root,
             address,
-            table: self.names.object(table)?,
+            table,
         };
         insert(&mut self.tables, MOST_TABLES, entry)
     }
 
+    #[tactic(auto, unfolding(crate::specs::Meaning::placed_with))]
     pub(crate) fn add_frame(
         &mut self,
         root: &Name<'a>,
@@ -237,24 +259,27 @@ impl<'a> Declarations<'a> {
         frame: &Name<'a>,
         rights: u32,
     ) -> Result<(), Fault>
-        ensures { MayAddFrame self.old root.now address frame.now → Gives result (λ _. self.new ≡ with_frame self.old (frame_entry self.old root.now address frame.now rights)) }
+        ensures { Means result (λ _. self.new) (placed_with self.old (said.Frame root.now address frame.now rights)) }
     {
+        let root = self.names.object(root)?;
+        let frame = self.names.object(frame)?;
         let entry = FrameEntry {
-            root: self.names.object(root)?,
+            root,
             address,
-            frame: self.names.object(frame)?,
+            frame,
             rights,
         };
         insert(&mut self.frames, MOST_FRAMES, entry)
     }
 
+    #[tactic(auto, unfolding(crate::specs::Meaning::placed_with))]
     pub(crate) fn add_content(
         &mut self,
         alloc: Global,
         frame: &Name<'a>,
         words: Words<'a>,
     ) -> Result<(), Fault>
-        ensures { MayAddContent self.old frame.now words.entry → Gives result (λ _. self.new ≡ with_content self.old (content_said self.old frame.now words.entry)) }
+        ensures { Means result (λ _. self.new) (placed_with self.old (said.Content frame.now words.entry)) }
     {
         let frame = self.names.object(frame)?;
         let words = words_of(alloc, words)?;
@@ -264,20 +289,19 @@ impl<'a> Declarations<'a> {
     /// The number of a capability's source: that of the object, or the number of objects and that of
     /// the interrupt.
     fn source_number(&self, source: Source) -> Result<u32, Fault>
-        ensures { HasNumber self.now source → result ≡ Ok (number_of_source self.now source) }
+        ensures { MatchResult result (λ number. number ≡ number_of_source self.now source) (λ fault. fault ≡ Fault.Memory) }
     {
         match source {
             Source::Object(number) => Ok(number),
-            Source::Handler { line } => match place_on_line(line, &self.interrupts) {
-                Some(place) => behind(self.objects.len(), place),
-                None => Err(Fault::UnknownName),
-            },
+            Source::Handler { line } => {
+                behind(self.objects.len(), place_or_end(line, &self.interrupts))
+            }
         }
     }
 
     /// The entry of a capability.
     fn capability_entry(&self, capability: Capability) -> Result<CapabilityEntry, Fault>
-        ensures { HasNumber self.now capability.source → result ≡ Ok (entry_of self.now capability) }
+        ensures { MatchResult result (λ entry. entry ≡ entry_of self.now capability) (λ fault. fault ≡ Fault.Memory) }
     {
         Ok(CapabilityEntry {
             cnode: capability.cnode,
@@ -290,7 +314,7 @@ impl<'a> Declarations<'a> {
 
     /// The capabilities of the image.
     pub(crate) fn capability_entries(&self, alloc: Global) -> Result<Vec<CapabilityEntry>, Fault>
-        ensures { All (λ (c : Capability). HasNumber self.now c.source) self.now.capabilities → Gives result (λ made. made.items ≡ map (entry_of self.now) self.now.capabilities) }
+        ensures { Gives result (λ made. made.items ≡ map (entry_of self.now) self.now.capabilities) }
     {
         let mut entries = Vec::new(alloc);
         'capabilities: for capability in &self.capabilities {

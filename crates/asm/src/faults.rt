@@ -1,7 +1,8 @@
 //! What is wrong with a source text.
 
-ghost use Rattle.std.specs.Prelude.{◌≡◌, ◌≤◌};
+ghost use Rattle.std.specs.Prelude.{◌≡◌, ◌≤◌, ◌==◌, if◌then◌else◌};
 ghost use Rattle.asm.specs.declared.faults.Fault.{Fault};
+ghost use Rattle.asm.specs.Outcomes.{kind_of};
 
 use std::alloc::{AllocError, AllocFailed};
 
@@ -10,9 +11,9 @@ use std::alloc::{AllocError, AllocFailed};
 pub struct SourceFault {
     /// The number of the line, from 1.
     pub line: u64,
-    /// 1 for a line that is none of the text form or stands out of its place, 2 for an unknown name,
+    /// 1 for a line that is none of the text form or is out of its place, 2 for an unknown name,
     /// 3 for a name or label that is there already, 4 for a number out of its range or order, and 5
-    /// for want of memory.
+    /// for out of memory.
     pub kind: u8,
 }
 
@@ -37,6 +38,7 @@ impl Fault {
         ensures line { result.line ≡ line }
         ensures kind { (1 ≤ result.kind) × (result.kind ≤ 5) }
         ensures memory { self ≡ Fault.Memory → result.kind ≡ 5 }
+        ensures told { result.kind ≡ kind_of self }
     {
         let kind = match self {
             Fault::Syntax => 1,
@@ -51,6 +53,8 @@ impl Fault {
 
 /// The fault of a line by itself.
 impl From<u8> for Fault {
+    ghost from_gives = { λ kind fault. fault ≡ (if kind == 4 then Fault.Range else Fault.Syntax) };
+
     fn from(kind: u8) -> Fault {
         if kind == asm_line::RANGE {
             Fault::Range

@@ -1,9 +1,9 @@
 //! Entries in rising order of their keys.
 
-ghost use Rattle.std.specs.Prelude.{◌≡◌, ℕ, ◌+◌, ◌<◌, ◌≤◌, [], ◌∷◌, ◌++◌, true, length, OnOk, IsOkUnless};
+ghost use Rattle.std.specs.Prelude.{◌≡◌, ℕ, ◌≤◌, length};
 ghost use Rattle.model.specs.Images.Image.{pair_key};
-ghost use Rattle.asm.specs.declared.faults.Fault.{Fault};
-ghost use Rattle.asm.specs.Keys.{is_behind};
+ghost use Rattle.asm.specs.Keys.{has_key, is_before, place_of, sorted_with};
+ghost use Rattle.asm.specs.Outcomes.{Means};
 
 use crate::declarations::Capability;
 use crate::faults::Fault;
@@ -100,25 +100,33 @@ impl Keyed for TermEntry {
     }
 }
 
-/// Whether the last key, if there is one, is below this one.
-fn is_behind<E: Keyed>(entries: &[E], key: u64) -> bool
-    ensures { result ≡ is_behind E.key_of key entries.now }
+/// Whether the entry at a place has a lesser key.
+fn is_before<E: Keyed>(entries: &[E], key: u64, place: usize) -> bool
+    ensures { result ≡ is_before E.key_of key entries.now place }
 {
-    match entries.last() {
-        Some(last) => last.key() < key,
+    match entries.get(place) {
+        Some(entry) => entry.key() < key,
         None => true,
     }
 }
 
-/// Where an entry with this key belongs: behind all whose keys are less.
+/// Where an entry with this key belongs: after the last one whose key is less. No more entries are looked at than have
+/// to move.
 fn place_of<E: Keyed>(entries: &[E], key: u64) -> usize
-    ensures { result ≤ length entries.now }
+    ensures bound { result ≤ length entries.now }
+    ensures place { result ≡ place_of E.key_of key entries.now }
 {
-    entries.partition_point(|entry| entry.key() < key)
+    let mut place = entries.len();
+    'places: while 0 < place && !is_before(entries, key, place - 1) {
+        place -= 1;
+    }
+    place
 }
 
 /// Whether the entry at a place has this key.
-fn has_key<E: Keyed>(entries: &[E], place: usize, key: u64) -> bool {
+fn has_key<E: Keyed>(entries: &[E], place: usize, key: u64) -> bool
+    ensures { result ≡ has_key E.key_of key entries.now place }
+{
     match entries.get(place) {
         Some(entry) => entry.key() == key,
         None => false,
@@ -131,21 +139,17 @@ fn has_key<E: Keyed>(entries: &[E], place: usize, key: u64) -> bool {
 /// # Errors
 ///
 /// `Range` if there are `most` entries or one has the key already, and `Memory`.
+#[tactic(auto, unfolding(crate::specs::Keys::sorted_with))]
 pub(crate) fn insert<E: Keyed + Drop>(
     entries: &mut Vec<E>,
     most: usize,
     entry: E,
 ) -> Result<(), Fault>
-    ensures appended { is_behind E.key_of (E.key_of entry) entries.old.items ≡ true → OnOk result (entries.new.items ≡ entries.old.items ++ entry ∷ []) }
-    ensures enough { is_behind E.key_of (E.key_of entry) entries.old.items ≡ true → length entries.old.items < most → IsOkUnless result Fault.Memory }
+    ensures { Means result (λ _. entries.new.items) (sorted_with E.key_of most entry entries.old.items) }
 {
     let key = entry.key();
     if most <= entries.len() {
         return Err(Fault::Range);
-    }
-    if is_behind(entries, key) {
-        entries.push(entry)?;
-        return Ok(());
     }
     let place = place_of(entries, key);
     if has_key(entries, place, key) {

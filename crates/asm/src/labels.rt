@@ -1,13 +1,11 @@
 //! The labels of each thread, which may stand anywhere in it.
 
-ghost use Rattle.std.specs.Prelude.{◌≡◌, ◌≤◌, IfErr, List, MatchResult, Ok, Err, true, is_some, if◌then◌else◌};
-ghost use Rattle.std.specs.List.{AllZip};
+ghost use Rattle.std.specs.Prelude.{◌≡◌, ◌≤◌, IfErr, MatchResult, Ok, Err, if◌then◌else◌};
 ghost use Rattle.std.specs.Str.Lines.{lines};
-ghost use Rattle.asm_line.specs.Listed.{Lists};
-ghost use Rattle.asm_line.specs.declared.lines.Line.{Line};
 ghost use Rattle.asm.specs.declared.faults.Fault.{Fault};
-ghost use Rattle.asm.specs.Labels.{begun, closed, in_open, is_first_on, labels_in, no_labels, place_named, point_of, searched_from, searched_line, with_code, with_label};
-ghost use Rattle.asm.specs.Outcomes.{Gives};
+ghost use Rattle.asm.specs.Labels.{begun, closed, in_open, is_first_on, no_labels, place_named, searched_line, with_code, with_label};
+ghost use Rattle.asm.specs.Meaning.{labels_of as labels_of_texts, point_known, searched_text, searched_texts};
+ghost use Rattle.asm.specs.Outcomes.{Gives, Means};
 
 use crate::faults::{Fault, SourceFault};
 use asm_line::{Line, Name, declared_label, parse_line};
@@ -41,7 +39,7 @@ impl<'a> Model for Labels<'a> {
 }
 
 impl<'a> Labels<'a> {
-    fn new(alloc: Global) -> Labels<'a>
+    pub(crate) fn new(alloc: Global) -> Labels<'a>
         ensures { result ≡ no_labels }
     {
         Labels {
@@ -84,8 +82,9 @@ impl<'a> Labels<'a> {
     }
 
     /// The point that a label names.
+    #[tactic(auto, unfolding(crate::specs::Meaning::point_known))]
     pub(crate) fn point(&self, name: &Name<'a>) -> Result<u32, Fault>
-        ensures { is_some (place_named self.now name.now) ≡ true → result ≡ Ok (point_of self.now name.now) }
+        ensures { Means result (λ point. point) (point_known self.now name.now) }
     {
         match self.place(name.text()) {
             Some(place) => Ok(place.point),
@@ -187,13 +186,14 @@ impl<'a> Search<'a> {
 }
 
 /// Adds the labels on a line, also where the line is at fault otherwise: the fault is told there, and not where the label is used.
+#[tactic(auto, unfolding(crate::specs::Meaning::searched_text))]
 fn search_line<'a>(
     search: &mut Search<'a>,
     alloc: Global,
     text: &'a str,
     number: u64,
 ) -> Result<(), Fault>
-    ensures { (said : Line) → Lists said text.now → Gives result (λ _. search.new ≡ searched_line search.old number said) }
+    ensures { Gives result (λ _. search.new ≡ searched_text search.old number text.now) }
 {
     match parse_line(text) {
         Ok(said) => search.add(alloc, said, number),
@@ -207,7 +207,7 @@ fn search_line<'a>(
 /// Adds the labels on all lines of a text.
 fn search_text<'a>(search: &mut Search<'a>, alloc: Global, text: &'a str) -> Result<(), SourceFault>
     ensures fault { IfErr result (λ fault. (1 ≤ fault.line) × (1 ≤ fault.kind) × (fault.kind ≤ 5)) }
-    ensures listed { (said : List Line) → AllZip Lists said (lines text.now) → MatchResult result (λ _. search.new ≡ closed (searched_from 0 search.old said)) (λ fault. fault.kind ≡ 5) }
+    ensures meant { MatchResult result (λ _. search.new ≡ closed (searched_texts 0 search.old (lines text.now))) (λ fault. fault.kind ≡ 5) }
 {
     let mut number = 0u64;
     'lines: for line in text.lines() {
@@ -226,10 +226,10 @@ fn search_text<'a>(search: &mut Search<'a>, alloc: Global, text: &'a str) -> Res
 ///
 /// # Errors
 ///
-/// The first line that is at fault by itself, or stands where no thread does.
+/// Out of memory. A line at fault is reported where lines are added.
 pub(crate) fn labels_of<'a>(alloc: Global, text: &'a str) -> Result<Vec<Labels<'a>>, SourceFault>
     ensures fault { IfErr result (λ fault. (1 ≤ fault.line) × (1 ≤ fault.kind) × (fault.kind ≤ 5)) }
-    ensures listed { (said : List Line) → AllZip Lists said (lines text.now) → MatchResult result (λ labels. labels.items ≡ labels_in said) (λ fault. fault.kind ≡ 5) }
+    ensures meant { MatchResult result (λ labels. labels.items ≡ labels_of_texts (lines text.now)) (λ fault. fault.kind ≡ 5) }
 {
     let mut search = Search {
         threads: Vec::new(alloc),

@@ -1,11 +1,11 @@
 //! The names of untypeds, objects and interrupts.
 
-ghost use Rattle.std.specs.Prelude.{◌≡◌, ◌<◌, ◌^◌, ℕ, Ok, Err, Some, if◌then◌else◌, false};
+ghost use Rattle.std.specs.Prelude.{◌≡◌, Ok, Err, if◌then◌else◌, false};
 ghost use Rattle.std.specs.List.{list_any};
 ghost use Rattle.std.specs.Str.{bytes_eq};
 ghost use Rattle.asm.specs.declared.faults.Fault.{Fault};
-ghost use Rattle.asm.specs.Names.{HasSource, IsNamed, is_taken, line_of_name, no_names, number_of, source_of, with_interrupt_name, with_object_name, with_untyped_name};
-ghost use Rattle.asm.specs.Outcomes.{Gives};
+ghost use Rattle.asm.specs.Names.{is_taken, line_of_name, no_names, number_at, number_known, source_known, with_interrupt_name, with_object_name, with_untyped_name};
+ghost use Rattle.asm.specs.Outcomes.{Gives, Means};
 
 use crate::faults::Fault;
 use asm_line::Name;
@@ -45,13 +45,15 @@ impl<'a> Model for Names<'a> {
     } };
 }
 
-/// A position as a number, which it is where there are not too many names.
+/// A position as a number. More names than there are numbers are refused as memory for them is: no section has as many
+/// entries.
 fn number_at(position: Option<usize>) -> Result<u32, Fault>
-    ensures { (place : ℕ) → position ≡ Some place → place < 2 ^ 32 → result ≡ Ok place }
+    ensures { Means result (λ number. number) (number_at position) }
 {
     match position {
         Some(position) if position <= u32::MAX as usize => Ok(position as u32),
-        _ => Err(Fault::UnknownName),
+        Some(_) => Err(Fault::Memory),
+        None => Err(Fault::UnknownName),
     }
 }
 
@@ -126,21 +128,22 @@ impl<'a> Names<'a> {
 
     /// The number of the untyped with this name.
     pub(crate) fn untyped(&self, name: &Name<'a>) -> Result<u32, Fault>
-        ensures { IsNamed self.now.untypeds name.now → result ≡ Ok (number_of self.now.untypeds name.now) }
+        ensures { Means result (λ number. number) (number_known self.now.untypeds name.now) }
     {
         number_at(self.untypeds.get_index_of(name.text()))
     }
 
     /// The number of the object with this name.
     pub(crate) fn object(&self, name: &Name<'a>) -> Result<u32, Fault>
-        ensures { IsNamed self.now.objects name.now → result ≡ Ok (number_of self.now.objects name.now) }
+        ensures { Means result (λ number. number) (number_known self.now.objects name.now) }
     {
         number_at(self.objects.get_index_of(name.text()))
     }
 
     /// The object or the handler with this name.
+    #[tactic(auto, unfolding(crate::specs::Names::source_known))]
     pub(crate) fn source(&self, name: &Name<'a>) -> Result<Source, Fault>
-        ensures { HasSource self.now name.now → result ≡ Ok (source_of self.now name.now) }
+        ensures { Means result (λ source. source) (source_known self.now name.now) }
     {
         match self.line_of(name.text()) {
             Some(line) => Ok(Source::Handler { line }),

@@ -1,11 +1,9 @@
 //! A thread whose lines are being read.
 
-ghost use Rattle.std.specs.Prelude.{◌≡◌, ◌≢◌, ◌-ℤ◌, ◌*ℤ◌, pos, IfOk, ◌<◌, ◌≤◌, [], ◌++◌, length, Ok, slice_index};
-ghost use Rattle.asm_line.specs.Lines.{all_terms};
-ghost use Rattle.asm_line.specs.declared.lines.Line.TheVariants as said;
-ghost use Rattle.asm.specs.Outcomes.{Gives};
-ghost use Rattle.asm.specs.Reading.{IsThreadLine, thread_behind};
-ghost use Rattle.asm.specs.Threads.{AreBehind, HasParent, IsPlain, MayAddCode, MayAddMeasure, MayAddRange, MayAddRegister, MayAddSlot, MayBegin, MayEnd, parent_numbers, plain_word, record_begun, slot_entry, term_key, terms_of, thread_begun, with_measure, with_range, with_register, with_slot, with_word};
+ghost use Rattle.std.specs.Prelude.{◌≡◌, [], length, IfOk, MatchResult, slice_index};
+ghost use Rattle.asm.specs.declared.faults.Fault.{Fault};
+ghost use Rattle.asm.specs.Meaning.{branch_word, coded_with, inside, jump_word, may_end, measured_with, noting, offset_between, parent_known, ranges_with, record_said, slots_with, sorted_terms, terms_said, thread_begins, with_registers, word_added, word_at};
+ghost use Rattle.asm.specs.Outcomes.{Means};
 
 use crate::faults::Fault;
 use crate::keys::insert;
@@ -13,7 +11,7 @@ use crate::labels::Labels;
 use crate::names::Names;
 use asm_line::{Code, Line, Name, Parent, ThreadLine, Words};
 use image::{RecordParts, ThreadParts};
-use model::{Instr, RangeEntry, RegisterEntry, SlotEntry, TermEntry};
+use model::{BranchOp, Instr, RangeEntry, Register, RegisterEntry, SlotEntry, TermEntry};
 use rv32_isa::{encode, has_spelling};
 use std::alloc::Global;
 use std::marker::Model;
@@ -49,8 +47,9 @@ impl Model for OpenThread {
 }
 
 /// How far it is from one point to another, in bytes, if an instruction may reach as far.
+#[tactic(auto, unfolding(crate::specs::Meaning::offset_between))]
 fn distance(from: u32, to: u32) -> Result<i32, Fault>
-    ensures { IfOk result (λ bytes. bytes ≡ (pos to -ℤ pos from) *ℤ pos 4) }
+    ensures { Means result (λ bytes. bytes) (offset_between from to) }
 {
     let bytes = (i64::from(to) - i64::from(from)) * 4;
     if -(1 << 20) <= bytes && bytes < 1 << 20 {
@@ -60,27 +59,27 @@ fn distance(from: u32, to: u32) -> Result<i32, Fault>
     }
 }
 
-/// The word of a program at a point.
-fn word_at<'a>(point: u32, code: &Code<'a>, labels: &Labels<'a>) -> Result<u32, Fault>
-    ensures { IsPlain code.now → result ≡ Ok (plain_word code.now) }
+/// The word of a jump, if it reaches as far.
+fn jump_word(rd: Register, offset: i32) -> Result<u32, Fault>
+    ensures { Means result (λ word. word) (jump_word rd offset) }
 {
-    let instr = match code {
-        Code::Word(word) => return Ok(*word),
-        Code::Jump { rd, target } => Instr::Jal {
-            rd: *rd,
-            offset: distance(point, labels.point(target)?)?,
-        },
-        Code::Branch {
-            op,
-            rs1,
-            rs2,
-            target,
-        } => Instr::Branch {
-            op: *op,
-            rs1: *rs1,
-            rs2: *rs2,
-            offset: distance(point, labels.point(target)?)?,
-        },
+    let instr = Instr::Jal { rd, offset };
+    if has_spelling(instr) {
+        Ok(encode(instr))
+    } else {
+        Err(Fault::Range)
+    }
+}
+
+/// The word of a branch, if it reaches as far.
+fn branch_word(op: BranchOp, rs1: Register, rs2: Register, offset: i32) -> Result<u32, Fault>
+    ensures { Means result (λ word. word) (branch_word op rs1 rs2 offset) }
+{
+    let instr = Instr::Branch {
+        op,
+        rs1,
+        rs2,
+        offset,
     };
     if has_spelling(instr) {
         Ok(encode(instr))
@@ -89,9 +88,33 @@ fn word_at<'a>(point: u32, code: &Code<'a>, labels: &Labels<'a>) -> Result<u32, 
     }
 }
 
+/// The word of a program at a point.
+#[tactic(auto, unfolding(crate::specs::Meaning::word_at))]
+fn word_at<'a>(point: u32, code: &Code<'a>, labels: &Labels<'a>) -> Result<u32, Fault>
+    ensures { Means result (λ word. word) (word_at labels.now point code.now) }
+{
+    match code {
+        Code::Word(word) => Ok(*word),
+        Code::Jump { rd, target } => {
+            let to = labels.point(target)?;
+            jump_word(*rd, distance(point, to)?)
+        }
+        Code::Branch {
+            op,
+            rs1,
+            rs2,
+            target,
+        } => {
+            let to = labels.point(target)?;
+            branch_word(*op, *rs1, *rs2, distance(point, to)?)
+        }
+    }
+}
+
 /// The CNode and the index of a parent, as an image has them.
+#[tactic(auto, unfolding(crate::specs::Meaning::parent_known))]
 fn parent_of<'a>(names: &Names<'a>, parent: &Parent<'a>) -> Result<(u32, u32), Fault>
-    ensures { HasParent names.now parent.now → result ≡ Ok (parent_numbers names.now parent.now) }
+    ensures { Means result (λ numbers. numbers) (parent_known names.now parent.now) }
 {
     match parent {
         Parent::Boot => Ok((NO_PARENT, NO_PARENT)),
@@ -101,7 +124,7 @@ fn parent_of<'a>(names: &Names<'a>, parent: &Parent<'a>) -> Result<(u32, u32), F
 
 /// The terms of a `measure` line, whose registers rise.
 fn terms_in(alloc: Global, words: Words<'_>) -> Result<Vec<TermEntry>, Fault>
-    ensures { all_terms words.entry ≡ Ok tt → AreBehind term_key [] (terms_of words.entry) → length (terms_of words.entry) ≤ 4 → Gives result (λ read. read.items ≡ terms_of words.entry) }
+    ensures { Means result (λ read. read.items) (sorted_terms [] (terms_said words.entry)) }
 {
     let mut read = Vec::new(alloc);
     let mut rest = words;
@@ -113,13 +136,14 @@ fn terms_in(alloc: Global, words: Words<'_>) -> Result<Vec<TermEntry>, Fault>
 }
 
 /// A record of a point with no more than its measure.
+#[tactic(auto, unfolding(crate::specs::Meaning::record_said))]
 fn measured(
     alloc: Global,
     point: u32,
     constant: i64,
     terms: Words<'_>,
 ) -> Result<RecordParts, Fault>
-    ensures { all_terms terms.entry ≡ Ok tt → AreBehind term_key [] (terms_of terms.entry) → length (terms_of terms.entry) ≤ 4 → Gives result (λ made. made ≡ record_begun point constant terms.entry) }
+    ensures { Means result (λ made. made) (record_said point constant terms.entry) }
 {
     let terms = terms_in(alloc, terms)?;
     Ok(RecordParts {
@@ -131,15 +155,50 @@ fn measured(
     })
 }
 
+/// Adds a range to a record.
+#[tactic(auto, unfolding(crate::specs::Meaning::ranges_with))]
+fn note_range(noted: &mut RecordParts, entry: RangeEntry) -> Result<(), Fault>
+    ensures { Means result (λ _. noted.new) (ranges_with entry noted.old) }
+{
+    insert(&mut noted.ranges, MOST_RANGES, entry)
+}
+
+/// Adds a slot to a record.
+#[tactic(auto, unfolding(crate::specs::Meaning::slots_with))]
+fn note_slot<'a>(
+    noted: &mut RecordParts,
+    names: &Names<'a>,
+    cnode: &Name<'a>,
+    index: u32,
+    words: [u32; 2],
+    parent: &Parent<'a>,
+) -> Result<(), Fault>
+    ensures { Means result (λ _. noted.new) (slots_with names.now cnode.now index (slice_index words 0) (slice_index words 1) parent.now noted.old) }
+{
+    let cnode = names.object(cnode)?;
+    let from = parent_of(names, parent)?;
+    let [word0, word1] = words;
+    let entry = SlotEntry {
+        cnode,
+        index,
+        word0,
+        word1,
+        parent_cnode: from.0,
+        parent_index: from.1,
+    };
+    insert(&mut noted.slots, MOST_SLOTS, entry)
+}
+
 impl OpenThread {
     /// A thread at its first line.
+    #[tactic(auto, unfolding(crate::specs::Meaning::thread_begins))]
     pub(crate) fn begin<'a>(
         alloc: Global,
         line: &ThreadLine<'a>,
         names: &Names<'a>,
         labels: &Labels<'a>,
     ) -> Result<OpenThread, Fault>
-        ensures { MayBegin names.now labels.now line.now → Gives result (λ begun. begun ≡ thread_begun names.now labels.now line.now) }
+        ensures { Means result (λ begun. begun) (thread_begins labels.now names.now line.now) }
     {
         let parts = ThreadParts {
             tcb: names.object(&line.tcb)?,
@@ -163,30 +222,32 @@ impl OpenThread {
 
     /// The number of the next instruction, from 0.
     fn point(&self) -> Result<u32, Fault>
-        ensures { length self.now.thread.words ≤ 65536 → result ≡ Ok (length self.now.thread.words) }
+        ensures { MatchResult result (λ point. point ≡ length self.now.thread.words) (λ fault. fault ≡ Fault.Memory) }
     {
         let point = self.parts.words.len();
-        if point <= MOST_WORDS {
+        if point <= u32::MAX as usize {
             Ok(point as u32)
         } else {
-            Err(Fault::Range)
+            Err(Fault::Memory)
         }
     }
 
+    #[tactic(auto, unfolding(crate::specs::Meaning::with_registers))]
     pub(crate) fn add_register(&mut self, entry: RegisterEntry) -> Result<(), Fault>
-        ensures { MayAddRegister self.old entry → Gives result (λ _. self.new ≡ with_register self.old entry) }
+        ensures { Means result (λ _. self.new) (with_registers self.old entry) }
     {
         insert(&mut self.parts.registers, MOST_REGISTERS, entry)
     }
 
     /// Begins the record of the next instruction.
+    #[tactic(auto, unfolding(crate::specs::Meaning::measured_with))]
     pub(crate) fn add_measure(
         &mut self,
         alloc: Global,
         constant: i64,
         terms: Words<'_>,
     ) -> Result<(), Fault>
-        ensures { MayAddMeasure self.old terms.entry → Gives result (λ _. self.new ≡ with_measure self.old constant terms.entry) }
+        ensures { Means result (λ _. self.new) (measured_with self.old constant terms.entry) }
     {
         if self.record.is_some() {
             return Err(Fault::Range);
@@ -197,10 +258,10 @@ impl OpenThread {
     }
 
     pub(crate) fn add_range(&mut self, entry: RangeEntry) -> Result<(), Fault>
-        ensures { MayAddRange self.old entry → Gives result (λ _. self.new ≡ with_range self.old entry) }
+        ensures { Means result (λ _. self.new) (noting (ranges_with entry) self.old) }
     {
         match &mut self.record {
-            Some(record) => insert(&mut record.ranges, MOST_RANGES, entry),
+            Some(record) => note_range(record, entry),
             None => Err(Fault::Syntax),
         }
     }
@@ -213,28 +274,18 @@ impl OpenThread {
         words: [u32; 2],
         parent: &Parent<'a>,
     ) -> Result<(), Fault>
-        ensures { MayAddSlot names.now self.old cnode.now index parent.now → Gives result (λ _. self.new ≡ with_slot self.old (slot_entry names.now cnode.now index (slice_index words 0) (slice_index words 1) parent.now)) }
+        ensures { Means result (λ _. self.new) (noting (slots_with names.now cnode.now index (slice_index words 0) (slice_index words 1) parent.now) self.old) }
     {
-        let Some(record) = &mut self.record else {
-            return Err(Fault::Syntax);
-        };
-        let cnode = names.object(cnode)?;
-        let [word0, word1] = words;
-        let (parent_cnode, parent_index) = parent_of(names, parent)?;
-        let entry = SlotEntry {
-            cnode,
-            index,
-            word0,
-            word1,
-            parent_cnode,
-            parent_index,
-        };
-        insert(&mut record.slots, MOST_SLOTS, entry)
+        match &mut self.record {
+            Some(record) => note_slot(record, names, cnode, index, words, parent),
+            None => Err(Fault::Syntax),
+        }
     }
 
     /// Puts a word behind those of the program, with what the certificate says of it.
+    #[tactic(auto, unfolding(crate::specs::Meaning::word_added))]
     fn push_word(&mut self, word: u32) -> Result<(), Fault>
-        ensures { length self.old.thread.words < 65536 → Gives result (λ _. self.new ≡ with_word self.old word) }
+        ensures { Means result (λ _. self.new) (word_added self.old word) }
     {
         if MOST_WORDS <= self.parts.words.len() {
             return Err(Fault::Range);
@@ -246,14 +297,16 @@ impl OpenThread {
         Ok(())
     }
 
+    #[tactic(auto, unfolding(crate::specs::Meaning::coded_with))]
     pub(crate) fn add_code<'a>(&mut self, code: &Code<'a>, labels: &Labels<'a>) -> Result<(), Fault>
-        ensures { MayAddCode self.old code.now → Gives result (λ _. self.new ≡ with_word self.old (plain_word code.now)) }
+        ensures { Means result (λ _. self.new) (coded_with labels.now self.old code.now) }
     {
         let word = word_at(self.point()?, code, labels)?;
         self.push_word(word)
     }
 
     /// Adds what a line says that is not the thread's last one.
+    #[tactic(auto, unfolding(crate::specs::Meaning::inside))]
     pub(crate) fn add<'a>(
         &mut self,
         alloc: Global,
@@ -262,7 +315,7 @@ impl OpenThread {
         names: &Names<'a>,
         labels: &Labels<'a>,
     ) -> Result<(), Fault>
-        ensures { line.entry ≢ said.End → IsThreadLine labels.now number names.now self.old line.entry → Gives result (λ _. self.new ≡ thread_behind names.now self.old line.entry) }
+        ensures { Means result (λ _. self.new) (inside labels.now number names.now self.old line.entry) }
     {
         match line {
             Line::Register(entry) => self.add_register(entry),
@@ -287,8 +340,9 @@ impl OpenThread {
     }
 
     /// A thread may not end before its first instruction, nor behind a measure without one.
+    #[tactic(auto, unfolding(crate::specs::Meaning::may_end))]
     fn check_end(&self) -> Result<(), Fault>
-        ensures { MayEnd self.now → result ≡ Ok tt }
+        ensures { Means result (λ _. tt) (may_end self.now) }
     {
         if self.record.is_some() {
             return Err(Fault::Syntax);
@@ -301,7 +355,8 @@ impl OpenThread {
 
     /// The thread at its line `end`.
     pub(crate) fn end(self) -> Result<ThreadParts, Fault>
-        ensures { MayEnd self → result ≡ Ok self.thread }
+        ensures thread { IfOk result (λ thread. thread ≡ self.thread) }
+        ensures meant { Means result (λ _. tt) (may_end self) }
     {
         match self.check_end() {
             Ok(()) => {

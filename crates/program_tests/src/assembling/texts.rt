@@ -223,6 +223,9 @@ const CUT: &str = "
     16 4 | thread main cs 28 vs 256 24 0 start 0x1000
     16 2 | thread main cs 28 vs 100 24 0 nowhere 0x1000//
     17 1 | thread main cs 28 vs 100 24 0 start 0x1000/start: ecall
+    17 1 | thread main cs 28 vs 100 24 0 start 0x1000/start: beq x0 x0 nowhere
+    18 1 | thread main cs 28 vs 100 24 0 start 0x1000/start: ecall/start: ecall
+    19 1 | thread main cs 28 vs 100 24 0 start 0x1000/start: ecall/reg x1 1/reg x1 1
 ";
 
 #[test]

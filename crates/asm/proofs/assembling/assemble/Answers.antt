@@ -1,29 +1,28 @@
-use Rattle.std.proofs.Common.{◌≡◌, List, ap, sym, subst, ◌∙◌}
-use Rattle.std.specs.List.{AllZip}
-use Rattle.std.specs.Str.Lines.{lines}
+use Rattle.std.specs.Prelude.{Result, ◌⊎◌, MatchResult, max}
+use Rattle.std.proofs.Common.{◌≡◌, ℕ, List, Ok, Err, inl, inr, sym, ap, subst, ◌∙◌}
 use Rattle.model.specs.Images.Image.{Image}
-use Rattle.model.specs.Images.Listing.{Text, listing}
-use Rattle.asm_line.specs.Listed.{Lists}
-use Rattle.asm.specs.Drafts.{nothing_read}
-use Rattle.asm.specs.Labels.{FoundLabels, labels_in}
-use Rattle.asm.specs.Reading.{AreInPlace, with_lines}
-use Rattle.asm.proofs.Laws.{IsReadBack, read-back, told-by}
+use Rattle.model.specs.Images.Listing.{Text}
+use Rattle.asm.specs.declared.faults.SourceFault.{SourceFault}
+use Rattle.std.specs.Str.Lines.{lines}
+use Rattle.asm.specs.Drafts.{Draft, nothing_read}
+use Rattle.asm.specs.Labels.{FoundLabels}
+use Rattle.asm.specs.Meaning.{all_read, and_then, finished, labels_of, on_line, text_means}
+use Rattle.asm.specs.Outcomes.{MeansText}
+use Rattle.asm.proofs.ListedMeaning.{listing-means}
 use Rattle.asm.proofs.assembling.assemble.Goals as goal
 
--- a text that is a listing has its lines
-lines-of : (text : Text) (image : Image) (read : IsReadBack image) → text ≡ listing image → AllZip Lists read.said (lines text)
-lines-of text image read same = subst (λ (t : Text). AllZip Lists read.said (lines t)) (sym same) read.listed
-
-pub returns-in_err-labels-clause-listed : goal.returns-in_err-labels-clause-listed
-returns-in_err-labels-clause-listed c listed is entered same =
-    let back = read-back listed is entered in
-    told-by c.from_residual.result c.in_err-labels.field-0.0 _ c.from_residual.ensures (c.in_err-labels.ensures.listed back.said (lines-of c.args.text.now listed back same))
+-- what a text means is the one thing that it gives
+only : (text : Text) (r : Result Image SourceFault) (image : Image) → MeansText r (text_means text) → text_means text ≡ Ok image
+    → MatchResult r (λ given. given ≡ image) (λ fault. fault.kind ≡ 5)
+only text (Ok given) image is means = let same : Ok given ≡ Ok image = sym is ∙ means in cc
+only text (Err fault) image (inl memory) means = memory
+only text (Err fault) image (inr told) means = absurd (let no : Err (fault.line, fault.kind) ≡ Ok image = sym told ∙ means in cc)
 
 pub returns-clause-listed : goal.returns-clause-listed
+unfolding text_means
 returns-clause-listed c listed is entered same =
-    let back = read-back listed is entered in
-    let zip = lines-of c.args.text.now listed back same in
-    let searched : c.deref.result.now ≡ labels_in back.said = c.deref.ensures.value ∙ c.in_ok-labels.ensures.listed back.said zip in
-    c.image_with.ensures.listed listed is back.said zip
-    (subst (λ (labels : List FoundLabels). AreInPlace labels 0 nothing_read back.said) (sym searched) back.placed)
-    (ap (λ (labels : List FoundLabels). with_lines labels nothing_read back.said) searched ∙ back.reads)
+    let texts = lines c.args.text.now in
+    let searched : c.deref.result.now ≡ labels_of texts = c.deref.ensures.value ∙ c.in_ok-labels.ensures.meant in
+    let given = subst (λ (labels : List FoundLabels). MeansText c.image_with.result (and_then (all_read labels 0 nothing_read texts) (λ (read : ℕ × Draft). on_line (max read.0 1) (finished read.1))))
+    searched c.image_with.ensures.meant in
+    only c.args.text.now c.image_with.result listed given (ap text_means same ∙ listing-means listed is entered)

@@ -1,12 +1,10 @@
-use Rattle.std.proofs.Common.{◌≡◌, [], Ok, length}
-use Rattle.asm_line.specs.Lines.{all_terms}
-use Rattle.asm.specs.Threads.{AreBehind, term_key, terms_of}
-use Rattle.asm.proofs.RecordTerms.{TermsLeft}
+use Rattle.std.proofs.Common.{◌≡◌, [], length}
+use Rattle.asm.specs.Meaning.{sorted_terms, terms_said}
 use Rattle.asm.proofs.open_threads.terms_in.Given as goal
 
--- what is read and what is left are all the terms
+-- what is left, sorted into what is read, are all the terms
 abbrev pub invariant-terms : goal.invariant-terms
-invariant-terms l = all_terms l.fn.words ≡ Ok tt → AreBehind term_key [] (terms_of l.fn.words) → TermsLeft l.read.items l.rest l.fn.words
+invariant-terms l = sorted_terms l.read.items (terms_said l.rest) ≡ sorted_terms [] (terms_said l.fn.words)
 
 abbrev pub decreases-terms : goal.decreases-terms
 decreases-terms l = length l.rest
