@@ -1,17 +1,16 @@
 -- Texts whose images the verifier accepts.
-use Rattle.std.specs.Prelude.{ℕ, ◌≡◌, ◌<◌, true, List}
-use Rattle.std.specs.List.{All}
+use Rattle.std.specs.Prelude.{ℕ, ◌≡◌, List, Ok}
 use Rattle.model.specs.Acceptance.Accepted.{IsAccepted}
 use Rattle.model.specs.Images.Format.{IsSpelling}
-use Rattle.model.specs.Images.Image.{Image, Thread, whole_image}
-use Rattle.model.specs.Images.Listing.{Text, listing}
+use Rattle.model.specs.Images.Image.{Image, whole_image}
+use Rattle.model.specs.Images.Listing.{Text}
+use Rattle.asm.specs.Meaning.{text_means}
 
--- What assembling a text says of the image that it gives: it has the form of an image, and where the text lists one, it is that.
-pub record AssemblesTo (text : Text) (image : Image) : Type 0 where
-  pub fits : whole_image.fits image ≡ true
-  pub listed : (other : Image) → whole_image.fits other ≡ true → All (λ (t : Thread). t.header.entry < t.header.words) other.threads → text ≡ listing other → image ≡ other
+-- the text means this image
+abbrev pub AssemblesTo : Text → Image → Type 0
+AssemblesTo text image = text_means text ≡ Ok image
 
--- The text gives an image, and the verifier accepts the bytes that spell it.
+-- The text means an image, and the verifier accepts the bytes that spell it.
 pub record IsAcceptedText (text : Text) : Type 0 where
   pub image : Image
   pub assembled : AssemblesTo text image

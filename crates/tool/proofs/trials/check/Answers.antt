@@ -6,7 +6,7 @@ use Rattle.tool.proofs.trials.check.Goals as goal
 pub returns-in-Ok : goal.returns-in-Ok
 returns-in-Ok c = record {
   image = c.in_ok-image.image;
-  assembled = record { fits = c.in_ok-image.ensures.image; listed = c.in_ok-image.ensures.listed };
+  assembled = c.in_ok-image.ensures.meant;
   bytes = c.in_ok-bytes.bytes.items;
   spelled = c.in_ok-bytes.ensures.spelled;
   read = c.in-Ok.field-0;
