@@ -3,6 +3,7 @@ mod Childless
 mod Emptied
 mod Kept
 mod LinesTaken
+mod LineSets
 mod FreeWindows
 mod FullSlots
 mod Lookups

@@ -1,5 +1,5 @@
 -- What a removal's loops leave, of a state and slots that are kept apart.
-use Rattle.std.proofs.Common.{ℕ, ◌≡◌, ◌∙◌, ◌*◌, ◌^◌, ◌<◌, List, Bool, false, true, is_some, Some, None, option_map, slice_index_or, Ok, length, refl, sym, ap, subst, arith}
+use Rattle.std.proofs.Common.{ℕ, ◌≡◌, ◌∙◌, ◌*◌, ◌^◌, ◌<◌, List, Bool, false, true, is_some, Some, None, option_map, Ok, length, refl, sym, ap, subst, arith}
 use Rattle.cnode_ops.proofs.Unsettling.{covers-first, covers-now}
 use Rattle.cnode_ops.specs.Unsettled.{Covers, Notes, nothing}
 use Rattle.cnode_ops.specs.declared.settling.Unsettled.{Unsettled}
@@ -17,14 +17,14 @@ use Rattle.cnode_ops.specs.Sets.{set_of}
 use Rattle.cnode_ops.specs.declared.sets.Removed.{Removed}
 
 -- what the loops are told and what they leave
-pub record LoopsRan (w one two : State) (slots : Slots) (set : Removed) (lines : List Bool) : Type 0 where
+pub record LoopsRan (w one two : State) (slots : Slots) (set : Removed) (lines : ℕ → Bool) : Type 0 where
   pub has : w.slots ≡ slots
   pub sound : IsSound w
   pub members : (slot : ℕ) → set_of slots set slot ≡ true → IsOpen slots slot
   pub shape : SameShape w one
   pub taken : (more : SlotSet) → ((slot : ℕ) → more slot ≡ true → IsOpen slots slot) → emptied w (joined (set_of slots set) more) ≡ emptied one more
-  pub last : (line : ℕ) → line < 64 → slice_index_or lines line false ≡ takes_last w (set_of w.slots set) (is_handler_of line)
-  pub bound : emptied one (bindings_from one (λ line. slice_index_or lines line false) 0) ≡ two
+  pub last : (line : ℕ) → line < 64 → lines line ≡ takes_last w (set_of w.slots set) (is_handler_of line)
+  pub bound : emptied one (bindings_from one (λ line. lines line) 0) ≡ two
   pub kept_first : wants_revoke_first w (with_bindings w (set_of w.slots set)) ≡ false
 
 -- emptying opens no slot
@@ -37,7 +37,7 @@ open-was s all y opens is = elim (all y) as (λ b. all y ≡ b → IsOpen s.slot
   ] refl
 ] refl
 
-module _ (w one two : State) (slots : Slots) (set : Removed) (lines : List Bool) (ran : LoopsRan w one two slots set lines) where
+module _ (w one two : State) (slots : Slots) (set : Removed) (lines : ℕ → Bool) (ran : LoopsRan w one two slots set lines) where
   same : slots ≡ w.slots
   same = sym ran.has
 
@@ -48,7 +48,7 @@ module _ (w one two : State) (slots : Slots) (set : Removed) (lines : List Bool)
   members_open = subst (λ (n : Slots). (slot : ℕ) → set_of n set slot ≡ true → IsOpen n slot) same ran.members
 
   left : two ≡ emptied w (with_bindings w (set_of w.slots set))
-  left = both-loops w one two (set_of w.slots set) (λ line. slice_index_or lines line false) ran.shape
+  left = both-loops w one two (set_of w.slots set) (λ line. lines line) ran.shape
       (subst (λ (n : Slots). (more : SlotSet) → ((slot : ℕ) → more slot ≡ true → IsOpen n slot) → emptied w (joined (set_of n set) more) ≡ emptied one more) same ran.taken)
       ran.last lines_open ran.bound
 

@@ -46,31 +46,32 @@ fn take_out<S: SlotStore, E: Ends>(
 fn end_unnamed<S: SlotStore, E: Ends>(
     store: &mut S,
     ends: &mut E,
-    left: Unsettled,
+    left: &mut Unsettled,
     removed: Cap,
     is_shared: bool,
-) -> Unsettled
+)
     requires shared { IsNamedStill (S.slots store.old) removed is_shared }
     requires agree { E.Agree ends.old (S.slots store.old) (S.memory store.old) }
     requires there { IsThere (E.state ends.old (S.slots store.old) (S.memory store.old)) removed }
     requires lie { ObjectsLie (E.state ends.old (S.slots store.old) (S.memory store.old)) }
     ensures state { IfUnnamed (E.state ends.old (S.slots store.old) (S.memory store.old)) removed
         (E.state ends.new (S.slots store.new) (S.memory store.new)) }
-    ensures noted { Notes (E.state ends.old (S.slots store.old) (S.memory store.old)) left
-        (E.state ends.new (S.slots store.new) (S.memory store.new)) result }
+    ensures noted { Notes (E.state ends.old (S.slots store.old) (S.memory store.old)) left.old
+        (E.state ends.new (S.slots store.new) (S.memory store.new)) left.new }
     ensures order { S.order store.new ≡ S.order store.old }
     ensures agree { E.Agree ends.new (S.slots store.new) (S.memory store.new) }
 {
     let Some(offset) = object_of(removed) else {
-        return left;
+        return;
     };
     if is_shared {
-        return left;
+        return;
     }
     let own = ends.slots_of(store, offset);
     let waited = ends.is_waited_at(store, offset);
     ends.end(store, removed);
-    left.with_slots_of(offset / 16, own).with_waiting(waited)
+    left.note_slots(offset / 16, own);
+    left.note_waiting(waited);
 }
 
 /// Untyped memory in a slot that nothing is derived from any more is unused again.
@@ -98,28 +99,29 @@ fn rewind<S: SlotStore, E: Ends>(store: &mut S, ends: &E, parent: Slot)
 /// Empties a full slot, with all that goes with its capability alone: its mapping and what is mapped in
 /// it, the object of which it was the last capability, and the watermark of the untyped memory that it
 /// was the last to be derived from. Its children become children of its parent. What is left to settle is more by the
-/// object that ended.
+/// object that ended. The result is what it held, without a mapping.
 pub(crate) fn empty_slot<S: SlotStore, E: Ends>(
     store: &mut S,
     ends: &mut E,
-    left: Unsettled,
+    left: &mut Unsettled,
     slot: Slot,
-) -> Unsettled
+) -> Cap
     requires full { IsFull (S.slots store.old) slot }
     requires agree { E.Agree ends.old (S.slots store.old) (S.memory store.old) }
     requires ready { IsReady (E.state ends.old (S.slots store.old) (S.memory store.old)) }
     requires lie { ObjectsLie (E.state ends.old (S.slots store.old) (S.memory store.old)) }
+    ensures held { result ≡ capability_at (unmapped_at (S.slots store.old) slot) slot }
     ensures state { E.state ends.new (S.slots store.new) (S.memory store.new)
         ≡ emptied (E.state ends.old (S.slots store.old) (S.memory store.old)) (alone slot) }
-    ensures noted { Notes (E.state ends.old (S.slots store.old) (S.memory store.old)) left
-        (E.state ends.new (S.slots store.new) (S.memory store.new)) result }
+    ensures noted { Notes (E.state ends.old (S.slots store.old) (S.memory store.old)) left.old
+        (E.state ends.new (S.slots store.new) (S.memory store.new)) left.new }
     ensures order { S.order store.new ≡ without slot (S.order store.old) }
     ensures agree { E.Agree ends.new (S.slots store.new) (S.memory store.new) }
 {
     let (removed, is_shared, childless) = take_out(store, ends, slot);
-    let left = end_unnamed(store, ends, left, removed, is_shared);
+    end_unnamed(store, ends, left, removed, is_shared);
     if let Some(parent) = childless {
         rewind(store, ends, parent);
     }
-    left
+    removed
 }

@@ -3,6 +3,7 @@
 #![tactic(auto)]
 
 mod beginnings;
+mod bits;
 mod copies;
 mod deletions;
 mod emptying;

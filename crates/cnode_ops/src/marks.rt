@@ -1,9 +1,9 @@
 //! A mark for each slot, so that a set of slots tells of each at once whether it is one of them.
 
-ghost use Rattle.std.specs.Prelude.{ℕ, ◌≡◌, ◌≢◌, ◌==◌, ◌^◌, ◌<◌, false, true, replicate};
-ghost use Rattle.std.specs.Int.{bit_at};
+ghost use Rattle.std.specs.Prelude.{ℕ, ◌≡◌, ◌≢◌, ◌^◌, false, true, replicate};
 ghost use Rattle.cnode_ops.specs.Marked.{is_marked};
 
+use crate::bits::{has_bit, with_bit};
 use model::Slot;
 use std::marker::Model;
 
@@ -42,10 +42,7 @@ impl Marks {
         ensures { result ≡ is_marked self.now slot }
     {
         let number = slot.number();
-        has_bit(
-            self.words[(number / WORD_SLOTS) as usize],
-            number % WORD_SLOTS,
-        )
+        has_bit(self.words[(number / WORD_SLOTS) as usize], number)
     }
 
     /// Marks a slot.
@@ -55,7 +52,7 @@ impl Marks {
     {
         let number = slot.number();
         let at = (number / WORD_SLOTS) as usize;
-        self.words[at] = with_bit(self.words[at], number % WORD_SLOTS);
+        self.words[at] = with_bit(self.words[at], number);
     }
 }
 
@@ -64,21 +61,4 @@ fn zeros() -> [u64; WORDS]
     ensures { result ≡ replicate (2 ^ 14) 0 }
 {
     [0; WORDS]
-}
-
-/// Whether a bit of a word is 1.
-fn has_bit(word: u64, bit: u32) -> bool
-    requires { bit < 64 }
-    ensures { result ≡ (bit_at word bit == 1) }
-{
-    word >> bit & 1 == 1
-}
-
-/// A word with one bit set.
-fn with_bit(word: u64, bit: u32) -> u64
-    requires { bit < 64 }
-    ensures own { bit_at result bit ≡ 1 }
-    ensures others { (i : ℕ) → i < 64 → i ≢ bit → bit_at result i ≡ bit_at word i }
-{
-    word | 1 << bit
 }

@@ -1,7 +1,8 @@
 //! Emptying a whole set of slots.
 
-ghost use Rattle.std.specs.Prelude.{ℕ, ◌≡◌, ◌<◌, OnErr, true, false, slice_index_or};
+ghost use Rattle.std.specs.Prelude.{ℕ, ◌≡◌, ◌<◌, OnErr, true};
 ghost use Rattle.model.specs.Kernel.Outcomes.{GivesState};
+ghost use Rattle.cnode_ops.specs.Lines.{LinesGone, has_line};
 ghost use Rattle.cnode_ops.specs.Sets.{set_of};
 ghost use Rattle.cnode_ops.specs.Unsettled.{Notes, ObjectsLie};
 ghost use Rattle.model.specs.Capabilities.Slots.{IsOpen};
@@ -12,21 +13,22 @@ ghost use Rattle.removal_laws.specs.Steps.{BindingEmptied, IsReady, SameShape, b
 use crate::Ends;
 use crate::emptying::empty_slot;
 use crate::leaves::{leaf_removed, parent_removed};
-use crate::lines::{lines_handled, lines_lost};
+use crate::lines::{LineSet, lines_lost};
 use crate::refusals::wants_revoke_first;
 use crate::sets::{Removed, first_removed};
 use crate::settling::{Unsettled, settle};
 use model::{KError, Slot};
 use slots::{SlotStore, is_taken};
 
-/// Empties all slots of a set, one after another and each after all that is derived from it: what is left to empty, with others beside the set, is
-/// these others. What is left to settle is more by the objects that ended.
+/// Empties all slots of a set, one after another and each after all that is derived from it: what is left to empty, with
+/// others beside the set, is these others. What is left to settle is more by the objects that ended. The result is the
+/// lines of which a handler was taken.
 fn empty_all<S: SlotStore, E: Ends>(
     store: &mut S,
     ends: &mut E,
-    left: Unsettled,
+    left: &mut Unsettled,
     set: &Removed,
-) -> Unsettled
+) -> LineSet
     requires agree { E.Agree ends.old (S.slots store.old) (S.memory store.old) }
     requires ready { IsReady (E.state ends.old (S.slots store.old) (S.memory store.old)) }
     requires lie { ObjectsLie (E.state ends.old (S.slots store.old) (S.memory store.old)) }
@@ -34,50 +36,50 @@ fn empty_all<S: SlotStore, E: Ends>(
     ensures taken { (more : SlotSet) → ((slot : ℕ) → more slot ≡ true → IsOpen (S.slots store.old) slot)
         → emptied (E.state ends.old (S.slots store.old) (S.memory store.old)) (joined (set_of (S.slots store.old) set.now) more)
         ≡ emptied (E.state ends.new (S.slots store.new) (S.memory store.new)) more }
-    ensures noted { Notes (E.state ends.old (S.slots store.old) (S.memory store.old)) left
-        (E.state ends.new (S.slots store.new) (S.memory store.new)) result }
+    ensures noted { Notes (E.state ends.old (S.slots store.old) (S.memory store.old)) left.old
+        (E.state ends.new (S.slots store.new) (S.memory store.new)) left.new }
+    ensures lines { LinesGone (E.state ends.old (S.slots store.old) (S.memory store.old)) (E.state ends.new (S.slots store.new) (S.memory store.new)) result }
     ensures shape { SameShape (E.state ends.old (S.slots store.old) (S.memory store.old)) (E.state ends.new (S.slots store.new) (S.memory store.new)) }
     ensures agree { E.Agree ends.new (S.slots store.new) (S.memory store.new) }
     ensures ready { IsReady (E.state ends.new (S.slots store.new) (S.memory store.new)) }
 {
+    let mut gone = LineSet::none();
     let Some(first) = first_removed(store, set) else {
-        return left;
+        return gone;
     };
-    let mut left = left;
     let mut near = first;
     'slots: while let Some(slot) = leaf_removed(store, set, near) {
         near = parent_removed(store, set, slot);
-        left = empty_slot(store, ends, left, slot);
+        let held = empty_slot(store, ends, left, slot);
+        gone = gone.with_handled(held);
     }
-    left
+    gone
 }
 
 /// Empties the binding of a line, if it is taken along and there is one.
 fn empty_binding<S: SlotStore, E: Ends>(
     store: &mut S,
     ends: &mut E,
-    left: Unsettled,
+    left: &mut Unsettled,
     line: u8,
     taken: bool,
-) -> Unsettled
+)
     requires few { line < 64 }
     requires agree { E.Agree ends.old (S.slots store.old) (S.memory store.old) }
     requires ready { IsReady (E.state ends.old (S.slots store.old) (S.memory store.old)) }
     requires lie { ObjectsLie (E.state ends.old (S.slots store.old) (S.memory store.old)) }
     ensures state { BindingEmptied (E.state ends.old (S.slots store.old) (S.memory store.old)) line taken
         (E.state ends.new (S.slots store.new) (S.memory store.new)) }
-    ensures noted { Notes (E.state ends.old (S.slots store.old) (S.memory store.old)) left
-        (E.state ends.new (S.slots store.new) (S.memory store.new)) result }
+    ensures noted { Notes (E.state ends.old (S.slots store.old) (S.memory store.old)) left.old
+        (E.state ends.new (S.slots store.new) (S.memory store.new)) left.new }
     ensures agree { E.Agree ends.new (S.slots store.new) (S.memory store.new) }
 {
     if !taken {
-        return left;
+        return;
     }
     let slot = ends.binding(line);
     if is_taken(store, slot) {
-        empty_slot(store, ends, left, slot)
-    } else {
-        left
+        let _held = empty_slot(store, ends, left, slot);
     }
 }
 
@@ -85,24 +87,25 @@ fn empty_binding<S: SlotStore, E: Ends>(
 fn empty_bindings<S: SlotStore, E: Ends>(
     store: &mut S,
     ends: &mut E,
-    left: Unsettled,
-    lines: &[bool; 64],
-) -> Unsettled
+    left: &mut Unsettled,
+    lines: LineSet,
+)
     requires agree { E.Agree ends.old (S.slots store.old) (S.memory store.old) }
     requires ready { IsReady (E.state ends.old (S.slots store.old) (S.memory store.old)) }
     requires lie { ObjectsLie (E.state ends.old (S.slots store.old) (S.memory store.old)) }
     ensures state { emptied (E.state ends.old (S.slots store.old) (S.memory store.old))
-        (bindings_from (E.state ends.old (S.slots store.old) (S.memory store.old)) (λ line. slice_index_or lines.now line false) 0)
+        (bindings_from (E.state ends.old (S.slots store.old) (S.memory store.old)) (λ line. has_line lines line) 0)
         ≡ E.state ends.new (S.slots store.new) (S.memory store.new) }
-    ensures noted { Notes (E.state ends.old (S.slots store.old) (S.memory store.old)) left
-        (E.state ends.new (S.slots store.new) (S.memory store.new)) result }
+    ensures noted { Notes (E.state ends.old (S.slots store.old) (S.memory store.old)) left.old
+        (E.state ends.new (S.slots store.new) (S.memory store.new)) left.new }
     ensures agree { E.Agree ends.new (S.slots store.new) (S.memory store.new) }
 {
-    let mut left = left;
-    'lines: for line in 0..64u8 {
-        left = empty_binding(store, ends, left, line, lines[usize::from(line)]);
+    if lines.is_none() {
+        return;
     }
-    left
+    'lines: for line in 0..64u8 {
+        empty_binding(store, ends, left, line, lines.contains(line));
+    }
 }
 
 /// Takes a set of slots away at once, with the bindings of the lines whose last handler goes. It is
@@ -121,12 +124,11 @@ fn remove<S: SlotStore, E: Ends>(store: &mut S, ends: &mut E, set: Removed) -> R
     if wants_revoke_first(store, set) {
         return Err(KError::RevokeFirst);
     }
-    let handled = lines_handled(store);
-    let left = Unsettled::nothing(store.count());
-    let left = empty_all(store, ends, left, &set);
-    let lines = lines_lost(store, &handled);
-    let left = empty_bindings(store, ends, left, &lines);
-    settle(store, ends, left);
+    let mut left = Unsettled::nothing(store.count());
+    let gone = empty_all(store, ends, &mut left, &set);
+    let lost = lines_lost(store, gone);
+    empty_bindings(store, ends, &mut left, lost);
+    settle(store, ends, &left);
     Ok(())
 }
 

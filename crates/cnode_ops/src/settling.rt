@@ -20,7 +20,7 @@ const SLOTS: u32 = 0x10_0000;
 
 /// What the objects that ended leave to settle: slots of theirs are open from `first` on and before `end`, in each block
 /// from its start on, and threads may wait at one.
-#[derive(Clone, Copy)]
+#[derive(Drop)]
 pub struct Unsettled {
     first: u32,
     end: u32,
@@ -83,32 +83,24 @@ impl Unsettled {
     }
 
     /// An object ended as well that has so many slots from `first` on.
-    pub(crate) fn with_slots_of(self, first: u32, count: u32) -> Self
+    pub(crate) fn note_slots(&mut self, first: u32, count: u32)
         requires { count ≢ 0 → first + count ≤ 2 ^ 20 }
-        ensures none { count ≡ 0 → result ≡ self }
-        ensures some { count ≢ 0 → IsWithSlots self first count result }
+        ensures none { count ≡ 0 → self.new ≡ self.old }
+        ensures some { count ≢ 0 → IsWithSlots self.old first count self.new }
     {
         if count == 0 {
-            return self;
+            return;
         }
-        let mut starts = self.starts;
-        note_starts(&mut starts, first, first + (count - 1));
-        Unsettled {
-            first: self.first.min(first),
-            end: self.end.max(first + count),
-            starts,
-            ..self
-        }
+        note_starts(&mut self.starts, first, first + (count - 1));
+        self.first = self.first.min(first);
+        self.end = self.end.max(first + count);
     }
 
     /// An object ended as well at which threads waited, if they did.
-    pub(crate) fn with_waiting(self, waited: bool) -> Self
-        ensures { result ≡ with_waiting self waited }
+    pub(crate) fn note_waiting(&mut self, waited: bool)
+        ensures { self.new ≡ with_waiting self.old waited }
     {
-        Unsettled {
-            waited: self.waited || waited,
-            ..self
-        }
+        self.waited = self.waited || waited;
     }
 }
 
@@ -131,10 +123,10 @@ fn close_stray<S: SlotStore, E: Ends>(store: &mut S, ends: &E, slot: Slot, stray
 
 /// Closes the open slots that belong to no object any more: no others than those of objects that ended. Blocks that have none
 /// of theirs are passed by.
-fn close_strays<S: SlotStore, E: Ends>(store: &mut S, ends: &E, left: Unsettled)
+fn close_strays<S: SlotStore, E: Ends>(store: &mut S, ends: &E, left: &Unsettled)
     requires agree { E.Agree ends.now (S.slots store.old) (S.memory store.old) }
     requires may { MaySettle (E.state ends.now (S.slots store.old) (S.memory store.old)) }
-    requires covered { Covers (S.slots store.old) (E.state ends.now (S.slots store.old) (S.memory store.old)) left }
+    requires covered { Covers (S.slots store.old) (E.state ends.now (S.slots store.old) (S.memory store.old)) left.now }
     ensures state { E.state ends.now (S.slots store.new) (S.memory store.new)
         ≡ without_strays (E.state ends.now (S.slots store.old) (S.memory store.old)) }
     ensures agree { E.Agree ends.now (S.slots store.new) (S.memory store.new) }
@@ -148,10 +140,10 @@ fn close_strays<S: SlotStore, E: Ends>(store: &mut S, ends: &E, left: Unsettled)
 }
 
 /// Closes the slots of objects that are gone, and lets the threads run again that waited at some.
-pub(crate) fn settle<S: SlotStore, E: Ends>(store: &mut S, ends: &mut E, left: Unsettled)
+pub(crate) fn settle<S: SlotStore, E: Ends>(store: &mut S, ends: &mut E, left: &Unsettled)
     requires agree { E.Agree ends.old (S.slots store.old) (S.memory store.old) }
     requires may { MaySettle (E.state ends.old (S.slots store.old) (S.memory store.old)) }
-    requires covered { Covers (S.slots store.old) (E.state ends.old (S.slots store.old) (S.memory store.old)) left }
+    requires covered { Covers (S.slots store.old) (E.state ends.old (S.slots store.old) (S.memory store.old)) left.now }
     ensures state { E.state ends.new (S.slots store.new) (S.memory store.new)
         ≡ settled (E.state ends.old (S.slots store.old) (S.memory store.old)) }
     ensures agree { E.Agree ends.new (S.slots store.new) (S.memory store.new) }

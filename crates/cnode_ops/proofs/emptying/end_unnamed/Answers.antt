@@ -21,10 +21,10 @@ returns-clause-state g c =
     (c.requires.shared.none c.if-is_shared.false c.in-Some.offset (sym c.object_of.ensures ∙ c.in-Some.is)))
     c.end.ensures.state
 
-pub with_slots_of-requires : goal.with_slots_of-requires
-with_slots_of-requires g c = noted-fits _ c.in-Some.offset c.slots_of-own.result c.requires.lie (sym c.slots_of-own.ensures)
+pub note_slots-requires : goal.note_slots-requires
+note_slots-requires g c = noted-fits _ c.in-Some.offset c.slots_of-own.result c.requires.lie (sym c.slots_of-own.ensures)
 
 pub returns-clause-noted : goal.returns-clause-noted
 returns-clause-noted g c =
-    notes-ended _ _ c.args.removed c.in-Some.offset c.slots_of-own.result c.is_waited_at-waited.result c.args.left c.with_slots_of.result _ (sym c.object_of.ensures ∙ c.in-Some.is)
-    c.slots_of-own.ensures c.is_waited_at-waited.ensures.0 c.end.ensures.state c.with_slots_of.ensures.none c.with_slots_of.ensures.some c.with_waiting.ensures
+    notes-ended _ _ c.args.removed c.in-Some.offset c.slots_of-own.result c.is_waited_at-waited.result c.args.left.now c.note_slots.new.self _ (sym c.object_of.ensures ∙ c.in-Some.is)
+    c.slots_of-own.ensures c.is_waited_at-waited.ensures.0 c.end.ensures.state c.note_slots.ensures.none c.note_slots.ensures.some c.note_waiting.ensures

@@ -2,6 +2,7 @@
 use Rattle.std.proofs.Common.{◌≡◌, true}
 use Rattle.model.specs.Capabilities.Slots.{IsFull}
 use Rattle.model.specs.Kernel.State.{State}
+use Rattle.cnode_ops.specs.Lines.{LinesGone}
 use Rattle.cnode_ops.specs.Sets.{set_of}
 use Rattle.cnode_ops.specs.Unsettled.{Notes}
 use Rattle.cnode_ops.proofs.EmptiedSets.{IsLeftOf, full_count}
@@ -13,6 +14,7 @@ invariant-slots g l =
     let now : State = g.E.Ends.state l.ends (g.S.SlotMap.slots l.store) (g.S.SlotStore.memory l.store) in
     record {
       left : IsLeftOf before now l.set;
+      lines : LinesGone before now l.gone;
       noted : Notes before l.fn.left now l.left;
       agree : g.E.Ends.Agree l.ends (g.S.SlotMap.slots l.store) (g.S.SlotStore.memory l.store);
       near : IsFull (g.S.SlotMap.slots l.store) l.near → set_of (g.S.SlotMap.slots l.store) l.set l.near ≡ true;

@@ -1,6 +1,6 @@
 -- The bindings of the lines from this one on are left.
-use Rattle.std.proofs.Common.{false, slice_index_or}
 use Rattle.model.specs.Kernel.State.{State}
+use Rattle.cnode_ops.specs.Lines.{has_line}
 use Rattle.cnode_ops.specs.Unsettled.{Notes}
 use Rattle.cnode_ops.proofs.EmptiedSets.{LinesLeft}
 use Rattle.cnode_ops.proofs.removal.empty_bindings.Given as goal
@@ -10,7 +10,7 @@ invariant-lines g l =
     let before : State = g.E.Ends.state l.fn.ends (g.S.SlotMap.slots l.fn.store) (g.S.SlotStore.memory l.fn.store) in
     let now : State = g.E.Ends.state l.ends (g.S.SlotMap.slots l.store) (g.S.SlotStore.memory l.store) in
     record {
-      left : LinesLeft before now (λ line. slice_index_or l.lines line false) l.line;
+      left : LinesLeft before now (λ line. has_line l.lines line) l.line;
       noted : Notes before l.fn.left now l.left;
       agree : g.E.Ends.Agree l.ends (g.S.SlotMap.slots l.store) (g.S.SlotStore.memory l.store);
     }

@@ -1,5 +1,6 @@
 -- The loops, and what settles them, are the removal.
-use Rattle.std.proofs.Common.{◌≡◌, ◌∙◌, ◌^◌, false, length, slice_index_or, sym, ap}
+use Rattle.std.proofs.Common.{◌≡◌, ◌∙◌, ◌^◌, length, sym, ap}
+use Rattle.cnode_ops.specs.Lines.{has_line}
 use Rattle.cnode_ops.specs.Sets.{set_of}
 use Rattle.model.specs.Capabilities.Slots.{Slots}
 use Rattle.model.specs.Kernel.Removal.{remove}
@@ -22,84 +23,81 @@ returns-then-wants_revoke_first-clause-outcome g c =
     let wants = sym (c.wants_revoke_first.ensures w has c.requires.sound (g.met.E.Ends.of_memory _ _ _ c.requires.agree)) ∙ c.if-wants_revoke_first.true in
     ap (λ (n : Slots). remove w (set_of n c.args.set)) (sym has) ∙ refused w (set_of w.slots c.args.set) wants
 
-pub empty_all-left-requires-clause-ready : goal.empty_all-left-requires-clause-ready
-empty_all-left-requires-clause-ready g c = sound-ready _ c.requires.sound
+pub empty_all-gone-requires-clause-ready : goal.empty_all-gone-requires-clause-ready
+empty_all-gone-requires-clause-ready g c = sound-ready _ c.requires.sound
 
-pub empty_all-left-requires-clause-lie : goal.empty_all-left-requires-clause-lie
-empty_all-left-requires-clause-lie g c = sound-lie _ c.requires.sound
+pub empty_all-gone-requires-clause-lie : goal.empty_all-gone-requires-clause-lie
+empty_all-gone-requires-clause-lie g c = sound-lie _ c.requires.sound
 
-pub empty_bindings-left-requires-clause-lie : goal.empty_bindings-left-requires-clause-lie
-empty_bindings-left-requires-clause-lie g c = c.empty_all-left.ensures.noted.lie (sound-lie _ c.requires.sound)
+pub empty_bindings-requires-clause-lie : goal.empty_bindings-requires-clause-lie
+empty_bindings-requires-clause-lie g c = c.empty_all-gone.ensures.noted.lie (sound-lie _ c.requires.sound)
 
 pub settle-requires-clause-may : goal.settle-requires-clause-may
 settle-requires-clause-may g c =
     let slots : Slots = g.S.SlotMap.slots c.args.store.now in
     let w : State = g.E.Ends.state c.args.ends.now slots (g.S.SlotStore.memory c.args.store.now) in
-    let one : State = g.E.Ends.state c.empty_all-left.new.ends (g.S.SlotMap.slots c.empty_all-left.new.store) (g.S.SlotStore.memory c.empty_all-left.new.store) in
-    let two : State = g.E.Ends.state c.empty_bindings-left.new.ends (g.S.SlotMap.slots c.empty_bindings-left.new.store) (g.S.SlotStore.memory c.empty_bindings-left.new.store) in
+    let one : State = g.E.Ends.state c.empty_all-gone.new.ends (g.S.SlotMap.slots c.empty_all-gone.new.store) (g.S.SlotStore.memory c.empty_all-gone.new.store) in
+    let two : State = g.E.Ends.state c.empty_bindings.new.ends (g.S.SlotMap.slots c.empty_bindings.new.store) (g.S.SlotStore.memory c.empty_bindings.new.store) in
     let has : w.slots ≡ slots = g.met.E.Ends.of_slots _ _ _ in
     let size : 2 ^ w.memory_bits ≡ length (g.S.SlotStore.memory c.args.store.now) = g.met.E.Ends.of_memory _ _ _ c.requires.agree in
-    let ran : LoopsRan w one two slots c.args.set c.lines_lost-lines.result = record {
+    let ran : LoopsRan w one two slots c.args.set (λ line. has_line c.lines_lost-lost.result line) = record {
       has = has;
       sound = c.requires.sound;
       members = c.requires.members;
-      shape = c.empty_all-left.ensures.shape;
-      taken = c.empty_all-left.ensures.taken;
-      last = λ line few. lines-told w one slots (g.S.SlotMap.slots c.empty_all-left.new.store) (length (g.S.SlotStore.memory c.args.store.now))
-          (length (g.S.SlotStore.memory c.empty_all-left.new.store)) c.args.set line (slice_index_or c.lines_handled-handled.result line false)
-          (slice_index_or c.lines_lost-lines.result line false) has (g.met.E.Ends.of_slots _ _ _) size (g.met.E.Ends.of_memory _ _ _ c.empty_all-left.ensures.agree)
-          c.empty_all-left.ensures.shape.bits c.empty_all-left.ensures.ready.derivation c.empty_all-left.ensures.taken
-          (c.lines_handled-handled.ensures line few) (c.lines_lost-lines.ensures line few);
-      bound = c.empty_bindings-left.ensures.state;
+      shape = c.empty_all-gone.ensures.shape;
+      taken = c.empty_all-gone.ensures.taken;
+      last = λ line few. lines-told w one slots (g.S.SlotMap.slots c.empty_all-gone.new.store) (length (g.S.SlotStore.memory c.empty_all-gone.new.store)) c.args.set line
+          c.empty_all-gone.result (has_line c.lines_lost-lost.result line) has (g.met.E.Ends.of_slots _ _ _) (g.met.E.Ends.of_memory _ _ _ c.empty_all-gone.ensures.agree)
+          c.empty_all-gone.ensures.shape.bits c.empty_all-gone.ensures.ready.derivation c.empty_all-gone.ensures.taken
+          (c.empty_all-gone.ensures.lines line few) (c.lines_lost-lost.ensures line few);
+      bound = c.empty_bindings.ensures.state;
       kept_first = sym (c.wants_revoke_first.ensures w has c.requires.sound size) ∙ c.if-wants_revoke_first.false;
     } in
-    loops-may-settle w one two slots c.args.set c.lines_lost-lines.result ran
+    loops-may-settle w one two slots c.args.set (λ line. has_line c.lines_lost-lost.result line) ran
 
 pub settle-requires-clause-covered : goal.settle-requires-clause-covered
 settle-requires-clause-covered g c =
     let slots : Slots = g.S.SlotMap.slots c.args.store.now in
     let w : State = g.E.Ends.state c.args.ends.now slots (g.S.SlotStore.memory c.args.store.now) in
-    let one : State = g.E.Ends.state c.empty_all-left.new.ends (g.S.SlotMap.slots c.empty_all-left.new.store) (g.S.SlotStore.memory c.empty_all-left.new.store) in
-    let two : State = g.E.Ends.state c.empty_bindings-left.new.ends (g.S.SlotMap.slots c.empty_bindings-left.new.store) (g.S.SlotStore.memory c.empty_bindings-left.new.store) in
+    let one : State = g.E.Ends.state c.empty_all-gone.new.ends (g.S.SlotMap.slots c.empty_all-gone.new.store) (g.S.SlotStore.memory c.empty_all-gone.new.store) in
+    let two : State = g.E.Ends.state c.empty_bindings.new.ends (g.S.SlotMap.slots c.empty_bindings.new.store) (g.S.SlotStore.memory c.empty_bindings.new.store) in
     let has : w.slots ≡ slots = g.met.E.Ends.of_slots _ _ _ in
     let size : 2 ^ w.memory_bits ≡ length (g.S.SlotStore.memory c.args.store.now) = g.met.E.Ends.of_memory _ _ _ c.requires.agree in
-    let ran : LoopsRan w one two slots c.args.set c.lines_lost-lines.result = record {
+    let ran : LoopsRan w one two slots c.args.set (λ line. has_line c.lines_lost-lost.result line) = record {
       has = has;
       sound = c.requires.sound;
       members = c.requires.members;
-      shape = c.empty_all-left.ensures.shape;
-      taken = c.empty_all-left.ensures.taken;
-      last = λ line few. lines-told w one slots (g.S.SlotMap.slots c.empty_all-left.new.store) (length (g.S.SlotStore.memory c.args.store.now))
-          (length (g.S.SlotStore.memory c.empty_all-left.new.store)) c.args.set line (slice_index_or c.lines_handled-handled.result line false)
-          (slice_index_or c.lines_lost-lines.result line false) has (g.met.E.Ends.of_slots _ _ _) size (g.met.E.Ends.of_memory _ _ _ c.empty_all-left.ensures.agree)
-          c.empty_all-left.ensures.shape.bits c.empty_all-left.ensures.ready.derivation c.empty_all-left.ensures.taken
-          (c.lines_handled-handled.ensures line few) (c.lines_lost-lines.ensures line few);
-      bound = c.empty_bindings-left.ensures.state;
+      shape = c.empty_all-gone.ensures.shape;
+      taken = c.empty_all-gone.ensures.taken;
+      last = λ line few. lines-told w one slots (g.S.SlotMap.slots c.empty_all-gone.new.store) (length (g.S.SlotStore.memory c.empty_all-gone.new.store)) c.args.set line
+          c.empty_all-gone.result (has_line c.lines_lost-lost.result line) has (g.met.E.Ends.of_slots _ _ _) (g.met.E.Ends.of_memory _ _ _ c.empty_all-gone.ensures.agree)
+          c.empty_all-gone.ensures.shape.bits c.empty_all-gone.ensures.ready.derivation c.empty_all-gone.ensures.taken
+          (c.empty_all-gone.ensures.lines line few) (c.lines_lost-lost.ensures line few);
+      bound = c.empty_bindings.ensures.state;
       kept_first = sym (c.wants_revoke_first.ensures w has c.requires.sound size) ∙ c.if-wants_revoke_first.false;
     } in
-    loops-cover w one two slots c.args.set c.lines_lost-lines.result ran (g.S.SlotMap.slots c.empty_bindings-left.new.store) c.count.result c.nothing-left.result c.empty_all-left.result
-    c.empty_bindings-left.result (g.met.E.Ends.of_slots _ _ _) (c.count.ensures.value ∙ sym size) c.nothing-left.ensures c.empty_all-left.ensures.noted c.empty_bindings-left.ensures.noted
+    loops-cover w one two slots c.args.set (λ line. has_line c.lines_lost-lost.result line) ran (g.S.SlotMap.slots c.empty_bindings.new.store) c.count.result c.nothing-left.result c.empty_all-gone.new.left
+    c.empty_bindings.new.left (g.met.E.Ends.of_slots _ _ _) (c.count.ensures.value ∙ sym size) c.nothing-left.ensures c.empty_all-gone.ensures.noted c.empty_bindings.ensures.noted
 
 pub returns-clause-outcome : goal.returns-clause-outcome
 returns-clause-outcome g c =
     let slots : Slots = g.S.SlotMap.slots c.args.store.now in
     let w : State = g.E.Ends.state c.args.ends.now slots (g.S.SlotStore.memory c.args.store.now) in
-    let one : State = g.E.Ends.state c.empty_all-left.new.ends (g.S.SlotMap.slots c.empty_all-left.new.store) (g.S.SlotStore.memory c.empty_all-left.new.store) in
-    let two : State = g.E.Ends.state c.empty_bindings-left.new.ends (g.S.SlotMap.slots c.empty_bindings-left.new.store) (g.S.SlotStore.memory c.empty_bindings-left.new.store) in
+    let one : State = g.E.Ends.state c.empty_all-gone.new.ends (g.S.SlotMap.slots c.empty_all-gone.new.store) (g.S.SlotStore.memory c.empty_all-gone.new.store) in
+    let two : State = g.E.Ends.state c.empty_bindings.new.ends (g.S.SlotMap.slots c.empty_bindings.new.store) (g.S.SlotStore.memory c.empty_bindings.new.store) in
     let has : w.slots ≡ slots = g.met.E.Ends.of_slots _ _ _ in
     let size : 2 ^ w.memory_bits ≡ length (g.S.SlotStore.memory c.args.store.now) = g.met.E.Ends.of_memory _ _ _ c.requires.agree in
-    let ran : LoopsRan w one two slots c.args.set c.lines_lost-lines.result = record {
+    let ran : LoopsRan w one two slots c.args.set (λ line. has_line c.lines_lost-lost.result line) = record {
       has = has;
       sound = c.requires.sound;
       members = c.requires.members;
-      shape = c.empty_all-left.ensures.shape;
-      taken = c.empty_all-left.ensures.taken;
-      last = λ line few. lines-told w one slots (g.S.SlotMap.slots c.empty_all-left.new.store) (length (g.S.SlotStore.memory c.args.store.now))
-          (length (g.S.SlotStore.memory c.empty_all-left.new.store)) c.args.set line (slice_index_or c.lines_handled-handled.result line false)
-          (slice_index_or c.lines_lost-lines.result line false) has (g.met.E.Ends.of_slots _ _ _) size (g.met.E.Ends.of_memory _ _ _ c.empty_all-left.ensures.agree)
-          c.empty_all-left.ensures.shape.bits c.empty_all-left.ensures.ready.derivation c.empty_all-left.ensures.taken
-          (c.lines_handled-handled.ensures line few) (c.lines_lost-lines.ensures line few);
-      bound = c.empty_bindings-left.ensures.state;
+      shape = c.empty_all-gone.ensures.shape;
+      taken = c.empty_all-gone.ensures.taken;
+      last = λ line few. lines-told w one slots (g.S.SlotMap.slots c.empty_all-gone.new.store) (length (g.S.SlotStore.memory c.empty_all-gone.new.store)) c.args.set line
+          c.empty_all-gone.result (has_line c.lines_lost-lost.result line) has (g.met.E.Ends.of_slots _ _ _) (g.met.E.Ends.of_memory _ _ _ c.empty_all-gone.ensures.agree)
+          c.empty_all-gone.ensures.shape.bits c.empty_all-gone.ensures.ready.derivation c.empty_all-gone.ensures.taken
+          (c.empty_all-gone.ensures.lines line few) (c.lines_lost-lost.ensures line few);
+      bound = c.empty_bindings.ensures.state;
       kept_first = sym (c.wants_revoke_first.ensures w has c.requires.sound size) ∙ c.if-wants_revoke_first.false;
     } in
-    loops-remove w one two slots c.args.set c.lines_lost-lines.result ran _ c.settle.ensures.state
+    loops-remove w one two slots c.args.set (λ line. has_line c.lines_lost-lost.result line) ran _ c.settle.ensures.state

@@ -12,13 +12,13 @@ use Rattle.cnode_ops.proofs.settling.close_strays.Goals as goal
 pub new-requires : goal.new-requires
 new-requires g c =
     let before : State = g.E.Ends.state c.args.ends.now (g.S.SlotMap.slots c.args.store.now) (g.S.SlotStore.memory c.args.store.now) in
-    (passed-near before c.args.left (subst (λ (n : Slots). Covers n before c.args.left) (sym (g.met.E.Ends.of_slots _ _ _)) c.requires.covered) c.slots.at c.slots-test.true).1
+    (passed-near before c.args.left.now (subst (λ (n : Slots). Covers n before c.args.left.now) (sym (g.met.E.Ends.of_slots _ _ _)) c.requires.covered) c.slots.at c.slots-test.true).1
 
 pub slots-init : goal.slots-init
 slots-init g c =
     let before : State = g.E.Ends.state c.args.ends.now (g.S.SlotMap.slots c.args.store.now) (g.S.SlotStore.memory c.args.store.now) in
     record {
-      passed = passed-covered before c.args.left (subst (λ (n : Slots). Covers n before c.args.left) (sym (g.met.E.Ends.of_slots _ _ _)) c.requires.covered) c.requires.may;
+      passed = passed-covered before c.args.left.now (subst (λ (n : Slots). Covers n before c.args.left.now) (sym (g.met.E.Ends.of_slots _ _ _)) c.requires.covered) c.requires.may;
       agree = c.requires.agree;
     }
 
@@ -43,10 +43,10 @@ slots-preserved g c =
     let passed : IsPassed before now c.slots.at = c.slots.invariant.passed in
     let own : ℕ = c.slots_of-own.result in
     let own_is : own ≡ slots_from before c.slots.at = c.slots_of-own.ensures ∙ passed-objects before now c.slots.at c.slots.at passed in
-    let covers : Covers before.slots before c.args.left = subst (λ (n : Slots). Covers n before c.args.left) (sym (g.met.E.Ends.of_slots _ _ _)) c.requires.covered in
+    let covers : Covers before.slots before c.args.left.now = subst (λ (n : Slots). Covers n before c.args.left.now) (sym (g.met.E.Ends.of_slots _ _ _)) c.requires.covered in
     let state : StrayClosed now c.slots.at (own == 0) after = subst (λ (n : ℕ). StrayClosed now n (own == 0) after) c.new.ensures c.close_stray.ensures.state in
     record {
-      passed = passed-lands before c.args.left covers after (c.slots.at + c.max.result) c.next_noted-at.result
+      passed = passed-lands before c.args.left.now covers after (c.slots.at + c.max.result) c.next_noted-at.result
           (subst (λ (n : ℕ). IsPassed before after (c.slots.at + n)) (sym c.max.ensures) (passed-next before now after c.slots.at own (own == 0) passed own_is refl state)) c.next_noted-at.ensures;
       agree = c.close_stray.ensures.agree;
     }
@@ -54,9 +54,9 @@ slots-preserved g c =
 pub returns-clause-state : goal.returns-clause-state
 returns-clause-state g c =
     let before : State = g.E.Ends.state c.args.ends.now (g.S.SlotMap.slots c.args.store.now) (g.S.SlotStore.memory c.args.store.now) in
-    passed-end before c.args.left (subst (λ (n : Slots). Covers n before c.args.left) (sym (g.met.E.Ends.of_slots _ _ _)) c.requires.covered) _ c.slots.at c.slots.invariant.passed c.slots-test.false
+    passed-end before c.args.left.now (subst (λ (n : Slots). Covers n before c.args.left.now) (sym (g.met.E.Ends.of_slots _ _ _)) c.requires.covered) _ c.slots.at c.slots.invariant.passed c.slots-test.false
 
 pub slots-smaller : goal.slots-smaller
 slots-smaller g c =
-    let least = lands-least c.args.left.starts (c.slots.at + c.max.result) c.next_noted-at.result c.next_noted-at.ensures in
+    let least = lands-least c.args.left.now.starts (c.slots.at + c.max.result) c.next_noted-at.result c.next_noted-at.ensures in
     omega (arith, least, c.max.ensures, c.slots-test.true)
